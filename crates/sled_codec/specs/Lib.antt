@@ -1,0 +1,11 @@
+pub mod Errors
+pub mod History
+pub mod Kinds
+pub mod Places
+pub mod Pointers
+pub mod Record
+pub mod Seen
+pub mod Spelling
+pub mod SpellingLaws
+pub mod Sums
+pub mod Written

@@ -1,0 +1,99 @@
+-- The grammar of the formats. A spelling relates a whole text, a list of bytes, to the value that it stands for.
+-- The short spelling is the one that is written. A number may have longer ones, which are read all the same.
+use Rattle.std.specs.Prelude.{◌≡◌, ◌+◌, ◌-◌, ◌*◌, ◌/◌, ◌%◌, ◌^◌, ◌<◌, ℕ, ℤ, if◌then◌else◌, nat_le, nat_lt, ◌==◌, List, [], ◌∷◌, ◌++◌, length, take, slice_index, FitsSigned}
+use Rattle.std.specs.Int.{w64, to_le_bytes, from_le_bytes, cast_signed, cast_unsigned}
+use Rattle.sled_codec.specs.declared.serialization.message.MessageHeader.{MessageHeader}
+use Rattle.sled_codec.specs.declared.serialization.message.MessageKind.{MessageKind}
+use Rattle.sled_codec.specs.Kinds.{code_of, kind_of}
+
+-- Fixed numbers, the lowest byte first.
+
+-- the lowest n bytes of a number
+abbrev pub low_bytes : ℕ → ℕ → List ℕ
+low_bytes n v = take n (to_le_bytes w64 v)
+
+-- what at most eight bytes stand for
+abbrev pub low_first : List ℕ → ℕ
+low_first bytes = from_le_bytes w64 bytes
+
+-- n bytes that stand for a number
+pub record SpellsFixed (n : ℕ) (text : List ℕ) (v : ℕ) : Type 0 where
+  pub long : length text ≡ n
+  pub value : v ≡ low_first text
+  pub small : v < 256 ^ n
+
+-- eight bytes that stand for a signed number, by the two's complement
+pub record SpellsSigned (text : List ℕ) (z : ℤ) : Type 0 where
+  pub unsigned : SpellsFixed 8 text (cast_unsigned w64 z)
+  pub in_range : FitsSigned w64 z
+
+abbrev pub short_signed : ℤ → List ℕ
+short_signed z = low_bytes 8 (cast_unsigned w64 z)
+
+-- Numbers of one to nine bytes.
+
+-- how many bytes follow the lead byte
+abbrev pub more_bytes : ℕ → ℕ
+more_bytes lead = if nat_le lead 240 then 0 else if nat_le lead 248 then 1 else if lead == 249 then 2 else lead - 247
+
+-- the number that a lead byte and the bytes behind it stand for
+abbrev pub number_of : ℕ → List ℕ → ℕ
+number_of lead more =
+    if nat_le lead 240 then lead
+    else if nat_le lead 248 then (lead - 241) * 256 + slice_index more 0 + 240
+    else if lead == 249 then slice_index more 0 * 256 + slice_index more 1 + 2288
+    else low_first more
+
+unfoldable pub SpellsNumber : List ℕ → ℕ → Type 0
+SpellsNumber [] v = ⊥
+SpellsNumber (lead ∷ more) v = (length more ≡ more_bytes lead) × (v ≡ number_of lead more) × (v < 2 ^ 64)
+
+-- how many bytes hold v, three at least
+abbrev pub byte_count : ℕ → ℕ
+byte_count v = if nat_lt v (2 ^ 24) then 3 else if nat_lt v (2 ^ 32) then 4 else if nat_lt v (2 ^ 40) then 5 else if nat_lt v (2 ^ 48) then 6 else if nat_lt v (2 ^ 56) then 7 else 8
+
+unfoldable pub short_number : ℕ → List ℕ
+short_number v =
+    if nat_le v 240 then v ∷ []
+    else if nat_le v 2287 then ((v - 240) / 256 + 241) ∷ (v - 240) % 256 ∷ []
+    else if nat_le v 67823 then 249 ∷ (v - 2288) / 256 ∷ (v - 2288) % 256 ∷ []
+    else (byte_count v + 247) ∷ low_bytes (byte_count v) v
+
+-- Bytes: their count, and then they themselves.
+
+pub record SpellsBytes (text bytes : List ℕ) : Type 0 where
+  pub count : List ℕ
+  pub counted : SpellsNumber count (length bytes)
+  pub is : text ≡ count ++ bytes
+
+unfoldable pub short_bytes : List ℕ → List ℕ
+short_bytes bytes = short_number (length bytes) ++ bytes
+
+-- The header of a message: its sum, its kind, the length of its body, the number of its segment and its page.
+
+pub record SpellsMessageHeader (text : List ℕ) (h : MessageHeader) : Type 0 where
+  pub sum : List ℕ
+  pub code : ℕ
+  pub len : List ℕ
+  pub number : List ℕ
+  pub page : List ℕ
+  pub summed : SpellsFixed 4 sum h.crc32
+  pub kind : h.kind ≡ kind_of code
+  pub counted : SpellsNumber len h.len
+  pub numbered : SpellsNumber number h.segment_number.0
+  pub paged : SpellsNumber page h.pid
+  pub is : text ≡ sum ++ (code ∷ len) ++ number ++ page
+
+-- what is written behind the sum
+unfoldable pub short_header_tail : MessageKind → ℕ → ℕ → ℕ → List ℕ
+short_header_tail kind len number page = (code_of kind ∷ short_number len) ++ short_number number ++ short_number page
+
+unfoldable pub short_message_header : MessageHeader → List ℕ
+short_message_header h = low_bytes 4 h.crc32 ++ short_header_tail h.kind h.len h.segment_number.0 h.pid
+
+-- its numbers are in the ranges of their types
+pub record FitsMessageHeader (h : MessageHeader) : Type 0 where
+  pub sum : h.crc32 < 2 ^ 32
+  pub len : h.len < 2 ^ 64
+  pub number : h.segment_number.0 < 2 ^ 64
+  pub page : h.pid < 2 ^ 64

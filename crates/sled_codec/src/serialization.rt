@@ -1,0 +1,83 @@
+//! The codecs. A type that has one is `Serialize`, whose clauses say what is written and what is read
+//! by the grammar of `specs/Spelling.antt`; a `Delimited` one can stand before other bytes.
+ghost use Rattle.std.specs.Prelude.{◌≡◌, ◌↔◌, ◌+◌, ◌≤◌, ◌^◌, ◌<◌, ◌++◌, ℕ, List, length, IsTrue, IfOk, OnErr, IsErrOf};
+ghost use Rattle.sled_codec.specs.Written.{written};
+ghost use Rattle.sled_codec.specs.Errors.{IsCorruption};
+
+use crate::result::Result;
+use std::alloc::Global;
+
+pub mod bytes;
+pub mod checksum;
+pub mod message;
+pub mod number;
+
+
+
+pub use checksum::{Checksum, PlaceSum};
+pub use message::{LogKind, MessageHeader, MessageKind, SegmentNumber};
+
+
+/// A type whose values are written as bytes.
+pub trait Serialize: Sized {
+    /// What a value stands for.
+    ghost Meaning: { Type 0 };
+
+    ghost meaning: { Self → Meaning };
+
+    /// A whole text is a spelling of it.
+    ghost Spells: { List ℕ → Meaning → Type 0 };
+
+    /// It has a spelling.
+    ghost fits: { Meaning → Type 0 };
+
+    /// The spelling that is written.
+    ghost short: { Meaning → List ℕ };
+
+    /// Whether the value has a spelling. The calls that encode it ask for that.
+    fn can_serialize(&self) -> bool
+        ensures { IsTrue result ↔ fits (meaning self.now) };
+
+    /// How many bytes are written for it.
+    fn serialized_size(&self) -> u64
+        requires { fits (meaning self.now) }
+        ensures { result ≡ length (short (meaning self.now)) };
+
+    /// Writes it into `buf` from the index `at` on, where there has to be room, and answers the index
+    /// behind it. All other bytes stay.
+    fn serialize_into(&self, buf: &mut [u8], at: usize) -> usize
+        requires fits { fits (meaning self.now) }
+        requires room { at + length (short (meaning self.now)) ≤ length buf.old }
+        ensures next { result ≡ at + length (short (meaning self.now)) }
+        ensures bytes { buf.new ≡ written buf.old at (short (meaning self.now)) };
+
+    /// Takes a spelling off the front of `buf`, and leaves what follows it. `Corruption` comes where
+    /// no front of `buf` is a spelling, and `OutOfMemory` where memory was refused. After an error
+    /// `buf` is as it was.
+    fn deserialize(alloc: Global, buf: &mut &[u8]) -> Result<Self>
+        ensures ok { IfOk result (λ v. (front : List ℕ) × Spells front (meaning v) × (buf.old.now ≡ front ++ buf.new.now)) }
+        ensures corrupt { IsCorruption result → (front rest : List ℕ) (v : Meaning) → buf.old.now ≡ front ++ rest → Spells front v → ⊥ }
+        ensures err { OnErr result (buf.new.now ≡ buf.old.now) };
+
+    /// The spelling in a vector of its own. Its one error is `OutOfMemory`.
+    final fn serialize(&self, alloc: Global) -> Result<Vec<u8>>
+        requires { fits (meaning self.now) }
+        ensures { IfOk result (λ v. v.items ≡ short (meaning self.now)) }
+    {
+        let size = self.serialized_size();
+        let mut bytes = vec![in alloc; 0; size as usize]?;
+        self.serialize_into(&mut bytes, 0);
+        Ok(bytes)
+    }
+
+    /// What is written is a spelling.
+    ghost short_spells: { (v : Meaning) → fits v → Spells (short v) v };
+}
+
+/// A type whose spellings end by themselves: one spelling stands for one value, and none is a proper
+/// beginning of another. So what was written is read again, whatever follows it.
+pub trait Delimited: Serialize {
+    ghost one_value: { (text : List ℕ) (v w : Self.Meaning) → Self.Spells text v → Self.Spells text w → v ≡ w };
+
+    ghost no_front: { (a b x y : List ℕ) (v w : Self.Meaning) → Self.Spells a v → Self.Spells b w → a ++ x ≡ b ++ y → a ≡ b };
+}
