@@ -1,0 +1,6 @@
+pub mod Answers
+pub mod Device
+pub mod Durable
+pub mod Moments
+pub mod Script
+pub mod Segments

@@ -1,0 +1,18 @@
+-- Lists of calls, one after another, up to the first that fails.
+use Rattle.std.specs.Prelude.{◌≡◌, ◌⊎◌, List, [], ◌∷◌}
+use Rattle.sled_store.specs.Device.{Event, Trace, State, step}
+use Rattle.sled_store.specs.Answers.{Tears}
+
+-- a call that failed added nothing, or what a failure leaves of it
+unfoldable pub Stops : Event → Trace → Trace → Type 0
+Stops event old new = (new ≡ old) ⊎ ((torn : Event) × Tears event torn × (new ≡ torn ∷ old))
+
+-- these calls were made in order, all of them or up to one that failed
+unfoldable pub Performs : List Event → Trace → Trace → Type 0
+Performs [] old new = new ≡ old
+Performs (e ∷ es) old new = Stops e old new ⊎ Performs es (e ∷ old) new
+
+-- P holds in each state on the way
+abbrev pub Along : (State → Type 0) → List Event → State → Type 0
+Along P [] s = P s
+Along P (e ∷ es) s = P s × ((torn : Event) → Tears e torn → P (step torn s)) × Along P es (step e s)

@@ -1,0 +1,11 @@
+//! What the segment log stands on: the device that it is kept on, and the sizes that it is kept in.
+//!
+//! What a device does, and what a crash may leave of it, is defined in `specs/Device.antt` and told in
+//! `docs/DEVICE.md`.
+#![tactic(auto)]
+
+pub mod config;
+pub mod device;
+
+pub use config::{Config, RunningConfig};
+pub use device::Device;
