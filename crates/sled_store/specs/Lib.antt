@@ -2,5 +2,6 @@ pub mod Answers
 pub mod Device
 pub mod Durable
 pub mod Moments
+pub mod Noted
 pub mod Script
 pub mod Segments

@@ -5,6 +5,9 @@ ghost use Rattle.std.specs.declared.io.ErrorKind.TheVariants.{OutOfMemory};
 ghost use Rattle.sled_store.specs.Device.{Trace, state_of, Wrote, Cut, Synced};
 ghost use Rattle.sled_store.specs.Answers.{Counts, Fails, FailsOr, Does};
 
+pub mod choice;
+mod story;
+
 use std::io;
 
 /// What holds a log (`docs/DEVICE.md`). What was asked of it is its trace, and every clause says what

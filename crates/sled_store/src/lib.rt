@@ -9,3 +9,4 @@ pub mod device;
 
 pub use config::{Config, RunningConfig};
 pub use device::Device;
+pub use device::choice::{Choice, Offer};
