@@ -1,1 +1,3 @@
+pub mod OverwrittenLemmas
+mod StandsLemmas
 mod Walks

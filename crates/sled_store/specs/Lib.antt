@@ -1,6 +1,7 @@
 pub mod Answers
 pub mod Device
 pub mod Durable
+pub mod Memory
 pub mod Moments
 pub mod Noted
 pub mod Script

@@ -6,6 +6,7 @@ ghost use Rattle.sled_store.specs.Device.{Trace, state_of, Wrote, Cut, Synced};
 ghost use Rattle.sled_store.specs.Answers.{Counts, Fails, FailsOr, Does};
 
 pub mod choice;
+mod mem_log;
 mod story;
 
 use std::io;

@@ -1,0 +1,32 @@
+-- What a log file in memory stands for.
+use Rattle.std.specs.Prelude.{◌≡◌, ◌≤◌, ◌<◌, ◌||◌, ◌&&◌, ℕ, Bool, false, nat_lt, nat_le, slice_index, List, [], ◌∷◌, length, vec_capacity}
+use Rattle.sled_store.specs.declared.device.mem_log.MemLog.{MemLog}
+use Rattle.sled_store.specs.Device.{LogState}
+
+-- in one of these ranges, each from a start to an end
+abbrev pub is_within : List (ℕ × ℕ) → ℕ → Bool
+is_within [] i = false
+is_within (r ∷ ranges) i = is_within ranges i || (nat_le r.0 i && nat_lt i r.1)
+
+-- in one of the ranges, or past the cut
+abbrev pub is_loose_at : List (ℕ × ℕ) → ℕ → ℕ → Bool
+is_loose_at loose cut i = is_within loose i || nat_le cut i
+
+-- What is kept of a log file is this state of it.
+pub record Stands (log : MemLog) (s : LogState) : Type 0 where
+  pub bytes : log.bytes.items ≡ s.bytes
+  pub settled : log.settled.items ≡ s.settled
+  pub least : log.least ≡ s.least
+  pub most : log.most ≡ s.most
+  pub loose : (i : ℕ) → i < s.most → s.is_loose i ≡ is_loose_at log.loose.items log.cut i
+  -- both contents have a length in that range, are as long as the cut, and are the same where nothing is loose
+  pub no_shorter : s.least ≤ length s.bytes
+  pub no_longer : length s.bytes ≤ s.most
+  pub settled_no_shorter : s.least ≤ length s.settled
+  pub settled_no_longer : length s.settled ≤ s.most
+  pub cut : log.cut ≤ length s.bytes
+  pub settled_cut : log.cut ≤ length s.settled
+  pub same : (i : ℕ) → is_loose_at log.loose.items log.cut i ≡ false → slice_index s.settled i ≡ slice_index s.bytes i
+  -- there is room for the greatest length, so that a sync wants no memory
+  pub room : s.most ≤ vec_capacity log.bytes
+  pub settled_room : s.most ≤ vec_capacity log.settled
