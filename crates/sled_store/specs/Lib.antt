@@ -1,5 +1,6 @@
 pub mod Answers
 pub mod Device
+pub mod Due
 pub mod Durable
 pub mod Memory
 pub mod Moments

@@ -6,7 +6,9 @@ ghost use Rattle.sled_store.specs.Device.{Trace, state_of, Wrote, Cut, Synced};
 ghost use Rattle.sled_store.specs.Answers.{Counts, Fails, FailsOr, Does};
 
 pub mod choice;
+mod faults;
 mod mem_log;
+pub mod memory;
 mod story;
 
 use std::io;

@@ -10,3 +10,4 @@ pub mod device;
 pub use config::{Config, RunningConfig};
 pub use device::Device;
 pub use device::choice::{Choice, Offer};
+pub use device::memory::MemDevice;
