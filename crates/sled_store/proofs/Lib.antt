@@ -1,3 +1,8 @@
+pub mod LogLemmas
+pub mod LooseLemmas
+pub mod MomentLemmas
 pub mod OverwrittenLemmas
+pub mod ScriptLemmas
+pub mod SettledLemmas
 mod StandsLemmas
 mod Walks

@@ -7,6 +7,7 @@ ghost use Rattle.sled_store.specs.Answers.{Counts, Fails, FailsOr, Does};
 
 pub mod choice;
 mod faults;
+pub mod laws;
 mod mem_log;
 pub mod memory;
 mod story;

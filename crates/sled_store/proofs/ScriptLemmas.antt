@@ -1,0 +1,72 @@
+-- A function that made a list of calls, up to the first that failed, kept at every moment what holds in each state on the way.
+use Rattle.std.proofs.Common.{◌≡◌, ◌⊎◌, List, [], ◌∷◌, ◌++◌, reverse, refl, sym, ◌∙◌, ap, subst, append_assoc, inl, inr}
+use Rattle.std.proofs.lemmas.List.{reverse-append}
+use Rattle.sled_store.specs.Device.{Event, Trace, State, state_of, step}
+use Rattle.sled_store.specs.Moments.{Throughout}
+use Rattle.sled_store.specs.Answers.{Tears}
+use Rattle.sled_store.specs.Script.{Stops, Performs, Along}
+use Rattle.sled_store.proofs.MomentLemmas.{started, added, stays, joined}
+
+-- At an exit: no more calls were made.
+pub performs_none : (old : Trace) → Performs [] old old
+unfolding Performs
+performs_none old = refl
+
+-- this call succeeded, and the rest went on from there
+pub performs_all : (e : Event) (es : List Event) (old mid new : Trace) → mid ≡ e ∷ old → Performs es mid new → Performs (e ∷ es) old new
+unfolding Performs
+performs_all e es old mid new came rest = inr (subst (λ (h : Trace). Performs es h new) came rest)
+
+-- this call failed, and none was made behind it
+pub stop_call : {fault : Type 0} (e : Event) (es : List Event) (old new : Trace) → (new ≡ old) ⊎ (fault × ((torn : Event) × Tears e torn × (new ≡ torn ∷ old))) → Performs (e ∷ es) old new
+unfolding Performs Stops
+stop_call e es old new (inl same) = inl (inl same)
+stop_call e es old new (inr left) = inl (inr left.1)
+
+module _ (P : State → Type 0) where
+  stops_throughout : (e : Event) (old new : Trace) → Stops e old new → P (state_of old) → ((torn : Event) → Tears e torn → P (step torn (state_of old))) → Throughout P old new
+  unfolding Stops
+  stops_throughout e old new (inl same) here torn = stays P old old new (started P old here) same
+  stops_throughout e old new (inr left) here torn = added P left.0 old new left.2 here (torn left.0 left.1)
+
+  along_first : (es : List Event) (s : State) → Along P es s → P s
+  along_first [] s along = along
+  along_first (e ∷ es) s along = along.0
+
+  -- it held at every moment
+  pub performs_throughout : (es : List Event) (old new : Trace) → Performs es old new → Along P es (state_of old) → Throughout P old new
+  unfolding Performs
+  performs_throughout [] old new came along = stays P old old new (started P old along) came
+  performs_throughout (e ∷ es) old new (inl stopped) along = stops_throughout e old new stopped along.0 along.1
+  performs_throughout (e ∷ es) old new (inr came) along =
+      joined P old (e ∷ old) new (added P e old (e ∷ old) refl along.0 (along_first es (step e (state_of old)) along.2)) (performs_throughout es (e ∷ old) new came along.2)
+
+-- A function that made some of the calls made the first ones of a longer list.
+pub performs_more : (es fs : List Event) (old new : Trace) → Performs es old new → Performs (es ++ fs) old new
+unfolding Performs Stops
+performs_more [] [] old new came = came
+performs_more [] (f ∷ fs) old new came = inl (inl came)
+performs_more (e ∷ es) fs old new (inl stopped) = inl stopped
+performs_more (e ∷ es) fs old new (inr came) = inr (performs_more es fs (e ∷ old) new came)
+
+reverse-onto : (e : Event) (es : List Event) (old : Trace) → reverse (e ∷ es) ++ old ≡ reverse es ++ (e ∷ old)
+reverse-onto e es old = ap (λ (h : Trace). h ++ old) (reverse-append (e ∷ []) es) ∙ append_assoc (reverse es) (e ∷ []) old
+
+-- Where all calls of a list succeeded, the trace has the list reversed, and goes on from there.
+pub done_none : (old : Trace) → old ≡ reverse [] ++ old
+done_none old = refl
+
+pub done_all : (e : Event) (es : List Event) (old mid new : Trace) → mid ≡ e ∷ old → new ≡ reverse es ++ mid → new ≡ reverse (e ∷ es) ++ old
+done_all e es old mid new came rest = rest ∙ ap (λ (h : Trace). reverse es ++ h) came ∙ sym (reverse-onto e es old)
+
+-- then another list of calls is made behind it
+pub performs_joined : (es fs : List Event) (old mid new : Trace) → mid ≡ reverse es ++ old → Performs fs mid new → Performs (es ++ fs) old new
+unfolding Performs
+performs_joined [] fs old mid new came rest = subst (λ (h : Trace). Performs fs h new) came rest
+performs_joined (e ∷ es) fs old mid new came rest = inr (performs_joined es fs (e ∷ old) mid new (came ∙ reverse-onto e es old) rest)
+
+-- all calls of a list were made
+pub performs_done : (es : List Event) (old new : Trace) → new ≡ reverse es ++ old → Performs es old new
+unfolding Performs
+performs_done [] old new came = came
+performs_done (e ∷ es) old new came = inr (performs_done es (e ∷ old) new (came ∙ reverse-onto e es old))

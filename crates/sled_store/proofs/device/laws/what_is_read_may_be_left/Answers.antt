@@ -1,0 +1,6 @@
+-- What is read is among what a crash may leave.
+use Rattle.sled_store.proofs.SettledLemmas.{read_left}
+use Rattle.sled_store.proofs.device.laws.what_is_read_may_be_left.Goals as goal
+
+pub returns : goal.returns
+returns c = read_left
