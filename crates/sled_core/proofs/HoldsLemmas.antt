@@ -1,0 +1,62 @@
+-- How a log goes on holding a history: when a place is reserved, and when a message is completed.
+use Rattle.std.proofs.Common.{◌≡◌, ◌≢◌, ◌≤◌, ◌<◌, ◌+◌, ◌-◌, ◌⊎◌, inl, inr, ℕ, zero, suc, max, List, [], ◌∷◌, ◌++◌, length, take, drop, set, sym, ◌∙◌, ap, arith, refl, subst, append_assoc, length-append, length-take, length-drop, true, false, Bool, if◌then◌else◌, rules, Option, None, Some, get_or}
+use Rattle.std.specs.List.{All, Contains, slice_get}
+use Rattle.std.specs.declared.io.Error.{Error as IoError}
+use Rattle.std.proofs.lemmas.List.{append-nil, take-append-le, set_split}
+use Rattle.std.proofs.lemmas.List.Elements.{All-append, Contains-append_cases}
+use Rattle.sled_codec.specs.Places.{part}
+use Rattle.sled_codec.specs.Written.{written}
+use Rattle.sled_codec.specs.Spelling.{short_header_tail}
+use Rattle.sled_codec.specs.Record.{record_sum, short_record}
+use Rattle.sled_codec.specs.History.{Message, History, AddsMessage}
+use Rattle.sled_store.specs.Device.{LogState, at_rest}
+use Rattle.sled_core.specs.declared.iobuf.Reserved.{Reserved}
+use Rattle.sled_core.specs.Buffers.{text_in, body_in, message_in, IsChain, completed_in, completing, closed, StandsAs, Stands}
+use Rattle.sled_core.specs.Fits.{HoldsIn, LieFrom, log_image}
+use Rattle.sled_core.proofs.Ranges.{part-append, part-written_before, part-written_behind, part-written_at, length-written, completed-same, completed-append, completed_between, chain-append, chain-split, chain-joined, chain_grows, chain_within, there_split}
+use Rattle.sled_core.proofs.Images.{lie_below}
+
+-- Where a text and a body are the same, what stands there is.
+pub stands-same : (sum : List ℕ → ℕ) (old new : List ℕ) (r : Reserved) → text_in new r ≡ text_in old r → body_in new r ≡ body_in old r → Stands sum 0 old r → Stands sum 0 new r
+stands-same sum old new r text body stands =
+    subst (λ (t : List ℕ). StandsAs sum 0 t (body_in new r) r) (sym text) (subst (λ (b : List ℕ). StandsAs sum 0 (text_in old r) b r) (sym body) stands)
+
+-- Bytes behind the text leave each reservation in it as it was.
+
+body-append : (bytes more : List ℕ) (r : Reserved) → r.from + r.len ≤ length bytes → r.header_len ≤ r.len → body_in (bytes ++ more) r ≡ body_in bytes r
+body-append bytes more r within long = part-append bytes more (r.from + r.header_len) (r.len - r.header_len) (omega arith)
+
+stands-append : (sum : List ℕ → ℕ) (bytes more : List ℕ) (r : Reserved) → r.from + r.len ≤ length bytes → Stands sum 0 bytes r → Stands sum 0 (bytes ++ more) r
+stands-append sum bytes more r within stands =
+    stands-same sum bytes (bytes ++ more) r (part-append bytes more r.from r.len within) (body-append bytes more r within stands.long) stands
+
+one : {X : Type 0} (P : X → Type 0) (x : X) → P x → All P (x ∷ [])
+one P x here zero d lt = here
+one P x here (suc k) d lt = absurd (omega arith)
+
+-- an open reservation is no message yet
+pub completed_open : (bytes : List ℕ) (r : Reserved) (rs : List Reserved) → r.is_open ≡ true → completed_in bytes (r ∷ rs) ≡ completed_in bytes rs
+completed_open bytes r rs is = ap (λ (o : Bool). if o then completed_in bytes rs else message_in bytes r ∷ completed_in bytes rs) is
+
+module _ (sum : List ℕ → ℕ) (device : LogState) (fault : Option IoError) (bytes : List ℕ) (from : ℕ) (rs : List Reserved) (H : History) (holds : HoldsIn sum device fault bytes from rs H) where
+  -- A place is reserved: its placeholder stands behind what is there.
+  pub holds-append : (more : List ℕ) (r : Reserved) → 20 ≤ length bytes → from ≤ length bytes → All (λ x. x.from + x.len ≤ length bytes) rs
+      → r.from ≡ length bytes → r.len ≡ length more → r.is_open ≡ true → Stands sum 0 (bytes ++ more) r
+      → HoldsIn sum device fault (bytes ++ more) from (rs ++ r ∷ []) H
+  holds-append more r begun behind within at long is_open stands =
+      let new : List ℕ = bytes ++ more in
+      let bodies : All (λ x. body_in new x ≡ body_in bytes x) rs = λ k d lt. body-append bytes more (get_or rs k d) (within k d lt) (holds.stand k d lt).long in
+      let none : completed_in new (r ∷ []) ≡ [] = completed_open new r [] is_open in
+      let end : length bytes + r.len ≡ length new = omega (arith, length-append bytes more) in
+      record {
+        earlier = holds.earlier;
+        messages = holds.messages ∙ ap (λ (ms : List Message). holds.earlier ++ ms) (sym (
+            completed-append new rs (r ∷ []) ∙ ap (λ (ms : List Message). completed_in new rs ++ ms) none ∙ append-nil (completed_in new rs) ∙ completed-same bytes new rs bodies));
+        batches = holds.batches;
+        lie = holds.lie;
+        header = take-append-le 20 bytes more begun ∙ holds.header;
+        written = take-append-le from bytes more behind ∙ holds.written;
+        chain = subst (λ (n : ℕ). IsChain (max 20 from) (rs ++ r ∷ []) n) end (chain-append (max 20 from) (length bytes) rs r holds.chain at);
+        stand = All-append (Stands sum 0 new) rs (r ∷ []) (λ k d lt. stands-append sum bytes more (get_or rs k d) (within k d lt) (holds.stand k d lt)) (one (Stands sum 0 new) r stands);
+        settled = holds.settled;
+      }

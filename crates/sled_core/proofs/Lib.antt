@@ -1,0 +1,6 @@
+pub mod Images
+pub mod Parts
+pub mod CompletesLemmas
+pub mod FlushLemmas
+pub mod HoldsLemmas
+pub mod Ranges

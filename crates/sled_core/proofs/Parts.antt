@@ -1,0 +1,23 @@
+-- Parts of a text: how they lie in it, and what becomes of them when bytes are put behind it or written over it.
+use Rattle.std.proofs.Common.{◌≡◌, ◌≤◌, ◌<◌, ◌+◌, ◌-◌, ℕ, List, [], ◌∷◌, ◌++◌, length, take, drop, sym, ◌∙◌, ap, arith, refl, Option, Some, None, get_or, zero, suc}
+use Rattle.std.specs.List.{slice_get}
+use Rattle.std.proofs.lemmas.List.{drop-take}
+
+-- the middle of a text, cut from either end first
+pub mid_is : (xs : List ℕ) (n len : ℕ) → n ≤ len → take (len - n) (drop n xs) ≡ drop n (take len xs)
+mid_is xs n len le =
+    let e : n + (len - n) ≡ len = omega arith in
+    sym (drop-take n (len - n) xs) ∙ ap (λ k. drop n (take k xs)) e
+
+-- the element that is there
+pub get_there : {X : Type 0} (xs : List X) (i : ℕ) (x d : X) → slice_get xs i ≡ Some x → get_or xs i d ≡ x
+get_there [] zero x d is = cc
+get_there [] (suc i) x d is = cc
+get_there (y ∷ ys) zero x d is = cc
+get_there (y ∷ ys) (suc i) x d is = get_there ys i x d is
+
+-- an element that is there
+pub there_is : {X : Type 0} (xs : List X) (i : ℕ) (x : X) → i < length xs → x ≡ get_or xs i x → slice_get xs i ≡ Some x
+there_is [] i x lt is = absurd (omega arith)
+there_is (y ∷ ys) zero x lt is = ap Some (sym is)
+there_is (y ∷ ys) (suc i) x lt is = there_is ys i x (omega arith) is

@@ -1,0 +1,127 @@
+-- Reservations that lie one behind another: what stands in them stays where bytes are put behind them, and where another one is completed.
+use Rattle.std.proofs.Common.{◌≡◌, ◌≤◌, ◌<◌, ◌+◌, ◌-◌, ℕ, zero, suc, List, [], ◌∷◌, ◌++◌, length, take, drop, sym, ◌∙◌, ap, arith, refl, subst, append_assoc, length-append, length-take, length-drop, true, false, Bool, if◌then◌else◌, rules, Some}
+use Rattle.std.specs.List.{All, Contains, slice_get}
+use Rattle.std.proofs.lemmas.List.{drop-append-le, take-append-le, same_lists, places, take-append-drop, drop-drop}
+use Rattle.sled_codec.specs.Places.{part}
+use Rattle.sled_codec.specs.Written.{written}
+use Rattle.sled_codec.specs.History.{Message}
+use Rattle.sled_core.specs.declared.iobuf.Reserved.{Reserved}
+use Rattle.sled_core.specs.Buffers.{text_in, body_in, message_in, IsChain, completed_in, all_ended, Stands}
+
+-- a part stays when bytes are put behind the text
+pub part-append : (xs ys : List ℕ) (at n : ℕ) → at + n ≤ length xs → part (xs ++ ys) at n ≡ part xs at n
+part-append xs ys at n le =
+    let short : n ≤ length (drop at xs) = omega (arith, length-drop at xs) in
+    ap (take n) (drop-append-le at xs ys (omega arith)) ∙ take-append-le n (drop at xs) ys short
+
+-- a part before what is written over stays
+pub part-written_before : (buf xs : List ℕ) (k at n : ℕ) → at + n ≤ k → k + length xs ≤ length buf → part (written buf k xs) at n ≡ part buf at n
+part-written_before buf xs k at n before fits =
+    same_lists _ _ (search (rules, places)) (λ j d h. grind (arith, places))
+
+-- a part behind what is written over stays
+pub part-written_behind : (buf xs : List ℕ) (k at n : ℕ) → k + length xs ≤ at → k + length xs ≤ length buf → part (written buf k xs) at n ≡ part buf at n
+part-written_behind buf xs k at n behind fits =
+    same_lists _ _ (search (rules, places)) (λ j d h. grind (arith, places))
+
+-- what is written over is the new bytes and then the rest of what was there
+pub part-written_at : (buf xs : List ℕ) (k n : ℕ) → length xs ≤ n → k + n ≤ length buf → part (written buf k xs) k n ≡ xs ++ drop (length xs) (part buf k n)
+part-written_at buf xs k n within fits =
+    same_lists _ _ (search (rules, places)) (λ j d h. grind (arith, places))
+
+-- what holds of each holds of each of the others
+pub others : {X : Type 0} (P : X → Type 0) (x : X) (xs : List X) → All P (x ∷ xs) → All P xs
+others P x xs all = λ k d lt. all (suc k) d (omega arith)
+
+-- Messages that stand in the same bytes are the same.
+pub completed-same : (old new : List ℕ) (rs : List Reserved) → All (λ r. body_in new r ≡ body_in old r) rs → completed_in new rs ≡ completed_in old rs
+completed-same old new [] all = refl
+completed-same old new (r ∷ rs) all =
+    let rest : completed_in new rs ≡ completed_in old rs = completed-same old new rs (others (λ x. body_in new x ≡ body_in old x) r rs all) in
+    let here : body_in new r ≡ body_in old r = all 0 r (omega arith) in
+    let message : message_in new r ≡ message_in old r = ap (λ (l : List ℕ). record (message_in old r) { bytes = l }) here in
+    elim r.is_open as (λ o. (if o then completed_in new rs else message_in new r ∷ completed_in new rs) ≡ (if o then completed_in old rs else message_in old r ∷ completed_in old rs)) [ true ↦ rest | false ↦ (cc) ]
+
+pub completed-append : (bytes : List ℕ) (xs ys : List Reserved) → completed_in bytes (xs ++ ys) ≡ completed_in bytes xs ++ completed_in bytes ys
+completed-append bytes [] ys = refl
+completed-append bytes (x ∷ xs) ys =
+    let rest : completed_in bytes (xs ++ ys) ≡ completed_in bytes xs ++ completed_in bytes ys = completed-append bytes xs ys in
+    elim x.is_open as (λ o. (if o then completed_in bytes (xs ++ ys) else message_in bytes x ∷ completed_in bytes (xs ++ ys)) ≡ (if o then completed_in bytes xs else message_in bytes x ∷ completed_in bytes xs) ++ completed_in bytes ys) [ true ↦ rest | false ↦ ap (λ (l : List Message). message_in bytes x ∷ l) rest ]
+
+-- one reservation more
+pub chain-append : (from end : ℕ) (rs : List Reserved) (r : Reserved) → IsChain from rs end → r.from ≡ end → IsChain from (rs ++ r ∷ []) (end + r.len)
+chain-append from end [] r is here = (here ∙ sym is, ap (λ n. n + r.len) is)
+chain-append from end (x ∷ xs) r is here = (is.0, chain-append (from + x.len) end xs r is.1 here)
+
+-- a chain in two parts, around one of its reservations
+pub chain-split : (from end : ℕ) (xs ys : List Reserved) (r : Reserved) → IsChain from (xs ++ r ∷ ys) end → IsChain from xs r.from × IsChain (r.from + r.len) ys end
+chain-split from end [] ys r is = (sym is.0, subst (λ n. IsChain (n + r.len) ys end) (sym is.0) is.1)
+chain-split from end (x ∷ xs) ys r is =
+    let rest = chain-split (from + x.len) end xs ys r is.1 in
+    ((is.0, rest.0), rest.1)
+
+-- and the two parts make a chain again, around one of the same range
+pub chain-joined : (from end : ℕ) (xs ys : List Reserved) (r : Reserved) → IsChain from xs r.from → IsChain (r.from + r.len) ys end → IsChain from (xs ++ r ∷ ys) end
+chain-joined from end [] ys r before after = (sym before, subst (λ n. IsChain (n + r.len) ys end) (sym before) after)
+chain-joined from end (x ∷ xs) ys r before after = (before.0, chain-joined (from + x.len) end xs ys r before.1 after)
+
+-- a chain doesn't go back
+pub chain_grows : (from end : ℕ) (rs : List Reserved) → IsChain from rs end → from ≤ end
+chain_grows from end [] is = omega arith
+chain_grows from end (r ∷ rs) is = let rest = chain_grows (from + r.len) end rs is.1 in omega arith
+
+-- its reservations lie between its ends
+pub chain_within : (from end : ℕ) (rs : List Reserved) → IsChain from rs end → All (λ r. (from ≤ r.from) × (r.from + r.len ≤ end)) rs
+chain_within from end (r ∷ rs) is zero d lt =
+    let rest = chain_grows (from + r.len) end rs is.1 in
+    let here : r.from ≡ from = is.0 in
+    (omega arith, omega arith)
+chain_within from end (r ∷ rs) is (suc k) d lt =
+    let rest = chain_within (from + r.len) end rs is.1 k d (omega arith) in
+    (omega (arith, rest.0), rest.1)
+chain_within from end [] is k d lt = absurd (omega arith)
+
+-- Writing over a text keeps its length.
+pub length-written : (buf xs : List ℕ) (k : ℕ) → k + length xs ≤ length buf → length (written buf k xs) ≡ length buf
+length-written buf xs k fits = omega (arith, length-append (take k buf ++ xs) (drop (k + length xs) buf), length-append (take k buf) xs, length-take k buf, length-drop (k + length xs) buf)
+
+-- a list around an element that is there
+pub there_split : {X : Type 0} (xs : List X) (i : ℕ) (x : X) → slice_get xs i ≡ Some x → xs ≡ take i xs ++ x ∷ drop (suc i) xs
+there_split [] zero x there = cc
+there_split [] (suc i) x there = cc
+there_split (y ∷ ys) zero x there = let same : y ≡ x = cc in ap (λ z. z ∷ ys) same
+there_split (y ∷ ys) (suc i) x there = ap (λ zs. y ∷ zs) (there_split ys i x there)
+
+-- what holds of the first and of the others
+pub with_first : {X : Type 0} (P : X → Type 0) (x : X) (xs : List X) → P x → All P xs → All P (x ∷ xs)
+with_first P x xs here all zero d lt = here
+with_first P x xs here all (suc k) d lt = all k d (omega arith)
+
+-- The messages of a chain lie between its ends.
+pub completed_between : (bytes : List ℕ) (from end : ℕ) (rs : List Reserved) → IsChain from rs end → All (λ r. 0 < r.len) rs
+    → All (λ m. (from ≤ m.place) × (m.place < end)) (completed_in bytes rs)
+completed_between bytes from end [] is some = λ k d lt. absurd (omega arith)
+completed_between bytes from end (r ∷ rs) is some =
+    let here : r.from ≡ from = is.0 in
+    let long : 0 < r.len = some 0 r (omega arith) in
+    let grows : from + r.len ≤ end = chain_grows (from + r.len) end rs is.1 in
+    let rest : All (λ m. (from + r.len ≤ m.place) × (m.place < end)) (completed_in bytes rs) = completed_between bytes (from + r.len) end rs is.1 (others (λ x. 0 < x.len) r rs some) in
+    let Between : Message → Type 0 = λ m. (from ≤ m.place) × (m.place < end) in
+    let later : All Between (completed_in bytes rs) = λ k d lt. let b = rest k d lt in (omega (arith, b.0), b.1) in
+    elim r.is_open as (λ o. All Between (if o then completed_in bytes rs else message_in bytes r ∷ completed_in bytes rs))
+      [ true ↦ later | false ↦ with_first Between (message_in bytes r) (completed_in bytes rs) (omega arith, omega arith) later ]
+
+-- what holds of each holds of those in front, of the one between and of those behind
+pub all_split : {X : Type 0} (P : X → Type 0) (xs ys : List X) (x : X) → All P (xs ++ x ∷ ys) → All P xs × P x × All P ys
+all_split P [] ys x all = (λ k d lt. absurd (omega arith), all 0 x (omega arith), others P x ys all)
+all_split P (z ∷ xs) ys x all =
+    let rest = all_split P xs ys x (others P z (xs ++ x ∷ ys) all) in
+    (with_first P z xs (all 0 z (omega arith)) rest.0, rest.1, rest.2)
+
+pub all_joined : {X : Type 0} (P : X → Type 0) (xs ys : List X) (x : X) → All P xs → P x → All P ys → All P (xs ++ x ∷ ys)
+all_joined P [] ys x before here after = with_first P x ys here after
+all_joined P (z ∷ xs) ys x before here after = with_first P z (xs ++ x ∷ ys) (before 0 z (omega arith)) (all_joined P xs ys x (others P z xs before) here after)
+
+-- what holds of each holds of one of them
+pub of_one : {X : Type 0} (P : X → Type 0) (xs : List X) (x : X) → All P xs → Contains xs x → P x
+of_one P xs x all there = subst P there.2 (all there.0 x there.1)

@@ -1,0 +1,81 @@
+-- The current buffer: which records and which placeholders stand in it, and which messages these are.
+use Rattle.std.specs.Prelude.{◌≡◌, ◌≢◌, ◌+◌, ◌-◌, ◌≤◌, ◌<◌, ◌^◌, ℕ, Bool, true, false, not, if◌then◌else◌, List, [], ◌∷◌, ◌++◌, length, take, drop, map, filter, replicate, Contains, Option, None, Some}
+use Rattle.sled_codec.specs.declared.result.DiskPtr.{DiskPtr}
+use Rattle.sled_codec.specs.declared.result.DiskPtr.TheVariants.{Inline}
+use Rattle.sled_codec.specs.declared.serialization.message.MessageKind.{MessageKind}
+use Rattle.sled_codec.specs.declared.serialization.message.MessageKind.TheVariants.{Corrupted}
+use Rattle.sled_codec.specs.Kinds.{kind_written, code_of}
+use Rattle.sled_codec.specs.Sums.{flipped}
+use Rattle.sled_codec.specs.Spelling.{low_bytes, short_header_tail}
+use Rattle.sled_codec.specs.Places.{part}
+use Rattle.sled_codec.specs.Record.{record_sum, short_record}
+use Rattle.sled_codec.specs.History.{Message}
+use Rattle.sled_core.specs.declared.iobuf.Reserved.{Reserved}
+use Rattle.sled_core.specs.declared.iobuf.Kept.{Kept}
+
+-- the bytes that a reservation has in its segment
+abbrev pub text_in : List ℕ → Reserved → List ℕ
+text_in bytes r = part bytes r.from r.len
+
+-- those behind the header of its record
+abbrev pub body_in : List ℕ → Reserved → List ℕ
+body_in bytes r = part bytes (r.from + r.header_len) (r.len - r.header_len)
+
+-- the message that it is for
+abbrev pub message_in : List ℕ → Reserved → Message
+message_in bytes r = record { kind = r.log_kind; page = r.page; place = r.from; pointer = Inline r.from; size = r.len; bytes = body_in bytes r }
+
+-- a header with zeros in place of its sum and its kind
+abbrev pub placeholder_head : List ℕ → List ℕ
+placeholder_head head = replicate 5 0 ++ drop 5 head
+
+-- An open reservation has neither a sum nor a kind yet, so its bytes are no record.
+abbrev pub placeholder : List ℕ → List ℕ
+placeholder whole = replicate 5 0 ++ drop 5 whole
+
+-- This text and this body in it are what a reservation is to hold: its record, or while it is open the placeholder of that.
+pub record StandsAs (sum : List ℕ → ℕ) (number : ℕ) (text body : List ℕ) (r : Reserved) : Type 0 where
+  pub headed : 5 ≤ r.header_len
+  pub long : r.header_len ≤ r.len
+  pub known : kind_written r.log_kind r.page false ≡ Some r.kind
+  pub valid : r.kind ≢ Corrupted
+  pub page : r.page < 2 ^ 64
+  pub summed : flipped r.sum ≡ record_sum sum r.kind r.page number body
+  pub counted : r.header_len ≡ 4 + length (short_header_tail r.kind (length body) number r.page)
+  pub is : text ≡ (if r.is_open then placeholder (short_record sum r.kind r.page number body) else short_record sum r.kind r.page number body)
+
+-- what stands in a reservation
+abbrev pub Stands : (List ℕ → ℕ) → ℕ → List ℕ → Reserved → Type 0
+Stands sum number bytes r = StandsAs sum number (text_in bytes r) (body_in bytes r) r
+
+-- the reservation that is made at an offset for a message, with this sum
+abbrev pub reserved_for : Kept → ℕ → ℕ → ℕ → ℕ → Reserved
+reserved_for kept at header_len item_len sum = record { from = at; header_len = header_len; len = header_len + item_len; log_kind = kept.log_kind; kind = kept.kind; page = kept.page; sum = sum; is_open = true }
+
+-- the sum and the kind that complete a reservation
+abbrev pub completing : Reserved → List ℕ
+completing r = low_bytes 4 (flipped r.sum) ++ code_of r.kind ∷ []
+
+-- the reservation once it is completed
+abbrev pub closed : Reserved → Reserved
+closed r = record { from = r.from; header_len = r.header_len; len = r.len; log_kind = r.log_kind; kind = r.kind; page = r.page; sum = r.sum; is_open = false }
+
+-- reservations lie one behind another from an offset on, up to an end
+abbrev pub IsChain : ℕ → List Reserved → ℕ → Type 0
+IsChain from [] end = from ≡ end
+IsChain from (r ∷ rs) end = (r.from ≡ from) × IsChain (from + r.len) rs end
+
+-- the messages of the reservations that were completed, by place
+abbrev pub completed_in : List ℕ → List Reserved → List Message
+completed_in bytes [] = []
+completed_in bytes (r ∷ rs) = if r.is_open then completed_in bytes rs else message_in bytes r ∷ completed_in bytes rs
+
+-- none of them is open
+abbrev pub all_ended : List Reserved → Bool
+all_ended [] = true
+all_ended (r ∷ rs) = if r.is_open then false else all_ended rs
+
+-- the end of what was reserved: of all the bytes, where something was reserved since they were written
+abbrev pub end_reserved : ℕ → ℕ → List Reserved → ℕ
+end_reserved from end [] = from
+end_reserved from end (r ∷ rs) = end

@@ -1,0 +1,34 @@
+-- Why a call of a log failed.
+use Rattle.std.specs.Prelude.{◌≡◌, ◌⊎◌, [], ◌+◌, ◌%◌, ◌^◌, ℕ, Option, None, Some, Result, Ok, Err, IsTrue, IsSome}
+use Rattle.std.specs.declared.io.Error.{Error as IoError}
+use Rattle.sled_codec.specs.declared.result.Error.{Error}
+use Rattle.std.specs.String.{string_bytes}
+use Rattle.sled_codec.specs.declared.result.Error.TheVariants.{Io, OutOfMemory, Unsupported}
+use Rattle.sled_codec.specs.declared.serialization.message.MessageKind.{MessageKind}
+use Rattle.sled_store.specs.Answers.{is_fault}
+
+-- The log kept this failure of the device from an earlier call, or the device failed in this call, and the log keeps that.
+abbrev pub IsFault : IoError → Option IoError → Option IoError → ℕ → ℕ → Type 0
+IsFault e old new before after =
+    ((old ≡ Some e) × (new ≡ Some e) × (after ≡ before)) ⊎ ((old ≡ None) × (new ≡ Some e) × (after ≡ (before + 1) % 2 ^ 64) × IsTrue (is_fault e))
+
+-- A call that may touch the device: it succeeds, or memory is refused, only where the log keeps no failure and the device had none, and else it answers the failure that is kept.
+abbrev pub Answers : {T : Type 0} → Result T Error → Option IoError → Option IoError → ℕ → ℕ → Type 0
+Answers (Ok _) old new before after = (old ≡ None) × (new ≡ None) × (after ≡ before)
+Answers (Err (Io e)) old new before after = IsFault e old new before after
+Answers (Err OutOfMemory) old new before after = (old ≡ None) × (new ≡ None) × (after ≡ before)
+Answers (Err _) old new before after = ⊥
+
+-- A call that touches no device and wants no memory: it fails exactly where the log keeps a failure, and answers that.
+abbrev pub FaultAnswers : {T : Type 0} → Result T Error → Option IoError → Type 0
+FaultAnswers (Ok _) fault = fault ≡ None
+FaultAnswers (Err (Io e)) fault = fault ≡ Some e
+FaultAnswers (Err _) fault = ⊥
+
+-- A reservation: the failure that the log keeps comes first, then a kind that the page has no messages of, with an empty text, and then want of memory.
+abbrev pub ReserveAnswers : {T : Type 0} → Result T Error → Option IoError → Option MessageKind → Type 0
+ReserveAnswers (Ok _) fault kind = (fault ≡ None) × IsSome kind
+ReserveAnswers (Err (Io e)) fault kind = fault ≡ Some e
+ReserveAnswers (Err (Unsupported text)) fault kind = (fault ≡ None) × (kind ≡ None) × (string_bytes text ≡ [])
+ReserveAnswers (Err OutOfMemory) fault kind = (fault ≡ None) × IsSome kind
+ReserveAnswers (Err _) fault kind = ⊥

@@ -1,0 +1,4 @@
+pub mod Buffers
+pub mod Causes
+pub mod Fits
+pub mod Tickets

@@ -1,0 +1,191 @@
+//! The bytes of the segment that is being filled. The current buffer is the part of them that was not
+//! written yet, and the reservations in it lie one behind another.
+ghost use Rattle.std.specs.Prelude.{◌≡◌, ◌+◌, ◌-◌, ◌<◌, ◌≤◌, ◌^◌, ◌++◌, ◌∷◌, [], ℕ, List, length, take, drop, set, replicate, vec_len, vec_capacity, slice_get, OnOk, OnErr, IfOk, IsOkUnless, All, Some};
+ghost use Rattle.sled_codec.specs.Written.{written};
+ghost use Rattle.sled_core.specs.declared.iobuf.Reserved.{Reserved};
+ghost use Rattle.sled_core.specs.Buffers.{completing, closed, placeholder_head, reserved_for};
+
+use sled_codec::result::{Error, PageId, Result};
+use crate::record::{Head, push_item, push_placeholder, sum_behind};
+use sled_codec::serialization::{Checksum, LogKind, MessageKind, Serialize};
+use std::alloc::Global;
+
+/// The longest header of a message, in bytes.
+pub const MAX_MSG_HEADER_LEN: usize = 32;
+
+/// The header of a segment, in bytes.
+pub const SEG_HEADER_LEN: usize = 20;
+
+/// The sum and the kind in the header of a message: what completes a record.
+pub(crate) const COMPLETING_LEN: usize = 5;
+
+/// What a reservation is for.
+#[derive(Clone, Copy)]
+pub(crate) struct Kept {
+    pub(crate) log_kind: LogKind,
+    pub(crate) kind: MessageKind,
+    pub(crate) page: PageId,
+}
+
+/// A range of a segment that was reserved for a record.
+#[derive(Debug, Clone, Copy)]
+pub(crate) struct Reserved {
+    /// Where the record begins in the segment.
+    pub(crate) from: usize,
+    /// How long its header is.
+    pub(crate) header_len: usize,
+    /// How long the record is.
+    pub(crate) len: usize,
+    /// What the message does to its page.
+    pub(crate) log_kind: LogKind,
+    /// The kind and the sum that complete the record.
+    pub(crate) kind: MessageKind,
+    pub(crate) page: PageId,
+    pub(crate) sum: u32,
+    /// It was neither completed nor aborted. It counts as open too where its ticket was abandoned.
+    pub(crate) is_open: bool,
+}
+
+/// A segment's bytes from its beginning on, its header first.
+#[derive(Drop)]
+pub(crate) struct Buffer {
+    pub(crate) bytes: Vec<u8>,
+    /// Where the current buffer begins: all before it is on the device.
+    pub(crate) from: usize,
+    /// The reservations of the current buffer, by place.
+    pub(crate) reserved: Vec<Reserved>,
+    ghost begun: { 20 ≤ length bytes.items },
+    ghost behind: { from ≤ length bytes.items },
+    ghost within: { All (λ r. r.from + r.len ≤ length bytes.items) reserved.items },
+    ghost headed: { All (λ r. (5 ≤ r.header_len) × (r.header_len ≤ r.len)) reserved.items },
+}
+
+impl Buffer {
+    ghost use Rattle.sled_core.specs.Buffers.{all_ended};
+
+    /// The bytes of a segment that has its header alone.
+    pub(crate) fn new(alloc: Global, header: &[u8; 20]) -> Result<Buffer>
+        ensures bytes { IfOk result (λ b. b.bytes.items ≡ header.now) }
+        ensures from { IfOk result (λ b. b.from ≡ 0) }
+        ensures reserved { IfOk result (λ b. b.reserved.items ≡ []) }
+        ensures err { IsOkUnless result Error.OutOfMemory }
+    {
+        Ok(Buffer {
+            bytes: Vec::from_slice(alloc, header)?,
+            from: 0,
+            reserved: Vec::new(alloc),
+        })
+    }
+
+    /// None of the reservations is open.
+    pub(crate) fn all_ended(&self) -> bool
+        ensures { result ≡ all_ended self.now.reserved.items }
+    {
+        for r in &self.reserved {
+            if r.is_open {
+                return false;
+            }
+        }
+        true
+    }
+
+    /// Makes room for a record of this length, for what is summed behind it, and for its reservation.
+    pub(crate) fn make_room(&mut self, len: usize) -> Result<()>
+        requires { len < 2 ^ 32 }
+        ensures bytes { self.new.bytes.items ≡ self.old.bytes.items }
+        ensures from { self.new.from ≡ self.old.from }
+        ensures reserved { self.new.reserved.items ≡ self.old.reserved.items }
+        ensures room { OnOk result (length self.old.bytes.items + len + 32 ≤ vec_capacity self.new.bytes) }
+        ensures place { OnOk result (vec_len self.new.reserved < vec_capacity self.new.reserved) }
+        ensures err { IsOkUnless result Error.OutOfMemory }
+    {
+        self.bytes.reserve(len + MAX_MSG_HEADER_LEN)?;
+        self.reserved.reserve(1)?;
+        Ok(())
+    }
+
+    /// Lays out the placeholder of a record behind what is there, and keeps its reservation.
+    pub(crate) fn append<T: Serialize, C: Checksum>(
+        &mut self,
+        checksum: &C,
+        head: &Head,
+        message: &Kept,
+        item: &T,
+        item_len: usize,
+    )
+        requires fits { T.fits (T.meaning item.now) }
+        requires len { item_len ≡ length (T.short (T.meaning item.now)) }
+        requires room { length self.old.bytes.items + head.now.len + item_len + 32 ≤ vec_capacity self.old.bytes }
+        requires place { vec_len self.old.reserved < vec_capacity self.old.reserved }
+        ensures bytes { self.new.bytes.items ≡ self.old.bytes.items ++ placeholder_head (take head.now.len head.now.bytes) ++ T.short (T.meaning item.now) }
+        ensures reserved { self.new.reserved.items ≡ self.old.reserved.items ++ reserved_for message.now (length self.old.bytes.items) head.now.len item_len (C.sum_of (T.short (T.meaning item.now) ++ drop 4 (take head.now.len head.now.bytes))) ∷ [] }
+        ensures from { self.new.from ≡ self.old.from }
+    {
+        let from = self.bytes.len();
+        push_placeholder(&mut self.bytes, head);
+        push_item(&mut self.bytes, item, item_len);
+        let sum = sum_behind(checksum, &mut self.bytes, from + head.len, head);
+        keep(
+            &mut self.reserved,
+            Reserved {
+                from,
+                header_len: head.len,
+                len: head.len + item_len,
+                log_kind: message.log_kind,
+                kind: message.kind,
+                page: message.page,
+                sum,
+                is_open: true,
+            },
+        );
+    }
+
+    /// Completes a reservation: stores the flipped sum and the kind in its header.
+    pub(crate) fn complete(&mut self, index: usize)
+        requires { index < vec_len self.old.reserved }
+        ensures bytes { (r : Reserved) → slice_get self.old.reserved.items index ≡ Some r → self.new.bytes.items ≡ written self.old.bytes.items r.from (completing r) }
+        ensures reserved { (r : Reserved) → slice_get self.old.reserved.items index ≡ Some r → self.new.reserved.items ≡ set self.old.reserved.items index (closed r) }
+        ensures from { self.new.from ≡ self.old.from }
+    {
+        let r = self.reserved[index];
+        let sum = (u32::MAX - r.sum).to_le_bytes();
+        put(&mut self.bytes, r.from, &[sum[0], sum[1], sum[2], sum[3], u8::from(r.kind)]);
+        close(&mut self.reserved, index);
+    }
+
+    /// All bytes are on the device now.
+    pub(crate) fn advance(&mut self)
+        ensures bytes { self.new.bytes.items ≡ self.old.bytes.items }
+        ensures from { self.new.from ≡ length self.old.bytes.items }
+        ensures reserved { self.new.reserved.items ≡ [] }
+    {
+        self.from = self.bytes.len();
+        self.reserved.clear();
+    }
+}
+
+/// Writes over what is there.
+fn put(buf: &mut Vec<u8>, at: usize, bytes: &[u8])
+    requires { at + length bytes.now ≤ length buf.old.items }
+    ensures bytes { buf.new.items ≡ written buf.old.items at bytes.now }
+    ensures len { length buf.new.items ≡ length buf.old.items }
+{
+    buf[at..at + bytes.len()].copy_from_slice(bytes);
+}
+
+/// The reservation at an index is no longer open.
+fn close(reserved: &mut Vec<Reserved>, index: usize)
+    requires { index < vec_len reserved.old }
+    ensures { (r : Reserved) → slice_get reserved.old.items index ≡ Some r → reserved.new.items ≡ set reserved.old.items index (closed r) }
+{
+    let r = &mut reserved[index];
+    r.is_open = false;
+}
+
+/// Keeps a reservation, where there is room for it.
+fn keep(reserved: &mut Vec<Reserved>, r: Reserved)
+    requires { vec_len reserved.old < vec_capacity reserved.old }
+    ensures { reserved.new.items ≡ reserved.old.items ++ r ∷ [] }
+{
+    let _ = reserved.push(r);
+}

@@ -1,0 +1,272 @@
+//! The log: what its callers reserve, complete, flush and read.
+//!
+//! A log keeps the bytes of its segment, the reservations in them, the count of pins, and the first
+//! failure of its device, which it answers from then on. `specs/Fits.antt` says which history it holds.
+ghost use Rattle.std.specs.Prelude.{◌≡◌, ◌≢◌, ◌↔◌, ◌+◌, ◌-◌, ◌<◌, ◌≤◌, ◌^◌, ◌∷◌, ◌-ℤ◌, pos, [], ℕ, length, drop, true, IsTrue, IfOk, IfErr, OnOk, OnErr, IsErrOf, None, Some};
+ghost use Rattle.std.specs.declared.io.Error.{Error as IoError};
+ghost use Rattle.sled_codec.specs.Kinds.{kind_written};
+ghost use Rattle.sled_codec.specs.History.{History, Message, Completed, Step, no_history};
+ghost use Rattle.std.specs.IoError.{error_kind};
+ghost use Rattle.std.specs.declared.io.ErrorKind.TheVariants.{OutOfMemory};
+ghost use Rattle.sled_codec.specs.Errors.{IsErrorOf};
+ghost use Rattle.sled_store.specs.Device.{state_of, at_rest, Wrote, Synced};
+ghost use Rattle.sled_store.specs.Answers.{Counts, FailsOr};
+ghost use Rattle.sled_core.specs.Tickets.{place_of, pointer_of};
+ghost use Rattle.sled_core.specs.Causes.{Answers, FaultAnswers, ReserveAnswers};
+
+use crate::iobuf::{Buffer, Kept, SEG_HEADER_LEN};
+use crate::record::head_of;
+use crate::reservation::{Guard, Reservation};
+use sled_codec::result::{DiskPtr, Error, Lsn, PageId, Result};
+use sled_codec::serialization::{Checksum, LogKind, SegmentHeader, Serialize, Snapshot, message_kind};
+use sled_store::{Device, RunningConfig};
+use std::io;
+
+/// A log over a device. It is given up by `halt`, which hands its configuration back.
+pub struct Log<D, C> {
+    config: RunningConfig<D, C>,
+    buffer: Buffer,
+    /// The first failure of the device in this log.
+    fault: Option<io::Error>,
+    pins: u64,
+}
+
+impl<D: Device, C: Checksum> Log<D, C> {
+    ghost use Rattle.sled_core.specs.Fits.{Holds, IsDefault, AllEnded, Awaits, IsOpen, HasRoom, IsUnchanged, fault_of, next_place, synced_end, reserved_end, pins_of, config_of, device_of, record_size, log_image, manifest_page, segment_size_of, message_for, KeepsAll};
+
+    /// The segment that a place lies in begins with a header. The mark of the first one is the place
+    /// before the log.
+    pub fn start(
+        config: RunningConfig<D, C>,
+        snapshot: &Snapshot,
+    ) -> std::result::Result<Log<D, C>, (Error, RunningConfig<D, C>)>
+        requires default { IsDefault snapshot.now }
+        requires empty { (state_of (D.trace config.device)).log ≡ at_rest [] }
+        ensures history { IfOk result (λ log. Holds D.trace C.sum_of log no_history) }
+        ensures config { IfOk result (λ log. config_of log ≡ config) }
+        ensures next { IfOk result (λ log. next_place log ≡ 20) }
+        ensures synced { IfOk result (λ log. synced_end log ≡ 0) }
+        ensures ended { IfOk result (λ log. AllEnded log) }
+        ensures fault { IfOk result (λ log. fault_of log ≡ None) }
+        ensures pins { IfOk result (λ log. pins_of log ≡ 0) }
+        ensures refused { IfErr result (λ e. (e.0 ≡ Error.OutOfMemory) × (e.1 ≡ config)) }
+    {
+        let header = SegmentHeader {
+            lsn: 0,
+            max_stable_lsn: -1,
+            ok: true,
+        };
+        let bytes = header.to_bytes(&config.checksum);
+        match Buffer::new(config.alloc(), &bytes) {
+            Ok(buffer) => Ok(Log {
+                config,
+                buffer,
+                fault: None,
+                pins: 0,
+            }),
+            Err(e) => Err((e, config)),
+        }
+    }
+
+    /// Takes a pin. There may be fewer than 2^32 - 1.
+    pub fn pin(&mut self) -> Guard
+        requires { pins_of self.old < 2 ^ 32 - 1 }
+        ensures { self.new ≡ record self.old { pins = pins_of self.old + 1 } }
+    {
+        self.pins += 1;
+        Guard::new()
+    }
+
+    /// Gives a pin back.
+    pub fn unpin(&mut self, guard: Guard)
+        requires { 0 < pins_of self.old }
+        ensures { self.new ≡ record self.old { pins = pins_of self.old - 1 } }
+    {
+        guard.abandon();
+        self.pins -= 1;
+    }
+
+    /// How many pins are out. A guard that was abandoned counts too.
+    pub fn pins(&self) -> u64
+        ensures { result ≡ pins_of self.now }
+    {
+        self.pins
+    }
+
+    /// The last place of which all up to it is settled on the device; -1 before the first one.
+    pub fn stable_offset(&self) -> Lsn
+        ensures { result ≡ pos (synced_end self.now) -ℤ pos 1 }
+    {
+        self.buffer.from as i64 - 1
+    }
+
+    /// Keeps a place for a message of this page, at the end of what was reserved. The guard shows that
+    /// a pin is out. `Unsupported` comes where a page has no messages of this kind, `Io` where the log
+    /// keeps a failure of its device, and `OutOfMemory`; after each of them the log is as it was.
+    pub fn reserve<T: Serialize>(
+        &mut self,
+        kind: LogKind,
+        pid: PageId,
+        item: &T,
+        _guard: &Guard,
+    ) -> Result<Reservation>
+        requires fits { T.fits (T.meaning item.now) }
+        requires room { HasRoom self.old pid (length (T.short (T.meaning item.now))) }
+        requires no_manifest { kind ≡ LogKind.Skip → pid ≢ manifest_page }
+        ensures ticket { IfOk result (λ ticket. Awaits self.new ticket (message_for kind pid (next_place self.old) (T.short (T.meaning item.now)))) }
+        ensures next { OnOk result (next_place self.new ≡ next_place self.old + record_size pid (length (T.short (T.meaning item.now)))) }
+        ensures others { (ticket : Reservation) (m : Message) → Awaits self.old ticket m → Awaits self.new ticket m }
+        ensures history { (H : History) → Holds D.trace C.sum_of self.old H → Holds D.trace C.sum_of self.new H }
+        ensures answers { ReserveAnswers result (fault_of self.old) (kind_written kind pid false) }
+        ensures same { KeepsAll self.old self.new }
+        ensures err { OnErr result (IsUnchanged self.old self.new) }
+    {
+        if let Some(e) = self.fault {
+            return Err(Error::Io(e));
+        }
+        let Some(message_kind) = message_kind(kind, pid, false) else {
+            return Err(Error::Unsupported(String::new(self.config.alloc())));
+        };
+        let item_len = item.serialized_size() as usize;
+        let head = head_of(message_kind, pid, item_len as u64);
+        self.buffer.make_room(head.len + item_len)?;
+        let place = self.buffer.bytes.len();
+        let index = self.buffer.reserved.len();
+        let kept = Kept {
+            log_kind: kind,
+            kind: message_kind,
+            page: pid,
+        };
+        self.buffer
+            .append(&self.config.checksum, &head, &kept, item, item_len);
+        Ok(Reservation::new(
+            place as i64,
+            DiskPtr::Inline(place as u64),
+            index,
+        ))
+    }
+
+    /// Completes a message: from now on it is in the log's history. It takes no memory. It fails where
+    /// the log keeps a failure of its device; the ticket is spent all the same, and its message is not
+    /// in the history.
+    pub fn complete(&mut self, ticket: Reservation) -> Result<(Lsn, DiskPtr)>
+        requires { IsOpen self.old ticket }
+        ensures place { IfOk result (λ at. (at.0 ≡ place_of ticket) × (at.1 ≡ pointer_of ticket)) }
+        ensures history { (H : History) (m : Message) → Holds D.trace C.sum_of self.old H → Awaits self.old ticket m
+            → OnOk result ((H' : History) × Step H (Completed m) H' × Holds D.trace C.sum_of self.new H') }
+        ensures others { (other : Reservation) (m : Message) → Awaits self.old other m → place_of other ≢ place_of ticket → Awaits self.new other m }
+        ensures answers { FaultAnswers result (fault_of self.old) }
+        ensures same { KeepsAll self.old self.new }
+        ensures next { next_place self.new ≡ next_place self.old }
+        ensures err { OnErr result (self.new ≡ self.old) }
+    {
+        let place = ticket.lsn();
+        let pointer = ticket.pointer();
+        let index = ticket.index();
+        ticket.abandon();
+        if let Some(e) = self.fault {
+            return Err(Error::Io(e));
+        }
+        self.buffer.complete(index);
+        Ok((place, pointer))
+    }
+
+    /// Writes what was completed and settles it on the device, and answers by how much the stable end
+    /// grew. Where nothing was reserved since the last write it does nothing.
+    pub fn flush(&mut self) -> Result<usize>
+        requires { AllEnded self.old }
+        ensures answer { IfOk result (λ n. synced_end self.new ≡ synced_end self.old + n) }
+        ensures whole { OnOk result (synced_end self.new ≡ reserved_end self.old) }
+        ensures records { (H : History) → Holds D.trace C.sum_of self.old H → OnOk result ((state_of (D.trace (device_of self.new))).log ≡ at_rest (log_image C.sum_of H.messages)) }
+        ensures history { (H : History) → Holds D.trace C.sum_of self.old H → Holds D.trace C.sum_of self.new H }
+        ensures ended { AllEnded self.new }
+        ensures next { next_place self.new ≡ next_place self.old }
+        ensures pins { pins_of self.new ≡ pins_of self.old }
+        ensures size { segment_size_of self.new ≡ segment_size_of self.old }
+        ensures answers { Answers result (fault_of self.old) (fault_of self.new) (D.faults (device_of self.old)) (D.faults (device_of self.new)) }
+        ensures faulty { (e : IoError) → fault_of self.old ≡ Some e → self.new ≡ self.old }
+        ensures err { OnErr result (synced_end self.new ≡ synced_end self.old) }
+    {
+        if let Some(e) = self.fault {
+            return Err(Error::Io(e));
+        }
+        if self.buffer.reserved.is_empty() {
+            return Ok(0);
+        }
+        let grown = self.buffer.bytes.len() - self.buffer.from;
+        if let Err(e) = write_out(&mut self.config.device, &self.buffer) {
+            return Err(keep_fault(&mut self.fault, e));
+        }
+        self.buffer.advance();
+        Ok(grown)
+    }
+
+    /// Whether a message of this page with this item fits inline into what is left of the segment.
+    pub fn has_room<T: Serialize>(&self, pid: PageId, item: &T) -> bool
+        requires { T.fits (T.meaning item.now) }
+        ensures { IsTrue result ↔ HasRoom self.now pid (length (T.short (T.meaning item.now))) }
+    {
+        let size = self.config.config.segment_size;
+        let item_len = item.serialized_size();
+        let next = self.buffer.bytes.len() as u64;
+        if item_len > size / 4 - 52 || next > size - 32 {
+            return false;
+        }
+        let len = 5 + item_len.serialized_size() + 0u64.serialized_size() + pid.serialized_size() + item_len;
+        len <= size - next
+    }
+
+    /// Whether this ticket is for an open reservation of the log.
+    pub fn is_open(&self, ticket: &Reservation) -> bool
+        ensures { IsTrue result ↔ IsOpen self.now ticket.now }
+    {
+        match self.buffer.reserved.get(ticket.index()) {
+            Some(r) => r.is_open && r.from as i64 == ticket.lsn() && DiskPtr::Inline(r.from as u64) == ticket.pointer(),
+            None => false,
+        }
+    }
+
+    /// Whether no reservation is open. One whose ticket was abandoned is.
+    pub fn all_ended(&self) -> bool
+        ensures { IsTrue result ↔ AllEnded self.now }
+    {
+        self.buffer.all_ended()
+    }
+
+    /// Gives the log up, and writes nothing.
+    pub fn halt(self) -> RunningConfig<D, C>
+        ensures { result ≡ config_of self }
+    {
+        let Log {
+            config,
+            buffer: _,
+            fault: _,
+            pins: _,
+        } = self;
+        config
+    }
+}
+
+/// Writes what was not written yet, and syncs it.
+fn write_out<D: Device>(device: &mut D, buffer: &Buffer) -> io::Result<()>
+    ensures done { OnOk result (D.trace device.new ≡ Synced ∷ Wrote buffer.now.from (drop buffer.now.from buffer.now.bytes.items) (drop buffer.now.from buffer.now.bytes.items) ∷ D.trace device.old) }
+    ensures refused { IfErr result (λ e. error_kind e ≡ OutOfMemory → D.trace device.new ≡ D.trace device.old) }
+    ensures faults { Counts result (D.faults device.old) (D.faults device.new) }
+    ensures error { FailsOr OutOfMemory result }
+{
+    device.write_at(buffer.from as u64, &buffer.bytes[buffer.from..])?;
+    device.sync()
+}
+
+/// Keeps a failure of the device, and says which error it is. Want of memory is none.
+fn keep_fault(fault: &mut Option<io::Error>, e: io::Error) -> Error
+    requires { fault.old ≡ None }
+    ensures error { IsErrorOf e result }
+    ensures memory { error_kind e ≡ OutOfMemory → fault.new ≡ None }
+    ensures kept { error_kind e ≢ OutOfMemory → fault.new ≡ Some e }
+{
+    if e.kind() != io::ErrorKind::OutOfMemory {
+        *fault = Some(e);
+    }
+    Error::from(e)
+}

@@ -1,0 +1,78 @@
+//! How a record is laid out at the end of a segment's bytes. Until it is completed it has zeros in place
+//! of its sum and its kind.
+ghost use Rattle.std.specs.Prelude.{◌≡◌, ◌+◌, ◌-◌, ◌≤◌, ◌<◌, ◌^◌, ◌++◌, ◌∷◌, [], length, take, drop, vec_capacity};
+ghost use Rattle.sled_codec.specs.Spelling.{low_bytes, short_header_tail};
+ghost use Rattle.sled_core.specs.Buffers.{placeholder_head};
+
+use crate::iobuf::{COMPLETING_LEN, MAX_MSG_HEADER_LEN};
+use sled_codec::result::PageId;
+use sled_codec::serialization::{Checksum, MessageHeader, MessageKind, SegmentNumber, Serialize};
+
+/// The header of a message as it is written, but for its sum.
+pub(crate) struct Head {
+    pub(crate) bytes: [u8; 32],
+    pub(crate) len: usize,
+    ghost within: { len ≤ 32 },
+    ghost long: { 5 ≤ len },
+}
+
+/// The header of a message of segment 0 whose body is this long.
+pub(crate) fn head_of(kind: MessageKind, pid: PageId, len: u64) -> Head
+    ensures bytes { drop 4 (take result.len result.bytes) ≡ short_header_tail kind len 0 pid }
+    ensures len { result.len ≡ 4 + length (short_header_tail kind len 0 pid) }
+{
+    let mut bytes = [0; 32];
+    bytes[4] = u8::from(kind);
+    Head { bytes, len: 8 }
+}
+
+/// Puts bytes behind what is there, where there is room for them.
+pub(crate) fn push_bytes(bytes: &mut Vec<u8>, more: &[u8])
+    requires { length bytes.old.items + length more.now ≤ vec_capacity bytes.old }
+    ensures bytes { bytes.new.items ≡ bytes.old.items ++ more.now }
+    ensures len { length bytes.new.items ≡ length bytes.old.items + length more.now }
+    ensures capacity { vec_capacity bytes.old ≤ vec_capacity bytes.new }
+{
+    let _ = bytes.extend_from_slice(more);
+}
+
+/// Puts a header behind what is there, with zeros in place of its sum and its kind.
+pub(crate) fn push_placeholder(bytes: &mut Vec<u8>, head: &Head)
+    requires { length bytes.old.items + head.now.len ≤ vec_capacity bytes.old }
+    ensures bytes { bytes.new.items ≡ bytes.old.items ++ placeholder_head (take head.now.len head.now.bytes) }
+    ensures len { length bytes.new.items ≡ length bytes.old.items + head.now.len }
+    ensures capacity { vec_capacity bytes.old ≤ vec_capacity bytes.new }
+{
+    push_bytes(bytes, &[0; COMPLETING_LEN]);
+    push_bytes(bytes, &head.bytes[COMPLETING_LEN..head.len]);
+}
+
+/// Puts an item behind what is there.
+pub(crate) fn push_item<T: Serialize>(bytes: &mut Vec<u8>, item: &T, len: usize)
+    requires fits { T.fits (T.meaning item.now) }
+    requires len { len ≡ length (T.short (T.meaning item.now)) }
+    requires room { length bytes.old.items + len ≤ vec_capacity bytes.old }
+    ensures bytes { bytes.new.items ≡ bytes.old.items ++ T.short (T.meaning item.now) }
+    ensures len { length bytes.new.items ≡ length bytes.old.items + len }
+    ensures capacity { vec_capacity bytes.old ≤ vec_capacity bytes.new }
+{
+    let at = bytes.len();
+    let _ = bytes.resize(at + len, 0);
+    item.serialize_into(bytes, at);
+}
+
+/// The sum of the bytes from an offset on and of a header behind its sum. The header is put behind the
+/// bytes for that, so that nothing but it is copied, and taken away again.
+pub(crate) fn sum_behind<C: Checksum>(checksum: &C, bytes: &mut Vec<u8>, from: usize, head: &Head) -> u32
+    requires from { from ≤ length bytes.old.items }
+    requires room { length bytes.old.items + head.now.len ≤ vec_capacity bytes.old }
+    ensures sum { result ≡ C.sum_of (drop from bytes.old.items ++ drop 4 (take head.now.len head.now.bytes)) }
+    ensures bytes { bytes.new.items ≡ bytes.old.items }
+    ensures capacity { vec_capacity bytes.old ≤ vec_capacity bytes.new }
+{
+    let end = bytes.len();
+    push_bytes(bytes, &head.bytes[4..head.len]);
+    let sum = checksum.sum(&bytes[from..]);
+    bytes.truncate(end);
+    sum
+}

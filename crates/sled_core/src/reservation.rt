@@ -1,0 +1,73 @@
+//! Tickets: what a caller holds for a place that is kept for it, and for a pin. Neither can be dropped,
+//! so each is handed back to the log that made it, or abandoned on purpose.
+
+use sled_codec::result::{DiskPtr, Lsn};
+
+/// A place in the log that is kept for a message. It is spent by `Log::complete` or by `abandon`.
+pub struct Reservation {
+    // Where the record begins.
+    lsn: Lsn,
+    pointer: DiskPtr,
+    // Which reservation of its buffer it is.
+    index: usize,
+}
+
+impl Reservation {
+    ghost use Rattle.std.specs.Prelude.{◌≡◌, pos};
+    ghost use Rattle.sled_core.specs.Tickets.{place_of, pointer_of, index_of};
+
+    pub(crate) fn new(lsn: Lsn, pointer: DiskPtr, index: usize) -> Reservation
+        ensures place { place_of result ≡ lsn }
+        ensures pointer { pointer_of result ≡ pointer }
+        ensures index { index_of result ≡ index }
+    {
+        Reservation { lsn, pointer, index }
+    }
+
+    /// Where the record begins in the log.
+    pub fn lsn(&self) -> Lsn
+        ensures { result ≡ place_of self.now }
+    {
+        self.lsn
+    }
+
+    /// Where the message lies on the disk.
+    pub fn pointer(&self) -> DiskPtr
+        ensures { result ≡ pointer_of self.now }
+    {
+        self.pointer
+    }
+
+    pub(crate) fn index(&self) -> usize
+        ensures { result ≡ index_of self.now }
+    {
+        self.index
+    }
+
+    /// Gives the ticket up. Its reservation stays open for the life of the log, and holds up the
+    /// buffer that it is in.
+    pub fn abandon(self) {
+        let Reservation {
+            lsn: _,
+            pointer: _,
+            index: _,
+        } = self;
+    }
+}
+
+/// A pin: while it is out, no segment that a reader may look at is used again. It is spent by
+/// `Log::unpin` or by `abandon`.
+pub struct Guard {
+    unit: (),
+}
+
+impl Guard {
+    pub(crate) fn new() -> Guard {
+        Guard { unit: () }
+    }
+
+    /// Gives the guard up. Its pin stays out for the life of the log.
+    pub fn abandon(self) {
+        let Guard { unit: _ } = self;
+    }
+}
