@@ -22,6 +22,11 @@ pub record SpellsFixed (n : ℕ) (text : List ℕ) (v : ℕ) : Type 0 where
   pub value : v ≡ low_first text
   pub small : v < 256 ^ n
 
+-- one byte
+pub record SpellsByte (text : List ℕ) (v : ℕ) : Type 0 where
+  pub is : text ≡ v ∷ []
+  pub small : v < 2 ^ 8
+
 -- eight bytes that stand for a signed number, by the two's complement
 pub record SpellsSigned (text : List ℕ) (z : ℤ) : Type 0 where
   pub unsigned : SpellsFixed 8 text (cast_unsigned w64 z)

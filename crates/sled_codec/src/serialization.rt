@@ -12,11 +12,8 @@ pub mod checksum;
 pub mod message;
 pub mod number;
 
-
-
 pub use checksum::{Checksum, PlaceSum};
 pub use message::{LogKind, MessageHeader, MessageKind, SegmentNumber};
-
 
 /// A type whose values are written as bytes.
 pub trait Serialize: Sized {
