@@ -60,7 +60,7 @@ behind_sum text f g t u v w p q is_f is_g =
 
 pub behind_code : (text f t u : List ℕ) (v code : ℕ) → SpellsByte f v → text ≡ f ++ t → text ≡ code ∷ u → t ≡ u
 behind_code text f t u v code p is_f is_g =
-    let both : (v ∷ t) ≡ (code ∷ u) = ap (λ (l : List ℕ). l ++ t) (sym p.is) ∙ sym is_f ∙ is_g in cc
+    let both : (v ∷ t) ≡ (code ∷ u) = ap (λ (l : List ℕ). l ++ t) (sym p) ∙ sym is_f ∙ is_g in cc
 
 pub behind_number : (text f g t u : List ℕ) (v w : ℕ) → SpellsNumber f v → SpellsNumber g w → text ≡ f ++ t → text ≡ g ++ u → t ≡ u
 behind_number text f g t u v w p q is_f is_g =

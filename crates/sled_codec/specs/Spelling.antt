@@ -23,9 +23,8 @@ pub record SpellsFixed (n : ℕ) (text : List ℕ) (v : ℕ) : Type 0 where
   pub small : v < 256 ^ n
 
 -- one byte
-pub record SpellsByte (text : List ℕ) (v : ℕ) : Type 0 where
-  pub is : text ≡ v ∷ []
-  pub small : v < 2 ^ 8
+abbrev pub SpellsByte : List ℕ → ℕ → Type 0
+SpellsByte text v = text ≡ v ∷ []
 
 -- eight bytes that stand for a signed number, by the two's complement
 pub record SpellsSigned (text : List ℕ) (z : ℤ) : Type 0 where

@@ -72,13 +72,13 @@ no_front-signed a b x y v w p q is = no_front-fixed 8 a b x y _ _ p.unsigned q.u
 
 -- one byte
 pub short_spells-byte : (v : ℕ) → v < 2 ^ 8 → SpellsByte (v ∷ []) v
-short_spells-byte v small = record { is = refl; small = small }
+short_spells-byte v small = refl
 
 pub one_value-byte : (text : List ℕ) (v w : ℕ) → SpellsByte text v → SpellsByte text w → v ≡ w
-one_value-byte text v w p q = let both : (v ∷ []) ≡ (w ∷ []) = sym p.is ∙ q.is in cc
+one_value-byte text v w p q = let both : (v ∷ []) ≡ (w ∷ []) = sym p ∙ q in cc
 
 pub no_front-byte : (a b x y : List ℕ) (v w : ℕ) → SpellsByte a v → SpellsByte b w → a ++ x ≡ b ++ y → a ≡ b
-no_front-byte a b x y v w p q is = same_fronts a b x y (ap length p.is ∙ sym (ap length q.is)) is
+no_front-byte a b x y v w p q is = same_fronts a b x y (ap length p ∙ sym (ap length q)) is
 
 -- Numbers of one to nine bytes.
 

@@ -189,7 +189,10 @@ impl Serialize for MessageHeader {
     ghost short = { short_message_header };
 
     fn can_serialize(&self) -> bool {
-        let _ranges = (self.crc32, self.len, self.segment_number.0, self.pid);
+        let _sum = self.crc32;
+        let _len = self.len;
+        let _number = self.segment_number.0;
+        let _page = self.pid;
         true
     }
 

@@ -1,6 +1,5 @@
 -- What follows the count is long enough, or no byte string stands at the front.
-use Rattle.std.proofs.Common.{◌∙◌, arith, rules}
-use Rattle.std.proofs.lemmas.Grind.{common_steps}
+use Rattle.std.proofs.Common.{arith, rules}
 use Rattle.sled_codec.proofs.Fronts.{has_bytes, takes_bytes}
 use Rattle.sled_codec.proofs.serialization.bytes.VecU8Serialize.deserialize.Goals as goal
 

@@ -1,5 +1,5 @@
 -- The count is written, and the bytes behind it.
-use Rattle.std.proofs.Common.{◌≡◌, ◌≤◌, ◌∙◌, ap, List, ℕ, ◌+◌, arith, rules, length, length-append}
+use Rattle.std.proofs.Common.{◌≡◌, ◌≤◌, ◌∙◌, ap, List, ℕ, ◌+◌, arith, rules, length}
 use Rattle.sled_codec.specs.Spelling.{short_number, short_bytes}
 use Rattle.sled_codec.specs.Written.{written, written_twice}
 use Rattle.sled_codec.specs.SpellingLaws.{length-short_bytes}
