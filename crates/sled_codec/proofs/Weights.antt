@@ -1,5 +1,5 @@
 -- A sum that wraps in each step is the whole sum that wraps once.
-use Rattle.std.proofs.Common.{◌≡◌, ◌∙◌, sym, ap, ℕ, ◌+◌, ◌*◌, ◌%◌, ◌^◌, List, arith}
+use Rattle.std.proofs.Common.{◌≡◌, ◌∙◌, ap, ℕ, ◌+◌, ◌*◌, ◌%◌, ◌^◌, arith}
 use Rattle.std.proofs.lemmas.Nat.{mul-mod_first}
 
 pub wraps_once : (total place i b byte rest : ℕ) → place ≡ (i + 1) % 2 ^ 32 → byte ≡ b → ((total + (place * byte) % 2 ^ 32) % 2 ^ 32 + rest) % 2 ^ 32 ≡ (total + ((i + 1) * b + rest)) % 2 ^ 32

@@ -1,5 +1,5 @@
 -- The laws of the header of a message, part by part.
-use Rattle.std.specs.Prelude.{◌≡◌, ◌+◌, ◌^◌, ◌<◌, ◌≤◌, ℕ, List, [], ◌∷◌, ◌++◌, length, drop, refl}
+use Rattle.std.specs.Prelude.{◌≡◌, ◌+◌, ℕ, List, [], ◌∷◌, ◌++◌, length, refl}
 use Rattle.std.proofs.Common.{sym, ◌∙◌, ap, arith, append_assoc, length-append}
 use Rattle.sled_codec.specs.declared.serialization.message.MessageHeader.{MessageHeader}
 use Rattle.sled_codec.specs.declared.serialization.message.MessageKind.{MessageKind}
@@ -76,7 +76,8 @@ header_of sum kind number page len = record { crc32 = sum; kind = kind; segment_
 same_fields : (a : ℕ) (b : MessageKind) (c d e a' : ℕ) (b' : MessageKind) (c' d' e' : ℕ) → a ≡ a' → b ≡ b' → c ≡ c' → d ≡ d' → e ≡ e' → header_of a b c d e ≡ header_of a' b' c' d' e'
 same_fields a b c d e a' b' c' d' e' p q r s t = cc
 
-same_header : (v w : MessageHeader) → v.crc32 ≡ w.crc32 → v.kind ≡ w.kind → v.len ≡ w.len → v.segment_number.0 ≡ w.segment_number.0 → v.pid ≡ w.pid → v ≡ w
+-- headers with the same fields
+pub same_header : (v w : MessageHeader) → v.crc32 ≡ w.crc32 → v.kind ≡ w.kind → v.len ≡ w.len → v.segment_number.0 ≡ w.segment_number.0 → v.pid ≡ w.pid → v ≡ w
 unfolding header_of
 same_header v w p q r s t =
     let both : header_of v.crc32 v.kind v.segment_number.0 v.pid v.len ≡ header_of w.crc32 w.kind w.segment_number.0 w.pid w.len = same_fields _ _ _ _ _ _ _ _ _ _ p q s t r in

@@ -1,5 +1,5 @@
 -- The laws that the codecs owe: what is written is a spelling, a spelling stands for one value, and none is a proper beginning of another.
-use Rattle.std.specs.Prelude.{◌≡◌, ◌+◌, ◌-◌, ◌*◌, ◌/◌, ◌%◌, ◌^◌, ◌<◌, ◌≤◌, ℕ, ℤ, zero, suc, min, List, [], ◌∷◌, ◌++◌, length, take, drop, slice_index, FitsSigned, refl}
+use Rattle.std.specs.Prelude.{◌≡◌, ◌+◌, ◌-◌, ◌/◌, ◌%◌, ◌^◌, ◌<◌, ◌≤◌, ℕ, ℤ, zero, suc, List, [], ◌∷◌, ◌++◌, length, take, FitsSigned, refl}
 use Rattle.std.specs.Int.{w64, to_le_bytes, cast_unsigned, cast_signed}
 use Rattle.std.proofs.Common.{sym, ◌∙◌, ap, arith, append_assoc, length-append, length-take, ◌⊎◌, inl, inr}
 use Rattle.std.proofs.lemmas.List.{take_at, append_cancel_left}

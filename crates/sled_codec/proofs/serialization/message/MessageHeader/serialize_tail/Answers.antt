@@ -18,9 +18,9 @@ returns-clause-bytes c =
     let room = length-short_header_tail h.kind h.len h.segment_number.0 h.pid in
     let one : c.serialize_into-next.new.buf ≡ written buf at code = c.serialize_into-next.ensures.bytes ∙ ap (λ k. written buf at (k ∷ [])) c.from.ensures in
     let two : c.serialize_into-next-2.new.buf ≡ written buf at (code ++ len) =
-        c.serialize_into-next-2.ensures.bytes ∙ ap (λ (l : List ℕ). written l c.serialize_into-next.result len) one ∙ written_twice buf at code (omega arith) len _ c.serialize_into-next.ensures.next in
+    c.serialize_into-next-2.ensures.bytes ∙ ap (λ (l : List ℕ). written l c.serialize_into-next.result len) one ∙ written_twice buf at code (omega arith) len _ c.serialize_into-next.ensures.next in
     let long : length (code ++ len) ≡ 1 + length len = length-append code len in
     let three : c.serialize_into-next-3.new.buf ≡ written buf at (code ++ len ++ number) =
-        c.serialize_into-next-3.ensures.bytes ∙ ap (λ (l : List ℕ). written l c.serialize_into-next-2.result number) two ∙ written_twice buf at (code ++ len) (omega arith) number _ (omega arith) in
+    c.serialize_into-next-3.ensures.bytes ∙ ap (λ (l : List ℕ). written l c.serialize_into-next-2.result number) two ∙ written_twice buf at (code ++ len) (omega arith) number _ (omega arith) in
     let longer : length (code ++ len ++ number) ≡ 1 + length len + length number = length-append (code ++ len) number ∙ ap (λ n. n + length number) long in
     c.serialize_into.ensures.bytes ∙ ap (λ (l : List ℕ). written l c.serialize_into-next-3.result (short_number h.pid)) three ∙ written_twice buf at (code ++ len ++ number) (omega arith) (short_number h.pid) _ (omega arith)
