@@ -1,4 +1,5 @@
 pub mod Errors
+pub mod HeaderLaws
 pub mod History
 pub mod Kinds
 pub mod Places

@@ -1,5 +1,5 @@
 -- Places in the log, and where they lie in segments of a size. A place is a number here; a call that answers one gives it as a signed number.
-use Rattle.std.specs.Prelude.{◌+◌, ◌-◌, ◌*◌, ◌/◌, ◌%◌, ◌≤◌, ℕ, List, take, drop}
+use Rattle.std.specs.Prelude.{◌-◌, ◌*◌, ◌/◌, ◌%◌, ◌≤◌, ℕ, List, take, drop}
 
 -- the number of the segment that holds a place
 abbrev pub segment_of : ℕ → ℕ → ℕ

@@ -1,5 +1,4 @@
 -- A message as code holds it, as the history sees it.
-use Rattle.std.specs.Prelude.{ℕ}
 use Rattle.sled_codec.specs.declared.history.Message.{Message as Held}
 use Rattle.sled_codec.specs.History.{Message}
 

@@ -1,7 +1,7 @@
 -- The grammar of the formats. A spelling relates a whole text, a list of bytes, to the value that it stands for.
 -- The short spelling is the one that is written. A number may have longer ones, which are read all the same.
 use Rattle.std.specs.Prelude.{◌≡◌, ◌+◌, ◌-◌, ◌*◌, ◌/◌, ◌%◌, ◌^◌, ◌<◌, ℕ, ℤ, if◌then◌else◌, nat_le, nat_lt, ◌==◌, List, [], ◌∷◌, ◌++◌, length, take, slice_index, FitsSigned}
-use Rattle.std.specs.Int.{w64, to_le_bytes, from_le_bytes, cast_signed, cast_unsigned}
+use Rattle.std.specs.Int.{w64, to_le_bytes, from_le_bytes, cast_unsigned}
 use Rattle.sled_codec.specs.declared.serialization.message.MessageHeader.{MessageHeader}
 use Rattle.sled_codec.specs.declared.serialization.message.MessageKind.{MessageKind}
 use Rattle.sled_codec.specs.Kinds.{code_of, kind_of}
@@ -21,6 +21,10 @@ pub record SpellsFixed (n : ℕ) (text : List ℕ) (v : ℕ) : Type 0 where
   pub long : length text ≡ n
   pub value : v ≡ low_first text
   pub small : v < 256 ^ n
+
+-- one byte
+abbrev pub SpellsByte : List ℕ → ℕ → Type 0
+SpellsByte text v = text ≡ v ∷ []
 
 -- eight bytes that stand for a signed number, by the two's complement
 pub record SpellsSigned (text : List ℕ) (z : ℤ) : Type 0 where

@@ -1,7 +1,7 @@
 //! Completed messages, and the table of pages that they make. A plain, slow reading of the definitions
 //! of `specs/History.antt`, for tests.
-ghost use Rattle.std.specs.Prelude.{◌≡◌, IfOk, map};
-ghost use Rattle.sled_codec.specs.History.{of_page, page_state};
+ghost use Rattle.std.specs.Prelude.{◌≡◌, ◌++◌, ◌&&◌, IfOk, OnOk, map, filter, nat_lt, option_map, Some};
+ghost use Rattle.sled_codec.specs.History.{of_page, page_state, last_beginning, entries_from, begins_page, is_replace, is_link};
 ghost use Rattle.sled_codec.specs.Seen.{seen};
 
 use crate::result::{DiskPtr, PageId, Result};
@@ -28,6 +28,7 @@ pub struct Message<'a> {
 /// The entries of a page in the table of these messages below a cut: none where the page was not begun,
 /// one Free where it was given back, else its Replace and the Links on it. The messages stand by place,
 /// the lowest first. Its one error is `OutOfMemory`.
+#[tactic(auto, unfolding(crate::specs::History::of_page))]
 pub fn entries_of_page<'a>(
     alloc: Global,
     messages: &[Message<'a>],
@@ -46,9 +47,79 @@ pub fn entries_of_page<'a>(
 }
 
 // The entries of one page, whose messages these are.
+#[tactic(auto, unfolding(crate::specs::History::page_state))]
 fn page_state<'a>(alloc: Global, of_page: &[Message<'a>]) -> Result<Vec<Message<'a>>>
     ensures { IfOk result (λ entries. map seen entries.items ≡ page_state (map seen of_page.now)) }
 {
+    match last_beginning(of_page) {
+        None => Ok(Vec::new(alloc)),
+        Some(base) => behind(alloc, base, of_page),
+    }
+}
+
+// The last message that gives its page a new beginning.
+fn last_beginning<'a>(of_page: &[Message<'a>]) -> Option<Message<'a>>
+    ensures { option_map seen result ≡ last_beginning (map seen of_page.now) }
+{
+    let mut last = None;
+    for m in of_page {
+        if begins_page(m.kind) {
+            last = Some(*m);
+        }
+    }
+    last
+}
+
+// A beginning, and what stands on it.
+fn behind<'a>(alloc: Global, base: Message<'a>, of_page: &[Message<'a>]) -> Result<Vec<Message<'a>>>
+    ensures { IfOk result (λ entries. map seen entries.items ≡ entries_from (Some (seen base.entry)) (map seen of_page.now)) }
+{
     let mut entries = Vec::new(alloc);
+    entries.push(base)?;
+    if is_replace(base.kind) {
+        push_links(&mut entries, base.place, of_page)?;
+    }
     Ok(entries)
+}
+
+// Puts the Links above a place behind the entries.
+fn push_links<'a>(entries: &mut Vec<Message<'a>>, place: u64, of_page: &[Message<'a>]) -> Result<()>
+    ensures { OnOk result (map seen entries.new.items ≡ map seen entries.old.items ++ filter (λ m. is_link m.kind && nat_lt place m.place) (map seen of_page.now)) }
+{
+    for m in of_page {
+        if is_link(m.kind) && m.place > place {
+            entries.push(*m)?;
+        }
+    }
+    Ok(())
+}
+
+// Whether a message gives its page a new beginning.
+fn begins_page(kind: LogKind) -> bool
+    ensures { result ≡ begins_page kind }
+{
+    match kind {
+        LogKind::Replace | LogKind::Free => true,
+        LogKind::Link | LogKind::Skip | LogKind::Corrupted => false,
+    }
+}
+
+// Whether it is a Replace.
+fn is_replace(kind: LogKind) -> bool
+    ensures { result ≡ is_replace kind }
+{
+    match kind {
+        LogKind::Replace => true,
+        LogKind::Link | LogKind::Free | LogKind::Skip | LogKind::Corrupted => false,
+    }
+}
+
+// Whether it is a Link.
+fn is_link(kind: LogKind) -> bool
+    ensures { result ≡ is_link kind }
+{
+    match kind {
+        LogKind::Link => true,
+        LogKind::Replace | LogKind::Free | LogKind::Skip | LogKind::Corrupted => false,
+    }
 }

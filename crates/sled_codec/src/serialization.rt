@@ -9,14 +9,15 @@ use std::alloc::Global;
 
 pub mod bytes;
 pub mod checksum;
+pub mod laws;
 pub mod message;
 pub mod number;
-
-
+pub mod record;
+pub mod segment;
 
 pub use checksum::{Checksum, PlaceSum};
 pub use message::{LogKind, MessageHeader, MessageKind, SegmentNumber};
-
+pub use segment::SegmentHeader;
 
 /// A type whose values are written as bytes.
 pub trait Serialize: Sized {

@@ -1,1 +1,109 @@
 //! Byte strings, whose spelling begins with their length, and `()`, which has no bytes.
+ghost use Rattle.std.specs.Prelude.{◌≡◌, ◌+◌, ◌^◌, ◌<◌, ◌≤◌, ℕ, List, [], length};
+ghost use Rattle.sled_codec.specs.Spelling.{SpellsBytes, short_bytes};
+ghost use Rattle.sled_codec.specs.SpellingLaws.{short_spells-bytes, one_value-bytes, no_front-bytes, one_value-nothing, no_front-nothing};
+ghost use Rattle.std.proofs.Common.{refl};
+ghost use Rattle.sled_codec.specs.Written.{written};
+
+use crate::result::{Error, Result};
+use crate::serialization::{Delimited, Serialize};
+use std::alloc::Global;
+
+/// No bytes.
+impl Serialize for () {
+    ghost Meaning = { Unit {0} };
+
+    ghost meaning = { λ nothing. nothing };
+
+    ghost Spells = { λ text nothing. text ≡ [] };
+
+    ghost fits = { λ nothing. Unit {0} };
+
+    ghost short = { λ nothing. [] };
+
+    fn can_serialize(&self) -> bool {
+        true
+    }
+
+    fn serialized_size(&self) -> u64 {
+        0
+    }
+
+    fn serialize_into(&self, _buf: &mut [u8], at: usize) -> usize {
+        at
+    }
+
+    fn deserialize(_alloc: Global, _buf: &mut &[u8]) -> Result<()> {
+        Ok(())
+    }
+
+    ghost short_spells = { λ nothing fits. refl };
+}
+
+impl Delimited for () {
+    ghost one_value = { one_value-nothing };
+
+    ghost no_front = { no_front-nothing };
+}
+
+/// Its length as a number, and then its bytes.
+impl Serialize for Vec<u8> {
+    ghost Meaning = { List ℕ };
+
+    ghost meaning = { λ bytes. bytes.items };
+
+    ghost Spells = { SpellsBytes };
+
+    ghost fits = { λ bytes. length bytes < 2 ^ 63 };
+
+    ghost short = { short_bytes };
+
+    fn can_serialize(&self) -> bool {
+        true
+    }
+
+    #[tactic(auto, using(crate::specs::SpellingLaws::byte_lengths))]
+    fn serialized_size(&self) -> u64 {
+        let len = self.len() as u64;
+        len.serialized_size() + len
+    }
+
+    #[tactic(auto, using(crate::specs::SpellingLaws::byte_lengths))]
+    fn serialize_into(&self, buf: &mut [u8], at: usize) -> usize {
+        let len = self.len() as u64;
+        let next = len.serialize_into(buf, at);
+        copy_in(self, buf, next)
+    }
+
+    fn deserialize(alloc: Global, buf: &mut &[u8]) -> Result<Vec<u8>> {
+        let mut rest: &[u8] = *buf;
+        let len = u64::deserialize(alloc, &mut rest)?;
+        if len > rest.len() as u64 {
+            return Err(Error::Corruption { at: None });
+        }
+        let end = len as usize;
+        let bytes = rest[..end].to_vec(alloc)?;
+        *buf = &rest[end..];
+        Ok(bytes)
+    }
+
+    ghost short_spells = { short_spells-bytes };
+}
+
+impl Delimited for Vec<u8> {
+    ghost one_value = { one_value-bytes };
+
+    ghost no_front = { no_front-bytes };
+}
+
+/// Writes bytes as they are over those of `buf` from the index `at` on, and answers the index behind
+/// them.
+pub fn copy_in(bytes: &[u8], buf: &mut [u8], at: usize) -> usize
+    requires { at + length bytes.now ≤ length buf.old }
+    ensures next { result ≡ at + length bytes.now }
+    ensures bytes { buf.new ≡ written buf.old at bytes.now }
+{
+    let end = at + bytes.len();
+    buf[at..end].copy_from_slice(bytes);
+    end
+}

@@ -1,10 +1,21 @@
 //! Messages: their kinds, their headers, and which bytes pass as a record (`docs/FORMATS.md`, "Records").
-ghost use Rattle.std.specs.Prelude.{◌≡◌, ◌↔◌, IfOk, IsTrue};
+ghost use Rattle.std.specs.Prelude.{◌≡◌, ◌+◌, ◌≤◌, length};
 ghost use Rattle.sled_codec.specs.Kinds.{code_of, kind_of, log_kind_of, kind_written};
+ghost use Rattle.sled_codec.specs.Spelling.{SpellsMessageHeader, FitsMessageHeader, short_message_header, short_header_tail};
+ghost use Rattle.sled_codec.specs.Written.{written};
 
-use crate::result::{PageId, Result};
-use crate::serialization::{Checksum, Delimited, Serialize};
+use crate::result::{Error, PageId, Result};
+use crate::serialization::{Delimited, Serialize};
+use std::alloc::Global;
 
+/// The page of the meta data.
+pub const META_PID: PageId = 0;
+
+/// The page of the id counter.
+pub const COUNTER_PID: PageId = 1;
+
+/// The page under which the manifests of batches are written.
+pub const BATCH_MANIFEST_PID: PageId = u64::MAX - 666;
 
 /// The number of a segment: the place of its beginning divided by the segment size.
 #[derive(Debug, Clone, Copy, PartialEq, Eq, PartialOrd, Ord)]
@@ -67,4 +78,178 @@ pub struct MessageHeader {
     pub pid: PageId,
     /// The length of the body, in bytes.
     pub len: u64,
+}
+
+/// The kind that a byte stands for. All bytes but the twelve codes stand for damage.
+impl From<u8> for MessageKind {
+    ghost use Rattle.sled_codec.specs.Kinds.{kind_of};
+
+    ghost from_gives = { λ code kind. kind ≡ kind_of code };
+
+    fn from(code: u8) -> MessageKind {
+        match code {
+            1 => MessageKind::Canceled,
+            2 => MessageKind::Cap,
+            3 => MessageKind::BatchManifest,
+            4 => MessageKind::Free,
+            5 => MessageKind::Counter,
+            6 => MessageKind::InlineMeta,
+            7 => MessageKind::BlobMeta,
+            8 => MessageKind::InlineNode,
+            9 => MessageKind::BlobNode,
+            10 => MessageKind::InlineLink,
+            11 => MessageKind::BlobLink,
+            _ => MessageKind::Corrupted,
+        }
+    }
+}
+
+/// The byte that is written for a kind.
+impl From<MessageKind> for u8 {
+    ghost from_gives = { λ kind code. code ≡ code_of kind };
+
+    fn from(kind: MessageKind) -> u8 {
+        match kind {
+            MessageKind::Corrupted => 0,
+            MessageKind::Canceled => 1,
+            MessageKind::Cap => 2,
+            MessageKind::BatchManifest => 3,
+            MessageKind::Free => 4,
+            MessageKind::Counter => 5,
+            MessageKind::InlineMeta => 6,
+            MessageKind::BlobMeta => 7,
+            MessageKind::InlineNode => 8,
+            MessageKind::BlobNode => 9,
+            MessageKind::InlineLink => 10,
+            MessageKind::BlobLink => 11,
+        }
+    }
+}
+
+/// What a message of a kind does to its page.
+impl From<MessageKind> for LogKind {
+    ghost from_gives = { λ kind does. does ≡ log_kind_of kind };
+
+    fn from(kind: MessageKind) -> LogKind {
+        match kind {
+            MessageKind::Corrupted => LogKind::Corrupted,
+            MessageKind::Canceled | MessageKind::Cap | MessageKind::BatchManifest => LogKind::Skip,
+            MessageKind::Free => LogKind::Free,
+            MessageKind::Counter
+            | MessageKind::InlineMeta
+            | MessageKind::BlobMeta
+            | MessageKind::InlineNode
+            | MessageKind::BlobNode => LogKind::Replace,
+            MessageKind::InlineLink | MessageKind::BlobLink => LogKind::Link,
+        }
+    }
+}
+
+/// The kind under which a message of a page is written, with its item inline or as a blob. `None`:
+/// there is no such message. Manifests of batches, which are told by their page, are not among these.
+pub fn message_kind(kind: LogKind, pid: PageId, blob: bool) -> Option<MessageKind>
+    ensures { result ≡ kind_written kind pid blob }
+{
+    match kind {
+        LogKind::Replace => Some(replace_kind(pid, blob)),
+        LogKind::Link if blob => Some(MessageKind::BlobLink),
+        LogKind::Link => Some(MessageKind::InlineLink),
+        LogKind::Free => Some(MessageKind::Free),
+        LogKind::Skip | LogKind::Corrupted => None,
+    }
+}
+
+// The kind under which a page is replaced.
+fn replace_kind(pid: PageId, blob: bool) -> MessageKind
+    ensures { Some result ≡ kind_written LogKind.Replace pid blob }
+{
+    match (pid, blob) {
+        (COUNTER_PID, false) => MessageKind::Counter,
+        (META_PID, false) => MessageKind::InlineMeta,
+        (META_PID, true) => MessageKind::BlobMeta,
+        (_, false) => MessageKind::InlineNode,
+        (_, true) => MessageKind::BlobNode,
+    }
+}
+
+/// Its sum in four bytes, the code of its kind, and then its length, segment number and page as
+/// numbers.
+impl Serialize for MessageHeader {
+    ghost use Rattle.sled_codec.specs.declared.serialization.message.MessageHeader.{MessageHeader};
+    ghost use Rattle.sled_codec.specs.HeaderLaws.{short_spells-header};
+
+    ghost Meaning = { MessageHeader };
+
+    ghost meaning = { λ header. header };
+
+    ghost Spells = { SpellsMessageHeader };
+
+    ghost fits = { FitsMessageHeader };
+
+    ghost short = { short_message_header };
+
+    fn can_serialize(&self) -> bool {
+        let _sum = self.crc32;
+        let _len = self.len;
+        let _number = self.segment_number.0;
+        let _page = self.pid;
+        true
+    }
+
+    #[tactic(auto, using(crate::specs::HeaderLaws::header_lengths))]
+    fn serialized_size(&self) -> u64 {
+        let (len, number, pid) = (self.len, self.segment_number.0, self.pid);
+        5 + len.serialized_size() + number.serialized_size() + pid.serialized_size()
+    }
+
+    #[tactic(auto, using(crate::specs::HeaderLaws::header_lengths))]
+    fn serialize_into(&self, buf: &mut [u8], at: usize) -> usize {
+        let crc32 = self.crc32;
+        let next = crc32.serialize_into(buf, at);
+        self.serialize_tail(buf, next)
+    }
+
+    fn deserialize(alloc: Global, buf: &mut &[u8]) -> Result<MessageHeader> {
+        let mut rest: &[u8] = *buf;
+        let crc32 = u32::deserialize(alloc, &mut rest)?;
+        let code = u8::deserialize(alloc, &mut rest)?;
+        let len = u64::deserialize(alloc, &mut rest)?;
+        let number = u64::deserialize(alloc, &mut rest)?;
+        let pid = u64::deserialize(alloc, &mut rest)?;
+        *buf = rest;
+        Ok(MessageHeader {
+            crc32,
+            kind: MessageKind::from(code),
+            segment_number: SegmentNumber(number),
+            pid,
+            len,
+        })
+    }
+
+    ghost short_spells = { short_spells-header };
+}
+
+impl Delimited for MessageHeader {
+    ghost use Rattle.sled_codec.specs.HeaderLaws.{one_value-header, no_front-header};
+
+    ghost one_value = { one_value-header };
+
+    ghost no_front = { no_front-header };
+}
+
+impl MessageHeader {
+    /// Writes what stands behind the sum over the bytes of `buf` from the index `at` on, and answers
+    /// the index behind it.
+    #[tactic(auto, using(crate::specs::HeaderLaws::header_lengths))]
+    pub fn serialize_tail(&self, buf: &mut [u8], at: usize) -> usize
+        requires { at + length (short_header_tail self.now.kind self.now.len self.now.segment_number.0 self.now.pid) ≤ length buf.old }
+        ensures next { result ≡ at + length (short_header_tail self.now.kind self.now.len self.now.segment_number.0 self.now.pid) }
+        ensures bytes { buf.new ≡ written buf.old at (short_header_tail self.now.kind self.now.len self.now.segment_number.0 self.now.pid) }
+    {
+        let (len, number, pid) = (self.len, self.segment_number.0, self.pid);
+        let next = u8::from(self.kind).serialize_into(buf, at);
+        let next = len.serialize_into(buf, next);
+        let next = number.serialize_into(buf, next);
+        pid.serialize_into(buf, next)
+    }
 }

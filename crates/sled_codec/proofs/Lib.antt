@@ -1,0 +1,6 @@
+pub mod Fronts
+pub mod HeaderFronts
+pub mod Records
+pub mod Segments
+pub mod Tables
+pub mod Weights

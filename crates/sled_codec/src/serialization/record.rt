@@ -1,0 +1,64 @@
+//! Which bytes are a record of a message. A plain, slow reading of `IsRecord` in `specs/Record.antt`.
+ghost use Rattle.std.specs.Prelude.{◌≡◌, ◌≢◌, ◌↔◌, ◌++◌, length, IfOk, IsTrue};
+ghost use Rattle.sled_codec.specs.Record.{IsRecord, Announces};
+ghost use Rattle.sled_codec.specs.Sums.{flipped};
+
+use crate::result::{Error, PageId, Result};
+use crate::serialization::{Checksum, MessageHeader, MessageKind, SegmentNumber, Serialize};
+use std::alloc::Global;
+
+/// Whether a text is the record of a message: a header that announces this body and carries the sum of
+/// the body and of its own rest, and then the body. Its one error is `OutOfMemory`.
+pub fn is_record<C: Checksum>(
+    alloc: Global,
+    checksum: &C,
+    text: &[u8],
+    kind: MessageKind,
+    page: PageId,
+    number: SegmentNumber,
+    body: &[u8],
+) -> Result<bool>
+    ensures { IfOk result (λ b. IsTrue b ↔ IsRecord C.sum_of text.now kind page number.0 body.now) }
+{
+    let mut rest: &[u8] = text;
+    let header = match MessageHeader::deserialize(alloc, &mut rest) {
+        Ok(header) => header,
+        Err(Error::Corruption { at: _ }) => return Ok(false),
+        Err(e) => return Err(e),
+    };
+    if !announces(&header, kind, page, number, body) {
+        return Ok(false);
+    }
+    if rest != body {
+        return Ok(false);
+    }
+    let behind_sum = &text[4..text.len() - rest.len()];
+    Ok(header.crc32 == flipped_sum(alloc, checksum, body, behind_sum)?)
+}
+
+// Whether a header is that of a message.
+fn announces(
+    header: &MessageHeader,
+    kind: MessageKind,
+    page: PageId,
+    number: SegmentNumber,
+    body: &[u8],
+) -> bool
+    ensures { IsTrue result ↔ Announces header.now kind page number.0 (length body.now) }
+{
+    kind != MessageKind::Corrupted
+        && header.kind == kind
+        && header.pid == page
+        && header.segment_number.0 == number.0
+        && header.len == body.len() as u64
+}
+
+// The sum of two parts, flipped.
+fn flipped_sum<C: Checksum>(alloc: Global, checksum: &C, first: &[u8], second: &[u8]) -> Result<u32>
+    ensures { IfOk result (λ sum. sum ≡ flipped (C.sum_of (first.now ++ second.now))) }
+{
+    let mut summed = Vec::new(alloc);
+    summed.extend_from_slice(first)?;
+    summed.extend_from_slice(second)?;
+    Ok(!checksum.sum(&summed))
+}
