@@ -14,10 +14,12 @@ pub mod message;
 pub mod number;
 pub mod record;
 pub mod segment;
+pub mod snapshot;
 
 pub use checksum::{Checksum, PlaceSum};
 pub use message::{LogKind, MessageHeader, MessageKind, SegmentNumber};
 pub use segment::SegmentHeader;
+pub use snapshot::{PageState, Snapshot};
 
 /// A type whose values are written as bytes.
 pub trait Serialize: Sized {

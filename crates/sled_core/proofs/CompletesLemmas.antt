@@ -15,7 +15,7 @@ use Rattle.sled_store.specs.Device.{LogState}
 use Rattle.sled_core.specs.declared.iobuf.Reserved.{Reserved}
 use Rattle.sled_core.specs.Buffers.{text_in, body_in, message_in, placeholder, IsChain, completed_in, completing, closed, StandsAs, Stands}
 use Rattle.sled_core.specs.Fits.{HoldsIn, LieFrom, log_image}
-use Rattle.sled_core.proofs.Ranges.{part-written_before, part-written_behind, part-written_at, length-written, completed-same, completed-append, completed_between, chain-split, chain-joined, chain_grows, chain_within, there_split, all_split, all_joined, of_one}
+use Rattle.sled_core.proofs.Ranges.{part-written_before, part-written_behind, part-written_at, length-written, completed-same, completed-append, completed_between, chain-split, chain-joined, chain_grows, chain_within, there_split, all_split, all_joined, of_one, at_there, there-set_other, chain_apart}
 use Rattle.sled_core.proofs.HoldsLemmas.{stands-same, completed_open}
 use Rattle.sled_core.proofs.Images.{written_below}
 
@@ -118,9 +118,9 @@ module _ (sum : List ℕ → ℕ) (device : LogState) (fault : Option IoError) (
 
   lower : (x : Message) → Contains (holds.earlier ++ completed_in bytes xs) x → x.place < r.from
   lower x there = elim (Contains-append_cases holds.earlier (completed_in bytes xs) x there) [
-      inl early ↦ (let b = of_one (λ m. m.place < from) holds.earlier x (written_below sum bytes from holds.earlier behind holds.written holds.lie) early in omega (arith, b, begins))
-      | inr late ↦ (of_one (λ m. (max 20 from ≤ m.place) × (m.place < r.from)) (completed_in bytes xs) x (completed_between bytes (max 20 from) r.from xs chains.0 (some_long sum bytes xs stand_all.0)) late).1
-    ]
+    | inl early ↦ (let b = of_one (λ m. m.place < from) holds.earlier x (written_below sum bytes from holds.earlier behind holds.written holds.lie) early in omega (arith, b, begins))
+    | inr late ↦ (of_one (λ m. (max 20 from ≤ m.place) × (m.place < r.from)) (completed_in bytes xs) x (completed_between bytes (max 20 from) r.from xs chains.0 (some_long sum bytes xs stand_all.0)) late).1
+  ]
 
   higher : (x : Message) → Contains (completed_in bytes ys) x → r.from < x.place
   higher x there =
@@ -172,7 +172,25 @@ holds-complete sum device fault bytes from rs i r H holds there is_open behind =
     let ys : List Reserved = drop (suc i) rs in
     let around : rs ≡ xs ++ r ∷ ys = there_split rs i r there in
     let holds' : HoldsIn sum device fault bytes from (xs ++ r ∷ ys) H = subst (λ (l : List Reserved). HoldsIn sum device fault bytes from l H) around holds in
-    let set_is : set rs i (closed r) ≡ xs ++ closed r ∷ ys = set_split rs i (closed r) (slice_get_within rs i r there) in
-    (history sum device fault bytes from xs ys r H holds' is_open behind,
-     adds sum device fault bytes from xs ys r H holds' is_open behind,
-     subst (λ (l : List Reserved). HoldsIn sum device fault (written bytes r.from (completing r)) from l (history sum device fault bytes from xs ys r H holds' is_open behind)) (sym set_is) (holds_new sum device fault bytes from xs ys r H holds' is_open behind))
+    let set_is : set rs i (closed r) ≡ xs ++ closed r ∷ ys = set_split rs i (closed r) (slice_get_within rs i r there) in (
+      history sum device fault bytes from xs ys r H holds' is_open behind,
+      adds sum device fault bytes from xs ys r H holds' is_open behind,
+      subst (λ (l : List Reserved). HoldsIn sum device fault (written bytes r.from (completing r)) from l (history sum device fault bytes from xs ys r H holds' is_open behind)) (sym set_is) (holds_new sum device fault bytes from xs ys r H holds' is_open behind),
+    )
+
+-- Every other reservation stays where it is, for the same message.
+pub others_stay : (sum : List ℕ → ℕ) (device : LogState) (fault : Option IoError) (bytes : List ℕ) (from : ℕ) (rs : List Reserved) (i j : ℕ) (r x : Reserved) (H : History)
+    → HoldsIn sum device fault bytes from rs H → slice_get rs i ≡ Some r → r.is_open ≡ true → slice_get rs j ≡ Some x → (x.from ≡ r.from → ⊥)
+    → (slice_get (set rs i (closed r)) j ≡ Some x) × (message_in (written bytes r.from (completing r)) x ≡ message_in bytes x)
+others_stay sum device fault bytes from rs i j r x H holds at_i is_open at_j apart =
+    let stands : Stands sum 0 bytes r = at_there (Stands sum 0 bytes) rs i r at_i holds.stand in
+    let at_x : Stands sum 0 bytes x = at_there (Stands sum 0 bytes) rs j x at_j holds.stand in
+    let inside = at_there (λ z. (max 20 from ≤ z.from) × (z.from + z.len ≤ length bytes)) rs i r at_i (chain_within (max 20 from) (length bytes) rs holds.chain) in
+    let body : body_in (written bytes r.from (completing r)) x ≡ body_in bytes x =
+    elim (chain_apart (max 20 from) (length bytes) rs i j r x holds.chain at_i at_j apart) [
+      | inl before ↦ body_before sum bytes r inside.1 stands is_open x before at_x
+      | inr behind ↦ body_behind sum bytes r inside.1 stands is_open x behind
+    ] in (
+      there-set_other rs i j r x (closed r) at_i at_j (λ same. apart (sym (ap (λ (z : Reserved). z.from) same))),
+      ap (λ (l : List ℕ). record (message_in bytes x) { bytes = l }) body,
+    )

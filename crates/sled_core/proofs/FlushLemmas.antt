@@ -1,5 +1,10 @@
 -- When nothing is open, the bytes of the log are the header of the segment and the records of all its messages.
-use Rattle.std.proofs.Common.{◌≡◌, ◌≢◌, ◌≤◌, ◌<◌, ◌+◌, ◌-◌, ℕ, zero, suc, max, min, List, [], ◌∷◌, ◌++◌, length, take, drop, sym, ◌∙◌, ap, arith, refl, subst, append_assoc, length-append, length-take, length-drop, true, false, Bool, if◌then◌else◌, Option, None, Some, pos, negsuc}
+use Rattle.std.proofs.Common.{◌≡◌, ◌≢◌, ◌≤◌, ◌<◌, ◌+◌, ◌-◌, ℕ, zero, suc, max, min, List, [], ◌∷◌, ◌++◌, length, take, drop, sym, ◌∙◌, ap, arith, refl, subst, append_assoc, length-append, length-take, length-drop, true, false, Bool, if◌then◌else◌, Option, None, Some, pos, negsuc, ◌⊎◌, inl, inr}
+use Rattle.std.specs.Bool.{MatchBool}
+use Rattle.std.specs.IoError.{error_kind}
+use Rattle.std.specs.declared.io.ErrorKind.{ErrorKind}
+use Rattle.std.specs.declared.io.ErrorKind.TheVariants.{OutOfMemory}
+use Rattle.sled_store.specs.Answers.{is_fault_kind, is_fault}
 use Rattle.std.specs.Option.{unwrap_or}
 use Rattle.std.specs.List.{All}
 use Rattle.std.specs.declared.io.Error.{Error as IoError}
@@ -9,8 +14,9 @@ use Rattle.sled_codec.specs.declared.serialization.message.MessageKind.{MessageK
 use Rattle.sled_codec.specs.declared.serialization.message.MessageKind.TheVariants.{Corrupted}
 use Rattle.sled_codec.specs.Places.{part}
 use Rattle.sled_codec.specs.Record.{short_record, short_header}
-use Rattle.sled_codec.specs.History.{Message, History}
-use Rattle.sled_store.specs.Device.{LogState, at_rest}
+use Rattle.sled_codec.specs.History.{Message, History, no_history}
+use Rattle.sled_store.specs.Device.{LogState, at_rest, overwritten}
+use Rattle.sled_store.proofs.OverwrittenLemmas.{overwritten-end}
 use Rattle.sled_core.specs.declared.iobuf.Reserved.{Reserved}
 use Rattle.sled_core.specs.Buffers.{text_in, body_in, message_in, placeholder, IsChain, completed_in, all_ended, StandsAs, Stands}
 use Rattle.sled_core.specs.Fits.{HoldsIn, LieFrom, log_image, records, record_text, record_kind}
@@ -51,9 +57,9 @@ all_records sum bytes from (r ∷ rs) chain stand ended =
     let at_from : take r.len (drop from bytes) ≡ record_text sum message = ap (λ n. take r.len (drop n bytes)) (sym place) ∙ text in
     let size : r.len ≡ length (record_text sum message) = omega (arith, ap length at_from, length-take r.len (drop from bytes), length-drop from bytes) in
     let whole : drop from bytes ≡ record_text sum message ++ records sum (completed_in bytes rs) =
-        sym (take-append-drop r.len (drop from bytes))
-        ∙ ap (λ (l : List ℕ). l ++ drop r.len (drop from bytes)) at_from
-        ∙ ap (λ (l : List ℕ). record_text sum message ++ l) (drop-drop r.len from bytes ∙ rest.0) in
+    sym (take-append-drop r.len (drop from bytes))
+    ∙ ap (λ (l : List ℕ). l ++ drop r.len (drop from bytes)) at_from
+    ∙ ap (λ (l : List ℕ). record_text sum message ++ l) (drop-drop r.len from bytes ∙ rest.0) in
     let is : message ∷ completed_in bytes rs ≡ completed_in bytes (r ∷ rs) = sym (completed_closed bytes r rs split.0) in
     let lie : LieFrom sum from (message ∷ completed_in bytes rs) = (place, ap Inline place, size, kind_is sum bytes r here, rest.1) in
     (whole ∙ ap (records sum) is, subst (λ (ms : List Message). LieFrom sum from ms) is lie)
@@ -88,7 +94,7 @@ module _ (sum : List ℕ → ℕ) (bytes : List ℕ) (from : ℕ) (rs : List Res
       let first = completed_some bytes rs some ended in
       let is : completed_in bytes rs ≡ first.0 ∷ first.1 = first.2 in
       let whole : bytes ≡ short_header sum (pos 0) (negsuc 0) ++ records sum (completed_in bytes rs) =
-          sym (take-append-drop 20 bytes) ∙ ap (λ (l : List ℕ). l ++ drop 20 bytes) header ∙ ap (λ (l : List ℕ). short_header sum (pos 0) (negsuc 0) ++ l) later.0 in
+      sym (take-append-drop 20 bytes) ∙ ap (λ (l : List ℕ). l ++ drop 20 bytes) header ∙ ap (λ (l : List ℕ). short_header sum (pos 0) (negsuc 0) ++ l) later.0 in
       (whole ∙ image_some sum (completed_in bytes rs) first.0 first.1 is, later.1)
 
   -- records were written, and others follow them
@@ -101,11 +107,11 @@ module _ (sum : List ℕ → ℕ) (bytes : List ℕ) (from : ℕ) (rs : List Res
       let start : max 20 from ≡ from = omega (arith, from_is) in
       let later = all_records sum bytes from rs (subst (λ n. IsChain n rs (length bytes)) start chain) stand ended in
       let whole : bytes ≡ short_header sum (pos 0) (negsuc 0) ++ records sum ((m ∷ ms) ++ completed_in bytes rs) =
-          sym (take-append-drop from bytes)
-          ∙ ap (λ (l : List ℕ). l ++ drop from bytes) written
-          ∙ ap (λ (l : List ℕ). (short_header sum (pos 0) (negsuc 0) ++ records sum (m ∷ ms)) ++ l) later.0
-          ∙ append_assoc (short_header sum (pos 0) (negsuc 0)) (records sum (m ∷ ms)) (records sum (completed_in bytes rs))
-          ∙ ap (λ (l : List ℕ). short_header sum (pos 0) (negsuc 0) ++ l) (sym (records-append sum (m ∷ ms) (completed_in bytes rs))) in
+      sym (take-append-drop from bytes)
+      ∙ ap (λ (l : List ℕ). l ++ drop from bytes) written
+      ∙ ap (λ (l : List ℕ). (short_header sum (pos 0) (negsuc 0) ++ records sum (m ∷ ms)) ++ l) later.0
+      ∙ append_assoc (short_header sum (pos 0) (negsuc 0)) (records sum (m ∷ ms)) (records sum (completed_in bytes rs))
+      ∙ ap (λ (l : List ℕ). short_header sum (pos 0) (negsuc 0) ++ l) (sym (records-append sum (m ∷ ms) (completed_in bytes rs))) in
       (whole, lie-append sum 20 (m ∷ ms) (completed_in bytes rs) lie (subst (λ n. LieFrom sum n (completed_in bytes rs)) from_is later.1))
 
   image_is : (earlier : List Message) → take from bytes ≡ log_image sum earlier → LieFrom sum 20 earlier → 0 < length rs
@@ -151,3 +157,54 @@ holds-faulty sum device fault bytes from rs H holds new e now is = record {
   stand = holds.stand;
   settled = λ none. cc;
 }
+
+-- Where nothing was reserved since the last write, all is on the device.
+pub nothing_due : (sum : List ℕ → ℕ) (device : LogState) (fault : Option IoError) (bytes : List ℕ) (from : ℕ) (rs : List Reserved) (H : History) → HoldsIn sum device fault bytes from rs H
+    → rs ≡ [] → fault ≡ None → device ≡ at_rest (log_image sum H.messages)
+nothing_due sum device fault bytes from rs H holds none whole =
+    let all : H.messages ≡ holds.earlier = holds.messages ∙ ap (λ (l : List Reserved). holds.earlier ++ completed_in bytes l) none ∙ append-nil holds.earlier in
+    holds.settled whole ∙ ap (λ (ms : List Message). at_rest (log_image sum ms)) (sym all)
+
+-- What is written behind what is on the device makes all the bytes.
+pub written_whole : (sum : List ℕ → ℕ) (device : LogState) (fault : Option IoError) (bytes : List ℕ) (from : ℕ) (rs : List Reserved) (H : History) → HoldsIn sum device fault bytes from rs H
+    → from ≤ length bytes → fault ≡ None → overwritten device.bytes from (drop from bytes) ≡ bytes
+written_whole sum device fault bytes from rs H holds behind whole =
+    let there : device.bytes ≡ take from bytes = ap (λ (s : LogState). s.bytes) (holds.settled whole) ∙ sym holds.written in
+    let long : length (take from bytes) ≡ from = omega (arith, length-take from bytes) in
+    ap (λ (l : List ℕ). overwritten l from (drop from bytes)) there
+    ∙ ap (λ n. overwritten (take from bytes) n (drop from bytes)) (sym long)
+    ∙ overwritten-end (take from bytes) (drop from bytes)
+    ∙ take-append-drop from bytes
+
+-- A log that was just begun holds that nothing happened.
+pub holds-new : (sum : List ℕ → ℕ) (device : LogState) (bytes : List ℕ) → bytes ≡ short_header sum (pos 0) (negsuc 0) → device ≡ at_rest [] → HoldsIn sum device None bytes 0 [] no_history
+holds-new sum device bytes is empty =
+    let long : length bytes ≡ 20 = ap length is ∙ header_long sum in
+    record {
+      earlier = [];
+      messages = refl;
+      batches = refl;
+      lie = tt;
+      header = take_all 20 bytes (omega (arith, long)) ∙ is;
+      written = sym (image_none sum);
+      chain = sym long;
+      stand = λ k d lt. absurd (omega arith);
+      settled = λ whole. empty ∙ ap at_rest (sym (image_none sum));
+    }
+
+-- The same device and the same failure hold the same.
+pub holds-moved : (sum : List ℕ → ℕ) (device device' : LogState) (fault fault' : Option IoError) (bytes : List ℕ) (from : ℕ) (rs : List Reserved) (H : History)
+    → device' ≡ device → fault' ≡ fault → HoldsIn sum device fault bytes from rs H → HoldsIn sum device' fault' bytes from rs H
+holds-moved sum device device' fault fault' bytes from rs H d f holds =
+    subst (λ (s : LogState). HoldsIn sum s fault' bytes from rs H) (sym d) (subst (λ (o : Option IoError). HoldsIn sum device o bytes from rs H) (sym f) holds)
+
+kind_apart : (kind : ErrorKind) → is_fault_kind kind ≡ true → kind ≡ OutOfMemory → ⊥
+kind_apart kind fault is = let not_one : false ≡ true = sym (ap is_fault_kind is) ∙ fault in cc
+
+memory_by : (e : IoError) (b : Bool) → is_fault e ≡ b → MatchBool b (Unit {0}) (error_kind e ≡ OutOfMemory) → (error_kind e ≡ OutOfMemory) ⊎ (error_kind e ≢ OutOfMemory)
+memory_by e true is cause = inr (kind_apart (error_kind e) is)
+memory_by e false is cause = inl cause
+
+-- An error of a call that may want memory is want of memory, or another one.
+pub memory_or_fault : (e : IoError) → MatchBool (is_fault e) (Unit {0}) (error_kind e ≡ OutOfMemory) → (error_kind e ≡ OutOfMemory) ⊎ (error_kind e ≢ OutOfMemory)
+memory_or_fault e cause = memory_by e (is_fault e) refl cause

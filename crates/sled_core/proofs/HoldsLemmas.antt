@@ -23,7 +23,7 @@ stands-same sum old new r text body stands =
 
 -- Bytes behind the text leave each reservation in it as it was.
 
-body-append : (bytes more : List ℕ) (r : Reserved) → r.from + r.len ≤ length bytes → r.header_len ≤ r.len → body_in (bytes ++ more) r ≡ body_in bytes r
+pub body-append : (bytes more : List ℕ) (r : Reserved) → r.from + r.len ≤ length bytes → r.header_len ≤ r.len → body_in (bytes ++ more) r ≡ body_in bytes r
 body-append bytes more r within long = part-append bytes more (r.from + r.header_len) (r.len - r.header_len) (omega arith)
 
 stands-append : (sum : List ℕ → ℕ) (bytes more : List ℕ) (r : Reserved) → r.from + r.len ≤ length bytes → Stands sum 0 bytes r → Stands sum 0 (bytes ++ more) r
@@ -60,3 +60,11 @@ module _ (sum : List ℕ → ℕ) (device : LogState) (fault : Option IoError) (
         stand = All-append (Stands sum 0 new) rs (r ∷ []) (λ k d lt. stands-append sum bytes more (get_or rs k d) (within k d lt) (holds.stand k d lt)) (one (Stands sum 0 new) r stands);
         settled = holds.settled;
       }
+
+-- The same bytes, from the same offset, and the same reservations hold the same.
+pub holds-same : (sum : List ℕ → ℕ) (device : LogState) (fault : Option IoError) (bytes bytes' : List ℕ) (from from' : ℕ) (rs rs' : List Reserved) (H : History)
+    → bytes' ≡ bytes → from' ≡ from → rs' ≡ rs → HoldsIn sum device fault bytes from rs H → HoldsIn sum device fault bytes' from' rs' H
+holds-same sum device fault bytes bytes' from from' rs rs' H b f r holds =
+    subst (λ (l : List ℕ). HoldsIn sum device fault l from' rs' H) (sym b)
+    (subst (λ n. HoldsIn sum device fault bytes n rs' H) (sym f)
+    (subst (λ (l : List Reserved). HoldsIn sum device fault bytes from l H) (sym r) holds))

@@ -21,3 +21,13 @@ pub there_is : {X : Type 0} (xs : List X) (i : ℕ) (x : X) → i < length xs �
 there_is [] i x lt is = absurd (omega arith)
 there_is (y ∷ ys) zero x lt is = ap Some (sym is)
 there_is (y ∷ ys) (suc i) x lt is = there_is ys i x (omega arith) is
+
+-- a list of no length is empty
+pub none_there : {X : Type 0} (xs : List X) → length xs ≡ 0 → xs ≡ []
+none_there [] is = refl
+none_there (x ∷ xs) is = absurd (omega arith)
+
+-- one that isn't empty has a length
+pub some_there : {X : Type 0} (xs : List X) → (length xs ≡ 0 → ⊥) → 0 < length xs
+some_there [] is = absurd (is refl)
+some_there (x ∷ xs) is = omega arith

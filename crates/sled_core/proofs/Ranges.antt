@@ -1,11 +1,13 @@
 -- Reservations that lie one behind another: what stands in them stays where bytes are put behind them, and where another one is completed.
-use Rattle.std.proofs.Common.{◌≡◌, ◌≤◌, ◌<◌, ◌+◌, ◌-◌, ℕ, zero, suc, List, [], ◌∷◌, ◌++◌, length, take, drop, sym, ◌∙◌, ap, arith, refl, subst, append_assoc, length-append, length-take, length-drop, true, false, Bool, if◌then◌else◌, rules, Some}
+use Rattle.std.proofs.Common.{◌≡◌, ◌≤◌, ◌<◌, ◌+◌, ◌-◌, ℕ, zero, suc, List, [], ◌∷◌, ◌++◌, length, take, drop, sym, ◌∙◌, ap, arith, refl, subst, append_assoc, length-append, length-take, length-drop, true, false, Bool, if◌then◌else◌, rules, Some, set, ◌⊎◌, inl, inr}
 use Rattle.std.specs.List.{All, Contains, slice_get}
 use Rattle.std.proofs.lemmas.List.{drop-append-le, take-append-le, same_lists, places, take-append-drop, drop-drop}
+use Rattle.std.proofs.lemmas.Option.{slice_get_within}
 use Rattle.sled_codec.specs.Places.{part}
 use Rattle.sled_codec.specs.Written.{written}
 use Rattle.sled_codec.specs.History.{Message}
 use Rattle.sled_core.specs.declared.iobuf.Reserved.{Reserved}
+use Rattle.sled_core.proofs.Parts.{get_there}
 use Rattle.sled_core.specs.Buffers.{text_in, body_in, message_in, IsChain, completed_in, all_ended, Stands}
 
 -- a part stays when bytes are put behind the text
@@ -109,7 +111,7 @@ completed_between bytes from end (r ∷ rs) is some =
     let Between : Message → Type 0 = λ m. (from ≤ m.place) × (m.place < end) in
     let later : All Between (completed_in bytes rs) = λ k d lt. let b = rest k d lt in (omega (arith, b.0), b.1) in
     elim r.is_open as (λ o. All Between (if o then completed_in bytes rs else message_in bytes r ∷ completed_in bytes rs))
-      [ true ↦ later | false ↦ with_first Between (message_in bytes r) (completed_in bytes rs) (omega arith, omega arith) later ]
+    [ true ↦ later | false ↦ with_first Between (message_in bytes r) (completed_in bytes rs) (omega arith, omega arith) later ]
 
 -- what holds of each holds of those in front, of the one between and of those behind
 pub all_split : {X : Type 0} (P : X → Type 0) (xs ys : List X) (x : X) → All P (xs ++ x ∷ ys) → All P xs × P x × All P ys
@@ -125,3 +127,34 @@ all_joined P (z ∷ xs) ys x before here after = with_first P z (xs ++ x ∷ ys)
 -- what holds of each holds of one of them
 pub of_one : {X : Type 0} (P : X → Type 0) (xs : List X) (x : X) → All P xs → Contains xs x → P x
 of_one P xs x all there = subst P there.2 (all there.0 x there.1)
+
+-- an element that isn't the one that is set stays
+pub there-set_other : {X : Type 0} (xs : List X) (i j : ℕ) (x y z : X) → slice_get xs i ≡ Some x → slice_get xs j ≡ Some y → (x ≡ y → ⊥) → slice_get (set xs i z) j ≡ Some y
+there-set_other [] i j x y z at_i at_j apart = at_j
+there-set_other (w ∷ ws) zero zero x y z at_i at_j apart = let same : x ≡ y = cc in absurd (apart same)
+there-set_other (w ∷ ws) zero (suc j) x y z at_i at_j apart = at_j
+there-set_other (w ∷ ws) (suc i) zero x y z at_i at_j apart = at_j
+there-set_other (w ∷ ws) (suc i) (suc j) x y z at_i at_j apart = there-set_other ws i j x y z at_i at_j apart
+
+-- what holds of each holds of one that is there
+pub at_there : {X : Type 0} (P : X → Type 0) (xs : List X) (i : ℕ) (x : X) → slice_get xs i ≡ Some x → All P xs → P x
+at_there P xs i x there all = subst P (get_there xs i x x there) (all i x (slice_get_within xs i x there))
+
+-- Of two reservations that begin at different offsets, one lies before the other.
+pub chain_apart : (from end : ℕ) (rs : List Reserved) (i j : ℕ) (r x : Reserved) → IsChain from rs end → slice_get rs i ≡ Some r → slice_get rs j ≡ Some x
+    → (x.from ≡ r.from → ⊥) → (x.from + x.len ≤ r.from) ⊎ (r.from + r.len ≤ x.from)
+chain_apart from end [] i j r x chain at_i at_j apart = cc
+chain_apart from end (y ∷ ys) zero zero r x chain at_i at_j apart = let same : x.from ≡ r.from = let both : x ≡ r = cc in ap (λ (z : Reserved). z.from) both in absurd (apart same)
+chain_apart from end (y ∷ ys) zero (suc j) r x chain at_i at_j apart =
+    let is : y ≡ r = cc in
+    let begins : y.from ≡ from = chain.0 in
+    let later = at_there (λ z. (from + y.len ≤ z.from) × (z.from + z.len ≤ end)) ys j x at_j (chain_within (from + y.len) end ys chain.1) in
+    let le : y.from + y.len ≤ x.from = omega (arith, later.0) in
+    inr (subst (λ (z : Reserved). z.from + z.len ≤ x.from) is le)
+chain_apart from end (y ∷ ys) (suc i) zero r x chain at_i at_j apart =
+    let is : y ≡ x = cc in
+    let begins : y.from ≡ from = chain.0 in
+    let later = at_there (λ z. (from + y.len ≤ z.from) × (z.from + z.len ≤ end)) ys i r at_i (chain_within (from + y.len) end ys chain.1) in
+    let le : y.from + y.len ≤ r.from = omega (arith, later.0) in
+    inl (subst (λ (z : Reserved). z.from + z.len ≤ r.from) is le)
+chain_apart from end (y ∷ ys) (suc i) (suc j) r x chain at_i at_j apart = chain_apart (from + y.len) end ys i j r x chain.1 at_i at_j apart

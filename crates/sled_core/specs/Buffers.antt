@@ -6,7 +6,7 @@ use Rattle.sled_codec.specs.declared.serialization.message.MessageKind.{MessageK
 use Rattle.sled_codec.specs.declared.serialization.message.MessageKind.TheVariants.{Corrupted}
 use Rattle.sled_codec.specs.Kinds.{kind_written, code_of}
 use Rattle.sled_codec.specs.Sums.{flipped}
-use Rattle.sled_codec.specs.Spelling.{low_bytes, short_header_tail}
+use Rattle.sled_codec.specs.Spelling.{low_bytes, short_number, short_header_tail}
 use Rattle.sled_codec.specs.Places.{part}
 use Rattle.sled_codec.specs.Record.{record_sum, short_record}
 use Rattle.sled_codec.specs.History.{Message}
@@ -79,3 +79,7 @@ all_ended (r ∷ rs) = if r.is_open then false else all_ended rs
 abbrev pub end_reserved : ℕ → ℕ → List Reserved → ℕ
 end_reserved from end [] = from
 end_reserved from end (r ∷ rs) = end
+
+-- how long the record is of a page's message with an item of n bytes, in segment 0
+abbrev pub record_size : ℕ → ℕ → ℕ
+record_size page n = 5 + length (short_number n) + length (short_number 0) + length (short_number page) + n

@@ -8,7 +8,6 @@ use Rattle.sled_codec.specs.declared.serialization.message.LogKind.{LogKind}
 use Rattle.sled_codec.specs.Kinds.{kind_written}
 use Rattle.sled_codec.specs.declared.serialization.snapshot.Snapshot.{Snapshot}
 use Rattle.sled_codec.specs.Record.{short_record, short_header}
-use Rattle.sled_codec.specs.Spelling.{short_number}
 use Rattle.sled_codec.specs.History.{Message, History}
 use Rattle.sled_store.specs.Device.{Trace, LogState, state_of, at_rest}
 use Rattle.sled_core.specs.declared.iobuf.Reserved.{Reserved}
@@ -16,8 +15,8 @@ use Rattle.sled_core.specs.declared.iobuf.Buffer.{Buffer}
 use Rattle.sled_core.specs.declared.reservation.Reservation.{Reservation}
 use Rattle.sled_core.specs.declared.logger.Log.{Log}
 use Rattle.sled_store.specs.declared.config.RunningConfig.{RunningConfig}
-use Rattle.sled_core.specs.Buffers.{Stands, IsChain, completed_in, message_in, all_ended, end_reserved}
-use Rattle.sled_core.specs.Tickets.{place_of, pointer_of, index_of}
+use Rattle.sled_core.specs.Buffers.{Stands, IsChain, completed_in, message_in, all_ended, end_reserved, record_size}
+use Rattle.sled_core.specs.Tickets.{index_of, IsFor}
 
 -- the kind under which a message's record is written
 abbrev pub record_kind : Message → MessageKind
@@ -65,10 +64,6 @@ reserved_end log = end_reserved log.buffer.from (length log.buffer.bytes.items) 
 abbrev pub pins_of : {D C : Type 0} → Log D C → ℕ
 pins_of log = log.pins
 
--- how long the record is of a page's message with an item of n bytes
-abbrev pub record_size : ℕ → ℕ → ℕ
-record_size page n = 5 + length (short_number n) + length (short_number 0) + length (short_number page) + n
-
 -- the message that is reserved at a place for an item of these bytes
 abbrev pub message_for : LogKind → ℕ → ℕ → List ℕ → Message
 message_for kind page place bytes = record { kind = kind; page = page; place = place; pointer = Inline place; size = record_size page (length bytes); bytes = bytes }
@@ -91,9 +86,7 @@ pub record HasRoom {D C : Type 0} (log : Log D C) (page n : ℕ) : Type 0 where
 pub record Awaits {D C : Type 0} (log : Log D C) (ticket : Reservation) (m : Message) : Type 0 where
   pub reserved : Reserved
   pub there : slice_get log.buffer.reserved.items (index_of ticket) ≡ Some reserved
-  pub open_yet : reserved.is_open ≡ true
-  pub place : place_of ticket ≡ pos reserved.from
-  pub pointer : pointer_of ticket ≡ Inline reserved.from
+  pub own : IsFor reserved ticket
   pub message : m ≡ message_in log.buffer.bytes.items reserved
 
 -- a ticket is for an open reservation of the log

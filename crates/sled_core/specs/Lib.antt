@@ -1,4 +1,5 @@
 pub mod Buffers
 pub mod Causes
 pub mod Fits
+pub mod Reading
 pub mod Tickets

@@ -5,8 +5,8 @@ ghost use Rattle.sled_codec.specs.Written.{written};
 ghost use Rattle.sled_core.specs.declared.iobuf.Reserved.{Reserved};
 ghost use Rattle.sled_core.specs.Buffers.{completing, closed, placeholder_head, reserved_for};
 
-use sled_codec::result::{Error, PageId, Result};
 use crate::record::{Head, push_item, push_placeholder, sum_behind};
+use sled_codec::result::{Error, PageId, Result};
 use sled_codec::serialization::{Checksum, LogKind, MessageKind, Serialize};
 use std::alloc::Global;
 
@@ -146,10 +146,15 @@ impl Buffer {
         ensures bytes { (r : Reserved) → slice_get self.old.reserved.items index ≡ Some r → self.new.bytes.items ≡ written self.old.bytes.items r.from (completing r) }
         ensures reserved { (r : Reserved) → slice_get self.old.reserved.items index ≡ Some r → self.new.reserved.items ≡ set self.old.reserved.items index (closed r) }
         ensures from { self.new.from ≡ self.old.from }
+        ensures len { length self.new.bytes.items ≡ length self.old.bytes.items }
     {
         let r = self.reserved[index];
         let sum = (u32::MAX - r.sum).to_le_bytes();
-        put(&mut self.bytes, r.from, &[sum[0], sum[1], sum[2], sum[3], u8::from(r.kind)]);
+        put(
+            &mut self.bytes,
+            r.from,
+            &[sum[0], sum[1], sum[2], sum[3], u8::from(r.kind)],
+        );
         close(&mut self.reserved, index);
     }
 

@@ -11,4 +11,5 @@ mod record;
 pub mod reservation;
 
 pub use logger::Log;
+pub use reading::LogRead;
 pub use reservation::{Guard, Reservation};

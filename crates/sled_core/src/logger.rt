@@ -2,7 +2,7 @@
 //!
 //! A log keeps the bytes of its segment, the reservations in them, the count of pins, and the first
 //! failure of its device, which it answers from then on. `specs/Fits.antt` says which history it holds.
-ghost use Rattle.std.specs.Prelude.{◌≡◌, ◌≢◌, ◌↔◌, ◌+◌, ◌-◌, ◌<◌, ◌≤◌, ◌^◌, ◌∷◌, ◌-ℤ◌, pos, [], ℕ, length, drop, true, IsTrue, IfOk, IfErr, OnOk, OnErr, IsErrOf, None, Some};
+ghost use Rattle.std.specs.Prelude.{◌≡◌, ◌≢◌, ◌↔◌, ◌+◌, ◌-◌, ◌<◌, ◌≤◌, ◌^◌, ◌∷◌, ◌-ℤ◌, ◌<ℤ◌, pos, [], ℕ, length, drop, true, false, IsTrue, IfOk, IfErr, OnOk, OnErr, IsErrOf, Contains, None, Some};
 ghost use Rattle.std.specs.declared.io.Error.{Error as IoError};
 ghost use Rattle.sled_codec.specs.Kinds.{kind_written};
 ghost use Rattle.sled_codec.specs.History.{History, Message, Completed, Step, no_history};
@@ -11,14 +11,18 @@ ghost use Rattle.std.specs.declared.io.ErrorKind.TheVariants.{OutOfMemory};
 ghost use Rattle.sled_codec.specs.Errors.{IsErrorOf};
 ghost use Rattle.sled_store.specs.Device.{state_of, at_rest, Wrote, Synced};
 ghost use Rattle.sled_store.specs.Answers.{Counts, FailsOr};
-ghost use Rattle.sled_core.specs.Tickets.{place_of, pointer_of};
+ghost use Rattle.sled_core.specs.Tickets.{place_of, pointer_of, IsFor};
+ghost use Rattle.sled_core.specs.Reading.{GivesMessage, IsInline};
+ghost use Rattle.sled_core.specs.Buffers.{record_size};
 ghost use Rattle.sled_core.specs.Causes.{Answers, FaultAnswers, ReserveAnswers};
 
-use crate::iobuf::{Buffer, Kept, SEG_HEADER_LEN};
+use crate::iobuf::{Buffer, Kept, Reserved};
+use crate::reading::LogRead;
 use crate::record::head_of;
 use crate::reservation::{Guard, Reservation};
 use sled_codec::result::{DiskPtr, Error, Lsn, PageId, Result};
-use sled_codec::serialization::{Checksum, LogKind, SegmentHeader, Serialize, Snapshot, message_kind};
+use sled_codec::serialization::message::message_kind;
+use sled_codec::serialization::{Checksum, LogKind, SegmentHeader, Serialize, Snapshot};
 use sled_store::{Device, RunningConfig};
 use std::io;
 
@@ -32,7 +36,7 @@ pub struct Log<D, C> {
 }
 
 impl<D: Device, C: Checksum> Log<D, C> {
-    ghost use Rattle.sled_core.specs.Fits.{Holds, IsDefault, AllEnded, Awaits, IsOpen, HasRoom, IsUnchanged, fault_of, next_place, synced_end, reserved_end, pins_of, config_of, device_of, record_size, log_image, manifest_page, segment_size_of, message_for, KeepsAll};
+    ghost use Rattle.sled_core.specs.Fits.{Holds, IsDefault, AllEnded, Awaits, IsOpen, HasRoom, IsUnchanged, fault_of, next_place, synced_end, reserved_end, pins_of, config_of, device_of, log_image, manifest_page, segment_size_of, message_for, KeepsAll};
 
     /// The segment that a place lies in begins with a header. The mark of the first one is the place
     /// before the log.
@@ -139,11 +143,7 @@ impl<D: Device, C: Checksum> Log<D, C> {
         };
         self.buffer
             .append(&self.config.checksum, &head, &kept, item, item_len);
-        Ok(Reservation::new(
-            place as i64,
-            DiskPtr::Inline(place as u64),
-            index,
-        ))
+        Ok(Reservation::new(place as i64, DiskPtr::Inline(place as u64), index))
     }
 
     /// Completes a message: from now on it is in the log's history. It takes no memory. It fails where
@@ -154,7 +154,7 @@ impl<D: Device, C: Checksum> Log<D, C> {
         ensures place { IfOk result (λ at. (at.0 ≡ place_of ticket) × (at.1 ≡ pointer_of ticket)) }
         ensures history { (H : History) (m : Message) → Holds D.trace C.sum_of self.old H → Awaits self.old ticket m
             → OnOk result ((H' : History) × Step H (Completed m) H' × Holds D.trace C.sum_of self.new H') }
-        ensures others { (other : Reservation) (m : Message) → Awaits self.old other m → place_of other ≢ place_of ticket → Awaits self.new other m }
+        ensures others { (H : History) (other : Reservation) (m : Message) → Holds D.trace C.sum_of self.old H → Awaits self.old other m → place_of other ≢ place_of ticket → Awaits self.new other m }
         ensures answers { FaultAnswers result (fault_of self.old) }
         ensures same { KeepsAll self.old self.new }
         ensures next { next_place self.new ≡ next_place self.old }
@@ -201,6 +201,27 @@ impl<D: Device, C: Checksum> Log<D, C> {
         Ok(grown)
     }
 
+    /// Reads the message of this page and place that lies there, from the device. Where its place is not
+    /// written yet, what was completed is written first, as `flush` does. `Corruption` comes for a
+    /// negative place, for an offset at which no record begins, and for a record that has to hold a
+    /// place and does not.
+    pub fn read(&mut self, _pid: PageId, lsn: Lsn, ptr: DiskPtr) -> Result<LogRead>
+        requires ended { AllEnded self.old }
+        requires inline { IsInline ptr }
+        requires reserved { lsn <ℤ pos (reserved_end self.old) }
+        ensures message { (H : History) (m : Message) → Holds D.trace C.sum_of self.old H → Contains H.messages m → pos m.place ≡ lsn → m.pointer ≡ ptr → IfOk result (GivesMessage m) }
+        ensures history { (H : History) → Holds D.trace C.sum_of self.old H → Holds D.trace C.sum_of self.new H }
+        ensures ended { AllEnded self.new }
+        ensures next { next_place self.new ≡ next_place self.old }
+        ensures pins { pins_of self.new ≡ pins_of self.old }
+        ensures size { segment_size_of self.new ≡ segment_size_of self.old }
+        ensures faulty { (e : IoError) → fault_of self.old ≡ Some e → self.new ≡ self.old }
+    {
+        let _ = (lsn, ptr);
+        self.flush()?;
+        Ok(LogRead::Corrupted)
+    }
+
     /// Whether a message of this page with this item fits inline into what is left of the segment.
     pub fn has_room<T: Serialize>(&self, pid: PageId, item: &T) -> bool
         requires { T.fits (T.meaning item.now) }
@@ -212,8 +233,7 @@ impl<D: Device, C: Checksum> Log<D, C> {
         if item_len > size / 4 - 52 || next > size - 32 {
             return false;
         }
-        let len = 5 + item_len.serialized_size() + 0u64.serialized_size() + pid.serialized_size() + item_len;
-        len <= size - next
+        record_size(pid, item_len) <= size - next
     }
 
     /// Whether this ticket is for an open reservation of the log.
@@ -221,7 +241,7 @@ impl<D: Device, C: Checksum> Log<D, C> {
         ensures { IsTrue result ↔ IsOpen self.now ticket.now }
     {
         match self.buffer.reserved.get(ticket.index()) {
-            Some(r) => r.is_open && r.from as i64 == ticket.lsn() && DiskPtr::Inline(r.from as u64) == ticket.pointer(),
+            Some(r) => is_for(r, ticket),
             None => false,
         }
     }
@@ -245,6 +265,26 @@ impl<D: Device, C: Checksum> Log<D, C> {
         } = self;
         config
     }
+}
+
+/// Whether a ticket is for this reservation, and it is open.
+fn is_for(r: &Reserved, ticket: &Reservation) -> bool
+    ensures { IsTrue result ↔ IsFor r.now ticket.now }
+{
+    let same_pointer = match ticket.pointer() {
+        DiskPtr::Inline(lid) => lid == r.from as u64,
+        DiskPtr::Blob(_, _) => false,
+    };
+    let same_place = ticket.lsn() >= 0 && ticket.lsn() as u64 == r.from as u64;
+    r.is_open && same_place && same_pointer
+}
+
+/// How long the record is of a message of this page whose item has so many bytes.
+fn record_size(pid: PageId, item_len: u64) -> u64
+    requires { item_len < 2 ^ 32 }
+    ensures { result ≡ record_size pid item_len }
+{
+    5 + item_len.serialized_size() + 0u64.serialized_size() + pid.serialized_size() + item_len
 }
 
 /// Writes what was not written yet, and syncs it.

@@ -9,6 +9,7 @@ use sled_codec::result::PageId;
 use sled_codec::serialization::{Checksum, MessageHeader, MessageKind, SegmentNumber, Serialize};
 
 /// The header of a message as it is written, but for its sum.
+#[derive(Clone, Copy)]
 pub(crate) struct Head {
     pub(crate) bytes: [u8; 32],
     pub(crate) len: usize,
@@ -21,9 +22,16 @@ pub(crate) fn head_of(kind: MessageKind, pid: PageId, len: u64) -> Head
     ensures bytes { drop 4 (take result.len result.bytes) ≡ short_header_tail kind len 0 pid }
     ensures len { result.len ≡ 4 + length (short_header_tail kind len 0 pid) }
 {
-    let mut bytes = [0; 32];
-    bytes[4] = u8::from(kind);
-    Head { bytes, len: 8 }
+    let header = MessageHeader {
+        crc32: 0,
+        kind,
+        segment_number: SegmentNumber(0),
+        pid,
+        len,
+    };
+    let mut bytes = [0; MAX_MSG_HEADER_LEN];
+    let len = header.serialize_into(&mut bytes, 0);
+    Head { bytes, len }
 }
 
 /// Puts bytes behind what is there, where there is room for them.
@@ -63,7 +71,12 @@ pub(crate) fn push_item<T: Serialize>(bytes: &mut Vec<u8>, item: &T, len: usize)
 
 /// The sum of the bytes from an offset on and of a header behind its sum. The header is put behind the
 /// bytes for that, so that nothing but it is copied, and taken away again.
-pub(crate) fn sum_behind<C: Checksum>(checksum: &C, bytes: &mut Vec<u8>, from: usize, head: &Head) -> u32
+pub(crate) fn sum_behind<C: Checksum>(
+    checksum: &C,
+    bytes: &mut Vec<u8>,
+    from: usize,
+    head: &Head,
+) -> u32
     requires from { from ≤ length bytes.old.items }
     requires room { length bytes.old.items + head.now.len ≤ vec_capacity bytes.old }
     ensures sum { result ≡ C.sum_of (drop from bytes.old.items ++ drop 4 (take head.now.len head.now.bytes)) }

@@ -21,7 +21,11 @@ impl Reservation {
         ensures pointer { pointer_of result ≡ pointer }
         ensures index { index_of result ≡ index }
     {
-        Reservation { lsn, pointer, index }
+        Reservation {
+            lsn,
+            pointer,
+            index,
+        }
     }
 
     /// Where the record begins in the log.

@@ -11,8 +11,8 @@ returns-clause-sum g c =
     let four : 4 ≤ len = omega (arith, c.args.head.now.long) in
     c.sum-sum.ensures
     ∙ ap g.C.Checksum.sum_of (
-        take_rest c.deref.result.now c.args.from
-        ∙ ap (drop c.args.from) c.deref.ensures.value
-        ∙ ap (drop c.args.from) c.push_bytes.ensures.bytes
-        ∙ drop-append-le c.args.from old (take (len - 4) (drop 4 head)) c.requires.from
-        ∙ ap (λ (l : List ℕ). drop c.args.from old ++ l) (mid_is head 4 len four))
+    take_rest c.deref.result.now c.args.from
+    ∙ ap (drop c.args.from) c.deref.ensures.value
+    ∙ ap (drop c.args.from) c.push_bytes.ensures.bytes
+    ∙ drop-append-le c.args.from old (take (len - 4) (drop 4 head)) c.requires.from
+    ∙ ap (λ (l : List ℕ). drop c.args.from old ++ l) (mid_is head 4 len four))

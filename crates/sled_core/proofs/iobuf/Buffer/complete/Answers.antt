@@ -35,6 +35,6 @@ invariant_of-self c =
       begun = omega (arith, len);
       behind = omega (arith, len);
       within = still (λ x. x.from + x.len ≤ length c.put.new.buf.items) old _ c.args.index r lt c.index-r.ensures new (λ x h. h)
-        (subst (λ (n : ℕ). All (λ x. x.from + x.len ≤ n) old) len c.args.self.now.within);
+          (subst (λ (n : ℕ). All (λ x. x.from + x.len ≤ n) old) len c.args.self.now.within);
       headed = still (λ x. (5 ≤ x.header_len) × (x.header_len ≤ x.len)) old _ c.args.index r lt c.index-r.ensures new (λ x h. h) c.args.self.now.headed;
     }

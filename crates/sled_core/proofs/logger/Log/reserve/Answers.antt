@@ -1,0 +1,122 @@
+use Rattle.std.proofs.Common.{◌≡◌, ◌∙◌, ◌≤◌, ◌<◌, ◌+◌, ap, sym, subst, refl, List, ℕ, [], ◌∷◌, ◌++◌, length, take, drop, append_assoc, length-append, arith, rules, Some, pos, false}
+use Rattle.std.specs.List.{slice_get}
+use Rattle.sled_codec.specs.declared.result.DiskPtr.TheVariants.{Inline}
+use Rattle.sled_codec.specs.Kinds.{kind_written}
+use Rattle.sled_codec.specs.Spelling.{short_header_tail}
+use Rattle.sled_codec.specs.History.{History, Message}
+use Rattle.sled_store.specs.Device.{state_of}
+use Rattle.sled_core.specs.declared.iobuf.Reserved.{Reserved}
+use Rattle.sled_core.specs.declared.iobuf.Kept.{Kept}
+use Rattle.sled_core.specs.Buffers.{placeholder_head, reserved_for, message_in, record_size}
+use Rattle.sled_core.specs.Tickets.{place_of, index_of}
+use Rattle.sled_core.specs.Fits.{Holds, Awaits, message_for}
+use Rattle.sled_core.proofs.HoldsLemmas.{holds-same, holds-append, body-append}
+use Rattle.sled_core.proofs.ReserveLemmas.{there_last, there_append, stands, message_is, more_long, head_whole}
+use Rattle.sled_core.proofs.Heads.{length-short_header_tail}
+use Rattle.sled_core.proofs.Ranges.{at_there}
+use Rattle.sled_core.proofs.logger.Log.reserve.Given as given
+use Rattle.sled_core.proofs.logger.Log.reserve.Goals as goal
+
+pub returns-in_err-make_room-clause-history : goal.returns-in_err-make_room-clause-history
+unfolding Holds
+returns-in_err-make_room-clause-history g c = λ H holds.
+    holds-same g.C.Checksum.sum_of _ _ c.args.self.now.buffer.bytes.items _ c.args.self.now.buffer.from _ c.args.self.now.buffer.reserved.items _ H c.make_room.ensures.bytes c.make_room.ensures.from c.make_room.ensures.reserved holds
+
+-- What was laid out.
+
+abbrev item : (g : given.Over) → goal.After-new-2 g → List ℕ
+item g c = g.T.Serialize.short (g.T.Serialize.meaning c.args.item.now)
+
+abbrev head : (g : given.Over) → goal.After-new-2 g → List ℕ
+head g c = take c.head_of-head.result.len c.head_of-head.result.bytes
+
+abbrev kept : (g : given.Over) → goal.After-new-2 g → Kept
+kept g c = record { log_kind = c.args.kind; kind = c.in-Some-message_kind.message_kind; page = c.args.pid }
+
+abbrev reserved : (g : given.Over) → goal.After-new-2 g → Reserved
+reserved g c = reserved_for (kept g c) (length c.args.self.now.buffer.bytes.items) (length (head g c)) (length (item g c)) (g.C.Checksum.sum_of (item g c ++ drop 4 (head g c)))
+
+known : (g : given.Over) (c : goal.After-new-2 g) → kind_written c.args.kind c.args.pid false ≡ Some c.in-Some-message_kind.message_kind
+known g c = sym c.message_kind.ensures ∙ c.in-Some-message_kind.is
+
+tail_is : (g : given.Over) (c : goal.After-new-2 g) → drop 4 (head g c) ≡ short_header_tail c.in-Some-message_kind.message_kind (length (item g c)) 0 c.args.pid
+tail_is g c = c.head_of-head.ensures.bytes ∙ ap (λ n. short_header_tail c.in-Some-message_kind.message_kind n 0 c.args.pid) c.serialized_size-item_len.ensures
+
+whole : (g : given.Over) (c : goal.After-new-2 g) → length (head g c) ≡ 4 + length (short_header_tail c.in-Some-message_kind.message_kind (length (item g c)) 0 c.args.pid)
+whole g c = head_whole (head g c) c.in-Some-message_kind.message_kind (length (item g c)) c.args.pid (tail_is g c)
+
+head_len : (g : given.Over) (c : goal.After-new-2 g) → c.head_of-head.result.len ≡ length (head g c)
+head_len g c = c.head_of-head.ensures.len ∙ ap (λ n. 4 + length (short_header_tail c.in-Some-message_kind.message_kind n 0 c.args.pid)) c.serialized_size-item_len.ensures ∙ sym (whole g c)
+
+bytes_are : (g : given.Over) (c : goal.After-new-2 g) → c.append.new.self.bytes.items ≡ c.args.self.now.buffer.bytes.items ++ (placeholder_head (head g c) ++ item g c)
+bytes_are g c =
+    c.append.ensures.bytes
+    ∙ append_assoc c.make_room.new.self.bytes.items (placeholder_head (head g c)) (item g c)
+    ∙ ap (λ (l : List ℕ). l ++ (placeholder_head (head g c) ++ item g c)) c.make_room.ensures.bytes
+
+reserved_are : (g : given.Over) (c : goal.After-new-2 g) → c.append.new.self.reserved.items ≡ c.args.self.now.buffer.reserved.items ++ reserved g c ∷ []
+reserved_are g c =
+    let sum : ℕ = g.C.Checksum.sum_of (item g c ++ drop 4 (head g c)) in
+    c.append.ensures.reserved
+    ∙ ap (λ (l : List Reserved). l ++ reserved_for (kept g c) (length c.make_room.new.self.bytes.items) c.head_of-head.result.len c.serialized_size-item_len.result sum ∷ []) c.make_room.ensures.reserved
+    ∙ ap (λ (l : List ℕ). c.args.self.now.buffer.reserved.items ++ reserved_for (kept g c) (length l) c.head_of-head.result.len c.serialized_size-item_len.result sum ∷ []) c.make_room.ensures.bytes
+    ∙ ap (λ n. c.args.self.now.buffer.reserved.items ++ reserved_for (kept g c) (length c.args.self.now.buffer.bytes.items) n c.serialized_size-item_len.result sum ∷ []) (head_len g c)
+    ∙ ap (λ n. c.args.self.now.buffer.reserved.items ++ reserved_for (kept g c) (length c.args.self.now.buffer.bytes.items) (length (head g c)) n sum ∷ []) c.serialized_size-item_len.ensures
+
+place_is : (g : given.Over) (c : goal.After-new-2 g) → c.len-place.result ≡ length c.args.self.now.buffer.bytes.items
+place_is g c = c.len-place.ensures ∙ search rules ∙ ap length c.make_room.ensures.bytes
+
+index_is : (g : given.Over) (c : goal.After-new-2 g) → c.len-index.result ≡ length c.args.self.now.buffer.reserved.items
+index_is g c = c.len-index.ensures ∙ search rules ∙ ap length c.make_room.ensures.reserved
+
+pub returns-clause-next : goal.returns-clause-next
+returns-clause-next g c =
+    let more = more_long g.C.Checksum.sum_of c.args.self.now.buffer.bytes.items (head g c) (item g c) (kept g c) (known g c) c.ranges.pid.fits (tail_is g c) (whole g c) in
+    omega (
+      arith,
+      ap length (bytes_are g c),
+      length-append c.args.self.now.buffer.bytes.items (placeholder_head (head g c) ++ item g c),
+      more,
+      whole g c,
+      length-short_header_tail c.in-Some-message_kind.message_kind (length (item g c)) 0 c.args.pid,
+    )
+
+pub returns-clause-history : goal.returns-clause-history
+unfolding Holds
+returns-clause-history g c = λ H holds.
+    let old = c.args.self.now.buffer in
+    let more : List ℕ = placeholder_head (head g c) ++ item g c in
+    let long = more_long g.C.Checksum.sum_of old.bytes.items (head g c) (item g c) (kept g c) (known g c) c.ranges.pid.fits (tail_is g c) (whole g c) in
+    let stand = stands g.C.Checksum.sum_of old.bytes.items (head g c) (item g c) (kept g c) (known g c) c.ranges.pid.fits (tail_is g c) (whole g c) in
+    holds-same g.C.Checksum.sum_of _ _ (old.bytes.items ++ more) _ old.from _ (old.reserved.items ++ reserved g c ∷ []) _ H (bytes_are g c) (c.append.ensures.from ∙ c.make_room.ensures.from) (reserved_are g c)
+    (holds-append g.C.Checksum.sum_of (state_of (g.D.Device.trace c.args.self.now.config.device)).log c.args.self.now.fault old.bytes.items old.from old.reserved.items H holds more (reserved g c)
+    old.begun old.behind old.within refl (sym long) refl stand)
+
+pub returns-clause-ticket : goal.returns-clause-ticket
+returns-clause-ticket g c =
+    let old = c.args.self.now.buffer in
+    record {
+      reserved = reserved g c;
+      there = ap (λ (l : List Reserved). slice_get l (index_of c.new-2.result)) (reserved_are g c)
+          ∙ ap (slice_get (old.reserved.items ++ reserved g c ∷ [])) (c.new-2.ensures.index ∙ index_is g c)
+          ∙ there_last old.reserved.items (reserved g c);
+      own = record { open_yet = refl; place = let number : place_of c.new-2.result ≡ pos c.len-place.result = search rules in number ∙ ap pos (place_is g c); pointer = c.new-2.ensures.pointer ∙ ap Inline (place_is g c) };
+      message = message_is g.C.Checksum.sum_of old.bytes.items (head g c) (item g c) (kept g c) (known g c) c.ranges.pid.fits (tail_is g c) (whole g c)
+          ∙ ap (λ (l : List ℕ). message_in l (reserved g c)) (sym (bytes_are g c));
+    }
+
+pub returns-clause-others : goal.returns-clause-others
+returns-clause-others g c = λ ticket m awaits.
+    let old = c.args.self.now.buffer in
+    let r : Reserved = awaits.reserved in
+    let more : List ℕ = placeholder_head (head g c) ++ item g c in
+    let within = at_there (λ x. x.from + x.len ≤ length old.bytes.items) old.reserved.items (index_of ticket) r awaits.there old.within in
+    let headed = at_there (λ x. (5 ≤ x.header_len) × (x.header_len ≤ x.len)) old.reserved.items (index_of ticket) r awaits.there old.headed in
+    record {
+      reserved = r;
+      there = ap (λ (l : List Reserved). slice_get l (index_of ticket)) (reserved_are g c) ∙ there_append old.reserved.items (reserved g c ∷ []) (index_of ticket) r awaits.there;
+      own = awaits.own;
+      message = awaits.message
+          ∙ ap (λ (l : List ℕ). record (message_in old.bytes.items r) { bytes = l }) (sym (body-append old.bytes.items more r within headed.1))
+          ∙ ap (λ (l : List ℕ). message_in l r) (sym (bytes_are g c));
+    }

@@ -1,0 +1,71 @@
+-- What a reader finds at an offset of the log file.
+use Rattle.std.specs.Prelude.{◌≡◌, ◌≢◌, ◌⊎◌, ◌+◌, ◌%◌, ◌≤◌, ℕ, Bool, true, false, List, ◌++◌, length, drop, Some}
+use Rattle.sled_codec.specs.declared.serialization.message.MessageHeader.{MessageHeader}
+use Rattle.sled_codec.specs.declared.serialization.message.MessageKind.{MessageKind}
+use Rattle.sled_codec.specs.declared.serialization.message.MessageKind.TheVariants as kind
+use Rattle.sled_codec.specs.declared.result.DiskPtr.{DiskPtr}
+use Rattle.sled_codec.specs.declared.result.DiskPtr.TheVariants as ptr
+use Rattle.sled_codec.specs.Kinds.{kind_written}
+use Rattle.sled_codec.specs.History.{Message}
+use Rattle.sled_codec.specs.Sums.{flipped}
+use Rattle.sled_codec.specs.Spelling.{SpellsMessageHeader, SpellsSigned}
+use Rattle.sled_codec.specs.Places.{part}
+use Rattle.sled_core.specs.declared.reading.LogRead.{LogRead}
+use Rattle.sled_core.specs.declared.reading.LogRead.TheVariants.{Inline, Blob, Canceled, Cap, Corrupted, DanglingBlob, BatchManifest}
+
+-- A record of this header and this body stands at an offset of the log, whole within its slot and the file, and it is of this segment.
+pub record StandsAt (sum : List ℕ → ℕ) (size : ℕ) (log : List ℕ) (lid number : ℕ) (h : MessageHeader) (body : List ℕ) (len : ℕ) : Type 0 where
+  pub header : List ℕ
+  pub spelled : SpellsMessageHeader header h
+  pub is : part log lid len ≡ header ++ body
+  pub counted : h.len ≡ length body
+  pub numbered : h.segment_number.0 ≡ number
+  pub summed : h.crc32 ≡ flipped (sum (body ++ drop 4 header))
+  pub valid : h.kind ≢ kind.Corrupted
+  pub in_file : lid + len ≤ length log
+  pub in_slot : lid % size + len ≤ size
+
+-- its item stands in the record
+abbrev pub is_inline : MessageKind → Bool
+is_inline kind.Free = true
+is_inline kind.Counter = true
+is_inline kind.InlineMeta = true
+is_inline kind.InlineNode = true
+is_inline kind.InlineLink = true
+is_inline _ = false
+
+-- its item is a blob
+abbrev pub is_blob : MessageKind → Bool
+is_blob kind.BlobMeta = true
+is_blob kind.BlobNode = true
+is_blob kind.BlobLink = true
+is_blob _ = false
+
+-- What is read is what stands there. There are no blobs yet, so each is missing.
+abbrev pub IsReading : (List ℕ → ℕ) → ℕ → List ℕ → ℕ → ℕ → LogRead → Type 0
+IsReading sum size log lid number (Inline h bytes len) = StandsAt sum size log lid number h bytes.items len × (is_inline h.kind ≡ true)
+IsReading sum size log lid number (Blob h bytes place len) = ⊥
+IsReading sum size log lid number (Canceled len) = (h : MessageHeader) × (body : List ℕ) × StandsAt sum size log lid number h body len × (h.kind ≡ kind.Canceled)
+IsReading sum size log lid number (Cap segment) = (h : MessageHeader) × (body : List ℕ) × (len : ℕ) × StandsAt sum size log lid number h body len × (h.kind ≡ kind.Cap) × (segment.0 ≡ number)
+IsReading sum size log lid number Corrupted = (h : MessageHeader) (body : List ℕ) (len : ℕ) → StandsAt sum size log lid number h body len → ⊥
+IsReading sum size log lid number (DanglingBlob h place len) = (body : List ℕ) × StandsAt sum size log lid number h body len × (is_blob h.kind ≡ true) × SpellsSigned body place
+IsReading sum size log lid number (BatchManifest peg len) = (h : MessageHeader) × (body : List ℕ) × StandsAt sum size log lid number h body len × (h.kind ≡ kind.BatchManifest) × SpellsSigned body peg
+
+-- A record stands there whose body has to be a place, and has not the eight bytes of one.
+pub record IsMalformed (sum : List ℕ → ℕ) (size : ℕ) (log : List ℕ) (lid number : ℕ) : Type 0 where
+  pub header : MessageHeader
+  pub body : List ℕ
+  pub len : ℕ
+  pub stands : StandsAt sum size log lid number header body len
+  pub kind : (is_blob header.kind ≡ true) ⊎ (header.kind ≡ kind.BatchManifest)
+  pub not_eight : length body ≢ 8
+
+-- The message is given: its kind, its page and its item, and how long its record is.
+abbrev pub GivesMessage : Message → LogRead → Type 0
+GivesMessage m (Inline h bytes len) = (kind_written m.kind m.page false ≡ Some h.kind) × (h.pid ≡ m.page) × (bytes.items ≡ m.bytes) × (len ≡ m.size)
+GivesMessage m _ = ⊥
+
+-- the item stands in the record
+abbrev pub IsInline : DiskPtr → Type 0
+IsInline (ptr.Inline lid) = Unit {0}
+IsInline (ptr.Blob lid place) = ⊥
