@@ -1,5 +1,6 @@
 pub mod Fronts
 pub mod HeaderFronts
+pub mod Pairs
 pub mod Records
 pub mod Segments
 pub mod Tables

@@ -3,6 +3,8 @@ pub mod Errors
 pub mod HeaderLaws
 pub mod History
 pub mod Kinds
+pub mod OptionLaws
+pub mod PairLaws
 pub mod Places
 pub mod Pointers
 pub mod Record

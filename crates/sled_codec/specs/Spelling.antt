@@ -1,6 +1,6 @@
 -- The grammar of the formats. A spelling relates a whole text, a list of bytes, to the value that it stands for.
 -- The short spelling is the one that is written. A number may have longer ones, which are read all the same.
-use Rattle.std.specs.Prelude.{◌≡◌, ◌+◌, ◌-◌, ◌*◌, ◌/◌, ◌%◌, ◌^◌, ◌<◌, ℕ, ℤ, if◌then◌else◌, nat_le, nat_lt, ◌==◌, List, [], ◌∷◌, ◌++◌, length, take, slice_index, FitsSigned}
+use Rattle.std.specs.Prelude.{◌≡◌, ◌+◌, ◌-◌, ◌*◌, ◌/◌, ◌%◌, ◌^◌, ◌<◌, ℕ, ℤ, if◌then◌else◌, nat_le, nat_lt, ◌==◌, List, [], ◌∷◌, ◌++◌, length, take, slice_index, FitsSigned, Bool, true, false, Option, None, Some, pos, negsuc}
 use Rattle.std.specs.Int.{w64, to_le_bytes, from_le_bytes, cast_unsigned}
 use Rattle.sled_codec.specs.declared.serialization.message.MessageHeader.{MessageHeader}
 use Rattle.sled_codec.specs.declared.serialization.message.MessageKind.{MessageKind}
@@ -101,3 +101,39 @@ pub record FitsMessageHeader (h : MessageHeader) : Type 0 where
   pub len : h.len < 2 ^ 64
   pub number : h.segment_number.0 < 2 ^ 64
   pub page : h.pid < 2 ^ 64
+
+-- Parts.
+
+-- one spelling, and another behind it
+pub record SpellsPair {V W : Type 0} (A : List ℕ → V → Type 0) (B : List ℕ → W → Type 0) (text : List ℕ) (v : V) (w : W) : Type 0 where
+  pub first : List ℕ
+  pub second : List ℕ
+  pub front : A first v
+  pub back : B second w
+  pub is : text ≡ first ++ second
+
+-- Numbers with a place for none.
+
+-- a flag: any byte but 0 is true
+pub record SpellsBool (text : List ℕ) (v : Bool) : Type 0 where
+  pub byte : ℕ
+  pub is : text ≡ byte ∷ []
+  pub value : v ≡ (if byte == 0 then false else true)
+
+abbrev pub short_bool : Bool → List ℕ
+short_bool v = (if v then 1 else 0) ∷ []
+
+-- the number that is written for one that may be missing
+abbrev pub or_zero : Option ℕ → ℕ
+or_zero None = 0
+or_zero (Some v) = v + 1
+
+abbrev pub or_zero_signed : Option ℤ → ℤ
+or_zero_signed None = pos 0
+or_zero_signed (Some (pos n)) = pos (n + 1)
+or_zero_signed (Some (negsuc n)) = negsuc n
+
+-- three spellings, one behind another
+abbrev pub SpellsTriple : {V W X : Type 0} → (List ℕ → V → Type 0) → (List ℕ → W → Type 0) → (List ℕ → X → Type 0) → List ℕ → V → W → X → Type 0
+SpellsTriple {V} {W} {X} A B C text v w x =
+    SpellsPair (λ (t : List ℕ) (both : V × W). SpellsPair A B t both.0 both.1) C text (v, w) x

@@ -12,8 +12,10 @@ pub mod checksum;
 pub mod laws;
 pub mod message;
 pub mod number;
+pub mod option;
 pub mod record;
 pub mod segment;
+pub mod tuple;
 
 pub use checksum::{Checksum, PlaceSum};
 pub use message::{LogKind, MessageHeader, MessageKind, SegmentNumber};
