@@ -1,5 +1,5 @@
 -- Equality of errors is lawful, and each error equals itself.
-use Rattle.std.specs.Prelude.{◌≡◌, Bool, true, nat_eq}
+use Rattle.std.specs.Prelude.{◌≡◌, Bool, nat_eq}
 use Rattle.std.specs.Cmp.{IsEquivalence, IsPartialEquivalence, partial_equiv_from_equiv, and_equiv, on_equiv, nat_eq_equiv, int_eq_equiv}
 use Rattle.std.specs.Cmp.Lexicographic.{pointwise, lists_equiv, options_equiv}
 use Rattle.std.specs.Option.{option_eq}

@@ -6,6 +6,7 @@ pub mod Kinds
 pub mod OptionLaws
 pub mod PairLaws
 pub mod Places
+pub mod PointerLaws
 pub mod Pointers
 pub mod Record
 pub mod Seen

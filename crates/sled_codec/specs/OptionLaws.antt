@@ -1,5 +1,5 @@
 -- The laws of flags, and of numbers that may be missing.
-use Rattle.std.specs.Prelude.{◌≡◌, ℕ, ℤ, zero, suc, pos, negsuc, Bool, true, false, Option, None, Some, List, [], ◌∷◌, ◌++◌, length, refl, if◌then◌else◌, ◌==◌, ◌+◌}
+use Rattle.std.specs.Prelude.{◌≡◌, ℕ, ℤ, pos, negsuc, Bool, true, false, Option, None, Some, List, [], ◌∷◌, ◌++◌, length, refl, if◌then◌else◌, ◌==◌, ◌+◌}
 use Rattle.std.proofs.Common.{sym, ◌∙◌, ap, arith}
 use Rattle.sled_codec.specs.Spelling.{SpellsBool, short_bool, SpellsNumber, or_zero, SpellsSigned, or_zero_signed}
 use Rattle.sled_codec.specs.SpellingLaws.{same_fronts, one_value-number, one_value-signed}

@@ -1,7 +1,7 @@
 -- The laws of two spellings, one behind the other, from those of the parts.
 use Rattle.std.specs.Prelude.{◌≡◌, ℕ, List, [], ◌++◌, refl}
 use Rattle.std.proofs.Common.{sym, ◌∙◌, ap, append_assoc}
-use Rattle.sled_codec.specs.Spelling.{SpellsPair}
+use Rattle.sled_codec.specs.Spelling.{SpellsPair, SpellsBoth, SpellsTriple}
 use Rattle.sled_codec.specs.SpellingLaws.{same_rests}
 
 -- a spelling stands for one value
@@ -44,3 +44,19 @@ module _ {V W : Type 0} (A : List ℕ → V → Type 0) (B : List ℕ → W → 
       let firsts = one_first-pair one_a text v.0 w.0 v.1 w.1 p q in
       let seconds = one_second-pair one_b text v.0 w.0 v.1 w.1 p q in
       λ i. (firsts i, seconds i)
+
+  pub no_front-both : NoFront B → NoFront (SpellsBoth A B)
+  no_front-both no_front_b a b x y v w = no_front-pair no_front_b a b x y v.0 w.0 v.1 w.1
+
+-- Three spellings.
+module _ {V W X : Type 0} (A : List ℕ → V → Type 0) (B : List ℕ → W → Type 0) (C : List ℕ → X → Type 0) (no_front_a : NoFront A) (no_front_b : NoFront B) where
+  pub no_front-triple : NoFront C → (a b x y : List ℕ) (v w : V × W × X) → SpellsTriple A B C a v.0 v.1 v.2 → SpellsTriple A B C b w.0 w.1 w.2 → a ++ x ≡ b ++ y → a ≡ b
+  no_front-triple no_front_c a b x y v w =
+      no_front-pair (SpellsBoth A B) C (no_front-both A B no_front_a no_front_b) no_front_c a b x y (v.0, v.1) (w.0, w.1) v.2 w.2
+
+  pub one_value-triple : OneValue A → OneValue B → OneValue C → (text : List ℕ) (v w : V × W × X) → SpellsTriple A B C text v.0 v.1 v.2 → SpellsTriple A B C text w.0 w.1 w.2 → v ≡ w
+  one_value-triple one_a one_b one_c text v w p q =
+      let both = no_front-both A B no_front_a no_front_b in
+      let firsts = one_first-pair (SpellsBoth A B) C both (one_value-both A B no_front_a one_a one_b) text (v.0, v.1) (w.0, w.1) v.2 w.2 p q in
+      let thirds = one_second-pair (SpellsBoth A B) C both one_c text (v.0, v.1) (w.0, w.1) v.2 w.2 p q in
+      λ i. ((firsts i).0, (firsts i).1, thirds i)

@@ -4,6 +4,8 @@ use Rattle.std.specs.Prelude.{◌≡◌, ◌+◌, ◌-◌, ◌*◌, ◌/◌, ◌
 use Rattle.std.specs.Int.{w64, to_le_bytes, from_le_bytes, cast_unsigned}
 use Rattle.sled_codec.specs.declared.serialization.message.MessageHeader.{MessageHeader}
 use Rattle.sled_codec.specs.declared.serialization.message.MessageKind.{MessageKind}
+use Rattle.sled_codec.specs.declared.result.DiskPtr.{DiskPtr}
+use Rattle.sled_codec.specs.declared.result.DiskPtr.TheVariants.{Inline, Blob}
 use Rattle.sled_codec.specs.Kinds.{code_of, kind_of}
 
 -- Fixed numbers, the lowest byte first.
@@ -133,7 +135,30 @@ or_zero_signed None = pos 0
 or_zero_signed (Some (pos n)) = pos (n + 1)
 or_zero_signed (Some (negsuc n)) = negsuc n
 
+-- the same of the two values together
+abbrev pub SpellsBoth : {V W : Type 0} → (List ℕ → V → Type 0) → (List ℕ → W → Type 0) → List ℕ → V × W → Type 0
+SpellsBoth A B text both = SpellsPair A B text both.0 both.1
+
 -- three spellings, one behind another
 abbrev pub SpellsTriple : {V W X : Type 0} → (List ℕ → V → Type 0) → (List ℕ → W → Type 0) → (List ℕ → X → Type 0) → List ℕ → V → W → X → Type 0
-SpellsTriple {V} {W} {X} A B C text v w x =
-    SpellsPair (λ (t : List ℕ) (both : V × W). SpellsPair A B t both.0 both.1) C text (v, w) x
+SpellsTriple A B C text v w x = SpellsPair (SpellsBoth A B) C text (v, w) x
+
+-- Pointers: a byte that tells which, and then the offset, and the blob.
+
+-- a byte, and a spelling behind it
+pub record Tagged (byte : ℕ) (Spells : List ℕ → Type 0) (text : List ℕ) : Type 0 where
+  pub rest : List ℕ
+  pub spelled : Spells rest
+  pub is : text ≡ byte ∷ rest
+
+abbrev pub SpellsPointer : List ℕ → DiskPtr → Type 0
+SpellsPointer text (Inline lid) = Tagged 0 (λ rest. SpellsNumber rest lid) text
+SpellsPointer text (Blob lid place) = Tagged 1 (λ rest. SpellsPair SpellsNumber SpellsSigned rest lid place) text
+
+abbrev pub FitsPointer : DiskPtr → Type 0
+FitsPointer (Inline lid) = lid < 2 ^ 64
+FitsPointer (Blob lid place) = (lid < 2 ^ 64) × FitsSigned w64 place
+
+abbrev pub short_pointer : DiskPtr → List ℕ
+short_pointer (Inline lid) = 0 ∷ short_number lid
+short_pointer (Blob lid place) = 1 ∷ (short_number lid ++ short_signed place)

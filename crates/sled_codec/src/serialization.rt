@@ -13,12 +13,13 @@ pub mod laws;
 pub mod message;
 pub mod number;
 pub mod option;
+pub mod pointer;
 pub mod record;
 pub mod segment;
 pub mod tuple;
 
 pub use checksum::{Checksum, PlaceSum};
-pub use message::{LogKind, MessageHeader, MessageKind, SegmentNumber};
+pub use message::{BatchManifest, LogKind, MessageHeader, MessageKind, SegmentNumber};
 pub use segment::SegmentHeader;
 
 /// A type whose values are written as bytes.

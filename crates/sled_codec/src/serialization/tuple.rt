@@ -104,10 +104,18 @@ impl<A: Delimited + Drop, B: Delimited + Drop, C: Serialize> Serialize for (A, B
     }
 
     ghost short_spells = { λ v fits. record {
-        first = A.short v.0 ++ B.short v.1;
-        second = C.short v.2;
-        front = record { first = A.short v.0; second = B.short v.1; front = A.short_spells v.0 fits.0; back = B.short_spells v.1 fits.1; is = refl };
-        back = C.short_spells v.2 fits.2;
-        is = refl;
+      first = A.short v.0 ++ B.short v.1;
+      second = C.short v.2;
+      front = record { first = A.short v.0; second = B.short v.1; front = A.short_spells v.0 fits.0; back = B.short_spells v.1 fits.1; is = refl };
+      back = C.short_spells v.2 fits.2;
+      is = refl;
     } };
+}
+
+impl<A: Delimited + Drop, B: Delimited + Drop, C: Delimited> Delimited for (A, B, C) {
+    ghost use Rattle.sled_codec.specs.PairLaws.{one_value-triple, no_front-triple};
+
+    ghost one_value = { one_value-triple A.Spells B.Spells C.Spells A.no_front B.no_front A.one_value B.one_value C.one_value };
+
+    ghost no_front = { no_front-triple A.Spells B.Spells C.Spells A.no_front B.no_front C.no_front };
 }

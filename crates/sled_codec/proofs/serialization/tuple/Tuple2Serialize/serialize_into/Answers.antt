@@ -1,5 +1,5 @@
 -- The second part is written behind the first one.
-use Rattle.std.proofs.Common.{◌≡◌, ◌≤◌, ◌∙◌, ap, List, ℕ, ◌+◌, arith, length, length-append}
+use Rattle.std.proofs.Common.{◌∙◌, ap, List, ℕ, arith, length-append}
 use Rattle.sled_codec.specs.Written.{written, written_twice}
 use Rattle.sled_codec.proofs.serialization.tuple.Tuple2Serialize.serialize_into.Goals as goal
 
