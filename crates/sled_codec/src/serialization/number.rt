@@ -201,6 +201,10 @@ impl Serialize for u64 {
             return Err(Error::Corruption { at: None });
         }
         let lead = bytes[0];
+        if lead <= 240 {
+            *buf = &bytes[1..];
+            return Ok(lead as u64);
+        }
         let end = 1 + more_bytes(lead);
         if bytes.len() < end {
             return Err(Error::Corruption { at: None });
