@@ -1,3 +1,4 @@
+pub mod Coords
 pub mod ErrorLaws
 pub mod Errors
 pub mod HeaderLaws

@@ -16,11 +16,13 @@ pub mod option;
 pub mod pointer;
 pub mod record;
 pub mod segment;
+pub mod snapshot;
 pub mod tuple;
 
 pub use checksum::{Checksum, PlaceSum};
 pub use message::{BatchManifest, LogKind, MessageHeader, MessageKind, SegmentNumber};
 pub use segment::SegmentHeader;
+pub use snapshot::{PageState, Snapshot};
 
 /// A type whose values are written as bytes.
 pub trait Serialize: Sized {
