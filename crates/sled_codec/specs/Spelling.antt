@@ -6,6 +6,8 @@ use Rattle.sled_codec.specs.declared.serialization.message.MessageHeader.{Messag
 use Rattle.sled_codec.specs.declared.serialization.message.MessageKind.{MessageKind}
 use Rattle.sled_codec.specs.declared.result.DiskPtr.{DiskPtr}
 use Rattle.sled_codec.specs.declared.result.DiskPtr.TheVariants.{Inline, Blob}
+use Rattle.std.specs.declared.num.NonZeroU64.{NonZeroU64}
+use Rattle.std.specs.Int.NonZero.{non_zero_u64_get}
 use Rattle.sled_codec.specs.Kinds.{code_of, kind_of}
 
 -- Fixed numbers, the lowest byte first.
@@ -129,6 +131,11 @@ short_bool v = (if v then 1 else 0) ∷ []
 abbrev pub or_zero : Option ℕ → ℕ
 or_zero None = 0
 or_zero (Some v) = v + 1
+
+-- the number of one that is not 0, or 0
+abbrev pub number_or_zero : Option NonZeroU64 → ℕ
+number_or_zero None = 0
+number_or_zero (Some v) = non_zero_u64_get v
 
 abbrev pub or_zero_signed : Option ℤ → ℤ
 or_zero_signed None = pos 0

@@ -1,13 +1,14 @@
 //! Flags, and numbers that may be missing.
 ghost use Rattle.std.specs.Prelude.{◌≡◌, ◌^◌, ◌<◌, ℕ, ℤ, List, Bool, Option, length, FitsSigned};
 ghost use Rattle.std.specs.Int.{w64};
-ghost use Rattle.sled_codec.specs.Spelling.{SpellsBool, short_bool, SpellsNumber, short_number, or_zero, SpellsSigned, short_signed, or_zero_signed};
+ghost use Rattle.sled_codec.specs.Spelling.{SpellsBool, short_bool, SpellsNumber, short_number, or_zero, number_or_zero, SpellsSigned, short_signed, or_zero_signed};
 ghost use Rattle.sled_codec.specs.OptionLaws.{short_spells-bool, one_value-bool, no_front-bool, one_value-option, one_value-option_signed};
 ghost use Rattle.sled_codec.specs.SpellingLaws.{short_spells-number, no_front-number, short_spells-signed, no_front-signed};
 
 use crate::result::Result;
 use crate::serialization::{Delimited, Serialize};
 use std::alloc::Global;
+use std::num::NonZeroU64;
 
 /// One byte: 0 for false, 1 for true. Any other byte reads as true.
 impl Serialize for bool {
@@ -158,5 +159,59 @@ fn or_zero_signed(value: Option<i64>) -> i64
         None => 0,
         Some(value) if value < 0 => value,
         Some(value) => value + 1,
+    }
+}
+
+/// As a number: 0 where it is missing, and else itself. So it stands for that number.
+impl Serialize for Option<NonZeroU64> {
+    ghost use Rattle.sled_codec.specs.Spelling.{number_or_zero};
+
+    ghost Meaning = { ℕ };
+
+    ghost meaning = { number_or_zero };
+
+    ghost Spells = { SpellsNumber };
+
+    ghost fits = { λ v. v < 2 ^ 64 };
+
+    ghost short = { short_number };
+
+    fn can_serialize(&self) -> bool {
+        number_or_zero(*self).can_serialize()
+    }
+
+    fn serialized_size(&self) -> u64 {
+        number_or_zero(*self).serialized_size()
+    }
+
+    fn serialize_into(&self, buf: &mut [u8], at: usize) -> usize {
+        number_or_zero(*self).serialize_into(buf, at)
+    }
+
+    fn deserialize(alloc: Global, buf: &mut &[u8]) -> Result<Option<NonZeroU64>> {
+        match u64::deserialize(alloc, buf) {
+            Ok(number) => Ok(NonZeroU64::new(number)),
+            Err(e) => Err(e),
+        }
+    }
+
+    ghost short_spells = { short_spells-number };
+}
+
+impl Delimited for Option<NonZeroU64> {
+    ghost use Rattle.sled_codec.specs.SpellingLaws.{one_value-number};
+
+    ghost one_value = { one_value-number };
+
+    ghost no_front = { no_front-number };
+}
+
+// The number that is written.
+fn number_or_zero(value: Option<NonZeroU64>) -> u64
+    ensures { result ≡ number_or_zero value }
+{
+    match value {
+        None => 0,
+        Some(value) => value.get(),
     }
 }

@@ -9,7 +9,7 @@ use std::alloc::Global;
 pub type Entry = (Lsn, DiskPtr, u64);
 
 /// What a page is in the table.
-#[derive(Debug, PartialEq, Drop)]
+#[derive(Debug, Clone, PartialEq, Drop)]
 pub enum PageState {
     /// It was begun.
     Present {
