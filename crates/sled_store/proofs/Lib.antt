@@ -1,3 +1,4 @@
+mod KeptLemmas
 pub mod LogLemmas
 pub mod LooseLemmas
 pub mod MomentLemmas

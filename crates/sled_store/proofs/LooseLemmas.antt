@@ -23,7 +23,7 @@ pub either_false : (a b : Bool) → a || b ≡ false → (a ≡ false) × (b ≡
 either_false false b none = (refl, none)
 either_false true b none = absurd (cc)
 
-or-false : (a : Bool) → a || false ≡ a
+pub or-false : (a : Bool) → a || false ≡ a
 or-false true = refl
 or-false false = refl
 

@@ -3,6 +3,7 @@ pub mod Device
 pub mod Due
 pub mod Durable
 pub mod Memory
+pub mod MemoryNames
 pub mod Moments
 pub mod Noted
 pub mod Script

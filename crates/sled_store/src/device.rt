@@ -9,6 +9,7 @@ pub mod choice;
 mod faults;
 pub mod laws;
 mod mem_log;
+mod mem_names;
 pub mod memory;
 mod story;
 

@@ -1,0 +1,50 @@
+-- What files under names in memory stand for.
+use Rattle.std.specs.Prelude.{◌≡◌, ◌||◌, ◌<◌, ◌+◌, ℕ, ℤ, length, drop, slice_index_or, Bool, false, true, if◌then◌else◌, List, [], ◌∷◌, None, Some}
+use Rattle.std.specs.Ordering.{int_eq}
+use Rattle.sled_store.specs.declared.device.mem_names.Kept.{Kept}
+use Rattle.sled_store.specs.declared.device.mem_names.MemNames.{MemNames}
+use Rattle.sled_store.specs.Device.{NameState, NamesState}
+
+-- no file under the name
+abbrev pub absent : NameState
+absent = record { file = None; is_loose = false }
+
+abbrev pub state_kept : Kept → NameState
+state_kept kept = record { file = Some kept.bytes.items; is_loose = kept.is_loose }
+
+-- The states of a name with a file made on top, and removed where it is gone. One that was settled has none below.
+abbrev pub upon : List NameState → Kept → List NameState
+upon was kept = if kept.is_gone then absent ∷ state_kept kept ∷ (if kept.is_settled then [] else was) else state_kept kept ∷ (if kept.is_settled then [] else was)
+
+-- the states of a name, the latest first, where these came before
+abbrev pub history : ℤ → List NameState → List Kept → List NameState
+history n was [] = was
+history n was (k ∷ kept) = history n (if int_eq k.name n then upon was k else was) kept
+
+-- a file was made under the name
+abbrev pub has_name : List Kept → ℤ → Bool
+has_name [] n = false
+has_name (k ∷ kept) n = int_eq k.name n || has_name kept n
+
+-- What is kept once names are settled: of each name the latest file, where it isn't gone.
+abbrev pub settled_kept : List Kept → List Kept
+settled_kept [] = []
+settled_kept (k ∷ kept) = if k.is_gone || has_name kept k.name then settled_kept kept else record k { is_settled = true } ∷ settled_kept kept
+
+-- at k the latest file is kept that was made under the name
+pub record IsLast (kept : List Kept) (name : ℤ) (k : ℕ) : Type 0 where
+  pub there : k < length kept
+  pub named : (d : Kept) → (slice_index_or kept k d).name ≡ name
+  pub last : has_name (drop (k + 1) kept) name ≡ false
+
+-- at k the file is kept that is under the name
+pub record IsCurrent (kept : List Kept) (name : ℤ) (k : ℕ) : Type 0 where
+  pub there : k < length kept
+  pub named : (d : Kept) → (slice_index_or kept k d).name ≡ name
+  pub stays : (d : Kept) → (slice_index_or kept k d).is_gone ≡ false
+  pub last : has_name (drop (k + 1) kept) name ≡ false
+
+-- What is kept of files under names is this state of them.
+pub record Keeps (names : MemNames) (s : NamesState) : Type 0 where
+  pub states : (n : ℤ) → history n (absent ∷ []) names.kept.items ≡ record { file = s.file n; is_loose = s.is_loose n } ∷ s.earlier n
+  pub whole : (n : ℤ) → s.half_done n ≡ []
