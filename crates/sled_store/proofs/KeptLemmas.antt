@@ -90,6 +90,15 @@ file-top names s n keeps = sym (ap top_file (keeps.states n))
 pub file-current : (names : MemNames) (s : NamesState) (name : ℤ) (k : ℕ) (d : Kept) → Keeps names s → IsCurrent names.kept.items name k → s.file name ≡ Some (get_or names.kept.items k d).bytes.items
 file-current names s name k d keeps current = file-top names s name keeps ∙ ap top_file (history-current name base names.kept.items k d current)
 
+some_kept : (xs : List Kept) → 0 < length xs → Kept
+some_kept [] some = absurd (omega arith)
+some_kept (x ∷ xs) some = x
+
+pub file-there : (names : MemNames) (s : NamesState) (name : ℤ) (k : ℕ) → Keeps names s → IsCurrent names.kept.items name k → is_some (s.file name) ≡ true
+file-there names s name k keeps current =
+    let some : 0 < length names.kept.items = omega (arith, current.there) in
+    ap is_some (file-current names s name k (some_kept names.kept.items some) keeps current)
+
 -- the states of a name, where b says whether it is the one that has a new state on top
 abbrev Renamed : MemNames → MemNames → NamesState → NameState → ℤ → Bool → Type 0
 Renamed names new s top n b = history n base new.kept.items

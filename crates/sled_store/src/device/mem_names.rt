@@ -3,7 +3,7 @@
 //! Each file that was made since names were last settled is kept in its turn, with what became of it, so
 //! that a removal wants no memory. Its clauses say that where it stands for a state, it stands for the
 //! next one after each call (`specs/MemoryNames.antt`).
-ghost use Rattle.std.specs.Prelude.{◌≡◌, ◌↔◌, ℤ, [], None, Some, IsSome, IfOk, IfSome, OnOk, OnErr, MatchOption, Contains, true, false, List, ℕ, ◌∷◌, ◌++◌, length, vec_len, vec_capacity, not, if◌then◌else◌, ◌<◌, ◌≤◌, ◌+◌, ◌-◌, ◌||◌, take, drop, slice_index_or, IfErr};
+ghost use Rattle.std.specs.Prelude.{◌≡◌, ◌↔◌, ℤ, [], None, Some, IsSome, IfOk, IfSome, OnOk, OnErr, MatchOption, Contains, true, false, List, ℕ, ◌∷◌, ◌++◌, length, vec_len, vec_capacity, not, is_some, if◌then◌else◌, ◌<◌, ◌≤◌, ◌+◌, ◌-◌, ◌||◌, take, drop, slice_index_or, IfErr};
 ghost use Rattle.std.specs.Ordering.{int_cmp, int_eq};
 ghost use Rattle.std.specs.BTreeSet.{contains};
 ghost use Rattle.std.specs.List.Sorted.{IsStrictlySortedBy};
@@ -58,6 +58,16 @@ impl MemNames {
                 Some(k)
             }
             None => None,
+        }
+    }
+
+    // Whether a file is under a name.
+    pub(crate) fn has(&self, name: i64) -> bool
+        ensures { (s : NamesState) → Keeps self.now s → result ≡ is_some (s.file name) }
+    {
+        match self.find(name) {
+            Some(_) => true,
+            None => false,
         }
     }
 
