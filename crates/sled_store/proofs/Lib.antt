@@ -1,3 +1,4 @@
+mod CrashLogLemmas
 mod KeptLemmas
 pub mod LogLemmas
 pub mod LooseLemmas

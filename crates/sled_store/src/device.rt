@@ -7,6 +7,7 @@ ghost use Rattle.sled_store.specs.Device.{Trace, state_of, Wrote, Cut, Synced, B
 ghost use Rattle.sled_store.specs.Answers.{Counts, Fails, FailsOr, FailsOrSays, FailsWantsOrSays, Does};
 
 pub mod choice;
+mod crash_log;
 mod faults;
 pub mod laws;
 mod mem_log;
