@@ -1,4 +1,5 @@
 mod CrashLogLemmas
+mod CrashNamesLemmas
 mod KeptLemmas
 pub mod LogLemmas
 pub mod LooseLemmas

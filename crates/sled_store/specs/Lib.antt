@@ -1,4 +1,5 @@
 pub mod Answers
+pub mod Chosen
 pub mod Device
 pub mod Due
 pub mod Durable

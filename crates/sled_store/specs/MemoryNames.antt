@@ -31,6 +31,18 @@ abbrev pub settled_kept : List Kept → List Kept
 settled_kept [] = []
 settled_kept (k ∷ kept) = if k.is_gone || has_name kept k.name then settled_kept kept else record k { is_settled = true } ∷ settled_kept kept
 
+-- The states of a name once all was lost that wasn't settled: the file that was, where there was one.
+abbrev pub lost_upon : List NameState → Kept → List NameState
+lost_upon was kept = if kept.is_settled then record { file = Some (if kept.is_loose then [] else kept.bytes.items); is_loose = false } ∷ [] else was
+
+abbrev pub lost_history : ℤ → List NameState → List Kept → List NameState
+lost_history n was [] = was
+lost_history n was (k ∷ kept) = lost_history n (if int_eq k.name n then lost_upon was k else was) kept
+
+-- its bytes are settled
+abbrev pub firm_kept : Kept → Kept
+firm_kept kept = record kept { is_loose = false }
+
 -- at k the latest file is kept that was made under the name
 pub record IsLast (kept : List Kept) (name : ℤ) (k : ℕ) : Type 0 where
   pub there : k < length kept

@@ -7,7 +7,9 @@ ghost use Rattle.sled_store.specs.Device.{Trace, state_of, Wrote, Cut, Synced, B
 ghost use Rattle.sled_store.specs.Answers.{Counts, Fails, FailsOr, FailsOrSays, FailsWantsOrSays, Does};
 
 pub mod choice;
+pub mod crash_device;
 mod crash_log;
+mod crash_names;
 mod faults;
 pub mod laws;
 mod mem_log;
