@@ -1,3 +1,4 @@
+mod CrashLemmas
 mod CrashLogLemmas
 mod CrashNamesLemmas
 mod KeptLemmas

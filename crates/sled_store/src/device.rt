@@ -9,6 +9,7 @@ ghost use Rattle.sled_store.specs.Answers.{Counts, Fails, FailsOr, FailsOrSays, 
 pub mod choice;
 pub mod crash_device;
 mod crash_log;
+mod crash_memory;
 mod crash_names;
 mod faults;
 pub mod laws;

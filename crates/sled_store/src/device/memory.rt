@@ -18,13 +18,13 @@ use std::io;
 /// A device in memory. Any call of it can be made to fail.
 #[derive(Drop)]
 pub struct MemDevice {
-    story: Story,
-    log: MemLog,
-    blobs: MemNames,
-    snapshots: MemNames,
+    pub(crate) story: Story,
+    pub(crate) log: MemLog,
+    pub(crate) blobs: MemNames,
+    pub(crate) snapshots: MemNames,
     // The snapshot that has no number yet.
-    temporary: Vec<u8>,
-    faults: Faults,
+    pub(crate) temporary: Vec<u8>,
+    pub(crate) faults: Faults,
     alloc: Global,
     ghost stands: { Stands log (state_of story.events).log },
     ghost keeps_blobs: { Keeps blobs (state_of story.events).blobs },
