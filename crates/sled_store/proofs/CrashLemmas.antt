@@ -1,5 +1,5 @@
 -- A patched content may be left exactly where its log may: both ends of what names may be are always among what a crash may leave of them.
-use Rattle.std.proofs.Common.{◌≡◌, ◌<◌, ◌↔◌, ℕ, List, length, All}
+use Rattle.std.proofs.Common.{◌<◌, ◌↔◌, ℕ, List, length, All}
 use Rattle.sled_store.specs.Device.{Trace, state_of, poked, LeavesLog, Settled, Latest}
 use Rattle.sled_store.specs.Chosen.{MayBeLeft}
 use Rattle.sled_store.proofs.SettledLemmas.{name_settled_left, name_read_left}

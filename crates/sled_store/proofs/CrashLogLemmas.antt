@@ -1,10 +1,10 @@
 -- A patched content passes the test of a log file in memory exactly where a crash may leave it.
-use Rattle.std.proofs.Common.{◌≡◌, ◌≤◌, ◌<◌, ◌||◌, ◌&&◌, ◌==◌, ◌↔◌, ℕ, Bool, true, false, not, if◌then◌else◌, nat_lt, nat_le, List, [], ◌∷◌, length, get_or, set, IsTrue, refl, sym, ◌∙◌, ap, subst, arith, length-set, All, eqb, ltb}
+use Rattle.std.proofs.Common.{◌≡◌, ◌≤◌, ◌<◌, ◌||◌, ◌&&◌, ◌==◌, ◌↔◌, ℕ, Bool, true, false, not, if◌then◌else◌, nat_lt, List, [], ◌∷◌, length, get_or, set, IsTrue, refl, sym, ◌∙◌, ap, subst, arith, length-set, All, ltb, MatchBool}
 use Rattle.std.proofs.lemmas.Bool.Decides.{Decides-eqb, Decides-ltb, Decides-by_and}
 use Rattle.std.proofs.lemmas.List.{get_or-set_other}
 use Rattle.sled_store.specs.declared.device.mem_log.MemLog.{MemLog}
 use Rattle.sled_store.specs.Device.{LogState, LeavesLog, poked}
-use Rattle.sled_store.specs.Memory.{Stands, is_within, is_loose_at, are_in, are_kept}
+use Rattle.sled_store.specs.Memory.{Stands, is_loose_at, are_in, are_kept}
 use Rattle.sled_store.proofs.LooseLemmas.{either_false}
 
 pub length-poked : (bytes : List ℕ) (patch : List (ℕ × ℕ)) → length (poked bytes patch) ≡ length bytes
@@ -115,3 +115,32 @@ pub rest_fits : (bytes settled after : List ℕ) (back taken : Bool) (patch : Li
 rest_fits bytes settled after back false patch n bytes_fit settled_fit is = settled_fit
 rest_fits bytes settled after true true patch n bytes_fit settled_fit is = omega (arith, ap length (is refl), length-poked settled patch)
 rest_fits bytes settled after false true patch n bytes_fit settled_fit is = omega (arith, ap length (is refl), length-poked bytes patch)
+
+-- An offered content passes its test exactly where a crash may leave it.
+pub offered-iff : (log : MemLog) (s : LogState) (offered : List ℕ) (result : Bool) → Stands log s → s.least ≤ length offered → length offered ≤ s.most
+    → MatchBool result ((i : ℕ) → i < length offered → is_loose_at log.loose.items log.cut i || get_or offered i 0 == get_or log.bytes.items i 0 ≡ true)
+    ((i : ℕ) × (i < length offered) × (is_loose_at log.loose.items log.cut i || get_or offered i 0 == get_or log.bytes.items i 0 ≡ false))
+    → IsTrue result ↔ LeavesLog s offered
+offered-iff log s offered true stands least most firm = (
+  λ _. record {
+    no_shorter = least;
+    no_longer = most;
+    kept = λ i low is_firm.
+        let here : is_loose_at log.loose.items log.cut i ≡ false = sym (stands.loose i (omega arith)) ∙ is_firm in
+        (Decides-eqb (get_or offered i 0) (get_or log.bytes.items i 0)).0 (firm_equal (is_loose_at log.loose.items log.cut i) (get_or offered i 0 == get_or log.bytes.items i 0) (firm i low) here)
+        ∙ ap (λ (xs : List ℕ). get_or xs i 0) stands.bytes;
+  },
+  λ _. refl,
+)
+offered-iff log s offered false stands least most broken =
+    let i = broken.0 in
+    let parts = either_false (is_loose_at log.loose.items log.cut i) (get_or offered i 0 == get_or log.bytes.items i 0) broken.2 in (
+      λ h. absurd (cc),
+      λ leaves.
+          let firm = stands.loose i (omega (arith, broken.1)) ∙ parts.0 in
+          let same = leaves.kept i broken.1 firm ∙ sym (ap (λ (xs : List ℕ). get_or xs i 0) stands.bytes) in
+          absurd (clash ((Decides-eqb (get_or offered i 0) (get_or log.bytes.items i 0)).1 same) parts.1),
+    )
+  where
+    clash : {b : Bool} → b ≡ true → b ≡ false → ⊥
+    clash is not_is = cc

@@ -1,5 +1,5 @@
 -- What a change of one kept file makes of the states of its name, and that it leaves those of other names.
-use Rattle.std.proofs.Common.{◌≡◌, ◌≤◌, ◌<◌, ◌+◌, ◌||◌, ℕ, ℤ, Bool, true, false, if◌then◌else◌, List, [], ◌∷◌, ◌++◌, length, take, drop, get_or, set, Option, Some, None, refl, sym, ◌∙◌, ap, subst, arith, add-one, is_some, not, ◌&&◌, IsSome, IfOk, ◌↔◌, Contains, Result, Ok, Err, Vec}
+use Rattle.std.proofs.Common.{◌≡◌, ◌<◌, ◌+◌, ◌||◌, ℕ, ℤ, Bool, true, false, if◌then◌else◌, List, [], ◌∷◌, ◌++◌, length, take, drop, get_or, set, Option, Some, None, refl, sym, ◌∙◌, ap, subst, arith, add-one, is_some, not, ◌&&◌, IsSome, IfOk, ◌↔◌, Contains, Result, Ok, Err, Vec}
 use Rattle.std.specs.Ordering.{int_eq, int_cmp}
 use Rattle.std.proofs.lemmas.Bool.Decides.{Decides-int_eq}
 use Rattle.std.proofs.lemmas.List.{take-append-drop, drop_more, take_more, set_split}
@@ -12,7 +12,7 @@ use Rattle.std.specs.declared.alloc.AllocError.{AllocError}
 use Rattle.sled_store.specs.declared.device.mem_names.Kept.{Kept}
 use Rattle.sled_store.specs.declared.device.mem_names.MemNames.{MemNames}
 use Rattle.sled_store.specs.Device.{NameState, NamesState, renamed, unnamed, file_synced, names_synced}
-use Rattle.sled_store.specs.MemoryNames.{absent, state_kept, upon, history, has_name, settled_kept, IsCurrent, Keeps}
+use Rattle.sled_store.specs.MemoryNames.{absent, state_kept, upon, history, has_name, settled_kept, IsCurrent, IsLast, Keeps}
 use Rattle.sled_store.proofs.LooseLemmas.{either_false, or-true, or-false}
 
 same_name : (n : ℤ) → int_eq n n ≡ true
@@ -56,8 +56,11 @@ history-current name was xs k d current =
     ∙ ap (λ (b : Bool). if b then upon below e else below) (ap (λ (m : ℤ). int_eq m name) (current.named d) ∙ same_name name)
     ∙ ap (λ (b : Bool). if b then absent ∷ state_kept e ∷ (if e.is_settled then [] else below) else state_kept e ∷ (if e.is_settled then [] else below)) (current.stays d)
 
+pub last_of : {xs : List Kept} {name : ℤ} {k : ℕ} → IsCurrent xs name k → IsLast xs name k
+last_of current = record { there = current.there; named = current.named; last = current.last }
+
 -- it is replaced
-pub history-replaced : (name : ℤ) (was : List NameState) (xs : List Kept) (k : ℕ) (y : Kept) → IsCurrent xs name k → y.name ≡ name
+pub history-replaced : (name : ℤ) (was : List NameState) (xs : List Kept) (k : ℕ) (y : Kept) → IsLast xs name k → y.name ≡ name
     → history name was (set xs k y) ≡ upon (history name was (take k xs)) y
 history-replaced name was xs k y current named =
     let below = history name was (take k xs) in
@@ -66,7 +69,7 @@ history-replaced name was xs k y current named =
     ∙ ap (λ (b : Bool). if b then upon below y else below) (ap (λ (m : ℤ). int_eq m name) named ∙ same_name name)
 
 -- then other names stay
-pub history-other : (n name : ℤ) (was : List NameState) (xs : List Kept) (k : ℕ) (y : Kept) → IsCurrent xs name k → y.name ≡ name → int_eq name n ≡ false
+pub history-other : (n name : ℤ) (was : List NameState) (xs : List Kept) (k : ℕ) (y : Kept) → IsLast xs name k → y.name ≡ name → int_eq name n ≡ false
     → history n was (set xs k y) ≡ history n was xs
 history-other n name was xs k y current named other =
     let below = history n was (take k xs) in
@@ -146,9 +149,9 @@ keeps_removed names new s name k e current read written keeps =
     let was : history name base xs ≡ state_kept e ∷ (if e.is_settled then [] else below) =
     history-current name base xs k e current ∙ ap (λ (x : Kept). state_kept x ∷ (if x.is_settled then [] else below)) (sym read) in
     let here : history name base new.kept.items ≡ absent ∷ history name base xs =
-    ap (history name base) written ∙ history-replaced name base xs k gone current named ∙ ap (λ (h : List NameState). absent ∷ h) (sym was) in
+    ap (history name base) written ∙ history-replaced name base xs k gone (last_of current) named ∙ ap (λ (h : List NameState). absent ∷ h) (sym was) in
     let others : (n : ℤ) → int_eq name n ≡ false → history n base new.kept.items ≡ history n base xs =
-    λ n other. ap (history n base) written ∙ history-other n name base xs k gone current named other in
+    λ n other. ap (history n base) written ∙ history-other n name base xs k gone (last_of current) named other in
     subst (λ (o : Option (List ℕ)). Keeps new (if is_some o then renamed s name true absent [] else s)) (sym (file-current names s name k e keeps current))
     (keeps_renamed names new s name absent [] keeps here others)
 
@@ -161,7 +164,7 @@ firmed_at : (names new : MemNames) (s : NamesState) (name : ℤ) (k : ℕ) (firm
     → (n : ℤ) (b : Bool) → int_eq name n ≡ b → Firmed new s n b
 firmed_at names new s name k firm current named written keeps here n true is = subst (λ (m : ℤ). Firmed new s m true) ((Decides-int_eq name n).0 is) here
 firmed_at names new s name k firm current named written keeps here n false is =
-    ap (history n base) written ∙ history-other n name base names.kept.items k firm current named is ∙ keeps.states n
+    ap (history n base) written ∙ history-other n name base names.kept.items k firm (last_of current) named is ∙ keeps.states n
 
 -- the bytes of one were settled
 pub keeps_synced : (names new : MemNames) (s : NamesState) (name : ℤ) (k : ℕ) (e : Kept) → IsCurrent names.kept.items name k → e ≡ get_or names.kept.items k e
@@ -175,7 +178,7 @@ keeps_synced names new s name k e current read written keeps =
     let was : history name base xs ≡ state_kept e ∷ rest =
     history-current name base xs k e current ∙ ap (λ (x : Kept). state_kept x ∷ (if x.is_settled then [] else below)) (sym read) in
     let replaced : history name base new.kept.items ≡ state_kept firm ∷ rest =
-    ap (history name base) written ∙ history-replaced name base xs k firm current named
+    ap (history name base) written ∙ history-replaced name base xs k firm (last_of current) named
     ∙ ap (λ (b : Bool). if b then absent ∷ state_kept firm ∷ rest else state_kept firm ∷ rest) (ap (λ (x : Kept). x.is_gone) read ∙ current.stays e) in
     record {
       states = λ n. firmed_at names new s name k firm current named written keeps (replaced ∙ ap firmed (sym was ∙ keeps.states name)) n (int_eq name n) refl;
@@ -199,6 +202,11 @@ keeps_gone names s name k e there read named gone last keeps =
     ∙ history-none name (then_kept name below e) (drop (k + 1) xs) last
     ∙ ap (λ (b : Bool). if b then upon below e else below) (ap (λ (m : ℤ). int_eq m name) named ∙ same_name name)
     ∙ ap (λ (b : Bool). if b then absent ∷ rest else rest) gone)
+
+-- the states of a name, by one more file
+pub history-take : (n : ℤ) (was : List NameState) (xs : List Kept) (i : ℕ) (e : Kept) → i < length xs → e ≡ get_or xs i e → history n was (take (i + 1) xs) ≡ then_kept n (history n was (take i xs)) e
+history-take n was xs i e there read =
+    ap (history n was) (take_more xs i e there ∙ ap (λ (x : Kept). take i xs ++ x ∷ []) (sym read)) ∙ history-append n was (take i xs) (e ∷ [])
 
 -- Which names have a file, one more file told.
 pub listed_step : (n : ℤ) (had : Bool) (xs : List Kept) (i : ℕ) (e : Kept) → i < length xs → e ≡ get_or xs i e → had ≡ is_some (top_file (history n base (take i xs)))

@@ -1,20 +1,21 @@
 -- The contents that a choice names, of which a crash may leave one.
-use Rattle.std.specs.Prelude.{◌<◌, ℤ, List, length, map}
+use Rattle.std.specs.Prelude.{◌<◌, ◌&&◌, ℤ, Bool, true, int_lt, List, [], ◌∷◌, length, IsTrue}
 use Rattle.std.specs.List.{All}
-use Rattle.std.specs.List.Sorted.{IsStrictlySortedBy}
-use Rattle.std.specs.Ordering.{int_cmp}
 use Rattle.sled_store.specs.declared.device.choice.Choice.{Choice}
 use Rattle.sled_store.specs.Device.{State, Left, Settled, Latest, Given, content_left, Leaves}
 use Rattle.sled_store.specs.Noted.{left_of}
 
-abbrev pub AreAscending : {X : Type 0} → List (ℤ × X) → Type 0
-AreAscending files = IsStrictlySortedBy int_cmp (map (λ f. f.0) files)
+-- each name is below the next
+abbrev pub are_ascending : {X : Type 0} → List (ℤ × X) → Bool
+are_ascending [] = true
+are_ascending (f ∷ []) = true
+are_ascending (f ∷ (g ∷ files)) = int_lt f.0 g.0 && are_ascending (g ∷ files)
 
 -- It names a content: a patch lies within the log, and offered files are in ascending order.
 abbrev pub NamesContent : Left → State → Type 0
 NamesContent (Settled patch) s = All (λ p. p.0 < length s.log.settled) patch
 NamesContent (Latest patch) s = All (λ p. p.0 < length s.log.bytes) patch
-NamesContent (Given log blobs snapshots) s = AreAscending blobs × AreAscending snapshots
+NamesContent (Given log blobs snapshots) s = IsTrue (are_ascending blobs) × IsTrue (are_ascending snapshots)
 
 -- it names a content, and a crash in this state may leave that
 abbrev pub MayBeLeft : Left → State → Type 0

@@ -1,9 +1,10 @@
 -- What files under names in memory stand for.
-use Rattle.std.specs.Prelude.{◌≡◌, ◌||◌, ◌<◌, ◌+◌, ℕ, ℤ, length, drop, slice_index_or, Bool, false, true, if◌then◌else◌, List, [], ◌∷◌, None, Some}
+use Rattle.std.specs.Prelude.{◌≡◌, ◌||◌, ◌<◌, ◌+◌, ℕ, ℤ, length, drop, slice_index_or, Bool, false, true, if◌then◌else◌, List, [], ◌∷◌, None, Some, Option, is_some}
 use Rattle.std.specs.Ordering.{int_eq}
+use Rattle.std.specs.Str.{bytes_eq}
 use Rattle.sled_store.specs.declared.device.mem_names.Kept.{Kept}
 use Rattle.sled_store.specs.declared.device.mem_names.MemNames.{MemNames}
-use Rattle.sled_store.specs.Device.{NameState, NamesState}
+use Rattle.sled_store.specs.Device.{NameState, NamesState, file_named}
 
 -- no file under the name
 abbrev pub absent : NameState
@@ -42,6 +43,23 @@ lost_history n was (k ∷ kept) = lost_history n (if int_eq k.name n then lost_u
 -- its bytes are settled
 abbrev pub firm_kept : Kept → Kept
 firm_kept kept = record kept { is_loose = false }
+
+-- the files of which the names are among these
+abbrev pub kept_among : List (ℤ × List ℕ) → List Kept → List Kept
+kept_among files [] = []
+kept_among files (k ∷ kept) = if is_some (file_named files k.name) then k ∷ kept_among files kept else kept_among files kept
+
+-- whether a crash may leave this under a name, by one state of it, and by any of them
+abbrev pub leaves_file : Option (List ℕ) → Bool → Option (List ℕ) → Bool
+leaves_file None loose None = true
+leaves_file None loose (Some x) = false
+leaves_file (Some bytes) loose None = false
+leaves_file (Some bytes) true (Some x) = true
+leaves_file (Some bytes) false (Some x) = bytes_eq bytes x
+
+abbrev pub leaves_any : List NameState → Option (List ℕ) → Bool
+leaves_any [] left = false
+leaves_any (s ∷ others) left = leaves_file s.file s.is_loose left || leaves_any others left
 
 -- at k the latest file is kept that was made under the name
 pub record IsLast (kept : List Kept) (name : ℤ) (k : ℕ) : Type 0 where

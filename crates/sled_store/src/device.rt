@@ -16,7 +16,9 @@ pub mod laws;
 mod mem_log;
 mod mem_names;
 pub mod memory;
+mod offer;
 mod story;
+mod taken;
 
 use std::io;
 

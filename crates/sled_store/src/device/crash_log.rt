@@ -2,7 +2,8 @@
 //!
 //! A patch is tried in place: its bytes are put in, and then each of them has to be one that may be lost,
 //! or the settled one. It wants no memory.
-ghost use Rattle.std.specs.Prelude.{◌≡◌, ◌↔◌, ◌≤◌, ◌<◌, ◌||◌, ◌&&◌, ◌==◌, if◌then◌else◌, length, slice_index, vec_capacity, IsTrue, true};
+ghost use Rattle.std.specs.Prelude.{◌≡◌, ◌↔◌, ◌≤◌, ◌<◌, ◌||◌, ◌&&◌, ◌==◌, if◌then◌else◌, length, slice_index, vec_capacity, IsTrue, true, false, ℕ};
+ghost use Rattle.std.specs.Bool.{MatchBool};
 ghost use Rattle.std.specs.List.{All};
 ghost use Rattle.sled_store.specs.Device.{LogState, LeavesLog, at_rest, poked};
 ghost use Rattle.sled_store.specs.Memory.{Stands, is_within, is_loose_at, are_in, are_kept};
@@ -22,6 +23,40 @@ impl MemLog {
         put_back(&mut self.bytes, &self.settled, !taken);
         self.rest();
         taken
+    }
+
+    // Leaves what is settled.
+    pub(crate) fn lose(&mut self)
+        requires { (s : LogState) × Stands self.old s }
+        ensures { (s : LogState) → Stands self.old s → Stands self.new (at_rest s.settled) }
+    {
+        put_back(&mut self.bytes, &self.settled, true);
+        self.rest();
+    }
+
+    // Whether a crash may leave these bytes.
+    pub(crate) fn may_leave(&self, offered: &[u8]) -> bool
+        requires { self.now.cut ≤ length self.now.bytes.items }
+        ensures { (s : LogState) → Stands self.now s → IsTrue result ↔ LeavesLog s offered.now }
+    {
+        if offered.len() < self.least {
+            return false;
+        }
+        if offered.len() > self.most {
+            return false;
+        }
+        are_firm(&self.bytes, &self.loose, self.cut, offered)
+    }
+
+    // These bytes are read, and are settled.
+    pub(crate) fn take(&mut self, offered: &[u8])
+        requires room { length offered.now ≤ vec_capacity self.old.bytes }
+        requires settled_room { length offered.now ≤ vec_capacity self.old.settled }
+        ensures { Stands self.new (at_rest offered.now) }
+    {
+        self.bytes.clear();
+        append(&mut self.bytes, offered);
+        self.rest();
     }
 
     // All that is read is settled now.
@@ -140,4 +175,31 @@ pub(super) fn is_lost(loose: &Vec<(usize, usize)>, cut: usize, at: usize) -> boo
         }
     }
     false
+}
+
+// Whether each offered byte is the one that is read, or that may be lost.
+fn are_firm(bytes: &Vec<u8>, loose: &Vec<(usize, usize)>, cut: usize, offered: &[u8]) -> bool
+    requires { cut ≤ length bytes.now.items }
+    ensures { MatchBool result ((i : ℕ) → i < length offered.now → (is_loose_at loose.now.items cut i || slice_index offered.now i == slice_index bytes.now.items i) ≡ true) ((i : ℕ) × (i < length offered.now) × ((is_loose_at loose.now.items cut i || slice_index offered.now i == slice_index bytes.now.items i) ≡ false)) }
+{
+    for i in 0..offered.len() {
+        if !is_firm(bytes, loose, cut, offered, i) {
+            return false;
+        }
+    }
+    true
+}
+
+fn is_firm(
+    bytes: &Vec<u8>,
+    loose: &Vec<(usize, usize)>,
+    cut: usize,
+    offered: &[u8],
+    at: usize,
+) -> bool
+    requires cut { cut ≤ length bytes.now.items }
+    requires inside { at < length offered.now }
+    ensures { result ≡ (is_loose_at loose.now.items cut at || slice_index offered.now at == slice_index bytes.now.items at) }
+{
+    is_lost(loose, cut, at) || offered[at] == bytes[at]
 }

@@ -68,6 +68,18 @@ impl Faults {
         Ok(())
     }
 
+    // No call is to fail any more, or to be stopped within.
+    pub(crate) fn calm(&mut self)
+        ensures count { self.new.count ≡ self.old.count }
+        ensures fails_in { self.new.fails_in ≡ 0 }
+        ensures stops_after { self.new.stops_after ≡ None }
+        ensures stopped { self.new.is_stopped ≡ false }
+    {
+        self.fails_in = 0;
+        self.stops_after = None;
+        self.is_stopped = false;
+    }
+
     // A call that changes or syncs is done, or is stopped within.
     pub(crate) fn end(&mut self) -> io::Result<()>
         ensures stops { IsErr result ↔ (self.old.stops_after ≡ Some 0) }

@@ -72,7 +72,7 @@ impl MemNames {
     }
 
     // Where the latest file is kept that was made under a name.
-    fn last(&self, name: i64) -> Option<usize>
+    pub(super) fn last(&self, name: i64) -> Option<usize>
         ensures { MatchOption result (has_name self.now.kept.items name ≡ false) (λ k. IsLast self.now.kept.items name k) }
     {
         let mut end = self.kept.len();

@@ -1,8 +1,5 @@
 -- Each file in turn has its bytes settled.
-use Rattle.std.proofs.Common.{◌≡◌, ◌<◌, ◌≤◌, ◌∙◌, ◌++◌, sym, ap, List, length, map, take, drop, arith, rules, length-set}
-use Rattle.std.proofs.lemmas.List.{take_all, drop_all, append-nil}
-use Rattle.sled_store.specs.declared.device.mem_names.Kept.{Kept}
-use Rattle.sled_store.specs.MemoryNames.{firm_kept}
+use Rattle.std.proofs.Common.{◌∙◌, rules, length-set}
 use Rattle.sled_store.proofs.CrashNamesLemmas.{firm_step}
 use Rattle.sled_store.proofs.device.crash_names.firm_all.Goals as goal
 

@@ -1,5 +1,5 @@
 -- The patch is taken exactly where a crash may leave it.
-use Rattle.std.proofs.Common.{◌≡◌, ◌≤◌, ◌<◌, ◌∙◌, ◌↔◌, ◌&&◌, ap, sym, subst, ℕ, Bool, true, List, length, if◌then◌else◌, arith, vec_capacity, IsTrue, All}
+use Rattle.std.proofs.Common.{◌≡◌, ◌≤◌, ◌<◌, ◌∙◌, ◌↔◌, ◌&&◌, ap, sym, subst, ℕ, Bool, List, length, if◌then◌else◌, arith, vec_capacity, IsTrue, All}
 use Rattle.sled_store.specs.declared.device.mem_log.MemLog.{MemLog}
 use Rattle.sled_store.specs.Device.{poked, LeavesLog}
 use Rattle.sled_store.specs.Memory.{are_in, are_kept}

@@ -1,5 +1,5 @@
 -- Under a name of which the latest file is gone, or none was made, there is no file.
-use Rattle.std.proofs.Common.{rules, refl, subst, ℤ, ◌≡◌, to_z, of_z, w64}
+use Rattle.std.proofs.Common.{rules, subst, ℤ, ◌≡◌, to_z, of_z, w64}
 use Rattle.sled_store.specs.MemoryNames.{IsLast, has_name}
 use Rattle.sled_store.proofs.KeptLemmas.{keeps_gone, keeps_none}
 use Rattle.std.proofs.Common.{false}

@@ -1,5 +1,5 @@
 -- The names that were told are those that have a file.
-use Rattle.std.proofs.Common.{rules, take, ℤ, ◌≡◌, ◌≤◌, ◌∙◌, ap, List, length, arith, is_some, [], ◌∷◌, IfOk}
+use Rattle.std.proofs.Common.{rules, ◌≡◌, ◌≤◌, ◌∙◌, ap, List, length, arith, is_some, [], ◌∷◌, IfOk}
 use Rattle.std.proofs.lemmas.List.{take_all}
 use Rattle.sled_store.specs.MemoryNames.{absent, history}
 use Rattle.sled_store.specs.declared.device.mem_names.Kept.{Kept}

@@ -1,5 +1,5 @@
 -- Once each file was gone back to or lost, what is left is what was settled.
-use Rattle.std.proofs.Common.{◌≡◌, ◌≤◌, ◌∙◌, sym, ap, ℤ, List, [], ◌∷◌, length, take, drop, arith}
+use Rattle.std.proofs.Common.{◌≤◌, ◌∙◌, sym, ap, List, [], ◌∷◌, length, drop, arith}
 use Rattle.std.proofs.lemmas.List.{take_all, drop_all}
 use Rattle.sled_store.specs.declared.device.mem_names.Kept.{Kept}
 use Rattle.sled_store.specs.MemoryNames.{absent, history, lost_history}

@@ -1,5 +1,5 @@
 -- What is read is the file under the name.
-use Rattle.std.proofs.Common.{rules, subst, ap, sym, ◌∙◌, List, ℕ, ℤ, ◌≡◌, Some, to_z, of_z, w64, get_or}
+use Rattle.std.proofs.Common.{rules, subst, ap, ◌∙◌, List, ℕ, ℤ, ◌≡◌, Some, to_z, of_z, w64, get_or}
 use Rattle.sled_store.specs.declared.device.mem_names.Kept.{Kept}
 use Rattle.sled_store.specs.MemoryNames.{IsCurrent}
 use Rattle.sled_store.proofs.KeptLemmas.{file-current}

@@ -1,7 +1,7 @@
 -- What is removed has no file from now on, and what had none stays so.
 use Rattle.std.proofs.Common.{rules, subst, ℤ, ◌≡◌, to_z, of_z, w64}
 use Rattle.sled_store.specs.MemoryNames.{IsCurrent}
-use Rattle.sled_store.proofs.KeptLemmas.{keeps_removed, keeps_missing}
+use Rattle.sled_store.proofs.KeptLemmas.{keeps_removed}
 use Rattle.sled_store.proofs.device.mem_names.MemNames.remove.Goals as goal
 
 pub returns-in-Some : goal.returns-in-Some

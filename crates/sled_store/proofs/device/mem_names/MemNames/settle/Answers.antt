@@ -1,5 +1,5 @@
 -- Once each file was settled or dropped, the names are settled.
-use Rattle.std.proofs.Common.{◌≡◌, ◌≤◌, ◌++◌, ◌∙◌, sym, ap, List, length, take, drop, arith}
+use Rattle.std.proofs.Common.{◌≤◌, ◌++◌, ◌∙◌, sym, ap, List, length, drop, arith}
 use Rattle.std.proofs.lemmas.List.{take_all, drop_all, append-nil}
 use Rattle.sled_store.specs.declared.device.mem_names.Kept.{Kept}
 use Rattle.sled_store.specs.MemoryNames.{settled_kept}
