@@ -36,15 +36,16 @@ pub struct Log<D, C> {
     buffer: Buffer,
     /// The first failure of the device in this log.
     fault: Option<io::Error>,
-    pins: u64,
+    pins: u32,
     ghost in_segment: { length buffer.bytes.items ≤ config.config.segment_size },
 }
 
 impl<D: Device, C: Checksum> Log<D, C> {
     ghost use Rattle.sled_core.specs.Fits.{Holds, IsDefault, AllEnded, Awaits, IsOpen, HasRoom, IsUnchanged, fault_of, next_place, synced_end, reserved_end, pins_of, config_of, device_of, log_image, manifest_page, segment_size_of, message_for, KeepsAll};
 
-    /// The segment that a place lies in begins with a header. The mark of the first one is the place
-    /// before the log.
+    /// Begins a log on a device with an empty log file. Its one segment begins with a header, whose mark
+    /// is the place before the log. Nothing is written. Where memory is refused, the configuration comes
+    /// back as it was.
     pub fn start(
         config: RunningConfig<D, C>,
         snapshot: &Snapshot,
@@ -99,7 +100,7 @@ impl<D: Device, C: Checksum> Log<D, C> {
     pub fn pins(&self) -> u64
         ensures { result ≡ pins_of self.now }
     {
-        self.pins
+        u64::from(self.pins)
     }
 
     /// The last place of which all up to it is settled on the device; -1 before the first one.
@@ -192,8 +193,8 @@ impl<D: Device, C: Checksum> Log<D, C> {
         ensures faulty { (e : IoError) → fault_of self.old ≡ Some e → self.new ≡ self.old }
         ensures err { OnErr result (synced_end self.new ≡ synced_end self.old) }
     {
-        if let Some(e) = self.fault {
-            return Err(Error::Io(e));
+        if let Some(kept) = self.fault {
+            return Err(Error::Io(kept));
         }
         if self.buffer.reserved.is_empty() {
             return Ok(0);
