@@ -1,6 +1,6 @@
 -- What is written for a message is its record, and a text begins with one record at most.
 use Rattle.std.proofs.Common.{◌≡◌, ◌≢◌, ◌∙◌, sym, ap, ℕ, ◌+◌, ◌^◌, ◌<◌, ◌≤◌, List, ◌++◌, length, take, drop, ◌-◌, refl, arith, append_assoc, length-append, length-drop}
-use Rattle.std.proofs.lemmas.List.{take_at, drop-append-le}
+use Rattle.std.proofs.lemmas.List.{take_at, drop_at, drop-append-le}
 use Rattle.sled_codec.specs.declared.serialization.message.MessageHeader.{MessageHeader}
 use Rattle.sled_codec.specs.declared.serialization.message.MessageKind.{MessageKind}
 use Rattle.sled_codec.specs.declared.serialization.message.MessageKind.TheVariants.{Corrupted}
@@ -112,3 +112,13 @@ module _ (sum : List ℕ → ℕ) (text front rest : List ℕ) (h : MessageHeade
       ap (λ n. take n (drop 4 text)) tail
       ∙ ap (λ (l : List ℕ). take (length (drop 4 front)) l) (ap (drop 4) taken ∙ drop-append-le 4 front rest four)
       ∙ take_at (drop 4 front) rest (length (drop 4 front)) refl
+
+-- turned behind four bytes, the rest of a header and a body are the body and the rest of the header
+pub turned : (x tail body : List ℕ) (head : ℕ) → length x ≡ 4 → head ≡ 4 + length tail → drop head (x ++ tail ++ body) ++ take (head - 4) (drop 4 (x ++ tail ++ body)) ≡ body ++ tail
+turned x tail body head long is =
+    let front : length (x ++ tail) ≡ head = omega (arith, length-append x tail) in
+    let behind : drop 4 (x ++ tail ++ body) ≡ tail ++ body = ap (drop 4) (append_assoc x tail body) ∙ drop_at x (tail ++ body) 4 long in
+    let n : length tail ≡ head - 4 = omega arith in
+    ap (λ (l : List ℕ). l ++ take (head - 4) (drop 4 (x ++ tail ++ body))) (drop_at (x ++ tail) body head front)
+    ∙ ap (λ (l : List ℕ). body ++ take (head - 4) l) behind
+    ∙ ap (λ (l : List ℕ). body ++ l) (take_at tail body (head - 4) n)

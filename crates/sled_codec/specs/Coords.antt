@@ -1,5 +1,5 @@
 -- Where a log goes on after a recovery: the offset in the file, and the place.
-use Rattle.std.specs.Prelude.{◌≡◌, ◌+◌, ◌-◌, ◌*◌, ◌/◌, ◌%◌, ◌^◌, ◌<◌, ◌≤ℤ◌, ℕ, ℤ, pos, Option, None, Some, unsigned_abs}
+use Rattle.std.specs.Prelude.{◌+◌, ◌-◌, ◌*◌, ◌/◌, ◌%◌, ◌^◌, ◌<◌, ◌≤ℤ◌, ℕ, ℤ, pos, Option, None, Some, unsigned_abs}
 
 -- a place, raised to the next multiple of a size
 abbrev pub raised : ℕ → ℕ → ℕ

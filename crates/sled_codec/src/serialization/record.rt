@@ -1,5 +1,5 @@
 //! Which bytes are a record of a message. A plain, slow reading of `IsRecord` in `specs/Record.antt`.
-ghost use Rattle.std.specs.Prelude.{◌≡◌, ◌≢◌, ◌↔◌, ◌++◌, length, IfOk, IsTrue};
+ghost use Rattle.std.specs.Prelude.{◌≡◌, ◌≢◌, ◌↔◌, ◌-◌, ◌≤◌, ◌++◌, length, take, drop, IfOk, IsTrue};
 ghost use Rattle.sled_codec.specs.Record.{IsRecord, Announces};
 ghost use Rattle.sled_codec.specs.Sums.{flipped};
 
@@ -61,4 +61,19 @@ fn flipped_sum<C: Checksum>(alloc: Global, checksum: &C, first: &[u8], second: &
     summed.extend_from_slice(first)?;
     summed.extend_from_slice(second)?;
     Ok(!checksum.sum(&summed))
+}
+
+/// The sum that a record is to carry, of the body and of the header behind its sum, where `head` of its
+/// bytes are the header. The record is turned in place for it, and back, so it takes no memory.
+pub fn sum_in_place<C: Checksum>(checksum: &C, bytes: &mut [u8], head: usize) -> u32
+    requires whole_sum { 4 ≤ head }
+    requires whole_head { head ≤ length bytes.old }
+    ensures sum { result ≡ flipped (C.sum_of (drop head bytes.old ++ take (head - 4) (drop 4 bytes.old))) }
+    ensures same { bytes.new ≡ bytes.old }
+{
+    let behind_sum = &mut bytes[4..];
+    behind_sum.rotate_left(head - 4);
+    let sum = !checksum.sum(behind_sum);
+    behind_sum.rotate_right(head - 4);
+    sum
 }
