@@ -117,8 +117,9 @@ pub record AddsMessage (H : History) (m : Message) (H' : History) : Type 0 where
   pub higher : (x : Message) → Contains after x → m.place < x.place
   pub batches : H'.batches ≡ H.batches
 
--- a batch is noted
+-- a batch is noted, whose peg lies above its own place
 pub record AddsBatch (H : History) (b : Batch) (H' : History) : Type 0 where
+  pub pegged : b.low < b.peg
   pub messages : H'.messages ≡ H.messages
   pub batches : H'.batches ≡ H.batches ++ b ∷ []
 

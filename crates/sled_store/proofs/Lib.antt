@@ -11,6 +11,7 @@ mod OfferLemmas
 pub mod OverwrittenLemmas
 pub mod ScriptLemmas
 pub mod SettledLemmas
+pub mod SyncedLemmas
 mod StandsLemmas
 mod TakenLemmas
 mod Walks

@@ -1,6 +1,6 @@
 -- Bytes of the log, and files under names, that every crash leaves as they are.
 use Rattle.std.specs.Prelude.{◌≡◌, ◌≤◌, ◌<◌, ℕ, ℤ, false, [], length}
-use Rattle.sled_store.specs.Device.{LogState, NamesState}
+use Rattle.sled_store.specs.Device.{LogState, NamesState, Content}
 
 -- nothing in a range was written, grown or cut off since the last sync
 pub record IsDurable (s : LogState) (from to : ℕ) : Type 0 where
@@ -13,3 +13,9 @@ pub record IsSettledName (s : NamesState) (n : ℤ) : Type 0 where
   pub firm : s.is_loose n ≡ false
   pub alone : s.earlier n ≡ []
   pub whole : s.half_done n ≡ []
+
+-- one content is the other: the same log, and the same file under each name
+pub record SameContent (a b : Content) : Type 0 where
+  pub log : a.log ≡ b.log
+  pub blobs : (n : ℤ) → a.blobs n ≡ b.blobs n
+  pub snapshots : (n : ℤ) → a.snapshots n ≡ b.snapshots n

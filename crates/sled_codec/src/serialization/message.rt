@@ -254,7 +254,7 @@ impl MessageHeader {
     }
 }
 
-/// The item of a batch's first message: its peg, the place of the last message of the batch.
+/// The item of a batch's first message: its peg, the place of the last byte of the batch.
 #[derive(Debug, Clone, Copy, PartialEq)]
 pub struct BatchManifest(pub Lsn);
 
