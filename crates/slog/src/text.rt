@@ -3,7 +3,7 @@
 //!
 //! How bytes are written is defined in `specs/Hex.antt`, and `hex` and `bytes_of` are each other's
 //! inverse by it.
-ghost use Rattle.std.specs.Prelude.{◌≡◌, ◌<◌, ◌+◌, ◌++◌, ◌∷◌, ℕ, List, [], All, IfOk, IfSome, IsErrOf, string_bytes, OnOk, None, Some, Ok};
+ghost use Rattle.std.specs.Prelude.{◌≡◌, ◌↔◌, ◌<◌, ◌/◌, ◌%◌, ◌++◌, ◌∷◌, ℕ, List, [], All, IfOk, IfSome, string_bytes, OnOk, IsTrue, drop};
 ghost use Rattle.slog.specs.Hex.{digit_of, digits_of, hex_of};
 
 use crate::driver::Reply;
@@ -16,15 +16,22 @@ use std::io::{self, Write};
 pub fn hex(alloc: Global, bytes: &[u8]) -> Result<String, AllocError>
     ensures { IfOk result (λ text. string_bytes text ≡ hex_of bytes.now) }
 {
-    let mut text = String::new(alloc);
     if bytes.is_empty() {
-        text.push('-')?;
+        return String::from_str(alloc, "-");
     }
+    let mut text = String::new(alloc);
     for byte in bytes {
-        text.push(digit(*byte / 16))?;
-        text.push(digit(*byte % 16))?;
+        push_byte(&mut text, *byte)?;
     }
     Ok(text)
+}
+
+// Adds the digits of a byte.
+fn push_byte(text: &mut String, byte: u8) -> Result<(), AllocError>
+    ensures { OnOk result (string_bytes text.new ≡ string_bytes text.old ++ digit_of (byte / 16) ∷ digit_of (byte % 16) ∷ []) }
+{
+    text.push(digit(byte / 16))?;
+    text.push(digit(byte % 16))
 }
 
 // The digit of a number.
@@ -46,22 +53,48 @@ pub fn bytes_of(alloc: Global, text: &[u8]) -> Result<Option<Vec<u8>>, AllocErro
     ensures read { IfOk result (λ bytes. IfSome bytes (λ b. hex_of b.items ≡ text.now)) }
     ensures refused { result ≡ Ok None → (b : List ℕ) → All (λ x. x < 256) b → hex_of b ≡ text.now → ⊥ }
 {
-    let mut bytes = Vec::new(alloc);
-    if text == b"-".as_slice() {
-        return Ok(Some(bytes));
-    }
-    if text.is_empty() || text.len() % 2 != 0 {
+    if text.is_empty() {
         return Ok(None);
     }
+    if is_dash(text) {
+        return Ok(Some(Vec::new(alloc)));
+    }
+    pairs_of(alloc, text)
+}
+
+// Whether a text is a dash alone.
+fn is_dash(text: &[u8]) -> bool
+    ensures { IsTrue result ↔ (text.now ≡ 45 ∷ []) }
+{
+    text == b"-".as_slice()
+}
+
+// The bytes that a text writes by two digits each.
+fn pairs_of(alloc: Global, text: &[u8]) -> Result<Option<Vec<u8>>, AllocError>
+    ensures read { IfOk result (λ bytes. IfSome bytes (λ b. digits_of b.items ≡ text.now)) }
+    ensures refused { result ≡ Ok None → (b : List ℕ) → All (λ x. x < 256) b → digits_of b ≡ text.now → ⊥ }
+{
+    let mut bytes = Vec::new(alloc);
     let mut rest = text;
-    while let [high, low, behind @ ..] = rest {
-        let (Some(high), Some(low)) = (value(*high), value(*low)) else {
+    while !rest.is_empty() {
+        let Some(byte) = first_byte(rest) else {
             return Ok(None);
         };
-        bytes.push(high * 16 + low)?;
-        rest = behind;
+        bytes.push(byte)?;
+        rest = &rest[2..];
     }
     Ok(Some(bytes))
+}
+
+// The byte that a text begins with, by two digits.
+fn first_byte(text: &[u8]) -> Option<u8>
+    ensures read { IfSome result (λ b. text.now ≡ digit_of (b / 16) ∷ digit_of (b % 16) ∷ drop 2 text.now) }
+    ensures refused { result ≡ None → (b : ℕ) (behind : List ℕ) → b < 256 → text.now ≡ digit_of (b / 16) ∷ digit_of (b % 16) ∷ behind → ⊥ }
+{
+    let [high, low, ..] = text else {
+        return None;
+    };
+    Some(value(*high)? * 16 + value(*low)?)
 }
 
 // The number of a digit.
