@@ -1,10 +1,10 @@
 //! The codecs. A type that has one is `Serialize`, whose clauses say what is written and what is read
 //! by the grammar of `specs/Spelling.antt`; a `Delimited` one can stand before other bytes.
-ghost use Rattle.std.specs.Prelude.{◌≡◌, ◌↔◌, ◌+◌, ◌≤◌, ◌^◌, ◌<◌, ◌++◌, ℕ, List, length, IsTrue, IfOk, OnErr, IsErrOf};
+ghost use Rattle.std.specs.Prelude.{◌≡◌, ◌↔◌, ◌+◌, ◌≤◌, ◌^◌, ◌<◌, ◌++◌, ℕ, List, length, IsTrue, IfOk, IfErr, OnErr, IsOkUnless};
 ghost use Rattle.sled_codec.specs.Written.{written};
-ghost use Rattle.sled_codec.specs.Errors.{IsCorruption};
+ghost use Rattle.sled_codec.specs.Errors.{IsCorruption, IsDecodeError};
 
-use crate::result::Result;
+use crate::result::{Error, Result};
 use std::alloc::Global;
 
 pub mod bytes;
@@ -60,12 +60,14 @@ pub trait Serialize: Sized {
     fn deserialize(alloc: Global, buf: &mut &[u8]) -> Result<Self>
         ensures ok { IfOk result (λ v. (front : List ℕ) × Spells front (meaning v) × (buf.old.now ≡ front ++ buf.new.now)) }
         ensures corrupt { IsCorruption result → (front rest : List ℕ) (v : Meaning) → buf.old.now ≡ front ++ rest → Spells front v → ⊥ }
+        ensures errors { IfErr result IsDecodeError }
         ensures err { OnErr result (buf.new.now ≡ buf.old.now) };
 
     /// The spelling in a vector of its own. Its one error is `OutOfMemory`.
     final fn serialize(&self, alloc: Global) -> Result<Vec<u8>>
         requires { fits (meaning self.now) }
-        ensures { IfOk result (λ v. v.items ≡ short (meaning self.now)) }
+        ensures short { IfOk result (λ v. v.items ≡ short (meaning self.now)) }
+        ensures err { IsOkUnless result Error.OutOfMemory }
     {
         let size = self.serialized_size();
         let mut bytes = vec![in alloc; 0; size as usize]?;

@@ -5,4 +5,5 @@ pub mod FlushLemmas
 pub mod Heads
 pub mod HoldsLemmas
 pub mod Ranges
+pub mod ReadingLemmas
 pub mod ReserveLemmas

@@ -3,7 +3,7 @@ use Rattle.std.specs.Prelude.{◌≡◌, ◌⊎◌, [], ◌+◌, ◌%◌, ◌^�
 use Rattle.std.specs.declared.io.Error.{Error as IoError}
 use Rattle.sled_codec.specs.declared.result.Error.{Error}
 use Rattle.std.specs.String.{string_bytes}
-use Rattle.sled_codec.specs.declared.result.Error.TheVariants.{Io, OutOfMemory, Unsupported}
+use Rattle.sled_codec.specs.declared.result.Error.TheVariants.{Io, OutOfMemory, Unsupported, Corruption}
 use Rattle.sled_codec.specs.declared.serialization.message.MessageKind.{MessageKind}
 use Rattle.sled_store.specs.Answers.{is_fault}
 
@@ -32,3 +32,19 @@ ReserveAnswers (Err (Io e)) fault kind = fault ≡ Some e
 ReserveAnswers (Err (Unsupported text)) fault kind = (fault ≡ None) × (kind ≡ None) × (string_bytes text ≡ [])
 ReserveAnswers (Err OutOfMemory) fault kind = (fault ≡ None) × IsSome kind
 ReserveAnswers (Err _) fault kind = ⊥
+
+-- A call that reads: a failure of the device is counted, and nothing else is.
+abbrev pub DeviceAnswers : {T : Type 0} → Result T Error → ℕ → ℕ → Type 0
+DeviceAnswers (Ok _) before after = after ≡ before
+DeviceAnswers (Err (Io e)) before after = IsTrue (is_fault e) × (after ≡ (before + 1) % 2 ^ 64)
+DeviceAnswers (Err OutOfMemory) before after = after ≡ before
+DeviceAnswers (Err (Corruption at)) before after = (after ≡ before) × (at ≡ None)
+DeviceAnswers (Err _) before after = ⊥
+
+-- A read of the log: as each call that may touch the device, and damage besides.
+abbrev pub ReadAnswers : {T : Type 0} → Result T Error → Option IoError → Option IoError → ℕ → ℕ → Type 0
+ReadAnswers (Ok _) old new before after = (old ≡ None) × (new ≡ None) × (after ≡ before)
+ReadAnswers (Err (Io e)) old new before after = IsFault e old new before after
+ReadAnswers (Err OutOfMemory) old new before after = (old ≡ None) × (new ≡ None) × (after ≡ before)
+ReadAnswers (Err (Corruption at)) old new before after = (old ≡ None) × (new ≡ None) × (after ≡ before) × (at ≡ None)
+ReadAnswers (Err _) old new before after = ⊥

@@ -1,5 +1,5 @@
 -- What a reader finds at an offset of the log file.
-use Rattle.std.specs.Prelude.{◌≡◌, ◌≢◌, ◌⊎◌, ◌+◌, ◌%◌, ◌≤◌, ℕ, Bool, true, false, List, ◌++◌, length, drop, Some}
+use Rattle.std.specs.Prelude.{◌≡◌, ◌≢◌, ◌⊎◌, ◌+◌, ◌%◌, ◌≤◌, ℕ, Bool, true, false, List, ◌++◌, length, drop, Some, ℤ, pos, ◌<ℤ◌}
 use Rattle.sled_codec.specs.declared.serialization.message.MessageHeader.{MessageHeader}
 use Rattle.sled_codec.specs.declared.serialization.message.MessageKind.{MessageKind}
 use Rattle.sled_codec.specs.declared.serialization.message.MessageKind.TheVariants as kind
@@ -9,7 +9,7 @@ use Rattle.sled_codec.specs.Kinds.{kind_written}
 use Rattle.sled_codec.specs.History.{Message}
 use Rattle.sled_codec.specs.Sums.{flipped}
 use Rattle.sled_codec.specs.Spelling.{SpellsMessageHeader, SpellsSigned}
-use Rattle.sled_codec.specs.Places.{part}
+use Rattle.sled_codec.specs.Places.{part, MayBegin}
 use Rattle.sled_core.specs.declared.reading.LogRead.{LogRead}
 use Rattle.sled_core.specs.declared.reading.LogRead.TheVariants.{Inline, Blob, Canceled, Cap, Corrupted, DanglingBlob, BatchManifest}
 
@@ -41,6 +41,16 @@ is_blob kind.BlobNode = true
 is_blob kind.BlobLink = true
 is_blob _ = false
 
+-- what a record of this header, this body and this length holds
+abbrev pub HoldsAs : MessageHeader → List ℕ → ℕ → LogRead → Type 0
+HoldsAs header body n (Inline h bytes len) = (h ≡ header) × (bytes.items ≡ body) × (len ≡ n) × (is_inline header.kind ≡ true)
+HoldsAs header body n (Blob h bytes place len) = ⊥
+HoldsAs header body n (Canceled len) = (len ≡ n) × (header.kind ≡ kind.Canceled)
+HoldsAs header body n (Cap segment) = (segment ≡ header.segment_number) × (header.kind ≡ kind.Cap)
+HoldsAs header body n Corrupted = ⊥
+HoldsAs header body n (DanglingBlob h place len) = (h ≡ header) × (len ≡ n) × (is_blob header.kind ≡ true) × SpellsSigned body place
+HoldsAs header body n (BatchManifest peg len) = (len ≡ n) × (header.kind ≡ kind.BatchManifest) × SpellsSigned body peg
+
 -- What is read is what stands there. There are no blobs yet, so each is missing.
 abbrev pub IsReading : (List ℕ → ℕ) → ℕ → List ℕ → ℕ → ℕ → LogRead → Type 0
 IsReading sum size log lid number (Inline h bytes len) = StandsAt sum size log lid number h bytes.items len × (is_inline h.kind ≡ true)
@@ -69,3 +79,7 @@ GivesMessage m _ = ⊥
 abbrev pub IsInline : DiskPtr → Type 0
 IsInline (ptr.Inline lid) = Unit {0}
 IsInline (ptr.Blob lid place) = ⊥
+
+-- No message can have this place, or no record begins at this offset.
+abbrev pub IsNoPlace : ℕ → ℤ → ℕ → Type 0
+IsNoPlace size lsn lid = (lsn <ℤ pos 0) ⊎ (MayBegin size lid → ⊥)

@@ -124,7 +124,7 @@ impl Buffer {
         let from = self.bytes.len();
         push_placeholder(&mut self.bytes, head);
         push_item(&mut self.bytes, item, item_len);
-        let sum = sum_behind(checksum, &mut self.bytes, from + head.len, head);
+        let sum = sum_behind(checksum, &mut self.bytes, from + head.len, head.tail());
         keep(
             &mut self.reserved,
             Reserved {

@@ -2,27 +2,31 @@
 //!
 //! A log keeps the bytes of its segment, the reservations in them, the count of pins, and the first
 //! failure of its device, which it answers from then on. `specs/Fits.antt` says which history it holds.
-ghost use Rattle.std.specs.Prelude.{◌≡◌, ◌≢◌, ◌↔◌, ◌+◌, ◌-◌, ◌<◌, ◌≤◌, ◌^◌, ◌∷◌, ◌-ℤ◌, ◌<ℤ◌, pos, [], ℕ, length, drop, true, false, IsTrue, IfOk, IfErr, OnOk, OnErr, IsErrOf, Contains, None, Some};
+ghost use Rattle.std.specs.Prelude.{◌≡◌, ◌≢◌, ◌↔◌, ◌+◌, ◌-◌, ◌<◌, ◌≤◌, ◌^◌, ◌∷◌, ◌-ℤ◌, ◌<ℤ◌, pos, [], ℕ, length, drop, true, false, IsTrue, IfOk, IfErr, OnOk, OnErr, IsErrOf, Contains, None, Some, ◌⊎◌, ◌/◌, unsigned_abs};
 ghost use Rattle.std.specs.declared.io.Error.{Error as IoError};
 ghost use Rattle.sled_codec.specs.Kinds.{kind_written};
 ghost use Rattle.sled_codec.specs.History.{History, Message, Completed, Step, no_history};
 ghost use Rattle.std.specs.IoError.{error_kind};
 ghost use Rattle.std.specs.declared.io.ErrorKind.TheVariants.{OutOfMemory};
-ghost use Rattle.sled_codec.specs.Errors.{IsErrorOf};
+ghost use Rattle.sled_codec.specs.Errors.{IsErrorOf, IsCorruption};
 ghost use Rattle.sled_store.specs.Device.{state_of, at_rest, Wrote, Synced};
 ghost use Rattle.sled_store.specs.Answers.{Counts, FailsOr};
 ghost use Rattle.sled_core.specs.Tickets.{place_of, pointer_of, IsFor};
-ghost use Rattle.sled_core.specs.Reading.{GivesMessage, IsInline};
+ghost use Rattle.sled_core.specs.Reading.{GivesMessage, IsInline, IsReading, IsMalformed, IsNoPlace};
+ghost use Rattle.sled_codec.specs.Places.{MayBegin};
+ghost use Rattle.sled_codec.specs.Pointers.{lid_of};
 ghost use Rattle.sled_core.specs.Buffers.{record_size};
-ghost use Rattle.sled_core.specs.Causes.{Answers, FaultAnswers, ReserveAnswers};
+ghost use Rattle.sled_core.specs.Causes.{Answers, FaultAnswers, ReserveAnswers, ReadAnswers};
 
-use crate::iobuf::{Buffer, Kept, Reserved};
-use crate::reading::LogRead;
+use crate::iobuf::{Buffer, Kept, MAX_MSG_HEADER_LEN, Reserved, SEG_HEADER_LEN};
+use crate::reading::{LogRead, read_message};
 use crate::record::head_of;
 use crate::reservation::{Guard, Reservation};
-use sled_codec::result::{DiskPtr, Error, Lsn, PageId, Result};
+use sled_codec::result::{DiskPtr, Error, LogOffset, Lsn, PageId, Result};
 use sled_codec::serialization::message::message_kind;
-use sled_codec::serialization::{Checksum, LogKind, SegmentHeader, Serialize, Snapshot};
+use sled_codec::serialization::{
+    Checksum, LogKind, SegmentHeader, SegmentNumber, Serialize, Snapshot,
+};
 use sled_store::{Device, RunningConfig};
 use std::io;
 
@@ -209,17 +213,50 @@ impl<D: Device, C: Checksum> Log<D, C> {
         requires ended { AllEnded self.old }
         requires inline { IsInline ptr }
         requires reserved { lsn <ℤ pos (reserved_end self.old) }
-        ensures message { (H : History) (m : Message) → Holds D.trace C.sum_of self.old H → Contains H.messages m → pos m.place ≡ lsn → m.pointer ≡ ptr → IfOk result (GivesMessage m) }
+        ensures message { (H : History) (m : Message) → Holds D.trace C.sum_of self.old H → Contains H.messages m → pos m.place ≡ lsn → m.pointer ≡ ptr → m.page < 2 ^ 64 → IfOk result (GivesMessage m) }
+        ensures reading { IfOk result (IsReading C.sum_of (segment_size_of self.old) (state_of (D.trace (device_of self.new))).log.bytes (lid_of ptr) (unsigned_abs lsn / segment_size_of self.old)) }
+        ensures corrupt { IsCorruption result → IsNoPlace (segment_size_of self.old) lsn (lid_of ptr) ⊎ IsMalformed C.sum_of (segment_size_of self.old) (state_of (D.trace (device_of self.new))).log.bytes (lid_of ptr) (unsigned_abs lsn / segment_size_of self.old) }
+        ensures refused { fault_of self.old ≡ None → IsNoPlace (segment_size_of self.old) lsn (lid_of ptr) → IsCorruption result × (self.new ≡ self.old) }
         ensures history { (H : History) → Holds D.trace C.sum_of self.old H → Holds D.trace C.sum_of self.new H }
         ensures ended { AllEnded self.new }
         ensures next { next_place self.new ≡ next_place self.old }
         ensures pins { pins_of self.new ≡ pins_of self.old }
         ensures size { segment_size_of self.new ≡ segment_size_of self.old }
+        ensures answers { ReadAnswers result (fault_of self.old) (fault_of self.new) (D.faults (device_of self.old)) (D.faults (device_of self.new)) }
         ensures faulty { (e : IoError) → fault_of self.old ≡ Some e → self.new ≡ self.old }
     {
-        let _ = (lsn, ptr);
-        self.flush()?;
-        Ok(LogRead::Corrupted)
+        if let Some(e) = self.fault {
+            return Err(Error::Io(e));
+        }
+        let size = self.config.config.segment_size;
+        let lid = ptr.lid();
+        if lsn < 0 || !may_begin(lid, size) {
+            return Err(Error::Corruption { at: None });
+        }
+        if lsn as u64 >= self.buffer.from as u64 {
+            self.flush()?;
+        }
+        self.read_settled(lid, SegmentNumber(lsn as u64 / size))
+    }
+
+    /// Reads at an offset of the device, and keeps a failure of it.
+    fn read_settled(&mut self, lid: LogOffset, number: SegmentNumber) -> Result<LogRead>
+        requires { fault_of self.old ≡ None }
+        ensures reading { IfOk result (IsReading C.sum_of (segment_size_of self.old) (state_of (D.trace (device_of self.old))).log.bytes lid number.0) }
+        ensures malformed { IsCorruption result → IsMalformed C.sum_of (segment_size_of self.old) (state_of (D.trace (device_of self.old))).log.bytes lid number.0 }
+        ensures buffer { self.new.buffer ≡ self.old.buffer }
+        ensures trace { D.trace (device_of self.new) ≡ D.trace (device_of self.old) }
+        ensures pins { pins_of self.new ≡ pins_of self.old }
+        ensures size { segment_size_of self.new ≡ segment_size_of self.old }
+        ensures answers { ReadAnswers result None (fault_of self.new) (D.faults (device_of self.old)) (D.faults (device_of self.new)) }
+    {
+        match read_message(&mut self.config, lid, number) {
+            Err(Error::Io(e)) => {
+                self.fault = Some(e);
+                Err(Error::Io(e))
+            }
+            answer => answer,
+        }
     }
 
     /// Whether a message of this page with this item fits inline into what is left of the segment.
@@ -277,6 +314,15 @@ fn is_for(r: &Reserved, ticket: &Reservation) -> bool
     };
     let same_place = ticket.lsn() >= 0 && ticket.lsn() as u64 == r.from as u64;
     r.is_open && same_place && same_pointer
+}
+
+/// Whether a record may begin at an offset of the log file.
+fn may_begin(lid: LogOffset, segment_size: u64) -> bool
+    requires { 256 ≤ segment_size }
+    ensures { IsTrue result ↔ MayBegin segment_size lid }
+{
+    let offset = lid % segment_size;
+    offset >= SEG_HEADER_LEN as u64 && offset <= segment_size - MAX_MSG_HEADER_LEN as u64
 }
 
 /// How long the record is of a message of this page whose item has so many bytes.

@@ -17,6 +17,16 @@ pub(crate) struct Head {
     ghost long: { 5 ≤ len },
 }
 
+impl Head {
+    /// What stands behind the sum.
+    pub(crate) fn tail(&self) -> &[u8]
+        ensures tail { result.now ≡ drop 4 (take self.now.len self.now.bytes) }
+        ensures len { length result.now + 4 ≡ self.now.len }
+    {
+        &self.bytes[4..self.len]
+    }
+}
+
 /// The header of a message of segment 0 whose body is this long.
 pub(crate) fn head_of(kind: MessageKind, pid: PageId, len: u64) -> Head
     ensures bytes { drop 4 (take result.len result.bytes) ≡ short_header_tail kind len 0 pid }
@@ -69,22 +79,22 @@ pub(crate) fn push_item<T: Serialize>(bytes: &mut Vec<u8>, item: &T, len: usize)
     item.serialize_into(bytes, at);
 }
 
-/// The sum of the bytes from an offset on and of a header behind its sum. The header is put behind the
-/// bytes for that, so that nothing but it is copied, and taken away again.
+/// The sum of the bytes from an offset on and of a header behind its sum. That is put behind the bytes
+/// for it, so that nothing else is copied, and taken away again.
 pub(crate) fn sum_behind<C: Checksum>(
     checksum: &C,
     bytes: &mut Vec<u8>,
     from: usize,
-    head: &Head,
+    tail: &[u8],
 ) -> u32
     requires from { from ≤ length bytes.old.items }
-    requires room { length bytes.old.items + head.now.len ≤ vec_capacity bytes.old }
-    ensures sum { result ≡ C.sum_of (drop from bytes.old.items ++ drop 4 (take head.now.len head.now.bytes)) }
+    requires room { length bytes.old.items + length tail.now ≤ vec_capacity bytes.old }
+    ensures sum { result ≡ C.sum_of (drop from bytes.old.items ++ tail.now) }
     ensures bytes { bytes.new.items ≡ bytes.old.items }
     ensures capacity { vec_capacity bytes.old ≤ vec_capacity bytes.new }
 {
     let end = bytes.len();
-    push_bytes(bytes, &head.bytes[4..head.len]);
+    push_bytes(bytes, tail);
     let sum = checksum.sum(&bytes[from..]);
     bytes.truncate(end);
     sum

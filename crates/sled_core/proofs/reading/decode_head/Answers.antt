@@ -1,0 +1,19 @@
+use Rattle.std.proofs.Common.{◌≡◌, ◌≤◌, ◌-◌, ◌∙◌, ℕ, List, ◌++◌, length, take, ap, sym, subst, arith, rules, length-append}
+use Rattle.std.proofs.lemmas.List.{take_at}
+use Rattle.sled_codec.specs.Spelling.{SpellsMessageHeader}
+use Rattle.sled_core.proofs.ReadingLemmas.{header_some}
+use Rattle.sled_core.proofs.reading.decode_head.Goals as goal
+
+pub returns-in-Err-Corruption-clause-found : goal.returns-in-Err-Corruption-clause-found
+returns-in-Err-Corruption-clause-found c = c.in-Err-Corruption.ensures.corrupt (rw c.in-Err-Corruption.field-0-is tt)
+
+pub returns-in-Ok-clause-found : goal.returns-in-Ok-clause-found
+returns-in-Ok-clause-found c =
+    let taken = c.in-Ok.ensures.ok in
+    let rest : List ℕ = c.deserialize.new.buf.now in
+    let long : length c.args.head.now ≡ 128 = search rules in
+    let some = header_some taken.0 c.in-Ok.header taken.1 in
+    let parts = ap length taken.2 in
+    let front_long : length taken.0 ≡ 128 - length rest = omega (arith, long, parts, length-append taken.0 rest) in
+    let front : taken.0 ≡ take (128 - length rest) c.args.head.now = sym (ap (take (128 - length rest)) taken.2 ∙ take_at taken.0 rest (128 - length rest) front_long) in
+    (subst (λ (t : List ℕ). SpellsMessageHeader t c.in-Ok.header) front taken.1, omega arith, omega (arith, some, front_long))
