@@ -30,10 +30,10 @@ digits-snoc [] b = refl
 digits-snoc (x ∷ done) b = ap (λ (r : List ℕ). digit_of (x / 16) ∷ digit_of (x % 16) ∷ r) (digits-snoc done b)
 
 -- A byte is taken off the front of the rest, and put behind the bytes.
-pub digits-moved : (done rest text : List ℕ) (b : ℕ) → digits_of done ++ rest ≡ text
-    → rest ≡ digit_of (b / 16) ∷ digit_of (b % 16) ∷ drop 2 rest → digits_of (done ++ b ∷ []) ++ drop 2 rest ≡ text
-digits-moved done rest text b so_far is =
-    rw (digits-snoc done b) (append_assoc (digits_of done) (digit_of (b / 16) ∷ digit_of (b % 16) ∷ []) (drop 2 rest)
+pub digits-moved : (done rest behind text : List ℕ) (b : ℕ) → digits_of done ++ rest ≡ text
+    → rest ≡ digit_of (b / 16) ∷ digit_of (b % 16) ∷ behind → digits_of (done ++ b ∷ []) ++ behind ≡ text
+digits-moved done rest behind text b so_far is =
+    rw (digits-snoc done b) (append_assoc (digits_of done) (digit_of (b / 16) ∷ digit_of (b % 16) ∷ []) behind
         ∙ ap (λ (r : List ℕ). digits_of done ++ r) (sym is) ∙ so_far)
 
 -- Bytes whose text is no dash are written by their digits.

@@ -3,7 +3,7 @@
 //!
 //! How bytes are written is defined in `specs/Hex.antt`, and `hex` and `bytes_of` are each other's
 //! inverse by it.
-ghost use Rattle.std.specs.Prelude.{◌≡◌, ◌↔◌, ◌<◌, ◌/◌, ◌%◌, ◌++◌, ◌∷◌, ℕ, List, [], All, IfOk, IfSome, string_bytes, OnOk, IsTrue, drop};
+ghost use Rattle.std.specs.Prelude.{◌≡◌, ◌↔◌, ◌<◌, ◌/◌, ◌%◌, ◌++◌, ◌∷◌, ℕ, List, [], All, IfOk, IfSome, string_bytes, OnOk, IsTrue};
 ghost use Rattle.slog.specs.Hex.{digit_of, digits_of, hex_of};
 
 use crate::driver::Reply;
@@ -77,24 +77,25 @@ fn pairs_of(alloc: Global, text: &[u8]) -> Result<Option<Vec<u8>>, AllocError>
     let mut bytes = Vec::new(alloc);
     let mut rest = text;
     while !rest.is_empty() {
-        let Some(byte) = first_byte(rest) else {
+        let Some((byte, behind)) = split_byte(rest) else {
             return Ok(None);
         };
         bytes.push(byte)?;
-        rest = &rest[2..];
+        rest = behind;
     }
     Ok(Some(bytes))
 }
 
-// The byte that a text begins with, by two digits.
-fn first_byte(text: &[u8]) -> Option<u8>
-    ensures read { IfSome result (λ b. text.now ≡ digit_of (b / 16) ∷ digit_of (b % 16) ∷ drop 2 text.now) }
+// The byte that a text begins with, by two digits, and what stands behind them.
+fn split_byte(text: &[u8]) -> Option<(u8, &[u8])>
+    ensures read { IfSome result (λ r. text.now ≡ digit_of (r.0 / 16) ∷ digit_of (r.0 % 16) ∷ r.1.now) }
     ensures refused { result ≡ None → (b : ℕ) (behind : List ℕ) → b < 256 → text.now ≡ digit_of (b / 16) ∷ digit_of (b % 16) ∷ behind → ⊥ }
 {
-    let [high, low, ..] = text else {
+    let [high, low, behind @ ..] = text else {
         return None;
     };
-    Some(value(*high)? * 16 + value(*low)?)
+    let byte = value(*high)? * 16 + value(*low)?;
+    Some((byte, behind))
 }
 
 // The number of a digit.

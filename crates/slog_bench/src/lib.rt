@@ -6,6 +6,10 @@
 #![tactic(auto)]
 
 #[cfg(test)]
+mod conversions;
+#[cfg(test)]
+mod device;
+#[cfg(test)]
 mod faults;
 #[cfg(test)]
 mod headers;
@@ -13,5 +17,7 @@ mod headers;
 mod log;
 #[cfg(test)]
 mod numbers;
+#[cfg(test)]
+mod records;
 #[cfg(test)]
 mod support;
