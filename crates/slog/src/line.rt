@@ -3,6 +3,10 @@
 //! Words are parted by one space. Numbers are decimal and below 2^64, and bytes have two lower-case
 //! hexadecimal digits each (`specs/Hex.antt`). Any other line is none of a command's.
 
+ghost use Rattle.std.specs.Prelude.{◌<◌, ◌^◌};
+ghost use Rattle.std.specs.Option.{SomeIff};
+ghost use Rattle.std.specs.Str.Parse.{IsNumeral, digits_value};
+
 use crate::text;
 use sled_log::result::PageId;
 use std::alloc::{AllocError, Global};
@@ -69,10 +73,12 @@ fn replace(alloc: Global, words: &str) -> Result<Option<Command>, AllocError> {
     Ok(item.map(|item| Command::Replace(page, item)))
 }
 
-// A number of digits alone. Signs make none.
-fn number(word: &str) -> Option<u64> {
-    if word.starts_with('+') {
-        return None;
+// A number below 2^64 of digits alone. Signs make none.
+fn number(word: &str) -> Option<u64>
+    ensures { SomeIff result (IsNumeral 10 word.now × (digits_value 10 word.now < 2 ^ 64)) (digits_value 10 word.now) }
+{
+    match word.as_bytes() {
+        [b'+', ..] => None,
+        _ => word.parse().ok(),
     }
-    word.parse().ok()
 }
