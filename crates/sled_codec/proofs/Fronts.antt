@@ -4,6 +4,7 @@ use Rattle.std.proofs.lemmas.List.{take_rest}
 use Rattle.std.proofs.lemmas.Int.{of_z-to_z}
 use Rattle.std.proofs.Math.Facts.{sfits_to_z}
 use Rattle.std.specs.Int.{w64, cast_signed, cast_unsigned}
+use Rattle.std.proofs.lemmas.Bool.Decides.{nat_tests}
 use Rattle.sled_codec.specs.Spelling.{low_first, SpellsSigned, more_bytes, number_of, SpellsNumber, SpellsBytes}
 use Rattle.sled_codec.specs.SpellingLaws.{spells_lead, no_front-number, one_value-number, same_rests}
 
@@ -19,6 +20,12 @@ spells_read front n z long is small signed =
       unsigned = record { long = long; value = unsigned ∙ is; small = omega arith };
       in_range = rw signed (sfits_to_z (record { fits = small }));
     }
+
+none_more : (lead : ℕ) → lead ≤ 240 → 0 ≡ more_bytes lead
+none_more lead small = grind (arith, nat_tests)
+
+itself : (lead : ℕ) → lead ≤ 240 → lead ≡ number_of lead []
+itself lead small = grind (arith, nat_tests)
 
 -- a text that begins with a number has the bytes that its lead byte tells of
 pub has_number : (text front rest : List ℕ) (v : ℕ) → text ≡ front ++ rest → SpellsNumber front v → 1 + more_bytes (get_or text 0 0) ≤ length text
@@ -39,6 +46,11 @@ takes_number (lead ∷ more) n v counts long value small =
       spells_lead lead (take n more) v (omega (arith, length-take n more)) (rw same at value) small,
       front_rest (lead ∷ more) (1 + n) ∙ ap (λ k. take k (lead ∷ more) ++ take (length (lead ∷ more) - (1 + n)) (drop (1 + n) (lead ∷ more))) one,
     )
+
+-- a lead byte that is a number by itself
+pub takes_small : (text : List ℕ) (v : ℕ) → 0 < length text → get_or text 0 0 ≤ 240 → v ≡ get_or text 0 0 → (front : List ℕ) × SpellsNumber front v × (text ≡ front ++ take (length text - 1) (drop 1 text))
+takes_small text v some small is =
+    takes_number text 0 v (none_more (get_or text 0 0) small) (omega arith) (is ∙ itself (get_or text 0 0) small) (omega arith)
 
 -- a text that begins with a byte string has, behind the count that it begins with, the bytes that are counted
 pub has_bytes : (text count front rest left v : List ℕ) (n : ℕ) → SpellsNumber count n → text ≡ count ++ left → text ≡ front ++ rest → SpellsBytes front v → n ≤ length left

@@ -1,8 +1,13 @@
+pub mod Coords
+pub mod ErrorLaws
 pub mod Errors
 pub mod HeaderLaws
 pub mod History
 pub mod Kinds
+pub mod OptionLaws
+pub mod PairLaws
 pub mod Places
+pub mod PointerLaws
 pub mod Pointers
 pub mod Record
 pub mod Seen

@@ -1,9 +1,13 @@
 -- The grammar of the formats. A spelling relates a whole text, a list of bytes, to the value that it stands for.
 -- The short spelling is the one that is written. A number may have longer ones, which are read all the same.
-use Rattle.std.specs.Prelude.{◌≡◌, ◌+◌, ◌-◌, ◌*◌, ◌/◌, ◌%◌, ◌^◌, ◌<◌, ℕ, ℤ, if◌then◌else◌, nat_le, nat_lt, ◌==◌, List, [], ◌∷◌, ◌++◌, length, take, slice_index, FitsSigned}
+use Rattle.std.specs.Prelude.{◌≡◌, ◌+◌, ◌-◌, ◌*◌, ◌/◌, ◌%◌, ◌^◌, ◌<◌, ℕ, ℤ, if◌then◌else◌, nat_le, nat_lt, ◌==◌, List, [], ◌∷◌, ◌++◌, length, take, slice_index, FitsSigned, Bool, true, false, Option, None, Some, pos, negsuc}
 use Rattle.std.specs.Int.{w64, to_le_bytes, from_le_bytes, cast_unsigned}
 use Rattle.sled_codec.specs.declared.serialization.message.MessageHeader.{MessageHeader}
 use Rattle.sled_codec.specs.declared.serialization.message.MessageKind.{MessageKind}
+use Rattle.sled_codec.specs.declared.result.DiskPtr.{DiskPtr}
+use Rattle.sled_codec.specs.declared.result.DiskPtr.TheVariants.{Inline, Blob}
+use Rattle.std.specs.declared.num.NonZeroU64.{NonZeroU64}
+use Rattle.std.specs.Int.NonZero.{non_zero_u64_get}
 use Rattle.sled_codec.specs.Kinds.{code_of, kind_of}
 
 -- Fixed numbers, the lowest byte first.
@@ -101,3 +105,67 @@ pub record FitsMessageHeader (h : MessageHeader) : Type 0 where
   pub len : h.len < 2 ^ 64
   pub number : h.segment_number.0 < 2 ^ 64
   pub page : h.pid < 2 ^ 64
+
+-- Parts.
+
+-- one spelling, and another behind it
+pub record SpellsPair {V W : Type 0} (A : List ℕ → V → Type 0) (B : List ℕ → W → Type 0) (text : List ℕ) (v : V) (w : W) : Type 0 where
+  pub first : List ℕ
+  pub second : List ℕ
+  pub front : A first v
+  pub back : B second w
+  pub is : text ≡ first ++ second
+
+-- Numbers with a place for none.
+
+-- a flag: any byte but 0 is true
+pub record SpellsBool (text : List ℕ) (v : Bool) : Type 0 where
+  pub byte : ℕ
+  pub is : text ≡ byte ∷ []
+  pub value : v ≡ (if byte == 0 then false else true)
+
+abbrev pub short_bool : Bool → List ℕ
+short_bool v = (if v then 1 else 0) ∷ []
+
+-- the number that is written for one that may be missing
+abbrev pub or_zero : Option ℕ → ℕ
+or_zero None = 0
+or_zero (Some v) = v + 1
+
+-- the number of one that is not 0, or 0
+abbrev pub number_or_zero : Option NonZeroU64 → ℕ
+number_or_zero None = 0
+number_or_zero (Some v) = non_zero_u64_get v
+
+abbrev pub or_zero_signed : Option ℤ → ℤ
+or_zero_signed None = pos 0
+or_zero_signed (Some (pos n)) = pos (n + 1)
+or_zero_signed (Some (negsuc n)) = negsuc n
+
+-- the same of the two values together
+abbrev pub SpellsBoth : {V W : Type 0} → (List ℕ → V → Type 0) → (List ℕ → W → Type 0) → List ℕ → V × W → Type 0
+SpellsBoth A B text both = SpellsPair A B text both.0 both.1
+
+-- three spellings, one behind another
+abbrev pub SpellsTriple : {V W X : Type 0} → (List ℕ → V → Type 0) → (List ℕ → W → Type 0) → (List ℕ → X → Type 0) → List ℕ → V → W → X → Type 0
+SpellsTriple A B C text v w x = SpellsPair (SpellsBoth A B) C text (v, w) x
+
+-- Pointers: a byte that tells which, and then the offset, and the blob.
+
+-- a byte, and a spelling behind it
+pub record Tagged (byte : ℕ) (Spells : List ℕ → Type 0) (text : List ℕ) : Type 0 where
+  pub rest : List ℕ
+  pub spelled : Spells rest
+  pub is : text ≡ byte ∷ rest
+
+abbrev pub SpellsPointer : List ℕ → DiskPtr → Type 0
+SpellsPointer text (Inline lid) = Tagged 0 (λ rest. SpellsNumber rest lid) text
+SpellsPointer text (Blob lid place) = Tagged 1 (λ rest. SpellsPair SpellsNumber SpellsSigned rest lid place) text
+
+abbrev pub FitsPointer : DiskPtr → Type 0
+FitsPointer (Inline lid) = lid < 2 ^ 64
+FitsPointer (Blob lid place) = (lid < 2 ^ 64) × FitsSigned w64 place
+
+abbrev pub short_pointer : DiskPtr → List ℕ
+short_pointer (Inline lid) = 0 ∷ short_number lid
+short_pointer (Blob lid place) = 1 ∷ (short_number lid ++ short_signed place)

@@ -2,6 +2,7 @@
 ghost use Rattle.std.specs.Prelude.{◌≡◌};
 ghost use Rattle.std.specs.IoError.{error_kind};
 ghost use Rattle.sled_codec.specs.Pointers.{lid_of};
+ghost use Rattle.sled_codec.specs.Errors.{variant_of, lid_in, blob_in, text_of, fault_of, place_of};
 
 use std::alloc::{AllocError, AllocFailed};
 use std::io;
@@ -66,6 +67,158 @@ pub enum Error {
     /// Memory was refused.
     #[error("out of memory")]
     OutOfMemory,
+    /// An open or abandoned reservation holds the call up. Its place, the least of these in the buffer.
+    #[error("the reservation at {0} holds the call up")]
+    Held(Lsn),
+    /// Nothing was reserved up to this place.
+    #[error("nothing is reserved at {0}")]
+    NotReserved(Lsn),
+    /// A further segment would pass the greatest place or offset.
+    #[error("the places of the log are used up")]
+    PlacesUsedUp,
+    /// There is no collection of this name. For users: no call of this library answers it.
+    #[error("no collection has the name {0:?}")]
+    CollectionNotFound(Vec<u8>),
+    /// A mistake in the code, to be reported. For users: no call of this library answers it.
+    #[error("a bug, please report it: {0}")]
+    ReportableBug(String),
+}
+
+impl Error {
+    // Which variant it is.
+    fn variant(&self) -> u8
+        ensures { result ≡ variant_of self.now }
+    {
+        match self {
+            Error::Corruption { at: _ } => 1,
+            Error::Unsupported(_) => 2,
+            Error::Io(_) => 3,
+            Error::OutOfMemory => 4,
+            Error::Held(_) => 5,
+            Error::NotReserved(_) => 6,
+            Error::PlacesUsedUp => 7,
+            Error::CollectionNotFound(_) => 8,
+            Error::ReportableBug(_) => 9,
+        }
+    }
+
+    // The offset in its pointer, if there is one.
+    fn lid(&self) -> Option<LogOffset>
+        ensures { result ≡ lid_in self.now }
+    {
+        match self {
+            Error::Corruption { at: Some(at) } => Some(at.lid()),
+            _ => None,
+        }
+    }
+
+    // The blob in its pointer, if there is one.
+    fn blob(&self) -> Option<BlobPointer>
+        ensures { result ≡ blob_in self.now }
+    {
+        match self {
+            Error::Corruption {
+                at: Some(DiskPtr::Blob(_, place)),
+            } => Some(*place),
+            _ => None,
+        }
+    }
+
+    // The text or the name in it, if there is one.
+    fn text(&self) -> &[u8]
+        ensures { result.now ≡ text_of self.now }
+    {
+        match self {
+            Error::Unsupported(text) | Error::ReportableBug(text) => text.as_bytes(),
+            Error::CollectionNotFound(name) => name,
+            _ => &[],
+        }
+    }
+
+    // The kind of the device's error in it, if there is one.
+    fn fault(&self) -> Option<io::ErrorKind>
+        ensures { result ≡ fault_of self.now }
+    {
+        match self {
+            Error::Io(io) => Some(io.kind()),
+            _ => None,
+        }
+    }
+
+    // The place in it, or 0.
+    fn place(&self) -> Lsn
+        ensures { result ≡ place_of self.now }
+    {
+        match self {
+            Error::Held(place) | Error::NotReserved(place) => *place,
+            _ => 0,
+        }
+    }
+}
+
+/// Two errors are equal where their variants and what stands in them are; errors of the device where
+/// their kinds are.
+impl PartialEq for Error {
+    ghost use Rattle.sled_codec.specs.ErrorLaws.{error_eq, error_per};
+
+    ghost eq = { error_eq };
+
+    ghost laws = { error_per };
+
+    fn eq(&self, other: &Error) -> bool {
+        self.variant() == other.variant()
+            && self.lid() == other.lid()
+            && self.blob() == other.blob()
+            && self.text() == other.text()
+            && self.fault() == other.fault()
+            && self.place() == other.place()
+    }
+}
+
+impl Eq for Error {
+    ghost use Rattle.sled_codec.specs.ErrorLaws.{error_equiv};
+
+    ghost laws = { error_equiv };
+}
+
+/// A copy in which all is the same, so it is equal. Memory may be refused for the text or the name in it.
+impl Clone for Error {
+    ghost use Rattle.sled_codec.specs.ErrorLaws.{SameError};
+
+    ghost is_clone = { SameError };
+
+    fn clone(&self) -> std::result::Result<Error, AllocError> {
+        Ok(match self {
+            Error::Corruption { at } => Error::Corruption { at: *at },
+            Error::Unsupported(text) => Error::Unsupported(text.clone()?),
+            Error::Io(io) => Error::Io(io::Error::from(io.kind())),
+            Error::OutOfMemory => Error::OutOfMemory,
+            Error::Held(place) => Error::Held(*place),
+            Error::NotReserved(place) => Error::NotReserved(*place),
+            Error::PlacesUsedUp => Error::PlacesUsedUp,
+            Error::CollectionNotFound(name) => Error::CollectionNotFound(name.clone()?),
+            Error::ReportableBug(text) => Error::ReportableBug(text.clone()?),
+        })
+    }
+}
+
+/// The kind alone: that of the device's error, and for each other error one that fits.
+impl From<Error> for io::Error {
+    ghost use Rattle.sled_codec.specs.Errors.{io_kind_of};
+
+    ghost from_gives = { λ e io. error_kind io ≡ io_kind_of e };
+
+    fn from(e: Error) -> io::Error {
+        io::Error::from(match e {
+            Error::Io(io) => io.kind(),
+            Error::Corruption { at: _ } => io::ErrorKind::InvalidData,
+            Error::Unsupported(_) | Error::NotReserved(_) => io::ErrorKind::InvalidInput,
+            Error::OutOfMemory => io::ErrorKind::OutOfMemory,
+            Error::Held(_) => io::ErrorKind::WouldBlock,
+            Error::CollectionNotFound(_) => io::ErrorKind::NotFound,
+            Error::PlacesUsedUp | Error::ReportableBug(_) => io::ErrorKind::Other,
+        })
+    }
 }
 
 /// Memory that was refused is `OutOfMemory`.

@@ -12,12 +12,15 @@ pub mod checksum;
 pub mod laws;
 pub mod message;
 pub mod number;
+pub mod option;
+pub mod pointer;
 pub mod record;
 pub mod segment;
 pub mod snapshot;
+pub mod tuple;
 
 pub use checksum::{Checksum, PlaceSum};
-pub use message::{LogKind, MessageHeader, MessageKind, SegmentNumber};
+pub use message::{BatchManifest, LogKind, MessageHeader, MessageKind, SegmentNumber};
 pub use segment::SegmentHeader;
 pub use snapshot::{PageState, Snapshot};
 

@@ -81,7 +81,7 @@ module _ (sum : List ℕ → ℕ) (bytes : List ℕ) (r : Reserved) (within : r.
       subst (λ (b : List ℕ). StandsAs sum 0 (text_in completed r) b (closed r)) (sym body_own) as_new
 
 -- what stands in a reservation has a length
-some_long : (sum : List ℕ → ℕ) (bytes : List ℕ) (rs : List Reserved) → All (Stands sum 0 bytes) rs → All (λ x. 0 < x.len) rs
+pub some_long : (sum : List ℕ → ℕ) (bytes : List ℕ) (rs : List Reserved) → All (Stands sum 0 bytes) rs → All (λ x. 0 < x.len) rs
 some_long sum bytes rs all k d lt = let s = all k d lt in let a = s.headed in let b = s.long in omega (arith, a, b)
 
 module _ (sum : List ℕ → ℕ) (device : LogState) (fault : Option IoError) (bytes : List ℕ) (from : ℕ) (xs ys : List Reserved) (r : Reserved) (H : History)

@@ -61,7 +61,7 @@ all_records sum bytes from (r ∷ rs) chain stand ended =
     ∙ ap (λ (l : List ℕ). l ++ drop r.len (drop from bytes)) at_from
     ∙ ap (λ (l : List ℕ). record_text sum message ++ l) (drop-drop r.len from bytes ∙ rest.0) in
     let is : message ∷ completed_in bytes rs ≡ completed_in bytes (r ∷ rs) = sym (completed_closed bytes r rs split.0) in
-    let lie : LieFrom sum from (message ∷ completed_in bytes rs) = (place, ap Inline place, size, kind_is sum bytes r here, rest.1) in
+    let lie : LieFrom sum from (message ∷ completed_in bytes rs) = (place, ap Inline place, size, kind_is sum bytes r here, here.page, rest.1) in
     (whole ∙ ap (records sum) is, subst (λ (ms : List Message). LieFrom sum from ms) is lie)
 
 -- where something was reserved and nothing is open, something was completed
@@ -208,3 +208,16 @@ memory_by e false is cause = inl cause
 -- An error of a call that may want memory is want of memory, or another one.
 pub memory_or_fault : (e : IoError) → MatchBool (is_fault e) (Unit {0}) (error_kind e ≡ OutOfMemory) → (error_kind e ≡ OutOfMemory) ⊎ (error_kind e ≢ OutOfMemory)
 memory_or_fault e cause = memory_by e (is_fault e) refl cause
+
+-- there is a failure, or there is none
+fault_or_none : (o : Option IoError) → (o ≡ None) ⊎ ((e : IoError) × (o ≡ Some e))
+fault_or_none None = inl refl
+fault_or_none (Some e) = inr (e, refl)
+
+-- A call that changed nothing of the device holds the same, whether or not the device failed in it.
+pub holds-answered : (sum : List ℕ → ℕ) (device device' : LogState) (fault fault' : Option IoError) (bytes : List ℕ) (from : ℕ) (rs : List Reserved) (H : History)
+    → device' ≡ device → fault ≡ None → HoldsIn sum device fault bytes from rs H → HoldsIn sum device' fault' bytes from rs H
+holds-answered sum device device' fault fault' bytes from rs H same none holds = elim (fault_or_none fault') [
+  | inl is ↦ holds-moved sum device device' fault fault' bytes from rs H same (is ∙ sym none) holds
+  | inr is ↦ holds-faulty sum device fault bytes from rs H holds device' is.0 fault' is.1
+]

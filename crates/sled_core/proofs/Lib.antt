@@ -2,6 +2,7 @@ pub mod Images
 pub mod Parts
 pub mod CompletesLemmas
 pub mod FlushLemmas
+pub mod GivesLemmas
 pub mod Heads
 pub mod HoldsLemmas
 pub mod Ranges

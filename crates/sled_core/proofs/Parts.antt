@@ -1,5 +1,5 @@
 -- Parts of a text: how they lie in it, and what becomes of them when bytes are put behind it or written over it.
-use Rattle.std.proofs.Common.{◌≡◌, ◌≤◌, ◌<◌, ◌+◌, ◌-◌, ℕ, List, [], ◌∷◌, ◌++◌, length, take, drop, sym, ◌∙◌, ap, arith, refl, Option, Some, None, get_or, zero, suc}
+use Rattle.std.proofs.Common.{◌≡◌, ◌≤◌, ◌<◌, ◌+◌, ◌-◌, ℕ, List, [], ◌∷◌, ◌++◌, length, take, drop, sym, ◌∙◌, ap, arith, refl, Option, Some, None, get_or, zero, suc, subst}
 use Rattle.std.specs.List.{slice_get}
 use Rattle.std.proofs.lemmas.List.{drop-take}
 
@@ -31,3 +31,7 @@ none_there (x ∷ xs) is = absurd (omega arith)
 pub some_there : {X : Type 0} (xs : List X) → (length xs ≡ 0 → ⊥) → 0 < length xs
 some_there [] is = absurd (is refl)
 some_there (x ∷ xs) is = omega arith
+
+-- what holds of four values holds of four that are equal to them
+pub moved : {A B C D : Type 0} (P : A → B → C → D → Type 0) (a a' : A) (b b' : B) (c c' : C) (d d' : D) → a ≡ a' → b ≡ b' → c ≡ c' → d ≡ d' → P a b c d → P a' b' c' d'
+moved P a a' b b' c c' d d' is_a is_b is_c is_d holds = subst (λ x. P x b' c' d') is_a (subst (λ x. P a x c' d') is_b (subst (λ x. P a b x d') is_c (subst (λ x. P a b c x) is_d holds)))

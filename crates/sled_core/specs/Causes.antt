@@ -48,3 +48,8 @@ ReadAnswers (Err (Io e)) old new before after = IsFault e old new before after
 ReadAnswers (Err OutOfMemory) old new before after = (old ≡ None) × (new ≡ None) × (after ≡ before)
 ReadAnswers (Err (Corruption at)) old new before after = (old ≡ None) × (new ≡ None) × (after ≡ before) × (at ≡ None)
 ReadAnswers (Err _) old new before after = ⊥
+
+-- the failure of the device that an answer tells of
+abbrev pub failure_in : {T : Type 0} → Result T Error → Option IoError
+failure_in (Err (Io e)) = Some e
+failure_in _ = None

@@ -40,7 +40,7 @@ log_image sum (m ∷ ms) = short_header sum (pos 0) (negsuc 0) ++ records sum (m
 abbrev pub LieFrom : (List ℕ → ℕ) → ℕ → List Message → Type 0
 LieFrom sum from [] = Unit {0}
 LieFrom sum from (m ∷ ms) =
-    (m.place ≡ from) × (m.pointer ≡ Inline from) × (m.size ≡ length (record_text sum m)) × (record_kind m ≢ Corrupted) × LieFrom sum (from + m.size) ms
+    (m.place ≡ from) × (m.pointer ≡ Inline from) × (m.size ≡ length (record_text sum m)) × (record_kind m ≢ Corrupted) × (m.page < 2 ^ 64) × LieFrom sum (from + m.size) ms
 
 -- What a caller sees of a log.
 

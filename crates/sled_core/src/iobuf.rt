@@ -118,6 +118,7 @@ impl Buffer {
         requires room { length self.old.bytes.items + head.now.len + item_len + 32 ≤ vec_capacity self.old.bytes }
         requires place { vec_len self.old.reserved < vec_capacity self.old.reserved }
         ensures bytes { self.new.bytes.items ≡ self.old.bytes.items ++ placeholder_head (take head.now.len head.now.bytes) ++ T.short (T.meaning item.now) }
+        ensures len { length self.new.bytes.items ≡ length self.old.bytes.items + head.now.len + item_len }
         ensures reserved { self.new.reserved.items ≡ self.old.reserved.items ++ reserved_for message.now (length self.old.bytes.items) head.now.len item_len (C.sum_of (T.short (T.meaning item.now) ++ drop 4 (take head.now.len head.now.bytes))) ∷ [] }
         ensures from { self.new.from ≡ self.old.from }
     {

@@ -16,7 +16,7 @@ ghost use Rattle.sled_core.specs.Reading.{GivesMessage, IsInline, IsReading, IsM
 ghost use Rattle.sled_codec.specs.Places.{MayBegin};
 ghost use Rattle.sled_codec.specs.Pointers.{lid_of};
 ghost use Rattle.sled_core.specs.Buffers.{record_size};
-ghost use Rattle.sled_core.specs.Causes.{Answers, FaultAnswers, ReserveAnswers, ReadAnswers};
+ghost use Rattle.sled_core.specs.Causes.{Answers, FaultAnswers, ReserveAnswers, ReadAnswers, failure_in};
 
 use crate::iobuf::{Buffer, Kept, MAX_MSG_HEADER_LEN, Reserved, SEG_HEADER_LEN};
 use crate::reading::{LogRead, read_message};
@@ -37,6 +37,7 @@ pub struct Log<D, C> {
     /// The first failure of the device in this log.
     fault: Option<io::Error>,
     pins: u64,
+    ghost in_segment: { length buffer.bytes.items ≤ config.config.segment_size },
 }
 
 impl<D: Device, C: Checksum> Log<D, C> {
@@ -213,7 +214,7 @@ impl<D: Device, C: Checksum> Log<D, C> {
         requires ended { AllEnded self.old }
         requires inline { IsInline ptr }
         requires reserved { lsn <ℤ pos (reserved_end self.old) }
-        ensures message { (H : History) (m : Message) → Holds D.trace C.sum_of self.old H → Contains H.messages m → pos m.place ≡ lsn → m.pointer ≡ ptr → m.page < 2 ^ 64 → IfOk result (GivesMessage m) }
+        ensures message { (H : History) (m : Message) → Holds D.trace C.sum_of self.old H → Contains H.messages m → pos m.place ≡ lsn → m.pointer ≡ ptr → IfOk result (GivesMessage m) }
         ensures reading { IfOk result (IsReading C.sum_of (segment_size_of self.old) (state_of (D.trace (device_of self.new))).log.bytes (lid_of ptr) (unsigned_abs lsn / segment_size_of self.old)) }
         ensures corrupt { IsCorruption result → IsNoPlace (segment_size_of self.old) lsn (lid_of ptr) ⊎ IsMalformed C.sum_of (segment_size_of self.old) (state_of (D.trace (device_of self.new))).log.bytes (lid_of ptr) (unsigned_abs lsn / segment_size_of self.old) }
         ensures refused { fault_of self.old ≡ None → IsNoPlace (segment_size_of self.old) lsn (lid_of ptr) → IsCorruption result × (self.new ≡ self.old) }
@@ -233,10 +234,28 @@ impl<D: Device, C: Checksum> Log<D, C> {
         if lsn < 0 || !may_begin(lid, size) {
             return Err(Error::Corruption { at: None });
         }
-        if lsn as u64 >= self.buffer.from as u64 {
+        let place = lsn.unsigned_abs();
+        self.settle(place)?;
+        self.read_settled(lid, SegmentNumber(place / size))
+    }
+
+    /// Writes what was completed where this place is not written yet.
+    fn settle(&mut self, place: u64) -> Result<()>
+        requires ended { AllEnded self.old }
+        requires reserved { place < reserved_end self.old }
+        requires fault { fault_of self.old ≡ None }
+        ensures written { OnOk result (place < synced_end self.new) }
+        ensures history { (H : History) → Holds D.trace C.sum_of self.old H → Holds D.trace C.sum_of self.new H }
+        ensures ended { AllEnded self.new }
+        ensures next { next_place self.new ≡ next_place self.old }
+        ensures pins { pins_of self.new ≡ pins_of self.old }
+        ensures size { segment_size_of self.new ≡ segment_size_of self.old }
+        ensures answers { Answers result (fault_of self.old) (fault_of self.new) (D.faults (device_of self.old)) (D.faults (device_of self.new)) }
+    {
+        if place >= self.buffer.from as u64 {
             self.flush()?;
         }
-        self.read_settled(lid, SegmentNumber(lsn as u64 / size))
+        Ok(())
     }
 
     /// Reads at an offset of the device, and keeps a failure of it.
@@ -244,19 +263,17 @@ impl<D: Device, C: Checksum> Log<D, C> {
         requires { fault_of self.old ≡ None }
         ensures reading { IfOk result (IsReading C.sum_of (segment_size_of self.old) (state_of (D.trace (device_of self.old))).log.bytes lid number.0) }
         ensures malformed { IsCorruption result → IsMalformed C.sum_of (segment_size_of self.old) (state_of (D.trace (device_of self.old))).log.bytes lid number.0 }
-        ensures buffer { self.new.buffer ≡ self.old.buffer }
+        ensures history { (H : History) → Holds D.trace C.sum_of self.old H → Holds D.trace C.sum_of self.new H }
+        ensures ended { AllEnded self.old → AllEnded self.new }
+        ensures next { next_place self.new ≡ next_place self.old }
         ensures trace { D.trace (device_of self.new) ≡ D.trace (device_of self.old) }
         ensures pins { pins_of self.new ≡ pins_of self.old }
         ensures size { segment_size_of self.new ≡ segment_size_of self.old }
         ensures answers { ReadAnswers result None (fault_of self.new) (D.faults (device_of self.old)) (D.faults (device_of self.new)) }
     {
-        match read_message(&mut self.config, lid, number) {
-            Err(Error::Io(e)) => {
-                self.fault = Some(e);
-                Err(Error::Io(e))
-            }
-            answer => answer,
-        }
+        let answer = read_message(&mut self.config, lid, number);
+        self.fault = failure_of(&answer);
+        answer
     }
 
     /// Whether a message of this page with this item fits inline into what is left of the segment.
@@ -342,6 +359,16 @@ fn write_out<D: Device>(device: &mut D, buffer: &Buffer) -> io::Result<()>
 {
     device.write_at(buffer.from as u64, &buffer.bytes[buffer.from..])?;
     device.sync()
+}
+
+/// The failure of the device that an answer tells of.
+fn failure_of(answer: &Result<LogRead>) -> Option<io::Error>
+    ensures { result ≡ failure_in answer.now }
+{
+    match answer {
+        Err(Error::Io(e)) => Some(*e),
+        _ => None,
+    }
 }
 
 /// Keeps a failure of the device, and says which error it is. Want of memory is none.

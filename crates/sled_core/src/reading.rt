@@ -100,7 +100,6 @@ fn read_found<D: Device, C: Checksum>(
 /// The first bytes from an offset on. What lies past the end of the file is anything.
 fn read_head<D: Device>(device: &mut D, lid: LogOffset) -> io::Result<[u8; READ_AHEAD]>
     ensures head { IfOk result (λ head. (k : ℕ) → k ≤ 128 → lid + k ≤ length (state_of (D.trace device.old)).log.bytes → take k head ≡ part (state_of (D.trace device.old)).log.bytes lid k) }
-    ensures bytes { IfOk result (λ head. (i : ℕ) → slice_index head i < 256) }
     ensures long { IfOk result (λ head. length head ≡ 128) }
     ensures trace { D.trace device.new ≡ D.trace device.old }
     ensures faults { Counts result (D.faults device.old) (D.faults device.new) }
@@ -117,15 +116,17 @@ fn blank() -> [u8; READ_AHEAD] {
 }
 
 /// The header that these bytes begin with, and how long its spelling is.
-fn decode_head(alloc: Global, head: &[u8; READ_AHEAD]) -> Result<Option<(MessageHeader, usize)>>
+fn decode_head(alloc: Global, head: &[u8]) -> Result<Option<(MessageHeader, usize)>>
+    requires { length head.now ≡ 128 }
     ensures found { IfOk result (λ found. MatchOption found
         ((front rest : List ℕ) (h : MessageHeader) → head.now ≡ front ++ rest → SpellsMessageHeader front h → ⊥)
         (λ x. SpellsMessageHeader (take x.1 head.now) x.0 × (x.1 ≤ 128) × (8 ≤ x.1))) }
+    ensures bytes { (i : ℕ) → slice_index head.now i < 256 }
     ensures errors { IfErr result (λ e. e ≡ Error.OutOfMemory) }
 {
-    let mut rest: &[u8] = head;
+    let mut rest = head;
     match MessageHeader::deserialize(alloc, &mut rest) {
-        Ok(header) => Ok(Some((header, READ_AHEAD - rest.len()))),
+        Ok(header) => Ok(Some((header, head.len() - rest.len()))),
         Err(Error::Corruption { at: _ }) => Ok(None),
         Err(e) => Err(e),
     }

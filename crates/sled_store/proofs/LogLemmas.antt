@@ -1,5 +1,5 @@
 -- A range of the log file that nothing touched since the last sync reads the same after each crash, and stays so behind writes and cuts elsewhere.
-use Rattle.std.proofs.Common.{◌≡◌, ◌⊎◌, ◌≤◌, ◌<◌, ◌+◌, ◌-◌, ◌||◌, ◌&&◌, ℕ, zero, suc, min, max, Bool, true, false, nat_lt, nat_le, List, [], ◌∷◌, length, take, drop, get_or, refl, sym, ◌∙◌, ap, arith, inl, inr, length-take, length-drop}
+use Rattle.std.proofs.Common.{◌≡◌, ◌⊎◌, ◌≤◌, ◌<◌, ◌+◌, ◌-◌, ◌||◌, ◌&&◌, ℕ, min, max, Bool, false, nat_lt, nat_le, List, length, take, drop, get_or, refl, sym, ◌∙◌, ap, arith, inl, inr, length-take, length-drop}
 use Rattle.std.proofs.lemmas.Bool.{cases_lt}
 use Rattle.std.proofs.lemmas.Bool.Decides.{nat_tests}
 use Rattle.std.proofs.lemmas.List.{get_or-take, get_or-drop}
@@ -7,7 +7,7 @@ use Rattle.std.proofs.lemmas.Grind.{same_number_lists}
 use Rattle.sled_store.specs.Device.{LogState, log_step, at_rest, overwritten, end_of, LeavesLog, Wrote, Cut, Synced}
 use Rattle.sled_store.specs.Durable.{IsDurable}
 use Rattle.sled_store.proofs.OverwrittenLemmas.{length-overwritten, overwritten-below, overwritten-above}
-use Rattle.sled_store.proofs.LooseLemmas.{end_of-le, end_of-some, firm_written, firm_cut}
+use Rattle.sled_store.proofs.LooseLemmas.{end_of-le, firm_written, firm_cut}
 
 -- The same bytes, read at each offset of a range, are the same part.
 pub same_part : (xs ys : List ℕ) (from to : ℕ) → to ≤ length xs → to ≤ length ys → ((i : ℕ) → from ≤ i → i < to → get_or xs i 0 ≡ get_or ys i 0)

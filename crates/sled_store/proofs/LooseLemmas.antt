@@ -1,5 +1,5 @@
 -- A byte that is not loose after a write or a cut was not loose before, and reads as before.
-use Rattle.std.proofs.Common.{◌≡◌, ◌⊎◌, ◌≤◌, ◌<◌, ◌+◌, ◌||◌, ◌&&◌, ℕ, zero, suc, min, max, Bool, true, false, nat_lt, nat_le, List, length, take, get_or, refl, ◌∙◌, ap, arith, inl, inr}
+use Rattle.std.proofs.Common.{◌≡◌, ◌⊎◌, ◌≤◌, ◌<◌, ◌+◌, ◌||◌, ◌&&◌, ℕ, zero, suc, min, max, Bool, true, false, nat_lt, nat_le, List, length, take, get_or, refl, arith, inl, inr}
 use Rattle.std.proofs.lemmas.Bool.Decides.{nat_tests}
 use Rattle.std.proofs.lemmas.Bool.{cases_lt}
 use Rattle.std.proofs.lemmas.List.{get_or-take}
@@ -23,7 +23,7 @@ pub either_false : (a b : Bool) → a || b ≡ false → (a ≡ false) × (b ≡
 either_false false b none = (refl, none)
 either_false true b none = absurd (cc)
 
-or-false : (a : Bool) → a || false ≡ a
+pub or-false : (a : Bool) → a || false ≡ a
 or-false true = refl
 or-false false = refl
 

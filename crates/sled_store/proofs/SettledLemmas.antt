@@ -1,6 +1,6 @@
 -- In every trace, what is read and what is settled are each among what a crash may leave.
-use Rattle.std.proofs.Common.{◌≡◌, ◌⊎◌, ◌≤◌, ◌<◌, ℕ, ℤ, min, max, Bool, true, false, List, [], ◌∷◌, length, take, get_or, Option, Some, None, refl, ◌∙◌, sym, arith, inl, inr, subst, length-take}
-use Rattle.sled_store.specs.Device.{Event, Left, Trace, LogState, NameState, NamesState, log_step, state_of, content_of, settled_content, settled_file, overwritten, end_of, log_left, Leaves, LeavesFile, LeavesOneOf, LeavesName, LeavesLog, Wrote, Cut, Synced, BlobMade, BlobSynced, BlobRemoved, SnapshotFilled, SnapshotPublished, SnapshotRemoved, NamesSynced, Crashed, at_rest}
+use Rattle.std.proofs.Common.{◌≡◌, ◌⊎◌, ◌≤◌, ℕ, ℤ, max, Bool, true, false, List, [], ◌∷◌, length, get_or, Option, Some, None, refl, ◌∙◌, sym, arith, inl, inr, subst, length-take}
+use Rattle.sled_store.specs.Device.{Event, Trace, LogState, NameState, NamesState, log_step, state_of, content_of, settled_content, settled_file, log_left, Leaves, LeavesFile, LeavesOneOf, LeavesName, LeavesLog, Wrote, Cut, Synced, BlobMade, BlobSynced, BlobRemoved, SnapshotFilled, SnapshotPublished, SnapshotRemoved, NamesSynced, Crashed, at_rest}
 use Rattle.sled_store.proofs.OverwrittenLemmas.{length-overwritten}
 use Rattle.sled_store.proofs.LogLemmas.{at_rest_left}
 use Rattle.sled_store.proofs.LooseLemmas.{end_of-mono, firm_written, firm_cut}

@@ -1,5 +1,5 @@
 -- What a call of a device answers, and the event that it adds.
-use Rattle.std.specs.Prelude.{◌≡◌, ◌⊎◌, ◌≤◌, ◌+◌, ◌%◌, ◌^◌, ℕ, ℤ, Bool, true, false, if◌then◌else◌, List, ◌∷◌, length, Result, Ok, Err, IsTrue}
+use Rattle.std.specs.Prelude.{◌≡◌, ◌⊎◌, ◌≤◌, ◌+◌, ◌%◌, ◌^◌, ℕ, Bool, true, false, if◌then◌else◌, List, ◌∷◌, length, Result, Ok, Err, IsTrue}
 use Rattle.std.specs.Bool.{MatchBool}
 use Rattle.std.specs.IoError.{error_kind}
 use Rattle.std.specs.declared.io.Error.{Error}
@@ -32,6 +32,16 @@ Fails (Err e) = IsTrue (is_fault e)
 abbrev pub FailsOr : {T : Type 0} → ErrorKind → Result T Error → Type 0
 FailsOr kind (Ok _) = Unit {0}
 FailsOr kind (Err e) = MatchBool (is_fault e) (Unit {0}) (error_kind e ≡ kind)
+
+-- an error is a failure of the device, or it is of this kind and this is so
+abbrev pub FailsOrSays : {T : Type 0} → ErrorKind → Type 0 → Result T Error → Type 0
+FailsOrSays kind so (Ok _) = Unit {0}
+FailsOrSays kind so (Err e) = MatchBool (is_fault e) (Unit {0}) ((error_kind e ≡ kind) × so)
+
+-- an error is a failure of the device, or memory was wanted, or it is of this kind and this is so
+abbrev pub FailsWantsOrSays : {T : Type 0} → ErrorKind → Type 0 → Result T Error → Type 0
+FailsWantsOrSays kind so (Ok _) = Unit {0}
+FailsWantsOrSays kind so (Err e) = MatchBool (is_fault e) (Unit {0}) ((error_kind e ≡ OutOfMemory) ⊎ ((error_kind e ≡ kind) × so))
 
 -- What a failure may leave of a call, in place of its event. A write has any bytes in its range, as far as it came, and a cut any length
 -- from the new one on; a name is made or removed, or not.

@@ -1,5 +1,5 @@
 -- Bytes of the log that every crash leaves as they are.
-use Rattle.std.specs.Prelude.{◌≡◌, ◌≤◌, ◌<◌, ℕ, false, length, take}
+use Rattle.std.specs.Prelude.{◌≡◌, ◌≤◌, ◌<◌, ℕ, false, length}
 use Rattle.sled_store.specs.Device.{LogState}
 
 -- nothing in a range was written, grown or cut off since the last sync

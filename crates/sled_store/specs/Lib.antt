@@ -1,8 +1,10 @@
 pub mod Answers
+pub mod Chosen
 pub mod Device
 pub mod Due
 pub mod Durable
 pub mod Memory
+pub mod MemoryNames
 pub mod Moments
 pub mod Noted
 pub mod Script

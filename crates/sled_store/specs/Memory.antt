@@ -1,5 +1,5 @@
 -- What a log file in memory stands for.
-use Rattle.std.specs.Prelude.{◌≡◌, ◌≤◌, ◌<◌, ◌||◌, ◌&&◌, ℕ, Bool, false, nat_lt, nat_le, slice_index, List, [], ◌∷◌, length, vec_capacity}
+use Rattle.std.specs.Prelude.{◌≡◌, ◌≤◌, ◌<◌, ◌||◌, ◌&&◌, ◌==◌, ℕ, Bool, true, false, nat_lt, nat_le, slice_index, List, [], ◌∷◌, length, vec_capacity}
 use Rattle.sled_store.specs.declared.device.mem_log.MemLog.{MemLog}
 use Rattle.sled_store.specs.Device.{LogState}
 
@@ -11,6 +11,16 @@ is_within (r ∷ ranges) i = is_within ranges i || (nat_le r.0 i && nat_lt i r.1
 -- in one of the ranges, or past the cut
 abbrev pub is_loose_at : List (ℕ × ℕ) → ℕ → ℕ → Bool
 is_loose_at loose cut i = is_within loose i || nat_le cut i
+
+-- the offsets are below this length
+abbrev pub are_in : ℕ → List (ℕ × ℕ) → Bool
+are_in n [] = true
+are_in n (p ∷ patch) = nat_lt p.0 n && are_in n patch
+
+-- at each of the offsets a byte is the settled one, or may be lost
+abbrev pub are_kept : List (ℕ × ℕ) → ℕ → List ℕ → List ℕ → List (ℕ × ℕ) → Bool
+are_kept loose cut bytes settled [] = true
+are_kept loose cut bytes settled (p ∷ patch) = (is_loose_at loose cut p.0 || slice_index bytes p.0 == slice_index settled p.0) && are_kept loose cut bytes settled patch
 
 -- What is kept of a log file is this state of it.
 pub record Stands (log : MemLog) (s : LogState) : Type 0 where

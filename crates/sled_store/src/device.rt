@@ -1,16 +1,24 @@
-//! The device that a log is kept on: a log file. Blobs and snapshots come with the calls that write
-//! them; what they are is defined already.
-ghost use Rattle.std.specs.Prelude.{◌≡◌, ◌+◌, ◌-◌, ◌^◌, ◌<◌, ◌++◌, ℕ, length, take, drop, min, IfOk};
-ghost use Rattle.std.specs.declared.io.ErrorKind.TheVariants.{OutOfMemory};
-ghost use Rattle.sled_store.specs.Device.{Trace, state_of, Wrote, Cut, Synced};
-ghost use Rattle.sled_store.specs.Answers.{Counts, Fails, FailsOr, Does};
+//! The device that a log is kept on: a log file, blobs by place and snapshots by number.
+ghost use Rattle.std.specs.Prelude.{◌≡◌, ◌+◌, ◌-◌, ◌^◌, ◌<◌, ◌++◌, ◌↔◌, ℕ, ℤ, length, take, drop, min, IfOk, OnOk, IsSome, Contains, true};
+ghost use Rattle.std.specs.Ordering.{int_cmp};
+ghost use Rattle.std.specs.List.Sorted.{IsStrictlySortedBy};
+ghost use Rattle.std.specs.declared.io.ErrorKind.TheVariants.{OutOfMemory, NotFound, AlreadyExists};
+ghost use Rattle.sled_store.specs.Device.{Trace, state_of, Wrote, Cut, Synced, BlobMade, BlobSynced, BlobRemoved, SnapshotFilled, SnapshotPublished, SnapshotRemoved, NamesSynced};
+ghost use Rattle.sled_store.specs.Answers.{Counts, Fails, FailsOr, FailsOrSays, FailsWantsOrSays, Does};
 
 pub mod choice;
+pub mod crash_device;
+mod crash_log;
+mod crash_memory;
+mod crash_names;
 mod faults;
 pub mod laws;
 mod mem_log;
+mod mem_names;
 pub mod memory;
+mod offer;
 mod story;
+mod taken;
 
 use std::io;
 
@@ -57,6 +65,85 @@ pub trait Device {
     /// Settles what was written and cut off in the log file.
     fn sync(&mut self) -> io::Result<()>
         ensures trace { Does Synced result (trace self.old) (trace self.new) }
+        ensures faults { Counts result (faults self.old) (faults self.new) }
+        ensures error { Fails result };
+
+    /// Makes a blob. One that is there already is `AlreadyExists`. It may want memory. A failure may have
+    /// made it, with any bytes. Its bytes may be lost until they are synced, and its name until names are.
+    fn blob_create(&mut self, place: i64, bytes: &[u8]) -> io::Result<()>
+        ensures trace { Does (BlobMade place bytes.now bytes.now true) result (trace self.old) (trace self.new) }
+        ensures made { OnOk result ((state_of (trace self.old)).blobs.file place ≡ None) }
+        ensures faults { Counts result (faults self.old) (faults self.new) }
+        ensures error { FailsWantsOrSays AlreadyExists (IsSome ((state_of (trace self.old)).blobs.file place)) result };
+
+    /// Settles the bytes of a blob. One that is missing is `NotFound`.
+    fn blob_sync(&mut self, place: i64) -> io::Result<()>
+        ensures trace { Does (BlobSynced place) result (trace self.old) (trace self.new) }
+        ensures there { OnOk result (IsSome ((state_of (trace self.old)).blobs.file place)) }
+        ensures faults { Counts result (faults self.old) (faults self.new) }
+        ensures error { FailsOrSays NotFound ((state_of (trace self.old)).blobs.file place ≡ None) result };
+
+    /// The bytes of a blob. One that is missing is `NotFound`. It may want memory.
+    fn blob_read(&mut self, place: i64) -> io::Result<Vec<u8>>
+        ensures found { IfOk result (λ bytes. (state_of (trace self.old)).blobs.file place ≡ Some bytes.items) }
+        ensures trace { trace self.new ≡ trace self.old }
+        ensures faults { Counts result (faults self.old) (faults self.new) }
+        ensures error { FailsWantsOrSays NotFound ((state_of (trace self.old)).blobs.file place ≡ None) result };
+
+    /// Removes a blob. Where it is missing, nothing changes. A crash may bring it back until names are
+    /// synced.
+    fn blob_remove(&mut self, place: i64) -> io::Result<()>
+        ensures trace { Does (BlobRemoved place true) result (trace self.old) (trace self.new) }
+        ensures faults { Counts result (faults self.old) (faults self.new) }
+        ensures error { Fails result };
+
+    /// The places of all blobs, in ascending order. It may want memory.
+    fn blobs(&mut self) -> io::Result<Vec<i64>>
+        ensures places { IfOk result (λ places. (place : ℤ) → IsSome ((state_of (trace self.old)).blobs.file place) ↔ Contains places.items place) }
+        ensures ascending { IfOk result (λ places. IsStrictlySortedBy int_cmp places.items) }
+        ensures trace { trace self.new ≡ trace self.old }
+        ensures faults { Counts result (faults self.old) (faults self.new) }
+        ensures error { FailsOr OutOfMemory result };
+
+    /// Begins the temporary snapshot from empty, fills it and settles its bytes. It may want memory. A
+    /// failure may have left any bytes in it.
+    fn snapshot_write(&mut self, bytes: &[u8]) -> io::Result<()>
+        ensures trace { Does (SnapshotFilled bytes.now bytes.now) result (trace self.old) (trace self.new) }
+        ensures faults { Counts result (faults self.old) (faults self.new) }
+        ensures error { FailsOr OutOfMemory result };
+
+    /// Gives the temporary snapshot a number, over another that has it. It may want memory. A crash may
+    /// take the number back until names are synced.
+    fn snapshot_publish(&mut self, number: i64) -> io::Result<()>
+        ensures trace { Does (SnapshotPublished number true) result (trace self.old) (trace self.new) }
+        ensures faults { Counts result (faults self.old) (faults self.new) }
+        ensures error { FailsOr OutOfMemory result };
+
+    /// The bytes of a snapshot. One that is missing is `NotFound`. It may want memory.
+    fn snapshot_read(&mut self, number: i64) -> io::Result<Vec<u8>>
+        ensures found { IfOk result (λ bytes. (state_of (trace self.old)).snapshots.file number ≡ Some bytes.items) }
+        ensures trace { trace self.new ≡ trace self.old }
+        ensures faults { Counts result (faults self.old) (faults self.new) }
+        ensures error { FailsWantsOrSays NotFound ((state_of (trace self.old)).snapshots.file number ≡ None) result };
+
+    /// Removes a snapshot. Where it is missing, nothing changes. A crash may bring it back until names are
+    /// synced.
+    fn snapshot_remove(&mut self, number: i64) -> io::Result<()>
+        ensures trace { Does (SnapshotRemoved number true) result (trace self.old) (trace self.new) }
+        ensures faults { Counts result (faults self.old) (faults self.new) }
+        ensures error { Fails result };
+
+    /// The numbers of all snapshots, in ascending order. The temporary one has none. It may want memory.
+    fn snapshots(&mut self) -> io::Result<Vec<i64>>
+        ensures numbers { IfOk result (λ numbers. (number : ℤ) → IsSome ((state_of (trace self.old)).snapshots.file number) ↔ Contains numbers.items number) }
+        ensures ascending { IfOk result (λ numbers. IsStrictlySortedBy int_cmp numbers.items) }
+        ensures trace { trace self.new ≡ trace self.old }
+        ensures faults { Counts result (faults self.old) (faults self.new) }
+        ensures error { FailsOr OutOfMemory result };
+
+    /// Settles which blobs and snapshots were made or removed.
+    fn sync_names(&mut self) -> io::Result<()>
+        ensures trace { Does NamesSynced result (trace self.old) (trace self.new) }
         ensures faults { Counts result (faults self.old) (faults self.new) }
         ensures error { Fails result };
 

@@ -10,4 +10,5 @@ pub mod device;
 pub use config::{Config, RunningConfig};
 pub use device::Device;
 pub use device::choice::{Choice, Offer};
+pub use device::crash_device::CrashDevice;
 pub use device::memory::MemDevice;

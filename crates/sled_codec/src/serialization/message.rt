@@ -4,7 +4,7 @@ ghost use Rattle.sled_codec.specs.Kinds.{code_of, kind_of, log_kind_of, kind_wri
 ghost use Rattle.sled_codec.specs.Spelling.{SpellsMessageHeader, FitsMessageHeader, short_message_header, short_header_tail};
 ghost use Rattle.sled_codec.specs.Written.{written};
 
-use crate::result::{Error, PageId, Result};
+use crate::result::{Lsn, PageId, Result};
 use crate::serialization::{Delimited, Serialize};
 use std::alloc::Global;
 
@@ -252,4 +252,58 @@ impl MessageHeader {
         let next = number.serialize_into(buf, next);
         pid.serialize_into(buf, next)
     }
+}
+
+/// The item of a batch's first message: its peg, the place of the last message of the batch.
+#[derive(Debug, Clone, Copy, PartialEq)]
+pub struct BatchManifest(pub Lsn);
+
+/// The peg, as an `i64`.
+impl Serialize for BatchManifest {
+    ghost use Rattle.std.specs.Prelude.{ℤ, FitsSigned};
+    ghost use Rattle.std.specs.Int.{w64};
+    ghost use Rattle.sled_codec.specs.Spelling.{SpellsSigned, short_signed};
+    ghost use Rattle.sled_codec.specs.SpellingLaws.{short_spells-signed};
+
+    ghost Meaning = { ℤ };
+
+    ghost meaning = { λ manifest. manifest.0 };
+
+    ghost Spells = { SpellsSigned };
+
+    ghost fits = { FitsSigned w64 };
+
+    ghost short = { short_signed };
+
+    fn can_serialize(&self) -> bool {
+        let peg = self.0;
+        peg.can_serialize()
+    }
+
+    fn serialized_size(&self) -> u64 {
+        let peg = self.0;
+        peg.serialized_size()
+    }
+
+    fn serialize_into(&self, buf: &mut [u8], at: usize) -> usize {
+        let peg = self.0;
+        peg.serialize_into(buf, at)
+    }
+
+    fn deserialize(alloc: Global, buf: &mut &[u8]) -> Result<BatchManifest> {
+        match i64::deserialize(alloc, buf) {
+            Ok(peg) => Ok(BatchManifest(peg)),
+            Err(e) => Err(e),
+        }
+    }
+
+    ghost short_spells = { short_spells-signed };
+}
+
+impl Delimited for BatchManifest {
+    ghost use Rattle.sled_codec.specs.SpellingLaws.{one_value-signed, no_front-signed};
+
+    ghost one_value = { one_value-signed };
+
+    ghost no_front = { no_front-signed };
 }

@@ -28,7 +28,7 @@ impl Serialize for u8 {
     }
 
     fn serialized_size(&self) -> u64 {
-        1
+        u64::from(u8::BITS / 8)
     }
 
     fn serialize_into(&self, buf: &mut [u8], at: usize) -> usize {
@@ -73,7 +73,7 @@ impl Serialize for u32 {
     }
 
     fn serialized_size(&self) -> u64 {
-        4
+        u64::from(u32::BITS / 8)
     }
 
     fn serialize_into(&self, buf: &mut [u8], at: usize) -> usize {
@@ -119,7 +119,7 @@ impl Serialize for i64 {
     }
 
     fn serialized_size(&self) -> u64 {
-        8
+        u64::from(i64::BITS / 8)
     }
 
     fn serialize_into(&self, buf: &mut [u8], at: usize) -> usize {
@@ -201,6 +201,10 @@ impl Serialize for u64 {
             return Err(Error::Corruption { at: None });
         }
         let lead = bytes[0];
+        if lead <= 240 {
+            *buf = &bytes[1..];
+            return Ok(lead as u64);
+        }
         let end = 1 + more_bytes(lead);
         if bytes.len() < end {
             return Err(Error::Corruption { at: None });

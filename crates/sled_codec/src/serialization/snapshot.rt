@@ -1,38 +1,42 @@
-//! Snapshots: the table of pages below a cut, as it is kept apart from the log.
-ghost use Rattle.std.specs.Prelude.{◌≡◌, None, []};
+//! Snapshots of the page table (`docs/FORMATS.md`, "Snapshots").
+ghost use Rattle.std.specs.Prelude.{◌≡◌, ◌+◌, ◌-◌, ◌^◌, ◌<◌, [], None};
+ghost use Rattle.sled_codec.specs.Coords.{coords_of, HasCoords, raised};
 
 use crate::result::{DiskPtr, LogOffset, Lsn};
 use std::alloc::Global;
 
-/// What a page is at a cut. An entry is a message's place, where its record lies, and how long that is.
-#[derive(Debug, Drop)]
+/// Where a message of a page lies: its place in the log, its pointer, and how long its record is.
+pub type Entry = (Lsn, DiskPtr, u64);
+
+/// What a page is in the table.
+#[derive(Debug, Clone, PartialEq, Drop)]
 pub enum PageState {
-    /// The page is its base with the fragments on it, in order.
+    /// It was begun.
     Present {
-        /// The message that replaced the page.
-        base: (Lsn, DiskPtr, u64),
-        /// The messages that were put on it since.
-        frags: Vec<(Lsn, DiskPtr, u64)>,
+        /// Its last Replace.
+        base: Entry,
+        /// The Links on it, the first one first.
+        frags: Vec<Entry>,
     },
-    /// The page was given back, by this message.
+    /// It was given back, by this message.
     Free(Lsn, DiskPtr),
-    /// The page was never begun.
+    /// No message of it was seen.
     Uninitialized,
 }
 
-/// The table of pages below a cut.
-#[derive(Debug, Drop)]
+/// The page table up to a place, and where the log goes on.
+#[derive(Debug, PartialEq, Drop)]
 pub struct Snapshot {
-    /// The cut: the place at which the log goes on. None for a log that was never begun.
+    /// The place up to which the table is complete. `None`: nothing was written yet.
     pub stable_lsn: Option<Lsn>,
-    /// The offset of the segment that holds the cut, where the log goes on within one.
+    /// The offset of the segment that holds that place, where it has room left.
     pub active_segment: Option<LogOffset>,
-    /// What each page is, from page 0 on.
+    /// The pages, by their number.
     pub pt: Vec<PageState>,
 }
 
 impl Snapshot {
-    /// The snapshot of a log that was never begun. It takes no memory.
+    /// The snapshot of a log that nothing was written to. It takes no memory.
     pub fn empty(alloc: Global) -> Snapshot
         ensures stable { result.stable_lsn ≡ None }
         ensures active { result.active_segment ≡ None }
@@ -44,4 +48,33 @@ impl Snapshot {
             pt: Vec::new(alloc),
         }
     }
+
+    /// Where a log with segments of this size goes on: the offset in the file and the place. It asks for
+    /// a stable place that is not negative, and for sums that fit.
+    pub fn recovered_coords(&self, segment_size: u64) -> (Option<LogOffset>, Option<Lsn>)
+        requires { HasCoords segment_size self.now.stable_lsn self.now.active_segment }
+        ensures { result ≡ coords_of segment_size self.now.stable_lsn self.now.active_segment }
+    {
+        match (self.stable_lsn, self.active_segment) {
+            (None, _) => (None, None),
+            (Some(stable), Some(segment)) => {
+                let offset = stable.unsigned_abs() % segment_size;
+                (Some(segment + offset), Some(stable))
+            }
+            (Some(stable), None) => {
+                let raised = raised(stable.unsigned_abs(), segment_size);
+                (None, Some(raised as i64))
+            }
+        }
+    }
+}
+
+// A place, raised to the next multiple of a size.
+fn raised(place: u64, size: u64) -> u64
+    requires some { 0 < size }
+    requires fits { place + (size - 1) < 2 ^ 63 }
+    ensures value { result ≡ raised size place }
+    ensures small { result < 2 ^ 63 }
+{
+    (place + (size - 1)) / size * size
 }

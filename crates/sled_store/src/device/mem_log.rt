@@ -151,7 +151,7 @@ fn renew(settled: &mut Vec<u8>, bytes: &Vec<u8>, from: usize)
 }
 
 // Adds bytes at the end, where there is room for them.
-fn append(bytes: &mut Vec<u8>, new: &[u8])
+pub(super) fn append(bytes: &mut Vec<u8>, new: &[u8])
     requires { vec_len bytes.old + length new.now ≤ vec_capacity bytes.old }
     ensures items { bytes.new.items ≡ bytes.old.items ++ new.now }
     ensures capacity { vec_capacity bytes.old ≤ vec_capacity bytes.new }

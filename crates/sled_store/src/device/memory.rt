@@ -5,9 +5,11 @@
 ghost use Rattle.std.specs.Prelude.{◌≡◌, ◌<◌, []};
 ghost use Rattle.sled_store.specs.Device.{state_of};
 ghost use Rattle.sled_store.specs.Memory.{Stands};
+ghost use Rattle.sled_store.specs.MemoryNames.{Keeps};
 
 use super::faults::Faults;
 use super::mem_log::MemLog;
+use super::mem_names::MemNames;
 use super::story::{Note, Story};
 use crate::Device;
 use std::alloc::Global;
@@ -16,10 +18,18 @@ use std::io;
 /// A device in memory. Any call of it can be made to fail.
 #[derive(Drop)]
 pub struct MemDevice {
-    story: Story,
-    log: MemLog,
-    faults: Faults,
+    pub(crate) story: Story,
+    pub(crate) log: MemLog,
+    pub(crate) blobs: MemNames,
+    pub(crate) snapshots: MemNames,
+    // The snapshot that has no number yet.
+    pub(crate) temporary: Vec<u8>,
+    pub(crate) faults: Faults,
+    alloc: Global,
     ghost stands: { Stands log (state_of story.events).log },
+    ghost keeps_blobs: { Keeps blobs (state_of story.events).blobs },
+    ghost keeps_snapshots: { Keeps snapshots (state_of story.events).snapshots },
+    ghost keeps_temporary: { temporary.items ≡ (state_of story.events).temporary.bytes },
 }
 
 impl MemDevice {
@@ -34,7 +44,11 @@ impl MemDevice {
         MemDevice {
             story: Story::new(),
             log: MemLog::new(alloc),
+            blobs: MemNames::new(alloc),
+            snapshots: MemNames::new(alloc),
+            temporary: Vec::new(alloc),
             faults: Faults::new(),
+            alloc,
         }
     }
 
@@ -57,16 +71,12 @@ impl Device for MemDevice {
     ghost faults = { λ device. device.faults.count };
 
     fn len(&mut self) -> io::Result<u64> {
-        if self.faults.is_due() {
-            return Err(self.faults.fail());
-        }
+        self.faults.begin()?;
         Ok(self.log.bytes.len() as u64)
     }
 
     fn read_at(&mut self, at: u64, buf: &mut [u8]) -> io::Result<usize> {
-        if self.faults.is_due() {
-            return Err(self.faults.fail());
-        }
+        self.faults.begin()?;
         let start = (at as usize).min(self.log.bytes.len());
         let count = buf.len().min(self.log.bytes.len() - start);
         buf[..count].copy_from_slice(&self.log.bytes[start..start + count]);
@@ -74,6 +84,9 @@ impl Device for MemDevice {
     }
 
     fn write_at(&mut self, at: u64, bytes: &[u8]) -> io::Result<()> {
+        if self.faults.is_stopped {
+            return Err(self.faults.fail());
+        }
         if self.faults.is_due() {
             let half = bytes.len() / 2;
             self.log.write(at as usize, bytes, half)?;
@@ -90,27 +103,116 @@ impl Device for MemDevice {
             asked: bytes,
             now: bytes,
         });
-        Ok(())
+        self.faults.end()
     }
 
     fn cut(&mut self, len: u64) -> io::Result<()> {
-        if self.faults.is_due() {
-            return Err(self.faults.fail());
-        }
+        self.faults.begin()?;
         self.log.cut(len as usize);
         self.story = self.story.then(&Note::Cut {
             asked: len,
             now: len,
         });
-        Ok(())
+        self.faults.end()
     }
 
     fn sync(&mut self) -> io::Result<()> {
-        if self.faults.is_due() {
-            return Err(self.faults.fail());
-        }
+        self.faults.begin()?;
+        self.faults.end()?;
         self.log.sync();
         self.story = self.story.then(&Note::Synced);
+        Ok(())
+    }
+
+    fn blob_create(&mut self, place: i64, bytes: &[u8]) -> io::Result<()> {
+        self.faults.begin()?;
+        if self.blobs.has(place) {
+            return Err(io::Error::new(io::ErrorKind::AlreadyExists, "a blob is at that place"));
+        }
+        let copy = bytes.to_vec(self.alloc)?;
+        self.blobs.make(place, copy, true)?;
+        self.story = self.story.then(&Note::BlobMade {
+            place,
+            asked: bytes,
+            now: bytes,
+            done: true,
+        });
+        self.faults.end()
+    }
+
+    fn blob_sync(&mut self, place: i64) -> io::Result<()> {
+        self.faults.begin()?;
+        if !self.blobs.has(place) {
+            return Err(io::Error::new(io::ErrorKind::NotFound, "no blob is at that place"));
+        }
+        self.faults.end()?;
+        self.blobs.sync(place);
+        self.story = self.story.then(&Note::BlobSynced { place });
+        Ok(())
+    }
+
+    fn blob_read(&mut self, place: i64) -> io::Result<Vec<u8>> {
+        self.faults.begin()?;
+        self.blobs.read(self.alloc, place)
+    }
+
+    fn blob_remove(&mut self, place: i64) -> io::Result<()> {
+        self.faults.begin()?;
+        self.blobs.remove(place);
+        self.story = self.story.then(&Note::BlobRemoved { place, done: true });
+        self.faults.end()
+    }
+
+    fn blobs(&mut self) -> io::Result<Vec<i64>> {
+        self.faults.begin()?;
+        Ok(self.blobs.list(self.alloc)?)
+    }
+
+    fn snapshot_write(&mut self, bytes: &[u8]) -> io::Result<()> {
+        self.faults.begin()?;
+        self.temporary = bytes.to_vec(self.alloc)?;
+        self.story = self.story.then(&Note::SnapshotFilled {
+            asked: bytes,
+            now: bytes,
+        });
+        self.faults.end()
+    }
+
+    fn snapshot_publish(&mut self, number: i64) -> io::Result<()> {
+        self.faults.begin()?;
+        let copy = self.temporary.to_vec(self.alloc)?;
+        self.snapshots.make(number, copy, false)?;
+        self.story = self
+            .story
+            .then(&Note::SnapshotPublished { number, done: true });
+        self.faults.end()
+    }
+
+    fn snapshot_read(&mut self, number: i64) -> io::Result<Vec<u8>> {
+        self.faults.begin()?;
+        self.snapshots.read(self.alloc, number)
+    }
+
+    fn snapshot_remove(&mut self, number: i64) -> io::Result<()> {
+        self.faults.begin()?;
+        self.snapshots.remove(number);
+        self.story = self
+            .story
+            .then(&Note::SnapshotRemoved { number, done: true });
+        self.faults.end()
+    }
+
+    fn snapshots(&mut self) -> io::Result<Vec<i64>> {
+        self.faults.begin()?;
+        Ok(self.snapshots.list(self.alloc)?)
+    }
+
+    fn sync_names(&mut self) -> io::Result<()> {
+        self.faults.begin()?;
+        self.faults.end()?;
+        self.blobs.settle();
+        self.snapshots.settle();
+        self.story = self.story.then(&Note::NamesSynced);
         Ok(())
     }
 

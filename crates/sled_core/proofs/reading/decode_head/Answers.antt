@@ -11,9 +11,12 @@ pub returns-in-Ok-clause-found : goal.returns-in-Ok-clause-found
 returns-in-Ok-clause-found c =
     let taken = c.in-Ok.ensures.ok in
     let rest : List ℕ = c.deserialize.new.buf.now in
-    let long : length c.args.head.now ≡ 128 = search rules in
+    let long : length c.args.head.now ≡ 128 = c.requires in
     let some = header_some taken.0 c.in-Ok.header taken.1 in
     let parts = ap length taken.2 in
-    let front_long : length taken.0 ≡ 128 - length rest = omega (arith, long, parts, length-append taken.0 rest) in
-    let front : taken.0 ≡ take (128 - length rest) c.args.head.now = sym (ap (take (128 - length rest)) taken.2 ∙ take_at taken.0 rest (128 - length rest) front_long) in
+    let front_long : length taken.0 ≡ length c.args.head.now - length rest = omega (arith, long, parts, length-append taken.0 rest) in
+    let front : taken.0 ≡ take (length c.args.head.now - length rest) c.args.head.now = sym (ap (take (length c.args.head.now - length rest)) taken.2 ∙ take_at taken.0 rest (length c.args.head.now - length rest) front_long) in
     (subst (λ (t : List ℕ). SpellsMessageHeader t c.in-Ok.header) front taken.1, omega arith, omega (arith, some, front_long))
+
+pub returns-in-Ok-clause-bytes : goal.returns-in-Ok-clause-bytes
+returns-in-Ok-clause-bytes c = λ i. (c.type_inv.head i).fits

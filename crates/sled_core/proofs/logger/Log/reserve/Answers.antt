@@ -2,7 +2,7 @@ use Rattle.std.proofs.Common.{◌≡◌, ◌∙◌, ◌≤◌, ◌<◌, ◌+◌,
 use Rattle.std.specs.List.{slice_get}
 use Rattle.sled_codec.specs.declared.result.DiskPtr.TheVariants.{Inline}
 use Rattle.sled_codec.specs.Kinds.{kind_written}
-use Rattle.sled_codec.specs.Spelling.{short_header_tail}
+use Rattle.sled_codec.specs.Spelling.{short_number, short_header_tail}
 use Rattle.sled_codec.specs.History.{History, Message}
 use Rattle.sled_store.specs.Device.{state_of}
 use Rattle.sled_core.specs.declared.iobuf.Reserved.{Reserved}
@@ -120,3 +120,9 @@ returns-clause-others g c = λ ticket m awaits.
           ∙ ap (λ (l : List ℕ). record (message_in old.bytes.items r) { bytes = l }) (sym (body-append old.bytes.items more r within headed.1))
           ∙ ap (λ (l : List ℕ). message_in l r) (sym (bytes_are g c));
     }
+
+pub invariant_of-self-4 : goal.invariant_of-self-4
+invariant_of-self-4 g c =
+    let tail = length-short_header_tail c.in-Some-message_kind.message_kind c.serialized_size-item_len.result 0 c.args.pid in
+    let item_long = ap (λ n. length (short_number n)) c.serialized_size-item_len.ensures in
+    record { in_segment = omega (arith, c.append.ensures.len, ap length c.make_room.ensures.bytes, c.head_of-head.ensures.len, tail, item_long, c.serialized_size-item_len.ensures, c.requires.room.record_fits) }

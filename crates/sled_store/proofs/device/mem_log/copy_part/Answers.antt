@@ -1,5 +1,5 @@
 -- Outside the range a byte stays, and so it is the same still.
-use Rattle.std.proofs.Common.{◌∙◌, ℕ, List, arith, ap, length, ◌≤◌, ◌≡◌, ◌<◌, get_or, take, drop, ◌++◌, ◌-◌, ◌+◌}
+use Rattle.std.proofs.Common.{ℕ, List, arith, length, ◌≤◌, ◌<◌}
 use Rattle.sled_store.proofs.OverwrittenLemmas.{copied-same}
 use Rattle.sled_store.proofs.device.mem_log.copy_part.Goals as goal
 

@@ -1,5 +1,5 @@
 -- Growing with zeros and writing over them overwrites.
-use Rattle.std.proofs.Common.{◌∙◌, ap, List, ℕ, length, replicate, ◌++◌, ◌-◌, ◌+◌, arith, rules, ◌≡◌, ◌<◌, take, drop}
+use Rattle.std.proofs.Common.{◌∙◌, ap, List, ℕ, length, replicate, ◌++◌, ◌-◌, ◌+◌, arith, ◌≡◌, ◌<◌, take, drop}
 use Rattle.std.proofs.lemmas.Bool.Decides.{nat_tests}
 use Rattle.sled_store.proofs.OverwrittenLemmas.{overwritten-grown}
 use Rattle.sled_store.proofs.device.mem_log.put.Goals as goal

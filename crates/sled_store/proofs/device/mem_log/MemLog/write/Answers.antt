@@ -1,5 +1,5 @@
 -- A write that was carried out is a write of the state.
-use Rattle.std.proofs.Common.{◌∙◌, sym, ap, refl, ℕ, List, length, max, min, take, arith, rules, ◌≡◌, ◌≤◌, ◌<◌, ◌+◌, vec_capacity, length-take}
+use Rattle.std.proofs.Common.{refl, take, arith, rules, length-take}
 use Rattle.std.proofs.lemmas.Bool.Decides.{nat_tests}
 use Rattle.sled_store.proofs.StandsLemmas.{written}
 use Rattle.sled_store.proofs.device.mem_log.MemLog.write.Goals as goal

@@ -1,0 +1,47 @@
+use Rattle.std.proofs.Common.{◌≡◌, ◌∙◌, ◌≤◌, ◌<◌, ◌/◌, ap, sym, subst, refl, ℕ, List, length, arith, inr, Option, None}
+use Rattle.std.specs.Int.{w64}
+use Rattle.std.specs.Prelude.{unsigned_abs}
+use Rattle.std.specs.declared.io.Error.{Error as IoError}
+use Rattle.std.proofs.lemmas.Int.{to_z-of_z}
+use Rattle.std.proofs.Math.Nat.{div-eq_of_lt}
+use Rattle.sled_codec.specs.declared.result.DiskPtr.{DiskPtr}
+use Rattle.sled_codec.specs.Pointers.{lid_of}
+use Rattle.sled_store.specs.Device.{LogState, Trace, state_of}
+use Rattle.sled_core.specs.Reading.{IsReading, IsMalformed, GivesMessage}
+use Rattle.sled_core.specs.Fits.{Holds, HoldsIn}
+use Rattle.sled_core.specs.declared.reading.LogRead.{LogRead}
+use Rattle.sled_core.proofs.Parts.{moved}
+use Rattle.sled_core.proofs.ReadingLemmas.{if_ok}
+use Rattle.sled_core.proofs.GivesLemmas.{gives, message_found}
+use Rattle.sled_core.proofs.logger.Log.read.Given as given
+use Rattle.sled_core.proofs.logger.Log.read.Goals as goal
+
+place_is : (g : given.Over) (c : goal.After-read_settled g) → c.unsigned_abs-place.result ≡ unsigned_abs c.args.lsn
+place_is g c = c.unsigned_abs-place.ensures.value ∙ ap unsigned_abs (to_z-of_z w64 c.args.lsn c.ranges.lsn)
+
+pub returns-clause-corrupt : goal.returns-clause-corrupt
+returns-clause-corrupt g c = λ damaged.
+    let size : ℕ = c.args.self.now.config.config.segment_size in
+    inr (moved (IsMalformed g.C.Checksum.sum_of) _ size _ (state_of (g.D.Device.trace c.read_settled.new.self.config.device)).log.bytes _ (lid_of c.args.ptr) _ (unsigned_abs c.args.lsn / size)
+    c.in_ok-settle.ensures.size (ap (λ (t : Trace). (state_of t).log.bytes) (sym c.read_settled.ensures.trace)) c.lid-lid.ensures (ap (λ n. n / size) (place_is g c))
+    (c.read_settled.ensures.malformed damaged))
+
+pub returns-clause-message : goal.returns-clause-message
+unfolding Holds
+returns-clause-message g c = λ H m holds there at pointer.
+    let log = c.settle.new.self in
+    let device : LogState = (state_of (g.D.Device.trace log.config.device)).log in
+    let size : ℕ = c.args.self.now.config.config.segment_size in
+    let place : c.unsigned_abs-place.result ≡ m.place = place_is g c ∙ ap unsigned_abs (sym at) in
+    let after = subst (λ (o : Option IoError). HoldsIn g.C.Checksum.sum_of device o log.buffer.bytes.items log.buffer.from log.buffer.reserved.items H) c.in_ok-settle.ensures.answers.1 (c.in_ok-settle.ensures.history H holds) in
+    let same_size : log.config.config.segment_size ≡ size = c.in_ok-settle.ensures.size in
+    let inside : length log.buffer.bytes.items ≤ log.config.config.segment_size = log.in_segment in
+    let written : m.place < log.buffer.from = omega (arith, c.in_ok-settle.ensures.written, place) in
+    let found = message_found g.C.Checksum.sum_of log.config.config.segment_size device log.buffer.bytes.items log.buffer.from log.buffer.reserved.items H m after log.buffer.behind inside log.config.config.most there written in
+    let lid : c.lid-lid.result ≡ m.place = c.lid-lid.ensures ∙ ap lid_of (sym pointer ∙ found.4) in
+    let below : m.place < size = omega (arith, written, log.buffer.behind, inside, same_size) in
+    let number : c.unsigned_abs-place.result / size ≡ 0 = ap (λ n. n / size) place ∙ div-eq_of_lt below in
+    if_ok c.read_settled.result _ (GivesMessage m) (λ (r : LogRead) reads.
+    gives g.C.Checksum.sum_of log.config.config.segment_size device.bytes m.place 0 m found.0 r found.1 found.2 found.3
+    (moved (λ (s : ℕ) (l : List ℕ) (o n : ℕ). IsReading g.C.Checksum.sum_of s l o n r) _ _ _ device.bytes _ m.place _ 0 refl refl lid number reads))
+    c.read_settled.ensures.reading

@@ -1,0 +1,179 @@
+-- Offered files may be left exactly where each name that was made or offered may have what is offered.
+use Rattle.std.proofs.Common.{◌≡◌, ◌⊎◌, ◌≤◌, ◌<◌, ◌+◌, ◌-◌, ◌||◌, ◌&&◌, ◌↔◌, ℕ, ℤ, Bool, true, false, if◌then◌else◌, is_some, int_lt, List, [], ◌∷◌, ◌++◌, length, take, drop, get_or, Option, Some, None, IsSome, IsTrue, Vec, MatchBool, refl, sym, ◌∙◌, ap, subst, arith, inl, inr, length-drop}
+use Rattle.std.specs.Ordering.{int_eq}
+use Rattle.std.specs.declared.alloc.Global.{Global}
+use Rattle.std.proofs.lemmas.Bool.Decides.{Decides-int_eq}
+use Rattle.std.proofs.lemmas.Slice.Eq.{bytes_eq-Decides}
+use Rattle.std.proofs.lemmas.List.{drop_more, take_more}
+use Rattle.sled_store.specs.declared.device.mem_names.Kept.{Kept}
+use Rattle.sled_store.specs.declared.device.mem_names.MemNames.{MemNames}
+use Rattle.sled_store.specs.Device.{NameState, NamesState, LeavesFile, LeavesOneOf, LeavesName, file_named}
+use Rattle.sled_store.specs.Noted.{files_of}
+use Rattle.sled_store.specs.Chosen.{are_ascending}
+use Rattle.sled_store.specs.MemoryNames.{absent, history, has_name, leaves_file, leaves_any, Keeps}
+use Rattle.sled_store.proofs.KeptLemmas.{history-none}
+use Rattle.sled_store.proofs.LooseLemmas.{or-true, or-false}
+
+abbrev pub Files : Type 0
+Files = List (ℤ × Vec ℕ Global)
+
+-- Ascending.
+
+pub ascending_step : (xs : Files) (i : ℕ) (f g : ℤ × Vec ℕ Global) → 0 < i → i < length xs → f ≡ get_or xs (i - 1) f → g ≡ get_or xs i g → int_lt f.0 g.0 ≡ true
+    → are_ascending (files_of (drop i xs)) ≡ are_ascending (files_of (drop (i - 1) xs))
+ascending_step xs i f g some low is_f is_g up =
+    let before : i - 1 < length xs = omega arith in
+    let next : i - 1 + 1 ≡ i = omega arith in
+    let rest : Files = drop (i + 1) xs in
+    let second : drop i xs ≡ g ∷ rest = drop_more xs i g low ∙ ap (λ (x : ℤ × Vec ℕ Global). x ∷ rest) (sym is_g) in
+    let first : drop (i - 1) xs ≡ f ∷ (g ∷ rest) =
+    drop_more xs (i - 1) f before ∙ ap (λ (x : ℤ × Vec ℕ Global). x ∷ drop (i - 1 + 1) xs) (sym is_f) ∙ ap (λ (k : ℕ). f ∷ drop k xs) next ∙ ap (λ (ys : Files). f ∷ ys) second in
+    ap (λ (ys : Files). are_ascending (files_of ys)) second
+    ∙ sym (ap (λ (ys : Files). are_ascending (files_of ys)) first ∙ ap (λ (b : Bool). b && are_ascending (files_of (g ∷ rest))) up)
+
+pub ascending_end : (xs : Files) (i : ℕ) → 0 < i → length xs ≤ i → are_ascending (files_of (drop (i - 1) xs)) ≡ true
+ascending_end xs i some past = one_left (drop (i - 1) xs) (omega (arith, length-drop (i - 1) xs))
+  where
+    one_left : (ys : Files) → length ys ≤ 1 → are_ascending (files_of ys) ≡ true
+    one_left [] short = refl
+    one_left (y ∷ []) short = refl
+    one_left (y ∷ (z ∷ ys)) short = absurd (omega arith)
+
+-- Names.
+
+has_name-push : (xs : List Kept) (e : Kept) (n : ℤ) → has_name (xs ++ e ∷ []) n ≡ true → (has_name xs n ≡ true) ⊎ (e.name ≡ n)
+has_name-push [] e n has = inr ((Decides-int_eq e.name n).0 (sym (or-false (int_eq e.name n)) ∙ has))
+has_name-push (x ∷ xs) e n has = one (int_eq x.name n) (has_name (xs ++ e ∷ []) n) (has_name xs n) has (has_name-push xs e n)
+  where
+    one : {A : Type 0} (here more was : Bool) → here || more ≡ true → (more ≡ true → (was ≡ true) ⊎ A) → (here || was ≡ true) ⊎ A
+    one true more was either on = inl refl
+    one false more was either on = on either
+
+pub has_name-take : (xs : List Kept) (i : ℕ) (e : Kept) (n : ℤ) → i < length xs → e ≡ get_or xs i e → has_name (take (i + 1) xs) n ≡ true → (has_name (take i xs) n ≡ true) ⊎ (e.name ≡ n)
+has_name-take xs i e n low read has =
+    has_name-push (take i xs) e n (sym (ap (λ (ys : List Kept). has_name ys n) (take_more xs i e low ∙ ap (λ (x : Kept). take i xs ++ x ∷ []) (sym read))) ∙ has)
+
+named-push : (xs : Files) (f : ℤ × Vec ℕ Global) (n : ℤ) → is_some (file_named (files_of (xs ++ f ∷ [])) n) ≡ true → (is_some (file_named (files_of xs) n) ≡ true) ⊎ (f.0 ≡ n)
+named-push [] f n has = one (int_eq f.0 n) refl has
+  where
+    one : (b : Bool) → int_eq f.0 n ≡ b → is_some (if b then Some f.1.items else None) ≡ true → (is_some (file_named (files_of []) n) ≡ true) ⊎ (f.0 ≡ n)
+    one true is has = inr ((Decides-int_eq f.0 n).0 is)
+    one false is has = absurd (cc)
+named-push (x ∷ xs) f n has = one (int_eq x.0 n) has (named-push xs f n)
+  where
+    one : {A : Type 0} (b : Bool) → is_some (if b then Some x.1.items else file_named (files_of (xs ++ f ∷ [])) n) ≡ true
+        → (is_some (file_named (files_of (xs ++ f ∷ [])) n) ≡ true → (is_some (file_named (files_of xs) n) ≡ true) ⊎ A)
+        → (is_some (if b then Some x.1.items else file_named (files_of xs) n) ≡ true) ⊎ A
+    one true has on = inl refl
+    one false has on = on has
+
+pub named-take : (xs : Files) (i : ℕ) (f : ℤ × Vec ℕ Global) (n : ℤ) → i < length xs → f ≡ get_or xs i f → is_some (file_named (files_of (take (i + 1) xs)) n) ≡ true → (is_some (file_named (files_of (take i xs)) n) ≡ true) ⊎ (f.0 ≡ n)
+named-take xs i f n low read has =
+    named-push (take i xs) f n (sym (ap (λ (ys : Files). is_some (file_named (files_of ys) n)) (take_more xs i f low ∙ ap (λ (x : ℤ × Vec ℕ Global). take i xs ++ x ∷ []) (sym read))) ∙ has)
+
+-- The test of one name decides what a crash may leave under it.
+
+file_left : (file : Option (List ℕ)) (loose : Bool) (left : Option (List ℕ)) → (leaves_file file loose left ≡ true → LeavesFile file loose left) × (LeavesFile file loose left → leaves_file file loose left ≡ true)
+file_left None loose None = (λ _. refl, λ _. refl)
+file_left None loose (Some x) = (λ h. absurd (cc), λ h. absurd (cc))
+file_left (Some bytes) true None = (λ h. absurd (cc), λ h. absurd (cc))
+file_left (Some bytes) false None = (λ h. absurd (cc), λ h. absurd (cc))
+file_left (Some bytes) true (Some x) = (λ _. refl, λ _. refl)
+file_left (Some bytes) false (Some x) =
+    (λ h. ap (λ (b : List ℕ). Some b) (sym ((bytes_eq-Decides bytes x).0 h)), λ h. (bytes_eq-Decides bytes x).1 (same_some h))
+  where
+    same_some : {a b : List ℕ} → Some a ≡ Some b → b ≡ a
+    same_some is = cc
+
+any_left : (states : List NameState) (left : Option (List ℕ)) → (leaves_any states left ≡ true → LeavesOneOf states left) × (LeavesOneOf states left → leaves_any states left ≡ true)
+any_left [] left = (λ h. absurd (cc), λ h. absurd h)
+any_left (s ∷ states) left =
+    let here = file_left s.file s.is_loose left in
+    let others = any_left states left in
+    (λ h. split (leaves_file s.file s.is_loose left) (leaves_any states left) h here.0 others.0, λ h. join (leaves_file s.file s.is_loose left) (leaves_any states left) h here.1 others.1)
+  where
+    split : {A B : Type 0} (a b : Bool) → a || b ≡ true → (a ≡ true → A) → (b ≡ true → B) → A ⊎ B
+    split true b h f g = inl (f refl)
+    split false b h f g = inr (g h)
+
+    join : {A B : Type 0} (a b : Bool) → A ⊎ B → (A → a ≡ true) → (B → b ≡ true) → a || b ≡ true
+    join a b (inl x) f g = ap (λ (c : Bool). c || b) (f x)
+    join a b (inr y) f g = ap (λ (c : Bool). a || c) (g y) ∙ or-true a
+
+abbrev tested : MemNames → ℤ → Option (List ℕ) → Bool
+tested names n left = leaves_any (history n (absent ∷ []) names.kept.items) left
+
+pub name_left : (names : MemNames) (s : NamesState) (n : ℤ) (left : Option (List ℕ)) → Keeps names s → (tested names n left ≡ true → LeavesName s n left) × (LeavesName s n left → tested names n left ≡ true)
+name_left names s n left keeps =
+    let now : List NameState = record { file = s.file n; is_loose = s.is_loose n } ∷ s.earlier n in
+    let is : tested names n left ≡ leaves_any now left = ap (λ (h : List NameState). leaves_any h left) (keeps.states n) in
+    (λ h. spread ((any_left now left).0 (sym is ∙ h)), λ h. is ∙ (any_left now left).1 (gather h))
+  where
+    spread : {A B C : Type 0} → A ⊎ B → A ⊎ B ⊎ C
+    spread (inl a) = inl a
+    spread (inr b) = inr (inl b)
+
+    gather : LeavesName s n left → LeavesFile (s.file n) (s.is_loose n) left ⊎ LeavesOneOf (s.earlier n) left
+    gather (inl a) = inl a
+    gather (inr (inl b)) = inr b
+    gather (inr (inr c)) = absurd (subst (λ (h : List NameState). LeavesOneOf h left) (keeps.whole n) c)
+
+-- a name that was neither made nor offered
+untouched : (names : MemNames) (files : Files) (n : ℤ) → has_name names.kept.items n ≡ false → file_named (files_of files) n ≡ None → tested names n (file_named (files_of files) n) ≡ true
+untouched names files n none missing =
+    ap (λ (h : List NameState). leaves_any h (file_named (files_of files) n)) (history-none n (absent ∷ []) names.kept.items none)
+    ∙ ap (λ (o : Option (List ℕ)). leaves_any (absent ∷ []) o) missing
+
+-- all names were tested
+pub all_tested : (names : MemNames) (files : Files)
+    → ((n : ℤ) → IsSome (file_named (files_of files) n) → IsTrue (tested names n (file_named (files_of files) n)))
+    → ((n : ℤ) → IsTrue (has_name names.kept.items n) → IsTrue (tested names n (file_named (files_of files) n)))
+    → (n : ℤ) → tested names n (file_named (files_of files) n) ≡ true
+all_tested names files by_file by_name n = by_made (has_name names.kept.items n) refl
+  where
+    by_offer : has_name names.kept.items n ≡ false → (o : Option (List ℕ)) → file_named (files_of files) n ≡ o → tested names n (file_named (files_of files) n) ≡ true
+    by_offer none None is = untouched names files n none is
+    by_offer none (Some x) is = by_file n (ap is_some is)
+
+    by_made : (b : Bool) → has_name names.kept.items n ≡ b → tested names n (file_named (files_of files) n) ≡ true
+    by_made true is = by_name n is
+    by_made false is = by_offer is (file_named (files_of files) n) refl
+
+pub may_leave-yes : (names : MemNames) (s : NamesState) (files : Files) → Keeps names s → ((n : ℤ) → tested names n (file_named (files_of files) n) ≡ true) → (n : ℤ) → LeavesName s n (file_named (files_of files) n)
+may_leave-yes names s files keeps all n = (name_left names s n (file_named (files_of files) n) keeps).0 (all n)
+
+pub may_leave-no : (names : MemNames) (s : NamesState) (files : Files) → Keeps names s → (n : ℤ) × (tested names n (file_named (files_of files) n) ≡ false) → ((n : ℤ) → LeavesName s n (file_named (files_of files) n)) → ⊥
+may_leave-no names s files keeps broken all = differ ((name_left names s broken.0 (file_named (files_of files) broken.0) keeps).1 (all broken.0)) broken.1
+  where
+    differ : {b : Bool} → b ≡ true → b ≡ false → ⊥
+    differ is not_is = cc
+
+pub may_leave-iff : (names : MemNames) (s : NamesState) (files : Files) (result : Bool) → Keeps names s
+    → ((n : ℤ) → IsSome (file_named (files_of files) n) → IsTrue (tested names n (file_named (files_of files) n)))
+    → MatchBool result ((n : ℤ) → IsTrue (has_name names.kept.items n) → IsTrue (tested names n (file_named (files_of files) n))) ((n : ℤ) × (tested names n (file_named (files_of files) n) ≡ false))
+    → IsTrue result ↔ ((n : ℤ) → LeavesName s n (file_named (files_of files) n))
+may_leave-iff names s files true keeps by_file by_name = (λ _. may_leave-yes names s files keeps (all_tested names files by_file by_name), λ _. refl)
+may_leave-iff names s files false keeps by_file broken = (λ h. absurd (cc), λ all. absurd (may_leave-no names s files keeps broken all))
+
+-- what a crash may leave under a name was made under it
+pub offered_made : (names : MemNames) (s : NamesState) (files : Files) → Keeps names s → ((n : ℤ) → LeavesName s n (file_named (files_of files) n)) → (n : ℤ) → IsSome (file_named (files_of files) n) → IsTrue (has_name names.kept.items n)
+offered_made names s files keeps all n some = by_made (has_name names.kept.items n) refl
+  where
+    passed : tested names n (file_named (files_of files) n) ≡ true
+    passed = (name_left names s n (file_named (files_of files) n) keeps).1 (all n)
+
+    none_made : has_name names.kept.items n ≡ false → (o : Option (List ℕ)) → file_named (files_of files) n ≡ o → has_name names.kept.items n ≡ true
+    none_made none None is = absurd (clash some (ap is_some is))
+      where
+        clash : {b : Bool} → b ≡ true → b ≡ false → ⊥
+        clash is not_is = cc
+    none_made none (Some x) is =
+        absurd (clash (sym (ap (λ (h : List NameState). leaves_any h (file_named (files_of files) n)) (history-none n (absent ∷ []) names.kept.items none)
+        ∙ ap (λ (o : Option (List ℕ)). leaves_any (absent ∷ []) o) is) ∙ passed))
+      where
+        clash : false ≡ true → ⊥
+        clash is = cc
+
+    by_made : (b : Bool) → has_name names.kept.items n ≡ b → has_name names.kept.items n ≡ true
+    by_made true is = is
+    by_made false is = none_made is (file_named (files_of files) n) refl
