@@ -5,4 +5,5 @@
 pub use sled_codec::serialization::{Checksum, PlaceSum};
 pub use sled_store::device::Device;
 pub use sled_store::device::choice::{Choice, Offer};
+pub use sled_store::device::crash_device::CrashDevice;
 pub use sled_store::device::memory::MemDevice;

@@ -5,8 +5,7 @@
 //! a log by commands, come here as they are written.
 #![tactic(auto)]
 
-pub use sled_codec::result as result;
-pub use sled_codec::serialization as serialization;
+pub use sled_codec::{result as result, serialization as serialization};
 
 pub mod config;
 pub mod device;

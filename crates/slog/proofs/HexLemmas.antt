@@ -7,7 +7,7 @@ pub digits-next : (bytes done : List ℕ) (i : ℕ) → i < length bytes → dig
     → digits_of bytes ≡ (done ++ digit_of (get_or bytes i 0 / 16) ∷ digit_of (get_or bytes i 0 % 16) ∷ []) ++ digits_of (drop (i + 1) bytes)
 digits-next bytes done i below so_far =
     rw add-one (so_far ∙ ap (λ (r : List ℕ). done ++ digits_of r) (drop-cons bytes i 0 below)
-        ∙ sym (append_assoc done (digit_of (get_or bytes i 0 / 16) ∷ digit_of (get_or bytes i 0 % 16) ∷ []) (digits_of (drop (suc i) bytes))))
+    ∙ sym (append_assoc done (digit_of (get_or bytes i 0 / 16) ∷ digit_of (get_or bytes i 0 % 16) ∷ []) (digits_of (drop (suc i) bytes))))
 
 -- bytes are written by their digits, where there are any
 pub hex-digits : (bytes : List ℕ) → 0 < length bytes → hex_of bytes ≡ digits_of bytes
@@ -34,7 +34,7 @@ pub digits-moved : (done rest behind text : List ℕ) (b : ℕ) → digits_of do
     → rest ≡ digit_of (b / 16) ∷ digit_of (b % 16) ∷ behind → digits_of (done ++ b ∷ []) ++ behind ≡ text
 digits-moved done rest behind text b so_far is =
     rw (digits-snoc done b) (append_assoc (digits_of done) (digit_of (b / 16) ∷ digit_of (b % 16) ∷ []) behind
-        ∙ ap (λ (r : List ℕ). digits_of done ++ r) (sym is) ∙ so_far)
+    ∙ ap (λ (r : List ℕ). digits_of done ++ r) (sym is) ∙ so_far)
 
 -- Bytes whose text is no dash are written by their digits.
 pub no-dash : (bytes text : List ℕ) → hex_of bytes ≡ text → (text ≡ 45 ∷ [] → ⊥) → digits_of bytes ≡ text

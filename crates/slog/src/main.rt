@@ -9,10 +9,9 @@ ghost use Rattle.std.specs.Prelude.{◌≤◌};
 
 mod driver;
 mod line;
-mod text;
-
 #[cfg(test)]
 mod tests;
+mod text;
 
 use driver::{Driver, Stop};
 use std::alloc::Global;

@@ -48,7 +48,8 @@ fn an_item_of_no_bytes(rt: HostRuntime) -> Result<(), Fail> {
 #[test]
 fn last_completed_is_read(rt: HostRuntime) -> Result<(), Fail> {
     let lines = b"size 256\nopen\nreplace 0 01\nreplace 0 02\ncomplete 1\ncomplete 0\nread 0\n";
-    let text = "opened - - 0\nreserved 0 20 I:20\nreserved 1 30 I:30\ndone 30 I:30\ndone 20 I:20\npage 0101\n";
+    let text =
+        "opened - - 0\nreserved 0 20 I:20\nreserved 1 30 I:30\ndone 30 I:30\ndone 20 I:20\npage 0101\n";
     assert!(rt; prints(rt.alloc(), lines, text, 0)?);
     Ok(())
 }
@@ -113,7 +114,10 @@ fn bad_third_lines(rt: HostRuntime) -> Result<(), Fail> {
         b"size 256\nopen\nreplace 0 01 \n",
     ];
     for line in lines {
-        assert!(rt; prints(rt.alloc(), line, "opened - - 0\nbad line 3\n", 2)?, "{line:?}");
+        assert!(rt;
+            prints(rt.alloc(), line, "opened - - 0\nbad line 3\n", 2)?,
+            "{line:?}"
+        );
     }
     Ok(())
 }

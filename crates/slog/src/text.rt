@@ -118,7 +118,12 @@ pub fn print<W: Write>(alloc: Global, writer: &mut W, reply: &Reply) -> io::Resu
             stable,
             active,
             pages,
-        } => writeln!(writer, "opened {} {} {pages}", OrDash(*stable), OrDash(*active)),
+        } => writeln!(
+            writer,
+            "opened {} {} {pages}",
+            OrDash(*stable),
+            OrDash(*active)
+        ),
         Reply::Reserved {
             ticket,
             place,
@@ -130,17 +135,21 @@ pub fn print<W: Write>(alloc: Global, writer: &mut W, reply: &Reply) -> io::Resu
             let item = hex(alloc, item)?;
             writeln!(writer, "page {item}")
         }
-        Reply::Failed(e) => writeln!(writer, "error {}", cause(e)),
+        Reply::Failed(e) => print_error(writer, e),
     }
 }
 
-// The word for an error of the log.
-fn cause(e: &Error) -> &'static str {
+// Prints the line of an error of the log. Those for users of the library alone come from no call of it.
+fn print_error<W: Write>(writer: &mut W, e: &Error) -> io::Result<()> {
     match e {
-        Error::Corruption { at: _ } => "corruption",
-        Error::Unsupported(_) => "unsupported",
-        Error::Io(_) => "io",
-        Error::OutOfMemory => "memory",
+        Error::Corruption { at: _ } => writeln!(writer, "error corruption"),
+        Error::Unsupported(_) => writeln!(writer, "error unsupported"),
+        Error::Io(_) => writeln!(writer, "error io"),
+        Error::OutOfMemory => writeln!(writer, "error memory"),
+        Error::Held(place) => writeln!(writer, "error held {place}"),
+        Error::NotReserved(place) => writeln!(writer, "error not-reserved {place}"),
+        Error::PlacesUsedUp => writeln!(writer, "error places"),
+        Error::CollectionNotFound(_) | Error::ReportableBug(_) => writeln!(writer, "error"),
     }
 }
 

@@ -48,10 +48,30 @@ fn kinds_by_code(rt: HostRuntime) {
 #[test]
 fn kinds_by_page(rt: HostRuntime) {
     let rows = [
-        (LogKind::Replace, META_PID, Some(MessageKind::InlineMeta), Some(MessageKind::BlobMeta)),
-        (LogKind::Replace, 2, Some(MessageKind::InlineNode), Some(MessageKind::BlobNode)),
-        (LogKind::Link, 0, Some(MessageKind::InlineLink), Some(MessageKind::BlobLink)),
-        (LogKind::Free, 0, Some(MessageKind::Free), Some(MessageKind::Free)),
+        (
+            LogKind::Replace,
+            META_PID,
+            Some(MessageKind::InlineMeta),
+            Some(MessageKind::BlobMeta),
+        ),
+        (
+            LogKind::Replace,
+            2,
+            Some(MessageKind::InlineNode),
+            Some(MessageKind::BlobNode),
+        ),
+        (
+            LogKind::Link,
+            0,
+            Some(MessageKind::InlineLink),
+            Some(MessageKind::BlobLink),
+        ),
+        (
+            LogKind::Free,
+            0,
+            Some(MessageKind::Free),
+            Some(MessageKind::Free),
+        ),
         (LogKind::Corrupted, 0, None, None),
     ];
     for (kind, page, inline, blob) in rows {
@@ -76,6 +96,51 @@ fn memory_is_its_own_error(rt: HostRuntime) {
     let refused = io::Error::from(io::ErrorKind::OutOfMemory);
     assert!(rt; is_out_of_memory(Error::from(refused)));
     assert!(rt; !is_out_of_memory(Error::from(io::Error::other("it broke"))));
+}
+
+// What std knows of each error is its kind alone.
+#[test]
+fn kinds_of_errors(rt: HostRuntime) {
+    let kind = io::Error::from(Error::Corruption { at: None }).kind();
+    assert_eq!(rt; kind, io::ErrorKind::InvalidData);
+    assert_eq!(rt;
+        io::Error::from(Error::Held(20)).kind(),
+        io::ErrorKind::WouldBlock
+    );
+    assert_eq!(rt;
+        io::Error::from(Error::NotReserved(5)).kind(),
+        io::ErrorKind::InvalidInput
+    );
+    assert_eq!(rt;
+        io::Error::from(Error::PlacesUsedUp).kind(),
+        io::ErrorKind::Other
+    );
+    assert_eq!(rt;
+        io::Error::from(Error::OutOfMemory).kind(),
+        io::ErrorKind::OutOfMemory
+    );
+}
+
+#[test]
+fn equal_errors(rt: HostRuntime) -> Result<(), Fail> {
+    let held = Error::Held(20);
+    assert!(rt; held.clone()? == held);
+    assert!(rt; held != Error::Held(21));
+    assert!(rt; held != Error::NotReserved(20));
+    Ok(())
+}
+
+// Where a log goes on: within a segment, and at the next one.
+#[test]
+fn coordinates(rt: HostRuntime) {
+    let mut snapshot = Snapshot::empty(rt.alloc());
+    assert_eq!(rt; snapshot.recovered_coords(256), (None, None));
+    snapshot.stable_lsn = Some(812);
+    snapshot.active_segment = Some(512);
+    assert_eq!(rt; snapshot.recovered_coords(256), (Some(556), Some(812)));
+    snapshot.stable_lsn = Some(300);
+    snapshot.active_segment = None;
+    assert_eq!(rt; snapshot.recovered_coords(256), (None, Some(512)));
 }
 
 // Whether memory was refused.

@@ -36,7 +36,9 @@ fn the_first_write_fails(rt: HostRuntime) {
     let mut config = log.halt();
     assert_eq!(rt; config.device.failures(), 1);
     let bytes = log_bytes(&rt, rt.alloc(), &mut config.device);
-    let half = [35, 216, 255, 255, 255, 255, 255, 255, 255, 255, 255, 127, 0, 0, 0, 0];
+    let half = [
+        35, 216, 255, 255, 255, 255, 255, 255, 255, 255, 255, 127, 0, 0, 0, 0,
+    ];
     assert_eq!(rt; bytes.as_slice(), half.as_slice());
 }
 

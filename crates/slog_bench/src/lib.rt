@@ -8,6 +8,8 @@
 #[cfg(test)]
 mod conversions;
 #[cfg(test)]
+mod crashes;
+#[cfg(test)]
 mod device;
 #[cfg(test)]
 mod faults;
@@ -17,6 +19,8 @@ mod headers;
 mod log;
 #[cfg(test)]
 mod numbers;
+#[cfg(test)]
+mod parts;
 #[cfg(test)]
 mod records;
 #[cfg(test)]

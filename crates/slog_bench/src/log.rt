@@ -13,6 +13,7 @@ const HEADER: [u8; 20] = [
 
 // The records of page 0 and page 1 replaced by three sevens.
 const META: [u8; 12] = [135, 255, 255, 255, 6, 4, 0, 0, 3, 7, 7, 7];
+
 const COUNTER: [u8; 12] = [132, 255, 255, 255, 5, 4, 0, 1, 3, 7, 7, 7];
 
 #[test]

@@ -34,7 +34,10 @@ static U64_WRITTEN: [(u64, &[u8]); 15] = [
     (1099511627776, &[253, 0, 0, 0, 0, 0, 1]),
     (281474976710656, &[254, 0, 0, 0, 0, 0, 0, 1]),
     (72057594037927936, &[255, 0, 0, 0, 0, 0, 0, 0, 1]),
-    (18446744073709551615, &[255, 255, 255, 255, 255, 255, 255, 255, 255]),
+    (
+        18446744073709551615,
+        &[255, 255, 255, 255, 255, 255, 255, 255, 255],
+    ),
 ];
 
 // Sled's answers: what is read as a `u64`, its longer spellings among them.
@@ -76,7 +79,10 @@ static I64_WRITTEN: [(i64, &[u8]); 12] = [
     (0, &[0, 0, 0, 0, 0, 0, 0, 0]),
     (1, &[1, 0, 0, 0, 0, 0, 0, 0]),
     (255, &[255, 0, 0, 0, 0, 0, 0, 0]),
-    (9223372036854775807, &[255, 255, 255, 255, 255, 255, 255, 127]),
+    (
+        9223372036854775807,
+        &[255, 255, 255, 255, 255, 255, 255, 127],
+    ),
     (-1082220173663262, &[226, 227, 250, 250, 185, 39, 252, 255]),
     (-335376381818, &[134, 136, 2, 234, 177, 255, 255, 255]),
     (-87484335, &[81, 24, 201, 250, 255, 255, 255, 255]),
@@ -129,7 +135,11 @@ fn u64_written(rt: HostRuntime) -> Result<(), Fail> {
 fn u64_read(rt: HostRuntime) -> Result<(), Fail> {
     for (bytes, value, left) in U64_READ {
         let mut rest = bytes;
-        assert_eq!(rt; u64::deserialize(rt.alloc(), &mut rest)?, value, "{bytes:?}");
+        assert_eq!(rt;
+            u64::deserialize(rt.alloc(), &mut rest)?,
+            value,
+            "{bytes:?}"
+        );
         assert_eq!(rt; rest.len(), left, "{bytes:?}");
     }
     Ok(())
@@ -175,7 +185,10 @@ fn sevens(rt: HostRuntime) -> Result<(), Fail> {
     assert_eq!(rt; u32::deserialize(rt.alloc(), &mut rest)?, 117901063);
     assert_eq!(rt; rest.len(), 4);
     let mut rest = sevens;
-    assert_eq!(rt; i64::deserialize(rt.alloc(), &mut rest)?, 506381209866536711);
+    assert_eq!(rt;
+        i64::deserialize(rt.alloc(), &mut rest)?,
+        506381209866536711
+    );
     assert_eq!(rt; rest.len(), 0);
     let mut short = &sevens[..3];
     assert!(rt; u32::deserialize(rt.alloc(), &mut short).is_err());
@@ -189,7 +202,10 @@ fn bytes_both_ways(rt: HostRuntime) -> Result<(), Fail> {
     assert_eq!(rt; 9u8.serialize(rt.alloc())?.as_slice(), [9].as_slice());
     assert_eq!(rt; ().serialize(rt.alloc())?.len(), 0);
     let item = [7, 7, 7].to_vec(rt.alloc())?;
-    assert_eq!(rt; item.serialize(rt.alloc())?.as_slice(), [3, 7, 7, 7].as_slice());
+    assert_eq!(rt;
+        item.serialize(rt.alloc())?.as_slice(),
+        [3, 7, 7, 7].as_slice()
+    );
     let mut rest: &[u8] = &[3, 7, 7, 7, 9, 1];
     let read = Vec::<u8>::deserialize(rt.alloc(), &mut rest)?;
     assert_eq!(rt; read.as_slice(), [7, 7, 7].as_slice());

@@ -19,7 +19,17 @@ fn a_record_and_none(rt: HostRuntime) -> Result<(), Fail> {
     let (first, body) = (SegmentNumber(0), [3, 7, 7, 7]);
     assert!(rt; is_record(rt.alloc(), &PlaceSum, &RECORD, meta, 0, first, &body)?);
     assert!(rt; !is_record(rt.alloc(), &PlaceSum, &RECORD, meta, 1, first, &body)?);
-    assert!(rt; !is_record(rt.alloc(), &PlaceSum, &RECORD, meta, 0, SegmentNumber(1), &body)?);
+    assert!(rt;
+        !is_record(
+            rt.alloc(),
+            &PlaceSum,
+            &RECORD,
+            meta,
+            0,
+            SegmentNumber(1),
+            &body
+        )?
+    );
     assert!(rt; !is_record(rt.alloc(), &PlaceSum, &RECORD[..11], meta, 0, first, &body)?);
     let mut torn = RECORD;
     torn[11] = 6;
@@ -48,15 +58,29 @@ fn pages_of_messages(rt: HostRuntime) -> Result<(), Fail> {
         message(LogKind::Free, 5, 50),
         message(LogKind::Replace, 5, 60),
     ];
-    let rows = [(20, 5, 0), (30, 5, 1), (50, 5, 2), (60, 5, 1), (61, 5, 1), (61, 6, 1), (61, 7, 0)];
+    let rows = [
+        (20, 5, 0),
+        (30, 5, 1),
+        (50, 5, 2),
+        (60, 5, 1),
+        (61, 5, 1),
+        (61, 6, 1),
+        (61, 7, 0),
+    ];
     for (cut, page, count) in rows {
         let entries = entries_of_page(rt.alloc(), &messages, cut, page)?;
         assert_eq!(rt; entries.len(), count, "{cut} {page}");
     }
     let freed = entries_of_page(rt.alloc(), &messages, 60, 5)?;
-    assert_eq!(rt; freed.as_slice(), [message(LogKind::Free, 5, 50)].as_slice());
+    assert_eq!(rt;
+        freed.as_slice(),
+        [message(LogKind::Free, 5, 50)].as_slice()
+    );
     let begun = entries_of_page(rt.alloc(), &messages, 61, 5)?;
-    assert_eq!(rt; begun.as_slice(), [message(LogKind::Replace, 5, 60)].as_slice());
+    assert_eq!(rt;
+        begun.as_slice(),
+        [message(LogKind::Replace, 5, 60)].as_slice()
+    );
     Ok(())
 }
 

@@ -48,7 +48,9 @@ pub fn reserve<R: Abort>(
     assert!(rt; log.pins() < 4294967295);
     let guard = log.pin();
     assert!(rt; log.has_room(page, item));
-    let ticket = log.reserve(LogKind::Replace, page, item, &guard).expect(rt, "a place");
+    let ticket = log
+        .reserve(LogKind::Replace, page, item, &guard)
+        .expect(rt, "a place");
     (ticket, guard)
 }
 
@@ -106,7 +108,9 @@ pub fn log_bytes<R: Abort>(rt: &R, alloc: Global, device: &mut MemDevice) -> Vec
     let len = device.len().expect(rt, "the device stands");
     assert!(rt; len < 1000000);
     let mut bytes = vec![in alloc; 0; len as usize].expect(rt, "there is memory");
-    let count = device.read_at(0, &mut bytes).expect(rt, "the device stands");
+    let count = device
+        .read_at(0, &mut bytes)
+        .expect(rt, "the device stands");
     assert_eq!(rt; count as u64, len);
     bytes
 }

@@ -8,8 +8,8 @@ pub returns-in_default-clause-refused : goal.returns-in_default-clause-refused
 returns-in_default-clause-refused c =
     let some : 0 < length c.loop-rest.rest.now = search rules in
     λ e b all is.
-        begins-with-byte b c.loop-rest.bytes.items c.loop-rest.rest.now all (is ∙ sym c.loop-rest.invariant) some
-            (λ x behind below begins. c.split_byte.ensures.refused c.in_default.is x behind below begins)
+    begins-with-byte b c.loop-rest.bytes.items c.loop-rest.rest.now all (is ∙ sym c.loop-rest.invariant) some
+    (λ x behind below begins. c.split_byte.ensures.refused c.in_default.is x behind below begins)
 
 pub loop-rest-preserved : goal.loop-rest-preserved
 loop-rest-preserved c =
