@@ -1,0 +1,14 @@
+//! The segment log, under the names that its users write.
+//!
+//! The crates below are layers: formats, device, log. Here each module has what belongs together for a
+//! user, whichever layer it is from. Snapshots that are kept on the device, and the session that drives
+//! a log by commands, come here as they are written.
+#![tactic(auto)]
+
+pub use sled_codec::{result as result, serialization as serialization};
+
+pub mod config;
+pub mod device;
+pub mod iobuf;
+pub mod logger;
+pub mod reservation;

@@ -1,0 +1,27 @@
+//! Tests of the segment log as its users see it: rows that were worked out by hand from the formats and
+//! the rules of the log, and samples of the answers of sled 0.34.7's own code.
+//!
+//! Expected values are never taken from what the crates print. What a contract already says for all
+//! inputs is not tested here again, save that each call is made once.
+#![tactic(auto)]
+
+#[cfg(test)]
+mod conversions;
+#[cfg(test)]
+mod crashes;
+#[cfg(test)]
+mod device;
+#[cfg(test)]
+mod faults;
+#[cfg(test)]
+mod headers;
+#[cfg(test)]
+mod log;
+#[cfg(test)]
+mod numbers;
+#[cfg(test)]
+mod parts;
+#[cfg(test)]
+mod records;
+#[cfg(test)]
+mod support;

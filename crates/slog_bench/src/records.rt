@@ -1,0 +1,94 @@
+//! Which bytes are a message's record, and the table of pages that messages make.
+//!
+//! The record is worked out by hand: its sum is 3 + 2*7 + 3*7 + 4*7 over the body and 5*6 + 6*4 over the
+//! header behind the sum, which is 120, and is stored flipped.
+
+use sled_codec::history::{Message, entries_of_page};
+use sled_codec::serialization::laws;
+use sled_codec::serialization::record::is_record;
+use sled_log::device::PlaceSum;
+use sled_log::logger::{DiskPtr, LogKind, MessageKind, PageId, SegmentNumber};
+use sled_log::serialization::MessageHeader;
+use std::test::Fail;
+
+const RECORD: [u8; 12] = [135, 255, 255, 255, 6, 4, 0, 0, 3, 7, 7, 7];
+
+#[test]
+fn a_record_and_none(rt: HostRuntime) -> Result<(), Fail> {
+    let meta = MessageKind::InlineMeta;
+    let (first, body) = (SegmentNumber(0), [3, 7, 7, 7]);
+    assert!(rt; is_record(rt.alloc(), &PlaceSum, &RECORD, meta, 0, first, &body)?);
+    assert!(rt; !is_record(rt.alloc(), &PlaceSum, &RECORD, meta, 1, first, &body)?);
+    assert!(rt;
+        !is_record(
+            rt.alloc(),
+            &PlaceSum,
+            &RECORD,
+            meta,
+            0,
+            SegmentNumber(1),
+            &body
+        )?
+    );
+    assert!(rt; !is_record(rt.alloc(), &PlaceSum, &RECORD[..11], meta, 0, first, &body)?);
+    let mut torn = RECORD;
+    torn[11] = 6;
+    assert!(rt; !is_record(rt.alloc(), &PlaceSum, &torn, meta, 0, first, &[3, 7, 7, 6])?);
+    Ok(())
+}
+
+// A message of a page at a place.
+fn message(kind: LogKind, page: PageId, place: u64) -> Message<'static> {
+    Message {
+        kind,
+        page,
+        place,
+        pointer: DiskPtr::Inline(place),
+        size: 10,
+        bytes: &[],
+    }
+}
+
+#[test]
+fn pages_of_messages(rt: HostRuntime) -> Result<(), Fail> {
+    let messages = [
+        message(LogKind::Replace, 5, 20),
+        message(LogKind::Link, 5, 30),
+        message(LogKind::Replace, 6, 40),
+        message(LogKind::Free, 5, 50),
+        message(LogKind::Replace, 5, 60),
+    ];
+    let rows = [
+        (20, 5, 0),
+        (30, 5, 1),
+        (50, 5, 2),
+        (60, 5, 1),
+        (61, 5, 1),
+        (61, 6, 1),
+        (61, 7, 0),
+    ];
+    for (cut, page, count) in rows {
+        let entries = entries_of_page(rt.alloc(), &messages, cut, page)?;
+        assert_eq!(rt; entries.len(), count, "{cut} {page}");
+    }
+    let freed = entries_of_page(rt.alloc(), &messages, 60, 5)?;
+    assert_eq!(rt;
+        freed.as_slice(),
+        [message(LogKind::Free, 5, 50)].as_slice()
+    );
+    let begun = entries_of_page(rt.alloc(), &messages, 61, 5)?;
+    assert_eq!(rt;
+        begun.as_slice(),
+        [message(LogKind::Replace, 5, 60)].as_slice()
+    );
+    Ok(())
+}
+
+#[test]
+fn laws_of_formats() {
+    laws::read_again::<u64>();
+    laws::read_again::<Vec<u8>>();
+    laws::read_again::<MessageHeader>();
+    laws::written_is_record::<PlaceSum>();
+    laws::one_record::<PlaceSum>();
+}
