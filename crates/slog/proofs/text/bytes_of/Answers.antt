@@ -1,5 +1,5 @@
 -- A text that is neither empty nor a dash writes what its digits write.
-use Rattle.std.proofs.Common.{rules, ◌≡◌, List, [], ◌∷◌}
+use Rattle.std.proofs.Common.{rules, ◌≡◌, [], ◌∷◌}
 use Rattle.slog.proofs.HexLemmas.{no-dash}
 use Rattle.slog.proofs.text.bytes_of.Goals as goal
 
