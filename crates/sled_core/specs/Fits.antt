@@ -97,6 +97,10 @@ IsOpen log ticket = (m : Message) × Awaits log ticket m
 abbrev pub AllEnded : {D C : Type 0} → Log D C → Type 0
 AllEnded log = all_ended log.buffer.reserved.items ≡ true
 
+-- The log file holds just this history, and all of it is settled: a crash leaves the header of the segment and the records by place.
+abbrev pub IsOnDevice : (List ℕ → ℕ) → LogState → History → Type 0
+IsOnDevice sum device H = device ≡ at_rest (log_image sum H.messages)
+
 -- A history, and the bytes and reservations of a log over a device: what was written is settled there, and what was completed since stands in the buffer.
 pub record HoldsIn (sum : List ℕ → ℕ) (device : LogState) (fault : Option IoError) (bytes : List ℕ) (from : ℕ) (reserved : List Reserved) (H : History) : Type 0 where
   -- the messages that were written

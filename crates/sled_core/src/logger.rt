@@ -41,7 +41,7 @@ pub struct Log<D, C> {
 }
 
 impl<D: Device, C: Checksum> Log<D, C> {
-    ghost use Rattle.sled_core.specs.Fits.{Holds, IsDefault, AllEnded, Awaits, IsOpen, HasRoom, IsUnchanged, fault_of, next_place, synced_end, reserved_end, pins_of, config_of, device_of, log_image, manifest_page, segment_size_of, message_for, KeepsAll};
+    ghost use Rattle.sled_core.specs.Fits.{Holds, IsDefault, AllEnded, Awaits, IsOpen, HasRoom, IsUnchanged, fault_of, next_place, synced_end, reserved_end, pins_of, config_of, device_of, IsOnDevice, manifest_page, segment_size_of, message_for, KeepsAll};
 
     /// Begins a log on a device with an empty log file. Its one segment begins with a header, whose mark
     /// is the place before the log. Nothing is written. Where memory is refused, the configuration comes
@@ -183,7 +183,7 @@ impl<D: Device, C: Checksum> Log<D, C> {
         requires { AllEnded self.old }
         ensures answer { IfOk result (λ n. synced_end self.new ≡ synced_end self.old + n) }
         ensures whole { OnOk result (synced_end self.new ≡ reserved_end self.old) }
-        ensures records { (H : History) → Holds D.trace C.sum_of self.old H → OnOk result ((state_of (D.trace (device_of self.new))).log ≡ at_rest (log_image C.sum_of H.messages)) }
+        ensures records { (H : History) → Holds D.trace C.sum_of self.old H → OnOk result (IsOnDevice C.sum_of (state_of (D.trace (device_of self.new))).log H) }
         ensures history { (H : History) → Holds D.trace C.sum_of self.old H → Holds D.trace C.sum_of self.new H }
         ensures ended { AllEnded self.new }
         ensures next { next_place self.new ≡ next_place self.old }
