@@ -2,9 +2,11 @@ mod CrashLemmas
 mod CrashLogLemmas
 mod CrashNamesLemmas
 mod KeptLemmas
+pub mod LeavesLemmas
 pub mod LogLemmas
 pub mod LooseLemmas
 pub mod MomentLemmas
+pub mod NamesLemmas
 mod OfferLemmas
 pub mod OverwrittenLemmas
 pub mod ScriptLemmas

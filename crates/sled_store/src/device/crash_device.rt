@@ -1,5 +1,5 @@
 //! A device that a test can stop and make crash.
-ghost use Rattle.std.specs.Prelude.{◌≡◌, ◌↔◌, ◌∷◌, [], Bool, IsTrue, false, if◌then◌else◌};
+ghost use Rattle.std.specs.Prelude.{◌≡◌, ◌↔◌, ◌∷◌, [], ℕ, Option, Some, None, Bool, IsTrue, false, if◌then◌else◌};
 ghost use Rattle.sled_store.specs.Device.{state_of, Crashed, Settled};
 ghost use Rattle.sled_store.specs.Noted.{left_of};
 ghost use Rattle.sled_store.specs.Chosen.{MayBeChosen};
@@ -11,12 +11,16 @@ pub trait CrashDevice: Device {
     /// A call was stopped within, and no crash came since.
     ghost is_stopped: { Self → Bool };
 
+    /// How many calls that change or sync are done before one is stopped within, where one is to be.
+    ghost stops_in: { Self → Option ℕ };
+
     /// Of the calls that change or sync, `n` more are done, and the next is stopped within: what it changes
     /// is done, and nothing is settled by it. All calls fail from then on until a crash. It takes the
     /// place of an earlier `stop_after`.
     fn stop_after(&mut self, n: u64)
         ensures trace { Self.trace self.new ≡ Self.trace self.old }
         ensures faults { Self.faults self.new ≡ Self.faults self.old }
+        ensures stops { stops_in self.new ≡ Some n }
         ensures stopped { is_stopped self.new ≡ is_stopped self.old };
 
     /// Whether a call was stopped within, and no crash came since.
@@ -29,5 +33,6 @@ pub trait CrashDevice: Device {
         ensures taken { IsTrue result ↔ MayBeChosen choice (state_of (Self.trace self.old)) }
         ensures left { Self.trace self.new ≡ Crashed (if result then left_of choice else Settled []) ∷ Self.trace self.old }
         ensures faults { Self.faults self.new ≡ Self.faults self.old }
+        ensures stops { stops_in self.new ≡ None }
         ensures stopped { is_stopped self.new ≡ false };
 }

@@ -103,6 +103,8 @@ fn both(a: bool, b: bool) -> bool
 impl CrashDevice for MemDevice {
     ghost is_stopped = { λ device. device.faults.is_stopped };
 
+    ghost stops_in = { λ device. device.faults.stops_after };
+
     fn stop_after(&mut self, n: u64) {
         self.faults.stops_after = Some(n);
     }

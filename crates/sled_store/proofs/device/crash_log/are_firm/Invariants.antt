@@ -1,3 +1,4 @@
+-- So far: each byte before this one is the one that is read, or may be lost.
 use Rattle.std.proofs.Common.{◌≡◌, ◌<◌, ◌||◌, ◌==◌, ℕ, true, get_or}
 use Rattle.sled_store.specs.Memory.{is_loose_at}
 use Rattle.sled_store.proofs.device.crash_log.are_firm.Given as goal

@@ -1,3 +1,4 @@
+-- So far: all offsets are below the length where those from here on are.
 use Rattle.std.proofs.Common.{◌≡◌, drop}
 use Rattle.sled_store.specs.Memory.{are_in}
 use Rattle.sled_store.proofs.device.crash_log.is_in.Given as goal

@@ -1,3 +1,4 @@
+-- So far: it is in one of the ranges where it is in one of those from here on.
 use Rattle.std.proofs.Common.{◌≡◌, drop}
 use Rattle.sled_store.specs.Memory.{is_within}
 use Rattle.sled_store.proofs.device.crash_log.is_lost.Given as goal

@@ -1,3 +1,4 @@
+-- So far: the rest of the patch makes of these bytes what all of it makes of the first ones.
 use Rattle.std.proofs.Common.{◌≡◌, drop, length, vec_capacity, true}
 use Rattle.sled_store.specs.Device.{poked}
 use Rattle.sled_store.specs.Memory.{are_in}

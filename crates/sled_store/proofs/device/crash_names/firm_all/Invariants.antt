@@ -1,3 +1,4 @@
+-- So far: what was made firm, and what is still to be, is all of it firm.
 use Rattle.std.proofs.Common.{◌≡◌, ◌++◌, map, take, drop, length}
 use Rattle.sled_store.specs.MemoryNames.{firm_kept}
 use Rattle.sled_store.proofs.device.crash_names.firm_all.Given as goal

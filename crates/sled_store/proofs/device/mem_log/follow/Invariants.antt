@@ -1,3 +1,4 @@
+-- So far: what lies outside the ranges still to come is the same in both contents.
 use Rattle.std.proofs.Common.{◌≡◌, ℕ, false, length, drop, get_or, vec_capacity}
 use Rattle.sled_store.specs.Memory.{is_within}
 use Rattle.sled_store.proofs.device.mem_log.follow.Given as goal

@@ -1,3 +1,4 @@
+-- So far: whether the name comes is whether it comes from here on.
 use Rattle.std.proofs.Common.{◌≡◌, drop}
 use Rattle.sled_store.specs.MemoryNames.{has_name}
 use Rattle.sled_store.proofs.device.mem_names.is_made.Given as goal

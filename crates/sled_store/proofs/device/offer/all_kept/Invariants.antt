@@ -1,3 +1,4 @@
+-- So far: each name under which a file was made before this one may be so.
 use Rattle.std.proofs.Common.{take, ℤ, IsTrue, [], ◌∷◌}
 use Rattle.sled_store.specs.Device.{file_named}
 use Rattle.sled_store.specs.Noted.{files_of}

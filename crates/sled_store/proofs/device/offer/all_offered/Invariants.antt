@@ -1,3 +1,4 @@
+-- So far: each name that was offered before this one may be so.
 use Rattle.std.proofs.Common.{take, ℤ, IsTrue, IsSome, [], ◌∷◌}
 use Rattle.sled_store.specs.Device.{file_named}
 use Rattle.sled_store.specs.Noted.{files_of}

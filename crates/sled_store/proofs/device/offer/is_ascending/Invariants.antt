@@ -1,3 +1,4 @@
+-- So far: all names ascend where those from the one before on do.
 use Rattle.std.proofs.Common.{◌≡◌, ◌<◌, ◌-◌, drop, length}
 use Rattle.sled_store.specs.Chosen.{are_ascending}
 use Rattle.sled_store.specs.Noted.{files_of}

@@ -1,3 +1,4 @@
+-- So far: whether the files up to here may leave none.
 use Rattle.std.proofs.Common.{◌≡◌, take, [], ◌∷◌, None}
 use Rattle.sled_store.specs.MemoryNames.{absent, history, leaves_any}
 use Rattle.sled_store.proofs.device.offer.may_be_missing.Given as goal

@@ -1,3 +1,4 @@
+-- So far: the name is not among the files before this one.
 use Rattle.std.proofs.Common.{◌≡◌, drop}
 use Rattle.sled_store.specs.Device.{file_named}
 use Rattle.sled_store.specs.Noted.{files_of}

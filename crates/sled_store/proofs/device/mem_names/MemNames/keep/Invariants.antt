@@ -1,3 +1,4 @@
+-- So far: what was kept, and what is still to be, are the files of offered names.
 use Rattle.std.proofs.Common.{◌≡◌, ◌≤◌, ◌-◌, ◌++◌, length, take, drop}
 use Rattle.sled_store.specs.Noted.{files_of}
 use Rattle.sled_store.specs.MemoryNames.{kept_among}

@@ -1,3 +1,4 @@
+-- So far: no file behind the end has the name.
 use Rattle.std.proofs.Common.{◌≡◌, ◌≤◌, false, length, drop}
 use Rattle.sled_store.specs.MemoryNames.{has_name}
 use Rattle.sled_store.proofs.device.mem_names.MemNames.last.Given as goal

@@ -1,3 +1,4 @@
+-- So far: the names that have a file, by the files that were told.
 use Rattle.std.proofs.Common.{◌≡◌, ℤ, is_some, take, [], ◌∷◌}
 use Rattle.std.specs.Ordering.{int_cmp}
 use Rattle.std.specs.BTreeSet.{contains}

@@ -1,3 +1,4 @@
+-- So far: what went back, and what is still to be lost, is what was settled.
 use Rattle.std.proofs.Common.{◌≡◌, ◌≤◌, ◌-◌, ℤ, [], ◌∷◌, length, take, drop}
 use Rattle.sled_store.specs.MemoryNames.{absent, history, lost_history}
 use Rattle.sled_store.proofs.device.mem_names.MemNames.lose.Given as goal

@@ -1,3 +1,4 @@
+-- So far: the offered files that are not left to be put stand under their names.
 use Rattle.std.proofs.Common.{vec_len}
 use Rattle.sled_store.specs.Device.{file_named}
 use Rattle.sled_store.specs.Noted.{files_of}

@@ -1,3 +1,4 @@
+-- So far: what was settled, and what is still to be, is what settling leaves of all.
 use Rattle.std.proofs.Common.{◌≡◌, ◌≤◌, ◌-◌, ◌++◌, length, take, drop}
 use Rattle.sled_store.specs.MemoryNames.{settled_kept}
 use Rattle.sled_store.proofs.device.mem_names.MemNames.settle.Given as goal
