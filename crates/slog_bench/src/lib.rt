@@ -12,6 +12,10 @@ mod crashes;
 #[cfg(test)]
 mod device;
 #[cfg(test)]
+mod device_faults;
+#[cfg(test)]
+mod device_rows;
+#[cfg(test)]
 mod faults;
 #[cfg(test)]
 mod headers;
