@@ -1,11 +1,10 @@
 -- A reservation that is completed becomes a message of the history, at its place, and no other one is touched.
-use Rattle.std.proofs.Common.{◌≡◌, ◌≤◌, ◌<◌, ◌+◌, ◌-◌, ◌⊎◌, inl, inr, ℕ, zero, suc, max, List, [], ◌∷◌, ◌++◌, length, take, drop, set, sym, ◌∙◌, ap, arith, refl, subst, append_assoc, length-append, length-take, true, false, Bool, if◌then◌else◌, Option, None, Some, get_or}
+use Rattle.std.proofs.Common.{◌≡◌, ◌≤◌, ◌<◌, ◌+◌, ◌-◌, inl, inr, ℕ, suc, max, List, ◌∷◌, ◌++◌, length, take, drop, set, sym, ◌∙◌, ap, arith, refl, subst, append_assoc, true, Bool, if◌then◌else◌, Option, Some, get_or}
 use Rattle.std.specs.List.{All, Contains, slice_get}
 use Rattle.std.specs.declared.io.Error.{Error as IoError}
 use Rattle.std.proofs.lemmas.List.{set_split}
 use Rattle.std.proofs.lemmas.Option.{slice_get_within}
-use Rattle.std.proofs.lemmas.List.Elements.{All-append, Contains-append_cases}
-use Rattle.sled_codec.specs.Places.{part}
+use Rattle.std.proofs.lemmas.List.Elements.{Contains-append_cases}
 use Rattle.sled_codec.specs.Written.{written}
 use Rattle.sled_codec.specs.Spelling.{short_header_tail}
 use Rattle.sled_codec.specs.Record.{record_sum, short_record}
@@ -14,7 +13,7 @@ use Rattle.sled_codec.specs.History.{Message, History, AddsMessage}
 use Rattle.sled_store.specs.Device.{LogState}
 use Rattle.sled_core.specs.declared.iobuf.Reserved.{Reserved}
 use Rattle.sled_core.specs.Buffers.{text_in, body_in, message_in, placeholder, IsChain, completed_in, completing, closed, StandsAs, Stands}
-use Rattle.sled_core.specs.Fits.{HoldsIn, LieFrom, log_image}
+use Rattle.sled_core.specs.Fits.{HoldsIn}
 use Rattle.sled_core.proofs.Ranges.{part-written_before, part-written_behind, part-written_at, length-written, completed-same, completed-append, completed_between, chain-split, chain-joined, chain_grows, chain_within, there_split, all_split, all_joined, of_one, at_there, there-set_other, chain_apart}
 use Rattle.sled_core.proofs.HoldsLemmas.{stands-same, completed_open}
 use Rattle.sled_core.proofs.Images.{written_below}

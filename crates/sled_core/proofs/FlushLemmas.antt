@@ -1,5 +1,5 @@
 -- When nothing is open, the bytes of the log are the header of the segment and the records of all its messages.
-use Rattle.std.proofs.Common.{◌≡◌, ◌≢◌, ◌≤◌, ◌<◌, ◌+◌, ◌-◌, ℕ, zero, suc, max, min, List, [], ◌∷◌, ◌++◌, length, take, drop, sym, ◌∙◌, ap, arith, refl, subst, append_assoc, length-append, length-take, length-drop, true, false, Bool, if◌then◌else◌, Option, None, Some, pos, negsuc, ◌⊎◌, inl, inr}
+use Rattle.std.proofs.Common.{◌≡◌, ◌≢◌, ◌≤◌, ◌<◌, ◌+◌, ℕ, max, List, [], ◌∷◌, ◌++◌, length, take, drop, sym, ◌∙◌, ap, arith, refl, subst, append_assoc, length-append, length-take, length-drop, true, false, Bool, if◌then◌else◌, Option, None, Some, pos, negsuc, ◌⊎◌, inl, inr}
 use Rattle.std.specs.Bool.{MatchBool}
 use Rattle.std.specs.IoError.{error_kind}
 use Rattle.std.specs.declared.io.ErrorKind.{ErrorKind}
@@ -12,13 +12,12 @@ use Rattle.std.proofs.lemmas.List.{append-nil, take-append-drop, drop-drop, drop
 use Rattle.sled_codec.specs.declared.result.DiskPtr.TheVariants.{Inline}
 use Rattle.sled_codec.specs.declared.serialization.message.MessageKind.{MessageKind}
 use Rattle.sled_codec.specs.declared.serialization.message.MessageKind.TheVariants.{Corrupted}
-use Rattle.sled_codec.specs.Places.{part}
 use Rattle.sled_codec.specs.Record.{short_record, short_header}
 use Rattle.sled_codec.specs.History.{Message, History, no_history}
 use Rattle.sled_store.specs.Device.{LogState, at_rest, overwritten}
 use Rattle.sled_store.proofs.OverwrittenLemmas.{overwritten-end}
 use Rattle.sled_core.specs.declared.iobuf.Reserved.{Reserved}
-use Rattle.sled_core.specs.Buffers.{text_in, body_in, message_in, placeholder, IsChain, completed_in, all_ended, StandsAs, Stands}
+use Rattle.sled_core.specs.Buffers.{text_in, body_in, message_in, placeholder, IsChain, completed_in, all_ended, Stands}
 use Rattle.sled_core.specs.Fits.{HoldsIn, LieFrom, log_image, records, record_text, record_kind}
 use Rattle.sled_core.proofs.Ranges.{chain_grows, others}
 use Rattle.sled_core.proofs.Images.{header_long, records-append, lie-append}

@@ -1,5 +1,5 @@
 -- Where the record of a message stands, what is read is that message.
-use Rattle.std.proofs.Common.{◌≡◌, ◌≢◌, ◌≤◌, ◌<◌, ◌+◌, ◌-◌, ◌%◌, ◌^◌, ℕ, List, [], ◌∷◌, ◌++◌, length, take, drop, sym, ◌∙◌, ap, arith, refl, subst, append_assoc, length-append, length-take, length-drop, true, false, Bool, if◌then◌else◌, ◌==◌, Option, None, Some, take-append-drop, max, ◌⊎◌, inl, inr}
+use Rattle.std.proofs.Common.{◌≡◌, ◌≢◌, ◌≤◌, ◌<◌, ◌+◌, ◌%◌, ◌^◌, ℕ, List, ◌++◌, length, drop, sym, ◌∙◌, ap, arith, refl, subst, append_assoc, length-append, length-take, length-drop, true, false, Bool, if◌then◌else◌, ◌==◌, Option, None, Some, take-append-drop, max, inl, inr}
 use Rattle.std.specs.List.{Contains}
 use Rattle.std.proofs.Math.Nat.{mod-eq_of_lt}
 use Rattle.std.proofs.lemmas.List.Elements.{Contains-append_cases}
@@ -13,7 +13,6 @@ use Rattle.sled_codec.specs.declared.serialization.message.MessageHeader.{Messag
 use Rattle.sled_codec.specs.Kinds.{kind_written}
 use Rattle.sled_codec.specs.Places.{part}
 use Rattle.sled_codec.specs.Sums.{flipped}
-use Rattle.sled_codec.specs.Record.{IsRecord, short_record}
 use Rattle.sled_codec.specs.HeaderLaws.{no_front-header, one_value-header}
 use Rattle.sled_codec.specs.SpellingLaws.{same_fronts, same_rests}
 use Rattle.sled_codec.specs.History.{Message, History}

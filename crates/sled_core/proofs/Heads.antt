@@ -1,9 +1,8 @@
 -- How long the header of a message is.
-use Rattle.std.proofs.Common.{◌≡◌, ◌≤◌, ◌<◌, ◌+◌, ◌^◌, ℕ, List, ◌++◌, length, arith, length-append}
+use Rattle.std.proofs.Common.{◌≡◌, ◌≤◌, ◌<◌, ◌+◌, ◌^◌, ℕ, ◌++◌, length, arith, length-append}
 use Rattle.sled_codec.specs.declared.serialization.message.MessageKind.{MessageKind}
 use Rattle.sled_codec.specs.declared.serialization.message.MessageHeader.{MessageHeader}
-use Rattle.sled_codec.specs.Kinds.{code_of}
-use Rattle.sled_codec.specs.Spelling.{short_number, short_header_tail, short_message_header, low_bytes}
+use Rattle.sled_codec.specs.Spelling.{short_number, short_header_tail, short_message_header}
 use Rattle.sled_codec.specs.SpellingLaws.{length-short_number}
 
 pub length-short_header_tail : (kind : MessageKind) (len number page : ℕ) → length (short_header_tail kind len number page) ≡ 1 + length (short_number len) + length (short_number number) + length (short_number page)

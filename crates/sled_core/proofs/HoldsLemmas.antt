@@ -1,20 +1,15 @@
 -- How a log goes on holding a history: when a place is reserved, and when a message is completed.
-use Rattle.std.proofs.Common.{◌≡◌, ◌≢◌, ◌≤◌, ◌<◌, ◌+◌, ◌-◌, ◌⊎◌, inl, inr, ℕ, zero, suc, max, List, [], ◌∷◌, ◌++◌, length, take, drop, set, sym, ◌∙◌, ap, arith, refl, subst, append_assoc, length-append, length-take, length-drop, true, false, Bool, if◌then◌else◌, rules, Option, None, Some, get_or}
-use Rattle.std.specs.List.{All, Contains, slice_get}
+use Rattle.std.proofs.Common.{◌≡◌, ◌≤◌, ◌+◌, ◌-◌, ℕ, zero, suc, max, List, [], ◌∷◌, ◌++◌, length, sym, ◌∙◌, ap, arith, subst, length-append, true, Bool, if◌then◌else◌, Option, get_or}
+use Rattle.std.specs.List.{All}
 use Rattle.std.specs.declared.io.Error.{Error as IoError}
-use Rattle.std.proofs.lemmas.List.{append-nil, take-append-le, set_split}
-use Rattle.std.proofs.lemmas.List.Elements.{All-append, Contains-append_cases}
-use Rattle.sled_codec.specs.Places.{part}
-use Rattle.sled_codec.specs.Written.{written}
-use Rattle.sled_codec.specs.Spelling.{short_header_tail}
-use Rattle.sled_codec.specs.Record.{record_sum, short_record}
-use Rattle.sled_codec.specs.History.{Message, History, AddsMessage}
-use Rattle.sled_store.specs.Device.{LogState, at_rest}
+use Rattle.std.proofs.lemmas.List.{append-nil, take-append-le}
+use Rattle.std.proofs.lemmas.List.Elements.{All-append}
+use Rattle.sled_codec.specs.History.{Message, History}
+use Rattle.sled_store.specs.Device.{LogState}
 use Rattle.sled_core.specs.declared.iobuf.Reserved.{Reserved}
-use Rattle.sled_core.specs.Buffers.{text_in, body_in, message_in, IsChain, completed_in, completing, closed, StandsAs, Stands}
-use Rattle.sled_core.specs.Fits.{HoldsIn, LieFrom, log_image}
-use Rattle.sled_core.proofs.Ranges.{part-append, part-written_before, part-written_behind, part-written_at, length-written, completed-same, completed-append, completed_between, chain-append, chain-split, chain-joined, chain_grows, chain_within, there_split}
-use Rattle.sled_core.proofs.Images.{lie_below}
+use Rattle.sled_core.specs.Buffers.{text_in, body_in, message_in, IsChain, completed_in, StandsAs, Stands}
+use Rattle.sled_core.specs.Fits.{HoldsIn}
+use Rattle.sled_core.proofs.Ranges.{part-append, completed-same, completed-append, chain-append}
 
 -- Where a text and a body are the same, what stands there is.
 pub stands-same : (sum : List ℕ → ℕ) (old new : List ℕ) (r : Reserved) → text_in new r ≡ text_in old r → body_in new r ≡ body_in old r → Stands sum 0 old r → Stands sum 0 new r

@@ -1,10 +1,10 @@
 -- What a log is on the device: the records of its messages, one behind another.
-use Rattle.std.proofs.Common.{◌≡◌, ◌≢◌, ◌≤◌, ◌<◌, ◌+◌, ℕ, zero, suc, List, [], ◌∷◌, ◌++◌, length, sym, ◌∙◌, ap, arith, refl, subst, append_assoc, length-append, length-take, take, pos, negsuc, ◌^◌}
+use Rattle.std.proofs.Common.{◌≡◌, ◌≢◌, ◌≤◌, ◌<◌, ◌+◌, ℕ, List, [], ◌∷◌, ◌++◌, length, sym, ◌∙◌, ap, arith, refl, subst, append_assoc, length-append, length-take, take, pos, negsuc, ◌^◌}
 use Rattle.std.proofs.lemmas.List.{take_at, drop_at}
 use Rattle.sled_codec.specs.declared.result.DiskPtr.TheVariants.{Inline}
 use Rattle.sled_codec.specs.declared.serialization.message.MessageKind.TheVariants.{Corrupted}
 use Rattle.sled_codec.specs.Places.{part}
-use Rattle.std.specs.List.{All, Contains}
+use Rattle.std.specs.List.{All}
 use Rattle.sled_codec.specs.Record.{short_record, short_header, header_places}
 use Rattle.sled_codec.specs.Spelling.{short_header_tail}
 use Rattle.sled_codec.specs.History.{Message}

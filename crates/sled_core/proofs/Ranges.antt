@@ -1,14 +1,14 @@
 -- Reservations that lie one behind another: what stands in them stays where bytes are put behind them, and where another one is completed.
-use Rattle.std.proofs.Common.{◌≡◌, ◌≤◌, ◌<◌, ◌+◌, ◌-◌, ℕ, zero, suc, List, [], ◌∷◌, ◌++◌, length, take, drop, sym, ◌∙◌, ap, arith, refl, subst, append_assoc, length-append, length-take, length-drop, true, false, Bool, if◌then◌else◌, rules, Some, set, ◌⊎◌, inl, inr}
+use Rattle.std.proofs.Common.{◌≡◌, ◌≤◌, ◌<◌, ◌+◌, ℕ, zero, suc, List, [], ◌∷◌, ◌++◌, length, take, drop, sym, ◌∙◌, ap, arith, refl, subst, length-append, length-take, length-drop, true, false, if◌then◌else◌, rules, Some, set, ◌⊎◌, inl, inr}
 use Rattle.std.specs.List.{All, Contains, slice_get}
-use Rattle.std.proofs.lemmas.List.{drop-append-le, take-append-le, same_lists, places, take-append-drop, drop-drop}
+use Rattle.std.proofs.lemmas.List.{drop-append-le, take-append-le, same_lists, places}
 use Rattle.std.proofs.lemmas.Option.{slice_get_within}
 use Rattle.sled_codec.specs.Places.{part}
 use Rattle.sled_codec.specs.Written.{written}
 use Rattle.sled_codec.specs.History.{Message}
 use Rattle.sled_core.specs.declared.iobuf.Reserved.{Reserved}
 use Rattle.sled_core.proofs.Parts.{get_there}
-use Rattle.sled_core.specs.Buffers.{text_in, body_in, message_in, IsChain, completed_in, all_ended, Stands}
+use Rattle.sled_core.specs.Buffers.{body_in, message_in, IsChain, completed_in}
 
 -- a part stays when bytes are put behind the text
 pub part-append : (xs ys : List ℕ) (at n : ℕ) → at + n ≤ length xs → part (xs ++ ys) at n ≡ part xs at n

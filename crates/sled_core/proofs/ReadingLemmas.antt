@@ -1,13 +1,12 @@
 -- What is found of a header in the first bytes at an offset is the header of the record that stands there, and no other one does.
-use Rattle.std.proofs.Common.{◌≡◌, ◌≢◌, ◌≤◌, ◌<◌, ◌+◌, ◌-◌, ◌%◌, ◌⊎◌, inl, inr, ℕ, zero, suc, List, [], ◌∷◌, ◌++◌, length, take, drop, get_or, sym, ◌∙◌, ap, arith, refl, subst, append_assoc, length-append, length-take, length-drop}
+use Rattle.std.proofs.Common.{◌≡◌, ◌≢◌, ◌≤◌, ◌<◌, ◌+◌, ◌-◌, ◌%◌, ℕ, suc, List, [], ◌∷◌, ◌++◌, length, take, drop, get_or, sym, ◌∙◌, ap, arith, refl, subst, append_assoc, length-append, length-take, length-drop}
 use Rattle.std.proofs.lemmas.List.{drop-take, take-take, take_at, take-append-drop, drop_at, drop-drop, get_or-take, get_or_append_left, get_or-append-add, append-nil}
 use Rattle.std.proofs.lemmas.Bool.Decides.{nat_tests}
 use Rattle.sled_codec.specs.declared.serialization.message.MessageHeader.{MessageHeader}
 use Rattle.sled_codec.specs.declared.serialization.message.MessageKind.TheVariants as kind
 use Rattle.sled_codec.specs.Places.{part}
 use Rattle.sled_codec.specs.Sums.{flipped}
-use Rattle.sled_codec.specs.Spelling.{SpellsNumber, SpellsMessageHeader, more_bytes}
-use Rattle.sled_codec.specs.SpellingLaws.{same_rests}
+use Rattle.sled_codec.specs.Spelling.{SpellsNumber, SpellsMessageHeader}
 use Rattle.sled_codec.specs.HeaderLaws.{no_front-header, one_value-header}
 use Rattle.sled_codec.specs.declared.serialization.message.SegmentNumber.{SegmentNumber}
 use Rattle.std.specs.Prelude.{Result, Ok, Err, IfOk}

@@ -1,8 +1,6 @@
 -- The current buffer: which records and which placeholders stand in it, and which messages these are.
-use Rattle.std.specs.Prelude.{◌≡◌, ◌≢◌, ◌+◌, ◌-◌, ◌≤◌, ◌<◌, ◌^◌, ℕ, Bool, true, false, not, if◌then◌else◌, List, [], ◌∷◌, ◌++◌, length, take, drop, map, filter, replicate, Contains, Option, None, Some}
-use Rattle.sled_codec.specs.declared.result.DiskPtr.{DiskPtr}
+use Rattle.std.specs.Prelude.{◌≡◌, ◌≢◌, ◌+◌, ◌-◌, ◌≤◌, ◌<◌, ◌^◌, ℕ, Bool, true, false, if◌then◌else◌, List, [], ◌∷◌, ◌++◌, length, drop, replicate, Some}
 use Rattle.sled_codec.specs.declared.result.DiskPtr.TheVariants.{Inline}
-use Rattle.sled_codec.specs.declared.serialization.message.MessageKind.{MessageKind}
 use Rattle.sled_codec.specs.declared.serialization.message.MessageKind.TheVariants.{Corrupted}
 use Rattle.sled_codec.specs.Kinds.{kind_written, code_of}
 use Rattle.sled_codec.specs.Sums.{flipped}

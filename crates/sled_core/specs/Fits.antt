@@ -1,5 +1,5 @@
 -- What a log has to do with the history of what was completed, and with its device. One segment as yet, which begins at place 0.
-use Rattle.std.specs.Prelude.{◌≡◌, ◌≢◌, ◌⊎◌, ◌+◌, ◌-◌, ◌/◌, ◌^◌, ◌≤◌, ◌<◌, ℕ, ℤ, pos, negsuc, max, Bool, true, false, List, [], ◌∷◌, ◌++◌, length, take, drop, map, All, Contains, Option, None, Some, unwrap_or, slice_get}
+use Rattle.std.specs.Prelude.{◌≡◌, ◌≢◌, ◌+◌, ◌-◌, ◌/◌, ◌^◌, ◌≤◌, ◌<◌, ℕ, pos, negsuc, max, true, false, List, [], ◌∷◌, ◌++◌, length, take, All, Option, None, Some, unwrap_or, slice_get}
 use Rattle.std.specs.declared.io.Error.{Error as IoError}
 use Rattle.sled_codec.specs.declared.result.DiskPtr.TheVariants.{Inline}
 use Rattle.sled_codec.specs.declared.serialization.message.MessageKind.{MessageKind}
@@ -11,7 +11,6 @@ use Rattle.sled_codec.specs.Record.{short_record, short_header}
 use Rattle.sled_codec.specs.History.{Message, History}
 use Rattle.sled_store.specs.Device.{Trace, LogState, state_of, at_rest}
 use Rattle.sled_core.specs.declared.iobuf.Reserved.{Reserved}
-use Rattle.sled_core.specs.declared.iobuf.Buffer.{Buffer}
 use Rattle.sled_core.specs.declared.reservation.Reservation.{Reservation}
 use Rattle.sled_core.specs.declared.logger.Log.{Log}
 use Rattle.sled_store.specs.declared.config.RunningConfig.{RunningConfig}

@@ -1,7 +1,7 @@
 -- Where all is synced a crash leaves exactly what is read.
-use Rattle.std.proofs.Common.{◌≡◌, ◌&&◌, ℤ, ℕ, Bool, true, false, if◌then◌else◌, is_some, List, [], ◌∷◌, Option, Some, None, refl, ◌∙◌, ap}
+use Rattle.std.proofs.Common.{◌≡◌, ◌&&◌, ℤ, ℕ, Bool, true, false, if◌then◌else◌, is_some, List, [], ◌∷◌, Some, None, refl}
 use Rattle.std.specs.Ordering.{int_eq}
-use Rattle.sled_store.specs.Device.{Trace, Event, Content, NameState, NamesState, Temporary, state_of, content_of, Leaves, renamed, unnamed, snapshot_step, Wrote, Cut, Synced, BlobMade, BlobSynced, BlobRemoved, SnapshotFilled, SnapshotPublished, SnapshotRemoved, NamesSynced, Crashed}
+use Rattle.sled_store.specs.Device.{Trace, Event, Content, NameState, NamesState, Temporary, state_of, content_of, Leaves, renamed, snapshot_step, Wrote, Cut, Synced, BlobMade, BlobSynced, BlobRemoved, SnapshotFilled, SnapshotPublished, SnapshotRemoved, NamesSynced, Crashed}
 use Rattle.sled_store.specs.Durable.{SameContent}
 use Rattle.sled_store.proofs.LogLemmas.{at_rest_left}
 use Rattle.sled_store.proofs.NamesLemmas.{settled_name_left, settled_name_synced}

@@ -1,5 +1,4 @@
-use Rattle.std.proofs.Common.{◌≤◌, ℕ, length, arith}
-use Rattle.sled_codec.specs.Spelling.{short_number}
+use Rattle.std.proofs.Common.{arith}
 use Rattle.sled_codec.specs.SpellingLaws.{length-short_number}
 use Rattle.sled_core.proofs.logger.record_size.Goals as goal
 

@@ -1,7 +1,7 @@
-use Rattle.std.proofs.Common.{◌≡◌, ◌≤◌, ◌+◌, ◌∙◌, ℕ, List, ◌++◌, length, take, drop, ap, refl, arith}
+use Rattle.std.proofs.Common.{◌≡◌, ◌∙◌, take, drop, ap, arith}
 use Rattle.std.proofs.lemmas.List.{take_at}
 use Rattle.sled_codec.specs.declared.serialization.message.MessageHeader.{MessageHeader}
-use Rattle.sled_codec.specs.Spelling.{short_message_header, short_header_tail}
+use Rattle.sled_codec.specs.Spelling.{short_message_header}
 use Rattle.sled_core.proofs.Heads.{tail_between, length-short_message_header}
 use Rattle.sled_core.proofs.record.head_of.Goals as goal
 

@@ -1,4 +1,4 @@
-use Rattle.std.proofs.Common.{◌≡◌, ◌∙◌, ◌-◌, ◌≤◌, ap, List, ℕ, [], ◌++◌, ◌∷◌, take, drop, append_assoc, arith}
+use Rattle.std.proofs.Common.{◌∙◌, ◌-◌, ap, List, ℕ, [], ◌++◌, ◌∷◌, take, drop, append_assoc}
 use Rattle.sled_core.proofs.Parts.{mid_is}
 use Rattle.sled_core.proofs.record.push_placeholder.Goals as goal
 

@@ -1,4 +1,4 @@
-use Rattle.std.proofs.Common.{◌≡◌, ◌∙◌, ◌+◌, ◌≤◌, ◌<◌, ap, List, ℕ, [], ◌++◌, ◌∷◌, take, drop, rules, refl, get_or, set, sym, length, arith, Some, subst}
+use Rattle.std.proofs.Common.{◌≡◌, ◌∙◌, ◌+◌, ◌≤◌, ◌<◌, ap, List, ℕ, [], ◌∷◌, rules, refl, get_or, set, sym, length, arith, Some, subst}
 use Rattle.std.specs.List.{slice_get, All}
 use Rattle.std.proofs.lemmas.List.Elements.{All-set}
 use Rattle.sled_codec.specs.Written.{written}

@@ -1,11 +1,11 @@
-use Rattle.std.proofs.Common.{◌≡◌, ◌≢◌, ◌∙◌, ap, sym, subst, List, ℕ, ℤ, pos, Some}
+use Rattle.std.proofs.Common.{◌≡◌, ◌∙◌, ap, sym, subst, List, ℕ, pos, Some}
 use Rattle.std.specs.List.{slice_get}
-use Rattle.sled_codec.specs.History.{History, Message, AddsMessage, Step}
+use Rattle.sled_codec.specs.History.{Message, AddsMessage, Step}
 use Rattle.sled_store.specs.Device.{state_of}
 use Rattle.sled_core.specs.declared.iobuf.Reserved.{Reserved}
-use Rattle.sled_core.specs.Buffers.{message_in, closed, completing}
+use Rattle.sled_core.specs.Buffers.{message_in}
 use Rattle.sled_core.specs.Tickets.{index_of}
-use Rattle.sled_core.specs.Fits.{Holds, HoldsIn, Awaits}
+use Rattle.sled_core.specs.Fits.{Holds}
 use Rattle.sled_core.proofs.HoldsLemmas.{holds-same}
 use Rattle.sled_core.proofs.CompletesLemmas.{holds-complete, others_stay}
 use Rattle.sled_core.proofs.logger.Log.complete.Goals as goal

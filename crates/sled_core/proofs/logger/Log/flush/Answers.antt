@@ -1,5 +1,4 @@
-use Rattle.std.proofs.Common.{◌≡◌, ◌∙◌, ◌≤◌, ◌<◌, ap, sym, subst, List, ℕ, [], ◌∷◌, ◌++◌, length, take, drop, arith, rules, inl, inr}
-use Rattle.sled_codec.specs.History.{History, Message}
+use Rattle.std.proofs.Common.{◌≡◌, ◌∙◌, ◌<◌, ap, sym, [], length, rules, inl, inr}
 use Rattle.sled_store.specs.Device.{Trace, LogState, state_of, at_rest}
 use Rattle.sled_core.specs.Fits.{Holds}
 use Rattle.sled_core.proofs.Parts.{none_there}

@@ -1,15 +1,14 @@
-use Rattle.std.proofs.Common.{◌≡◌, ◌∙◌, ◌≤◌, ◌<◌, ◌+◌, ap, sym, subst, refl, List, ℕ, [], ◌∷◌, ◌++◌, length, take, drop, append_assoc, length-append, arith, rules, Some, pos, false}
+use Rattle.std.proofs.Common.{◌≡◌, ◌∙◌, ◌≤◌, ◌+◌, ap, sym, refl, List, ℕ, [], ◌∷◌, ◌++◌, length, take, drop, append_assoc, length-append, arith, rules, Some, pos, false}
 use Rattle.std.specs.List.{slice_get}
 use Rattle.sled_codec.specs.declared.result.DiskPtr.TheVariants.{Inline}
 use Rattle.sled_codec.specs.Kinds.{kind_written}
 use Rattle.sled_codec.specs.Spelling.{short_number, short_header_tail}
-use Rattle.sled_codec.specs.History.{History, Message}
 use Rattle.sled_store.specs.Device.{state_of}
 use Rattle.sled_core.specs.declared.iobuf.Reserved.{Reserved}
 use Rattle.sled_core.specs.declared.iobuf.Kept.{Kept}
-use Rattle.sled_core.specs.Buffers.{placeholder_head, reserved_for, message_in, record_size}
+use Rattle.sled_core.specs.Buffers.{placeholder_head, reserved_for, message_in}
 use Rattle.sled_core.specs.Tickets.{place_of, index_of}
-use Rattle.sled_core.specs.Fits.{Holds, Awaits, message_for}
+use Rattle.sled_core.specs.Fits.{Holds}
 use Rattle.sled_core.proofs.HoldsLemmas.{holds-same, holds-append, body-append}
 use Rattle.sled_core.proofs.ReserveLemmas.{there_last, there_append, stands, message_is, more_long, head_whole}
 use Rattle.sled_core.proofs.Heads.{length-short_header_tail}

@@ -1,4 +1,4 @@
-use Rattle.std.proofs.Common.{◌≡◌, ◌∙◌, ap, []}
+use Rattle.std.proofs.Common.{[]}
 use Rattle.sled_codec.specs.History.{no_history}
 use Rattle.sled_store.specs.Device.{state_of}
 use Rattle.sled_core.specs.Fits.{Holds}

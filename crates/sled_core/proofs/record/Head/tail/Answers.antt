@@ -1,4 +1,4 @@
-use Rattle.std.proofs.Common.{◌≤◌, ◌∙◌, ℕ, arith}
+use Rattle.std.proofs.Common.{◌≤◌, arith}
 use Rattle.sled_core.proofs.Parts.{mid_is}
 use Rattle.sled_core.proofs.record.Head.tail.Goals as goal
 
