@@ -3,6 +3,7 @@
 //! Beside them stand the calls that are refused without being failures.
 
 use crate::device_rows::{Content, NUMBER, PLACE, Step, after, call, reads};
+use crate::support::log_bytes;
 use sled_log::device::{Choice, CrashDevice, Device, MemDevice};
 use std::alloc::Global;
 use std::io::ErrorKind;
@@ -161,8 +162,8 @@ fn another_failed_call_changed_nothing(rt: HostRuntime) {
     }
 }
 
-// What does not show in what is read: a blob that is not made, a temporary snapshot that stays as it
-// was, a number that is not given, and nothing that is settled.
+// What a failed call does not show at once: no blob is made, the temporary snapshot stays as it was, no
+// number is given, and nothing is settled.
 #[test]
 fn nothing_is_made_or_settled(rt: HostRuntime) -> Result<(), Fail> {
     let mut device = MemDevice::new(rt.alloc());
@@ -189,7 +190,7 @@ fn nothing_is_made_or_settled(rt: HostRuntime) -> Result<(), Fail> {
     Ok(())
 }
 
-// A blob whose bytes were not settled is empty after the crash, though its name is settled.
+// A blob whose bytes are not settled is empty after the crash, though its name is settled.
 #[test]
 fn a_failed_sync_of_a_blob(rt: HostRuntime) -> Result<(), Fail> {
     let mut device = MemDevice::new(rt.alloc());
@@ -243,6 +244,7 @@ fn all_fail<R: Abort>(rt: &R, alloc: Global, device: &mut MemDevice) {
     assert!(rt; device.stopped());
 }
 
+// The log is settled by the third change, and a name by the last alone.
 #[test]
 fn stopped_at_each_change(rt: HostRuntime) {
     for n in 0..10usize {
@@ -255,6 +257,9 @@ fn stopped_at_each_change(rt: HostRuntime) {
         assert_eq!(rt; device.failures(), 17, "after {n}");
         assert!(rt; device.crash(Choice::Old(Vec::new(rt.alloc()))));
         assert!(rt; !device.stopped());
+        let log: &[u8] = if n < 3 { &[] } else { &[1, 2, 3, 4] };
+        let bytes = log_bytes(&rt, rt.alloc(), &mut device);
+        assert_eq!(rt; bytes.as_slice(), log, "after {n}");
         assert!(rt; failed(&rt, rt.alloc(), &mut device, &CALLS).is_empty());
         assert_eq!(rt; device.failures(), 17, "after {n}");
     }

@@ -279,6 +279,8 @@ static CUT_SYNCED: [Step; 4] = [
 #[test]
 fn a_cut(rt: HostRuntime) {
     let rows = [
+        old(&CUT, &[], true, log(&[1, 2, 3, 4, 5, 6])),
+        new(&CUT, &[], true, log(&[1, 2, 3, 4])),
         takes(&CUT, log(&[1, 2, 3, 4, 9])),
         takes(&CUT, log(&[1, 2, 3, 4, 5])),
         takes(&CUT, log(&[1, 2, 3, 4, 0])),
