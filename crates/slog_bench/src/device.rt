@@ -56,4 +56,5 @@ fn one_call_fails(rt: HostRuntime) -> Result<(), Fail> {
 fn laws_of_crashes() {
     laws::what_is_read_may_be_left();
     laws::what_is_settled_may_be_left();
+    laws::what_is_synced_is_left();
 }

@@ -4,11 +4,12 @@
 //! header behind the sum, which is 120, and is stored flipped.
 
 use sled_codec::history::{Message, entries_of_page};
+use sled_codec::serialization::bytes::copy_in;
 use sled_codec::serialization::laws;
-use sled_codec::serialization::record::is_record;
+use sled_codec::serialization::record::{is_record, sum_in_place};
 use sled_log::device::PlaceSum;
 use sled_log::logger::{DiskPtr, LogKind, MessageKind, PageId, SegmentNumber};
-use sled_log::serialization::MessageHeader;
+use sled_log::serialization::{MessageHeader, Serialize};
 use std::test::Fail;
 
 const RECORD: [u8; 12] = [135, 255, 255, 255, 6, 4, 0, 0, 3, 7, 7, 7];
@@ -81,6 +82,40 @@ fn pages_of_messages(rt: HostRuntime) -> Result<(), Fail> {
         begun.as_slice(),
         [message(LogKind::Replace, 5, 60)].as_slice()
     );
+    Ok(())
+}
+
+// Of a record whose sum is not written yet.
+#[test]
+fn the_sum_of_a_record(rt: HostRuntime) {
+    let mut bytes = [0, 0, 0, 0, 6, 4, 0, 0, 3, 7, 7, 7];
+    assert_eq!(rt; sum_in_place(&PlaceSum, &mut bytes, 8), u32::MAX - 120);
+    assert_eq!(rt; bytes, [0, 0, 0, 0, 6, 4, 0, 0, 3, 7, 7, 7]);
+}
+
+#[test]
+fn bytes_over_others(rt: HostRuntime) {
+    let mut bytes = [1, 2, 3, 4, 5];
+    assert_eq!(rt; copy_in(&[7, 8], &mut bytes, 2), 4);
+    assert_eq!(rt; bytes, [1, 2, 7, 8, 5]);
+    assert_eq!(rt; copy_in(&[], &mut bytes, 5), 5);
+    assert_eq!(rt; bytes, [1, 2, 7, 8, 5]);
+}
+
+#[test]
+#[tactic(auto, using(sled_codec::specs::HeaderLaws::header_lengths))]
+fn the_tail_of_a_header(rt: HostRuntime) -> Result<(), Fail> {
+    let header = MessageHeader {
+        crc32: 0,
+        kind: MessageKind::InlineMeta,
+        len: 4,
+        segment_number: SegmentNumber(0),
+        pid: 0,
+    };
+    let mut bytes = Vec::new(rt.alloc());
+    bytes.resize(header.serialized_size() as usize, 9)?;
+    assert_eq!(rt; header.serialize_tail(&mut bytes, 4), 8);
+    assert_eq!(rt; bytes.as_slice(), [9, 9, 9, 9, 6, 4, 0, 0].as_slice());
     Ok(())
 }
 
