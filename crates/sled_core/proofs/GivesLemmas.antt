@@ -1,5 +1,5 @@
 -- Where the record of a message stands, what is read is that message.
-use Rattle.std.proofs.Common.{◌≡◌, ◌≢◌, ◌≤◌, ◌<◌, ◌+◌, ◌%◌, ◌^◌, ℕ, List, ◌++◌, length, drop, sym, ◌∙◌, ap, arith, refl, subst, append_assoc, length-append, length-take, length-drop, true, false, Bool, if◌then◌else◌, ◌==◌, Option, None, Some, take-append-drop, max, inl, inr}
+use Rattle.std.proofs.Common.{◌≡◌, ◌≢◌, ◌≤◌, ◌<◌, ◌+◌, ◌%◌, ◌^◌, ℕ, List, ◌++◌, length, drop, sym, ◌∙◌, ap, arith, refl, subst, length-take, true, false, Bool, if◌then◌else◌, ◌==◌, Option, None, Some, max, inl, inr}
 use Rattle.std.specs.List.{Contains}
 use Rattle.std.proofs.Math.Nat.{mod-eq_of_lt}
 use Rattle.std.proofs.lemmas.List.Elements.{Contains-append_cases}
@@ -13,8 +13,6 @@ use Rattle.sled_codec.specs.declared.serialization.message.MessageHeader.{Messag
 use Rattle.sled_codec.specs.Kinds.{kind_written}
 use Rattle.sled_codec.specs.Places.{part}
 use Rattle.sled_codec.specs.Sums.{flipped}
-use Rattle.sled_codec.specs.HeaderLaws.{no_front-header, one_value-header}
-use Rattle.sled_codec.specs.SpellingLaws.{same_fronts, same_rests}
 use Rattle.sled_codec.specs.History.{Message, History}
 use Rattle.sled_codec.proofs.Records.{short_is_record, length-short_record}
 use Rattle.sled_store.specs.Device.{LogState}
@@ -24,6 +22,7 @@ use Rattle.sled_core.specs.Fits.{HoldsIn, record_text, record_kind, log_image}
 use Rattle.sled_core.proofs.Ranges.{of_one, completed_between}
 use Rattle.sled_core.proofs.CompletesLemmas.{some_long}
 use Rattle.sled_core.proofs.Images.{image_stands}
+use Rattle.sled_core.proofs.ReadingLemmas.{laid_of, one_head, one_laid, one_text}
 use Rattle.sled_core.specs.declared.reading.LogRead.{LogRead}
 use Rattle.sled_core.specs.declared.reading.LogRead.TheVariants.{Inline, Blob, Canceled, Cap, Corrupted, DanglingBlob, BatchManifest}
 use Rattle.sled_core.specs.Reading.{StandsAt, IsReading, GivesMessage, is_inline, is_blob}
@@ -32,31 +31,16 @@ use Rattle.sled_core.specs.Reading.{StandsAt, IsReading, GivesMessage, is_inline
 
 module _ (sum : List ℕ → ℕ) (size : ℕ) (log : List ℕ) (lid number : ℕ) (h h' : MessageHeader) (body body' : List ℕ) (len len' : ℕ)
     (a : StandsAt sum size log lid number h body len) (b : StandsAt sum size log lid number h' body' len') where
-  front_of : (h : MessageHeader) (body : List ℕ) (len : ℕ) (a : StandsAt sum size log lid number h body len) → drop lid log ≡ a.header ++ (body ++ drop len (drop lid log))
-  front_of h body len a = sym (take-append-drop len (drop lid log)) ∙ ap (λ (l : List ℕ). l ++ drop len (drop lid log)) a.is ∙ append_assoc a.header body (drop len (drop lid log))
-
-  fronts : a.header ++ (body ++ drop len (drop lid log)) ≡ b.header ++ (body' ++ drop len' (drop lid log))
-  fronts = sym (front_of h body len a) ∙ front_of h' body' len' b
-
-  same_headers : a.header ≡ b.header
-  same_headers = no_front-header a.header b.header _ _ h h' a.spelled b.spelled fronts
-
   pub one_header : h ≡ h'
-  one_header = one_value-header b.header h h' (rw same_headers at a.spelled) b.spelled
+  one_header = one_laid size log lid number a.header b.header h h' body body' (laid_of sum size log lid number h body len a).0 (laid_of sum size log lid number h' body' len' b).0
 
   pub one_body : body ≡ body'
-  one_body =
-      let lens : length body ≡ length body' = sym a.counted ∙ ap (λ (x : MessageHeader). x.len) one_header ∙ b.counted in
-      same_fronts body body' _ _ lens (same_rests a.header b.header _ _ same_headers fronts)
-
-  long_as : (h : MessageHeader) (body : List ℕ) (len : ℕ) (a : StandsAt sum size log lid number h body len) → len ≡ length a.header + length body
-  long_as h body len a =
-      let within = a.in_file in
-      let there : length (part log lid len) ≡ len = omega (arith, within, length-take len (drop lid log), length-drop lid log) in
-      sym there ∙ ap length a.is ∙ length-append a.header body
+  one_body = one_text size log lid number a.header b.header h h' body body' (laid_of sum size log lid number h body len a).0 (laid_of sum size log lid number h' body' len' b).0
 
   pub one_len : len ≡ len'
-  one_len = omega (arith, long_as h body len a, long_as h' body' len' b, ap length same_headers, ap length one_body)
+  one_len =
+      let heads = one_head size log lid number a.header b.header h h' body body' (laid_of sum size log lid number h body len a).0 (laid_of sum size log lid number h' body' len' b).0 in
+      omega (arith, (laid_of sum size log lid number h body len a).1, (laid_of sum size log lid number h' body' len' b).1, ap length heads, ap length one_body)
 
 -- a message that holds its item is of a kind that does
 inline_if : (b c : Bool) (x y z k : MessageKind) → is_inline x ≡ true → is_inline y ≡ true → is_inline z ≡ true → (if b then Some x else if c then Some y else Some z) ≡ Some k → is_inline k ≡ true
@@ -142,5 +126,6 @@ message_found sum size device bytes from rs H m holds behind in_segment small th
       valid = stands.4;
       in_file = ends;
       in_slot = omega (arith, offset, ends, long, behind, in_segment);
+      small = omega (arith, ends, long, behind, in_segment, small);
     } in
     (header, subst (λ (l : List ℕ). StandsAt sum size l m.place 0 header m.bytes m.size) (sym settled) on_image, kind_known (kind_written m.kind m.page false) stands.4, refl, stands.2)

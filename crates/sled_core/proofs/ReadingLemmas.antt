@@ -1,5 +1,5 @@
 -- What is found of a header in the first bytes at an offset is the header of the record that stands there, and no other one does.
-use Rattle.std.proofs.Common.{◌≡◌, ◌≢◌, ◌≤◌, ◌<◌, ◌+◌, ◌-◌, ◌%◌, ℕ, suc, List, [], ◌∷◌, ◌++◌, length, take, drop, get_or, sym, ◌∙◌, ap, arith, refl, subst, append_assoc, length-append, length-take, length-drop}
+use Rattle.std.proofs.Common.{◌^◌, ◌≡◌, ◌≢◌, ◌≤◌, ◌<◌, ◌+◌, ◌-◌, ◌%◌, ℕ, suc, List, [], ◌∷◌, ◌++◌, length, take, drop, get_or, sym, ◌∙◌, ap, arith, refl, subst, append_assoc, length-append, length-take, length-drop}
 use Rattle.std.proofs.lemmas.List.{drop-take, take-take, take_at, take-append-drop, drop_at, drop-drop, get_or-take, get_or_append_left, get_or-append-add, append-nil}
 use Rattle.std.proofs.lemmas.Bool.Decides.{nat_tests}
 use Rattle.sled_codec.specs.declared.serialization.message.MessageHeader.{MessageHeader}
@@ -12,7 +12,8 @@ use Rattle.sled_codec.specs.declared.serialization.message.SegmentNumber.{Segmen
 use Rattle.std.specs.Prelude.{Result, Ok, Err, IfOk}
 use Rattle.sled_core.specs.declared.reading.LogRead.{LogRead}
 use Rattle.sled_core.specs.declared.reading.LogRead.TheVariants.{Inline, Blob, Canceled, Cap, Corrupted, DanglingBlob, BatchManifest}
-use Rattle.sled_core.specs.Reading.{StandsAt, HoldsAs, IsReading, is_inline, is_blob}
+use Rattle.sled_codec.specs.SpellingLaws.{same_fronts, same_rests}
+use Rattle.sled_core.specs.Reading.{StandsAt, IsLaid, HoldsAs, IsReading, is_inline, is_blob}
 
 -- a number whose lead is a byte has nine bytes at most
 number_short : (text : List ℕ) (v : ℕ) → SpellsNumber text v → get_or text 0 0 < 256 → (1 ≤ length text) × (length text ≤ 9)
@@ -134,27 +135,85 @@ module _ (sum : List ℕ → ℕ) (size : ℕ) (log : List ℕ) (lid number : �
         let is : part log lid (n + h0.len) ≡ take n head ++ body = ap (part log lid) (sym (same_long h body len stands)) ∙ stands.is ∙ ap (λ (l : List ℕ). l ++ body) same.0 in
         sym (drop_at (take n head) body n found_long) ∙ ap (drop n) (sym is) ∙ drop-take n h0.len (drop lid log) ∙ ap (take h0.len) (drop-drop n lid log)
 
-    -- What passes the tests stands there.
-    pub stands_here : (body : List ℕ) → h0.kind ≢ kind.Corrupted → h0.segment_number.0 ≡ number → body ≡ part log (lid + n) h0.len → length body ≡ h0.len
-        → n + h0.len ≤ size - lid % size → n + h0.len ≤ length log - lid → h0.crc32 ≡ flipped (sum (body ++ drop 4 (take n head))) → StandsAt sum size log lid number h0 body (n + h0.len)
-    stands_here body valid numbered is counted in_slot in_file summed =
+    -- What passes the tests is laid there.
+    pub laid_here : (body : List ℕ) → h0.kind ≢ kind.Corrupted → h0.segment_number.0 ≡ number → body ≡ part log (lid + n) h0.len → length body ≡ h0.len
+        → n + h0.len ≤ size - lid % size → lid + n + h0.len ≤ length log → lid + (n + h0.len) < 2 ^ 64 → IsLaid size log lid number (take n head) h0 body
+    laid_here body valid numbered is counted in_slot in_file small_end =
         let some = found_some in
-        let within : lid + n ≤ length log = omega (arith, some, in_file) in
+        let within : lid + n ≤ length log = omega (arith, in_file) in
+        let long_here : length (take n head) + length body ≡ n + h0.len = omega (arith, found_long, counted) in
         let whole : part log lid (n + h0.len) ≡ part log lid n ++ part log (lid + n) h0.len =
         sym (take-append-drop n (part log lid (n + h0.len)))
         ∙ ap (λ (l : List ℕ). l ++ drop n (part log lid (n + h0.len))) (take-take n (n + h0.len) (drop lid log) (omega arith))
         ∙ ap (λ (l : List ℕ). part log lid n ++ l) (drop-take n h0.len (drop lid log) ∙ ap (take h0.len) (drop-drop n lid log)) in
         record {
-          header = take n head;
           spelled = found;
-          is = whole ∙ ap (λ (l : List ℕ). l ++ part log (lid + n) h0.len) (sym (same n small within)) ∙ ap (λ (l : List ℕ). take n head ++ l) (sym is);
+          is = ap (part log lid) long_here ∙ whole ∙ ap (λ (l : List ℕ). l ++ part log (lid + n) h0.len) (sym (same n small within)) ∙ ap (λ (l : List ℕ). take n head ++ l) (sym is);
           counted = sym counted;
           numbered = numbered;
-          summed = summed;
           valid = valid;
-          in_file = omega (arith, some, in_file);
-          in_slot = omega (arith, some, in_slot);
+          in_file = omega (arith, long_here, in_file);
+          in_slot = omega (arith, some, long_here, in_slot);
+          small = omega (arith, long_here, small_end);
         }
+
+-- A record is laid where it stands.
+pub laid_of : (sum : List ℕ → ℕ) (size : ℕ) (log : List ℕ) (lid number : ℕ) (h : MessageHeader) (body : List ℕ) (len : ℕ) (stands : StandsAt sum size log lid number h body len)
+    → (IsLaid size log lid number stands.header h body) × (len ≡ length stands.header + length body)
+laid_of sum size log lid number h body len stands =
+    let within = stands.in_file in
+    let there : length (part log lid len) ≡ len = omega (arith, within, length-take len (drop lid log), length-drop lid log) in
+    let long : len ≡ length stands.header + length body = sym there ∙ ap length stands.is ∙ length-append stands.header body in (
+      record {
+        spelled = stands.spelled;
+        is = ap (part log lid) (sym long) ∙ stands.is;
+        counted = stands.counted;
+        numbered = stands.numbered;
+        valid = stands.valid;
+        in_file = let end = stands.in_file in omega (arith, long, end);
+        in_slot = let end = stands.in_slot in omega (arith, long, end);
+        small = let end = stands.small in omega (arith, long, end);
+      },
+      long,
+    )
+
+-- What is laid with a right sum stands there.
+pub stands_of : (sum : List ℕ → ℕ) (size : ℕ) (log : List ℕ) (lid number : ℕ) (header : List ℕ) (h : MessageHeader) (body : List ℕ) (laid : IsLaid size log lid number header h body)
+    → h.crc32 ≡ flipped (sum (body ++ drop 4 header)) → StandsAt sum size log lid number h body (length header + length body)
+stands_of sum size log lid number header h body laid summed = record {
+  header = header;
+  spelled = laid.spelled;
+  is = laid.is;
+  counted = laid.counted;
+  numbered = laid.numbered;
+  summed = summed;
+  valid = laid.valid;
+  in_file = laid.in_file;
+  in_slot = laid.in_slot;
+  small = laid.small;
+}
+
+-- At one offset one thing is laid.
+module _ (size : ℕ) (log : List ℕ) (lid number : ℕ) (header header' : List ℕ) (h h' : MessageHeader) (body body' : List ℕ)
+    (a : IsLaid size log lid number header h body) (b : IsLaid size log lid number header' h' body') where
+  front_of : (header : List ℕ) (h : MessageHeader) (body : List ℕ) (a : IsLaid size log lid number header h body) → drop lid log ≡ header ++ (body ++ drop (length header + length body) (drop lid log))
+  front_of header h body a =
+      let n : ℕ = length header + length body in
+      sym (take-append-drop n (drop lid log)) ∙ ap (λ (l : List ℕ). l ++ drop n (drop lid log)) a.is ∙ append_assoc header body (drop n (drop lid log))
+
+  fronts : header ++ (body ++ drop (length header + length body) (drop lid log)) ≡ header' ++ (body' ++ drop (length header' + length body') (drop lid log))
+  fronts = sym (front_of header h body a) ∙ front_of header' h' body' b
+
+  pub one_head : header ≡ header'
+  one_head = no_front-header header header' _ _ h h' a.spelled b.spelled fronts
+
+  pub one_laid : h ≡ h'
+  one_laid = one_value-header header' h h' (rw one_head at a.spelled) b.spelled
+
+  pub one_text : body ≡ body'
+  one_text =
+      let lens : length body ≡ length body' = sym a.counted ∙ ap (λ (x : MessageHeader). x.len) one_laid ∙ b.counted in
+      same_fronts body body' _ _ lens (same_rests header header' _ _ one_head fronts)
 
 -- What a record holds is what is read where it stands.
 pub reading_is : (sum : List ℕ → ℕ) (size : ℕ) (log : List ℕ) (lid number : ℕ) (h : MessageHeader) (body : List ℕ) (len : ℕ) (r : LogRead)

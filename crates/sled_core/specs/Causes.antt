@@ -41,6 +41,13 @@ DeviceAnswers (Err OutOfMemory) before after = after ≡ before
 DeviceAnswers (Err (Corruption at)) before after = (after ≡ before) × (at ≡ None)
 DeviceAnswers (Err _) before after = ⊥
 
+-- A call that reads bytes: it wants no memory, a failure of the device is counted and answered, and damage comes only where this is so.
+abbrev pub ReaderAnswers : {T : Type 0} → Result T Error → Type 0 → ℕ → ℕ → Type 0
+ReaderAnswers (Ok _) early before after = after ≡ before
+ReaderAnswers (Err (Io e)) early before after = IsTrue (is_fault e) × (after ≡ (before + 1) % 2 ^ 64)
+ReaderAnswers (Err (Corruption at)) early before after = (after ≡ before) × (at ≡ None) × early
+ReaderAnswers (Err _) early before after = ⊥
+
 -- A read of the log: as each call that may touch the device, and damage besides.
 abbrev pub ReadAnswers : {T : Type 0} → Result T Error → Option IoError → Option IoError → ℕ → ℕ → Type 0
 ReadAnswers (Ok _) old new before after = (old ≡ None) × (new ≡ None) × (after ≡ before)

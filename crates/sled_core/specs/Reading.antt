@@ -1,5 +1,6 @@
 -- What a reader finds at an offset of the log file.
-use Rattle.std.specs.Prelude.{◌≡◌, ◌≢◌, ◌⊎◌, ◌+◌, ◌%◌, ◌≤◌, ℕ, Bool, true, false, List, ◌++◌, length, drop, Some, ℤ, pos, ◌<ℤ◌}
+use Rattle.std.specs.Borrow.{Bor}
+use Rattle.std.specs.Prelude.{Some, take, replicate, ◌^◌, ◌<◌, Option, None, ◌≡◌, ◌≢◌, ◌⊎◌, ◌+◌, ◌%◌, ◌≤◌, ℕ, Bool, true, false, List, ◌++◌, length, drop, ℤ, pos, ◌<ℤ◌}
 use Rattle.sled_codec.specs.declared.serialization.message.MessageHeader.{MessageHeader}
 use Rattle.sled_codec.specs.declared.serialization.message.MessageKind.{MessageKind}
 use Rattle.sled_codec.specs.declared.serialization.message.MessageKind.TheVariants as kind
@@ -10,6 +11,8 @@ use Rattle.sled_codec.specs.History.{Message}
 use Rattle.sled_codec.specs.Sums.{flipped}
 use Rattle.sled_codec.specs.Spelling.{SpellsMessageHeader, SpellsSigned}
 use Rattle.sled_codec.specs.Places.{part, MayBegin}
+use Rattle.sled_core.specs.declared.read_at.BasedBuf.{BasedBuf}
+use Rattle.sled_core.specs.declared.found.Found.{Found}
 use Rattle.sled_core.specs.declared.reading.LogRead.{LogRead}
 use Rattle.sled_core.specs.declared.reading.LogRead.TheVariants.{Inline, Blob, Canceled, Cap, Corrupted, DanglingBlob, BatchManifest}
 
@@ -24,6 +27,36 @@ pub record StandsAt (sum : List ℕ → ℕ) (size : ℕ) (log : List ℕ) (lid 
   pub valid : h.kind ≢ kind.Corrupted
   pub in_file : lid + len ≤ length log
   pub in_slot : lid % size + len ≤ size
+  -- its end is an offset
+  pub small : lid + len < 2 ^ 64
+
+-- A header of this segment and the body that it announces stand there, as a record does. The sum may be wrong.
+pub record IsLaid (size : ℕ) (log : List ℕ) (lid number : ℕ) (header : List ℕ) (h : MessageHeader) (body : List ℕ) : Type 0 where
+  pub spelled : SpellsMessageHeader header h
+  pub is : part log lid (length header + length body) ≡ header ++ body
+  pub counted : h.len ≡ length body
+  pub numbered : h.segment_number.0 ≡ number
+  pub valid : h.kind ≢ kind.Corrupted
+  pub in_file : lid + (length header + length body) ≤ length log
+  pub in_slot : lid % size + (length header + length body) ≤ size
+  pub small : lid + (length header + length body) < 2 ^ 64
+
+-- what was found is laid there
+abbrev pub IsFound : ℕ → List ℕ → ℕ → ℕ → Found → Type 0
+IsFound size log lid number f = IsLaid size log lid number (take f.header_len f.head) f.header f.body.items
+
+-- no record of this segment stands there, by whichever checksum
+abbrev pub IsBare : ℕ → List ℕ → ℕ → ℕ → Type 0
+IsBare size log lid number = (sum : List ℕ → ℕ) (h : MessageHeader) (body : List ℕ) (len : ℕ) → StandsAt sum size log lid number h body len → ⊥
+
+-- the file of a buffer of bytes from an offset on, of which the bytes before it aren't known
+abbrev pub file_of : BasedBuf → List ℕ
+file_of b = replicate b.offset 0 ++ b.buf.items
+
+-- what is read from: a buffer, where there is one, or else the log file of the device
+abbrev pub file_read : Option (Bor BasedBuf) → List ℕ → List ℕ
+file_read None log = log
+file_read (Some b) log = file_of b.now
 
 -- its item stands in the record
 abbrev pub is_inline : MessageKind → Bool
@@ -83,3 +116,9 @@ IsInline (ptr.Blob lid place) = ⊥
 -- No message can have this place, or no record begins at this offset.
 abbrev pub IsNoPlace : ℕ → ℤ → ℕ → Type 0
 IsNoPlace size lsn lid = (lsn <ℤ pos 0) ⊎ (MayBegin size lid → ⊥)
+
+-- the item of a message that was read with it
+abbrev pub data_of : LogRead → Option (List ℕ)
+data_of (Inline h bytes len) = Some bytes.items
+data_of (Blob h bytes place len) = Some bytes.items
+data_of _ = None

@@ -4,12 +4,15 @@
 //! What a log has to do with the history of what was completed is defined in `specs/Fits.antt`.
 #![tactic(auto)]
 
+mod found;
 pub mod iobuf;
 pub mod logger;
+pub mod read_at;
 pub mod reading;
 mod record;
 pub mod reservation;
 
 pub use logger::Log;
-pub use reading::LogRead;
+pub use read_at::{BasedBuf, ReadAt};
+pub use reading::{LogRead, read_message};
 pub use reservation::{Guard, Reservation};

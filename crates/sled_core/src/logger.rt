@@ -261,7 +261,8 @@ impl<D: Device, C: Checksum> Log<D, C> {
 
     /// Reads at an offset of the device, and keeps a failure of it.
     fn read_settled(&mut self, lid: LogOffset, number: SegmentNumber) -> Result<LogRead>
-        requires { fault_of self.old ≡ None }
+        requires fault { fault_of self.old ≡ None }
+        requires begin { MayBegin (segment_size_of self.old) lid }
         ensures reading { IfOk result (IsReading C.sum_of (segment_size_of self.old) (state_of (D.trace (device_of self.old))).log.bytes lid number.0) }
         ensures malformed { IsCorruption result → IsMalformed C.sum_of (segment_size_of self.old) (state_of (D.trace (device_of self.old))).log.bytes lid number.0 }
         ensures history { (H : History) → Holds D.trace C.sum_of self.old H → Holds D.trace C.sum_of self.new H }
@@ -272,7 +273,7 @@ impl<D: Device, C: Checksum> Log<D, C> {
         ensures size { segment_size_of self.new ≡ segment_size_of self.old }
         ensures answers { ReadAnswers result None (fault_of self.new) (D.faults (device_of self.old)) (D.faults (device_of self.new)) }
     {
-        let answer = read_message(&mut self.config, lid, number);
+        let answer = read_message(&mut self.config, None, lid, number);
         self.fault = failure_of(&answer);
         answer
     }

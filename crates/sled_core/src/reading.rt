@@ -1,5 +1,5 @@
 //! Reading a message from the device: which bytes pass as its record, and what that holds.
-ghost use Rattle.std.specs.Prelude.{◌≡◌, ◌≢◌, ◌≤◌, ◌<◌, ◌+◌, ◌-◌, ◌%◌, ◌^◌, ◌++◌, ◌↔◌, ℕ, List, length, take, drop, min, vec_capacity, IfOk, IfErr, OnOk, IsTrue, IsErr, slice_index, MatchOption, ◌⊎◌, true};
+ghost use Rattle.std.specs.Prelude.{IfSome, IfNone, None, Some, is_some, ◌≡◌, ◌≢◌, ◌≤◌, ◌<◌, ◌+◌, ◌-◌, ◌%◌, ◌^◌, ◌++◌, ◌↔◌, ℕ, List, length, take, drop, min, vec_capacity, IfOk, IfErr, OnOk, IsTrue, IsErr, slice_index, MatchOption, ◌⊎◌, true};
 ghost use Rattle.std.specs.declared.io.ErrorKind.TheVariants.{OutOfMemory};
 ghost use Rattle.sled_codec.specs.declared.serialization.message.MessageHeader.{MessageHeader};
 ghost use Rattle.sled_codec.specs.declared.serialization.message.MessageKind.TheVariants as kind;
@@ -9,19 +9,19 @@ ghost use Rattle.sled_codec.specs.Spelling.{SpellsMessageHeader, SpellsSigned};
 ghost use Rattle.sled_codec.specs.Sums.{flipped};
 ghost use Rattle.sled_store.specs.Device.{state_of};
 ghost use Rattle.sled_store.specs.Answers.{Counts, Fails};
-ghost use Rattle.sled_core.specs.Causes.{DeviceAnswers};
-ghost use Rattle.sled_core.specs.Reading.{HoldsAs, IsReading, IsMalformed, is_blob};
+ghost use Rattle.sled_core.specs.Causes.{DeviceAnswers, ReaderAnswers};
+ghost use Rattle.sled_core.specs.Reading.{HoldsAs, IsReading, IsMalformed, IsFound, IsBare, file_read, data_of, is_blob};
+ghost use Rattle.sled_codec.specs.Places.{MayBegin};
 
+use crate::found::{Found, READ_AHEAD};
 use crate::iobuf::MAX_MSG_HEADER_LEN;
+use crate::read_at::{BasedBuf, ReadAt};
 use crate::record::sum_behind;
 use sled_codec::result::{BlobPointer, Error, LogOffset, Lsn, Result};
 use sled_codec::serialization::{Checksum, MessageHeader, MessageKind, SegmentNumber, Serialize};
 use sled_store::{Device, RunningConfig};
 use std::alloc::Global;
 use std::io;
-
-/// How many bytes are read at first: more than any header has.
-const READ_AHEAD: usize = 128;
 
 /// What stands at an offset of the log.
 #[derive(Debug, Drop)]
@@ -44,70 +44,184 @@ pub enum LogRead {
     BatchManifest(Lsn, u32),
 }
 
-/// Reads what stands at an offset, for a segment of this number. The device keeps all its bytes.
-pub(crate) fn read_message<D: Device, C: Checksum>(
+impl LogRead {
+    /// Whether it is a message with its item.
+    pub fn is_successful(&self) -> bool
+        ensures { result ≡ is_some (data_of self.now) }
+    {
+        match self {
+            LogRead::Inline(_, _, _) | LogRead::Blob(_, _, _, _) => true,
+            _ => false,
+        }
+    }
+
+    /// The item's bytes, where it is a message with its item.
+    pub fn into_data(self) -> Option<Vec<u8>>
+        ensures { MatchOption result (data_of self ≡ None) (λ bytes. data_of self ≡ Some bytes.items) }
+    {
+        match self {
+            LogRead::Inline(_, bytes, _) | LogRead::Blob(_, bytes, _, _) => Some(bytes),
+            _ => None,
+        }
+    }
+}
+
+/// Reads what stands at an offset, for a segment of this number: from a buffer, whose end then is that of
+/// the file, or from the device. It asks for an offset at which a record may begin, and that lies in the
+/// buffer. `Corruption` comes where a record stands there that has to hold a place and does not.
+pub fn read_message<D: Device, C: Checksum>(
     config: &mut RunningConfig<D, C>,
+    buf: Option<&BasedBuf>,
     lid: LogOffset,
     number: SegmentNumber,
 ) -> Result<LogRead>
-    ensures reading { IfOk result (IsReading C.sum_of config.old.config.segment_size (state_of (D.trace config.old.device)).log.bytes lid number.0) }
-    ensures malformed { IsCorruption result → IsMalformed C.sum_of config.old.config.segment_size (state_of (D.trace config.old.device)).log.bytes lid number.0 }
+    requires begin { MayBegin config.old.config.segment_size lid }
+    requires behind { IfSome buf (λ b. b.now.offset ≤ lid) }
+    ensures reading { IfOk result (IsReading C.sum_of config.old.config.segment_size (file_read buf.entry (state_of (D.trace config.old.device)).log.bytes) lid number.0) }
+    ensures malformed { IsCorruption result → IsMalformed C.sum_of config.old.config.segment_size (file_read buf.entry (state_of (D.trace config.old.device)).log.bytes) lid number.0 }
     ensures answers { DeviceAnswers result (D.faults config.old.device) (D.faults config.new.device) }
     ensures trace { D.trace config.new.device ≡ D.trace config.old.device }
     ensures config { config.new.config ≡ config.old.config }
 {
-    let head = read_head(&mut config.device, lid)?;
-    match decode_head(config.alloc(), &head)? {
-        Some((header, header_len)) => read_found(config, lid, number, &head, &header, header_len),
+    match find_in(config, buf, lid, number)? {
+        Some(found) => read_found(&config.checksum, found),
         None => Ok(LogRead::Corrupted),
     }
 }
 
-/// Reads on, where the first bytes at an offset begin with this header.
-fn read_found<D: Device, C: Checksum>(
+/// What is laid at an offset of the buffer, or of the device's log.
+fn find_in<D: Device, C: Checksum>(
     config: &mut RunningConfig<D, C>,
+    buf: Option<&BasedBuf>,
     lid: LogOffset,
     number: SegmentNumber,
-    head: &[u8],
-    header: &MessageHeader,
-    header_len: usize,
-) -> Result<LogRead>
-    requires long { length head.now ≡ 128 }
-    requires head { (k : ℕ) → k ≤ 128 → lid + k ≤ length (state_of (D.trace config.old.device)).log.bytes → take k head.now ≡ part (state_of (D.trace config.old.device)).log.bytes lid k }
-    requires found { SpellsMessageHeader (take header_len head.now) header.now }
-    requires small { header_len ≤ 128 }
-    requires some { 8 ≤ header_len }
-    ensures reading { IfOk result (IsReading C.sum_of config.old.config.segment_size (state_of (D.trace config.old.device)).log.bytes lid number.0) }
-    ensures malformed { IsCorruption result → IsMalformed C.sum_of config.old.config.segment_size (state_of (D.trace config.old.device)).log.bytes lid number.0 }
+) -> Result<Option<Found>>
+    requires behind { IfSome buf (λ b. b.now.offset ≤ lid) }
+    ensures found { IfOk result (λ o. IfSome o (IsFound config.old.config.segment_size (file_read buf.entry (state_of (D.trace config.old.device)).log.bytes) lid number.0)) }
+    ensures none { IfOk result (λ o. IfNone o (IsBare config.old.config.segment_size (file_read buf.entry (state_of (D.trace config.old.device)).log.bytes) lid number.0)) }
+    ensures valid { IfOk result (λ o. IfSome o (λ f. f.header.kind ≢ kind.Corrupted)) }
     ensures answers { DeviceAnswers result (D.faults config.old.device) (D.faults config.new.device) }
+    ensures readable { IsCorruption result → ⊥ }
     ensures trace { D.trace config.new.device ≡ D.trace config.old.device }
     ensures config { config.new.config ≡ config.old.config }
+    ensures checksum { config.new.checksum ≡ config.old.checksum }
 {
-    let room = room_at(&mut config.device, lid, config.config.segment_size)?;
-    if !may_be(header, header_len, number, room) {
-        return Ok(LogRead::Corrupted);
-    }
-    let at = lid + header_len as u64;
     let alloc = config.alloc();
-    let mut body = read_body(alloc, &mut config.device, at, header.len as usize)?;
-    if !passes(&config.checksum, header, &mut body, &head[4..header_len]) {
+    let size = config.config.segment_size;
+    match buf {
+        Some(mut buf) => find_record(alloc, &mut buf, size, lid, number),
+        None => find_record(alloc, config, size, lid, number),
+    }
+}
+
+/// What a record holds, where its sum is right.
+fn read_found<C: Checksum>(checksum: &C, found: Found) -> Result<LogRead>
+    requires { found.header.kind ≢ kind.Corrupted }
+    ensures reading { (size : ℕ) (log : List ℕ) (lid number : ℕ) → IsFound size log lid number found → IfOk result (IsReading C.sum_of size log lid number) }
+    ensures malformed { (size : ℕ) (log : List ℕ) (lid number : ℕ) → IsFound size log lid number found → IsCorruption result → IsMalformed C.sum_of size log lid number }
+    ensures errors { IfErr result IsDecodeError }
+{
+    let Found {
+        header,
+        head,
+        header_len,
+        mut body,
+    } = found;
+    if !passes(checksum, &header, &mut body, &head[4..header_len]) {
         return Ok(LogRead::Corrupted);
     }
     let len = header_len + body.len();
-    reading_of(*header, body, len as u32)
+    reading_of(header, body, len as u32)
 }
 
-/// The first bytes from an offset on. What lies past the end of the file is anything.
-fn read_head<D: Device>(device: &mut D, lid: LogOffset) -> io::Result<[u8; READ_AHEAD]>
-    ensures head { IfOk result (λ head. (k : ℕ) → k ≤ 128 → lid + k ≤ length (state_of (D.trace device.old)).log.bytes → take k head ≡ part (state_of (D.trace device.old)).log.bytes lid k) }
-    ensures long { IfOk result (λ head. length head ≡ 128) }
-    ensures trace { D.trace device.new ≡ D.trace device.old }
-    ensures faults { Counts result (D.faults device.old) (D.faults device.new) }
-    ensures error { Fails result }
+/// What is laid at an offset for a segment of this number, if it is a record but for its sum.
+fn find_record<R: ReadAt>(
+    alloc: Global,
+    reader: &mut R,
+    size: u64,
+    lid: LogOffset,
+    number: SegmentNumber,
+) -> Result<Option<Found>>
+    requires size { (0 < size) × (size < 2 ^ 32) }
+    requires behind { R.begins reader.old ≤ lid }
+    ensures found { IfOk result (λ o. IfSome o (IsFound size (R.file reader.old) lid number.0)) }
+    ensures none { IfOk result (λ o. IfNone o (IsBare size (R.file reader.old) lid number.0)) }
+    ensures valid { IfOk result (λ o. IfSome o (λ f. f.header.kind ≢ kind.Corrupted)) }
+    ensures answers { DeviceAnswers result (R.faults reader.old) (R.faults reader.new) }
+    ensures readable { IsCorruption result → ⊥ }
+    ensures rest { R.rest reader.new ≡ R.rest reader.old }
+{
+    let (head, count) = read_head(reader, lid)?;
+    match decode_head(alloc, &head[..])? {
+        Some((header, header_len)) => {
+            if header_len > count {
+                return Ok(None);
+            }
+            find_announced(alloc, reader, size, lid, number, head, header, header_len)
+        }
+        None => Ok(None),
+    }
+}
+
+/// The same, where the first bytes at the offset begin with this header.
+fn find_announced<R: ReadAt>(
+    alloc: Global,
+    reader: &mut R,
+    size: u64,
+    lid: LogOffset,
+    number: SegmentNumber,
+    head: [u8; READ_AHEAD],
+    header: MessageHeader,
+    header_len: usize,
+) -> Result<Option<Found>>
+    requires size { (0 < size) × (size < 2 ^ 32) }
+    requires behind { R.begins reader.old ≤ lid }
+    requires head { (k : ℕ) → k ≤ 128 → lid + k ≤ length (R.file reader.old) → take k head ≡ part (R.file reader.old) lid k }
+    requires long { length head ≡ 128 }
+    requires bytes { (i : ℕ) → slice_index head i < 256 }
+    requires found { SpellsMessageHeader (take header_len head) header }
+    requires some { 8 ≤ header_len }
+    requires short { header_len ≤ 128 }
+    requires there { lid + header_len ≤ length (R.file reader.old) }
+    ensures found { IfOk result (λ o. IfSome o (IsFound size (R.file reader.old) lid number.0)) }
+    ensures none { IfOk result (λ o. IfNone o (IsBare size (R.file reader.old) lid number.0)) }
+    ensures valid { IfOk result (λ o. IfSome o (λ f. f.header.kind ≢ kind.Corrupted)) }
+    ensures answers { DeviceAnswers result (R.faults reader.old) (R.faults reader.new) }
+    ensures readable { IsCorruption result → ⊥ }
+    ensures rest { R.rest reader.new ≡ R.rest reader.old }
+{
+    if !may_be(&header, header_len, number, size - lid % size) {
+        return Ok(None);
+    }
+    if !is_offset(lid, header_len as u64 + header.len) {
+        return Ok(None);
+    }
+    let at = lid + header_len as u64;
+    match read_body(alloc, reader, at, header.len as usize)? {
+        Some(body) => Ok(Some(Found {
+            header,
+            head,
+            header_len,
+            body,
+        })),
+        None => Ok(None),
+    }
+}
+
+/// The first bytes from an offset on, and how many of them the file has. The others are anything.
+fn read_head<R: ReadAt>(reader: &mut R, lid: LogOffset) -> Result<([u8; READ_AHEAD], usize)>
+    requires { R.begins reader.old ≤ lid }
+    ensures head { IfOk result (λ read. (k : ℕ) → k ≤ 128 → lid + k ≤ length (R.file reader.old) → take k read.0 ≡ part (R.file reader.old) lid k) }
+    ensures long { IfOk result (λ read. length read.0 ≡ 128) }
+    ensures count { IfOk result (λ read. read.1 ≡ min 128 (length (R.file reader.old) - lid)) }
+    ensures answers { ReaderAnswers result ⊥ (R.faults reader.old) (R.faults reader.new) }
+    ensures file { R.file reader.new ≡ R.file reader.old }
+    ensures begins { R.begins reader.new ≡ R.begins reader.old }
+    ensures rest { R.rest reader.new ≡ R.rest reader.old }
 {
     let mut head = blank();
-    device.read_at(lid, &mut head)?;
-    Ok(head)
+    let count = reader.pread_exact_or_eof(&mut head, lid)?;
+    Ok((head, count))
 }
 
 /// Bytes to read into.
@@ -132,19 +246,6 @@ fn decode_head(alloc: Global, head: &[u8]) -> Result<Option<(MessageHeader, usiz
     }
 }
 
-/// How many bytes there are from an offset on, up to the end of its slot and of the file.
-fn room_at<D: Device>(device: &mut D, lid: LogOffset, segment_size: u64) -> io::Result<u64>
-    requires { 0 < segment_size }
-    ensures room { IfOk result (λ room. room ≡ min (length (state_of (D.trace device.old)).log.bytes - lid) (segment_size - lid % segment_size)) }
-    ensures fits { IfOk result (λ room. (lid + room < 2 ^ 64) × (room ≤ segment_size)) }
-    ensures trace { D.trace device.new ≡ D.trace device.old }
-    ensures faults { Counts result (D.faults device.old) (D.faults device.new) }
-    ensures error { Fails result }
-{
-    let in_file = device.len()?.saturating_sub(lid);
-    Ok(in_file.min(segment_size - lid % segment_size))
-}
-
 /// Whether a record of this header may stand where there are so many bytes, for a segment.
 fn may_be(header: &MessageHeader, header_len: usize, number: SegmentNumber, room: u64) -> bool
     ensures { IsTrue result ↔ ((header.now.kind ≢ kind.Corrupted) × (header.now.segment_number ≡ number) × (header_len + header.now.len ≤ room)) }
@@ -156,20 +257,37 @@ fn may_be(header: &MessageHeader, header_len: usize, number: SegmentNumber, room
         && header.len <= room - header_len
 }
 
-/// So many bytes from an offset on, with room for a header behind them.
-fn read_body<D: Device>(alloc: Global, device: &mut D, at: u64, len: usize) -> Result<Vec<u8>>
-    requires { len < 2 ^ 32 }
-    ensures body { IfOk result (λ body. at + len ≤ length (state_of (D.trace device.old)).log.bytes → body.items ≡ part (state_of (D.trace device.old)).log.bytes at len) }
-    ensures room { IfOk result (λ body. len + 128 ≤ vec_capacity body) }
-    ensures len { IfOk result (λ body. length body.items ≡ len) }
-    ensures answers { DeviceAnswers result (D.faults device.old) (D.faults device.new) }
+/// Whether the end of so many bytes from an offset on is an offset.
+fn is_offset(lid: LogOffset, len: u64) -> bool
+    ensures { IsTrue result ↔ (lid + len < 2 ^ 64) }
+{
+    lid.checked_add(len).is_some()
+}
+
+/// So many bytes from an offset on, with room for a header behind them, where the file has them.
+fn read_body<R: ReadAt>(
+    alloc: Global,
+    reader: &mut R,
+    at: u64,
+    len: usize,
+) -> Result<Option<Vec<u8>>>
+    requires small { len < 2 ^ 32 }
+    requires behind { R.begins reader.old ≤ at }
+    requires there { at ≤ length (R.file reader.old) }
+    ensures body { IfOk result (λ body. MatchOption body (length (R.file reader.old) < at + len) (λ b. (b.items ≡ part (R.file reader.old) at len) × (at + len ≤ length (R.file reader.old)))) }
+    ensures room { IfOk result (λ o. IfSome o (λ b. len + 128 ≤ vec_capacity b)) }
+    ensures len { IfOk result (λ o. IfSome o (λ b. length b.items ≡ len)) }
+    ensures answers { DeviceAnswers result (R.faults reader.old) (R.faults reader.new) }
     ensures readable { IsCorruption result → ⊥ }
-    ensures trace { D.trace device.new ≡ D.trace device.old }
+    ensures rest { R.rest reader.new ≡ R.rest reader.old }
 {
     let mut body = Vec::with_capacity(alloc, len + READ_AHEAD)?;
     body.resize(len, 0)?;
-    device.read_at(at, &mut body)?;
-    Ok(body)
+    let count = reader.pread_exact_or_eof(&mut body, at)?;
+    if count < len {
+        return Ok(None);
+    }
+    Ok(Some(body))
 }
 
 /// Whether a header carries the sum of this body and of what stands behind the sum.
