@@ -52,7 +52,7 @@ no_front-fixed n a b x y v w p q is = same_fronts a b x y (p.long ∙ sym q.long
 
 -- eight bytes of a signed number
 
-unsigned_small : (z : ℤ) → FitsSigned w64 z → cast_unsigned w64 z < 256 ^ 8
+pub unsigned_small : (z : ℤ) → FitsSigned w64 z → cast_unsigned w64 z < 256 ^ 8
 unsigned_small z fits = omega (arith, ints)
 
 pub short_spells-signed : (z : ℤ) → FitsSigned w64 z → SpellsSigned (short_signed z) z

@@ -8,3 +8,4 @@ pub mod HoldsLemmas
 pub mod Ranges
 pub mod ReadingLemmas
 pub mod ReserveLemmas
+pub mod ScanLemmas

@@ -2,4 +2,5 @@ pub mod Buffers
 pub mod Causes
 pub mod Fits
 pub mod Reading
+pub mod Scan
 pub mod Tickets

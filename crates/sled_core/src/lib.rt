@@ -6,7 +6,9 @@
 
 mod found;
 pub mod iobuf;
+pub mod iterator;
 pub mod logger;
+pub mod met;
 pub mod read_at;
 pub mod reading;
 mod record;

@@ -82,6 +82,7 @@ pub fn read_message<D: Device, C: Checksum>(
     ensures answers { DeviceAnswers result (D.faults config.old.device) (D.faults config.new.device) }
     ensures trace { D.trace config.new.device ≡ D.trace config.old.device }
     ensures config { config.new.config ≡ config.old.config }
+    ensures checksum { config.new.checksum ≡ config.old.checksum }
 {
     match find_in(config, buf, lid, number)? {
         Some(found) => read_found(&config.checksum, found),

@@ -1,6 +1,6 @@
 //! The header of a segment: a sum, the place where the segment begins, and its mark. The two places
 //! stand with all bits but the sign's flipped (`docs/FORMATS.md`, "Segments").
-ghost use Rattle.std.specs.Prelude.{◌≡◌, ◌↔◌, length, drop, IsTrue};
+ghost use Rattle.std.specs.Prelude.{◌≡◌, ◌↔◌, ℤ, length, drop, IsTrue};
 ghost use Rattle.sled_codec.specs.Spelling.{low_bytes};
 ghost use Rattle.sled_codec.specs.Record.{IsHeader, header_places, masked, short_header};
 
@@ -27,6 +27,7 @@ impl SegmentHeader {
     pub fn from_bytes<C: Checksum>(bytes: &[u8; 20], checksum: &C) -> SegmentHeader
         ensures sum { IsTrue result.ok ↔ IsHeader C.sum_of bytes.now result.lsn result.max_stable_lsn }
         ensures places { drop 4 bytes.now ≡ header_places result.lsn result.max_stable_lsn }
+        ensures header { (lsn mark : ℤ) → IsHeader C.sum_of bytes.now lsn mark → (lsn ≡ result.lsn) × (mark ≡ result.max_stable_lsn) }
     {
         let sum = !checksum.sum(&bytes[4..]);
         SegmentHeader {

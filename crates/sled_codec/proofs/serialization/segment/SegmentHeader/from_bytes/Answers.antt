@@ -6,7 +6,7 @@ use Rattle.std.proofs.lemmas.Int.{to_z-of_z}
 use Rattle.std.proofs.lemmas.Bool.Decides.{Decides-eqb}
 use Rattle.sled_codec.specs.Sums.{flipped}
 use Rattle.sled_codec.specs.Record.{header_places}
-use Rattle.sled_codec.proofs.Segments.{places_of, header_by_sum, sum_by_header}
+use Rattle.sled_codec.proofs.Segments.{places_of, header_by_sum, sum_by_header, header_is}
 use Rattle.sled_codec.proofs.serialization.segment.SegmentHeader.from_bytes.Goals as goal
 
 pub returns-clause-sum : goal.returns-clause-sum
@@ -32,3 +32,10 @@ returns-clause-places g c =
     let lsn_fits : FitsSigned w64 lsn = record { sfits = c.unmasked.type_inv } in
     let mark_fits : FitsSigned w64 mark = record { sfits = c.unmasked-2.type_inv } in
     rw (to_z-of_z w64 lsn lsn_fits, to_z-of_z w64 mark mark_fits) (places_of bytes lsn mark c.told-bytes c.unmasked.ensures c.unmasked-2.ensures)
+
+pub returns-clause-header : goal.returns-clause-header
+returns-clause-header g c = λ lsn mark h.
+    let lsn_fits : FitsSigned w64 c.unmasked.result = record { sfits = c.unmasked.type_inv } in
+    let mark_fits : FitsSigned w64 c.unmasked-2.result = record { sfits = c.unmasked-2.type_inv } in
+    rw (to_z-of_z w64 c.unmasked.result lsn_fits, to_z-of_z w64 c.unmasked-2.result mark_fits)
+    (header_is g.C.Checksum.sum_of c.args.bytes.now lsn mark c.unmasked.result c.unmasked-2.result h lsn_fits mark_fits (places_of c.args.bytes.now c.unmasked.result c.unmasked-2.result c.told-bytes c.unmasked.ensures c.unmasked-2.ensures))
