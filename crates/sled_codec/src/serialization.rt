@@ -9,6 +9,7 @@ use std::alloc::Global;
 
 pub mod bytes;
 pub mod checksum;
+mod each;
 pub mod laws;
 pub mod message;
 pub mod number;
