@@ -1,8 +1,10 @@
 pub mod Fronts
 pub mod HeaderFronts
+pub mod PageFronts
 pub mod Pairs
 pub mod PointerFronts
 pub mod Records
 pub mod Segments
+pub mod Sequences
 pub mod Tables
 pub mod Weights

@@ -6,10 +6,10 @@ use Rattle.sled_codec.specs.Spelling.{SpellsByte, SpellsNumber, SpellsSigned, Sp
 use Rattle.sled_codec.proofs.HeaderFronts.{Takes}
 
 -- a byte was taken
-taken_byte : (text t1 : List ℕ) (code : ℕ) → Takes SpellsByte text code t1 → text ≡ code ∷ t1
+pub taken_byte : (text t1 : List ℕ) (code : ℕ) → Takes SpellsByte text code t1 → text ≡ code ∷ t1
 taken_byte text t1 code (f, spelled, taken) = taken ∙ ap (λ (l : List ℕ). l ++ t1) spelled
 
-tagged_front : (text front rest tail : List ℕ) (byte : ℕ) → text ≡ front ++ rest → front ≡ byte ∷ tail → text ≡ byte ∷ (tail ++ rest)
+pub tagged_front : (text front rest tail : List ℕ) (byte : ℕ) → text ≡ front ++ rest → front ≡ byte ∷ tail → text ≡ byte ∷ (tail ++ rest)
 tagged_front text front rest tail byte is tagged = is ∙ ap (λ (l : List ℕ). l ++ rest) tagged
 
 -- without a byte there is no pointer

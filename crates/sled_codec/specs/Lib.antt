@@ -1,4 +1,5 @@
 pub mod Coords
+pub mod EachLaws
 pub mod ErrorLaws
 pub mod Errors
 pub mod HeaderLaws
@@ -11,6 +12,8 @@ pub mod PointerLaws
 pub mod Pointers
 pub mod Record
 pub mod Seen
+pub mod SnapshotLaws
+pub mod Snapshots
 pub mod Spelling
 pub mod SpellingLaws
 pub mod Sums

@@ -16,11 +16,11 @@ short_spells-pointer (Blob lid place) fits = record {
 }
 
 -- behind equal texts with a byte each stand equal texts
-same_behind : (a b x y p q : List ℕ) (c d : ℕ) → a ≡ c ∷ p → b ≡ d ∷ q → a ++ x ≡ b ++ y → c ∷ (p ++ x) ≡ d ∷ (q ++ y)
+pub same_behind : (a b x y p q : List ℕ) (c d : ℕ) → a ≡ c ∷ p → b ≡ d ∷ q → a ++ x ≡ b ++ y → c ∷ (p ++ x) ≡ d ∷ (q ++ y)
 same_behind a b x y p q c d is_a is_b is =
     ap (λ (l : List ℕ). l ++ x) (sym is_a) ∙ is ∙ ap (λ (l : List ℕ). l ++ y) is_b
 
-tail_of : (p q : List ℕ) (c d : ℕ) → c ∷ p ≡ d ∷ q → p ≡ q
+pub tail_of : (p q : List ℕ) (c d : ℕ) → c ∷ p ≡ d ∷ q → p ≡ q
 tail_of p q c d is = cc
 
 pub no_front-pointer : (a b x y : List ℕ) (v w : DiskPtr) → SpellsPointer a v → SpellsPointer b w → a ++ x ≡ b ++ y → a ≡ b

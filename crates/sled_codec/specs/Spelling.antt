@@ -1,6 +1,7 @@
 -- The grammar of the formats. A spelling relates a whole text, a list of bytes, to the value that it stands for.
 -- The short spelling is the one that is written. A number may have longer ones, which are read all the same.
 use Rattle.std.specs.Prelude.{◌≡◌, ◌+◌, ◌-◌, ◌*◌, ◌/◌, ◌%◌, ◌^◌, ◌<◌, ℕ, ℤ, if◌then◌else◌, nat_le, nat_lt, ◌==◌, List, [], ◌∷◌, ◌++◌, length, take, slice_index, FitsSigned, Bool, true, false, Option, None, Some, pos, negsuc}
+use Rattle.std.specs.List.{All, flat_map}
 use Rattle.std.specs.Int.{w64, to_le_bytes, from_le_bytes, cast_unsigned}
 use Rattle.sled_codec.specs.declared.serialization.message.MessageHeader.{MessageHeader}
 use Rattle.sled_codec.specs.declared.serialization.message.MessageKind.{MessageKind}
@@ -149,6 +150,25 @@ SpellsBoth A B text both = SpellsPair A B text both.0 both.1
 -- three spellings, one behind another
 abbrev pub SpellsTriple : {V W X : Type 0} → (List ℕ → V → Type 0) → (List ℕ → W → Type 0) → (List ℕ → X → Type 0) → List ℕ → V → W → X → Type 0
 SpellsTriple A B C text v w x = SpellsPair (SpellsBoth A B) C text (v, w) x
+
+-- Values one behind another.
+
+-- a text of one kind, and one of another kind behind it
+pub record Joined (First Second : List ℕ → Type 0) (text : List ℕ) : Type 0 where
+  pub first : List ℕ
+  pub second : List ℕ
+  pub front : First first
+  pub back : Second second
+  pub is : text ≡ first ++ second
+
+-- spellings of these values, one behind another
+abbrev pub SpellsEach : {V : Type 0} → (List ℕ → V → Type 0) → List ℕ → List V → Type 0
+SpellsEach Spells text [] = text ≡ []
+SpellsEach Spells text (v ∷ vs) = Joined (λ front. Spells front v) (λ back. SpellsEach Spells back vs) text
+
+-- each of them has a spelling, and the length of all is a `u64`
+abbrev pub FitsEach : {V : Type 0} → (V → Type 0) → (V → List ℕ) → List V → Type 0
+FitsEach fits short vs = All fits vs × (length (flat_map short vs) < 2 ^ 64)
 
 -- Pointers: a byte that tells which, and then the offset, and the blob.
 

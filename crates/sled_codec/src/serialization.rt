@@ -9,6 +9,7 @@ use std::alloc::Global;
 
 pub mod bytes;
 pub mod checksum;
+mod each;
 pub mod laws;
 pub mod message;
 pub mod number;
@@ -34,6 +35,9 @@ pub trait Serialize: Sized {
     /// A whole text is a spelling of it.
     ghost Spells: { List ℕ → Meaning → Type 0 };
 
+    /// What may stand behind a spelling: anything, or nothing for a type that takes all the bytes.
+    ghost Follows: { List ℕ → Type 0 };
+
     /// It has a spelling.
     ghost fits: { Meaning → Type 0 };
 
@@ -58,11 +62,12 @@ pub trait Serialize: Sized {
         ensures bytes { buf.new ≡ written buf.old at (short (meaning self.now)) };
 
     /// Takes a spelling off the front of `buf`, and leaves what follows it. `Corruption` comes where
-    /// no front of `buf` is a spelling, and `OutOfMemory` where memory was refused. After an error
-    /// `buf` is as it was.
+    /// no front of `buf` is a spelling before what may follow one, and `OutOfMemory` where memory was
+    /// refused. After an error `buf` is as it was.
     fn deserialize(alloc: Global, buf: &mut &[u8]) -> Result<Self>
         ensures ok { IfOk result (λ v. (front : List ℕ) × Spells front (meaning v) × (buf.old.now ≡ front ++ buf.new.now)) }
-        ensures corrupt { IsCorruption result → (front rest : List ℕ) (v : Meaning) → buf.old.now ≡ front ++ rest → Spells front v → ⊥ }
+        ensures rest { IfOk result (λ v. Follows buf.new.now) }
+        ensures corrupt { IsCorruption result → (front rest : List ℕ) (v : Meaning) → buf.old.now ≡ front ++ rest → Follows rest → Spells front v → ⊥ }
         ensures errors { IfErr result IsDecodeError }
         ensures err { OnErr result (buf.new.now ≡ buf.old.now) };
 
@@ -88,4 +93,6 @@ pub trait Delimited: Serialize {
     ghost one_value: { (text : List ℕ) (v w : Self.Meaning) → Self.Spells text v → Self.Spells text w → v ≡ w };
 
     ghost no_front: { (a b x y : List ℕ) (v w : Self.Meaning) → Self.Spells a v → Self.Spells b w → a ++ x ≡ b ++ y → a ≡ b };
+
+    ghost open: { (rest : List ℕ) → Self.Follows rest };
 }

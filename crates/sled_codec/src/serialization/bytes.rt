@@ -17,6 +17,8 @@ impl Serialize for () {
 
     ghost Spells = { λ text nothing. text ≡ [] };
 
+    ghost Follows = { λ rest. Unit {0} };
+
     ghost fits = { λ nothing. Unit {0} };
 
     ghost short = { λ nothing. [] };
@@ -44,6 +46,8 @@ impl Delimited for () {
     ghost one_value = { one_value-nothing };
 
     ghost no_front = { no_front-nothing };
+
+    ghost open = { λ rest. tt };
 }
 
 /// Its length as a number, and then its bytes.
@@ -53,6 +57,8 @@ impl Serialize for Vec<u8> {
     ghost meaning = { λ bytes. bytes.items };
 
     ghost Spells = { SpellsBytes };
+
+    ghost Follows = { λ rest. Unit {0} };
 
     ghost fits = { λ bytes. length bytes < 2 ^ 63 };
 
@@ -94,6 +100,8 @@ impl Delimited for Vec<u8> {
     ghost one_value = { one_value-bytes };
 
     ghost no_front = { no_front-bytes };
+
+    ghost open = { λ rest. tt };
 }
 
 /// Writes bytes as they are over those of `buf` from the index `at` on, and answers the index behind

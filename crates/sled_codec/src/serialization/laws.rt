@@ -3,6 +3,7 @@ ghost use Rattle.std.specs.Prelude.{◌≡◌, ◌≢◌, ◌^◌, ◌<◌, ℕ,
 ghost use Rattle.sled_codec.specs.declared.serialization.message.MessageKind.{MessageKind};
 ghost use Rattle.sled_codec.specs.declared.serialization.message.MessageKind.TheVariants.{Corrupted};
 ghost use Rattle.sled_codec.specs.Record.{IsRecord, short_record};
+ghost use Rattle.sled_codec.specs.Snapshots.{Shot, SpellsSnapshot, FitsSnapshot, short_snapshot};
 
 use crate::serialization::{Checksum, Delimited};
 
@@ -10,6 +11,13 @@ use crate::serialization::{Checksum, Delimited};
 /// written for a value, each spelling at its front is one of that value, and leaves what follows.
 pub fn read_again<T: Delimited>()
     ensures { (v : T.Meaning) (rest front back : List ℕ) (w : T.Meaning) → T.fits v → T.short v ++ rest ≡ front ++ back → T.Spells front w → (w ≡ v) × (back ≡ rest) }
+{}
+
+/// What was written for a snapshot is read as that snapshot and no other, and a text is one snapshot at
+/// most.
+pub fn snapshot_again()
+    ensures one { (text : List ℕ) (s w : Shot) → SpellsSnapshot text s → SpellsSnapshot text w → w ≡ s }
+    ensures again { (s w : Shot) → FitsSnapshot s → SpellsSnapshot (short_snapshot s) w → w ≡ s }
 {}
 
 /// The record that is written for a message is a record of it.

@@ -184,6 +184,8 @@ impl Serialize for MessageHeader {
 
     ghost Spells = { SpellsMessageHeader };
 
+    ghost Follows = { λ rest. Unit {0} };
+
     ghost fits = { FitsMessageHeader };
 
     ghost short = { short_message_header };
@@ -235,6 +237,8 @@ impl Delimited for MessageHeader {
     ghost one_value = { one_value-header };
 
     ghost no_front = { no_front-header };
+
+    ghost open = { λ rest. tt };
 }
 
 impl MessageHeader {
@@ -271,6 +275,8 @@ impl Serialize for BatchManifest {
 
     ghost Spells = { SpellsSigned };
 
+    ghost Follows = { λ rest. Unit {0} };
+
     ghost fits = { FitsSigned w64 };
 
     ghost short = { short_signed };
@@ -306,4 +312,6 @@ impl Delimited for BatchManifest {
     ghost one_value = { one_value-signed };
 
     ghost no_front = { no_front-signed };
+
+    ghost open = { λ rest. tt };
 }

@@ -18,6 +18,8 @@ impl Serialize for u8 {
 
     ghost Spells = { SpellsByte };
 
+    ghost Follows = { λ rest. Unit {0} };
+
     ghost fits = { λ v. v < 2 ^ 8 };
 
     ghost short = { λ v. v ∷ [] };
@@ -53,6 +55,8 @@ impl Delimited for u8 {
     ghost one_value = { one_value-byte };
 
     ghost no_front = { no_front-byte };
+
+    ghost open = { λ rest. tt };
 }
 
 /// Four bytes, the lowest first.
@@ -62,6 +66,8 @@ impl Serialize for u32 {
     ghost meaning = { λ v. v };
 
     ghost Spells = { SpellsFixed 4 };
+
+    ghost Follows = { λ rest. Unit {0} };
 
     ghost fits = { λ v. v < 2 ^ 32 };
 
@@ -99,6 +105,8 @@ impl Delimited for u32 {
     ghost one_value = { one_value-fixed 4 };
 
     ghost no_front = { no_front-fixed 4 };
+
+    ghost open = { λ rest. tt };
 }
 
 /// Eight bytes, the lowest first, by the two's complement.
@@ -108,6 +116,8 @@ impl Serialize for i64 {
     ghost meaning = { λ z. z };
 
     ghost Spells = { SpellsSigned };
+
+    ghost Follows = { λ rest. Unit {0} };
 
     ghost fits = { FitsSigned w64 };
 
@@ -145,6 +155,8 @@ impl Delimited for i64 {
     ghost one_value = { one_value-signed };
 
     ghost no_front = { no_front-signed };
+
+    ghost open = { λ rest. tt };
 }
 
 /// One to nine bytes: the first one tells how many follow, and the number where none does. Any
@@ -155,6 +167,8 @@ impl Serialize for u64 {
     ghost meaning = { λ v. v };
 
     ghost Spells = { SpellsNumber };
+
+    ghost Follows = { λ rest. Unit {0} };
 
     ghost fits = { λ v. v < 2 ^ 64 };
 
@@ -221,6 +235,8 @@ impl Delimited for u64 {
     ghost one_value = { one_value-number };
 
     ghost no_front = { no_front-number };
+
+    ghost open = { λ rest. tt };
 }
 
 // Writes a byte, and answers the index behind it.

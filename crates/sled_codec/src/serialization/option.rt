@@ -18,6 +18,8 @@ impl Serialize for bool {
 
     ghost Spells = { SpellsBool };
 
+    ghost Follows = { λ rest. Unit {0} };
+
     ghost fits = { λ v. Unit {0} };
 
     ghost short = { short_bool };
@@ -46,6 +48,8 @@ impl Delimited for bool {
     ghost one_value = { one_value-bool };
 
     ghost no_front = { no_front-bool };
+
+    ghost open = { λ rest. tt };
 }
 
 /// As a number: 0 where it is missing, and else one more than it is. The greatest has no spelling.
@@ -55,6 +59,8 @@ impl Serialize for Option<u64> {
     ghost meaning = { λ v. v };
 
     ghost Spells = { λ text v. SpellsNumber text (or_zero v) };
+
+    ghost Follows = { λ rest. Unit {0} };
 
     ghost fits = { λ v. or_zero v < 2 ^ 64 };
 
@@ -89,6 +95,8 @@ impl Delimited for Option<u64> {
     ghost one_value = { one_value-option };
 
     ghost no_front = { λ a b x y v w. no_front-number a b x y (or_zero v) (or_zero w) };
+
+    ghost open = { λ rest. tt };
 }
 
 // The number that is written.
@@ -110,6 +118,8 @@ impl Serialize for Option<i64> {
     ghost meaning = { λ v. v };
 
     ghost Spells = { λ text v. SpellsSigned text (or_zero_signed v) };
+
+    ghost Follows = { λ rest. Unit {0} };
 
     ghost fits = { λ v. FitsSigned w64 (or_zero_signed v) };
 
@@ -148,6 +158,8 @@ impl Delimited for Option<i64> {
     ghost one_value = { one_value-option_signed };
 
     ghost no_front = { λ a b x y v w. no_front-signed a b x y (or_zero_signed v) (or_zero_signed w) };
+
+    ghost open = { λ rest. tt };
 }
 
 // The number that is written.
@@ -171,6 +183,8 @@ impl Serialize for Option<NonZeroU64> {
     ghost meaning = { number_or_zero };
 
     ghost Spells = { SpellsNumber };
+
+    ghost Follows = { λ rest. Unit {0} };
 
     ghost fits = { λ v. v < 2 ^ 64 };
 
@@ -204,6 +218,8 @@ impl Delimited for Option<NonZeroU64> {
     ghost one_value = { one_value-number };
 
     ghost no_front = { no_front-number };
+
+    ghost open = { λ rest. tt };
 }
 
 // The number that is written.

@@ -16,6 +16,8 @@ impl Serialize for DiskPtr {
 
     ghost Spells = { SpellsPointer };
 
+    ghost Follows = { λ rest. Unit {0} };
+
     ghost fits = { FitsPointer };
 
     ghost short = { short_pointer };
@@ -72,4 +74,6 @@ impl Delimited for DiskPtr {
     ghost one_value = { one_value-pointer };
 
     ghost no_front = { no_front-pointer };
+
+    ghost open = { λ rest. tt };
 }

@@ -2,7 +2,11 @@
 ghost use Rattle.std.specs.Prelude.{◌≡◌, ◌+◌, ◌-◌, ◌^◌, ◌<◌, [], None};
 ghost use Rattle.sled_codec.specs.Coords.{coords_of, HasCoords, raised};
 
-use crate::result::{DiskPtr, LogOffset, Lsn};
+use crate::result::{DiskPtr, LogOffset, Lsn, Result};
+use crate::serialization::each::{
+    can_serialize_each, deserialize_all, deserialize_many, serialize_each, size_of_each,
+};
+use crate::serialization::{Delimited, Serialize};
 use std::alloc::Global;
 
 /// Where a message of a page lies: its place in the log, its pointer, and how long its record is.
@@ -24,6 +28,91 @@ pub enum PageState {
     Uninitialized,
 }
 
+/// How many Links a page has at most where it has a spelling: one byte counts its entries.
+const MAX_FRAGS: usize = 254;
+
+/// 0, the place and the pointer; or how many entries the page has, and then they, each as a triple.
+/// A page with more than 254 Links has no spelling, and neither has one that was not seen.
+impl Serialize for PageState {
+    ghost use Rattle.sled_codec.specs.Snapshots.{Page, page_of, SpellsPage, FitsPage, short_page};
+    ghost use Rattle.sled_codec.specs.SnapshotLaws.{short_spells-page};
+
+    ghost Meaning = { Page };
+
+    ghost meaning = { page_of };
+
+    ghost Spells = { SpellsPage };
+
+    ghost Follows = { λ rest. Unit {0} };
+
+    ghost fits = { FitsPage };
+
+    ghost short = { short_page };
+
+    fn can_serialize(&self) -> bool {
+        match self {
+            PageState::Present { base, frags } => {
+                frags.len() <= MAX_FRAGS && base.can_serialize() && can_serialize_each(frags)
+            }
+            PageState::Free(place, pointer) => place.can_serialize() && pointer.can_serialize(),
+            PageState::Uninitialized => false,
+        }
+    }
+
+    fn serialized_size(&self) -> u64 {
+        match self {
+            PageState::Present { base, frags } => 1 + base.serialized_size() + size_of_each(frags),
+            PageState::Free(place, pointer) => {
+                1 + place.serialized_size() + pointer.serialized_size()
+            }
+            PageState::Uninitialized => 0,
+        }
+    }
+
+    fn serialize_into(&self, buf: &mut [u8], at: usize) -> usize {
+        match self {
+            PageState::Present { base, frags } => {
+                let count = 1 + frags.len() as u8;
+                let next = count.serialize_into(buf, at);
+                let next = base.serialize_into(buf, next);
+                serialize_each(frags, buf, next)
+            }
+            PageState::Free(place, pointer) => {
+                let next = 0u8.serialize_into(buf, at);
+                let next = place.serialize_into(buf, next);
+                pointer.serialize_into(buf, next)
+            }
+            PageState::Uninitialized => at,
+        }
+    }
+
+    fn deserialize(alloc: Global, buf: &mut &[u8]) -> Result<PageState> {
+        let mut rest: &[u8] = *buf;
+        let count = u8::deserialize(alloc, &mut rest)?;
+        if count == 0 {
+            let (place, pointer) = <(Lsn, DiskPtr)>::deserialize(alloc, &mut rest)?;
+            *buf = rest;
+            return Ok(PageState::Free(place, pointer));
+        }
+        let base = Entry::deserialize(alloc, &mut rest)?;
+        let frags = deserialize_many(alloc, count as usize - 1, &mut rest)?;
+        *buf = rest;
+        Ok(PageState::Present { base, frags })
+    }
+
+    ghost short_spells = { short_spells-page };
+}
+
+impl Delimited for PageState {
+    ghost use Rattle.sled_codec.specs.SnapshotLaws.{one_value-page, no_front-page};
+
+    ghost one_value = { one_value-page };
+
+    ghost no_front = { no_front-page };
+
+    ghost open = { λ rest. tt };
+}
+
 /// The page table up to a place, and where the log goes on.
 #[derive(Debug, PartialEq, Drop)]
 pub struct Snapshot {
@@ -33,6 +122,62 @@ pub struct Snapshot {
     pub active_segment: Option<LogOffset>,
     /// The pages, by their number.
     pub pt: Vec<PageState>,
+}
+
+/// The place and the segment as numbers that may be missing, and then the pages, up to the end of the
+/// bytes. Each page has to have a spelling, and the length of the whole fits in a `u64`.
+impl Serialize for Snapshot {
+    ghost use Rattle.std.specs.Prelude.{List, ℕ};
+    ghost use Rattle.sled_codec.specs.Snapshots.{Shot, shot_of, SpellsSnapshot, FitsSnapshot, short_snapshot};
+    ghost use Rattle.sled_codec.specs.SnapshotLaws.{short_spells-snapshot};
+
+    ghost Meaning = { Shot };
+
+    ghost meaning = { shot_of };
+
+    ghost Spells = { SpellsSnapshot };
+
+    ghost Follows = { λ rest. rest ≡ [] };
+
+    ghost fits = { FitsSnapshot };
+
+    ghost short = { short_snapshot };
+
+    fn can_serialize(&self) -> bool {
+        let coords = (self.stable_lsn, self.active_segment);
+        if !coords.can_serialize() || !can_serialize_each(&self.pt) {
+            return false;
+        }
+        let front = coords.serialized_size();
+        front.checked_add(size_of_each(&self.pt)).is_some()
+    }
+
+    fn serialized_size(&self) -> u64 {
+        let coords = (self.stable_lsn, self.active_segment);
+        coords.serialized_size() + size_of_each(&self.pt)
+    }
+
+    fn serialize_into(&self, buf: &mut [u8], at: usize) -> usize {
+        let coords = (self.stable_lsn, self.active_segment);
+        let next = coords.serialize_into(buf, at);
+        serialize_each(&self.pt, buf, next)
+    }
+
+    fn deserialize(alloc: Global, buf: &mut &[u8]) -> Result<Snapshot> {
+        let mut rest: &[u8] = *buf;
+        let (stable_lsn, active_segment) = <(Option<Lsn>, Option<LogOffset>)>::deserialize(
+            alloc, &mut rest,
+        )?;
+        let pt = deserialize_all(alloc, rest)?;
+        *buf = &[];
+        Ok(Snapshot {
+            stable_lsn,
+            active_segment,
+            pt,
+        })
+    }
+
+    ghost short_spells = { short_spells-snapshot };
 }
 
 impl Snapshot {

@@ -16,6 +16,8 @@ impl<A: Delimited + Drop, B: Serialize> Serialize for (A, B) {
 
     ghost Spells = { λ text v. SpellsPair A.Spells B.Spells text v.0 v.1 };
 
+    ghost Follows = { B.Follows };
+
     ghost fits = { λ v. A.fits v.0 × B.fits v.1 × (length (A.short v.0) + length (B.short v.1) < 2 ^ 64) };
 
     ghost short = { λ v. A.short v.0 ++ B.short v.1 };
@@ -55,6 +57,8 @@ impl<A: Delimited + Drop, B: Delimited> Delimited for (A, B) {
     ghost one_value = { λ text v w. one_value-both A.Spells B.Spells A.no_front A.one_value B.one_value text v w };
 
     ghost no_front = { λ a b x y v w. no_front-pair A.Spells B.Spells A.no_front B.no_front a b x y v.0 w.0 v.1 w.1 };
+
+    ghost open = { B.open };
 }
 
 /// Three parts, one behind another. The first two have to end by themselves. A triple has a spelling
@@ -67,6 +71,8 @@ impl<A: Delimited + Drop, B: Delimited + Drop, C: Serialize> Serialize for (A, B
     ghost meaning = { λ p. (A.meaning p.0, B.meaning p.1, C.meaning p.2) };
 
     ghost Spells = { λ text v. SpellsTriple A.Spells B.Spells C.Spells text v.0 v.1 v.2 };
+
+    ghost Follows = { C.Follows };
 
     ghost fits = { λ v. A.fits v.0 × B.fits v.1 × C.fits v.2 × (length (A.short v.0) + length (B.short v.1) + length (C.short v.2) < 2 ^ 64) };
 
@@ -118,4 +124,6 @@ impl<A: Delimited + Drop, B: Delimited + Drop, C: Delimited> Delimited for (A, B
     ghost one_value = { one_value-triple A.Spells B.Spells C.Spells A.no_front B.no_front A.one_value B.one_value C.one_value };
 
     ghost no_front = { no_front-triple A.Spells B.Spells C.Spells A.no_front B.no_front C.no_front };
+
+    ghost open = { C.open };
 }

@@ -5,7 +5,7 @@ use Rattle.sled_core.proofs.ReadingLemmas.{header_some}
 use Rattle.sled_core.proofs.reading.decode_head.Goals as goal
 
 pub returns-in-Err-Corruption-clause-found : goal.returns-in-Err-Corruption-clause-found
-returns-in-Err-Corruption-clause-found c = c.in-Err-Corruption.ensures.corrupt (rw c.in-Err-Corruption.field-0-is tt)
+returns-in-Err-Corruption-clause-found c = λ front rest h is spelled. c.in-Err-Corruption.ensures.corrupt (rw c.in-Err-Corruption.field-0-is tt) front rest h is tt spelled
 
 pub returns-in-Ok-clause-found : goal.returns-in-Ok-clause-found
 returns-in-Ok-clause-found c =

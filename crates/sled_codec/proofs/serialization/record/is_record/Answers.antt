@@ -8,7 +8,7 @@ use Rattle.sled_codec.proofs.serialization.record.is_record.Goals as goal
 pub returns-in-Err-Corruption : goal.returns-in-Err-Corruption
 returns-in-Err-Corruption g c =
     let none = rw c.in-Err-Corruption.field-0-is at c.in-Err-Corruption.ensures.corrupt in
-    (λ t. cc, λ p. absurd (none tt p.header c.args.body.now _ p.is p.spelled))
+    (λ t. cc, λ p. absurd (none tt p.header c.args.body.now _ p.is tt p.spelled))
 
 pub returns-then-not-announces : goal.returns-then-not-announces
 returns-then-not-announces g c =

@@ -5,7 +5,7 @@ use Rattle.sled_codec.proofs.serialization.bytes.VecU8Serialize.deserialize.Goal
 
 pub returns-then-len-rest-clause-corrupt : goal.returns-then-len-rest-clause-corrupt
 returns-then-len-rest-clause-corrupt c =
-    λ _ front rest v is spelled.
+    λ _ front rest v is follows spelled.
     let read = c.in_ok-len.ensures.ok in
     omega (arith, has_bytes _ read.0 front rest _ v _ read.1 read.2 is spelled)
 

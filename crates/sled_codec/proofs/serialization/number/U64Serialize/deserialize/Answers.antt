@@ -5,11 +5,11 @@ use Rattle.sled_codec.proofs.serialization.number.U64Serialize.deserialize.Goals
 
 pub returns-then-is_empty-clause-corrupt : goal.returns-then-is_empty-clause-corrupt
 returns-then-is_empty-clause-corrupt c =
-    λ _ front rest v is spelled. let has = has_number _ front rest v is spelled in grind (arith, c.is_empty.ensures)
+    λ _ front rest v is follows spelled. let has = has_number _ front rest v is spelled in grind (arith, c.is_empty.ensures)
 
 pub returns-then-bytes-end-clause-corrupt : goal.returns-then-bytes-end-clause-corrupt
 returns-then-bytes-end-clause-corrupt c =
-    λ _ front rest v is spelled. omega (arith, has_number _ front rest v is spelled, c.more_bytes-end.ensures)
+    λ _ front rest v is follows spelled. omega (arith, has_number _ front rest v is spelled, c.more_bytes-end.ensures)
 
 pub returns-clause-ok : goal.returns-clause-ok
 returns-clause-ok c = takes_number _ _ _ c.more_bytes-end.ensures (omega arith) c.number_of-value.ensures.value (omega arith)

@@ -6,4 +6,4 @@ use Rattle.sled_codec.proofs.serialization.option.OptionI64Serialize.deserialize
 pub returns-in_err-number-clause-corrupt : goal.returns-in_err-number-clause-corrupt
 returns-in_err-number-clause-corrupt c =
     let e = err_from_is_err_and c.from_residual.result c.from_residual.ensures.1 in
-    rw (e.1, e.2) (λ corrupt front rest v is p. c.in_err-number.ensures.corrupt corrupt front rest (or_zero_signed v) is p)
+    rw (e.1, e.2) (λ corrupt front rest v is follows p. c.in_err-number.ensures.corrupt corrupt front rest (or_zero_signed v) is tt p)

@@ -9,12 +9,14 @@ use Rattle.sled_codec.proofs.serialization.pointer.DiskPtrSerialize.deserialize.
 pub returns-in_err-which-clause-corrupt : goal.returns-in_err-which-clause-corrupt
 returns-in_err-which-clause-corrupt c =
     let e = err_from_is_err_and c.from_residual.result c.from_residual.ensures.1 in
-    rw (e.1, e.2) (λ corrupt. no_byte _ (c.in_err-which.ensures.corrupt corrupt))
+    rw (e.1, e.2) (λ corrupt front rest v is follows.
+    no_byte _ (λ f r n at. c.in_err-which.ensures.corrupt corrupt f r n at tt) front rest v is)
 
 pub returns-in_err-lid-2-clause-corrupt : goal.returns-in_err-lid-2-clause-corrupt
 returns-in_err-lid-2-clause-corrupt c =
     let e = err_from_is_err_and c.from_residual-in_err-lid-2.result c.from_residual-in_err-lid-2.ensures.1 in
-    rw (e.1, e.2) (λ corrupt. no_blob _ _ _ c.in_ok-which.ensures.ok c.if-which-eq1.true (c.in_err-lid-2.ensures.corrupt corrupt))
+    rw (e.1, e.2) (λ corrupt front rest v is follows.
+    no_blob _ _ _ c.in_ok-which.ensures.ok c.if-which-eq1.true (λ f r w at. c.in_err-lid-2.ensures.corrupt corrupt f r w at tt) front rest v is)
 
 pub returns-then-which-eq0-clause-ok : goal.returns-then-which-eq0-clause-ok
 returns-then-which-eq0-clause-ok c =

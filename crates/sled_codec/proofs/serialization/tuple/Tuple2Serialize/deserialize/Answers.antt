@@ -7,9 +7,9 @@ pub returns-in_err-second-clause-corrupt : goal.returns-in_err-second-clause-cor
 returns-in_err-second-clause-corrupt g c =
     let e = err_from_is_err_and c.from_residual-in_err-second.result c.from_residual-in_err-second.ensures.1 in
     rw (e.1, e.2)
-    (λ corrupt front rest v is p.
+    (λ corrupt front rest v is follows p.
     c.in_err-second.ensures.corrupt corrupt p.second rest v.1
-    (behind_first g.A.Serialize.Spells g.B.Serialize.Spells g.met.A.Delimited.no_front _ _ front rest v.0 _ v.1 c.in_ok-first.ensures.ok p is) p.back)
+    (behind_first g.A.Serialize.Spells g.B.Serialize.Spells g.met.A.Delimited.no_front _ _ front rest v.0 _ v.1 c.in_ok-first.ensures.ok p is) follows p.back)
 
 pub returns-clause-ok : goal.returns-clause-ok
 returns-clause-ok g c =

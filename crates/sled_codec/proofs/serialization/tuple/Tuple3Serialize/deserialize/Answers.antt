@@ -10,8 +10,8 @@ pub returns-in_err-first-clause-corrupt : goal.returns-in_err-first-clause-corru
 returns-in_err-first-clause-corrupt g c =
     let e = err_from_is_err_and c.from_residual.result c.from_residual.ensures.1 in
     rw (e.1, e.2)
-    (λ corrupt front rest v is p.
-    c.in_err-first.ensures.corrupt corrupt p.first (p.second ++ rest) (v.0, v.1) (is ∙ ap (λ (l : List ℕ). l ++ rest) p.is ∙ append_assoc p.first p.second rest) p.front)
+    (λ corrupt front rest v is follows p.
+    c.in_err-first.ensures.corrupt corrupt p.first (p.second ++ rest) (v.0, v.1) (is ∙ ap (λ (l : List ℕ). l ++ rest) p.is ∙ append_assoc p.first p.second rest) (g.met.B.Delimited.open _) p.front)
 
 pub returns-in_err-third-clause-corrupt : goal.returns-in_err-third-clause-corrupt
 returns-in_err-third-clause-corrupt g c =
@@ -19,9 +19,9 @@ returns-in_err-third-clause-corrupt g c =
     let B = g.B.Serialize.Spells in
     let e = err_from_is_err_and c.from_residual-in_err-third.result c.from_residual-in_err-third.ensures.1 in
     rw (e.1, e.2)
-    (λ corrupt front rest v is p.
+    (λ corrupt front rest v is follows p.
     c.in_err-third.ensures.corrupt corrupt p.second rest v.2
-    (behind_first (SpellsBoth A B) g.C.Serialize.Spells (no_front-both A B g.met.A.Delimited.no_front g.met.B.Delimited.no_front) _ _ front rest (v.0, v.1) _ v.2 c.in_ok-first.ensures.ok p is) p.back)
+    (behind_first (SpellsBoth A B) g.C.Serialize.Spells (no_front-both A B g.met.A.Delimited.no_front g.met.B.Delimited.no_front) _ _ front rest (v.0, v.1) _ v.2 c.in_ok-first.ensures.ok p is) follows p.back)
 
 pub returns-clause-ok : goal.returns-clause-ok
 returns-clause-ok g c =
