@@ -12,3 +12,4 @@ pub mod device;
 pub mod iobuf;
 pub mod logger;
 pub mod reservation;
+pub mod snapshot;

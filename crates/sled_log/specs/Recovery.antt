@@ -1,0 +1,266 @@
+-- What recovery makes of a content: which snapshot it begins from, which segments it finds, where the tail of the log ends,
+-- which messages it applies, and the cut. Stated for any number of segments and for all kinds of messages.
+use Rattle.std.specs.Prelude.{◌≡◌, ◌≢◌, ◌⊎◌, ◌↔◌, ◌+◌, ◌-◌, ◌*◌, ◌/◌, ◌%◌, ◌^◌, ◌≤◌, ◌<◌, ◌≤ℤ◌, ℕ, ℤ, pos, negsuc, max, nat_lt, nat_le, int_le, int_lt, Bool, true, false, ◌&&◌, ◌||◌, not, ◌==◌, if◌then◌else◌, List, [], ◌∷◌, ◌++◌, length, set, get_or, replicate, Option, Some, None, IsSome, Contains}
+use Rattle.sled_codec.specs.declared.serialization.message.LogKind.{LogKind}
+use Rattle.sled_codec.specs.declared.serialization.message.LogKind.TheVariants as does
+use Rattle.sled_codec.specs.Places.{part}
+use Rattle.sled_codec.specs.Record.{IsHeader}
+use Rattle.sled_codec.specs.Spelling.{low_bytes}
+use Rattle.sled_codec.specs.Snapshots.{Entry, Page, Present, Free, Uninitialized, Shot, SpellsSnapshot}
+use Rattle.sled_store.specs.Device.{Content}
+use Rattle.sled_core.specs.declared.met.Met.{Met}
+use Rattle.sled_core.specs.declared.met.What.{What}
+use Rattle.sled_core.specs.declared.met.What.TheVariants.{Gives, Passed, Begins}
+use Rattle.sled_core.specs.declared.met.Ending.{Ending}
+use Rattle.sled_core.specs.declared.met.Ending.TheVariants.{Full, Capped, Broken}
+use Rattle.sled_core.specs.declared.met.Segment.{Segment}
+use Rattle.sled_core.specs.Scan.{Readable, IsScan, IsDamagedIn}
+
+-- The snapshot that it begins from.
+
+-- the snapshot of a log that was never begun
+abbrev pub empty_shot : Shot
+empty_shot = record { stable = None; active = None; pages = [] }
+
+-- the bytes of a snapshot on the device: its spelling, how long that is, and its sum
+pub record IsSnapshotFile (sum : List ℕ → ℕ) (bytes : List ℕ) (s : Shot) : Type 0 where
+  pub text : List ℕ
+  pub spelled : SpellsSnapshot text s
+  pub is : bytes ≡ text ++ low_bytes 8 (length text) ++ low_bytes 4 (sum text)
+  pub small : length text < 2 ^ 64
+
+abbrev pub sound_parts : Option ℤ → Option ℕ → List Page → Bool
+sound_parts (Some (pos n)) active pages = true
+sound_parts (Some (negsuc n)) active pages = false
+sound_parts None None [] = true
+sound_parts None None (p ∷ ps) = false
+sound_parts None (Some a) pages = false
+
+-- it has a stable place that is not negative, or it is the snapshot of a log that was never begun
+abbrev pub is_sound : Shot → Bool
+is_sound s = sound_parts s.stable s.active s.pages
+
+-- the place that it ends with, 0 where there is none
+abbrev pub stable_place : Option ℤ → ℕ
+stable_place (Some (pos n)) = n
+stable_place (Some (negsuc n)) = 0
+stable_place None = 0
+
+-- the snapshot with the greatest number has these bytes
+pub record IsNewest (snapshots : ℤ → Option (List ℕ)) (number : ℤ) (bytes : List ℕ) : Type 0 where
+  pub there : snapshots number ≡ Some bytes
+  pub greatest : (n : ℤ) → IsSome (snapshots n) → n ≤ℤ number
+
+-- Recovery begins from the newest snapshot, or from the one of a log that was never begun.
+abbrev pub BeginsFrom : (List ℕ → ℕ) → (ℤ → Option (List ℕ)) → Shot → Type 0
+BeginsFrom sum snapshots s =
+    (((n : ℤ) → snapshots n ≡ None) × (s ≡ empty_shot))
+    ⊎ ((number : ℤ) × (bytes : List ℕ) × IsNewest snapshots number bytes × IsSnapshotFile sum bytes s × (is_sound s ≡ true))
+
+-- The newest snapshot is damaged.
+pub record IsDamagedSnapshot (sum : List ℕ → ℕ) (snapshots : ℤ → Option (List ℕ)) : Type 0 where
+  pub number : ℤ
+  pub bytes : List ℕ
+  pub newest : IsNewest snapshots number bytes
+  pub damaged : (s : Shot) → IsSnapshotFile sum bytes s → is_sound s ≡ false
+
+-- The segments that it finds.
+
+-- a segment begins at a slot of the file, with a header that passes, at this place or above it
+pub record IsFoundSegment (sum : List ℕ → ℕ) (size : ℕ) (log : List ℕ) (least : ℕ) (s : Segment) : Type 0 where
+  pub slot : s.slot % size ≡ 0
+  pub header : IsHeader sum (part log s.slot 20) (pos s.place) s.mark
+  pub not_below : least ≤ s.place
+
+-- it begins where no segment can begin
+abbrev pub IsMisplaced : ℕ → Segment → Type 0
+IsMisplaced size s = (s.place % size ≢ 0) ⊎ (2 ^ 63 ≤ s.place + size)
+
+-- Segments are found that can't be of one log.
+abbrev pub IsUnordered : (List ℕ → ℕ) → ℕ → List ℕ → ℕ → Type 0
+IsUnordered sum size log least =
+    ((s : Segment) × IsFoundSegment sum size log least s × IsMisplaced size s)
+    ⊎ ((s : Segment) × (t : Segment) × IsFoundSegment sum size log least s × IsFoundSegment sum size log least t × (s.slot ≢ t.slot) × (s.place ≡ t.place))
+
+-- by place, the lowest first
+abbrev pub is_ascending : List Segment → Bool
+is_ascending [] = true
+is_ascending (s ∷ []) = true
+is_ascending (s ∷ t ∷ ss) = nat_lt s.place t.place && is_ascending (t ∷ ss)
+
+-- the segments that are found, by place
+pub record IsOrdering (sum : List ℕ → ℕ) (size : ℕ) (log : List ℕ) (least : ℕ) (ordering : List Segment) : Type 0 where
+  pub ascending : is_ascending ordering ≡ true
+  pub found : (s : Segment) → Contains ordering s ↔ IsFoundSegment sum size log least s
+  pub placed : (s : Segment) → Contains ordering s → IsMisplaced size s → ⊥
+
+-- The tail.
+
+-- a segment and all that is met in it, where the reading ends and why
+pub record Scanned : Type 0 where
+  pub segment : Segment
+  pub met : List Met
+  pub stop : ℕ
+  pub why : Ending
+
+-- these are found in a segment
+abbrev pub IsScanned : (List ℕ → ℕ) → ℕ → Readable → Scanned → Type 0
+IsScanned sum size r s = IsScan sum size r s.segment.slot s.segment.place s.met s.stop s.why
+
+-- the place of a mark; one that is negative says nothing
+abbrev pub place_of_mark : ℤ → ℕ
+place_of_mark (pos n) = n
+place_of_mark (negsuc n) = 0
+
+-- the greatest of a place and all marks
+abbrev pub greatest_mark : ℕ → List Segment → ℕ
+greatest_mark least [] = least
+greatest_mark least (s ∷ ss) = max (place_of_mark s.mark) (greatest_mark least ss)
+
+-- where the tail begins: the greatest mark, put down to the beginning of its segment
+abbrev pub tail_begins : ℕ → ℕ → List Segment → ℕ
+tail_begins size least ordering = greatest_mark least ordering / size * size
+
+-- behind a broken segment nothing is read, and behind another one this
+abbrev pub GoesOn : Ending → List Scanned → Type 0 → Type 0
+GoesOn Broken rest on = rest ≡ []
+GoesOn Full rest on = on
+GoesOn Capped rest on = on
+
+-- The segments of the tail, one behind another without a gap. One that is broken ends it.
+abbrev pub IsTail : (List ℕ → ℕ) → ℕ → Readable → List Segment → ℕ → List Scanned → Type 0
+IsTail sum size r ordering place [] = (s : Segment) → Contains ordering s → s.place ≡ place → ⊥
+IsTail sum size r ordering place (s ∷ ss) =
+    Contains ordering s.segment × (s.segment.place ≡ place) × IsScanned sum size r s × GoesOn s.why ss (IsTail sum size r ordering (place + size) ss)
+
+-- where the reading of the tail ended, where a segment was read
+abbrev pub tail_end : List Scanned → Option ℕ
+tail_end [] = None
+tail_end (s ∷ []) = Some (s.segment.place + s.stop)
+tail_end (s ∷ t ∷ ss) = tail_end (t ∷ ss)
+
+-- The pass over the messages.
+
+-- the segments that begin below a place
+abbrev pub begun_below : ℕ → List Segment → List Segment
+begun_below end [] = []
+begun_below end (s ∷ ss) = if nat_lt s.place end then s ∷ begun_below end ss else begun_below end ss
+
+-- these segments, each with what is met in it
+abbrev pub AreScanned : (List ℕ → ℕ) → ℕ → Readable → List Segment → List Scanned → Type 0
+AreScanned sum size r [] [] = Unit {0}
+AreScanned sum size r [] (x ∷ xs) = ⊥
+AreScanned sum size r (s ∷ ss) [] = ⊥
+AreScanned sum size r (s ∷ ss) (x ∷ xs) = (x.segment ≡ s) × IsScanned sum size r x × AreScanned sum size r ss xs
+
+-- the beginning of a batch that does not end below this place
+abbrev pub opens : ℕ → What → Bool
+opens end (Gives kind page pointer) = false
+opens end Passed = false
+opens end (Begins peg) = int_le (pos end) peg
+
+-- what is met before the first such beginning
+abbrev pub before_open : ℕ → List Met → List Met
+before_open end [] = []
+before_open end (m ∷ ms) = if opens end m.what then [] else m ∷ before_open end ms
+
+-- where that begins
+abbrev pub open_at : ℕ → List Met → Option ℕ
+open_at end [] = None
+open_at end (m ∷ ms) = if opens end m.what then Some m.place else open_at end ms
+
+-- A message that is applied: what it does, to which page, and its entry.
+pub record Applied : Type 0 where
+  pub kind : LogKind
+  pub page : ℕ
+  pub entry : Entry
+
+abbrev pub applied_of : Met → What → List Applied
+applied_of m (Gives kind page pointer) = record { kind = kind; page = page; entry = (pos m.place, pointer, m.len) } ∷ []
+applied_of m Passed = []
+applied_of m (Begins peg) = []
+
+-- the messages among what is met that don't lie below a place
+abbrev pub given : ℕ → List Met → List Applied
+given least [] = []
+given least (m ∷ ms) = if nat_lt m.place least then given least ms else applied_of m m.what ++ given least ms
+
+-- a table with so many pages at least
+abbrev pub grown : List Page → ℕ → List Page
+grown pages n = pages ++ replicate (n - length pages) Uninitialized
+
+-- the last entry of a page that was begun
+abbrev pub last_entry : Entry → List Entry → Entry
+last_entry base [] = base
+last_entry base (e ∷ es) = last_entry e es
+
+-- a page with a Link on it, where that lies behind all that the page has
+abbrev pub linked : Page → Entry → Page
+linked (Present base frags) e = if int_lt (last_entry base frags).0 e.0 then Present base (frags ++ e ∷ []) else Present base frags
+linked (Free place pointer) e = Free place pointer
+linked Uninitialized e = Uninitialized
+
+-- What a message makes of a table. A Link on a page that isn't there gives it no page.
+abbrev pub table_with : List Page → LogKind → ℕ → Entry → List Page
+table_with pages does.Replace page e = set (grown pages (page + 1)) page (Present e [])
+table_with pages does.Free page e = set (grown pages (page + 1)) page (Free e.0 e.1)
+table_with pages does.Link page e = grown (set pages page (linked (get_or pages page Uninitialized) e)) page
+table_with pages does.Skip page e = pages
+table_with pages does.Corrupted page e = pages
+
+abbrev pub table_of : List Page → List Applied → List Page
+table_of pages [] = pages
+table_of pages (a ∷ rest) = table_of (table_with pages a.kind a.page a.entry) rest
+
+-- a message of the page that no table has
+abbrev pub has_no_table : List Applied → Bool
+has_no_table [] = false
+has_no_table (a ∷ rest) = (a.page == 2 ^ 64 - 1) || has_no_table rest
+
+-- the page is in a state that a snapshot can say
+abbrev pub is_whole_page : Page → Bool
+is_whole_page (Present base frags) = nat_lt (length frags) 255
+is_whole_page (Free place pointer) = true
+is_whole_page Uninitialized = false
+
+abbrev pub are_whole : List Page → Bool
+are_whole [] = true
+are_whole (p ∷ ps) = is_whole_page p && are_whole ps
+
+-- The cut.
+
+-- The segment in which the pass stopped, and the place: at the first batch that is open, else where the reading of the last segment ended.
+abbrev pub stops_in : ℕ → Scanned → Option ℕ → List Scanned → Segment × ℕ
+stops_in end s (Some place) rest = (s.segment, place)
+stops_in end s None [] = (s.segment, s.segment.place + s.stop)
+stops_in end s None (t ∷ ts) = stops_in end t (open_at end t.met) ts
+
+-- all that the pass meets up to there
+abbrev pub passed_in : ℕ → Scanned → Option ℕ → List Scanned → List Met
+passed_in end s (Some place) rest = before_open end s.met
+passed_in end s None [] = s.met
+passed_in end s None (t ∷ ts) = s.met ++ passed_in end t (open_at end t.met) ts
+
+-- a segment in which fewer than 32 bytes are left behind a place
+abbrev pub is_filled : ℕ → Segment × ℕ → Bool
+is_filled size at = nat_lt (at.0.place + size) (at.1 + 32)
+
+-- the cut, and the slot that is active: where the pass stopped, or the end of a segment that has no room left
+abbrev pub cut_of : ℕ → Segment × ℕ → ℕ × Option ℕ
+cut_of size at = if is_filled size at then (at.0.place + size, None) else (at.1, Some at.0.slot)
+
+-- what recovery answers
+pub data Outcome : Type 0 where
+  Damaged : Outcome
+  Recovered : (s : Shot) → Outcome
+
+-- A table with this cut, unless it can't be one.
+abbrev pub concluded : Shot → List Applied → ℕ × Option ℕ → Outcome
+concluded first messages cut =
+    if has_no_table messages || nat_lt cut.0 (stable_place first.stable) || not (are_whole (table_of first.pages messages)) then Damaged
+    else Recovered (record { stable = Some (pos cut.0); active = cut.1; pages = table_of first.pages messages })
+
+-- What comes of the segments that the pass reads. Where it reads none, the snapshot stays as it was.
+abbrev pub outcome_of : ℕ → Shot → ℕ → List Scanned → Outcome
+outcome_of size first end [] = Recovered first
+outcome_of size first end (s ∷ ss) = concluded first (given (stable_place first.stable) (passed_in end s (open_at end s.met) ss)) (cut_of size (stops_in end s (open_at end s.met) ss))
