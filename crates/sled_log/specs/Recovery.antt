@@ -1,20 +1,19 @@
 -- What recovery makes of a content: which snapshot it begins from, which segments it finds, where the tail of the log ends,
 -- which messages it applies, and the cut. Stated for any number of segments and for all kinds of messages.
-use Rattle.std.specs.Prelude.{◌≡◌, ◌≢◌, ◌⊎◌, ◌↔◌, ◌+◌, ◌-◌, ◌*◌, ◌/◌, ◌%◌, ◌^◌, ◌≤◌, ◌<◌, ◌≤ℤ◌, ℕ, ℤ, pos, negsuc, max, nat_lt, nat_le, int_le, int_lt, Bool, true, false, ◌&&◌, ◌||◌, not, ◌==◌, if◌then◌else◌, List, [], ◌∷◌, ◌++◌, length, set, get_or, replicate, Option, Some, None, IsSome, Contains}
+use Rattle.std.specs.Prelude.{◌≡◌, ◌≢◌, ◌⊎◌, ◌↔◌, ◌+◌, ◌-◌, ◌*◌, ◌/◌, ◌%◌, ◌^◌, ◌≤◌, ◌<◌, ◌≤ℤ◌, ℕ, ℤ, pos, negsuc, max, nat_lt, int_le, int_lt, Bool, true, false, ◌&&◌, ◌||◌, not, ◌==◌, if◌then◌else◌, List, [], ◌∷◌, ◌++◌, length, set, get_or, replicate, Option, Some, None, IsSome, Contains}
 use Rattle.sled_codec.specs.declared.serialization.message.LogKind.{LogKind}
 use Rattle.sled_codec.specs.declared.serialization.message.LogKind.TheVariants as does
 use Rattle.sled_codec.specs.Places.{part}
 use Rattle.sled_codec.specs.Record.{IsHeader}
 use Rattle.sled_codec.specs.Spelling.{low_bytes}
 use Rattle.sled_codec.specs.Snapshots.{Entry, Page, Present, Free, Uninitialized, Shot, SpellsSnapshot}
-use Rattle.sled_store.specs.Device.{Content}
 use Rattle.sled_core.specs.declared.met.Met.{Met}
 use Rattle.sled_core.specs.declared.met.What.{What}
 use Rattle.sled_core.specs.declared.met.What.TheVariants.{Gives, Passed, Begins}
 use Rattle.sled_core.specs.declared.met.Ending.{Ending}
 use Rattle.sled_core.specs.declared.met.Ending.TheVariants.{Full, Capped, Broken}
 use Rattle.sled_core.specs.declared.met.Segment.{Segment}
-use Rattle.sled_core.specs.Scan.{Readable, IsScan, IsDamagedIn}
+use Rattle.sled_core.specs.Scan.{Readable, IsScan}
 
 -- The snapshot that it begins from.
 
