@@ -13,7 +13,8 @@ use Rattle.sled_core.specs.declared.met.What.TheVariants.{Gives, Passed, Begins}
 use Rattle.sled_core.specs.declared.met.Ending.{Ending}
 use Rattle.sled_core.specs.declared.met.Ending.TheVariants.{Full, Capped, Broken}
 use Rattle.sled_core.specs.declared.met.Segment.{Segment}
-use Rattle.sled_core.specs.Scan.{Readable, IsScan}
+use Rattle.sled_core.specs.declared.met.Scan.{Scan}
+use Rattle.sled_core.specs.Scan.{Readable, IsScan, IsDamagedIn, IsPath, IsDamagedAt}
 
 -- The snapshot that it begins from.
 
@@ -263,3 +264,76 @@ concluded first messages cut =
 abbrev pub outcome_of : ℕ → Shot → ℕ → List Scanned → Outcome
 outcome_of size first end [] = Recovered first
 outcome_of size first end (s ∷ ss) = concluded first (given (stable_place first.stable) (passed_in end s (open_at end s.met) ss)) (cut_of size (stops_in end s (open_at end s.met) ss))
+
+-- The whole.
+
+-- Segments of the tail, one behind another, each of which leads to the next.
+abbrev pub IsTailPart : (List ℕ → ℕ) → ℕ → Readable → List Segment → ℕ → List Scanned → ℕ → Type 0
+IsTailPart sum size r ordering place [] next = next ≡ place
+IsTailPart sum size r ordering place (s ∷ ss) next =
+    Contains ordering s.segment × (s.segment.place ≡ place) × IsScanned sum size r s × (s.why ≢ Broken) × IsTailPart sum size r ordering (place + size) ss next
+
+-- A damaged record is met where the tail is read.
+pub record IsDamagedTail (sum : List ℕ → ℕ) (size : ℕ) (r : Readable) (ordering : List Segment) (place : ℕ) : Type 0 where
+  pub before : List Scanned
+  pub next : ℕ
+  pub part : IsTailPart sum size r ordering place before next
+  pub segment : Segment
+  pub there : Contains ordering segment
+  pub at : segment.place ≡ next
+  pub damaged : IsDamagedIn sum size r segment.slot segment.place
+
+-- none of these has a batch that does not end below this place
+abbrev pub AreClosed : ℕ → List Scanned → Type 0
+AreClosed end [] = Unit {0}
+AreClosed end (s ∷ ss) = (open_at end s.met ≡ None) × AreClosed end ss
+
+-- A damaged record is met in the pass, before a batch that is open.
+pub record IsDamagedPass (sum : List ℕ → ℕ) (size : ℕ) (r : Readable) (end : ℕ) (segments : List Segment) : Type 0 where
+  pub first : List Segment
+  pub segment : Segment
+  pub rest : List Segment
+  pub is : segments ≡ first ++ segment ∷ rest
+  pub before : List Scanned
+  pub scanned : AreScanned sum size r first before
+  pub closed : AreClosed end before
+  pub met : List Met
+  pub next : ℕ
+  pub path : IsPath sum size r segment.slot segment.place 20 met next
+  pub not_open : open_at end met ≡ None
+  pub room : next + 32 ≤ size
+  pub damaged : IsDamagedAt sum size r (segment.slot + next) (segment.place / size)
+
+-- what comes of a tail that ends there
+abbrev pub Passes : (List ℕ → ℕ) → ℕ → Readable → Shot → List Segment → Option ℕ → Outcome → Type 0
+Passes sum size r first ordering None o = o ≡ Recovered first
+Passes sum size r first ordering (Some end) o =
+    ((o ≡ Damaged) × IsDamagedPass sum size r end (begun_below end ordering))
+    ⊎ ((passes : List Scanned) × AreScanned sum size r (begun_below end ordering) passes × (o ≡ outcome_of size first end passes))
+
+-- what comes of the segments that are found
+abbrev pub Replays : (List ℕ → ℕ) → ℕ → Readable → Shot → List Segment → ℕ → Outcome → Type 0
+Replays sum size r first ordering tail o =
+    ((o ≡ Damaged) × IsDamagedTail sum size r ordering tail)
+    ⊎ ((scanned : List Scanned) × IsTail sum size r ordering tail scanned × Passes sum size r first ordering (tail_end scanned) o)
+
+-- the segment that holds the place with which a snapshot ends
+abbrev pub least_place : ℕ → Shot → ℕ
+least_place size s = stable_place s.stable / size * size
+
+-- What recovery makes of a log file from a snapshot on.
+unfoldable pub ContinuesFrom : (List ℕ → ℕ) → ℕ → Readable → Shot → Outcome → Type 0
+ContinuesFrom sum size r first o =
+    let least = least_place size first in
+    ((o ≡ Damaged) × IsUnordered sum size r.log least)
+    ⊎ ((ordering : List Segment) × IsOrdering sum size r.log least ordering × Replays sum size r first ordering (tail_begins size least ordering) o)
+
+-- What recovery makes of what it reads.
+unfoldable pub Recovers : (List ℕ → ℕ) → ℕ → Readable → (ℤ → Option (List ℕ)) → Outcome → Type 0
+Recovers sum size r snapshots o =
+    ((o ≡ Damaged) × IsDamagedSnapshot sum snapshots)
+    ⊎ ((first : Shot) × BeginsFrom sum snapshots first × ContinuesFrom sum size r first o)
+
+-- a segment as code has it, and what is met in it
+abbrev pub scanned_of : Segment → Scan → Scanned
+scanned_of segment scan = record { segment = segment; met = scan.met.items; stop = scan.stop; why = scan.ending }

@@ -1,0 +1,86 @@
+-- What comes of a pass.
+use Rattle.std.proofs.Common.{◌≡◌, ◌∙◌, ◌+◌, ◌-◌, ◌<◌, ◌≤◌, ℕ, Bool, true, false, ◌||◌, not, nat_lt, List, [], ◌∷◌, ◌++◌, Option, Some, None, if◌then◌else◌, refl, sym, ap, subst, arith, pos}
+use Rattle.std.specs.Option.{unwrap_or}
+use Rattle.std.specs.List.{All, AllByRecursion}
+use Rattle.std.proofs.lemmas.List.Elements.{recursion_from_All}
+use Rattle.std.proofs.lemmas.Bool.Decides.{nat_tests}
+use Rattle.std.specs.Prelude.{Result, Ok, Err, IfOk, OnOk}
+use Rattle.sled_codec.specs.declared.result.Error.{Error}
+use Rattle.sled_codec.specs.declared.serialization.snapshot.Snapshot.{Snapshot}
+use Rattle.sled_codec.specs.Snapshots.{Page, Shot, shot_of}
+use Rattle.sled_core.specs.declared.met.Met.{Met}
+use Rattle.sled_core.specs.declared.met.Segment.{Segment}
+use Rattle.sled_log.specs.Recovery.{Scanned, Applied, Outcome, Recovered, Damaged, opens, before_open, open_at, passed_in, stops_in, concluded, outcome_of, given, cut_of, has_no_table, are_whole, table_of, stable_place}
+
+-- where no batch is open, all that is met lies before one
+pub before_none : (end : ℕ) (ms : List Met) → open_at end ms ≡ None → before_open end ms ≡ ms
+before_none end [] none = refl
+before_none end (m ∷ ms) none = by_test (opens end m.what) (before_none end ms) none where
+  by_test : (b : Bool) → (open_at end ms ≡ None → before_open end ms ≡ ms) → (if b then Some m.place else open_at end ms) ≡ None → (if b then [] else m ∷ before_open end ms) ≡ m ∷ ms
+  by_test true rest none = cc
+  by_test false rest none = ap (λ (l : List Met). m ∷ l) (rest none)
+
+-- The outcome of a pass over one segment.
+module _ (size : ℕ) (first : Shot) (end : ℕ) (s : Scanned) where
+  one_stop : (o : Option ℕ) → stops_in end s o [] ≡ (s.segment, unwrap_or o (s.segment.place + s.stop))
+  one_stop None = refl
+  one_stop (Some place) = refl
+
+  one_passed : (o : Option ℕ) → open_at end s.met ≡ o → passed_in end s o [] ≡ before_open end s.met
+  one_passed None is = sym (before_none end s.met is)
+  one_passed (Some place) is = refl
+
+  pub one_outcome : outcome_of size first end (s ∷ []) ≡ concluded first (given (stable_place first.stable) (before_open end s.met)) (cut_of size (s.segment, unwrap_or (open_at end s.met) (s.segment.place + s.stop)))
+  one_outcome =
+      ap (λ (ms : List Met). concluded first (given (stable_place first.stable) ms) (cut_of size (stops_in end s (open_at end s.met) []))) (one_passed (open_at end s.met) refl)
+      ∙ ap (λ (at : Segment × ℕ). concluded first (given (stable_place first.stable) (before_open end s.met)) (cut_of size at)) (one_stop (open_at end s.met))
+
+-- When a pass gives a snapshot, and when the content is damaged.
+module _ (first : Shot) (messages : List Applied) (cut : ℕ × Option ℕ) where
+  abbrev made : Shot
+  made = record { stable = Some (pos cut.0); active = cut.1; pages = table_of first.pages messages }
+
+  abbrev chosen : Bool → Bool → Bool → Outcome
+  chosen a b c = if a || b || not c then Damaged else Recovered made
+
+  pub concluded_well : has_no_table messages ≡ false → stable_place first.stable ≤ cut.0 → are_whole (table_of first.pages messages) ≡ true → concluded first messages cut ≡ Recovered made
+  concluded_well is le whole =
+      let above : nat_lt cut.0 (stable_place first.stable) ≡ false = grind (arith, nat_tests, le) in
+      ap (λ a. chosen a (nat_lt cut.0 (stable_place first.stable)) (are_whole (table_of first.pages messages))) is
+      ∙ ap (λ b. chosen false b (are_whole (table_of first.pages messages))) above ∙ ap (chosen false false) whole
+
+  pub no_table_damaged : has_no_table messages ≡ true → concluded first messages cut ≡ Damaged
+  no_table_damaged is = ap (λ a. chosen a (nat_lt cut.0 (stable_place first.stable)) (are_whole (table_of first.pages messages))) is
+
+  low_cut : (a : Bool) → chosen a true (are_whole (table_of first.pages messages)) ≡ Damaged
+  low_cut true = refl
+  low_cut false = refl
+
+  pub low_cut_damaged : cut.0 < stable_place first.stable → concluded first messages cut ≡ Damaged
+  low_cut_damaged lt =
+      let below : nat_lt cut.0 (stable_place first.stable) ≡ true = grind (arith, nat_tests, lt) in
+      ap (λ b. chosen (has_no_table messages) b (are_whole (table_of first.pages messages))) below ∙ low_cut (has_no_table messages)
+
+  not_whole : (a b : Bool) → chosen a b false ≡ Damaged
+  not_whole true b = refl
+  not_whole false true = refl
+  not_whole false false = refl
+
+  pub not_whole_damaged : are_whole (table_of first.pages messages) ≡ false → concluded first messages cut ≡ Damaged
+  not_whole_damaged is = ap (chosen (has_no_table messages) (nat_lt cut.0 (stable_place first.stable))) is ∙ not_whole (has_no_table messages) (nat_lt cut.0 (stable_place first.stable))
+
+-- where a batch is open lies a record that is met
+open_in : (end limit : ℕ) (ms : List Met) (else_at : ℕ) → AllByRecursion (λ m. m.place < limit) ms → else_at ≤ limit → unwrap_or (open_at end ms) else_at ≤ limit
+open_in end limit [] else_at small le = le
+open_in end limit (m ∷ ms) else_at small le = by_test (opens end m.what) small.0 (open_in end limit ms else_at small.1 le) where
+  by_test : (b : Bool) → m.place < limit → unwrap_or (open_at end ms) else_at ≤ limit → unwrap_or (if b then Some m.place else open_at end ms) else_at ≤ limit
+  by_test true lt rest = omega (arith, lt)
+  by_test false lt rest = rest
+
+pub open_below : (end limit : ℕ) (ms : List Met) (else_at : ℕ) → All (λ m. m.place < limit) ms → else_at ≤ limit → unwrap_or (open_at end ms) else_at ≤ limit
+open_below end limit ms else_at small le = open_in end limit ms else_at (recursion_from_All (λ m. m.place < limit) ms small) le
+
+-- where a snapshot is made, and this is so of it, that is the outcome
+pub made_well : (r : Result Snapshot Error) (made : Shot) (A : Type 0) (o : Outcome) → IfOk r (λ s. shot_of s ≡ made) → OnOk r A → (A → o ≡ Recovered made) → IfOk r (λ s. o ≡ Recovered (shot_of s))
+made_well (Ok s) made A o is holds leads = leads holds ∙ ap Recovered (sym is)
+made_well (Err e) made A o is holds leads = tt
