@@ -2,6 +2,7 @@
 //!
 //! `specs/Scan.antt` says what that is, for any log file.
 ghost use Rattle.std.specs.Prelude.{take, ℤ, IfNone, ◌≡◌, ◌≢◌, ◌+◌, ◌-◌, ◌/◌, ◌%◌, ◌^◌, ◌≤◌, ◌<◌, ℕ, List, [], length, None, pos, IfOk, IfErr, IfSome, IsTrue, MatchOption};
+ghost use Rattle.std.specs.List.{All};
 ghost use Rattle.sled_codec.specs.Errors.{IsCorruption};
 ghost use Rattle.sled_codec.specs.Places.{part};
 ghost use Rattle.sled_codec.specs.Record.{IsHeader};
@@ -104,6 +105,8 @@ pub fn scan<D: Device, C: Checksum>(
     requires slot { buf.now.offset + config.old.config.segment_size < 2 ^ 63 }
     requires aligned { buf.now.offset % config.old.config.segment_size ≡ 0 }
     ensures scan { IfOk result (λ s. IsScan C.sum_of config.old.config.segment_size (read_of buf.now) buf.now.offset place s.met.items s.stop s.ending) }
+    ensures stop { IfOk result (λ s. (20 ≤ s.stop) × (s.stop ≤ config.old.config.segment_size)) }
+    ensures places { IfOk result (λ s. All (λ m. m.place < place + config.old.config.segment_size) s.met.items) }
     ensures damaged { IsCorruption result → IsDamagedIn C.sum_of config.old.config.segment_size (read_of buf.now) buf.now.offset place }
     ensures answers { DeviceAnswers result (D.faults config.old.device) (D.faults config.new.device) }
     ensures trace { D.trace config.new.device ≡ D.trace config.old.device }

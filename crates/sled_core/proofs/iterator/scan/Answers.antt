@@ -1,4 +1,5 @@
 use Rattle.std.proofs.Common.{◌≤◌, ◌+◌, ◌/◌, ◌∙◌, ℕ, List, sym, subst, arith}
+use Rattle.std.proofs.lemmas.List.Elements.{All-same, All-push}
 use Rattle.sled_store.specs.declared.config.Config.{Config}
 use Rattle.sled_core.specs.declared.met.Met.{Met}
 use Rattle.sled_core.specs.declared.met.Step.TheVariants.{Meets, Ends}
@@ -25,10 +26,14 @@ loop-stop-preserved g c =
     let room : at + 32 ≤ size = omega (arith, c.loop-stop.invariant.last, c.loop-stop-test.true) in
     let step = subst (λ (cfg : Config). IsStep g.C.Checksum.sum_of cfg.segment_size (read_of c.args.buf.now) (c.args.buf.now.offset + at) (c.args.place + at) (c.args.place / cfg.segment_size) (Meets c.in-Ok-Meets.m)) c.loop-stop.invariant.config (rw c.in-Ok-Meets.field-0-is at c.in-Ok-Meets.ensures.step) in
     let fits : HasPlace c.loop-stop.config.config.segment_size at (Meets c.in-Ok-Meets.m) = rw c.in-Ok-Meets.field-0-is at c.in-Ok-Meets.ensures.room in
+    let inside : at + c.in-Ok-Meets.m.len ≤ size = subst (λ (cfg : Config). at + c.in-Ok-Meets.m.len ≤ cfg.segment_size) c.loop-stop.invariant.config fits.1 in
+    let P : Met → Type 0 = λ m. m.place < c.args.place + size in
     let path = one_more g.C.Checksum.sum_of size (read_of c.args.buf.now) c.args.buf.now.offset c.args.place 20 c.loop-stop.met.items at c.in-Ok-Meets.m c.loop-stop.invariant.path room step.0 step.1 in
     record {
       path = subst (λ (ms : List Met). IsPath g.C.Checksum.sum_of size (read_of c.args.buf.now) c.args.buf.now.offset c.args.place 20 ms (at + c.in-Ok-Meets.m.len)) (sym c.in_ok-push-in-Ok-Meets.ensures.items) path;
       behind = omega (arith, c.loop-stop.invariant.behind);
+      within = omega (arith, inside);
+      places = All-same P c.push.new.self.items (c.loop-stop.met.items ++ c.in-Ok-Meets.m ∷ []) c.in_ok-push-in-Ok-Meets.ensures.items (All-push P c.loop-stop.met.items c.in-Ok-Meets.m c.loop-stop.invariant.places (omega (arith, step.0, room)));
       trace = c.meet.ensures.trace ∙ c.loop-stop.invariant.trace;
       faults = c.in-Ok-Meets.ensures.answers ∙ c.loop-stop.invariant.faults;
       config = c.meet.ensures.config ∙ c.loop-stop.invariant.config;

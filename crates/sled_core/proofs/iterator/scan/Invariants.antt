@@ -1,4 +1,5 @@
 use Rattle.std.proofs.Common.{◌+◌, ◌-◌, ◌≡◌, ◌≤◌, ◌<◌, ◌%◌, ◌^◌}
+use Rattle.std.specs.List.{All}
 use Rattle.sled_core.specs.Scan.{IsPath, read_of}
 use Rattle.sled_core.proofs.iterator.scan.Given as goal
 
@@ -8,6 +9,8 @@ invariant-loop-stop g l =
     record {
       path : IsPath g.C.Checksum.sum_of l.fn.config.config.segment_size (read_of l.fn.buf) l.fn.buf.offset l.fn.place 20 l.met.items l.stop;
       behind : 20 ≤ l.stop;
+      within : l.stop ≤ l.fn.config.config.segment_size;
+      places : All (λ m. m.place < l.fn.place + l.fn.config.config.segment_size) l.met.items;
       trace : g.D.Device.trace l.config.device ≡ g.D.Device.trace l.fn.config.device;
       faults : g.D.Device.faults l.config.device ≡ g.D.Device.faults l.fn.config.device;
       config : l.config.config ≡ l.fn.config.config;
