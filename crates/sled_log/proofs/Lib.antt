@@ -1,2 +1,3 @@
 mod TableLemmas
 mod RecoveryLemmas
+mod FindLemmas
