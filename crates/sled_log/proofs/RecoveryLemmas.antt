@@ -1,13 +1,13 @@
 -- What comes of a pass.
-use Rattle.std.proofs.Common.{◌≡◌, ◌∙◌, ◌+◌, ◌-◌, ◌<◌, ◌≤◌, ℕ, Bool, true, false, ◌||◌, not, nat_lt, List, [], ◌∷◌, ◌++◌, Option, Some, None, if◌then◌else◌, refl, sym, ap, subst, arith, pos}
+use Rattle.std.proofs.Common.{◌≡◌, ◌∙◌, ◌+◌, ◌<◌, ◌≤◌, ℕ, Bool, true, false, ◌||◌, not, nat_lt, List, [], ◌∷◌, Option, Some, None, if◌then◌else◌, refl, sym, ap, arith, pos}
 use Rattle.std.specs.Option.{unwrap_or}
 use Rattle.std.specs.List.{All, AllByRecursion}
 use Rattle.std.proofs.lemmas.List.Elements.{recursion_from_All}
 use Rattle.std.proofs.lemmas.Bool.Decides.{nat_tests}
 use Rattle.std.specs.Prelude.{Result, Ok, Err, IfOk, OnOk}
 use Rattle.sled_codec.specs.declared.result.Error.{Error}
-use Rattle.sled_codec.specs.declared.serialization.snapshot.Snapshot.{Snapshot}
-use Rattle.sled_codec.specs.Snapshots.{Page, Shot, shot_of}
+use Rattle.sled_log.specs.declared.snapshot.Recovery.{Recovery}
+use Rattle.sled_codec.specs.Snapshots.{Shot, shot_of}
 use Rattle.sled_core.specs.declared.met.Met.{Met}
 use Rattle.sled_core.specs.declared.met.Segment.{Segment}
 use Rattle.sled_log.specs.Recovery.{Scanned, Applied, Outcome, Recovered, Damaged, opens, before_open, open_at, passed_in, stops_in, concluded, outcome_of, given, cut_of, has_no_table, are_whole, table_of, stable_place}
@@ -81,6 +81,6 @@ pub open_below : (end limit : ℕ) (ms : List Met) (else_at : ℕ) → All (λ m
 open_below end limit ms else_at small le = open_in end limit ms else_at (recursion_from_All (λ m. m.place < limit) ms small) le
 
 -- where a snapshot is made, and this is so of it, that is the outcome
-pub made_well : (r : Result Snapshot Error) (made : Shot) (A : Type 0) (o : Outcome) → IfOk r (λ s. shot_of s ≡ made) → OnOk r A → (A → o ≡ Recovered made) → IfOk r (λ s. o ≡ Recovered (shot_of s))
-made_well (Ok s) made A o is holds leads = leads holds ∙ ap Recovered (sym is)
-made_well (Err e) made A o is holds leads = tt
+pub made_well : (r : Result Recovery Error) (made_of : Shot) (A : Type 0) (o : Outcome) → IfOk r (λ x. shot_of x.snapshot ≡ made_of) → OnOk r A → (A → o ≡ Recovered made_of) → IfOk r (λ x. o ≡ Recovered (shot_of x.snapshot))
+made_well (Ok x) made_of A o is holds leads = leads holds ∙ ap Recovered (sym is)
+made_well (Err e) made_of A o is holds leads = tt

@@ -1,17 +1,107 @@
 //! Recovery: what the device has, read into a table of pages (`specs/Recovery.antt`).
-ghost use Rattle.std.specs.Prelude.{◌≡◌, ◌⊎◌, ◌+◌, ◌-◌, ◌^◌, ◌*◌, ◌/◌, ◌%◌, ◌≤◌, ◌<◌, ℕ, map, pos, true, false, Some, [], ◌∷◌, length, None, IfOk, IfErr, OnOk};
+ghost use Rattle.std.specs.Prelude.{◌↔◌, ◌≢◌, IsTrue, ◌≡◌, ◌⊎◌, ◌+◌, ◌-◌, ◌^◌, ◌*◌, ◌/◌, ◌%◌, ◌≤◌, ◌<◌, ℕ, map, pos, true, false, Some, [], ◌∷◌, length, None, IfOk, IfErr, OnOk};
 ghost use Rattle.std.specs.List.{All};
 ghost use Rattle.sled_codec.specs.Errors.{IsCorruption, IsDecodeError};
 ghost use Rattle.sled_codec.specs.Snapshots.{Shot, shot_of, page_of};
 ghost use Rattle.sled_store.specs.Device.{state_of};
 ghost use Rattle.sled_core.specs.Causes.{DeviceAnswers};
-ghost use Rattle.sled_log.specs.Recovery.{Recovered, Damaged, outcome_of, are_whole, scanned_of, stable_place, cut_of, ContinuesFrom, Recovers};
+ghost use Rattle.sled_core.specs.Reading.{file_of};
+ghost use Rattle.sled_core.specs.Scan.{read_of};
+ghost use Rattle.sled_log.specs.Recovery.{least_place, tail_begins, IsFoundSegment, IsMisplaced, IsOrdering, Recovered, Damaged, outcome_of, are_whole, scanned_of, stable_place, cut_of, ContinuesFrom, Recovers};
 
 use crate::table::{apply_all, are_whole};
 use sled_codec::result::{Error, LogOffset, Result};
 use sled_codec::serialization::{Checksum, PageState, Snapshot};
+use sled_core::iterator::{read_slot, scan, segment_in};
 use sled_core::met::{Scan, Segment};
+use sled_core::read_at::BasedBuf;
+use sled_store::{Device, RunningConfig};
 use std::alloc::Global;
+
+/// What recovery makes of a log file.
+#[derive(Drop)]
+pub(crate) struct Recovery {
+    pub(crate) snapshot: Snapshot,
+    /// A segment was read.
+    pub(crate) is_read: bool,
+}
+
+/// What recovery makes of the log file from a snapshot on, where that is no longer than a segment.
+fn continue_from<D: Device, C: Checksum>(
+    config: &mut RunningConfig<D, C>,
+    first: Snapshot,
+) -> Result<Recovery>
+    requires short { length (state_of (D.trace config.old.device)).log.bytes ≤ config.old.config.segment_size }
+    ensures ok { IfOk result (λ x. ContinuesFrom C.sum_of config.old.config.segment_size (record { log = (state_of (D.trace config.old.device)).log.bytes; blobs = λ _. None }) (shot_of first) (Recovered (shot_of x.snapshot))) }
+    ensures corrupt { IsCorruption result → ContinuesFrom C.sum_of config.old.config.segment_size (record { log = (state_of (D.trace config.old.device)).log.bytes; blobs = λ _. None }) (shot_of first) Damaged }
+    ensures answers { DeviceAnswers result (D.faults config.old.device) (D.faults config.new.device) }
+    ensures trace { D.trace config.new.device ≡ D.trace config.old.device }
+    ensures config { config.new.config ≡ config.old.config }
+    ensures checksum { config.new.checksum ≡ config.old.checksum }
+{
+    let size = config.config.segment_size;
+    let least = stable_place(&first) / size * size;
+    let buf = read_slot(config, 0)?;
+    match segment_in(&config.checksum, &buf, least) {
+        Some(segment) => continue_in(config, &buf, &segment, first),
+        None => Ok(Recovery {
+            snapshot: first,
+            is_read: false,
+        }),
+    }
+}
+
+/// The same, where a segment was found.
+fn continue_in<D: Device, C: Checksum>(
+    config: &mut RunningConfig<D, C>,
+    buf: &BasedBuf,
+    segment: &Segment,
+    first: Snapshot,
+) -> Result<Recovery>
+    requires slot { buf.now.offset ≡ 0 }
+    requires own { segment.now.slot ≡ 0 }
+    requires found { IsFoundSegment C.sum_of config.old.config.segment_size (file_of buf.now) (least_place config.old.config.segment_size (shot_of first)) segment.now }
+    requires only { (IsMisplaced config.old.config.segment_size segment.now → ⊥) → IsOrdering C.sum_of config.old.config.segment_size (file_of buf.now) (least_place config.old.config.segment_size (shot_of first)) (segment.now ∷ []) }
+    ensures ok { IfOk result (λ x. ContinuesFrom C.sum_of config.old.config.segment_size (read_of buf.now) (shot_of first) (Recovered (shot_of x.snapshot))) }
+    ensures corrupt { IsCorruption result → ContinuesFrom C.sum_of config.old.config.segment_size (read_of buf.now) (shot_of first) Damaged }
+    ensures answers { DeviceAnswers result (D.faults config.old.device) (D.faults config.new.device) }
+    ensures trace { D.trace config.new.device ≡ D.trace config.old.device }
+    ensures config { config.new.config ≡ config.old.config }
+    ensures checksum { config.new.checksum ≡ config.old.checksum }
+{
+    let size = config.config.segment_size;
+    if is_misplaced(size, segment.place) {
+        return Err(Error::Corruption { at: None });
+    }
+    let least = stable_place(&first) / size * size;
+    if tail_begins(size, least, segment) != segment.place {
+        return Ok(Recovery {
+            snapshot: first,
+            is_read: false,
+        });
+    }
+    match scan(config, buf, segment.place) {
+        Ok(scan) => replay(config.alloc(), size, first, segment, &scan),
+        Err(e) => Err(e),
+    }
+}
+
+/// Whether a segment can't begin at a place.
+fn is_misplaced(size: u64, place: u64) -> bool
+    requires { (0 < size) × (size < 2 ^ 32) }
+    ensures { IsTrue result ↔ ((place % size ≢ 0) ⊎ (2 ^ 63 ≤ place + size)) }
+{
+    place % size != 0 || place >= (1 << 63) - size
+}
+
+/// Where the tail begins, where one segment is found.
+fn tail_begins(size: u64, least: u64, segment: &Segment) -> u64
+    requires { 0 < size }
+    ensures { result ≡ tail_begins size least (segment.now ∷ []) }
+{
+    let mark = u64::try_from(segment.mark).unwrap_or(0);
+    mark.max(least) / size * size
+}
 
 /// What recovery makes of the one segment that it reads.
 fn replay(
@@ -20,11 +110,11 @@ fn replay(
     first: Snapshot,
     segment: &Segment,
     scan: &Scan,
-) -> Result<Snapshot>
+) -> Result<Recovery>
     requires place { segment.now.place + size < 2 ^ 63 }
     requires stop { scan.now.stop ≤ size }
     requires places { All (λ m. m.place < segment.now.place + size) scan.now.met.items }
-    ensures ok { IfOk result (λ s. outcome_of size (shot_of first) (segment.now.place + scan.now.stop) (scanned_of segment.now scan.now ∷ []) ≡ Recovered (shot_of s)) }
+    ensures ok { IfOk result (λ x. outcome_of size (shot_of first) (segment.now.place + scan.now.stop) (scanned_of segment.now scan.now ∷ []) ≡ Recovered (shot_of x.snapshot)) }
     ensures corrupt { IsCorruption result → outcome_of size (shot_of first) (segment.now.place + scan.now.stop) (scanned_of segment.now scan.now ∷ []) ≡ Damaged }
     ensures errors { IfErr result IsDecodeError }
 {
@@ -42,9 +132,9 @@ fn replay(
 }
 
 /// A snapshot of a table with this cut, unless it can't be one.
-fn conclude(pages: Vec<PageState>, least: u64, cut: (u64, Option<LogOffset>)) -> Result<Snapshot>
+fn conclude(pages: Vec<PageState>, least: u64, cut: (u64, Option<LogOffset>)) -> Result<Recovery>
     requires { cut.0 < 2 ^ 63 }
-    ensures ok { IfOk result (λ s. shot_of s ≡ record { stable = Some (pos cut.0); active = cut.1; pages = map page_of pages.items }) }
+    ensures ok { IfOk result (λ x. shot_of x.snapshot ≡ record { stable = Some (pos cut.0); active = cut.1; pages = map page_of pages.items }) }
     ensures fine { OnOk result ((least ≤ cut.0) × (are_whole (map page_of pages.items) ≡ true)) }
     ensures corrupt { IsCorruption result → (cut.0 < least) ⊎ (are_whole (map page_of pages.items) ≡ false) }
     ensures errors { IfErr result IsDecodeError }
@@ -55,10 +145,14 @@ fn conclude(pages: Vec<PageState>, least: u64, cut: (u64, Option<LogOffset>)) ->
     if !are_whole(&pages) {
         return Err(Error::Corruption { at: None });
     }
-    Ok(Snapshot {
+    let snapshot = Snapshot {
         stable_lsn: Some(cut.0 as i64),
         active_segment: cut.1,
         pt: pages,
+    };
+    Ok(Recovery {
+        snapshot,
+        is_read: true,
     })
 }
 

@@ -1,13 +1,12 @@
-use Rattle.std.proofs.Common.{◌≡◌, ◌∙◌, ◌+◌, ◌≤◌, ◌<◌, ◌⊎◌, ℕ, List, map, true, false, Result, Ok, Err, IfOk, ap, sym, subst, arith, rules, inl, inr}
+use Rattle.std.proofs.Common.{◌≡◌, ◌∙◌, ◌+◌, ◌≤◌, ◌<◌, ◌⊎◌, ℕ, List, map, true, false, ap, subst, arith, inl, inr}
 use Rattle.std.specs.Option.{unwrap_or}
 use Rattle.std.specs.Prelude.{OnOk}
 use Rattle.sled_codec.specs.Errors.{IsCorruption}
-use Rattle.sled_codec.specs.Snapshots.{Shot, Page, shot_of, page_of}
+use Rattle.sled_codec.specs.Snapshots.{Shot, shot_of, page_of}
 use Rattle.std.proofs.Common.{Option, Some, pos}
 use Rattle.sled_core.specs.declared.met.Met.{Met}
-use Rattle.sled_log.specs.Recovery.{Applied, Recovered, Damaged, Scanned, stable_place, given, before_open, open_at, cut_of, concluded, outcome_of, scanned_of, has_no_table, are_whole, table_of}
+use Rattle.sled_log.specs.Recovery.{Applied, Scanned, stable_place, given, before_open, open_at, cut_of, scanned_of, has_no_table, are_whole, table_of}
 use Rattle.sled_log.proofs.RecoveryLemmas.{one_outcome, made_well, open_below, concluded_well, no_table_damaged, low_cut_damaged, not_whole_damaged}
-use Rattle.sled_log.proofs.snapshot.replay.Given as given
 use Rattle.sled_log.proofs.snapshot.replay.Goals as goal
 
 pub cut_of-requires-clause-at : goal.cut_of-requires-clause-at
