@@ -13,3 +13,4 @@ pub mod iobuf;
 pub mod logger;
 pub mod reservation;
 pub mod snapshot;
+mod snapshot_file;
