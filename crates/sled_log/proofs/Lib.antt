@@ -1,3 +1,5 @@
 mod TableLemmas
 mod RecoveryLemmas
 mod FindLemmas
+pub mod Numbers
+pub mod Trailers

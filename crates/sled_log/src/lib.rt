@@ -14,3 +14,4 @@ pub mod logger;
 pub mod reservation;
 pub mod snapshot;
 mod table;
+mod snapshot_file;
