@@ -6,7 +6,7 @@ use Rattle.std.proofs.lemmas.List.Elements.{All-more}
 use Rattle.std.proofs.lemmas.List.Folds.{length-flat_map-take}
 use Rattle.std.proofs.lemmas.Grind.{flat_map-append}
 use Rattle.sled_codec.specs.Spelling.{SpellsEach}
-use Rattle.sled_codec.specs.EachLaws.{spells_more, same_tails}
+use Rattle.sled_codec.specs.EachLaws.{NoneEmpty, spells_more, same_tails}
 use Rattle.sled_codec.specs.PairLaws.{NoFront}
 use Rattle.sled_codec.proofs.HeaderFronts.{Takes}
 
@@ -44,6 +44,11 @@ module _ {X V : Type 0} (meaning : X → V) (short : V → List ℕ) (xs : List 
 -- At the end of the loop these are all the values.
 pub at_end : {X V : Type 0} (meaning : X → V) (xs : List X) (i : ℕ) → length xs ≤ i → take i (map meaning xs) ≡ map meaning xs
 at_end meaning xs i past = take_all i (map meaning xs) (omega (arith, past, length-map xs meaning))
+
+-- a value that is taken takes a byte at least, where none is spelled by no bytes
+pub shorter : {V : Type 0} (Spells : List ℕ → V → Type 0) → NoneEmpty Spells → (left rest : List ℕ) (v : V) → Takes Spells left v rest → length rest < length left
+shorter Spells some left rest v ([], spelled, taken) = absurd (some v spelled)
+shorter Spells some left rest v (x ∷ f, spelled, taken) = omega (arith, ap length taken, length-append f rest)
 
 -- Values were taken off a text, and no further one stands at the front of what is left.
 module _ {V : Type 0} (Spells : List ℕ → V → Type 0) (no_front : NoFront Spells) where

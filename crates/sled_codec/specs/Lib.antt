@@ -5,6 +5,8 @@ pub mod Errors
 pub mod HeaderLaws
 pub mod History
 pub mod Kinds
+pub mod MetaLaws
+pub mod Metas
 pub mod OptionLaws
 pub mod PairLaws
 pub mod Places

@@ -5,7 +5,7 @@ ghost use Rattle.sled_codec.specs.Pointers.{lid_of};
 ghost use Rattle.sled_codec.specs.Errors.{variant_of, lid_in, blob_in, text_of, fault_of, place_of};
 
 use std::alloc::{AllocError, AllocFailed};
-use std::io;
+use std::{fmt, io};
 use thiserror::Error;
 
 /// An offset in the log file, in bytes.
@@ -44,6 +44,21 @@ impl DiskPtr {
         match *self {
             DiskPtr::Inline(lid) => lid,
             DiskPtr::Blob(lid, _) => lid,
+        }
+    }
+}
+
+/// The offset, and behind a colon the place of the blob if there is one: `20`, or `20:7`.
+impl fmt::Display for DiskPtr {
+    ghost use Rattle.std.specs.Prelude.{Some};
+    ghost use Rattle.sled_codec.specs.Pointers.{pointer_text};
+
+    ghost output = { λ pointer. Some (pointer_text pointer) };
+
+    fn fmt<W: fmt::Write>(&self, f: &mut fmt::Formatter<W>) -> fmt::Result {
+        match *self {
+            DiskPtr::Inline(lid) => write!(f, "{lid}"),
+            DiskPtr::Blob(lid, place) => write!(f, "{lid}:{place}"),
         }
     }
 }

@@ -12,6 +12,7 @@ pub mod checksum;
 mod each;
 pub mod laws;
 pub mod message;
+pub mod meta;
 pub mod number;
 pub mod option;
 pub mod pointer;
@@ -22,6 +23,7 @@ pub mod tuple;
 
 pub use checksum::{Checksum, PlaceSum};
 pub use message::{BatchManifest, LogKind, MessageHeader, MessageKind, SegmentNumber};
+pub use meta::Meta;
 pub use segment::SegmentHeader;
 pub use snapshot::{PageState, Snapshot};
 

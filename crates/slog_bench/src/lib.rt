@@ -10,6 +10,8 @@ mod conversions;
 #[cfg(test)]
 mod crashes;
 #[cfg(test)]
+mod cuts;
+#[cfg(test)]
 mod device;
 #[cfg(test)]
 mod device_faults;
@@ -22,10 +24,14 @@ mod headers;
 #[cfg(test)]
 mod log;
 #[cfg(test)]
+mod metas;
+#[cfg(test)]
 mod numbers;
 #[cfg(test)]
 mod parts;
 #[cfg(test)]
 mod records;
+#[cfg(test)]
+mod snapshots;
 #[cfg(test)]
 mod support;

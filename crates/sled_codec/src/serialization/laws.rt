@@ -2,6 +2,7 @@
 ghost use Rattle.std.specs.Prelude.{◌≡◌, ◌≢◌, ◌^◌, ◌<◌, ℕ, List, ◌++◌, length};
 ghost use Rattle.sled_codec.specs.declared.serialization.message.MessageKind.{MessageKind};
 ghost use Rattle.sled_codec.specs.declared.serialization.message.MessageKind.TheVariants.{Corrupted};
+ghost use Rattle.sled_codec.specs.Metas.{Numbers, SpellsMeta, FitsMeta, short_meta};
 ghost use Rattle.sled_codec.specs.Record.{IsRecord, short_record};
 ghost use Rattle.sled_codec.specs.Snapshots.{Shot, SpellsSnapshot, FitsSnapshot, short_snapshot};
 
@@ -18,6 +19,12 @@ pub fn read_again<T: Delimited>()
 pub fn snapshot_again()
     ensures one { (text : List ℕ) (s w : Shot) → SpellsSnapshot text s → SpellsSnapshot text w → w ≡ s }
     ensures again { (s w : Shot) → FitsSnapshot s → SpellsSnapshot (short_snapshot s) w → w ≡ s }
+{}
+
+/// What was written for a meta is read as that meta and no other, and a text is one meta at most.
+pub fn meta_again()
+    ensures one { (text : List ℕ) (m n : Numbers) → SpellsMeta text m → SpellsMeta text n → n ≡ m }
+    ensures again { (m n : Numbers) → FitsMeta m → SpellsMeta (short_meta m) n → n ≡ m }
 {}
 
 /// The record that is written for a message is a record of it.
