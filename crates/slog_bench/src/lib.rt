@@ -22,6 +22,8 @@ mod headers;
 #[cfg(test)]
 mod log;
 #[cfg(test)]
+mod names;
+#[cfg(test)]
 mod numbers;
 #[cfg(test)]
 mod parts;
