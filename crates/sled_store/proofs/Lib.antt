@@ -1,6 +1,6 @@
 mod CrashLemmas
 mod CrashLogLemmas
-mod CrashNamesLemmas
+mod KeepsLemmas
 mod KeptLemmas
 pub mod LeavesLemmas
 pub mod LogLemmas

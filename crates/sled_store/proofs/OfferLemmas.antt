@@ -1,18 +1,20 @@
 -- Offered files may be left exactly where each name that was made or offered may have what is offered.
-use Rattle.std.proofs.Common.{◌≡◌, ◌⊎◌, ◌≤◌, ◌<◌, ◌+◌, ◌-◌, ◌||◌, ◌&&◌, ◌↔◌, ℕ, ℤ, Bool, true, false, if◌then◌else◌, is_some, int_lt, List, [], ◌∷◌, ◌++◌, length, take, drop, get_or, Option, Some, None, IsSome, IsTrue, Vec, MatchBool, refl, sym, ◌∙◌, ap, subst, arith, inl, inr, length-drop}
-use Rattle.std.specs.Ordering.{int_eq}
+use Rattle.std.proofs.Common.{◌≡◌, ◌⊎◌, ◌≤◌, ◌<◌, ◌+◌, ◌-◌, ◌||◌, ◌&&◌, ◌↔◌, ℕ, ℤ, Bool, true, false, if◌then◌else◌, cond, is_some, int_lt, List, [], ◌∷◌, ◌++◌, length, take, drop, get_or, Option, Some, None, IsSome, IsTrue, Vec, MatchBool, refl, sym, ◌∙◌, ap, subst, arith, inl, inr, length-drop}
+use Rattle.std.specs.Ordering.{int_eq, int_cmp}
+use Rattle.std.specs.Map.{lookup}
+use Rattle.std.specs.BTreeMap.{get, is_at}
 use Rattle.std.specs.declared.alloc.Global.{Global}
 use Rattle.std.proofs.lemmas.Bool.Decides.{Decides-int_eq}
 use Rattle.std.proofs.lemmas.Slice.Eq.{bytes_eq-Decides}
 use Rattle.std.proofs.lemmas.List.{drop_more, take_more}
-use Rattle.sled_store.specs.declared.device.mem_names.Kept.{Kept}
+use Rattle.sled_store.specs.declared.device.kept.Kept.{Kept}
 use Rattle.sled_store.specs.declared.device.mem_names.MemNames.{MemNames}
 use Rattle.sled_store.specs.Device.{NameState, NamesState, LeavesFile, LeavesOneOf, LeavesName, file_named}
 use Rattle.sled_store.specs.Noted.{files_of}
 use Rattle.sled_store.specs.Chosen.{are_ascending}
-use Rattle.sled_store.specs.MemoryNames.{absent, history, has_name, leaves_file, leaves_any, Keeps}
-use Rattle.sled_store.proofs.KeptLemmas.{history-none}
-use Rattle.sled_store.proofs.LooseLemmas.{or-true, or-false}
+use Rattle.sled_store.specs.MemoryNames.{absent, states_of, files_found, files_under, leaves_file, leaves_any, Keeps}
+use Rattle.sled_store.proofs.KeepsLemmas.{at_same}
+use Rattle.sled_store.proofs.LooseLemmas.{or-true}
 
 abbrev pub Files : Type 0
 Files = List (ℤ × Vec ℕ Global)
@@ -40,18 +42,6 @@ ascending_end xs i some past = one_left (drop (i - 1) xs) (omega (arith, length-
     one_left (y ∷ (z ∷ ys)) short = absurd (omega arith)
 
 -- Names.
-
-has_name-push : (xs : List Kept) (e : Kept) (n : ℤ) → has_name (xs ++ e ∷ []) n ≡ true → (has_name xs n ≡ true) ⊎ (e.name ≡ n)
-has_name-push [] e n has = inr ((Decides-int_eq e.name n).0 (sym (or-false (int_eq e.name n)) ∙ has))
-has_name-push (x ∷ xs) e n has = one (int_eq x.name n) (has_name (xs ++ e ∷ []) n) (has_name xs n) has (has_name-push xs e n)
-  where
-    one : {A : Type 0} (here more was : Bool) → here || more ≡ true → (more ≡ true → (was ≡ true) ⊎ A) → (here || was ≡ true) ⊎ A
-    one true more was either on = inl refl
-    one false more was either on = on either
-
-pub has_name-take : (xs : List Kept) (i : ℕ) (e : Kept) (n : ℤ) → i < length xs → e ≡ get_or xs i e → has_name (take (i + 1) xs) n ≡ true → (has_name (take i xs) n ≡ true) ⊎ (e.name ≡ n)
-has_name-take xs i e n low read has =
-    has_name-push (take i xs) e n (sym (ap (λ (ys : List Kept). has_name ys n) (take_more xs i e low ∙ ap (λ (x : Kept). take i xs ++ x ∷ []) (sym read))) ∙ has)
 
 named-push : (xs : Files) (f : ℤ × Vec ℕ Global) (n : ℤ) → is_some (file_named (files_of (xs ++ f ∷ [])) n) ≡ true → (is_some (file_named (files_of xs) n) ≡ true) ⊎ (f.0 ≡ n)
 named-push [] f n has = one (int_eq f.0 n) refl has
@@ -101,7 +91,7 @@ any_left (s ∷ states) left =
     join a b (inr y) f g = ap (λ (c : Bool). a || c) (g y) ∙ or-true a
 
 abbrev tested : MemNames → ℤ → Option (List ℕ) → Bool
-tested names n left = leaves_any (history n (absent ∷ []) names.kept.items) left
+tested names n left = leaves_any (states_of (files_under names.kept n)) left
 
 pub name_left : (names : MemNames) (s : NamesState) (n : ℤ) (left : Option (List ℕ)) → Keeps names s → (tested names n left ≡ true → LeavesName s n left) × (LeavesName s n left → tested names n left ≡ true)
 name_left names s n left keeps =
@@ -119,28 +109,25 @@ name_left names s n left keeps =
     gather (inr (inr c)) = absurd (subst (λ (h : List NameState). LeavesOneOf h left) (keeps.whole n) c)
 
 -- a name that was neither made nor offered
-untouched : (names : MemNames) (files : Files) (n : ℤ) → has_name names.kept.items n ≡ false → file_named (files_of files) n ≡ None → tested names n (file_named (files_of files) n) ≡ true
+untouched : (names : MemNames) (files : Files) (n : ℤ) → get int_cmp names.kept n ≡ None → file_named (files_of files) n ≡ None → tested names n (file_named (files_of files) n) ≡ true
 untouched names files n none missing =
-    ap (λ (h : List NameState). leaves_any h (file_named (files_of files) n)) (history-none n (absent ∷ []) names.kept.items none)
+    ap (λ (o : Option (Vec Kept Global)). leaves_any (states_of (files_found o)) (file_named (files_of files) n)) none
     ∙ ap (λ (o : Option (List ℕ)). leaves_any (absent ∷ []) o) missing
 
 -- all names were tested
-pub all_tested : (names : MemNames) (files : Files)
+all_tested : (names : MemNames) (files : Files)
     → ((n : ℤ) → IsSome (file_named (files_of files) n) → IsTrue (tested names n (file_named (files_of files) n)))
-    → ((n : ℤ) → IsTrue (has_name names.kept.items n) → IsTrue (tested names n (file_named (files_of files) n)))
+    → ((n : ℤ) → IsSome (get int_cmp names.kept n) → IsTrue (tested names n (file_named (files_of files) n)))
     → (n : ℤ) → tested names n (file_named (files_of files) n) ≡ true
-all_tested names files by_file by_name n = by_made (has_name names.kept.items n) refl
+all_tested names files by_file by_name n = by_made (get int_cmp names.kept n) refl
   where
-    by_offer : has_name names.kept.items n ≡ false → (o : Option (List ℕ)) → file_named (files_of files) n ≡ o → tested names n (file_named (files_of files) n) ≡ true
+    by_offer : get int_cmp names.kept n ≡ None → (o : Option (List ℕ)) → file_named (files_of files) n ≡ o → tested names n (file_named (files_of files) n) ≡ true
     by_offer none None is = untouched names files n none is
     by_offer none (Some x) is = by_file n (ap is_some is)
 
-    by_made : (b : Bool) → has_name names.kept.items n ≡ b → tested names n (file_named (files_of files) n) ≡ true
-    by_made true is = by_name n is
-    by_made false is = by_offer is (file_named (files_of files) n) refl
-
-pub may_leave-yes : (names : MemNames) (s : NamesState) (files : Files) → Keeps names s → ((n : ℤ) → tested names n (file_named (files_of files) n) ≡ true) → (n : ℤ) → LeavesName s n (file_named (files_of files) n)
-may_leave-yes names s files keeps all n = (name_left names s n (file_named (files_of files) n) keeps).0 (all n)
+    by_made : (o : Option (Vec Kept Global)) → get int_cmp names.kept n ≡ o → tested names n (file_named (files_of files) n) ≡ true
+    by_made (Some kept) is = by_name n (ap is_some is)
+    by_made None is = by_offer is (file_named (files_of files) n) refl
 
 pub may_leave-no : (names : MemNames) (s : NamesState) (files : Files) → Keeps names s → (n : ℤ) × (tested names n (file_named (files_of files) n) ≡ false) → ((n : ℤ) → LeavesName s n (file_named (files_of files) n)) → ⊥
 may_leave-no names s files keeps broken all = differ ((name_left names s broken.0 (file_named (files_of files) broken.0) keeps).1 (all broken.0)) broken.1
@@ -150,30 +137,38 @@ may_leave-no names s files keeps broken all = differ ((name_left names s broken.
 
 pub may_leave-iff : (names : MemNames) (s : NamesState) (files : Files) (result : Bool) → Keeps names s
     → ((n : ℤ) → IsSome (file_named (files_of files) n) → IsTrue (tested names n (file_named (files_of files) n)))
-    → MatchBool result ((n : ℤ) → IsTrue (has_name names.kept.items n) → IsTrue (tested names n (file_named (files_of files) n))) ((n : ℤ) × (tested names n (file_named (files_of files) n) ≡ false))
+    → MatchBool result ((n : ℤ) → IsSome (get int_cmp names.kept n) → IsTrue (tested names n (file_named (files_of files) n))) ((n : ℤ) × (tested names n (file_named (files_of files) n) ≡ false))
     → IsTrue result ↔ ((n : ℤ) → LeavesName s n (file_named (files_of files) n))
-may_leave-iff names s files true keeps by_file by_name = (λ _. may_leave-yes names s files keeps (all_tested names files by_file by_name), λ _. refl)
+may_leave-iff names s files true keeps by_file by_name =
+    (λ _. λ n. (name_left names s n (file_named (files_of files) n) keeps).0 (all_tested names files by_file by_name n), λ _. refl)
 may_leave-iff names s files false keeps by_file broken = (λ h. absurd (cc), λ all. absurd (may_leave-no names s files keeps broken all))
 
+-- one more name of the map was tested: what is still to come of its entries has one name less
+pub one_more_tested : (P : ℤ → Type 0) (n : ℤ) (e : ℤ × Vec Kept Global) (es : List (ℤ × Vec Kept Global)) → P e.0 → is_some (lookup (is_at (int_cmp n)) (e ∷ es)) ≡ true → (is_some (lookup (is_at (int_cmp n)) es) ≡ true) ⊎ P n
+one_more_tested P n e es here some = by (is_at (int_cmp n) e.0) refl some
+  where
+    by : (b : Bool) → is_at (int_cmp n) e.0 ≡ b → is_some (cond b (Some e.1) (lookup (is_at (int_cmp n)) es)) ≡ true → (is_some (lookup (is_at (int_cmp n)) es) ≡ true) ⊎ P n
+    by true is some = inr (subst P (sym (at_same n e.0 is)) here)
+    by false is some = inl some
+
 -- what a crash may leave under a name was made under it
-pub offered_made : (names : MemNames) (s : NamesState) (files : Files) → Keeps names s → ((n : ℤ) → LeavesName s n (file_named (files_of files) n)) → (n : ℤ) → IsSome (file_named (files_of files) n) → IsTrue (has_name names.kept.items n)
-offered_made names s files keeps all n some = by_made (has_name names.kept.items n) refl
+pub offered_made : (names : MemNames) (s : NamesState) (files : Files) → Keeps names s → ((n : ℤ) → LeavesName s n (file_named (files_of files) n)) → (n : ℤ) → IsSome (file_named (files_of files) n) → 0 < length (files_under names.kept n)
+offered_made names s files keeps all n some = by (files_under names.kept n) refl
   where
     passed : tested names n (file_named (files_of files) n) ≡ true
     passed = (name_left names s n (file_named (files_of files) n) keeps).1 (all n)
 
-    none_made : has_name names.kept.items n ≡ false → (o : Option (List ℕ)) → file_named (files_of files) n ≡ o → has_name names.kept.items n ≡ true
-    none_made none None is = absurd (clash some (ap is_some is))
+    none_made : files_under names.kept n ≡ [] → (o : Option (List ℕ)) → file_named (files_of files) n ≡ o → ⊥
+    none_made none None is = clash some (ap is_some is)
       where
         clash : {b : Bool} → b ≡ true → b ≡ false → ⊥
         clash is not_is = cc
     none_made none (Some x) is =
-        absurd (clash (sym (ap (λ (h : List NameState). leaves_any h (file_named (files_of files) n)) (history-none n (absent ∷ []) names.kept.items none)
-        ∙ ap (λ (o : Option (List ℕ)). leaves_any (absent ∷ []) o) is) ∙ passed))
+        clash (sym (ap (λ (xs : List Kept). leaves_any (states_of xs) (file_named (files_of files) n)) none ∙ ap (λ (o : Option (List ℕ)). leaves_any (absent ∷ []) o) is) ∙ passed)
       where
         clash : false ≡ true → ⊥
         clash is = cc
 
-    by_made : (b : Bool) → has_name names.kept.items n ≡ b → has_name names.kept.items n ≡ true
-    by_made true is = is
-    by_made false is = none_made is (file_named (files_of files) n) refl
+    by : (xs : List Kept) → files_under names.kept n ≡ xs → 0 < length xs
+    by [] is = absurd (none_made is (file_named (files_of files) n) refl)
+    by (x ∷ xs) is = omega arith

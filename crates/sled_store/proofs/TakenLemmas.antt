@@ -1,23 +1,14 @@
 -- Offered files that are put where their names were kept are what stands under names, and nothing else does.
-use Rattle.std.proofs.Common.{◌≡◌, ◌<◌, ◌||◌, ℕ, ℤ, zero, suc, Bool, true, false, if◌then◌else◌, is_some, List, [], ◌∷◌, ◌++◌, length, get_or, set, Option, Some, None, IsSome, IsTrue, Vec, refl, sym, ◌∙◌, ap, subst, arith}
+use Rattle.std.proofs.Common.{◌≡◌, ◌<◌, ℕ, ℤ, Bool, true, false, if◌then◌else◌, is_some, List, [], ◌∷◌, ◌++◌, length, get_or, Option, Some, None, IsSome, Vec, refl, sym, ◌∙◌, ap, subst, arith}
 use Rattle.std.specs.Ordering.{int_eq}
 use Rattle.std.specs.declared.alloc.Global.{Global}
 use Rattle.std.proofs.lemmas.Bool.Decides.{Decides-int_eq}
-use Rattle.sled_store.specs.declared.device.mem_names.Kept.{Kept}
-use Rattle.sled_store.specs.declared.device.mem_names.MemNames.{MemNames}
+use Rattle.sled_store.specs.declared.device.kept.Kept.{Kept}
 use Rattle.sled_store.specs.Device.{file_named}
 use Rattle.sled_store.specs.Noted.{files_of}
-use Rattle.sled_store.specs.MemoryNames.{absent, history, has_name, kept_among}
+use Rattle.sled_store.specs.MemoryNames.{states_of, firm, files_under}
+use Rattle.sled_store.proofs.KeepsLemmas.{KeptMap}
 use Rattle.sled_store.proofs.OfferLemmas.{Files}
-
-differ : {b : Bool} → b ≡ true → b ≡ false → ⊥
-differ is not_is = cc
-
--- A file in place of another of its name leaves the names.
-pub has_name-set : (xs : List Kept) (k : ℕ) (y : Kept) (n : ℤ) → k < length xs → (get_or xs k y).name ≡ y.name → has_name (set xs k y) n ≡ has_name xs n
-has_name-set [] k y n low named = absurd (omega arith)
-has_name-set (x ∷ xs) zero y n low named = ap (λ (m : ℤ). int_eq m n || has_name xs n) (sym named)
-has_name-set (x ∷ xs) (suc k) y n low named = ap (λ (b : Bool). int_eq x.name n || b) (has_name-set xs k y n (omega arith) named)
 
 -- One more offered file, at the end.
 
@@ -52,41 +43,18 @@ pub found_some : (xs : Files) (i : ℕ) (o : Option (List ℕ)) → i < length x
 found_some [] i o low found = absurd (omega arith)
 found_some (x ∷ xs) i o low found = ap is_some (found x)
 
--- Files of other names are dropped.
-
-pub among-none : (files : List (ℤ × List ℕ)) (xs : List Kept) (n : ℤ) → file_named files n ≡ None → has_name (kept_among files xs) n ≡ false
-among-none files [] n none = refl
-among-none files (x ∷ xs) n none = one (is_some (file_named files x.name)) (int_eq x.name n) refl refl (among-none files xs n none)
-  where
-    one : (stays here : Bool) → is_some (file_named files x.name) ≡ stays → int_eq x.name n ≡ here → has_name (kept_among files xs) n ≡ false → has_name (if stays then x ∷ kept_among files xs else kept_among files xs) n ≡ false
-    one false here is_stays is_here rest = rest
-    one true false is_stays is_here rest = ap (λ (b : Bool). b || has_name (kept_among files xs) n) is_here ∙ rest
-    one true true is_stays is_here rest = absurd (differ is_stays (ap (λ (m : ℤ). is_some (file_named files m)) ((Decides-int_eq x.name n).0 is_here) ∙ ap is_some none))
-
-pub among-has : (files : List (ℤ × List ℕ)) (xs : List Kept) (n : ℤ) → is_some (file_named files n) ≡ true → has_name xs n ≡ true → has_name (kept_among files xs) n ≡ true
-among-has files [] n some has = absurd (cc)
-among-has files (x ∷ xs) n some has = one (is_some (file_named files x.name)) (int_eq x.name n) refl refl has (among-has files xs n some)
-  where
-    one : (stays here : Bool) → is_some (file_named files x.name) ≡ stays → int_eq x.name n ≡ here → here || has_name xs n ≡ true → (has_name xs n ≡ true → has_name (kept_among files xs) n ≡ true)
-        → has_name (if stays then x ∷ kept_among files xs else kept_among files xs) n ≡ true
-    one true true is_stays is_here more rest = ap (λ (b : Bool). b || has_name (kept_among files xs) n) is_here
-    one true false is_stays is_here more rest = ap (λ (b : Bool). b || has_name (kept_among files xs) n) is_here ∙ rest more
-    one false false is_stays is_here more rest = rest more
-    one false true is_stays is_here more rest = absurd (differ (ap (λ (m : ℤ). is_some (file_named files m)) ((Decides-int_eq x.name n).0 is_here) ∙ some) is_stays)
-
--- All offered files but these are put, and these are still kept under their names.
-pub record Put (names : MemNames) (left : Files) (file : ℤ → Option (List ℕ)) : Type 0 where
-  pub made : (n : ℤ) → IsSome (file_named (files_of left) n) → IsTrue (has_name names.kept.items n)
+-- All offered files but these are put, and something is still kept under the names of these.
+pub record Put (kept : KeptMap) (left : Files) (file : ℤ → Option (List ℕ)) : Type 0 where
+  pub made : (n : ℤ) → IsSome (file_named (files_of left) n) → 0 < length (files_under kept n)
   pub same : (n : ℤ) → IsSome (file_named (files_of left) n) → file_named (files_of left) n ≡ file n
-  pub done : (n : ℤ) → file_named (files_of left) n ≡ None → history n (absent ∷ []) names.kept.items ≡ record { file = file n; is_loose = false } ∷ []
+  pub done : (n : ℤ) → file_named (files_of left) n ≡ None → states_of (files_under kept n) ≡ firm (file n) ∷ []
 
-pub put_more : (names new : MemNames) (all left : Files) (f : ℤ × Vec ℕ Global) (file : ℤ → Option (List ℕ)) → all ≡ left ++ f ∷ []
-    → history f.0 (absent ∷ []) new.kept.items ≡ record { file = Some f.1.items; is_loose = false } ∷ []
-    → ((n : ℤ) → int_eq f.0 n ≡ false → history n (absent ∷ []) new.kept.items ≡ history n (absent ∷ []) names.kept.items)
-    → ((n : ℤ) → has_name new.kept.items n ≡ has_name names.kept.items n)
-    → Put names all file → Put new left file
-put_more names new all left f file popped here others kept_names put = record {
-  made = λ n some. kept_names n ∙ put.made n (ap is_some (before n some) ∙ some);
+pub put_more : (kept new : KeptMap) (all left : Files) (f : ℤ × Vec ℕ Global) (file : ℤ → Option (List ℕ)) → all ≡ left ++ f ∷ []
+    → states_of (files_under new f.0) ≡ firm (Some f.1.items) ∷ [] → 0 < length (files_under new f.0)
+    → ((n : ℤ) → int_eq f.0 n ≡ false → files_under new n ≡ files_under kept n)
+    → Put kept all file → Put new left file
+put_more kept new all left f file popped here made others put = record {
+  made = λ n some. still n some (int_eq f.0 n) refl;
   same = λ n some. sym (before n some) ∙ put.same n (ap is_some (before n some) ∙ some);
   done = λ n none. by_name n none (int_eq f.0 n) refl;
 }
@@ -97,9 +65,13 @@ put_more names new all left f file popped here others kept_names put = record {
     now : (n : ℤ) (b : Bool) → int_eq f.0 n ≡ b → file_named (files_of left) n ≡ None → file_named (files_of all) n ≡ (if b then Some f.1.items else None)
     now n b is none = ap (λ (xs : Files). file_named (files_of xs) n) popped ∙ named-rest left f n none ∙ ap (λ (c : Bool). if c then Some f.1.items else None) is
 
-    by_name : (n : ℤ) → file_named (files_of left) n ≡ None → (b : Bool) → int_eq f.0 n ≡ b → history n (absent ∷ []) new.kept.items ≡ record { file = file n; is_loose = false } ∷ []
+    still : (n : ℤ) → is_some (file_named (files_of left) n) ≡ true → (b : Bool) → int_eq f.0 n ≡ b → 0 < length (files_under new n)
+    still n some true is = subst (λ (m : ℤ). 0 < length (files_under new m)) ((Decides-int_eq f.0 n).0 is) made
+    still n some false is = subst (λ (xs : List Kept). 0 < length xs) (sym (others n is)) (put.made n (ap is_some (before n some) ∙ some))
+
+    by_name : (n : ℤ) → file_named (files_of left) n ≡ None → (b : Bool) → int_eq f.0 n ≡ b → states_of (files_under new n) ≡ firm (file n) ∷ []
     by_name n none true is =
         let found = now n true is none in
-        subst (λ (m : ℤ). history m (absent ∷ []) new.kept.items ≡ record { file = Some f.1.items; is_loose = false } ∷ []) ((Decides-int_eq f.0 n).0 is) here
-        ∙ ap (λ (o : Option (List ℕ)). record { file = o; is_loose = false } ∷ []) (sym found ∙ put.same n (ap is_some found))
-    by_name n none false is = others n is ∙ put.done n (now n false is none)
+        subst (λ (m : ℤ). states_of (files_under new m) ≡ firm (Some f.1.items) ∷ []) ((Decides-int_eq f.0 n).0 is) here
+        ∙ ap (λ (o : Option (List ℕ)). firm o ∷ []) (sym found ∙ put.same n (ap is_some found))
+    by_name n none false is = ap states_of (others n is) ∙ put.done n (now n false is none)

@@ -12,6 +12,7 @@ mod crash_log;
 mod crash_memory;
 mod crash_names;
 mod faults;
+mod kept;
 pub mod laws;
 mod mem_log;
 mod mem_names;

@@ -26,6 +26,8 @@ mod log;
 #[cfg(test)]
 mod metas;
 #[cfg(test)]
+mod names;
+#[cfg(test)]
 mod numbers;
 #[cfg(test)]
 mod parts;

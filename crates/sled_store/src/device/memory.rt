@@ -2,8 +2,8 @@
 //!
 //! What is read, and what a crash may leave, is kept as data; what was asked so far stands in proofs
 //! alone. A ghost field ties the two, so that each answer is that of the trace.
-ghost use Rattle.std.specs.Prelude.{◌≡◌, ◌<◌, []};
-ghost use Rattle.sled_store.specs.Device.{state_of};
+ghost use Rattle.std.specs.Prelude.{◌≡◌, ◌<◌, ◌+◌, ◌/◌, ◌^◌, ◌⊎◌, [], ◌∷◌, length, take};
+ghost use Rattle.sled_store.specs.Device.{state_of, Wrote};
 ghost use Rattle.sled_store.specs.Memory.{Stands};
 ghost use Rattle.sled_store.specs.MemoryNames.{Keeps};
 
@@ -53,8 +53,9 @@ impl MemDevice {
     }
 
     /// The `n`-th call from now fails, and no other that an earlier `fail_at` named. Reads count too. A
-    /// write that fails so has written the first half of its bytes, rounded down; any other call has
-    /// changed nothing. The error is of kind `Other`.
+    /// write that fails so has written the first half of its bytes, rounded down, or nothing where there is
+    /// no memory for that; any other call has changed nothing. The error is of kind `Other`, and is counted,
+    /// also where memory would be refused.
     pub fn fail_at(&mut self, n: u64)
         requires { 0 < n }
         ensures trace { ⟦<MemDevice as Device>⟧.trace self.new ≡ ⟦<MemDevice as Device>⟧.trace self.old }
@@ -62,6 +63,23 @@ impl MemDevice {
         ensures fails_in { fails_in self.new ≡ n }
     {
         self.faults.fails_in = n;
+    }
+
+    // What a write that fails does: the first half of its bytes is written, or nothing where there is no
+    // memory for that.
+    fn write_half(&mut self, at: u64, bytes: &[u8])
+        requires { at + length bytes.now < 2 ^ 63 }
+        ensures left { (self.new.story.events ≡ self.old.story.events) ⊎ (self.new.story.events ≡ Wrote at bytes.now (take (length bytes.now / 2) bytes.now) ∷ self.old.story.events) }
+        ensures faults { self.new.faults ≡ self.old.faults }
+    {
+        let half = bytes.len() / 2;
+        if self.log.write(at as usize, bytes, half).is_ok() {
+            self.story = self.story.then(&Note::Wrote {
+                at,
+                asked: bytes,
+                now: &bytes[..half],
+            });
+        }
     }
 }
 
@@ -88,13 +106,7 @@ impl Device for MemDevice {
             return Err(self.faults.fail());
         }
         if self.faults.is_due() {
-            let half = bytes.len() / 2;
-            self.log.write(at as usize, bytes, half)?;
-            self.story = self.story.then(&Note::Wrote {
-                at,
-                asked: bytes,
-                now: &bytes[..half],
-            });
+            self.write_half(at, bytes);
             return Err(self.faults.fail());
         }
         self.log.write(at as usize, bytes, bytes.len())?;
@@ -130,7 +142,7 @@ impl Device for MemDevice {
             return Err(io::Error::new(io::ErrorKind::AlreadyExists, "a blob is at that place"));
         }
         let copy = bytes.to_vec(self.alloc)?;
-        self.blobs.make(place, copy, true)?;
+        self.blobs.make(self.alloc, place, copy, true)?;
         self.story = self.story.then(&Note::BlobMade {
             place,
             asked: bytes,
@@ -181,7 +193,7 @@ impl Device for MemDevice {
     fn snapshot_publish(&mut self, number: i64) -> io::Result<()> {
         self.faults.begin()?;
         let copy = self.temporary.to_vec(self.alloc)?;
-        self.snapshots.make(number, copy, false)?;
+        self.snapshots.make(self.alloc, number, copy, false)?;
         self.story = self
             .story
             .then(&Note::SnapshotPublished { number, done: true });

@@ -1,17 +1,12 @@
--- Once each file was gone back to or lost, what is left is what was settled.
-use Rattle.std.proofs.Common.{◌≤◌, ◌∙◌, sym, ap, List, [], ◌∷◌, length, drop, arith}
-use Rattle.std.proofs.lemmas.List.{take_all, drop_all}
-use Rattle.sled_store.specs.declared.device.mem_names.Kept.{Kept}
-use Rattle.sled_store.specs.MemoryNames.{absent, history, lost_history}
-use Rattle.sled_store.proofs.CrashNamesLemmas.{keeps_lost}
+-- Of each name the file that was settled is left.
+use Rattle.std.proofs.Common.{List, [], ◌∷◌, refl, rules}
+use Rattle.sled_store.specs.Device.{NameState}
+use Rattle.sled_store.specs.MemoryNames.{firm, file_settled}
+use Rattle.sled_store.proofs.KeepsLemmas.{states-retained, keeps_lost}
 use Rattle.sled_store.proofs.device.mem_names.MemNames.lose.Goals as goal
 
 pub returns : goal.returns
 returns c = λ s keeps.
-    let xs : List Kept = c.loop-i.self.kept.items in
-    let i = c.loop-i.i in
-    let all : length xs ≤ i = omega arith in
-    keeps_lost c.args.self.now _ s (λ n.
-    sym (ap (λ (ys : List Kept). lost_history n (history n (absent ∷ []) ys) (drop i xs)) (take_all i xs all)
-    ∙ ap (lost_history n (history n (absent ∷ []) xs)) (drop_all i xs all))
-    ∙ c.loop-i.invariant.so_far n) keeps
+    let change : List NameState → List NameState = λ h. firm (file_settled h) ∷ [] in
+    keeps_lost c.args.self.now (record { kept = c.retain.new.self }) s
+    (states-retained _ change refl _ (λ k v b w g t. (search rules, search rules)) c.args.self.now.kept c.retain.new.self c.retain.ensures.was_ordered c.retain.ensures.filtered) keeps

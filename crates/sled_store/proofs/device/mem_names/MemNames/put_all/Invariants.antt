@@ -6,7 +6,7 @@ use Rattle.sled_store.proofs.TakenLemmas.{Put}
 use Rattle.sled_store.proofs.device.mem_names.MemNames.put_all.Given as goal
 
 abbrev pub invariant-loop-file : goal.invariant-loop-file
-invariant-loop-file l = Put l.self l.files.items (λ n. file_named (files_of l.fn.files.items) n)
+invariant-loop-file l = Put l.self.kept l.files.items (λ n. file_named (files_of l.fn.files.items) n)
 
 abbrev pub decreases-loop-file : goal.decreases-loop-file
 decreases-loop-file l = vec_len l.files

@@ -1,0 +1,48 @@
+//! The figures: of several runs the shortest, in nanoseconds a value.
+ghost use Rattle.std.specs.Prelude.{◌<◌};
+
+use std::io;
+use std::time::Duration;
+
+/// How many values are encoded and decoded in a run.
+pub const VALUES: usize = 100000;
+
+/// How many runs there are.
+pub const RUNS: u32 = 100;
+
+/// The shortest of some runs.
+#[derive(Drop)]
+pub struct Shortest {
+    nanos: u64,
+}
+
+impl Shortest {
+    /// Of none.
+    pub fn new() -> Shortest {
+        Shortest { nanos: u64::MAX }
+    }
+
+    /// Of one more.
+    pub fn add(&mut self, took: Duration) {
+        let nanos = u64::try_from(took.as_nanos()).unwrap_or(u64::MAX);
+        self.nanos = self.nanos.min(nanos);
+    }
+
+    /// Prints it as hundredths of a nanosecond, for each value of a run.
+    pub fn print(&self, rt: &HostRuntime, name: &str, what: &str) -> io::Result<()> {
+        let hundredths = u128::from(self.nanos) * 100 / VALUES as u128;
+        println!(rt;
+            "{name}, {what}: {}.{:02} ns",
+            hundredths / 100,
+            hundredths % 100
+        )
+    }
+}
+
+/// What was read is what was written, or the run counts for nothing.
+pub fn same_sum(read: Option<u64>, written: u64) -> io::Result<()> {
+    if read == Some(written) {
+        return Ok(());
+    }
+    Err(io::Error::other("what was read is not what was written"))
+}

@@ -1,0 +1,41 @@
+//! The program `codec_bench`: how long the codecs take for a value (`docs/BENCHMARKS.md`).
+//!
+//! Without an argument it prints one fixed line. With the argument `time` it measures, and prints a line
+//! for each figure.
+#![tactic(auto)]
+
+mod figure;
+mod headers;
+mod numbers;
+mod sequence;
+
+use sequence::Sequence;
+use std::{env, io};
+
+fn main(rt: HostRuntime) -> io::Result<()> {
+    if !is_asked(&rt)? {
+        println!(rt; "codec_bench: pass the argument time to measure")?;
+        return Ok(());
+    }
+    let mut sequence = Sequence::new();
+    let small = numbers::below_241(rt.alloc(), &mut sequence)?;
+    numbers::measure(&rt, "u64 below 241", &small)?;
+    let any = numbers::of_any_size(rt.alloc(), &mut sequence)?;
+    numbers::measure(&rt, "u64 of 0 to 63 bits", &any)?;
+    let sorted = numbers::sorted(rt.alloc(), &any)?;
+    numbers::measure(&rt, "u64 of 0 to 63 bits, ascending", &sorted)?;
+    let headers = headers::of_any_size(rt.alloc(), &mut sequence)?;
+    headers::measure(&rt, "header", &headers)?;
+    let alike = headers::of_one_size(rt.alloc(), &mut sequence)?;
+    headers::measure(&rt, "header of 14 bytes", &alike)
+}
+
+// Whether `time` is among the arguments.
+fn is_asked(rt: &HostRuntime) -> io::Result<bool> {
+    for arg in env::args(rt)? {
+        if arg.as_str() == "time" {
+            return Ok(true);
+        }
+    }
+    Ok(false)
+}
