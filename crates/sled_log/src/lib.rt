@@ -13,5 +13,5 @@ pub mod iobuf;
 pub mod logger;
 pub mod reservation;
 pub mod snapshot;
-mod table;
 mod snapshot_file;
+mod table;

@@ -9,6 +9,7 @@ ghost use Rattle.sled_core.specs.Reading.{file_of};
 ghost use Rattle.sled_core.specs.Scan.{read_of};
 ghost use Rattle.sled_log.specs.Recovery.{least_place, tail_begins, IsFoundSegment, IsMisplaced, IsOrdering, Recovered, Damaged, outcome_of, are_whole, scanned_of, stable_place, cut_of, ContinuesFrom, Recovers};
 
+use crate::snapshot_file::read_newest;
 use crate::table::{apply_all, are_whole};
 use sled_codec::result::{Error, LogOffset, Result};
 use sled_codec::serialization::{Checksum, PageState, Snapshot};
@@ -24,6 +25,26 @@ pub(crate) struct Recovery {
     pub(crate) snapshot: Snapshot,
     /// A segment was read.
     pub(crate) is_read: bool,
+}
+
+/// What recovery makes of what the device has, where the log file is no longer than a segment. It only
+/// reads. `Corruption` comes where the newest snapshot is damaged, where segments are found that can't be
+/// of one log, where a damaged record is met, where the table can't be one, and where the file is longer.
+pub(crate) fn recover<D: Device, C: Checksum>(config: &mut RunningConfig<D, C>) -> Result<Recovery>
+    ensures ok { IfOk result (λ x. Recovers C.sum_of config.old.config.segment_size (record { log = (state_of (D.trace config.old.device)).log.bytes; blobs = λ _. None }) (state_of (D.trace config.old.device)).snapshots.file (Recovered (shot_of x.snapshot))) }
+    ensures corrupt { IsCorruption result → (config.old.config.segment_size < length (state_of (D.trace config.old.device)).log.bytes) ⊎ Recovers C.sum_of config.old.config.segment_size (record { log = (state_of (D.trace config.old.device)).log.bytes; blobs = λ _. None }) (state_of (D.trace config.old.device)).snapshots.file Damaged }
+    ensures answers { DeviceAnswers result (D.faults config.old.device) (D.faults config.new.device) }
+    ensures trace { D.trace config.new.device ≡ D.trace config.old.device }
+    ensures config { config.new.config ≡ config.old.config }
+    ensures checksum { config.new.checksum ≡ config.old.checksum }
+{
+    if config.device.len()? > config.config.segment_size {
+        return Err(Error::Corruption { at: None });
+    }
+    match read_newest(config) {
+        Ok(first) => continue_from(config, first),
+        Err(e) => Err(e),
+    }
 }
 
 /// What recovery makes of the log file from a snapshot on, where that is no longer than a segment.
