@@ -2,4 +2,5 @@ mod TableLemmas
 mod RecoveryLemmas
 mod FindLemmas
 pub mod Numbers
+pub mod RemovalLemmas
 pub mod Trailers

@@ -3,13 +3,14 @@
 //!
 //! Recovery begins from the snapshot with the greatest number. A newer one is published before the
 //! others are removed, so that there is one at every moment.
-ghost use Rattle.std.specs.Prelude.{◌≡◌, ◌≢◌, ◌≤ℤ◌, ◌<◌, ◌+◌, ◌^◌, ◌∷◌, ◌++◌, ℕ, ℤ, List, length, IfOk, OnOk, IfErr, IsOkUnless, IfSome, IfNone, MatchOption, IsSome, Some, None, true, false};
+ghost use Rattle.std.specs.Prelude.{◌≡◌, ◌≢◌, ◌≤ℤ◌, ◌↔◌, ◌<◌, ◌+◌, ◌^◌, ◌∷◌, ◌++◌, ℕ, ℤ, List, length, IfOk, OnOk, IfErr, OnErr, IsOkUnless, IfSome, IfNone, MatchOption, IsSome, Some, None, Contains, true, false};
 ghost use Rattle.sled_codec.specs.Errors.{IsCorruption, IsDecodeError};
 ghost use Rattle.sled_codec.specs.Snapshots.{Shot, shot_of, FitsSnapshot, short_snapshot};
 ghost use Rattle.sled_codec.specs.Spelling.{low_bytes};
 ghost use Rattle.sled_store.specs.Device.{state_of, SnapshotFilled, SnapshotPublished, NamesSynced};
 ghost use Rattle.sled_core.specs.Causes.{DeviceAnswers};
 ghost use Rattle.sled_log.specs.Recovery.{IsSnapshotFile, is_sound, BeginsFrom, IsDamagedSnapshot};
+ghost use Rattle.sled_log.specs.Removals.{Removes, RemovesUpTo};
 
 use sled_codec::result::{Error, Result};
 use sled_codec::serialization::{Checksum, Serialize, Snapshot};
@@ -175,5 +176,50 @@ pub(crate) fn publish<D: Device>(device: &mut D, bytes: &[u8], number: i64) -> R
     device.snapshot_write(bytes)?;
     device.snapshot_publish(number)?;
     device.sync_names()?;
+    Ok(())
+}
+
+/// Removes all snapshots but the one of a number. After a failure some of them may be left.
+pub(crate) fn remove_others<D: Device>(device: &mut D, kept: i64) -> Result<()>
+    ensures done { OnOk result (Removes kept (D.trace device.old) (D.trace device.new)) }
+    ensures gone { OnOk result ((n : ℤ) → n ≢ kept → (state_of (D.trace device.new)).snapshots.file n ≡ None) }
+    ensures stays { (state_of (D.trace device.new)).snapshots.file kept ≡ (state_of (D.trace device.old)).snapshots.file kept }
+    ensures failed { OnErr result (RemovesUpTo kept (D.trace device.old) (D.trace device.new)) }
+    ensures answers { DeviceAnswers result (D.faults device.old) (D.faults device.new) }
+    ensures readable { IsCorruption result → ⊥ }
+{
+    let numbers = device.snapshots()?;
+    remove_listed(device, &numbers, kept)
+}
+
+/// Removes the snapshots of these numbers, which are all that there are, but for the one that is kept.
+fn remove_listed<D: Device>(device: &mut D, numbers: &[i64], kept: i64) -> Result<()>
+    requires { (n : ℤ) → IsSome ((state_of (D.trace device.old)).snapshots.file n) ↔ Contains numbers.now n }
+    ensures done { OnOk result (Removes kept (D.trace device.old) (D.trace device.new)) }
+    ensures gone { OnOk result ((n : ℤ) → n ≢ kept → (state_of (D.trace device.new)).snapshots.file n ≡ None) }
+    ensures stays { (state_of (D.trace device.new)).snapshots.file kept ≡ (state_of (D.trace device.old)).snapshots.file kept }
+    ensures failed { OnErr result (RemovesUpTo kept (D.trace device.old) (D.trace device.new)) }
+    ensures answers { DeviceAnswers result (D.faults device.old) (D.faults device.new) }
+    ensures readable { IsCorruption result → ⊥ }
+{
+    for number in numbers {
+        remove_other(device, number, kept)?;
+    }
+    Ok(())
+}
+
+/// Removes the snapshot of a number, unless that is the one that is kept.
+fn remove_other<D: Device>(device: &mut D, number: &i64, kept: i64) -> Result<()>
+    ensures done { OnOk result (Removes kept (D.trace device.old) (D.trace device.new)) }
+    ensures gone { OnOk result (number.now ≢ kept → (state_of (D.trace device.new)).snapshots.file number.now ≡ None) }
+    ensures failed { OnErr result (RemovesUpTo kept (D.trace device.old) (D.trace device.new)) }
+    ensures answers { DeviceAnswers result (D.faults device.old) (D.faults device.new) }
+    ensures readable { IsCorruption result → ⊥ }
+{
+    let number = *number;
+    if number == kept {
+        return Ok(());
+    }
+    device.snapshot_remove(number)?;
     Ok(())
 }
