@@ -1,18 +1,18 @@
 //! Recovery: what the device has, read into a table of pages (`specs/Recovery.antt`).
-ghost use Rattle.std.specs.Prelude.{◌↔◌, ◌≢◌, IsTrue, ◌≡◌, ◌⊎◌, ◌+◌, ◌-◌, ◌^◌, ◌*◌, ◌/◌, ◌%◌, ◌≤◌, ◌<◌, ℕ, map, pos, true, false, Some, [], ◌∷◌, length, None, IfOk, IfErr, OnOk};
+ghost use Rattle.std.specs.Prelude.{replicate, IfSome, MatchOption, ◌↔◌, ◌≢◌, IsTrue, ◌≡◌, ◌⊎◌, ◌+◌, ◌-◌, ◌^◌, ◌*◌, ◌/◌, ◌%◌, ◌≤◌, ◌<◌, ℕ, map, pos, true, false, Some, [], ◌∷◌, length, None, IfOk, IfErr, OnOk};
 ghost use Rattle.std.specs.List.{All};
 ghost use Rattle.sled_codec.specs.Errors.{IsCorruption, IsDecodeError};
 ghost use Rattle.sled_codec.specs.Snapshots.{Shot, shot_of, page_of};
-ghost use Rattle.sled_store.specs.Device.{state_of};
+ghost use Rattle.sled_store.specs.Device.{state_of, Wrote, Synced, NamesSynced};
 ghost use Rattle.sled_core.specs.Causes.{DeviceAnswers};
 ghost use Rattle.sled_core.specs.Reading.{file_of};
 ghost use Rattle.sled_core.specs.Scan.{read_of};
 ghost use Rattle.sled_log.specs.Recovery.{least_place, tail_begins, IsFoundSegment, IsMisplaced, IsOrdering, Recovered, Damaged, outcome_of, are_whole, scanned_of, stable_place, cut_of, ContinuesFrom, Recovers};
 
-use crate::snapshot_file::read_newest;
+use crate::snapshot_file::{encode_file, publish, read_newest, remove_others};
 use crate::table::{apply_all, are_whole};
 use sled_codec::result::{Error, LogOffset, Result};
-use sled_codec::serialization::{Checksum, PageState, Snapshot};
+use sled_codec::serialization::{Checksum, PageState, Serialize, Snapshot};
 use sled_core::iterator::{read_slot, scan, segment_in};
 use sled_core::met::{Scan, Segment};
 use sled_core::read_at::BasedBuf;
@@ -23,8 +23,110 @@ use std::alloc::Global;
 #[derive(Drop)]
 pub(crate) struct Recovery {
     pub(crate) snapshot: Snapshot,
-    /// A segment was read.
-    pub(crate) is_read: bool,
+    /// It ends above the snapshot that recovery began from, or that had no place.
+    pub(crate) is_new: bool,
+    /// The rest of the active segment behind the cut, where one was read.
+    pub(crate) tip: Option<Tip>,
+}
+
+/// A range of the log file.
+#[derive(Debug, Clone, Copy)]
+pub(crate) struct Tip {
+    pub(crate) at: LogOffset,
+    pub(crate) len: u64,
+    ghost small: { at + len < 2 ^ 63 },
+}
+
+/// Recovers the table of pages from a device whose log file is no longer than a segment. First it settles
+/// the device. Then it reads the newest snapshot and the log file, and at last it fills the rest of the
+/// active segment with zeros and, where the table goes beyond that snapshot, publishes a new one and removes
+/// all others.
+///
+/// `Corruption` comes where the newest snapshot is damaged, where segments are found that can't be of one
+/// log, where a damaged record is met, where the table can't be one, and where the file is longer than a
+/// segment; nothing was written then. `Io` comes where the device failed, and `OutOfMemory` where memory was
+/// refused.
+pub fn read_snapshot_or_default<D: Device, C: Checksum>(
+    config: &mut RunningConfig<D, C>,
+) -> Result<Snapshot>
+    ensures ok { IfOk result (λ s. Recovers C.sum_of config.old.config.segment_size (record { log = (state_of (D.trace config.old.device)).log.bytes; blobs = λ _. None }) (state_of (D.trace config.old.device)).snapshots.file (Recovered (shot_of s))) }
+    ensures corrupt { IsCorruption result → (config.old.config.segment_size < length (state_of (D.trace config.old.device)).log.bytes) ⊎ Recovers C.sum_of config.old.config.segment_size (record { log = (state_of (D.trace config.old.device)).log.bytes; blobs = λ _. None }) (state_of (D.trace config.old.device)).snapshots.file Damaged }
+    ensures unwritten { IsCorruption result → D.trace config.new.device ≡ NamesSynced ∷ Synced ∷ D.trace config.old.device }
+    ensures answers { DeviceAnswers result (D.faults config.old.device) (D.faults config.new.device) }
+    ensures config { config.new.config ≡ config.old.config }
+    ensures checksum { config.new.checksum ≡ config.old.checksum }
+{
+    settle(&mut config.device)?;
+    match recover(config) {
+        Ok(recovery) => {
+            write_back(config, &recovery)?;
+            Ok(recovery.snapshot)
+        }
+        Err(e) => Err(e),
+    }
+}
+
+/// Settles the log file and the names.
+fn settle<D: Device>(device: &mut D) -> Result<()>
+    ensures done { OnOk result (D.trace device.new ≡ NamesSynced ∷ Synced ∷ D.trace device.old) }
+    ensures answers { DeviceAnswers result (D.faults device.old) (D.faults device.new) }
+    ensures readable { IsCorruption result → ⊥ }
+{
+    device.sync()?;
+    device.sync_names()?;
+    Ok(())
+}
+
+/// Writes what a recovery leaves to be written.
+fn write_back<D: Device, C: Checksum>(
+    config: &mut RunningConfig<D, C>,
+    recovery: &Recovery,
+) -> Result<()>
+    ensures answers { DeviceAnswers result (D.faults config.old.device) (D.faults config.new.device) }
+    ensures readable { IsCorruption result → ⊥ }
+    ensures config { config.new.config ≡ config.old.config }
+    ensures checksum { config.new.checksum ≡ config.old.checksum }
+{
+    if let Some(tip) = recovery.tip {
+        shred(config, tip)?;
+    }
+    if recovery.is_new {
+        publish_new(config, &recovery.snapshot)?;
+    }
+    Ok(())
+}
+
+/// Fills a range of the log file with zeros, and syncs it.
+fn shred<D: Device, C: Checksum>(config: &mut RunningConfig<D, C>, tip: Tip) -> Result<()>
+    ensures done { OnOk result (D.trace config.new.device ≡ Synced ∷ Wrote tip.at (replicate tip.len 0) (replicate tip.len 0) ∷ D.trace config.old.device) }
+    ensures answers { DeviceAnswers result (D.faults config.old.device) (D.faults config.new.device) }
+    ensures readable { IsCorruption result → ⊥ }
+    ensures config { config.new.config ≡ config.old.config }
+    ensures checksum { config.new.checksum ≡ config.old.checksum }
+{
+    let zeros = vec![in config.alloc(); 0; tip.len as usize]?;
+    config.device.write_at(tip.at, &zeros)?;
+    config.device.sync()?;
+    Ok(())
+}
+
+/// Publishes a snapshot under its place, and removes all others.
+fn publish_new<D: Device, C: Checksum>(
+    config: &mut RunningConfig<D, C>,
+    snapshot: &Snapshot,
+) -> Result<()>
+    ensures answers { DeviceAnswers result (D.faults config.old.device) (D.faults config.new.device) }
+    ensures readable { IsCorruption result → ⊥ }
+    ensures config { config.new.config ≡ config.old.config }
+    ensures checksum { config.new.checksum ≡ config.old.checksum }
+{
+    if !snapshot.can_serialize() || snapshot.serialized_size() >= 1 << 62 {
+        return Err(Error::OutOfMemory);
+    }
+    let number = snapshot.stable_lsn.unwrap_or(0);
+    let bytes = encode_file(config.alloc(), &config.checksum, snapshot)?;
+    publish(&mut config.device, &bytes, number)?;
+    remove_others(&mut config.device, number)
 }
 
 /// What recovery makes of what the device has, where the log file is no longer than a segment. It only
@@ -67,7 +169,8 @@ fn continue_from<D: Device, C: Checksum>(
         Some(segment) => continue_in(config, &buf, &segment, first),
         None => Ok(Recovery {
             snapshot: first,
-            is_read: false,
+            is_new: false,
+            tip: None,
         }),
     }
 }
@@ -98,7 +201,8 @@ fn continue_in<D: Device, C: Checksum>(
     if tail_begins(size, least, segment) != segment.place {
         return Ok(Recovery {
             snapshot: first,
-            is_read: false,
+            is_new: false,
+            tip: None,
         });
     }
     match scan(config, buf, segment.place) {
@@ -133,6 +237,8 @@ fn replay(
     scan: &Scan,
 ) -> Result<Recovery>
     requires place { segment.now.place + size < 2 ^ 63 }
+    requires some { 0 < size }
+    requires slot { segment.now.slot + size < 2 ^ 63 }
     requires stop { scan.now.stop ≤ size }
     requires places { All (λ m. m.place < segment.now.place + size) scan.now.met.items }
     ensures ok { IfOk result (λ x. outcome_of size (shot_of first) (segment.now.place + scan.now.stop) (scanned_of segment.now scan.now ∷ []) ≡ Recovered (shot_of x.snapshot)) }
@@ -142,19 +248,33 @@ fn replay(
     let least = stable_place(&first);
     let end = segment.place + scan.stop;
     let Snapshot {
-        stable_lsn: _,
+        stable_lsn: was,
         active_segment: _,
         pt: mut pages,
     } = first;
     match apply_all(alloc, &mut pages, &scan.met, least, end) {
-        Ok(stop) => conclude(pages, least, cut_of(size, segment, stop.unwrap_or(end))),
+        Ok(stop) => conclude(
+            size,
+            pages,
+            was,
+            least,
+            cut_of(size, segment, stop.unwrap_or(end)),
+        ),
         Err(e) => Err(e),
     }
 }
 
 /// A snapshot of a table with this cut, unless it can't be one.
-fn conclude(pages: Vec<PageState>, least: u64, cut: (u64, Option<LogOffset>)) -> Result<Recovery>
-    requires { cut.0 < 2 ^ 63 }
+fn conclude(
+    size: u64,
+    pages: Vec<PageState>,
+    was: Option<i64>,
+    least: u64,
+    cut: (u64, Option<LogOffset>),
+) -> Result<Recovery>
+    requires size { 0 < size }
+    requires cut { cut.0 < 2 ^ 63 }
+    requires slot { IfSome cut.1 (λ slot. slot + size < 2 ^ 63) }
     ensures ok { IfOk result (λ x. shot_of x.snapshot ≡ record { stable = Some (pos cut.0); active = cut.1; pages = map page_of pages.items }) }
     ensures fine { OnOk result ((least ≤ cut.0) × (are_whole (map page_of pages.items) ≡ true)) }
     ensures corrupt { IsCorruption result → (cut.0 < least) ⊎ (are_whole (map page_of pages.items) ≡ false) }
@@ -173,8 +293,27 @@ fn conclude(pages: Vec<PageState>, least: u64, cut: (u64, Option<LogOffset>)) ->
     };
     Ok(Recovery {
         snapshot,
-        is_read: true,
+        is_new: was.is_none_or(|place| place < cut.0 as i64),
+        tip: tip_of(size, cut.0, cut.1),
     })
+}
+
+/// The rest of the active segment behind a cut.
+fn tip_of(size: u64, cut: u64, active: Option<LogOffset>) -> Option<Tip>
+    requires size { 0 < size }
+    requires slot { IfSome active (λ slot. slot + size < 2 ^ 63) }
+    ensures { MatchOption active (result ≡ None) (λ slot. IfSome result (λ tip. (tip.at ≡ slot + cut % size) × (tip.at + tip.len ≡ slot + size))) }
+{
+    match active {
+        Some(slot) => {
+            let offset = cut % size;
+            Some(Tip {
+                at: slot + offset,
+                len: size - offset,
+            })
+        }
+        None => None,
+    }
 }
 
 /// The place that a snapshot ends with, 0 where there is none.
@@ -192,6 +331,7 @@ fn stable_place(snapshot: &Snapshot) -> u64
 fn cut_of(size: u64, segment: &Segment, at: u64) -> (u64, Option<LogOffset>)
     requires place { segment.now.place + size < 2 ^ 63 }
     requires at { at ≤ segment.now.place + size }
+    ensures slot { IfSome result.1 (λ slot. slot ≡ segment.now.slot) }
     ensures cut { result ≡ cut_of size (segment.now, at) }
     ensures small { result.0 ≤ segment.now.place + size }
 {
