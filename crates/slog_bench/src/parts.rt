@@ -251,6 +251,15 @@ fn pointers(rt: HostRuntime) -> Result<(), Fail> {
 }
 
 #[test]
+fn pointers_printed(rt: HostRuntime) -> Result<(), Fail> {
+    let inline = DiskPtr::Inline(20).to_string(rt.alloc())?;
+    assert_eq!(rt; inline.as_str(), "20");
+    let blob = DiskPtr::Blob(20, -7).to_string(rt.alloc())?;
+    assert_eq!(rt; blob.as_str(), "20:-7");
+    Ok(())
+}
+
+#[test]
 fn manifests(rt: HostRuntime) -> Result<(), Fail> {
     for (peg, bytes) in PEGS {
         let manifest = BatchManifest(peg);
