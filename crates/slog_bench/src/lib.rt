@@ -26,6 +26,8 @@ mod numbers;
 #[cfg(test)]
 mod parts;
 #[cfg(test)]
+mod reading;
+#[cfg(test)]
 mod records;
 #[cfg(test)]
 mod support;
