@@ -32,6 +32,8 @@ mod numbers;
 #[cfg(test)]
 mod parts;
 #[cfg(test)]
+mod reading;
+#[cfg(test)]
 mod records;
 #[cfg(test)]
 mod snapshots;
