@@ -9,4 +9,5 @@ pub use sled_codec::serialization::{
 };
 pub use sled_core::iobuf::{MAX_MSG_HEADER_LEN, SEG_HEADER_LEN};
 pub use sled_core::logger::Log;
-pub use sled_core::reading::LogRead;
+pub use sled_core::read_at::{BasedBuf, ReadAt};
+pub use sled_core::reading::{LogRead, read_message};

@@ -12,7 +12,8 @@ ghost use Rattle.sled_log.specs.Recovery.{least_place, tail_begins, IsFoundSegme
 use crate::snapshot_file::{encode_file, publish, read_newest, remove_others};
 use crate::table::{apply_all, are_whole};
 use sled_codec::result::{Error, LogOffset, Result};
-use sled_codec::serialization::{Checksum, PageState, Serialize, Snapshot};
+pub use sled_codec::serialization::snapshot::{Entry, PageState, Snapshot};
+use sled_codec::serialization::{Checksum, Serialize};
 use sled_core::iterator::{read_slot, scan, segment_in};
 use sled_core::met::{Scan, Segment};
 use sled_core::read_at::BasedBuf;

@@ -36,6 +36,8 @@ mod reading;
 #[cfg(test)]
 mod records;
 #[cfg(test)]
+mod recovery;
+#[cfg(test)]
 mod snapshots;
 #[cfg(test)]
 mod support;
