@@ -12,6 +12,8 @@ mod crashes;
 #[cfg(test)]
 mod cuts;
 #[cfg(test)]
+mod decoded;
+#[cfg(test)]
 mod device;
 #[cfg(test)]
 mod device_faults;
