@@ -96,6 +96,8 @@ fn header_in<C: Checksum>(checksum: &C, bytes: &[u8]) -> Option<SegmentHeader>
 
 /// All that is met in a segment, by place. The buffer has the bytes of its slot, and nothing stands in
 /// the place of blobs. `Corruption` comes where a record is met that has to hold a place and does not.
+/// It asks that the slot begins at a multiple of the size of segments, and that the slot and the segment
+/// end below 2^63. `segment_in` does not test that, so its caller does.
 pub fn scan<D: Device, C: Checksum>(
     config: &mut RunningConfig<D, C>,
     buf: &BasedBuf,
