@@ -8,6 +8,7 @@ pub mod Kinds
 pub mod MetaLaws
 pub mod Metas
 pub mod OptionLaws
+pub mod PageTables
 pub mod PairLaws
 pub mod Places
 pub mod PointerLaws

@@ -10,7 +10,8 @@ use Rattle.sled_log.specs.declared.snapshot.Recovery.{Recovery}
 use Rattle.sled_codec.specs.Snapshots.{Shot, shot_of}
 use Rattle.sled_core.specs.declared.met.Met.{Met}
 use Rattle.sled_core.specs.declared.met.Segment.{Segment}
-use Rattle.sled_log.specs.Recovery.{Scanned, Applied, Outcome, Recovered, Damaged, opens, before_open, open_at, passed_in, stops_in, concluded, outcome_of, given, cut_of, has_no_table, are_whole, table_of, stable_place}
+use Rattle.sled_store.specs.SnapshotFiles.{stable_place}
+use Rattle.sled_log.specs.Recovery.{Scanned, Applied, Outcome, Recovered, Damaged, opens, before_open, open_at, passed_in, stops_in, concluded, outcome_of, given, cut_of, has_no_table, are_whole, table_of}
 
 -- where no batch is open, all that is met lies before one
 pub before_none : (end : ℕ) (ms : List Met) → open_at end ms ≡ None → before_open end ms ≡ ms

@@ -6,7 +6,7 @@ use Rattle.sled_codec.specs.SpellingLaws.{same_fronts, same_rests}
 use Rattle.sled_codec.specs.Written.{written, take-written}
 use Rattle.sled_codec.specs.Snapshots.{Shot, SpellsSnapshot}
 use Rattle.sled_codec.specs.SnapshotLaws.{one_value-snapshot}
-use Rattle.sled_log.specs.Recovery.{IsSnapshotFile}
+use Rattle.sled_store.specs.SnapshotFiles.{IsSnapshotFile}
 
 module _ (sum : List ℕ → ℕ) where
   -- what stands behind a spelling

@@ -7,7 +7,8 @@ ghost use Rattle.sled_store.specs.Device.{state_of, Wrote, Synced, NamesSynced};
 ghost use Rattle.sled_core.specs.Causes.{DeviceAnswers};
 ghost use Rattle.sled_core.specs.Reading.{file_of};
 ghost use Rattle.sled_core.specs.Scan.{read_of};
-ghost use Rattle.sled_log.specs.Recovery.{least_place, tail_begins, IsFoundSegment, IsMisplaced, IsOrdering, Recovered, Damaged, outcome_of, are_whole, scanned_of, stable_place, cut_of, ContinuesFrom, Recovers};
+ghost use Rattle.sled_store.specs.SnapshotFiles.{stable_place};
+ghost use Rattle.sled_log.specs.Recovery.{least_place, tail_begins, IsFoundSegment, IsMisplaced, IsOrdering, Recovered, Damaged, outcome_of, are_whole, scanned_of, cut_of, ContinuesFrom, Recovers};
 
 use crate::snapshot_file::{encode_file, publish, read_newest, remove_others};
 use crate::table::{apply_all, are_whole};

@@ -9,7 +9,7 @@ ghost use Rattle.sled_codec.specs.Snapshots.{Shot, shot_of, FitsSnapshot, short_
 ghost use Rattle.sled_codec.specs.Spelling.{low_bytes};
 ghost use Rattle.sled_store.specs.Device.{state_of, SnapshotFilled, SnapshotPublished, NamesSynced};
 ghost use Rattle.sled_core.specs.Causes.{DeviceAnswers};
-ghost use Rattle.sled_log.specs.Recovery.{IsSnapshotFile, is_sound, BeginsFrom, IsDamagedSnapshot};
+ghost use Rattle.sled_store.specs.SnapshotFiles.{IsSnapshotFile, is_sound, BeginsFrom, IsDamagedSnapshot};
 ghost use Rattle.sled_log.specs.Removals.{Removes, RemovesUpTo};
 
 use sled_codec::result::{Error, Result};

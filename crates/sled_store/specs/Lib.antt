@@ -10,3 +10,4 @@ pub mod Moments
 pub mod Noted
 pub mod Script
 pub mod Segments
+pub mod SnapshotFiles

@@ -16,3 +16,8 @@ Performs (e ∷ es) old new = Stops e old new ⊎ Performs es (e ∷ old) new
 abbrev pub Along : (State → Type 0) → List Event → State → Type 0
 Along P [] s = P s
 Along P (e ∷ es) s = P s × ((torn : Event) → Tears e torn → P (step torn s)) × Along P es (step e s)
+
+-- the trace after all of these calls, made in order
+abbrev pub after_all : List Event → Trace → Trace
+after_all [] old = old
+after_all (e ∷ es) old = after_all es (e ∷ old)

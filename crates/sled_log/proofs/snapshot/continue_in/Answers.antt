@@ -2,7 +2,8 @@ use Rattle.std.proofs.Common.{◌≡◌, ◌*◌, ◌/◌, ◌<◌, ◌≤◌, �
 use Rattle.sled_codec.specs.Snapshots.{Shot, shot_of}
 use Rattle.sled_core.specs.Scan.{IsScan, IsDamagedIn, read_of}
 use Rattle.sled_core.proofs.ReadingLemmas.{if_ok}
-use Rattle.sled_log.specs.Recovery.{ContinuesFrom, Recovered, Damaged, stable_place, least_place, tail_begins}
+use Rattle.sled_store.specs.SnapshotFiles.{stable_place}
+use Rattle.sled_log.specs.Recovery.{ContinuesFrom, Recovered, Damaged, least_place, tail_begins}
 use Rattle.sled_core.specs.declared.met.Segment.{Segment}
 use Rattle.sled_log.proofs.FindLemmas.{misplaced, not_read, damaged_in, replayed}
 use Rattle.sled_log.proofs.snapshot.continue_in.Goals as goal

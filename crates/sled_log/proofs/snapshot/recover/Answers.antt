@@ -3,7 +3,8 @@ use Rattle.sled_codec.specs.Snapshots.{Shot, shot_of}
 use Rattle.sled_store.specs.declared.config.Config.{Config}
 use Rattle.sled_store.specs.Device.{Trace, state_of}
 use Rattle.sled_core.proofs.ReadingLemmas.{if_ok}
-use Rattle.sled_log.specs.Recovery.{BeginsFrom, IsDamagedSnapshot, ContinuesFrom, Recovers, Outcome, Recovered, Damaged}
+use Rattle.sled_store.specs.SnapshotFiles.{BeginsFrom, IsDamagedSnapshot}
+use Rattle.sled_log.specs.Recovery.{ContinuesFrom, Recovers, Outcome, Recovered, Damaged}
 use Rattle.sled_log.proofs.snapshot.recover.Goals as goal
 
 -- a snapshot that recovery begins from, and what comes of it there

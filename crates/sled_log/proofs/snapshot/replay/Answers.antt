@@ -5,7 +5,8 @@ use Rattle.sled_codec.specs.Errors.{IsCorruption}
 use Rattle.sled_codec.specs.Snapshots.{Shot, shot_of, page_of}
 use Rattle.std.proofs.Common.{Option, Some, pos}
 use Rattle.sled_core.specs.declared.met.Met.{Met}
-use Rattle.sled_log.specs.Recovery.{Applied, Scanned, stable_place, given, before_open, open_at, cut_of, scanned_of, has_no_table, are_whole, table_of}
+use Rattle.sled_store.specs.SnapshotFiles.{stable_place}
+use Rattle.sled_log.specs.Recovery.{Applied, Scanned, given, before_open, open_at, cut_of, scanned_of, has_no_table, are_whole, table_of}
 use Rattle.sled_log.proofs.RecoveryLemmas.{one_outcome, made_well, open_below, concluded_well, no_table_damaged, low_cut_damaged, not_whole_damaged}
 use Rattle.sled_log.proofs.snapshot.replay.Goals as goal
 
