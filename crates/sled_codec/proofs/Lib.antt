@@ -1,5 +1,6 @@
 pub mod Fronts
 pub mod HeaderFronts
+pub mod Histories
 pub mod Names
 pub mod PageFronts
 pub mod Pairs

@@ -1,26 +1,38 @@
--- When nothing is open, the bytes of the log are the header of the segment and the records of all its messages.
-use Rattle.std.proofs.Common.{◌≡◌, ◌≢◌, ◌≤◌, ◌<◌, ◌+◌, ℕ, max, List, [], ◌∷◌, ◌++◌, length, take, drop, sym, ◌∙◌, ap, arith, refl, subst, append_assoc, length-append, length-take, length-drop, true, false, Bool, if◌then◌else◌, Option, None, Some, pos, negsuc, ◌⊎◌, inl, inr}
+-- What is written of a log: the records that were completed, behind those that stand on the device.
+use Rattle.std.proofs.Common.{◌≡◌, ◌≢◌, ◌⊎◌, ◌≤◌, ◌<◌, ◌+◌, ◌-◌, ◌/◌, ◌%◌, ◌^◌, ◌∙◌, ◌-ℤ◌, ℕ, ℤ, zero, suc, pos, max, Bool, true, false, List, [], ◌∷◌, ◌++◌, length, take, drop, sym, ap, arith, refl, subst, append_assoc, length-append, length-take, length-drop, inl, inr, Option, None, Some, get_or, if◌then◌else◌, FitsSigned, nat_abs}
+use Rattle.std.proofs.Math.IntN.{ -ℤ_one}
+use Rattle.std.specs.List.{All}
+use Rattle.std.specs.Int.{w64}
 use Rattle.std.specs.Bool.{MatchBool}
+use Rattle.std.specs.Option.{unwrap_or}
 use Rattle.std.specs.IoError.{error_kind}
+use Rattle.std.specs.declared.io.Error.{Error as IoError}
 use Rattle.std.specs.declared.io.ErrorKind.{ErrorKind}
 use Rattle.std.specs.declared.io.ErrorKind.TheVariants.{OutOfMemory}
-use Rattle.sled_store.specs.Answers.{is_fault_kind, is_fault}
-use Rattle.std.specs.Option.{unwrap_or}
-use Rattle.std.specs.List.{All}
-use Rattle.std.specs.declared.io.Error.{Error as IoError}
-use Rattle.std.proofs.lemmas.List.{append-nil, take-append-drop, drop-drop, drop_all, take_all}
+use Rattle.std.proofs.lemmas.List.{append-nil, drop-drop}
+use Rattle.std.proofs.lemmas.List.Elements.{All-append}
+use Rattle.std.proofs.lemmas.Bool.{cases_lt}
+use Rattle.std.proofs.Math.Nat.{div-le_self}
 use Rattle.sled_codec.specs.declared.result.DiskPtr.TheVariants.{Inline}
-use Rattle.sled_codec.specs.declared.serialization.message.MessageKind.{MessageKind}
-use Rattle.sled_codec.specs.declared.serialization.message.MessageKind.TheVariants.{Corrupted}
-use Rattle.sled_codec.specs.Record.{short_record, short_header}
-use Rattle.sled_codec.specs.History.{Message, History, no_history}
-use Rattle.sled_store.specs.Device.{LogState, at_rest, overwritten}
-use Rattle.sled_store.proofs.OverwrittenLemmas.{overwritten-end}
+use Rattle.sled_codec.specs.declared.serialization.message.MessageHeader.{MessageHeader}
+use Rattle.sled_codec.specs.Kinds.{kind_written}
+use Rattle.sled_codec.specs.Sums.{flipped}
+use Rattle.sled_codec.specs.Places.{part}
+use Rattle.sled_codec.specs.Record.{IsHeader, short_header, short_record}
+use Rattle.sled_codec.specs.History.{Message, History}
+use Rattle.sled_codec.proofs.Records.{short_is_record, length-short_record}
+use Rattle.sled_store.specs.Device.{LogState, State, at_rest, overwritten}
+use Rattle.sled_store.specs.Answers.{is_fault, is_fault_kind}
 use Rattle.sled_core.specs.declared.iobuf.Reserved.{Reserved}
+use Rattle.sled_core.specs.declared.iobuf.Site.{Site}
+use Rattle.sled_core.specs.declared.met.Segment.{Segment}
 use Rattle.sled_core.specs.Buffers.{text_in, body_in, message_in, placeholder, IsChain, completed_in, all_ended, Stands}
-use Rattle.sled_core.specs.Fits.{HoldsIn, LieFrom, log_image, records, record_text, record_kind}
-use Rattle.sled_core.proofs.Ranges.{chain_grows, others}
-use Rattle.sled_core.proofs.Images.{header_long, records-append, lie-append}
+use Rattle.sled_core.specs.LogFile.{MessageStands, StandIn, StandsElsewhere, HasHeader, IsLogFile}
+use Rattle.sled_core.specs.Fits.{HoldsIn, IsOnDevice, IsBegunFrom}
+use Rattle.sled_core.proofs.Ranges.{chain_grows, others, completed_between}
+use Rattle.sled_core.proofs.CompletesLemmas.{some_long}
+use Rattle.sled_core.proofs.ScanLemmas.{aligned_offset}
+use Rattle.sled_core.proofs.LogFileLemmas.{stand_none, stand-append, part_kept, stand_kept, elsewhere_kept, header_kept, part_laid, laid_within, behind_write}
 
 -- the first is ended, and so are the others
 ended_split : (o b : Bool) → (if o then false else b) ≡ true → (o ≡ false) × (b ≡ true)
@@ -28,174 +40,259 @@ ended_split true b is = cc
 ended_split false b is = (refl, is)
 
 -- a message that was completed is there
-completed_closed : (bytes : List ℕ) (r : Reserved) (rs : List Reserved) → r.is_open ≡ false → completed_in bytes (r ∷ rs) ≡ message_in bytes r ∷ completed_in bytes rs
-completed_closed bytes r rs is = ap (λ (o : Bool). if o then completed_in bytes rs else message_in bytes r ∷ completed_in bytes rs) is
+completed_closed : (site : Site) (bytes : List ℕ) (r : Reserved) (rs : List Reserved) → r.is_open ≡ false → completed_in site bytes (r ∷ rs) ≡ message_in site bytes r ∷ completed_in site bytes rs
+completed_closed site bytes r rs is = ap (λ (o : Bool). if o then completed_in site bytes rs else message_in site bytes r ∷ completed_in site bytes rs) is
 
--- its record is what stands in its reservation
-text_is : (sum : List ℕ → ℕ) (bytes : List ℕ) (r : Reserved) → Stands sum 0 bytes r → r.is_open ≡ false → record_text sum (message_in bytes r) ≡ text_in bytes r
-unfolding record_text
-text_is sum bytes r stands is =
-    ap (λ (k : Option MessageKind). short_record sum (unwrap_or k Corrupted) r.page 0 (body_in bytes r)) stands.known
-    ∙ sym (stands.is ∙ ap (λ (o : Bool). if o then placeholder (short_record sum r.kind r.page 0 (body_in bytes r)) else short_record sum r.kind r.page 0 (body_in bytes r)) is)
+-- what stands in a reservation that was completed is its record
+text_is : (sum : List ℕ → ℕ) (number : ℕ) (bytes : List ℕ) (r : Reserved) → Stands sum number bytes r → r.is_open ≡ false → text_in bytes r ≡ short_record sum r.kind r.page number (body_in bytes r)
+text_is sum number bytes r stands is =
+    stands.is ∙ ap (λ (o : Bool). if o then placeholder (short_record sum r.kind r.page number (body_in bytes r)) else short_record sum r.kind r.page number (body_in bytes r)) is
 
-kind_is : (sum : List ℕ → ℕ) (bytes : List ℕ) (r : Reserved) → Stands sum 0 bytes r → record_kind (message_in bytes r) ≢ Corrupted
-kind_is sum bytes r stands is = stands.valid (sym (ap (λ (k : Option MessageKind). unwrap_or k Corrupted) stands.known) ∙ is)
-
--- From an offset on the bytes are the records of the messages that lie there.
-pub all_records : (sum : List ℕ → ℕ) (bytes : List ℕ) (from : ℕ) (rs : List Reserved) → IsChain from rs (length bytes) → All (Stands sum 0 bytes) rs → all_ended rs ≡ true
-    → (drop from bytes ≡ records sum (completed_in bytes rs)) × LieFrom sum from (completed_in bytes rs)
-all_records sum bytes from [] chain stand ended = (drop_all from bytes (omega (arith, chain)), tt)
-all_records sum bytes from (r ∷ rs) chain stand ended =
-    let split = ended_split r.is_open (all_ended rs) ended in
-    let here : Stands sum 0 bytes r = stand 0 r (omega arith) in
-    let rest = all_records sum bytes (from + r.len) rs chain.1 (others (Stands sum 0 bytes) r rs stand) split.1 in
-    let grows : from + r.len ≤ length bytes = chain_grows (from + r.len) (length bytes) rs chain.1 in
-    let place : r.from ≡ from = chain.0 in
-    let message : Message = message_in bytes r in
-    let text : text_in bytes r ≡ record_text sum message = sym (text_is sum bytes r here split.0) in
-    let at_from : take r.len (drop from bytes) ≡ record_text sum message = ap (λ n. take r.len (drop n bytes)) (sym place) ∙ text in
-    let size : r.len ≡ length (record_text sum message) = omega (arith, ap length at_from, length-take r.len (drop from bytes), length-drop from bytes) in
-    let whole : drop from bytes ≡ record_text sum message ++ records sum (completed_in bytes rs) =
-    sym (take-append-drop r.len (drop from bytes))
-    ∙ ap (λ (l : List ℕ). l ++ drop r.len (drop from bytes)) at_from
-    ∙ ap (λ (l : List ℕ). record_text sum message ++ l) (drop-drop r.len from bytes ∙ rest.0) in
-    let is : message ∷ completed_in bytes rs ≡ completed_in bytes (r ∷ rs) = sym (completed_closed bytes r rs split.0) in
-    let lie : LieFrom sum from (message ∷ completed_in bytes rs) = (place, ap Inline place, size, kind_is sum bytes r here, here.page, rest.1) in
-    (whole ∙ ap (records sum) is, subst (λ (ms : List Message). LieFrom sum from ms) is lie)
-
--- where something was reserved and nothing is open, something was completed
-completed_some : (bytes : List ℕ) (rs : List Reserved) → 0 < length rs → all_ended rs ≡ true → (m : Message) × (ms : List Message) × (completed_in bytes rs ≡ m ∷ ms)
-completed_some bytes [] some ended = absurd (omega arith)
-completed_some bytes (r ∷ rs) some ended =
-    let split = ended_split r.is_open (all_ended rs) ended in
-    (message_in bytes r, completed_in bytes rs, completed_closed bytes r rs split.0)
-
--- no messages, no bytes
-image_none : (sum : List ℕ → ℕ) → log_image sum [] ≡ []
-unfolding log_image
-image_none sum = refl
-
--- the image of some messages
-image_some : (sum : List ℕ → ℕ) (ms : List Message) (x : Message) (xs : List Message) → ms ≡ x ∷ xs → short_header sum (pos 0) (negsuc 0) ++ records sum ms ≡ log_image sum ms
-unfolding log_image
-image_some sum [] x xs is = cc
-image_some sum (m ∷ ms) x xs is = refl
-
-module _ (sum : List ℕ → ℕ) (bytes : List ℕ) (from : ℕ) (rs : List Reserved) (begun : 20 ≤ length bytes) (behind : from ≤ length bytes)
-    (header : take 20 bytes ≡ short_header sum (pos 0) (negsuc 0)) (chain : IsChain (max 20 from) rs (length bytes)) (stand : All (Stands sum 0 bytes) rs)
-    (ended : all_ended rs ≡ true) where
-  -- nothing was written yet
-  image_of_first : take from bytes ≡ [] → 0 < length rs → (bytes ≡ log_image sum (completed_in bytes rs)) × LieFrom sum 20 (completed_in bytes rs)
-  image_of_first none some =
-      let from_is : from ≡ 0 = omega (arith, ap length none, length-take from bytes) in
-      let start : max 20 from ≡ 20 = omega (arith, from_is) in
-      let later = all_records sum bytes 20 rs (subst (λ n. IsChain n rs (length bytes)) start chain) stand ended in
-      let first = completed_some bytes rs some ended in
-      let is : completed_in bytes rs ≡ first.0 ∷ first.1 = first.2 in
-      let whole : bytes ≡ short_header sum (pos 0) (negsuc 0) ++ records sum (completed_in bytes rs) =
-      sym (take-append-drop 20 bytes) ∙ ap (λ (l : List ℕ). l ++ drop 20 bytes) header ∙ ap (λ (l : List ℕ). short_header sum (pos 0) (negsuc 0) ++ l) later.0 in
-      (whole ∙ image_some sum (completed_in bytes rs) first.0 first.1 is, later.1)
-
-  -- records were written, and others follow them
-  image_of_more : (m : Message) (ms : List Message) → take from bytes ≡ log_image sum (m ∷ ms) → LieFrom sum 20 (m ∷ ms)
-      → (bytes ≡ log_image sum ((m ∷ ms) ++ completed_in bytes rs)) × LieFrom sum 20 ((m ∷ ms) ++ completed_in bytes rs)
-  unfolding log_image
-  image_of_more m ms written lie =
-      let long : length (take from bytes) ≡ 20 + length (records sum (m ∷ ms)) = ap length written ∙ length-append (short_header sum (pos 0) (negsuc 0)) (records sum (m ∷ ms)) ∙ ap (λ n. n + length (records sum (m ∷ ms))) (header_long sum) in
-      let from_is : from ≡ 20 + length (records sum (m ∷ ms)) = omega (arith, long, length-take from bytes) in
-      let start : max 20 from ≡ from = omega (arith, from_is) in
-      let later = all_records sum bytes from rs (subst (λ n. IsChain n rs (length bytes)) start chain) stand ended in
-      let whole : bytes ≡ short_header sum (pos 0) (negsuc 0) ++ records sum ((m ∷ ms) ++ completed_in bytes rs) =
-      sym (take-append-drop from bytes)
-      ∙ ap (λ (l : List ℕ). l ++ drop from bytes) written
-      ∙ ap (λ (l : List ℕ). (short_header sum (pos 0) (negsuc 0) ++ records sum (m ∷ ms)) ++ l) later.0
-      ∙ append_assoc (short_header sum (pos 0) (negsuc 0)) (records sum (m ∷ ms)) (records sum (completed_in bytes rs))
-      ∙ ap (λ (l : List ℕ). short_header sum (pos 0) (negsuc 0) ++ l) (sym (records-append sum (m ∷ ms) (completed_in bytes rs))) in
-      (whole, lie-append sum 20 (m ∷ ms) (completed_in bytes rs) lie (subst (λ n. LieFrom sum n (completed_in bytes rs)) from_is later.1))
-
-  image_is : (earlier : List Message) → take from bytes ≡ log_image sum earlier → LieFrom sum 20 earlier → 0 < length rs
-      → (bytes ≡ log_image sum (earlier ++ completed_in bytes rs)) × LieFrom sum 20 (earlier ++ completed_in bytes rs)
-  image_is [] written lie some = image_of_first (written ∙ image_none sum) some
-  image_is (m ∷ ms) written lie some = image_of_more m ms written lie
-
--- All that the log holds is in its bytes.
-pub flushed : (sum : List ℕ → ℕ) (device : LogState) (fault : Option IoError) (bytes : List ℕ) (from : ℕ) (rs : List Reserved) (H : History) → HoldsIn sum device fault bytes from rs H
-    → 20 ≤ length bytes → from ≤ length bytes → all_ended rs ≡ true → 0 < length rs → (bytes ≡ log_image sum H.messages) × LieFrom sum 20 H.messages
-flushed sum device fault bytes from rs H holds begun behind ended some =
-    let is = image_is sum bytes from rs begun behind holds.header holds.chain holds.stand ended holds.earlier holds.written holds.lie some in
-    (is.0 ∙ ap (log_image sum) (sym holds.messages), subst (λ (ms : List Message). LieFrom sum 20 ms) (sym holds.messages) is.1)
-
--- Once they are written and settled, the log holds the same.
-pub holds-flush : (sum : List ℕ → ℕ) (device : LogState) (fault : Option IoError) (bytes : List ℕ) (from : ℕ) (rs : List Reserved) (H : History) → HoldsIn sum device fault bytes from rs H
-    → 20 ≤ length bytes → from ≤ length bytes → all_ended rs ≡ true → 0 < length rs → (new : LogState) → new ≡ at_rest bytes → HoldsIn sum new fault bytes (length bytes) [] H
-holds-flush sum device fault bytes from rs H holds begun behind ended some new is =
-    let all = flushed sum device fault bytes from rs H holds begun behind ended some in
+-- A reservation that was completed stands as its message's record where its bytes are in the file.
+record_laid : (sum : List ℕ → ℕ) (size : ℕ) (site : Site) (log bytes : List ℕ) (r : Reserved) → Stands sum (site.place / size) bytes r → r.is_open ≡ false
+    → part log (site.slot + r.from) r.len ≡ text_in bytes r → site.slot + r.from + r.len ≤ length log → (site.slot + r.from) % size + r.len ≤ size
+    → site.slot + r.from + r.len < 2 ^ 63 → site.place / size < 2 ^ 63 → MessageStands sum size log (site.slot + r.from) (site.place / size) (message_in site bytes r)
+record_laid sum size site log bytes r stands is there in_file in_slot small number_small =
+    let number : ℕ = site.place / size in
+    let body : List ℕ = body_in bytes r in
+    let long = stands.long in
+    let body_short : length body ≤ r.len = omega (arith, length-take (r.len - r.header_len) (drop (r.from + r.header_len) bytes)) in
+    let record_of = short_is_record sum r.kind r.page number body stands.valid stands.page (omega (arith, number_small)) (omega (arith, body_short, small)) in
+    let header : MessageHeader = record { crc32 = flipped (sum (body ++ drop 4 record_of.header)); kind = r.kind; segment_number = record { 0 = number }; pid = r.page; len = length body } in
     record {
+      header = header;
+      stands = record {
+        header = record_of.header;
+        spelled = record_of.spelled;
+        is = there ∙ text_is sum number bytes r stands is ∙ record_of.is;
+        counted = refl;
+        numbered = refl;
+        summed = refl;
+        valid = stands.valid;
+        in_file = in_file;
+        in_slot = in_slot;
+        small = omega (arith, small);
+      };
+      known = stands.known;
+      page = refl;
+    }
+
+-- Reservations that were completed stand one behind another where their bytes are in the file.
+records_laid : (sum : List ℕ → ℕ) (size : ℕ) (site : Site) (log bytes : List ℕ) (from at : ℕ) (rs : List Reserved)
+    → ((k n : ℕ) → from ≤ k → k + n ≤ length bytes → part log (site.slot + k) n ≡ part bytes k n) → site.slot + length bytes ≤ length log
+    → site.slot % size ≡ 0 → length bytes ≤ size → site.slot + size < 2 ^ 63 → site.place / size < 2 ^ 63
+    → from ≤ at → IsChain at rs (length bytes) → All (Stands sum (site.place / size) bytes) rs → All (λ r. r.from + 32 ≤ size) rs → all_ended rs ≡ true
+    → StandIn sum size log site at (completed_in site bytes rs) (length bytes)
+records_laid sum size site log bytes from at [] same in_file aligned short small number_small behind chain stand room ended = sym chain
+records_laid sum size site log bytes from at (r ∷ rs) same in_file aligned short small number_small behind chain stand room ended =
+    let split = ended_split r.is_open (all_ended rs) ended in
+    let here : Stands sum (site.place / size) bytes r = stand 0 r (omega arith) in
+    let place : r.from ≡ at = chain.0 in
+    let grows : at + r.len ≤ length bytes = chain_grows (at + r.len) (length bytes) rs chain.1 in
+    let offset : (site.slot + r.from) % size ≡ r.from = aligned_offset site.slot r.from size aligned (let h = here.headed in let l = here.long in omega (arith, place, grows, short, h, l)) in
+    let laid : MessageStands sum size log (site.slot + r.from) (site.place / size) (message_in site bytes r) =
+    record_laid sum size site log bytes r here split.0 (same r.from r.len (omega (arith, place, behind)) (omega (arith, place, grows))) (omega (arith, place, grows, in_file)) (omega (arith, offset, place, grows, short))
+    (omega (arith, place, grows, short, small)) number_small in
+    let rest = records_laid sum size site log bytes from (at + r.len) rs same in_file aligned short small number_small (omega (arith, behind)) chain.1 (others (Stands sum (site.place / size) bytes) r rs stand)
+    (others (λ (x : Reserved). x.from + 32 ≤ size) r rs room) split.1 in
+    let has_room : r.from + 32 ≤ size = room 0 r (omega arith) in
+    subst (λ (ms : List Message). StandIn sum size log site at ms (length bytes)) (sym (completed_closed site bytes r rs split.0)) (
+      omega (arith, place, has_room),
+      ap (λ n. site.place + n) place,
+      ap (λ n. Inline (site.slot + n)) place,
+      subst (λ n. MessageStands sum size log (site.slot + n) (site.place / size) (message_in site bytes r)) place laid,
+      rest,
+    )
+
+-- the place before a place is a mark below it
+mark_before : (place : ℕ) → place < 2 ^ 63 → FitsSigned w64 (pos place -ℤ pos 1) × ((n : ℕ) → pos place -ℤ pos 1 ≡ pos n → n < place)
+mark_before zero small = (omega arith, λ n is. let apart : ℤ = pos n in cc)
+mark_before (suc m) small =
+    let is : pos (suc m) -ℤ pos 1 ≡ pos m = -ℤ_one (pos (suc m)) in
+    (subst (λ (z : ℤ). FitsSigned w64 z) (sym is) (omega (arith, small)), λ n at. let same : m ≡ n = ap nat_abs (sym is ∙ at) in omega (arith, same))
+
+module _ (sum : List ℕ → ℕ) (size : ℕ) (site : Site) (old bytes : List ℕ) (from : ℕ) (rs : List Reserved) (earlier : List Message) (file : IsLogFile sum size old site from earlier)
+    (begun : 20 ≤ length bytes) (behind : from < length bytes) (short : length bytes ≤ size) (slot_begins : site.slot % size ≡ 0) (place_small : site.place + size < 2 ^ 63) (slot_small : site.slot + size < 2 ^ 63)
+    (header : from ≡ 0 → take 20 bytes ≡ short_header sum (pos site.place) (pos site.place -ℤ pos 1))
+    (chain : IsChain (max 20 from) rs (length bytes)) (stand : All (Stands sum (site.place / size) bytes) rs) (room : All (λ r. r.from + 32 ≤ size) rs) (ended : all_ended rs ≡ true) where
+  abbrev xs : List ℕ
+  xs = drop from bytes
+
+  abbrev new : List ℕ
+  new = overwritten old (site.slot + from) xs
+
+  xs_long : length xs ≡ length bytes - from
+  xs_long = length-drop from bytes
+
+  same : (k n : ℕ) → from ≤ k → k + n ≤ length bytes → part new (site.slot + k) n ≡ part bytes k n
+  same k n le within =
+      let at : site.slot + from + (k - from) ≡ site.slot + k = omega (arith, le) in
+      let there : from + (k - from) ≡ k = omega (arith, le) in
+      ap (λ i. part new i n) (sym at) ∙ part_laid sum size old (site.slot + from) xs (k - from) n (omega (arith, xs_long, le, within))
+      ∙ ap (take n) (drop-drop (k - from) from bytes) ∙ ap (λ i. part bytes i n) there
+
+  in_file : site.slot + length bytes ≤ length new
+  in_file = let within = laid_within sum size old (site.slot + from) xs (omega (arith, xs_long, behind)) in omega (arith, within, xs_long, behind)
+
+  number_small : site.place / size < 2 ^ 63
+  number_small = omega (arith, div-le_self site.place size, place_small)
+
+  completed_stand : StandIn sum size new site (max 20 from) (completed_in site bytes rs) (max 20 (length bytes))
+  completed_stand =
+      let end : length bytes ≡ max 20 (length bytes) = omega (arith, begun) in
+      subst (λ n. StandIn sum size new site (max 20 from) (completed_in site bytes rs) n) end
+      (records_laid sum size site new bytes from (max 20 from) rs same in_file slot_begins short slot_small number_small (omega arith) chain stand room ended)
+
+  own_stand : StandIn sum size new site 20 file.own (max 20 from)
+  own_stand = elim (cases_lt from 20) [
+    | inl less ↦ (
+        let start : max 20 from ≡ 20 = omega (arith, less) in
+        let empty : file.own ≡ [] = stand_none sum size old site 20 file.own (subst (λ n. StandIn sum size old site 20 file.own n) start file.stand) in
+        subst (λ (ms : List Message). StandIn sum size new site 20 ms (max 20 from)) (sym empty) start)
+    | inr long ↦ stand_kept sum size old (site.slot + from) xs site 20 file.own (max 20 from) (omega (arith, long)) file.stand
+  ]
+
+  place_fits : FitsSigned w64 (pos site.place)
+  place_fits = omega (arith, place_small)
+
+  -- the header is there, or is written
+  header_stands : HasHeader sum new site
+  header_stands = elim (cases_lt 0 from) [
+    | inl some ↦ header_kept sum size old (site.slot + from) xs site (let long = file.begun some in omega (arith, long)) (file.header some)
+    | inr none ↦ (
+        let first : from ≡ 0 = omega (arith, none) in
+        let here : site.slot + 0 ≡ site.slot = omega arith in
+        let at : part new site.slot 20 ≡ take 20 bytes = ap (λ i. part new i 20) (sym here) ∙ same 0 20 (omega (arith, first)) (omega (arith, begun)) in
+        let mark = mark_before site.place (omega (arith, place_small)) in
+        record { mark = pos site.place -ℤ pos 1; header = record { is = at ∙ header first; place_fits = place_fits; mark_fits = mark.0 }; below = mark.1 })
+  ]
+
+  -- What was completed stands behind what stood there.
+  pub file_written : IsLogFile sum size new site (length bytes) (earlier ++ completed_in site bytes rs)
+  file_written = record {
+    older = file.older;
+    own = file.own ++ completed_in site bytes rs;
+    parts = ap (λ (ms : List Message). ms ++ completed_in site bytes rs) file.parts ∙ append_assoc file.older file.own (completed_in site bytes rs);
+    elsewhere = λ k d lt. elsewhere_kept sum size old (site.slot + from) xs site (get_or file.older k d) (omega arith) (omega (arith, xs_long, behind, short)) (file.elsewhere k d lt);
+    begun = λ some. begun;
+    header = λ some. header_stands;
+    stand = stand-append sum size new site 20 file.own (max 20 from) (completed_in site bytes rs) (max 20 (length bytes)) own_stand completed_stand;
+    clean = λ i above below. behind_write sum size old (site.slot + from) xs i (omega (arith, xs_long, behind)) (omega (arith, xs_long, behind, above)) ∙ file.clean i (omega (arith, behind, above)) below;
+    alone = λ none. absurd (omega (arith, begun, none));
+  }
+
+-- the snapshot is the same, and more of the log is settled
+begun-more : (sum : List ℕ → ℕ) (size : ℕ) (snapshots snapshots' : ℤ → Option (List ℕ)) (site : Site) (from from' : ℕ) (H : History) → snapshots' ≡ snapshots → from ≤ from'
+    → IsBegunFrom sum size snapshots site from H → IsBegunFrom sum size snapshots' site from' H
+begun-more sum size snapshots snapshots' site from from' H same more begun =
+    let reached = begun.reached in
+    let later : IsBegunFrom sum size snapshots site from' H = record {
+      first = begun.first;
+      begins = begun.begins;
+      table = begun.table;
+      fits = begun.fits;
+      least = begun.least;
+      reached = omega (arith, reached, more);
+      active = begun.active;
+      none_active = begun.none_active;
+    } in
+    subst (λ (f : ℤ → Option (List ℕ)). IsBegunFrom sum size f site from' H) (sym same) later
+
+-- there is a failure, or there is none
+fault_or_none : (o : Option IoError) → (o ≡ None) ⊎ ((e : IoError) × (o ≡ Some e))
+fault_or_none None = inl refl
+fault_or_none (Some e) = inr (e, refl)
+
+-- a chain of something that is as long as a header is longer than nothing
+chain_some : (sum : List ℕ → ℕ) (number : ℕ) (bytes : List ℕ) (from end : ℕ) (rs : List Reserved) → 0 < length rs → All (Stands sum number bytes) rs → IsChain (max 20 from) rs end → from < end
+chain_some sum number bytes from end [] some stand chain = absurd (omega (arith, some))
+chain_some sum number bytes from end (r ∷ rs) some stand chain =
+    let s = stand 0 r (omega arith) in
+    let h = s.headed in let l = s.long in
+    let rest = chain_grows (max 20 from + r.len) end rs chain.1 in
+    omega (arith, h, l, rest)
+
+module _ (sum : List ℕ → ℕ) (size : ℕ) (site : Site) (device : State) (fault : Option IoError) (bytes : List ℕ) (from : ℕ) (rs : List Reserved) (H : History)
+    (holds : HoldsIn sum size site device fault bytes from rs H) where
+  module _ (begun : 20 ≤ length bytes) (behind : from ≤ length bytes) (short : length bytes ≤ size) (place_small : site.place + size < 2 ^ 63) (slot_small : site.slot + size < 2 ^ 63)
+      (ended : all_ended rs ≡ true) (some : 0 < length rs) (whole : fault ≡ None) where
+    -- something was reserved, so there is something to write
+    grown : from < length bytes
+    grown = chain_some sum (site.place / size) bytes from (length bytes) rs some holds.stand holds.chain
+
+    settled_bytes : device.log.bytes ≡ (holds.written whole).log
+    settled_bytes = ap (λ (s : LogState). s.bytes) (holds.written whole).settled
+
+    -- All that the log holds is on the device when its buffer was written and settled there.
+    pub flushed : (now : LogState) → now ≡ at_rest (overwritten device.log.bytes (site.slot + from) (drop from bytes)) → IsOnDevice sum size now site (length bytes) H.messages
+    flushed now is = record {
+      log = overwritten (holds.written whole).log (site.slot + from) (drop from bytes);
+      settled = is ∙ ap (λ (l : List ℕ). at_rest (overwritten l (site.slot + from) (drop from bytes))) settled_bytes;
+      file = subst (λ (ms : List Message). IsLogFile sum size (overwritten (holds.written whole).log (site.slot + from) (drop from bytes)) site (length bytes) ms) (sym holds.messages)
+          (file_written sum size site (holds.written whole).log bytes from rs holds.earlier (holds.written whole).file begun grown short holds.slot_begins place_small slot_small holds.header holds.chain holds.stand holds.room ended);
+    }
+
+    all_below : All (λ m. (m.place < site.place + length bytes) × (m.place + m.size ≤ site.place + length bytes)) H.messages
+    all_below =
+        let Below : Message → Type 0 = λ m. (m.place < site.place + length bytes) × (m.place + m.size ≤ site.place + length bytes) in
+        let early : All Below holds.earlier = λ k d lt. let b = holds.below k d lt in (omega (arith, b.0, behind), omega (arith, b.1, behind)) in
+        let between = completed_between site bytes (max 20 from) (length bytes) rs holds.chain (some_long sum (site.place / size) bytes rs holds.stand) in
+        let late : All Below (completed_in site bytes rs) = λ k d lt. let b = between k d lt in (b.1, b.2) in
+        subst (λ (ms : List Message). All Below ms) (sym holds.messages) (All-append Below holds.earlier (completed_in site bytes rs) early late)
+
+    -- Once they are written and settled, the log holds the same.
+    pub holds-flush : (new : State) → new.log ≡ at_rest (overwritten device.log.bytes (site.slot + from) (drop from bytes)) → new.snapshots.file ≡ device.snapshots.file
+        → HoldsIn sum size site new fault bytes (length bytes) [] H
+    holds-flush new is names = record {
       earlier = H.messages;
       messages = sym (append-nil H.messages);
       batches = holds.batches;
-      lie = all.1;
-      header = holds.header;
-      written = take_all (length bytes) bytes (omega arith) ∙ all.0;
+      place_begins = holds.place_begins;
+      slot_begins = holds.slot_begins;
+      below = all_below;
+      header = λ none. absurd (omega (arith, begun, none));
       chain = omega (arith, begun);
       stand = λ k d lt. absurd (omega arith);
-      settled = λ none. is ∙ ap at_rest all.0;
+      room = λ k d lt. absurd (omega arith);
+      written = λ none. flushed new.log is;
+      begun = begun-more sum size device.snapshots.file new.snapshots.file site from (length bytes) H names behind holds.begun;
     }
 
--- A log that keeps a failure of its device holds what it held, whatever the device is now.
-pub holds-faulty : (sum : List ℕ → ℕ) (device : LogState) (fault : Option IoError) (bytes : List ℕ) (from : ℕ) (rs : List Reserved) (H : History) → HoldsIn sum device fault bytes from rs H
-    → (new : LogState) (e : IoError) (now : Option IoError) → now ≡ Some e → HoldsIn sum new now bytes from rs H
-holds-faulty sum device fault bytes from rs H holds new e now is = record {
-  earlier = holds.earlier;
-  messages = holds.messages;
-  batches = holds.batches;
-  lie = holds.lie;
-  header = holds.header;
-  written = holds.written;
-  chain = holds.chain;
-  stand = holds.stand;
-  settled = λ none. cc;
-}
+  -- A log that keeps a failure of its device holds what it held, whatever the log file is now.
+  pub holds-faulty : (new : State) (e : IoError) (now : Option IoError) → now ≡ Some e → new.snapshots.file ≡ device.snapshots.file → HoldsIn sum size site new now bytes from rs H
+  holds-faulty new e now is names = record {
+    earlier = holds.earlier;
+    messages = holds.messages;
+    batches = holds.batches;
+    place_begins = holds.place_begins;
+    slot_begins = holds.slot_begins;
+    below = holds.below;
+    header = holds.header;
+    chain = holds.chain;
+    stand = holds.stand;
+    room = holds.room;
+    written = λ none. cc;
+    begun = begun-more sum size device.snapshots.file new.snapshots.file site from from H names (omega arith) holds.begun;
+  }
 
--- Where nothing was reserved since the last write, all is on the device.
-pub nothing_due : (sum : List ℕ → ℕ) (device : LogState) (fault : Option IoError) (bytes : List ℕ) (from : ℕ) (rs : List Reserved) (H : History) → HoldsIn sum device fault bytes from rs H
-    → rs ≡ [] → fault ≡ None → device ≡ at_rest (log_image sum H.messages)
-nothing_due sum device fault bytes from rs H holds none whole =
-    let all : H.messages ≡ holds.earlier = holds.messages ∙ ap (λ (l : List Reserved). holds.earlier ++ completed_in bytes l) none ∙ append-nil holds.earlier in
-    holds.settled whole ∙ ap (λ (ms : List Message). at_rest (log_image sum ms)) (sym all)
+  -- Where nothing was reserved since the last write, all is on the device.
+  pub nothing_due : rs ≡ [] → fault ≡ None → IsOnDevice sum size device.log site from H.messages
+  nothing_due none whole =
+      let all : H.messages ≡ holds.earlier = holds.messages ∙ ap (λ (l : List Reserved). holds.earlier ++ completed_in site bytes l) none ∙ append-nil holds.earlier in
+      subst (λ (ms : List Message). IsOnDevice sum size device.log site from ms) (sym all) (holds.written whole)
 
--- What is written behind what is on the device makes all the bytes.
-pub written_whole : (sum : List ℕ → ℕ) (device : LogState) (fault : Option IoError) (bytes : List ℕ) (from : ℕ) (rs : List Reserved) (H : History) → HoldsIn sum device fault bytes from rs H
-    → from ≤ length bytes → fault ≡ None → overwritten device.bytes from (drop from bytes) ≡ bytes
-written_whole sum device fault bytes from rs H holds behind whole =
-    let there : device.bytes ≡ take from bytes = ap (λ (s : LogState). s.bytes) (holds.settled whole) ∙ sym holds.written in
-    let long : length (take from bytes) ≡ from = omega (arith, length-take from bytes) in
-    ap (λ (l : List ℕ). overwritten l from (drop from bytes)) there
-    ∙ ap (λ n. overwritten (take from bytes) n (drop from bytes)) (sym long)
-    ∙ overwritten-end (take from bytes) (drop from bytes)
-    ∙ take-append-drop from bytes
+  -- The same device and the same failure hold the same.
+  pub holds-moved : (after : State) (now : Option IoError) → after ≡ device → now ≡ fault → HoldsIn sum size site after now bytes from rs H
+  holds-moved after now d f = subst (λ (s : State). HoldsIn sum size site s now bytes from rs H) (sym d) (subst (λ (o : Option IoError). HoldsIn sum size site device o bytes from rs H) (sym f) holds)
 
--- A log that was just begun holds that nothing happened.
-pub holds-new : (sum : List ℕ → ℕ) (device : LogState) (bytes : List ℕ) → bytes ≡ short_header sum (pos 0) (negsuc 0) → device ≡ at_rest [] → HoldsIn sum device None bytes 0 [] no_history
-holds-new sum device bytes is empty =
-    let long : length bytes ≡ 20 = ap length is ∙ header_long sum in
-    record {
-      earlier = [];
-      messages = refl;
-      batches = refl;
-      lie = tt;
-      header = take_all 20 bytes (omega (arith, long)) ∙ is;
-      written = sym (image_none sum);
-      chain = sym long;
-      stand = λ k d lt. absurd (omega arith);
-      settled = λ whole. empty ∙ ap at_rest (sym (image_none sum));
-    }
-
--- The same device and the same failure hold the same.
-pub holds-moved : (sum : List ℕ → ℕ) (device device' : LogState) (fault fault' : Option IoError) (bytes : List ℕ) (from : ℕ) (rs : List Reserved) (H : History)
-    → device' ≡ device → fault' ≡ fault → HoldsIn sum device fault bytes from rs H → HoldsIn sum device' fault' bytes from rs H
-holds-moved sum device device' fault fault' bytes from rs H d f holds =
-    subst (λ (s : LogState). HoldsIn sum s fault' bytes from rs H) (sym d) (subst (λ (o : Option IoError). HoldsIn sum device o bytes from rs H) (sym f) holds)
+  -- A call that changed nothing of the device holds the same, whether or not the device failed in it.
+  pub holds-answered : (size' : ℕ) (after : State) (now : Option IoError) → size' ≡ size → after ≡ device → fault ≡ None → HoldsIn sum size' site after now bytes from rs H
+  holds-answered size' after now sizes same none =
+      let here : HoldsIn sum size site after now bytes from rs H = elim (fault_or_none now) [
+        | inl is ↦ holds-moved after now same (is ∙ sym none)
+        | inr is ↦ holds-faulty after is.0 now is.1 (ap (λ (s : State). s.snapshots.file) same)
+      ] in
+      subst (λ n. HoldsIn sum n site after now bytes from rs H) (sym sizes) here
 
 kind_apart : (kind : ErrorKind) → is_fault_kind kind ≡ true → kind ≡ OutOfMemory → ⊥
 kind_apart kind fault is = let not_one : false ≡ true = sym (ap is_fault_kind is) ∙ fault in cc
@@ -207,16 +304,3 @@ memory_by e false is cause = inl cause
 -- An error of a call that may want memory is want of memory, or another one.
 pub memory_or_fault : (e : IoError) → MatchBool (is_fault e) (Unit {0}) (error_kind e ≡ OutOfMemory) → (error_kind e ≡ OutOfMemory) ⊎ (error_kind e ≢ OutOfMemory)
 memory_or_fault e cause = memory_by e (is_fault e) refl cause
-
--- there is a failure, or there is none
-fault_or_none : (o : Option IoError) → (o ≡ None) ⊎ ((e : IoError) × (o ≡ Some e))
-fault_or_none None = inl refl
-fault_or_none (Some e) = inr (e, refl)
-
--- A call that changed nothing of the device holds the same, whether or not the device failed in it.
-pub holds-answered : (sum : List ℕ → ℕ) (device device' : LogState) (fault fault' : Option IoError) (bytes : List ℕ) (from : ℕ) (rs : List Reserved) (H : History)
-    → device' ≡ device → fault ≡ None → HoldsIn sum device fault bytes from rs H → HoldsIn sum device' fault' bytes from rs H
-holds-answered sum device device' fault fault' bytes from rs H same none holds = elim (fault_or_none fault') [
-  | inl is ↦ holds-moved sum device device' fault fault' bytes from rs H same (is ∙ sym none) holds
-  | inr is ↦ holds-faulty sum device fault bytes from rs H holds device' is.0 fault' is.1
-]

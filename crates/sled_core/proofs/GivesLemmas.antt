@@ -1,31 +1,32 @@
 -- Where the record of a message stands, what is read is that message.
-use Rattle.std.proofs.Common.{◌≡◌, ◌≢◌, ◌≤◌, ◌<◌, ◌+◌, ◌%◌, ◌^◌, ℕ, List, ◌++◌, length, drop, sym, ◌∙◌, ap, arith, refl, subst, length-take, true, false, Bool, if◌then◌else◌, ◌==◌, Option, None, Some, max, inl, inr}
-use Rattle.std.specs.List.{Contains}
-use Rattle.std.proofs.Math.Nat.{mod-eq_of_lt}
+use Rattle.std.proofs.Common.{◌≡◌, ◌≢◌, ◌≤◌, ◌<◌, ◌+◌, ◌/◌, ◌%◌, ℕ, List, [], ◌∷◌, length, sym, ◌∙◌, ap, arith, refl, subst, true, false, Bool, if◌then◌else◌, ◌==◌, Option, None, Some, max, inl, inr}
+use Rattle.std.specs.List.{All, Contains}
 use Rattle.std.proofs.lemmas.List.Elements.{Contains-append_cases}
 use Rattle.sled_codec.specs.declared.result.DiskPtr.TheVariants as ptr
-use Rattle.std.specs.Option.{unwrap_or}
 use Rattle.sled_codec.specs.declared.serialization.message.LogKind.{LogKind}
 use Rattle.sled_codec.specs.declared.serialization.message.LogKind.TheVariants as does
 use Rattle.sled_codec.specs.declared.serialization.message.MessageKind.{MessageKind}
 use Rattle.sled_codec.specs.declared.serialization.message.MessageKind.TheVariants as kind
 use Rattle.sled_codec.specs.declared.serialization.message.MessageHeader.{MessageHeader}
 use Rattle.sled_codec.specs.Kinds.{kind_written}
-use Rattle.sled_codec.specs.Places.{part}
-use Rattle.sled_codec.specs.Sums.{flipped}
 use Rattle.sled_codec.specs.History.{Message, History}
-use Rattle.sled_codec.proofs.Records.{short_is_record, length-short_record}
-use Rattle.sled_store.specs.Device.{LogState}
+use Rattle.sled_store.specs.Device.{LogState, State}
 use Rattle.sled_core.specs.declared.iobuf.Reserved.{Reserved}
+use Rattle.sled_core.specs.declared.iobuf.Site.{Site}
 use Rattle.sled_core.specs.Buffers.{completed_in}
-use Rattle.sled_core.specs.Fits.{HoldsIn, record_text, record_kind, log_image}
-use Rattle.sled_core.proofs.Ranges.{of_one, completed_between}
+use Rattle.sled_core.specs.LogFile.{MessageStands, StandIn, StandsElsewhere, IsLogFile}
+use Rattle.sled_core.specs.Fits.{HoldsIn, IsOnDevice}
+use Rattle.sled_core.proofs.Ranges.{of_one, completed_between, with_first}
 use Rattle.sled_core.proofs.CompletesLemmas.{some_long}
-use Rattle.sled_core.proofs.Images.{image_stands}
 use Rattle.sled_core.proofs.ReadingLemmas.{laid_of, one_head, one_laid, one_text}
+use Rattle.sled_core.proofs.ScanLemmas.{aligned_number}
 use Rattle.sled_core.specs.declared.reading.LogRead.{LogRead}
 use Rattle.sled_core.specs.declared.reading.LogRead.TheVariants.{Inline, Blob, Canceled, Cap, Corrupted, DanglingBlob, BatchManifest}
 use Rattle.sled_core.specs.Reading.{StandsAt, IsReading, GivesMessage, is_inline, is_blob}
+
+-- the record of a message stands at its pointer, in the segment of its place
+abbrev pub StandsWhole : (List ℕ → ℕ) → ℕ → List ℕ → Message → Type 0
+StandsWhole sum size log m = (lid : ℕ) × (m.pointer ≡ ptr.Inline lid) × MessageStands sum size log lid (m.place / size) m
 
 -- At one offset one record stands.
 
@@ -61,11 +62,6 @@ blob_apart kind.BlobNode blob inline = cc
 blob_apart kind.BlobLink blob inline = cc
 blob_apart _ blob inline = cc
 
--- the kind that is known of a message
-kind_known : (o : Option MessageKind) → unwrap_or o kind.Corrupted ≢ kind.Corrupted → o ≡ Some (unwrap_or o kind.Corrupted)
-kind_known None valid = absurd (valid refl)
-kind_known (Some k) valid = refl
-
 -- What is read where a message's record stands gives that message.
 pub gives : (sum : List ℕ → ℕ) (size : ℕ) (log : List ℕ) (lid number : ℕ) (m : Message) (h : MessageHeader) (r : LogRead)
     → StandsAt sum size log lid number h m.bytes m.size → kind_written m.kind m.page false ≡ Some h.kind → h.pid ≡ m.page → IsReading sum size log lid number r → GivesMessage m r
@@ -95,37 +91,28 @@ gives sum size log lid number m h (BatchManifest peg n) stands known page reads 
     let inline : is_inline reads.0.kind ≡ true = ap (λ (x : MessageHeader). is_inline x.kind) (sym same) ∙ kind_inline m.kind m.page h.kind known in
     let not_so : is_inline kind.BatchManifest ≡ true = ap is_inline (sym reads.3) ∙ inline in cc
 
--- A message that was written stands where it lies, and it lies at its place.
-pub message_found : (sum : List ℕ → ℕ) (size : ℕ) (device : LogState) (bytes : List ℕ) (from : ℕ) (rs : List Reserved) (H : History) (m : Message)
-    → HoldsIn sum device None bytes from rs H → from ≤ length bytes → length bytes ≤ size → size ≤ 8388608 → Contains H.messages m → m.place < from
-    → (h : MessageHeader) × StandsAt sum size device.bytes m.place 0 h m.bytes m.size × (kind_written m.kind m.page false ≡ Some h.kind) × (h.pid ≡ m.page) × (m.pointer ≡ ptr.Inline m.place)
-unfolding record_text
-message_found sum size device bytes from rs H m holds behind in_segment small there written =
-    let image : List ℕ = log_image sum holds.earlier in
-    let early : Contains holds.earlier m = elim (Contains-append_cases holds.earlier (completed_in bytes rs) m (subst (λ (ms : List Message). Contains ms m) holds.messages there)) [
+-- the messages of a segment stand at their pointers
+own_stands : (sum : List ℕ → ℕ) (size : ℕ) (log : List ℕ) (site : Site) (at : ℕ) (ms : List Message) (end : ℕ) → site.place % size ≡ 0 → StandIn sum size log site at ms end → All (StandsWhole sum size log) ms
+own_stands sum size log site at [] end aligned stand = λ k d lt. absurd (omega arith)
+own_stands sum size log site at (m ∷ ms) end aligned stand =
+    let below : at < size = omega (arith, stand.0) in
+    let number : site.place / size ≡ m.place / size = sym (ap (λ n. n / size) stand.1 ∙ aligned_number site.place at size aligned below) in
+    with_first (StandsWhole sum size log) m ms (site.slot + at, stand.2, subst (λ n. MessageStands sum size log (site.slot + at) n m) number stand.3) (own_stands sum size log site (at + m.size) ms end aligned stand.4)
+
+-- A message that was written stands where it lies, in the segment of its place.
+pub message_found : (sum : List ℕ → ℕ) (size : ℕ) (site : Site) (device : State) (bytes : List ℕ) (from : ℕ) (rs : List Reserved) (H : History) (m : Message)
+    → HoldsIn sum size site device None bytes from rs H → Contains H.messages m → m.place < site.place + from → StandsWhole sum size device.log.bytes m
+message_found sum size site device bytes from rs H m holds there written =
+    let on : IsOnDevice sum size device.log site from holds.earlier = holds.written refl in
+    let file : IsLogFile sum size on.log site from holds.earlier = on.file in
+    let early : Contains holds.earlier m = elim (Contains-append_cases holds.earlier (completed_in site bytes rs) m (subst (λ (ms : List Message). Contains ms m) holds.messages there)) [
       | inl first ↦ first
       | inr later ↦ (
-          let between = of_one (λ x. (max 20 from ≤ x.place) × (x.place < length bytes)) (completed_in bytes rs) m (completed_between bytes (max 20 from) (length bytes) rs holds.chain (some_long sum bytes rs holds.stand)) later in
+          let between = of_one (λ x. (site.place + max 20 from ≤ x.place) × (x.place < site.place + length bytes) × (x.place + x.size ≤ site.place + length bytes)) (completed_in site bytes rs) m (completed_between site bytes (max 20 from) (length bytes) rs holds.chain (some_long sum (site.place / size) bytes rs holds.stand)) later in
           absurd (omega (arith, between.0, written)))
     ] in
-    let stands = of_one (λ x. (part image x.place x.size ≡ record_text sum x) × (x.place + x.size ≤ length image) × (x.pointer ≡ ptr.Inline x.place) × (x.size ≡ length (record_text sum x)) × (record_kind x ≢ kind.Corrupted) × (x.page < 2 ^ 64)) holds.earlier m (image_stands sum holds.earlier holds.lie) early in
-    let long : length image ≤ from = omega (arith, ap length holds.written, length-take from bytes) in
-    let body_long : length m.bytes ≤ m.size = omega (arith, stands.3, length-short_record sum (record_kind m) m.page 0 m.bytes) in
-    let ends = stands.1 in
-    let record_of = short_is_record sum (record_kind m) m.page 0 m.bytes stands.4 stands.5 (omega arith) (omega (arith, body_long, ends, long, behind, in_segment, small)) in
-    let header : MessageHeader = record { crc32 = flipped (sum (m.bytes ++ drop 4 record_of.header)); kind = record_kind m; segment_number = record { 0 = 0 }; pid = m.page; len = length m.bytes } in
-    let settled : device.bytes ≡ image = ap (λ (s : LogState). s.bytes) (holds.settled refl) in
-    let offset : m.place % size ≡ m.place = mod-eq_of_lt (omega (arith, written, behind, in_segment)) in
-    let on_image : StandsAt sum size image m.place 0 header m.bytes m.size = record {
-      header = record_of.header;
-      spelled = record_of.spelled;
-      is = stands.0 ∙ record_of.is;
-      counted = refl;
-      numbered = refl;
-      summed = refl;
-      valid = stands.4;
-      in_file = ends;
-      in_slot = omega (arith, offset, ends, long, behind, in_segment);
-      small = omega (arith, ends, long, behind, in_segment, small);
-    } in
-    (header, subst (λ (l : List ℕ). StandsAt sum size l m.place 0 header m.bytes m.size) (sym settled) on_image, kind_known (kind_written m.kind m.page false) stands.4, refl, stands.2)
+    let stands : StandsWhole sum size on.log m = elim (Contains-append_cases file.older file.own m (subst (λ (ms : List Message). Contains ms m) file.parts early)) [
+      | inl older ↦ (let s = of_one (StandsElsewhere sum size on.log site) file.older m file.elsewhere older in (s.lid, s.pointer, s.stands))
+      | inr own ↦ of_one (StandsWhole sum size on.log) file.own m (own_stands sum size on.log site 20 file.own (max 20 from) holds.place_begins file.stand) own
+    ] in
+    subst (λ (l : List ℕ). StandsWhole sum size l m) (sym (ap (λ (s : LogState). s.bytes) on.settled)) stands

@@ -1,5 +1,6 @@
-pub mod Images
+pub mod LogFileLemmas
 pub mod Parts
+pub mod BegunLemmas
 pub mod CompletesLemmas
 pub mod FlushLemmas
 pub mod GivesLemmas

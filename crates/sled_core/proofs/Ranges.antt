@@ -7,6 +7,7 @@ use Rattle.sled_codec.specs.Places.{part}
 use Rattle.sled_codec.specs.Written.{written}
 use Rattle.sled_codec.specs.History.{Message}
 use Rattle.sled_core.specs.declared.iobuf.Reserved.{Reserved}
+use Rattle.sled_core.specs.declared.iobuf.Site.{Site}
 use Rattle.sled_core.proofs.Parts.{get_there}
 use Rattle.sled_core.specs.Buffers.{body_in, message_in, IsChain, completed_in}
 
@@ -36,19 +37,19 @@ pub others : {X : Type 0} (P : X → Type 0) (x : X) (xs : List X) → All P (x 
 others P x xs all = λ k d lt. all (suc k) d (omega arith)
 
 -- Messages that stand in the same bytes are the same.
-pub completed-same : (old new : List ℕ) (rs : List Reserved) → All (λ r. body_in new r ≡ body_in old r) rs → completed_in new rs ≡ completed_in old rs
-completed-same old new [] all = refl
-completed-same old new (r ∷ rs) all =
-    let rest : completed_in new rs ≡ completed_in old rs = completed-same old new rs (others (λ x. body_in new x ≡ body_in old x) r rs all) in
+pub completed-same : (site : Site) (old new : List ℕ) (rs : List Reserved) → All (λ r. body_in new r ≡ body_in old r) rs → completed_in site new rs ≡ completed_in site old rs
+completed-same site old new [] all = refl
+completed-same site old new (r ∷ rs) all =
+    let rest : completed_in site new rs ≡ completed_in site old rs = completed-same site old new rs (others (λ x. body_in new x ≡ body_in old x) r rs all) in
     let here : body_in new r ≡ body_in old r = all 0 r (omega arith) in
-    let message : message_in new r ≡ message_in old r = ap (λ (l : List ℕ). record (message_in old r) { bytes = l }) here in
-    elim r.is_open as (λ o. (if o then completed_in new rs else message_in new r ∷ completed_in new rs) ≡ (if o then completed_in old rs else message_in old r ∷ completed_in old rs)) [ true ↦ rest | false ↦ (cc) ]
+    let message : message_in site new r ≡ message_in site old r = ap (λ (l : List ℕ). record (message_in site old r) { bytes = l }) here in
+    elim r.is_open as (λ o. (if o then completed_in site new rs else message_in site new r ∷ completed_in site new rs) ≡ (if o then completed_in site old rs else message_in site old r ∷ completed_in site old rs)) [ true ↦ rest | false ↦ (cc) ]
 
-pub completed-append : (bytes : List ℕ) (xs ys : List Reserved) → completed_in bytes (xs ++ ys) ≡ completed_in bytes xs ++ completed_in bytes ys
-completed-append bytes [] ys = refl
-completed-append bytes (x ∷ xs) ys =
-    let rest : completed_in bytes (xs ++ ys) ≡ completed_in bytes xs ++ completed_in bytes ys = completed-append bytes xs ys in
-    elim x.is_open as (λ o. (if o then completed_in bytes (xs ++ ys) else message_in bytes x ∷ completed_in bytes (xs ++ ys)) ≡ (if o then completed_in bytes xs else message_in bytes x ∷ completed_in bytes xs) ++ completed_in bytes ys) [ true ↦ rest | false ↦ ap (λ (l : List Message). message_in bytes x ∷ l) rest ]
+pub completed-append : (site : Site) (bytes : List ℕ) (xs ys : List Reserved) → completed_in site bytes (xs ++ ys) ≡ completed_in site bytes xs ++ completed_in site bytes ys
+completed-append site bytes [] ys = refl
+completed-append site bytes (x ∷ xs) ys =
+    let rest : completed_in site bytes (xs ++ ys) ≡ completed_in site bytes xs ++ completed_in site bytes ys = completed-append site bytes xs ys in
+    elim x.is_open as (λ o. (if o then completed_in site bytes (xs ++ ys) else message_in site bytes x ∷ completed_in site bytes (xs ++ ys)) ≡ (if o then completed_in site bytes xs else message_in site bytes x ∷ completed_in site bytes xs) ++ completed_in site bytes ys) [ true ↦ rest | false ↦ ap (λ (l : List Message). message_in site bytes x ∷ l) rest ]
 
 -- one reservation more
 pub chain-append : (from end : ℕ) (rs : List Reserved) (r : Reserved) → IsChain from rs end → r.from ≡ end → IsChain from (rs ++ r ∷ []) (end + r.len)
@@ -100,18 +101,18 @@ with_first P x xs here all zero d lt = here
 with_first P x xs here all (suc k) d lt = all k d (omega arith)
 
 -- The messages of a chain lie between its ends.
-pub completed_between : (bytes : List ℕ) (from end : ℕ) (rs : List Reserved) → IsChain from rs end → All (λ r. 0 < r.len) rs
-    → All (λ m. (from ≤ m.place) × (m.place < end)) (completed_in bytes rs)
-completed_between bytes from end [] is some = λ k d lt. absurd (omega arith)
-completed_between bytes from end (r ∷ rs) is some =
+pub completed_between : (site : Site) (bytes : List ℕ) (from end : ℕ) (rs : List Reserved) → IsChain from rs end → All (λ r. 0 < r.len) rs
+    → All (λ m. (site.place + from ≤ m.place) × (m.place < site.place + end) × (m.place + m.size ≤ site.place + end)) (completed_in site bytes rs)
+completed_between site bytes from end [] is some = λ k d lt. absurd (omega arith)
+completed_between site bytes from end (r ∷ rs) is some =
     let here : r.from ≡ from = is.0 in
     let long : 0 < r.len = some 0 r (omega arith) in
     let grows : from + r.len ≤ end = chain_grows (from + r.len) end rs is.1 in
-    let rest : All (λ m. (from + r.len ≤ m.place) × (m.place < end)) (completed_in bytes rs) = completed_between bytes (from + r.len) end rs is.1 (others (λ x. 0 < x.len) r rs some) in
-    let Between : Message → Type 0 = λ m. (from ≤ m.place) × (m.place < end) in
-    let later : All Between (completed_in bytes rs) = λ k d lt. let b = rest k d lt in (omega (arith, b.0), b.1) in
-    elim r.is_open as (λ o. All Between (if o then completed_in bytes rs else message_in bytes r ∷ completed_in bytes rs))
-    [ true ↦ later | false ↦ with_first Between (message_in bytes r) (completed_in bytes rs) (omega arith, omega arith) later ]
+    let Between : ℕ → Message → Type 0 = λ n m. (site.place + n ≤ m.place) × (m.place < site.place + end) × (m.place + m.size ≤ site.place + end) in
+    let rest : All (Between (from + r.len)) (completed_in site bytes rs) = completed_between site bytes (from + r.len) end rs is.1 (others (λ x. 0 < x.len) r rs some) in
+    let later : All (Between from) (completed_in site bytes rs) = λ k d lt. let b = rest k d lt in (omega (arith, b.0), b.1, b.2) in
+    elim r.is_open as (λ o. All (Between from) (if o then completed_in site bytes rs else message_in site bytes r ∷ completed_in site bytes rs))
+    [ true ↦ later | false ↦ with_first (Between from) (message_in site bytes r) (completed_in site bytes rs) (omega arith, omega arith, omega arith) later ]
 
 -- what holds of each holds of those in front, of the one between and of those behind
 pub all_split : {X : Type 0} (P : X → Type 0) (xs ys : List X) (x : X) → All P (xs ++ x ∷ ys) → All P xs × P x × All P ys

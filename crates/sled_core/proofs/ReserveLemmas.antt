@@ -14,8 +14,9 @@ use Rattle.sled_codec.specs.Record.{record_sum, short_record}
 use Rattle.sled_codec.specs.History.{Message}
 use Rattle.sled_core.specs.declared.iobuf.Reserved.{Reserved}
 use Rattle.sled_core.specs.declared.iobuf.Kept.{Kept}
+use Rattle.sled_core.specs.declared.iobuf.Site.{Site}
+use Rattle.sled_codec.specs.declared.result.DiskPtr.TheVariants.{Inline}
 use Rattle.sled_core.specs.Buffers.{text_in, body_in, message_in, placeholder, placeholder_head, reserved_for, record_size, StandsAs, Stands}
-use Rattle.sled_core.specs.Fits.{message_for}
 use Rattle.sled_core.proofs.Heads.{length-short_header_tail}
 
 -- no message is written as damage
@@ -42,8 +43,8 @@ there_append [] ys i x there = cc
 there_append (y ∷ xs) ys zero x there = there
 there_append (y ∷ xs) ys (suc i) x there = there_append xs ys i x there
 
-module _ (sum : List ℕ → ℕ) (bytes head item : List ℕ) (kept : Kept) (known : kind_written kept.log_kind kept.page false ≡ Some kept.kind) (small : kept.page < 2 ^ 64)
-    (tail : drop 4 head ≡ short_header_tail kept.kind (length item) 0 kept.page) (long : length head ≡ 4 + length (short_header_tail kept.kind (length item) 0 kept.page)) where
+module _ (sum : List ℕ → ℕ) (number : ℕ) (bytes head item : List ℕ) (kept : Kept) (known : kind_written kept.log_kind kept.page false ≡ Some kept.kind) (small : kept.page < 2 ^ 64)
+    (tail : drop 4 head ≡ short_header_tail kept.kind (length item) number kept.page) (long : length head ≡ 4 + length (short_header_tail kept.kind (length item) number kept.page)) where
   abbrev more : List ℕ
   more = placeholder_head head ++ item
 
@@ -51,7 +52,7 @@ module _ (sum : List ℕ → ℕ) (bytes head item : List ℕ) (kept : Kept) (kn
   reserved = reserved_for kept (length bytes) (length head) (length item) (sum (item ++ drop 4 head))
 
   head_long : 5 ≤ length head
-  head_long = omega (arith, long, length-short_header_tail kept.kind (length item) 0 kept.page)
+  head_long = omega (arith, long, length-short_header_tail kept.kind (length item) number kept.page)
 
   placeholder_long : length (placeholder_head head) ≡ length head
   placeholder_long = omega (arith, head_long, length-drop 5 head)
@@ -69,16 +70,16 @@ module _ (sum : List ℕ → ℕ) (bytes head item : List ℕ) (kept : Kept) (kn
   text_is : text_in (bytes ++ more) reserved ≡ more
   text_is = ap (take (length head + length item)) (drop_at bytes more (length bytes) refl) ∙ take_all (length head + length item) more (omega (arith, more_long))
 
-  placeholder_is : more ≡ placeholder (short_record sum kept.kind kept.page 0 item)
+  placeholder_is : more ≡ placeholder (short_record sum kept.kind kept.page number item)
   unfolding short_record short_header_tail
   placeholder_is =
-      let behind : drop 5 head ≡ drop 1 (short_header_tail kept.kind (length item) 0 kept.page) = sym (drop-drop 1 4 head) ∙ ap (drop 1) tail in
+      let behind : drop 5 head ≡ drop 1 (short_header_tail kept.kind (length item) number kept.page) = sym (drop-drop 1 4 head) ∙ ap (drop 1) tail in
       ap (λ (l : List ℕ). replicate 5 0 ++ l ++ item) behind
 
-  pub stands : Stands sum 0 (bytes ++ more) reserved
+  pub stands : Stands sum number (bytes ++ more) reserved
   unfolding record_sum
   stands =
-      let as_item : StandsAs sum 0 (text_in (bytes ++ more) reserved) item reserved = record {
+      let as_item : StandsAs sum number (text_in (bytes ++ more) reserved) item reserved = record {
         headed = head_long;
         long = omega arith;
         known = known;
@@ -88,14 +89,15 @@ module _ (sum : List ℕ → ℕ) (bytes head item : List ℕ) (kept : Kept) (kn
         counted = long;
         is = text_is ∙ placeholder_is;
       } in
-      subst (λ (b : List ℕ). StandsAs sum 0 (text_in (bytes ++ more) reserved) b reserved) (sym body_is) as_item
+      subst (λ (b : List ℕ). StandsAs sum number (text_in (bytes ++ more) reserved) b reserved) (sym body_is) as_item
 
-  pub message_is : message_for kept.log_kind kept.page (length bytes) item ≡ message_in (bytes ++ more) reserved
-  message_is =
-      let size : record_size kept.page (length item) ≡ length head + length item = omega (arith, long, length-short_header_tail kept.kind (length item) 0 kept.page) in
-      let m : Message = message_for kept.log_kind kept.page (length bytes) item in
-      ap (λ n. record m { size = n }) size ∙ ap (λ (l : List ℕ). record (message_in (bytes ++ more) reserved) { bytes = l }) (sym body_is)
+  pub message_is : (site : Site)
+      → record { kind = kept.log_kind; page = kept.page; place = site.place + length bytes; pointer = Inline (site.slot + length bytes); size = record_size number kept.page (length item); bytes = item } ≡ message_in site (bytes ++ more) reserved
+  message_is site =
+      let size : record_size number kept.page (length item) ≡ length head + length item = omega (arith, long, length-short_header_tail kept.kind (length item) number kept.page) in
+      let m : ℕ → Message = λ n. record { kind = kept.log_kind; page = kept.page; place = site.place + length bytes; pointer = Inline (site.slot + length bytes); size = n; bytes = item } in
+      ap m size ∙ ap (λ (l : List ℕ). record (message_in site (bytes ++ more) reserved) { bytes = l }) (sym body_is)
 
 -- the whole header, by its length behind the sum
-pub head_whole : (head : List ℕ) (kind : MessageKind) (len page : ℕ) → drop 4 head ≡ short_header_tail kind len 0 page → length head ≡ 4 + length (short_header_tail kind len 0 page)
-head_whole head kind len page is = omega (arith, ap length is, length-drop 4 head, length-short_header_tail kind len 0 page)
+pub head_whole : (head : List ℕ) (kind : MessageKind) (len number page : ℕ) → drop 4 head ≡ short_header_tail kind len number page → length head ≡ 4 + length (short_header_tail kind len number page)
+head_whole head kind len number page is = omega (arith, ap length is, length-drop 4 head, length-short_header_tail kind len number page)

@@ -3,7 +3,7 @@ use Rattle.std.proofs.Common.{◌≡◌, ◌∙◌, ◌+◌, ◌/◌, ◌≤◌,
 use Rattle.sled_core.specs.declared.met.Met.{Met}
 use Rattle.std.proofs.Common.{◌%◌, ◌*◌}
 use Rattle.std.proofs.Math.Nat.{mod-add-div'}
-use Rattle.std.proofs.lemmas.Nat.{mod-mul-add}
+use Rattle.std.proofs.lemmas.Nat.{mod-mul-add, div-mul-add}
 use Rattle.sled_core.specs.declared.met.Ending.{Ending}
 use Rattle.sled_core.specs.declared.met.Ending.TheVariants.{Full, Capped, Broken}
 use Rattle.sled_core.specs.declared.met.Step.{Step}
@@ -41,6 +41,12 @@ pub aligned_offset : (slot at size : ℕ) → slot % size ≡ 0 → at < size �
 aligned_offset slot at size aligned below =
     let whole : slot ≡ slot / size * size = omega (arith, mod-add-div' slot size, aligned) in
     ap (λ n. (n + at) % size) whole ∙ mod-mul-add (slot / size) size at below
+
+-- and its segment's number is that of the place at which the segment begins
+pub aligned_number : (place at size : ℕ) → place % size ≡ 0 → at < size → (place + at) / size ≡ place / size
+aligned_number place at size aligned below =
+    let whole : place ≡ place / size * size = omega (arith, mod-add-div' place size, aligned) in
+    ap (λ n. (n + at) / size) whole ∙ div-mul-add (place / size) size at below
 
 -- the reading ends where it finds no record to go on with
 pub ends_here : (sum : List ℕ → ℕ) (size : ℕ) (r : Readable) (slot place at : ℕ) (why : Ending) → at + 32 ≤ size → EndsThere sum size r (slot + at) (place / size) why → IsEnd sum size r slot place at why

@@ -10,6 +10,7 @@ use Rattle.sled_codec.specs.Record.{record_sum, short_record}
 use Rattle.sled_codec.specs.History.{Message}
 use Rattle.sled_core.specs.declared.iobuf.Reserved.{Reserved}
 use Rattle.sled_core.specs.declared.iobuf.Kept.{Kept}
+use Rattle.sled_core.specs.declared.iobuf.Site.{Site}
 
 -- the bytes that a reservation has in its segment
 abbrev pub text_in : List ℕ → Reserved → List ℕ
@@ -19,9 +20,9 @@ text_in bytes r = part bytes r.from r.len
 abbrev pub body_in : List ℕ → Reserved → List ℕ
 body_in bytes r = part bytes (r.from + r.header_len) (r.len - r.header_len)
 
--- the message that it is for
-abbrev pub message_in : List ℕ → Reserved → Message
-message_in bytes r = record { kind = r.log_kind; page = r.page; place = r.from; pointer = Inline r.from; size = r.len; bytes = body_in bytes r }
+-- the message that it is for, in a segment that lies there
+abbrev pub message_in : Site → List ℕ → Reserved → Message
+message_in site bytes r = record { kind = r.log_kind; page = r.page; place = site.place + r.from; pointer = Inline (site.slot + r.from); size = r.len; bytes = body_in bytes r }
 
 -- a header with zeros in place of its sum and its kind
 abbrev pub placeholder_head : List ℕ → List ℕ
@@ -64,9 +65,9 @@ IsChain from [] end = from ≡ end
 IsChain from (r ∷ rs) end = (r.from ≡ from) × IsChain (from + r.len) rs end
 
 -- the messages of the reservations that were completed, by place
-abbrev pub completed_in : List ℕ → List Reserved → List Message
-completed_in bytes [] = []
-completed_in bytes (r ∷ rs) = if r.is_open then completed_in bytes rs else message_in bytes r ∷ completed_in bytes rs
+abbrev pub completed_in : Site → List ℕ → List Reserved → List Message
+completed_in site bytes [] = []
+completed_in site bytes (r ∷ rs) = if r.is_open then completed_in site bytes rs else message_in site bytes r ∷ completed_in site bytes rs
 
 -- none of them is open
 abbrev pub all_ended : List Reserved → Bool
@@ -78,6 +79,6 @@ abbrev pub end_reserved : ℕ → ℕ → List Reserved → ℕ
 end_reserved from end [] = from
 end_reserved from end (r ∷ rs) = end
 
--- how long the record is of a page's message with an item of n bytes, in segment 0
-abbrev pub record_size : ℕ → ℕ → ℕ
-record_size page n = 5 + length (short_number n) + length (short_number 0) + length (short_number page) + n
+-- how long the record is of a page's message with an item of n bytes, in a segment of this number
+abbrev pub record_size : ℕ → ℕ → ℕ → ℕ
+record_size number page n = 5 + length (short_number n) + length (short_number number) + length (short_number page) + n

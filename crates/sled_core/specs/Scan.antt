@@ -1,12 +1,15 @@
 -- What a reader of a log file meets: the segments that are found there, and the records of each from its header on.
 -- Stated for any number of segments and for all kinds of messages.
-use Rattle.std.specs.Prelude.{◌≡◌, ◌⊎◌, ◌≢◌, ◌+◌, ◌/◌, ◌≤◌, ◌<◌, ℕ, ℤ, true, List, [], ◌∷◌, ◌++◌, length, Option, Some, None}
+use Rattle.std.specs.Prelude.{◌≡◌, ◌⊎◌, ◌≢◌, ◌+◌, ◌/◌, ◌%◌, ◌^◌, ◌≤◌, ◌<◌, ℕ, ℤ, pos, true, List, [], ◌∷◌, ◌++◌, length, Option, Some, None}
 use Rattle.sled_codec.specs.declared.serialization.message.MessageHeader.{MessageHeader}
 use Rattle.sled_codec.specs.declared.serialization.message.MessageKind.{MessageKind}
 use Rattle.sled_codec.specs.declared.serialization.message.MessageKind.TheVariants as kind
 use Rattle.sled_codec.specs.declared.result.DiskPtr.TheVariants as ptr
 use Rattle.sled_codec.specs.Kinds.{log_kind_of, code_of}
+use Rattle.sled_codec.specs.Places.{part}
+use Rattle.sled_codec.specs.Record.{IsHeader}
 use Rattle.sled_codec.specs.Spelling.{SpellsSigned, low_bytes}
+use Rattle.sled_core.specs.declared.met.Segment.{Segment}
 use Rattle.sled_core.specs.declared.met.Met.{Met}
 use Rattle.sled_core.specs.declared.met.What.{What}
 use Rattle.sled_core.specs.declared.met.What.TheVariants.{Gives, Passed, Begins}
@@ -16,6 +19,16 @@ use Rattle.sled_core.specs.declared.met.Step.{Step}
 use Rattle.sled_core.specs.declared.met.Step.TheVariants.{Meets, Ends}
 use Rattle.sled_core.specs.declared.read_at.BasedBuf.{BasedBuf}
 use Rattle.sled_core.specs.Reading.{StandsAt, is_inline, is_blob, file_of}
+
+-- a segment begins at a slot of the file, with a header that passes, at this place or above it
+pub record IsFoundSegment (sum : List ℕ → ℕ) (size : ℕ) (log : List ℕ) (least : ℕ) (s : Segment) : Type 0 where
+  pub slot : s.slot % size ≡ 0
+  pub header : IsHeader sum (part log s.slot 20) (pos s.place) s.mark
+  pub not_below : least ≤ s.place
+
+-- it begins where no segment can begin
+abbrev pub IsMisplaced : ℕ → Segment → Type 0
+IsMisplaced size s = (s.place % size ≢ 0) ⊎ (2 ^ 63 ≤ s.place + size)
 
 -- What is read: the log file, and the blobs by place.
 pub record Readable : Type 0 where

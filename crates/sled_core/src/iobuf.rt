@@ -6,7 +6,7 @@ ghost use Rattle.sled_core.specs.declared.iobuf.Reserved.{Reserved};
 ghost use Rattle.sled_core.specs.Buffers.{completing, closed, placeholder_head, reserved_for};
 
 use crate::record::{Head, push_item, push_placeholder, sum_behind};
-use sled_codec::result::{Error, PageId, Result};
+use sled_codec::result::{Error, LogOffset, PageId, Result};
 use sled_codec::serialization::{Checksum, LogKind, MessageKind, Serialize};
 use std::alloc::Global;
 
@@ -18,6 +18,15 @@ pub const SEG_HEADER_LEN: usize = 20;
 
 /// The sum and the kind in the header of a message: what completes a record.
 pub(crate) const COMPLETING_LEN: usize = 5;
+
+/// Where a segment lies.
+#[derive(Debug, Clone, Copy)]
+pub(crate) struct Site {
+    /// Where it begins in the log.
+    pub(crate) place: u64,
+    /// Where its slot begins in the file.
+    pub(crate) slot: LogOffset,
+}
 
 /// What a reservation is for.
 #[derive(Clone, Copy)]
@@ -46,7 +55,8 @@ pub(crate) struct Reserved {
     pub(crate) is_open: bool,
 }
 
-/// A segment's bytes from its beginning on, its header first.
+/// A segment's bytes from its beginning on. Those of a segment that a log goes on in are zeros as far as
+/// they were on the device before, since nothing looks at them.
 #[derive(Drop)]
 pub(crate) struct Buffer {
     pub(crate) bytes: Vec<u8>,
@@ -73,6 +83,22 @@ impl Buffer {
         Ok(Buffer {
             bytes: Vec::from_slice(alloc, header)?,
             from: 0,
+            reserved: Vec::new(alloc),
+        })
+    }
+
+    /// The buffer of a segment of which so many bytes are on the device.
+    pub(crate) fn resumed(alloc: Global, from: usize) -> Result<Buffer>
+        requires begun { 20 ≤ from }
+        requires small { from < 2 ^ 63 }
+        ensures len { IfOk result (λ b. length b.bytes.items ≡ from) }
+        ensures from { IfOk result (λ b. b.from ≡ from) }
+        ensures reserved { IfOk result (λ b. b.reserved.items ≡ []) }
+        ensures err { IsOkUnless result Error.OutOfMemory }
+    {
+        Ok(Buffer {
+            bytes: vec![in alloc; 0; from]?,
+            from,
             reserved: Vec::new(alloc),
         })
     }

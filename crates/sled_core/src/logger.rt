@@ -18,7 +18,7 @@ ghost use Rattle.sled_codec.specs.Pointers.{lid_of};
 ghost use Rattle.sled_core.specs.Buffers.{record_size};
 ghost use Rattle.sled_core.specs.Causes.{Answers, FaultAnswers, ReserveAnswers, ReadAnswers, failure_in};
 
-use crate::iobuf::{Buffer, Kept, MAX_MSG_HEADER_LEN, Reserved, SEG_HEADER_LEN};
+use crate::iobuf::{Buffer, Kept, MAX_MSG_HEADER_LEN, Reserved, SEG_HEADER_LEN, Site};
 use crate::reading::{LogRead, read_message};
 use crate::record::head_of;
 use crate::reservation::{Guard, Reservation};
@@ -33,50 +33,19 @@ use std::io;
 /// A log over a device. It is given up by `halt`, which hands its configuration back.
 pub struct Log<D, C> {
     config: RunningConfig<D, C>,
+    /// Where the current segment lies.
+    site: Site,
     buffer: Buffer,
     /// The first failure of the device in this log.
     fault: Option<io::Error>,
     pins: u32,
     ghost in_segment: { length buffer.bytes.items ≤ config.config.segment_size },
+    ghost place_in_reach: { site.place + config.config.segment_size < 2 ^ 63 },
+    ghost slot_in_reach: { site.slot + config.config.segment_size < 2 ^ 63 },
 }
 
 impl<D: Device, C: Checksum> Log<D, C> {
-    ghost use Rattle.sled_core.specs.Fits.{Holds, IsDefault, AllEnded, Awaits, IsOpen, HasRoom, IsUnchanged, fault_of, next_place, synced_end, reserved_end, pins_of, config_of, device_of, IsOnDevice, manifest_page, segment_size_of, message_for, KeepsAll};
-
-    /// Begins a log on a device with an empty log file. Its one segment begins with a header, whose mark
-    /// is the place before the log. Nothing is written. Where memory is refused, the configuration comes
-    /// back as it was.
-    pub fn start(
-        config: RunningConfig<D, C>,
-        snapshot: &Snapshot,
-    ) -> std::result::Result<Log<D, C>, (Error, RunningConfig<D, C>)>
-        requires default { IsDefault snapshot.now }
-        requires empty { (state_of (D.trace config.device)).log ≡ at_rest [] }
-        ensures history { IfOk result (λ log. Holds D.trace C.sum_of log no_history) }
-        ensures config { IfOk result (λ log. config_of log ≡ config) }
-        ensures next { IfOk result (λ log. next_place log ≡ 20) }
-        ensures synced { IfOk result (λ log. synced_end log ≡ 0) }
-        ensures ended { IfOk result (λ log. AllEnded log) }
-        ensures fault { IfOk result (λ log. fault_of log ≡ None) }
-        ensures pins { IfOk result (λ log. pins_of log ≡ 0) }
-        ensures refused { IfErr result (λ e. (e.0 ≡ Error.OutOfMemory) × (e.1 ≡ config)) }
-    {
-        let header = SegmentHeader {
-            lsn: 0,
-            max_stable_lsn: -1,
-            ok: true,
-        };
-        let bytes = header.to_bytes(&config.checksum);
-        match Buffer::new(config.alloc(), &bytes) {
-            Ok(buffer) => Ok(Log {
-                config,
-                buffer,
-                fault: None,
-                pins: 0,
-            }),
-            Err(e) => Err((e, config)),
-        }
-    }
+    ghost use Rattle.sled_core.specs.Fits.{Holds, AllEnded, Awaits, IsOpen, HasRoom, IsUnchanged, fault_of, next_place, synced_end, reserved_end, pins_of, config_of, device_of, site_of, IsWritten, manifest_page, segment_size_of, size_for, message_for, KeepsAll};
 
     /// Takes a pin. There may be fewer than 2^32 - 1.
     pub fn pin(&mut self) -> Guard
@@ -107,7 +76,7 @@ impl<D: Device, C: Checksum> Log<D, C> {
     pub fn stable_offset(&self) -> Lsn
         ensures { result ≡ pos (synced_end self.now) -ℤ pos 1 }
     {
-        self.buffer.from as i64 - 1
+        (self.site.place + self.buffer.from as u64) as i64 - 1
     }
 
     /// Keeps a place for a message of this page, at the end of what was reserved. The guard shows that
@@ -123,8 +92,8 @@ impl<D: Device, C: Checksum> Log<D, C> {
         requires fits { T.fits (T.meaning item.now) }
         requires room { HasRoom self.old pid (length (T.short (T.meaning item.now))) }
         requires no_manifest { kind ≡ LogKind.Skip → pid ≢ manifest_page }
-        ensures ticket { IfOk result (λ ticket. Awaits self.new ticket (message_for kind pid (next_place self.old) (T.short (T.meaning item.now)))) }
-        ensures next { OnOk result (next_place self.new ≡ next_place self.old + record_size pid (length (T.short (T.meaning item.now)))) }
+        ensures ticket { IfOk result (λ ticket. Awaits self.new ticket (message_for self.old kind pid (T.short (T.meaning item.now)))) }
+        ensures next { OnOk result (next_place self.new ≡ next_place self.old + size_for self.old pid (length (T.short (T.meaning item.now)))) }
         ensures others { (ticket : Reservation) (m : Message) → Awaits self.old ticket m → Awaits self.new ticket m }
         ensures history { (H : History) → Holds D.trace C.sum_of self.old H → Holds D.trace C.sum_of self.new H }
         ensures answers { ReserveAnswers result (fault_of self.old) (kind_written kind pid false) }
@@ -138,9 +107,10 @@ impl<D: Device, C: Checksum> Log<D, C> {
             return Err(Error::Unsupported(String::new(self.config.alloc())));
         };
         let item_len = item.serialized_size() as usize;
-        let head = head_of(message_kind, pid, item_len as u64);
+        let number = SegmentNumber(self.site.place / self.config.config.segment_size);
+        let head = head_of(message_kind, number, pid, item_len as u64);
         self.buffer.make_room(head.len + item_len)?;
-        let place = self.buffer.bytes.len();
+        let at = self.buffer.bytes.len() as u64;
         let index = self.buffer.reserved.len();
         let kept = Kept {
             log_kind: kind,
@@ -149,7 +119,8 @@ impl<D: Device, C: Checksum> Log<D, C> {
         };
         self.buffer
             .append(&self.config.checksum, &head, &kept, item, item_len);
-        Ok(Reservation::new(place as i64, DiskPtr::Inline(place as u64), index))
+        let place = (self.site.place + at) as i64;
+        Ok(Reservation::new(place, DiskPtr::Inline(self.site.slot + at), index))
     }
 
     /// Completes a message: from now on it is in the log's history. It takes no memory. It fails where
@@ -183,11 +154,12 @@ impl<D: Device, C: Checksum> Log<D, C> {
         requires { AllEnded self.old }
         ensures answer { IfOk result (λ n. synced_end self.new ≡ synced_end self.old + n) }
         ensures whole { OnOk result (synced_end self.new ≡ reserved_end self.old) }
-        ensures records { (H : History) → Holds D.trace C.sum_of self.old H → OnOk result (IsOnDevice C.sum_of (state_of (D.trace (device_of self.new))).log H) }
+        ensures records { (H : History) → Holds D.trace C.sum_of self.old H → OnOk result (IsWritten D.trace C.sum_of self.new H) }
         ensures history { (H : History) → Holds D.trace C.sum_of self.old H → Holds D.trace C.sum_of self.new H }
         ensures ended { AllEnded self.new }
         ensures next { next_place self.new ≡ next_place self.old }
         ensures pins { pins_of self.new ≡ pins_of self.old }
+        ensures site { site_of self.new ≡ site_of self.old }
         ensures size { segment_size_of self.new ≡ segment_size_of self.old }
         ensures answers { Answers result (fault_of self.old) (fault_of self.new) (D.faults (device_of self.old)) (D.faults (device_of self.new)) }
         ensures faulty { (e : IoError) → fault_of self.old ≡ Some e → self.new ≡ self.old }
@@ -200,7 +172,7 @@ impl<D: Device, C: Checksum> Log<D, C> {
             return Ok(0);
         }
         let grown = self.buffer.bytes.len() - self.buffer.from;
-        if let Err(e) = write_out(&mut self.config.device, &self.buffer) {
+        if let Err(e) = write_out(&mut self.config.device, self.site.slot, &self.buffer) {
             return Err(keep_fault(&mut self.fault, e));
         }
         self.buffer.advance();
@@ -223,6 +195,7 @@ impl<D: Device, C: Checksum> Log<D, C> {
         ensures ended { AllEnded self.new }
         ensures next { next_place self.new ≡ next_place self.old }
         ensures pins { pins_of self.new ≡ pins_of self.old }
+        ensures site { site_of self.new ≡ site_of self.old }
         ensures size { segment_size_of self.new ≡ segment_size_of self.old }
         ensures answers { ReadAnswers result (fault_of self.old) (fault_of self.new) (D.faults (device_of self.old)) (D.faults (device_of self.new)) }
         ensures faulty { (e : IoError) → fault_of self.old ≡ Some e → self.new ≡ self.old }
@@ -250,10 +223,11 @@ impl<D: Device, C: Checksum> Log<D, C> {
         ensures ended { AllEnded self.new }
         ensures next { next_place self.new ≡ next_place self.old }
         ensures pins { pins_of self.new ≡ pins_of self.old }
+        ensures site { site_of self.new ≡ site_of self.old }
         ensures size { segment_size_of self.new ≡ segment_size_of self.old }
         ensures answers { Answers result (fault_of self.old) (fault_of self.new) (D.faults (device_of self.old)) (D.faults (device_of self.new)) }
     {
-        if place >= self.buffer.from as u64 {
+        if place >= self.site.place + self.buffer.from as u64 {
             self.flush()?;
         }
         Ok(())
@@ -270,6 +244,7 @@ impl<D: Device, C: Checksum> Log<D, C> {
         ensures next { next_place self.new ≡ next_place self.old }
         ensures trace { D.trace (device_of self.new) ≡ D.trace (device_of self.old) }
         ensures pins { pins_of self.new ≡ pins_of self.old }
+        ensures site { site_of self.new ≡ site_of self.old }
         ensures size { segment_size_of self.new ≡ segment_size_of self.old }
         ensures answers { ReadAnswers result None (fault_of self.new) (D.faults (device_of self.old)) (D.faults (device_of self.new)) }
     {
@@ -289,7 +264,7 @@ impl<D: Device, C: Checksum> Log<D, C> {
         if item_len > size / 4 - 52 || next > size - 32 {
             return false;
         }
-        record_size(pid, item_len) <= size - next
+        record_size(self.site.place / size, pid, item_len) <= size - next
     }
 
     /// Whether this ticket is for an open reservation of the log.
@@ -297,7 +272,7 @@ impl<D: Device, C: Checksum> Log<D, C> {
         ensures { IsTrue result ↔ IsOpen self.now ticket.now }
     {
         match self.buffer.reserved.get(ticket.index()) {
-            Some(r) => is_for(r, ticket),
+            Some(r) => is_for(&self.site, r, ticket),
             None => false,
         }
     }
@@ -315,6 +290,7 @@ impl<D: Device, C: Checksum> Log<D, C> {
     {
         let Log {
             config,
+            site: _,
             buffer: _,
             fault: _,
             pins: _,
@@ -323,15 +299,17 @@ impl<D: Device, C: Checksum> Log<D, C> {
     }
 }
 
-/// Whether a ticket is for this reservation, and it is open.
-fn is_for(r: &Reserved, ticket: &Reservation) -> bool
-    ensures { IsTrue result ↔ IsFor r.now ticket.now }
+/// Whether a ticket is for this reservation in a segment, and it is open.
+fn is_for(site: &Site, r: &Reserved, ticket: &Reservation) -> bool
+    requires place { site.now.place + r.now.from < 2 ^ 64 }
+    requires slot { site.now.slot + r.now.from < 2 ^ 64 }
+    ensures { IsTrue result ↔ IsFor site.now r.now ticket.now }
 {
     let same_pointer = match ticket.pointer() {
-        DiskPtr::Inline(lid) => lid == r.from as u64,
+        DiskPtr::Inline(lid) => lid == site.slot + r.from as u64,
         DiskPtr::Blob(_, _) => false,
     };
-    let same_place = ticket.lsn() >= 0 && ticket.lsn() as u64 == r.from as u64;
+    let same_place = ticket.lsn() >= 0 && ticket.lsn() as u64 == site.place + r.from as u64;
     r.is_open && same_place && same_pointer
 }
 
@@ -344,22 +322,25 @@ fn may_begin(lid: LogOffset, segment_size: u64) -> bool
     offset >= SEG_HEADER_LEN as u64 && offset <= segment_size - MAX_MSG_HEADER_LEN as u64
 }
 
-/// How long the record is of a message of this page whose item has so many bytes.
-fn record_size(pid: PageId, item_len: u64) -> u64
+/// How long the record is of a message of this page in a segment of this number, whose item has so many
+/// bytes.
+fn record_size(number: u64, pid: PageId, item_len: u64) -> u64
     requires { item_len < 2 ^ 32 }
-    ensures { result ≡ record_size pid item_len }
+    ensures { result ≡ record_size number pid item_len }
 {
-    5 + item_len.serialized_size() + 0u64.serialized_size() + pid.serialized_size() + item_len
+    5 + item_len.serialized_size() + number.serialized_size() + pid.serialized_size() + item_len
 }
 
-/// Writes what was not written yet, and syncs it.
-fn write_out<D: Device>(device: &mut D, buffer: &Buffer) -> io::Result<()>
-    ensures done { OnOk result (D.trace device.new ≡ Synced ∷ Wrote buffer.now.from (drop buffer.now.from buffer.now.bytes.items) (drop buffer.now.from buffer.now.bytes.items) ∷ D.trace device.old) }
+/// Writes what was not written yet of the segment in a slot, and syncs it.
+fn write_out<D: Device>(device: &mut D, slot: LogOffset, buffer: &Buffer) -> io::Result<()>
+    requires { slot + length buffer.now.bytes.items < 2 ^ 63 }
+    ensures done { OnOk result (D.trace device.new ≡ Synced ∷ Wrote (slot + buffer.now.from) (drop buffer.now.from buffer.now.bytes.items) (drop buffer.now.from buffer.now.bytes.items) ∷ D.trace device.old) }
     ensures refused { IfErr result (λ e. error_kind e ≡ OutOfMemory → D.trace device.new ≡ D.trace device.old) }
     ensures faults { Counts result (D.faults device.old) (D.faults device.new) }
     ensures error { FailsOr OutOfMemory result }
+    ensures names { (state_of (D.trace device.new)).snapshots ≡ (state_of (D.trace device.old)).snapshots }
 {
-    device.write_at(buffer.from as u64, &buffer.bytes[buffer.from..])?;
+    device.write_at(slot + buffer.from as u64, &buffer.bytes[buffer.from..])?;
     device.sync()
 }
 

@@ -27,15 +27,15 @@ impl Head {
     }
 }
 
-/// The header of a message of segment 0 whose body is this long.
-pub(crate) fn head_of(kind: MessageKind, pid: PageId, len: u64) -> Head
-    ensures bytes { drop 4 (take result.len result.bytes) ≡ short_header_tail kind len 0 pid }
-    ensures len { result.len ≡ 4 + length (short_header_tail kind len 0 pid) }
+/// The header of a message of a segment whose body is this long.
+pub(crate) fn head_of(kind: MessageKind, number: SegmentNumber, pid: PageId, len: u64) -> Head
+    ensures bytes { drop 4 (take result.len result.bytes) ≡ short_header_tail kind len number.0 pid }
+    ensures len { result.len ≡ 4 + length (short_header_tail kind len number.0 pid) }
 {
     let header = MessageHeader {
         crc32: 0,
         kind,
-        segment_number: SegmentNumber(0),
+        segment_number: number,
         pid,
         len,
     };

@@ -14,19 +14,9 @@ use Rattle.sled_core.specs.declared.met.Ending.{Ending}
 use Rattle.sled_core.specs.declared.met.Ending.TheVariants.{Full, Capped, Broken}
 use Rattle.sled_core.specs.declared.met.Segment.{Segment}
 use Rattle.sled_core.specs.declared.met.Scan.{Scan}
-use Rattle.sled_core.specs.Scan.{Readable, IsScan, IsDamagedIn, IsPath, IsDamagedAt}
+use Rattle.sled_core.specs.Scan.{Readable, IsFoundSegment, IsMisplaced, IsScan, IsDamagedIn, IsPath, IsDamagedAt}
 
 -- The segments that it finds.
-
--- a segment begins at a slot of the file, with a header that passes, at this place or above it
-pub record IsFoundSegment (sum : List ℕ → ℕ) (size : ℕ) (log : List ℕ) (least : ℕ) (s : Segment) : Type 0 where
-  pub slot : s.slot % size ≡ 0
-  pub header : IsHeader sum (part log s.slot 20) (pos s.place) s.mark
-  pub not_below : least ≤ s.place
-
--- it begins where no segment can begin
-abbrev pub IsMisplaced : ℕ → Segment → Type 0
-IsMisplaced size s = (s.place % size ≢ 0) ⊎ (2 ^ 63 ≤ s.place + size)
 
 -- Segments are found that can't be of one log.
 abbrev pub IsUnordered : (List ℕ → ℕ) → ℕ → List ℕ → ℕ → Type 0

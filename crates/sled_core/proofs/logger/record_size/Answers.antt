@@ -10,19 +10,19 @@ overflow_add-result c =
 pub overflow_add-result-2 : goal.overflow_add-result-2
 overflow_add-result-2 c =
     let a = (length-short_number c.args.item_len (omega arith)).1 in
-    let b = (length-short_number 0 (omega arith)).1 in
+    let b = (length-short_number c.args.number (omega arith)).1 in
     omega (arith, a, b, c.serialized_size.ensures, c.serialized_size-2.ensures)
 
 pub overflow_add-result-3 : goal.overflow_add-result-3
 overflow_add-result-3 c =
     let a = (length-short_number c.args.item_len (omega arith)).1 in
-    let b = (length-short_number 0 (omega arith)).1 in
+    let b = (length-short_number c.args.number (omega arith)).1 in
     let d = (length-short_number c.args.pid (omega arith)).1 in
     omega (arith, a, b, d, c.serialized_size.ensures, c.serialized_size-2.ensures, c.serialized_size-3.ensures)
 
 pub overflow_add-result-4 : goal.overflow_add-result-4
 overflow_add-result-4 c =
     let a = (length-short_number c.args.item_len (omega arith)).1 in
-    let b = (length-short_number 0 (omega arith)).1 in
+    let b = (length-short_number c.args.number (omega arith)).1 in
     let d = (length-short_number c.args.pid (omega arith)).1 in
     omega (arith, a, b, d, c.serialized_size.ensures, c.serialized_size-2.ensures, c.serialized_size-3.ensures)

@@ -16,10 +16,10 @@ returns-in-Some g c =
     ap (λ (l : List Reserved). slice_get l (index_of c.args.ticket.now)) (sym c.deref.ensures.value)
     ∙ ap (slice_get c.deref.result.now) (sym c.index.ensures)
     ∙ there_is c.deref.result.now c.index.result r found.3.0 found.1 in (
-      λ yes. (message_in c.args.self.now.buffer.bytes.items r, record { reserved = r; there = there; own = c.is_for.ensures.0 yes; message = refl }),
+      λ yes. (message_in c.args.self.now.site c.args.self.now.buffer.bytes.items r, record { reserved = r; there = there; own = c.is_for.ensures.0 yes; message = refl }),
       λ is. let both : Some is.1.reserved ≡ Some r = sym is.1.there ∙ there in
           let same : is.1.reserved ≡ r = cc in
-          c.is_for.ensures.1 (subst (λ (x : Reserved). IsFor x c.args.ticket.now) same is.1.own),
+          c.is_for.ensures.1 (subst (λ (x : Reserved). IsFor c.args.self.now.site x c.args.ticket.now) same is.1.own),
     )
 
 pub returns-in-None : goal.returns-in-None

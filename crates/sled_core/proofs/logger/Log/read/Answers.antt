@@ -1,11 +1,11 @@
-use Rattle.std.proofs.Common.{◌≡◌, ◌∙◌, ◌≤◌, ◌<◌, ◌/◌, ap, sym, subst, refl, ℕ, List, length, arith, inr, Option}
+use Rattle.std.proofs.Common.{◌≡◌, ◌∙◌, ◌+◌, ◌<◌, ◌/◌, ap, sym, subst, refl, ℕ, List, length, arith, inr, Option}
 use Rattle.std.specs.Int.{w64}
 use Rattle.std.specs.Prelude.{unsigned_abs}
 use Rattle.std.specs.declared.io.Error.{Error as IoError}
 use Rattle.std.proofs.lemmas.Int.{to_z-of_z}
 use Rattle.std.proofs.Math.Nat.{div-eq_of_lt}
 use Rattle.sled_codec.specs.Pointers.{lid_of}
-use Rattle.sled_store.specs.Device.{LogState, Trace, state_of}
+use Rattle.sled_store.specs.Device.{State, Trace, state_of}
 use Rattle.sled_core.specs.Reading.{IsReading, IsMalformed, GivesMessage}
 use Rattle.sled_core.specs.Fits.{Holds, HoldsIn}
 use Rattle.sled_core.specs.declared.reading.LogRead.{LogRead}
@@ -29,18 +29,16 @@ pub returns-clause-message : goal.returns-clause-message
 unfolding Holds
 returns-clause-message g c = λ H m holds there at pointer.
     let log = c.settle.new.self in
-    let device : LogState = (state_of (g.D.Device.trace log.config.device)).log in
-    let size : ℕ = c.args.self.now.config.config.segment_size in
+    let device : State = state_of (g.D.Device.trace log.config.device) in
+    let size : ℕ = log.config.config.segment_size in
     let place : c.unsigned_abs-place.result ≡ m.place = place_is g c ∙ ap unsigned_abs (sym at) in
-    let after = subst (λ (o : Option IoError). HoldsIn g.C.Checksum.sum_of device o log.buffer.bytes.items log.buffer.from log.buffer.reserved.items H) c.in_ok-settle.ensures.answers.1 (c.in_ok-settle.ensures.history H holds) in
-    let same_size : log.config.config.segment_size ≡ size = c.in_ok-settle.ensures.size in
-    let inside : length log.buffer.bytes.items ≤ log.config.config.segment_size = log.in_segment in
-    let written : m.place < log.buffer.from = omega (arith, c.in_ok-settle.ensures.written, place) in
-    let found = message_found g.C.Checksum.sum_of log.config.config.segment_size device log.buffer.bytes.items log.buffer.from log.buffer.reserved.items H m after log.buffer.behind inside log.config.config.most there written in
-    let lid : c.lid-lid.result ≡ m.place = c.lid-lid.ensures ∙ ap lid_of (sym pointer ∙ found.4) in
-    let below : m.place < size = omega (arith, written, log.buffer.behind, inside, same_size) in
-    let number : c.unsigned_abs-place.result / size ≡ 0 = ap (λ n. n / size) place ∙ div-eq_of_lt below in
+    let after = subst (λ (o : Option IoError). HoldsIn g.C.Checksum.sum_of size log.site device o log.buffer.bytes.items log.buffer.from log.buffer.reserved.items H) c.in_ok-settle.ensures.answers.1 (c.in_ok-settle.ensures.history H holds) in
+    let written : m.place < log.site.place + log.buffer.from = omega (arith, c.in_ok-settle.ensures.written, place) in
+    let found = message_found g.C.Checksum.sum_of size log.site device log.buffer.bytes.items log.buffer.from log.buffer.reserved.items H m after there written in
+    let lid : c.lid-lid.result ≡ found.0 = c.lid-lid.ensures ∙ ap lid_of (sym pointer ∙ found.1) in
+    let number : c.unsigned_abs-place.result / c.args.self.now.config.config.segment_size ≡ m.place / size =
+    ap (λ n. n / c.args.self.now.config.config.segment_size) place ∙ ap (λ n. m.place / n) (sym c.in_ok-settle.ensures.size) in
     if_ok c.read_settled.result _ (GivesMessage m) (λ (r : LogRead) reads.
-    gives g.C.Checksum.sum_of log.config.config.segment_size device.bytes m.place 0 m found.0 r found.1 found.2 found.3
-    (moved (λ (s : ℕ) (l : List ℕ) (o n : ℕ). IsReading g.C.Checksum.sum_of s l o n r) _ _ _ device.bytes _ m.place _ 0 refl refl lid number reads))
+    gives g.C.Checksum.sum_of size device.log.bytes found.0 (m.place / size) m found.2.header r found.2.stands found.2.known found.2.page
+    (moved (λ (s : ℕ) (l : List ℕ) (o n : ℕ). IsReading g.C.Checksum.sum_of s l o n r) _ _ _ device.log.bytes _ found.0 _ (m.place / size) refl refl lid number reads))
     c.read_settled.ensures.reading

@@ -1,4 +1,4 @@
-use Rattle.std.proofs.Common.{◌≡◌, ◌∙◌, ◌≤◌, ◌+◌, ap, sym, refl, List, ℕ, [], ◌∷◌, ◌++◌, length, take, drop, append_assoc, length-append, arith, rules, Some, pos, false}
+use Rattle.std.proofs.Common.{◌≡◌, ◌∙◌, ◌≤◌, ◌+◌, ◌/◌, ap, sym, refl, List, ℕ, [], ◌∷◌, ◌++◌, length, take, drop, append_assoc, length-append, arith, rules, Some, pos, false}
 use Rattle.std.specs.List.{slice_get}
 use Rattle.sled_codec.specs.declared.result.DiskPtr.TheVariants.{Inline}
 use Rattle.sled_codec.specs.Kinds.{kind_written}
@@ -19,9 +19,12 @@ use Rattle.sled_core.proofs.logger.Log.reserve.Goals as goal
 pub returns-in_err-make_room-clause-history : goal.returns-in_err-make_room-clause-history
 unfolding Holds
 returns-in_err-make_room-clause-history g c = λ H holds.
-    holds-same g.C.Checksum.sum_of _ _ c.args.self.now.buffer.bytes.items _ c.args.self.now.buffer.from _ c.args.self.now.buffer.reserved.items _ H c.make_room.ensures.bytes c.make_room.ensures.from c.make_room.ensures.reserved holds
+    holds-same g.C.Checksum.sum_of _ _ _ _ c.args.self.now.buffer.bytes.items _ c.args.self.now.buffer.from _ c.args.self.now.buffer.reserved.items _ H c.make_room.ensures.bytes c.make_room.ensures.from c.make_room.ensures.reserved holds
 
 -- What was laid out.
+
+abbrev number : (g : given.Over) → goal.After-new-2 g → ℕ
+number g c = c.args.self.now.site.place / c.args.self.now.config.config.segment_size
 
 abbrev item : (g : given.Over) → goal.After-new-2 g → List ℕ
 item g c = g.T.Serialize.short (g.T.Serialize.meaning c.args.item.now)
@@ -38,14 +41,14 @@ reserved g c = reserved_for (kept g c) (length c.args.self.now.buffer.bytes.item
 known : (g : given.Over) (c : goal.After-new-2 g) → kind_written c.args.kind c.args.pid false ≡ Some c.in-Some-message_kind.message_kind
 known g c = sym c.message_kind.ensures ∙ c.in-Some-message_kind.is
 
-tail_is : (g : given.Over) (c : goal.After-new-2 g) → drop 4 (head g c) ≡ short_header_tail c.in-Some-message_kind.message_kind (length (item g c)) 0 c.args.pid
-tail_is g c = c.head_of-head.ensures.bytes ∙ ap (λ n. short_header_tail c.in-Some-message_kind.message_kind n 0 c.args.pid) c.serialized_size-item_len.ensures
+tail_is : (g : given.Over) (c : goal.After-new-2 g) → drop 4 (head g c) ≡ short_header_tail c.in-Some-message_kind.message_kind (length (item g c)) (number g c) c.args.pid
+tail_is g c = c.head_of-head.ensures.bytes ∙ ap (λ n. short_header_tail c.in-Some-message_kind.message_kind n (number g c) c.args.pid) c.serialized_size-item_len.ensures
 
-whole : (g : given.Over) (c : goal.After-new-2 g) → length (head g c) ≡ 4 + length (short_header_tail c.in-Some-message_kind.message_kind (length (item g c)) 0 c.args.pid)
-whole g c = head_whole (head g c) c.in-Some-message_kind.message_kind (length (item g c)) c.args.pid (tail_is g c)
+whole : (g : given.Over) (c : goal.After-new-2 g) → length (head g c) ≡ 4 + length (short_header_tail c.in-Some-message_kind.message_kind (length (item g c)) (number g c) c.args.pid)
+whole g c = head_whole (head g c) c.in-Some-message_kind.message_kind (length (item g c)) (number g c) c.args.pid (tail_is g c)
 
 head_len : (g : given.Over) (c : goal.After-new-2 g) → c.head_of-head.result.len ≡ length (head g c)
-head_len g c = c.head_of-head.ensures.len ∙ ap (λ n. 4 + length (short_header_tail c.in-Some-message_kind.message_kind n 0 c.args.pid)) c.serialized_size-item_len.ensures ∙ sym (whole g c)
+head_len g c = c.head_of-head.ensures.len ∙ ap (λ n. 4 + length (short_header_tail c.in-Some-message_kind.message_kind n (number g c) c.args.pid)) c.serialized_size-item_len.ensures ∙ sym (whole g c)
 
 bytes_are : (g : given.Over) (c : goal.After-new-2 g) → c.append.new.self.bytes.items ≡ c.args.self.now.buffer.bytes.items ++ (placeholder_head (head g c) ++ item g c)
 bytes_are g c =
@@ -62,22 +65,22 @@ reserved_are g c =
     ∙ ap (λ n. c.args.self.now.buffer.reserved.items ++ reserved_for (kept g c) (length c.args.self.now.buffer.bytes.items) n c.serialized_size-item_len.result sum ∷ []) (head_len g c)
     ∙ ap (λ n. c.args.self.now.buffer.reserved.items ++ reserved_for (kept g c) (length c.args.self.now.buffer.bytes.items) (length (head g c)) n sum ∷ []) c.serialized_size-item_len.ensures
 
-place_is : (g : given.Over) (c : goal.After-new-2 g) → c.len-place.result ≡ length c.args.self.now.buffer.bytes.items
-place_is g c = c.len-place.ensures ∙ search rules ∙ ap length c.make_room.ensures.bytes
+place_is : (g : given.Over) (c : goal.After-new-2 g) → c.len-at.result ≡ length c.args.self.now.buffer.bytes.items
+place_is g c = c.len-at.ensures ∙ search rules ∙ ap length c.make_room.ensures.bytes
 
 index_is : (g : given.Over) (c : goal.After-new-2 g) → c.len-index.result ≡ length c.args.self.now.buffer.reserved.items
 index_is g c = c.len-index.ensures ∙ search rules ∙ ap length c.make_room.ensures.reserved
 
 pub returns-clause-next : goal.returns-clause-next
 returns-clause-next g c =
-    let more = more_long g.C.Checksum.sum_of c.args.self.now.buffer.bytes.items (head g c) (item g c) (kept g c) (known g c) c.ranges.pid.fits (tail_is g c) (whole g c) in
+    let more = more_long g.C.Checksum.sum_of (number g c) c.args.self.now.buffer.bytes.items (head g c) (item g c) (kept g c) (known g c) c.ranges.pid.fits (tail_is g c) (whole g c) in
     omega (
       arith,
       ap length (bytes_are g c),
       length-append c.args.self.now.buffer.bytes.items (placeholder_head (head g c) ++ item g c),
       more,
       whole g c,
-      length-short_header_tail c.in-Some-message_kind.message_kind (length (item g c)) 0 c.args.pid,
+      length-short_header_tail c.in-Some-message_kind.message_kind (length (item g c)) (number g c) c.args.pid,
     )
 
 pub returns-clause-history : goal.returns-clause-history
@@ -85,11 +88,11 @@ unfolding Holds
 returns-clause-history g c = λ H holds.
     let old = c.args.self.now.buffer in
     let more : List ℕ = placeholder_head (head g c) ++ item g c in
-    let long = more_long g.C.Checksum.sum_of old.bytes.items (head g c) (item g c) (kept g c) (known g c) c.ranges.pid.fits (tail_is g c) (whole g c) in
-    let stand = stands g.C.Checksum.sum_of old.bytes.items (head g c) (item g c) (kept g c) (known g c) c.ranges.pid.fits (tail_is g c) (whole g c) in
-    holds-same g.C.Checksum.sum_of _ _ (old.bytes.items ++ more) _ old.from _ (old.reserved.items ++ reserved g c ∷ []) _ H (bytes_are g c) (c.append.ensures.from ∙ c.make_room.ensures.from) (reserved_are g c)
-    (holds-append g.C.Checksum.sum_of (state_of (g.D.Device.trace c.args.self.now.config.device)).log c.args.self.now.fault old.bytes.items old.from old.reserved.items H holds more (reserved g c)
-    old.begun old.behind old.within refl (sym long) refl stand)
+    let long = more_long g.C.Checksum.sum_of (number g c) old.bytes.items (head g c) (item g c) (kept g c) (known g c) c.ranges.pid.fits (tail_is g c) (whole g c) in
+    let stand = stands g.C.Checksum.sum_of (number g c) old.bytes.items (head g c) (item g c) (kept g c) (known g c) c.ranges.pid.fits (tail_is g c) (whole g c) in
+    holds-same g.C.Checksum.sum_of _ _ _ _ (old.bytes.items ++ more) _ old.from _ (old.reserved.items ++ reserved g c ∷ []) _ H (bytes_are g c) (c.append.ensures.from ∙ c.make_room.ensures.from) (reserved_are g c)
+    (holds-append g.C.Checksum.sum_of _ c.args.self.now.site (state_of (g.D.Device.trace c.args.self.now.config.device)) c.args.self.now.fault old.bytes.items old.from old.reserved.items H holds more (reserved g c)
+    old.begun old.within refl (sym long) refl (omega (arith, c.requires.room.not_used_up)) stand)
 
 pub returns-clause-ticket : goal.returns-clause-ticket
 returns-clause-ticket g c =
@@ -99,9 +102,9 @@ returns-clause-ticket g c =
       there = ap (λ (l : List Reserved). slice_get l (index_of c.new-2.result)) (reserved_are g c)
           ∙ ap (slice_get (old.reserved.items ++ reserved g c ∷ [])) (c.new-2.ensures.index ∙ index_is g c)
           ∙ there_last old.reserved.items (reserved g c);
-      own = record { open_yet = refl; place = let number : place_of c.new-2.result ≡ pos c.len-place.result = search rules in number ∙ ap pos (place_is g c); pointer = c.new-2.ensures.pointer ∙ ap Inline (place_is g c) };
-      message = message_is g.C.Checksum.sum_of old.bytes.items (head g c) (item g c) (kept g c) (known g c) c.ranges.pid.fits (tail_is g c) (whole g c)
-          ∙ ap (λ (l : List ℕ). message_in l (reserved g c)) (sym (bytes_are g c));
+      own = record { open_yet = refl; place = let at : place_of c.new-2.result ≡ pos (c.args.self.now.site.place + c.len-at.result) = search rules in at ∙ ap (λ n. pos (c.args.self.now.site.place + n)) (place_is g c); pointer = c.new-2.ensures.pointer ∙ ap (λ n. Inline (c.args.self.now.site.slot + n)) (place_is g c) };
+      message = message_is g.C.Checksum.sum_of (number g c) old.bytes.items (head g c) (item g c) (kept g c) (known g c) c.ranges.pid.fits (tail_is g c) (whole g c) c.args.self.now.site
+          ∙ ap (λ (l : List ℕ). message_in c.args.self.now.site l (reserved g c)) (sym (bytes_are g c));
     }
 
 pub returns-clause-others : goal.returns-clause-others
@@ -116,12 +119,12 @@ returns-clause-others g c = λ ticket m awaits.
       there = ap (λ (l : List Reserved). slice_get l (index_of ticket)) (reserved_are g c) ∙ there_append old.reserved.items (reserved g c ∷ []) (index_of ticket) r awaits.there;
       own = awaits.own;
       message = awaits.message
-          ∙ ap (λ (l : List ℕ). record (message_in old.bytes.items r) { bytes = l }) (sym (body-append old.bytes.items more r within headed.1))
-          ∙ ap (λ (l : List ℕ). message_in l r) (sym (bytes_are g c));
+          ∙ ap (λ (l : List ℕ). record (message_in c.args.self.now.site old.bytes.items r) { bytes = l }) (sym (body-append old.bytes.items more r within headed.1))
+          ∙ ap (λ (l : List ℕ). message_in c.args.self.now.site l r) (sym (bytes_are g c));
     }
 
 pub invariant_of-self-4 : goal.invariant_of-self-4
 invariant_of-self-4 g c =
-    let tail = length-short_header_tail c.in-Some-message_kind.message_kind c.serialized_size-item_len.result 0 c.args.pid in
+    let tail = length-short_header_tail c.in-Some-message_kind.message_kind c.serialized_size-item_len.result (c.args.self.now.site.place / c.args.self.now.config.config.segment_size) c.args.pid in
     let item_long = ap (λ n. length (short_number n)) c.serialized_size-item_len.ensures in
-    record { in_segment = omega (arith, c.append.ensures.len, ap length c.make_room.ensures.bytes, c.head_of-head.ensures.len, tail, item_long, c.serialized_size-item_len.ensures, c.requires.room.record_fits) }
+    record { in_segment = omega (arith, c.append.ensures.len, ap length c.make_room.ensures.bytes, c.head_of-head.ensures.len, tail, item_long, c.serialized_size-item_len.ensures, c.requires.room.record_fits); place_in_reach = c.args.self.now.place_in_reach; slot_in_reach = c.args.self.now.slot_in_reach }

@@ -1,0 +1,122 @@
+-- What stands in a log file stays where it is when the rest of the current segment is written.
+use Rattle.std.proofs.Common.{◌≡◌, ◌⊎◌, ◌≤◌, ◌<◌, ◌+◌, ◌-◌, ◌/◌, ◌%◌, ◌^◌, ℕ, ℤ, zero, suc, max, pos, List, [], ◌∷◌, ◌++◌, length, take, drop, sym, ◌∙◌, ap, arith, refl, subst, append_assoc, length-append, length-take, length-drop, inl, inr, get_or}
+use Rattle.std.proofs.lemmas.List.{drop-drop, drop-take, take-take}
+use Rattle.sled_codec.specs.declared.result.DiskPtr.TheVariants.{Inline}
+use Rattle.sled_codec.specs.declared.serialization.message.MessageHeader.{MessageHeader}
+use Rattle.sled_codec.specs.Places.{part}
+use Rattle.sled_codec.specs.Record.{IsHeader, short_header}
+use Rattle.sled_codec.specs.History.{Message}
+use Rattle.sled_codec.proofs.Segments.{length-short_header}
+use Rattle.sled_store.specs.Device.{overwritten, end_of}
+use Rattle.sled_store.proofs.OverwrittenLemmas.{length-overwritten, overwritten-part, overwritten-above}
+use Rattle.sled_store.proofs.LogLemmas.{part_written}
+use Rattle.sled_core.specs.declared.iobuf.Site.{Site}
+use Rattle.sled_core.specs.Reading.{StandsAt}
+use Rattle.sled_core.specs.LogFile.{MessageStands, StandIn, StandsElsewhere, HasHeader}
+use Rattle.sled_core.proofs.ReadingLemmas.{header_some, laid_of}
+
+-- a record that stands somewhere is not shorter than a header
+pub stands_some : (sum : List ℕ → ℕ) (size : ℕ) (log : List ℕ) (lid number : ℕ) (m : Message) → MessageStands sum size log lid number m → 8 ≤ m.size
+stands_some sum size log lid number m s =
+    let some = header_some s.stands.header s.header s.stands.spelled in
+    omega (arith, some, (laid_of sum size log lid number s.header m.bytes m.size s.stands).1)
+
+-- records don't go back
+pub stand_grows : (sum : List ℕ → ℕ) (size : ℕ) (log : List ℕ) (site : Site) (at : ℕ) (ms : List Message) (end : ℕ) → StandIn sum size log site at ms end → at ≤ end
+stand_grows sum size log site at [] end stand = omega (arith, stand)
+stand_grows sum size log site at (m ∷ ms) end stand = let rest = stand_grows sum size log site (at + m.size) ms end stand.4 in omega (arith, rest)
+
+-- between an offset and itself there are none
+pub stand_none : (sum : List ℕ → ℕ) (size : ℕ) (log : List ℕ) (site : Site) (at : ℕ) (ms : List Message) → StandIn sum size log site at ms at → ms ≡ []
+stand_none sum size log site at [] stand = refl
+stand_none sum size log site at (m ∷ ms) stand =
+    let rest = stand_grows sum size log site (at + m.size) ms at stand.4 in
+    let some = stands_some sum size log (site.slot + at) (site.place / size) m stand.3 in
+    absurd (omega (arith, rest, some))
+
+-- records behind records
+pub stand-append : (sum : List ℕ → ℕ) (size : ℕ) (log : List ℕ) (site : Site) (at : ℕ) (ms : List Message) (mid : ℕ) (more : List Message) (end : ℕ)
+    → StandIn sum size log site at ms mid → StandIn sum size log site mid more end → StandIn sum size log site at (ms ++ more) end
+stand-append sum size log site at [] mid more end stand rest = subst (λ n. StandIn sum size log site n more end) stand rest
+stand-append sum size log site at (m ∷ ms) mid more end stand rest =
+    (stand.0, stand.1, stand.2, stand.3, stand-append sum size log site (at + m.size) ms mid more end stand.4 rest)
+
+module _ (sum : List ℕ → ℕ) (size : ℕ) (old : List ℕ) (at : ℕ) (xs : List ℕ) where
+  abbrev new : List ℕ
+  new = overwritten old at xs
+
+  pub file_grows : length old ≤ length new
+  file_grows = omega (arith, length-overwritten old at xs)
+
+  -- a part that isn't written to
+  pub part_kept : (lid n : ℕ) → lid + n ≤ length old → (lid + n ≤ at) ⊎ (at + length xs ≤ lid) → part new lid n ≡ part old lid n
+  part_kept lid n there apart =
+      let count : lid + n - lid ≡ n = omega arith in
+      ap (λ k. take k (drop lid new)) (sym count) ∙ part_written old at xs lid (lid + n) there apart ∙ ap (λ k. take k (drop lid old)) count
+
+  record_kept : (lid number : ℕ) (h : MessageHeader) (body : List ℕ) (len : ℕ) → (lid + len ≤ at) ⊎ (at + length xs ≤ lid) → StandsAt sum size old lid number h body len → StandsAt sum size new lid number h body len
+  record_kept lid number h body len apart s = record {
+    header = s.header;
+    spelled = s.spelled;
+    is = part_kept lid len s.in_file apart ∙ s.is;
+    counted = s.counted;
+    numbered = s.numbered;
+    summed = s.summed;
+    valid = s.valid;
+    in_file = let end = s.in_file in omega (arith, end, file_grows);
+    in_slot = s.in_slot;
+    small = s.small;
+  }
+
+  pub message_kept : (lid number : ℕ) (m : Message) → (lid + m.size ≤ at) ⊎ (at + length xs ≤ lid) → MessageStands sum size old lid number m → MessageStands sum size new lid number m
+  message_kept lid number m apart s = record { header = s.header; stands = record_kept lid number s.header m.bytes m.size apart s.stands; known = s.known; page = s.page }
+
+  -- the records of a segment up to the beginning of the write
+  pub stand_kept : (site : Site) (from : ℕ) (ms : List Message) (end : ℕ) → site.slot + end ≤ at → StandIn sum size old site from ms end → StandIn sum size new site from ms end
+  stand_kept site from [] end before stand = stand
+  stand_kept site from (m ∷ ms) end before stand =
+      let rest = stand_grows sum size old site (from + m.size) ms end stand.4 in (
+        stand.0,
+        stand.1,
+        stand.2,
+        message_kept (site.slot + from) (site.place / size) m (inl (omega (arith, rest, before))) stand.3,
+        stand_kept site (from + m.size) ms end before stand.4,
+      )
+
+  -- records in other slots
+  pub elsewhere_kept : (site : Site) (m : Message) → site.slot ≤ at → at + length xs ≤ site.slot + size → StandsElsewhere sum size old site m → StandsElsewhere sum size new site m
+  elsewhere_kept site m begins ends s = record {
+    lid = s.lid;
+    pointer = s.pointer;
+    stands = message_kept s.lid (m.place / size) m (elim s.apart [ | inl below ↦ inl (omega (arith, below, begins)) | inr above ↦ inr (omega (arith, above, ends)) ]) s.stands;
+    apart = s.apart;
+    below = s.below;
+  }
+
+  -- a header before the write
+  pub header_kept : (site : Site) → site.slot + 20 ≤ at → HasHeader sum old site → HasHeader sum new site
+  header_kept site before h =
+      let long : length (part old site.slot 20) ≡ 20 = ap length h.header.is ∙ length-short_header sum (pos site.place) h.mark in
+      let there : site.slot + 20 ≤ length old = omega (arith, long, length-take 20 (drop site.slot old), length-drop site.slot old) in
+      record { mark = h.mark; header = subst (λ (l : List ℕ). IsHeader sum l (pos site.place) h.mark) (sym (part_kept site.slot 20 there (inl before))) h.header; below = h.below }
+
+  -- what was written stands there
+  pub part_laid : (k n : ℕ) → k + n ≤ length xs → part new (at + k) n ≡ part xs k n
+  part_laid k n within =
+      let behind : List ℕ = drop at new in
+      let fronts : take (k + n) behind ≡ take (k + n) xs = sym (take-take (k + n) (length xs) behind within) ∙ ap (take (k + n)) (overwritten-part old at xs) in
+      ap (take n) (sym (drop-drop k at new))
+      ∙ sym (drop-take k n behind)
+      ∙ ap (drop k) fronts
+      ∙ drop-take k n xs
+
+  end_there : (n : ℕ) → 0 < n → end_of at n ≡ at + n
+  end_there zero some = absurd (omega (arith, some))
+  end_there (suc n) some = refl
+
+  pub laid_within : 0 < length xs → at + length xs ≤ length new
+  laid_within some = omega (arith, length-overwritten old at xs, end_there (length xs) some)
+
+  -- and what comes behind it is as it was
+  pub behind_write : (i : ℕ) → 0 < length xs → at + length xs ≤ i → get_or new i 0 ≡ get_or old i 0
+  behind_write i some behind = overwritten-above old at xs i (omega (arith, behind, end_there (length xs) some))
