@@ -1,3 +1,4 @@
+pub mod BookLemmas
 pub mod Images
 pub mod Parts
 pub mod CompletesLemmas
