@@ -1,4 +1,5 @@
 pub mod LogFileLemmas
+pub mod BookLemmas
 pub mod Parts
 pub mod BegunLemmas
 pub mod CompletesLemmas

@@ -1,3 +1,5 @@
+pub mod Begin
+pub mod Booked
 pub mod Buffers
 pub mod Causes
 pub mod Fits

@@ -4,6 +4,7 @@
 //! What a log has to do with the history of what was completed is defined in `specs/Fits.antt`.
 #![tactic(auto)]
 
+mod begin;
 mod found;
 pub mod iobuf;
 pub mod iterator;
