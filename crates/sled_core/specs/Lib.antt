@@ -5,5 +5,6 @@ pub mod Causes
 pub mod Fits
 pub mod LogFile
 pub mod Reading
+pub mod Ready
 pub mod Scan
 pub mod Tickets
