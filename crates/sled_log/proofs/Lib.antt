@@ -1,3 +1,4 @@
+pub mod Ascending
 mod TableLemmas
 mod RecoveryLemmas
 mod FindLemmas
