@@ -1,4 +1,5 @@
 pub mod Ascending
+pub mod PageStates
 mod TableLemmas
 mod RecoveryLemmas
 mod FindLemmas
