@@ -1,4 +1,5 @@
 pub mod Ascending
+pub mod PageRuns
 pub mod PageStates
 mod TableLemmas
 mod RecoveryLemmas
