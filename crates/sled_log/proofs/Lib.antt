@@ -1,6 +1,7 @@
 pub mod Ascending
 pub mod PageRuns
 pub mod PageStates
+pub mod PageWise
 mod TableLemmas
 mod RecoveryLemmas
 mod FindLemmas
