@@ -2,6 +2,7 @@ pub mod Ascending
 pub mod PageRuns
 pub mod PageStates
 pub mod PageWise
+pub mod TableParts
 mod TableLemmas
 mod RecoveryLemmas
 mod FindLemmas
