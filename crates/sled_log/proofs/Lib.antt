@@ -1,4 +1,5 @@
 pub mod Ascending
+pub mod FoldLemmas
 pub mod PageRuns
 pub mod PageStates
 pub mod PageWise

@@ -21,7 +21,7 @@ pub record IsLast (ms : List Message) (b : Message) : Type 0 where
   pub begins : begins_page b.kind ≡ true
   pub last : (x : Message) → Contains ms x → begins_page x.kind ≡ true → x.place ≤ b.place
 
-begins_false : (x : Message) (ms : List Message) → All (λ m. begins_page m.kind ≡ false) ms → Contains ms x → begins_page x.kind ≡ true → ⊥
+pub begins_false : (x : Message) (ms : List Message) → All (λ m. begins_page m.kind ≡ false) ms → Contains ms x → begins_page x.kind ≡ true → ⊥
 begins_false x ms none there begins = false≢true (sym (All-contains (λ m. begins_page m.kind ≡ false) ms x none there) ∙ begins)
 
 -- what is found is the last one
