@@ -3,6 +3,7 @@ pub mod FoldLemmas
 pub mod PageRuns
 pub mod PageStates
 pub mod PageWise
+pub mod TableCuts
 pub mod TableParts
 mod TableLemmas
 mod RecoveryLemmas
