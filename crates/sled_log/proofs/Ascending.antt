@@ -1,7 +1,7 @@
 -- Messages by place, the lowest first, and what lists of them have.
 use Rattle.std.proofs.Common.{⊎_elim, ◌≡◌, ◌∙◌, ◌⊎◌, ◌+◌, ◌<◌, ◌≤◌, ℕ, zero, suc, Bool, true, false, cond, List, [], ◌∷◌, ◌++◌, length, slice_index_or, refl, sym, ap, subst, arith, inl, inr}
 use Rattle.std.specs.List.{All, Contains, filter}
-use Rattle.std.proofs.lemmas.List.Elements.{All-nil, All-cons, All-tail, All-weaker, All-append, All-filter, All-contains, All-contains_itself, filter_passes}
+use Rattle.std.proofs.lemmas.List.Elements.{All-tail, All-weaker, All-append, All-filter, All-contains, All-contains_itself, filter_passes}
 use Rattle.sled_codec.specs.History.{Message}
 use Rattle.sled_codec.specs.WellFormed.{LieApart}
 use Rattle.sled_log.specs.Recovery.{IsSublist}
@@ -38,11 +38,10 @@ in_filter p (x ∷ xs) y there passes = ⊎_elim first (λ rest. later (p x) (in
 
 -- what is kept was there and passes
 pub from_filter : {X : Type 0} (p : X → Bool) (xs : List X) (y : X) → Contains (filter p xs) y → Contains xs y × (p y ≡ true)
-from_filter p xs y there =
-    (
-      All-contains (Contains xs) (filter p xs) y (All-filter p (Contains xs) xs (All-contains_itself xs)) there,
-      All-contains (λ z. p z ≡ true) (filter p xs) y (filter_passes p xs) there,
-    )
+from_filter p xs y there = (
+  All-contains (Contains xs) (filter p xs) y (All-filter p (Contains xs) xs (All-contains_itself xs)) there,
+  All-contains (λ z. p z ≡ true) (filter p xs) y (filter_passes p xs) there,
+)
 
 -- what is so of each element
 pub all_from_in : {X : Type 0} (P : X → Type 0) (xs : List X) → ((x : X) → Contains xs x → P x) → All P xs
@@ -86,11 +85,10 @@ later_above m ms n order there = All-contains (λ x. m.place < x.place) ms n ord
 pub sublist_ascends : (xs ys : List Message) → IsSublist xs ys → Ascends ys → Ascends xs
 sublist_ascends [] ys sub order = tt
 sublist_ascends (x ∷ xs) [] sub order = absurd sub
-sublist_ascends (x ∷ xs) (y ∷ ys) (inl both) order =
-    (
-      all_from_in (λ n. x.place < n.place) xs (λ n there. subst (λ (z : Message). z.place < n.place) (sym both.0) (later_above y ys n order (sublist_in xs ys n both.1 there))),
-      sublist_ascends xs ys both.1 order.1,
-    )
+sublist_ascends (x ∷ xs) (y ∷ ys) (inl both) order = (
+  all_from_in (λ n. x.place < n.place) xs (λ n there. subst (λ (z : Message). z.place < n.place) (sym both.0) (later_above y ys n order (sublist_in xs ys n both.1 there))),
+  sublist_ascends xs ys both.1 order.1,
+)
 sublist_ascends (x ∷ xs) (y ∷ ys) (inr sub) order = sublist_ascends (x ∷ xs) ys sub order.1
 
 pub filter_ascends : (p : Message → Bool) (ms : List Message) → Ascends ms → Ascends (filter p ms)
@@ -100,8 +98,7 @@ filter_ascends p ms order = sublist_ascends (filter p ms) ms (filter_sublist p m
 pub append_ascends : (xs ys : List Message) (cut : ℕ) → Ascends xs → Ascends ys → All (λ m. m.place < cut) xs → All (λ m. cut ≤ m.place) ys → Ascends (xs ++ ys)
 append_ascends [] ys cut first second low high = second
 append_ascends (x ∷ xs) ys cut first second low high =
-    let below : x.place < cut = All-contains (λ m. m.place < cut) (x ∷ xs) x low (in_first x xs) in
-    (
+    let below : x.place < cut = All-contains (λ m. m.place < cut) (x ∷ xs) x low (in_first x xs) in (
       All-append (λ n. x.place < n.place) xs ys first.0 (All-weaker (λ n. cut ≤ n.place) (λ n. x.place < n.place) (λ n le. omega (arith, below, le)) ys high),
       append_ascends xs ys cut first.1 second (All-tail (λ m. m.place < cut) x xs low) high,
     )

@@ -1,9 +1,8 @@
 -- Applying a history's messages from one cut to another to the table of the first makes the table of the second.
-use Rattle.std.proofs.Common.{⊎_elim, ◌≡◌, ◌∙◌, ◌⊎◌, ◌↔◌, ◌<◌, ◌≤◌, ℕ, Bool, true, ◌&&◌, ◌==◌, nat_lt, nat_le, List, ◌∷◌, ◌++◌, length, map, get_or, Option, Some, None, refl, sym, ap, subst, arith, eqb-true, eq-eqb, leb-true, le-leb, ltb-true, lt-ltb}
+use Rattle.std.proofs.Common.{⊎_elim, ◌≡◌, ◌∙◌, ◌<◌, ◌≤◌, ℕ, Bool, true, ◌&&◌, ◌==◌, nat_lt, nat_le, List, ◌∷◌, ◌++◌, length, map, get_or, Option, Some, None, refl, sym, ap, subst, arith, eqb-true, eq-eqb, leb-true, le-leb, ltb-true, lt-ltb}
 use Rattle.std.specs.List.{All, Contains, filter}
 use Rattle.std.proofs.lemmas.Bool.{and_parts, and_from, cases_lt}
 use Rattle.std.proofs.lemmas.List.Elements.{All-contains, Contains-append_left, Contains-append_right, Contains-append_cases}
-use Rattle.sled_codec.specs.declared.serialization.message.LogKind.TheVariants as does
 use Rattle.sled_codec.specs.History.{Message, History, begins_page, last_beginning, page_state, of_page, table, HasPage}
 use Rattle.sled_codec.specs.PageTables.{page_with, IsTable}
 use Rattle.sled_codec.specs.Snapshots.{Page, Uninitialized}
@@ -15,12 +14,14 @@ use Rattle.sled_log.proofs.PageRuns.{run, run-append, run_is}
 use Rattle.sled_log.proofs.PageWise.{at_page, Begins, table_keeps, table_begins, table_since}
 use Rattle.sled_log.proofs.TableParts.{in_page, from_page, page_ascends, state_from, last_in_state, split_at, has_page, page_stays, replaced_before}
 
--- The messages L of the history lie from the cut low on and below the cut cut, and have all entries of the table that lie there.
+-- The messages L are a history's, lie at or above the place low and below cut, and have all entries of the table that lie there.
 module _ (H : History) (low cut : ℕ) (first : List Page) (L : List Message) (formed : IsWellFormed H) (le : low ≤ cut) (is : IsTable first H low) (sub : IsSublist L H.messages)
-  (within : All (λ m. (low ≤ m.place) × (m.place < cut)) L) (entries : (page : ℕ) (m : Message) → Contains (table H cut page) m → low ≤ m.place → Contains L m) where
+    (within : All (λ m. (low ≤ m.place) × (m.place < cut)) L) (entries : (page : ℕ) (m : Message) → Contains (table H cut page) m → low ≤ m.place → Contains L m) where
+  -- the history's messages stand by place
   ordered : Ascends H.messages
   ordered = apart_ascends H.messages formed.apart
 
+  -- each message of L lies between the cuts
   in_within : (m : Message) → Contains L m → (low ≤ m.place) × (m.place < cut)
   in_within m there = All-contains (λ x. (low ≤ x.place) × (x.place < cut)) L m within there
 
@@ -43,9 +44,10 @@ module _ (H : History) (low cut : ℕ) (first : List Page) (L : List Message) (f
 
     both_ascend : Ascends (old ++ new)
     both_ascend = append_ascends old new low old_ascends (filter_ascends (λ m. m.page == page) L (sublist_ascends L H.messages sub ordered))
-      (all_from_in (λ m. m.place < low) old (λ m there. (from_page H.messages low page m there).2))
-      (all_from_in (λ m. low ≤ m.place) new (λ m there. (in_within m (from_filter (λ x. x.page == page) L m there).0).0))
+        (all_from_in (λ m. m.place < low) old (λ m there. (from_page H.messages low page m there).2))
+        (all_from_in (λ m. low ≤ m.place) new (λ m there. (in_within m (from_filter (λ x. x.page == page) L m there).0).0))
 
+    -- the old messages and those of L are messages of the page below the second cut
     both_in_all : (m : Message) → Contains (old ++ new) m → Contains all m
     both_in_all m there = ⊎_elim from_old from_new (Contains-append_cases old new m there) where
       from_old : Contains old m → Contains all m
@@ -59,6 +61,7 @@ module _ (H : History) (low cut : ℕ) (first : List Page) (L : List Message) (f
           let found = from_filter (λ x. x.page == page) L m at in
           in_page H.messages cut page m (sublist_in L H.messages m sub found.0) (eqb-true m.page page found.1) (in_within m found.0).1
 
+    -- and all that make its state are among them
     state_in_both : (m : Message) → Contains (page_state all) m → Contains (old ++ new) m
     unfolding table
     state_in_both m there = ⊎_elim before after (cases_lt m.place low) where
@@ -71,6 +74,7 @@ module _ (H : History) (low cut : ℕ) (first : List Page) (L : List Message) (f
       after : low ≤ m.place → Contains (old ++ new) m
       after above = Contains-append_right old new m (in_filter (λ x. x.page == page) L m (entries page m there above) (eq-eqb m.page page found.1))
 
+    -- so the page is in its state
     state_is : get_or (table_of first (map applied L)) page Uninitialized ≡ page_with (table H cut page)
     unfolding table
     state_is =
@@ -94,7 +98,7 @@ module _ (H : History) (low cut : ℕ) (first : List Page) (L : List Message) (f
 
         own : (page ≡ m.page) × (begins_page m.kind ≡ true) → HasPage H cut page
         own same = subst (λ (n : ℕ). HasPage H cut n) (sym same.0)
-          (⊎_elim (λ replaces. has_page H cut m.page m there refl below replaces) (λ has. replaced_before H cut m.page split.0 m split.1 ordered split.2 below has) follows.own)
+            (⊎_elim (λ replaces. has_page H cut m.page m there refl below replaces) (λ has. replaced_before H cut m.page split.0 m split.1 ordered split.2 below has) follows.own)
 
       since : ((m : Message) × Contains L m × Begins page m.kind m.page) → HasPage H cut page
       since at = followed at.0 (sublist_in L H.messages at.0 sub at.1) (in_within at.0 at.1).1 at.2
@@ -137,8 +141,8 @@ fold_all H low cut first formed le is = fold H low cut first (filter between H.m
 
   within : All (λ m. (low ≤ m.place) × (m.place < cut)) (filter (λ m. nat_le low m.place && nat_lt m.place cut) H.messages)
   within = all_from_in (λ m. (low ≤ m.place) × (m.place < cut)) (filter between H.messages) (λ m there.
-    let passes = and_parts (nat_le low m.place) (nat_lt m.place cut) (from_filter between H.messages m there).1 in
-    (leb-true low m.place passes.0, ltb-true m.place cut passes.1))
+      let passes = and_parts (nat_le low m.place) (nat_lt m.place cut) (from_filter between H.messages m there).1 in
+      (leb-true low m.place passes.0, ltb-true m.place cut passes.1))
 
   entries : (page : ℕ) (m : Message) → Contains (table H cut page) m → low ≤ m.place → Contains (filter (λ x. nat_le low x.place && nat_lt x.place cut) H.messages) m
   entries page m there above =

@@ -1,9 +1,9 @@
 -- What the messages of one page make of it, one after another.
-use Rattle.std.proofs.Common.{⊎_elim, ◌≡◌, ◌∙◌, ◌⊎◌, ◌<◌, ◌≤◌, ℕ, ℤ, pos, Bool, true, false, ◌&&◌, if◌then◌else◌, cond, nat_lt, List, [], ◌∷◌, ◌++◌, map, Option, Some, None, refl, sym, ap, subst, arith, append_assoc, append-nil}
-use Rattle.std.specs.List.{All, Contains, filter}
+use Rattle.std.proofs.Common.{◌≡◌, ◌∙◌, ◌<◌, ◌≤◌, ℕ, ℤ, pos, Bool, true, false, ◌&&◌, if◌then◌else◌, cond, nat_lt, List, [], ◌∷◌, ◌++◌, map, Option, Some, None, refl, sym, ap, arith, append_assoc, append-nil}
+use Rattle.std.specs.List.{All, filter}
 use Rattle.std.proofs.lemmas.Bool.{false≢true, and_right}
 use Rattle.std.proofs.lemmas.Bool.Decides.{nat_tests}
-use Rattle.std.proofs.lemmas.List.Elements.{All-head, All-tail, All-weaker}
+use Rattle.std.proofs.lemmas.List.Elements.{All-head, All-tail}
 use Rattle.std.specs.Prelude.{int_lt}
 use Rattle.sled_codec.specs.declared.result.DiskPtr.{DiskPtr}
 use Rattle.sled_codec.specs.declared.serialization.message.LogKind.{LogKind}
@@ -74,8 +74,8 @@ linked_behind : (base : Entry) (frags : List Entry) (e : Entry) (low high : ℕ)
 linked_behind base frags e low high last at lt =
     let test : int_lt (last_entry base frags).0 e.0 ≡ true = ap (λ z. int_lt z e.0) last ∙ ap (λ z. int_lt (pos low) z) at ∙ below in
     ap (λ (b : Bool). if b then Present base (frags ++ e ∷ []) else Present base frags) test where
-  below : int_lt (pos low) (pos high) ≡ true
-  below = grind (arith, nat_tests, lt)
+      below : int_lt (pos low) (pos high) ≡ true
+      below = grind (arith, nat_tests, lt)
 
 -- the Links of a page that was replaced are put on it, one behind another
 run_present : (ms : List Message) (base : Entry) (frags : List Entry) (first last : ℕ) → Ascends ms → All (λ m. begins_page m.kind ≡ false) ms → All (λ m. last < m.place) ms
@@ -88,18 +88,18 @@ run_present (m ∷ ms) base frags first last order none above at le =
     by_kind m.kind (All-head (λ m. begins_page m.kind ≡ false) m ms none) lt
     (run_present ms base frags first last order.1 rest_none (All-tail (λ m. last < m.place) m ms above) at le)
     (run_present ms base (frags ++ e ∷ []) first m.place order.1 rest_none order.0 (ap (λ (x : Entry). x.0) (last-push base frags e)) (omega (arith, le, lt))) where
-  by_kind : (k : LogKind) → begins_page k ≡ false → last < m.place → run (Present base frags) ms ≡ Present base (frags ++ map entry_of (links_behind first ms))
-      → run (Present base (frags ++ entry_of m ∷ [])) ms ≡ Present base ((frags ++ entry_of m ∷ []) ++ map entry_of (links_behind first ms))
-      → run (turned k (entry_of m) (Present base frags)) ms ≡ Present base (frags ++ map entry_of (cond (is_link k && nat_lt first m.place) (m ∷ links_behind first ms) (links_behind first ms)))
-  by_kind does.Replace begins lt stays more = absurd (false≢true (sym begins))
-  by_kind does.Free begins lt stays more = absurd (false≢true (sym begins))
-  by_kind does.Link begins lt stays more =
-      let kept : nat_lt first m.place ≡ true = grind (arith, nat_tests, le, lt) in
-      ap (λ (s : Page). run s ms) (linked_behind base frags (entry_of m) last m.place at refl lt)
-      ∙ more ∙ ap (Present base) (append_assoc frags (entry_of m ∷ []) (map entry_of (links_behind first ms)))
-      ∙ ap (λ (b : Bool). Present base (frags ++ map entry_of (cond b (m ∷ links_behind first ms) (links_behind first ms)))) (sym kept)
-  by_kind does.Skip begins lt stays more = stays
-  by_kind does.Corrupted begins lt stays more = stays
+      by_kind : (k : LogKind) → begins_page k ≡ false → last < m.place → run (Present base frags) ms ≡ Present base (frags ++ map entry_of (links_behind first ms))
+          → run (Present base (frags ++ entry_of m ∷ [])) ms ≡ Present base ((frags ++ entry_of m ∷ []) ++ map entry_of (links_behind first ms))
+          → run (turned k (entry_of m) (Present base frags)) ms ≡ Present base (frags ++ map entry_of (cond (is_link k && nat_lt first m.place) (m ∷ links_behind first ms) (links_behind first ms)))
+      by_kind does.Replace begins lt stays more = absurd (false≢true (sym begins))
+      by_kind does.Free begins lt stays more = absurd (false≢true (sym begins))
+      by_kind does.Link begins lt stays more =
+          let kept : nat_lt first m.place ≡ true = grind (arith, nat_tests, le, lt) in
+          ap (λ (s : Page). run s ms) (linked_behind base frags (entry_of m) last m.place at refl lt)
+          ∙ more ∙ ap (Present base) (append_assoc frags (entry_of m ∷ []) (map entry_of (links_behind first ms)))
+          ∙ ap (λ (b : Bool). Present base (frags ++ map entry_of (cond b (m ∷ links_behind first ms) (links_behind first ms)))) (sym kept)
+      by_kind does.Skip begins lt stays more = stays
+      by_kind does.Corrupted begins lt stays more = stays
 
 -- Messages from the last beginning on.
 

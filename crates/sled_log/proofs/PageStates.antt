@@ -1,5 +1,5 @@
 -- The messages of one page: the last one that begins it, and which of them its state depends on.
-use Rattle.std.proofs.Common.{⊎_elim, ◌≡◌, ◌∙◌, ◌⊎◌, ◌<◌, ◌≤◌, ℕ, Bool, true, false, ◌&&◌, if◌then◌else◌, nat_lt, List, [], ◌∷◌, Option, Some, None, refl, sym, ap, subst, arith}
+use Rattle.std.proofs.Common.{⊎_elim, ◌≡◌, ◌∙◌, ◌≤◌, Bool, true, false, ◌&&◌, if◌then◌else◌, nat_lt, List, [], ◌∷◌, Option, Some, None, refl, sym, ap, subst, arith}
 use Rattle.std.specs.List.{All, Contains, filter}
 use Rattle.std.proofs.lemmas.Bool.{false≢true}
 use Rattle.std.proofs.lemmas.List.Elements.{All-nil, All-cons, All-contains}
@@ -70,8 +70,8 @@ module _ (qs ps : List Message) (fewer : Ascends qs) (more : Ascends ps) (sub : 
   same_links b true entries =
       let links : Message → Bool = λ m. is_link m.kind && nat_lt b.place m.place in
       ap (λ (ms : List Message). b ∷ ms) (same_messages (filter links qs) (filter links ps) (filter_ascends links qs fewer) (filter_ascends links ps more)
-        (λ m at. let found = from_filter links qs m at in in_filter links ps m (sub m found.0) found.1)
-        (λ m at. let found = from_filter links ps m at in in_filter links qs m (entries m (in_rest b m (filter links ps) at)) found.1))
+      (λ m at. let found = from_filter links qs m at in in_filter links ps m (sub m found.0) found.1)
+      (λ m at. let found = from_filter links ps m at in in_filter links qs m (entries m (in_rest b m (filter links ps) at)) found.1))
   same_links b false entries = refl
 
   -- Where the first list has only messages of the second, and has all that make the state of the page, both make one state of it.

@@ -1,5 +1,5 @@
 -- What messages that are applied to a table make of one page, and how many pages the table has then.
-use Rattle.std.proofs.Common.{⊎_elim, ◌≡◌, ◌≢◌, ◌∙◌, ◌⊎◌, ◌+◌, ◌-◌, ◌<◌, ◌≤◌, ℕ, Bool, true, false, ◌==◌, cond, List, [], ◌∷◌, ◌++◌, length, map, get_or, set, replicate, refl, sym, ap, subst, arith, inl, inr, length-append, length-set, eq-eqb, ne_eqb}
+use Rattle.std.proofs.Common.{⊎_elim, ◌≡◌, ◌≢◌, ◌∙◌, ◌⊎◌, ◌+◌, ◌-◌, ◌<◌, ◌≤◌, ℕ, Bool, true, ◌==◌, cond, List, [], ◌∷◌, length, map, get_or, set, replicate, refl, sym, ap, subst, arith, inl, inr, length-append, length-set, eq-eqb, ne_eqb}
 use Rattle.std.specs.List.{Contains, filter}
 use Rattle.std.proofs.lemmas.Bool.{false≢true, cases_lt, cases_eq}
 use Rattle.std.proofs.lemmas.List.{length-replicate, get_or-replicate, get_or_append_left, get_or-append_right, get_or_past, get_or-set_same, get_or-set_other}
@@ -8,7 +8,7 @@ use Rattle.sled_codec.specs.declared.serialization.message.LogKind.TheVariants a
 use Rattle.sled_codec.specs.History.{Message, begins_page}
 use Rattle.sled_codec.specs.PageTables.{entry_of}
 use Rattle.sled_codec.specs.Snapshots.{Entry, Page, Present, Free, Uninitialized}
-use Rattle.sled_log.specs.Recovery.{Applied, applied, grown, linked, table_with, table_of}
+use Rattle.sled_log.specs.Recovery.{applied, grown, linked, table_with, table_of}
 use Rattle.sled_log.proofs.Ascending.{in_first, in_rest, in_cases, in_nothing}
 use Rattle.sled_log.proofs.PageRuns.{turned, run}
 

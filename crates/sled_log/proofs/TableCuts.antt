@@ -1,12 +1,11 @@
 -- The table of a history below a cut does not depend on what the history has from there on.
-use Rattle.std.proofs.Common.{⊎_elim, ◌≡◌, ◌∙◌, ◌↔◌, ◌<◌, ◌≤◌, ℕ, Bool, true, false, ◌&&◌, ◌==◌, cond, nat_lt, List, [], ◌∷◌, ◌++◌, refl, sym, ap, subst, arith, ltb-true, lt-ltb, true≢false}
+use Rattle.std.proofs.Common.{◌≡◌, ◌∙◌, ◌↔◌, ◌≤◌, ℕ, Bool, true, false, ◌&&◌, ◌==◌, cond, nat_lt, List, [], ◌∷◌, ◌++◌, refl, sym, ap, subst, arith, ltb-true, lt-ltb, true≢false}
 use Rattle.std.specs.List.{Contains, filter}
-use Rattle.std.proofs.lemmas.Bool.{and_parts, and_right, le-ltb, cases_Bool}
+use Rattle.std.proofs.lemmas.Bool.{and_parts, and_right, le-ltb}
 use Rattle.std.proofs.lemmas.List.Elements.{filter-append}
 use Rattle.sled_codec.specs.History.{Message, History, no_history, page_state, of_page, table, HasPage, below, AddsMessage}
 use Rattle.sled_codec.specs.PageTables.{page_with, IsTable}
 use Rattle.sled_codec.specs.Snapshots.{Page}
-use Rattle.sled_codec.specs.WellFormed.{IsWellFormed}
 use Rattle.sled_log.proofs.Ascending.{in_nothing}
 
 -- before any message the table is empty
@@ -65,11 +64,10 @@ below_same H bound cut page le =
 
 -- What lies below a place at or above the cut has the same table below the cut.
 pub table_below_place : (H : History) (bound cut : ℕ) (pages : List Page) → cut ≤ bound → IsTable pages (below H bound) cut ↔ IsTable pages H cut
-table_below_place H bound cut pages le =
-    (
-      same_table (below H bound) H cut (λ page. below_same H bound cut page le) pages,
-      same_table H (below H bound) cut (λ page. sym (below_same H bound cut page le)) pages,
-    )
+table_below_place H bound cut pages le = (
+  same_table (below H bound) H cut (λ page. below_same H bound cut page le) pages,
+  same_table H (below H bound) cut (λ page. sym (below_same H bound cut page le)) pages,
+)
 
 -- What lies below the cut has the table of the history.
 pub table_below : (H : History) (cut : ℕ) (pages : List Page) → IsTable pages (below H cut) cut ↔ IsTable pages H cut

@@ -1,13 +1,13 @@
 -- What a table of a history has of its messages, and which pages.
-use Rattle.std.proofs.Common.{if◌then◌else◌, ⊎_elim, ◌≡◌, ◌∙◌, ◌⊎◌, ◌<◌, ◌≤◌, ℕ, Bool, true, false, ◌&&◌, ◌==◌, cond, nat_lt, List, [], ◌∷◌, ◌++◌, Option, Some, None, refl, sym, ap, subst, arith, inl, inr, eqb-true, eq-eqb, ltb-true, lt-ltb}
+use Rattle.std.proofs.Common.{if◌then◌else◌, ⊎_elim, ◌≡◌, ◌⊎◌, ◌<◌, ◌≤◌, ℕ, Bool, true, false, ◌&&◌, ◌==◌, nat_lt, List, [], ◌∷◌, ◌++◌, Option, Some, None, refl, sym, ap, subst, arith, inl, inr, eqb-true, eq-eqb, ltb-true, lt-ltb}
 use Rattle.std.specs.List.{Contains, filter}
 use Rattle.std.proofs.lemmas.Bool.{and_parts, and_from}
 use Rattle.std.proofs.lemmas.List.Elements.{Contains-append_left, Contains-append_right}
 use Rattle.sled_codec.specs.declared.serialization.message.LogKind.TheVariants as does
-use Rattle.sled_codec.specs.History.{Message, History, begins_page, is_replace, is_link, last_beginning, entries_from, page_state, of_page, HasPage}
-use Rattle.sled_codec.specs.WellFormed.{IsWellFormed, HasReplace}
-use Rattle.sled_log.proofs.Ascending.{in_first, in_rest, in_cases, in_nothing, in_filter, from_filter, Ascends, later_above, filter_ascends, apart_ascends}
-use Rattle.sled_log.proofs.PageStates.{none_begins, IsLast, last_found}
+use Rattle.sled_codec.specs.History.{Message, History, is_replace, is_link, last_beginning, entries_from, page_state, of_page, HasPage}
+use Rattle.sled_codec.specs.WellFormed.{HasReplace}
+use Rattle.sled_log.proofs.Ascending.{in_first, in_cases, in_nothing, in_filter, from_filter, Ascends, later_above, filter_ascends}
+use Rattle.sled_log.proofs.PageStates.{IsLast, last_found}
 
 -- The messages of a page below a cut.
 

@@ -133,7 +133,7 @@ pub record Applied : Type 0 where
 abbrev pub applied : Message → Applied
 applied m = record { kind = m.kind; page = m.page; entry = entry_of m }
 
--- The first list has elements of the second, in their order.
+-- The elements of the first list are elements of the second, in their order.
 abbrev pub IsSublist : {X : Type 0} → List X → List X → Type 0
 IsSublist [] ys = Unit {0}
 IsSublist (x ∷ xs) [] = ⊥
