@@ -20,4 +20,5 @@ pub mod Snapshots
 pub mod Spelling
 pub mod SpellingLaws
 pub mod Sums
+pub mod WellFormed
 pub mod Written

@@ -1,3 +1,10 @@
+pub mod Ascending
+pub mod FoldLemmas
+pub mod PageRuns
+pub mod PageStates
+pub mod PageWise
+pub mod TableCuts
+pub mod TableParts
 mod TableLemmas
 mod RecoveryLemmas
 mod FindLemmas

@@ -3,6 +3,8 @@
 use Rattle.std.specs.Prelude.{◌≡◌, ◌≢◌, ◌⊎◌, ◌↔◌, ◌+◌, ◌-◌, ◌*◌, ◌/◌, ◌%◌, ◌^◌, ◌≤◌, ℕ, ℤ, pos, negsuc, max, nat_lt, int_le, int_lt, Bool, true, false, ◌&&◌, ◌||◌, not, ◌==◌, if◌then◌else◌, List, [], ◌∷◌, ◌++◌, length, set, get_or, replicate, Option, Some, None, Contains}
 use Rattle.sled_codec.specs.declared.serialization.message.LogKind.{LogKind}
 use Rattle.sled_codec.specs.declared.serialization.message.LogKind.TheVariants as does
+use Rattle.sled_codec.specs.History.{Message}
+use Rattle.sled_codec.specs.PageTables.{entry_of}
 use Rattle.sled_codec.specs.Places.{part}
 use Rattle.sled_codec.specs.Record.{IsHeader}
 use Rattle.sled_codec.specs.Snapshots.{Entry, Page, Present, Free, Uninitialized, Shot}
@@ -116,6 +118,16 @@ pub record Applied : Type 0 where
   pub kind : LogKind
   pub page : ℕ
   pub entry : Entry
+
+-- a message of a history as it is applied
+abbrev pub applied : Message → Applied
+applied m = record { kind = m.kind; page = m.page; entry = entry_of m }
+
+-- The elements of the first list are elements of the second, in their order.
+abbrev pub IsSublist : {X : Type 0} → List X → List X → Type 0
+IsSublist [] ys = Unit {0}
+IsSublist (x ∷ xs) [] = ⊥
+IsSublist (x ∷ xs) (y ∷ ys) = (x ≡ y) × IsSublist xs ys ⊎ IsSublist (x ∷ xs) ys
 
 abbrev pub applied_of : Met → What → List Applied
 applied_of m (Gives kind page pointer) = record { kind = kind; page = page; entry = (pos m.place, pointer, m.len) } ∷ []
