@@ -1,2 +1,3 @@
 pub mod Recovery
 pub mod Removals
+pub mod WritesBack

@@ -8,8 +8,10 @@ ghost use Rattle.sled_core.specs.Causes.{DeviceAnswers};
 ghost use Rattle.sled_core.specs.Reading.{file_of};
 ghost use Rattle.sled_core.specs.Scan.{read_of};
 ghost use Rattle.sled_store.specs.SnapshotFiles.{stable_place};
-ghost use Rattle.sled_log.specs.Recovery.{least_place, tail_begins, IsFoundSegment, IsMisplaced, IsOrdering, Recovered, Damaged, outcome_of, are_whole, scanned_of, cut_of, ContinuesFrom, Recovers};
+ghost use Rattle.sled_log.specs.Recovery.{least_place, tail_begins, IsFoundSegment, IsMisplaced, IsOrdering, Recovered, Damaged, Conclusion, outcome_of, are_whole, scanned_of, cut_of, tip_of, is_beyond, ContinuesFrom, Recovers};
+ghost use Rattle.sled_log.specs.WritesBack.{conclusion_of, range_of};
 
+use crate::conclusion::{Recovery, Tip};
 use crate::snapshot_file::{encode_file, publish, read_newest, remove_others};
 use crate::table::{apply_all, are_whole};
 use sled_codec::result::{Error, LogOffset, Result};
@@ -20,24 +22,6 @@ use sled_core::met::{Scan, Segment};
 use sled_core::read_at::BasedBuf;
 use sled_store::{Device, RunningConfig};
 use std::alloc::Global;
-
-/// What recovery makes of a log file.
-#[derive(Drop)]
-pub(crate) struct Recovery {
-    pub(crate) snapshot: Snapshot,
-    /// It ends above the snapshot that recovery began from, or that had no place.
-    pub(crate) is_new: bool,
-    /// The rest of the active segment behind the cut, where one was read.
-    pub(crate) tip: Option<Tip>,
-}
-
-/// A range of the log file.
-#[derive(Debug, Clone, Copy)]
-pub(crate) struct Tip {
-    pub(crate) at: LogOffset,
-    pub(crate) len: u64,
-    ghost small: { at + len < 2 ^ 63 },
-}
 
 /// Recovers the table of pages from a device whose log file is no longer than a segment. First it settles
 /// the device. Then it reads the newest snapshot and the log file, and at last it fills the rest of the
@@ -51,7 +35,7 @@ pub(crate) struct Tip {
 pub fn read_snapshot_or_default<D: Device, C: Checksum>(
     config: &mut RunningConfig<D, C>,
 ) -> Result<Snapshot>
-    ensures ok { IfOk result (λ s. Recovers C.sum_of config.old.config.segment_size (record { log = (state_of (D.trace config.old.device)).log.bytes; blobs = λ _. None }) (state_of (D.trace config.old.device)).snapshots.file (Recovered (shot_of s))) }
+    ensures ok { IfOk result (λ s. (x : Conclusion) × Recovers C.sum_of config.old.config.segment_size (record { log = (state_of (D.trace config.old.device)).log.bytes; blobs = λ _. None }) (state_of (D.trace config.old.device)).snapshots.file (Recovered x) × (shot_of s ≡ x.shot)) }
     ensures corrupt { IsCorruption result → (config.old.config.segment_size < length (state_of (D.trace config.old.device)).log.bytes) ⊎ Recovers C.sum_of config.old.config.segment_size (record { log = (state_of (D.trace config.old.device)).log.bytes; blobs = λ _. None }) (state_of (D.trace config.old.device)).snapshots.file Damaged }
     ensures unwritten { IsCorruption result → D.trace config.new.device ≡ NamesSynced ∷ Synced ∷ D.trace config.old.device }
     ensures answers { DeviceAnswers result (D.faults config.old.device) (D.faults config.new.device) }
@@ -135,7 +119,7 @@ fn publish_new<D: Device, C: Checksum>(
 /// reads. `Corruption` comes where the newest snapshot is damaged, where segments are found that can't be
 /// of one log, where a damaged record is met, where the table can't be one, and where the file is longer.
 pub(crate) fn recover<D: Device, C: Checksum>(config: &mut RunningConfig<D, C>) -> Result<Recovery>
-    ensures ok { IfOk result (λ x. Recovers C.sum_of config.old.config.segment_size (record { log = (state_of (D.trace config.old.device)).log.bytes; blobs = λ _. None }) (state_of (D.trace config.old.device)).snapshots.file (Recovered (shot_of x.snapshot))) }
+    ensures ok { IfOk result (λ x. Recovers C.sum_of config.old.config.segment_size (record { log = (state_of (D.trace config.old.device)).log.bytes; blobs = λ _. None }) (state_of (D.trace config.old.device)).snapshots.file (Recovered (conclusion_of x))) }
     ensures corrupt { IsCorruption result → (config.old.config.segment_size < length (state_of (D.trace config.old.device)).log.bytes) ⊎ Recovers C.sum_of config.old.config.segment_size (record { log = (state_of (D.trace config.old.device)).log.bytes; blobs = λ _. None }) (state_of (D.trace config.old.device)).snapshots.file Damaged }
     ensures answers { DeviceAnswers result (D.faults config.old.device) (D.faults config.new.device) }
     ensures trace { D.trace config.new.device ≡ D.trace config.old.device }
@@ -157,7 +141,7 @@ fn continue_from<D: Device, C: Checksum>(
     first: Snapshot,
 ) -> Result<Recovery>
     requires short { length (state_of (D.trace config.old.device)).log.bytes ≤ config.old.config.segment_size }
-    ensures ok { IfOk result (λ x. ContinuesFrom C.sum_of config.old.config.segment_size (record { log = (state_of (D.trace config.old.device)).log.bytes; blobs = λ _. None }) (shot_of first) (Recovered (shot_of x.snapshot))) }
+    ensures ok { IfOk result (λ x. ContinuesFrom C.sum_of config.old.config.segment_size (record { log = (state_of (D.trace config.old.device)).log.bytes; blobs = λ _. None }) (shot_of first) (Recovered (conclusion_of x))) }
     ensures corrupt { IsCorruption result → ContinuesFrom C.sum_of config.old.config.segment_size (record { log = (state_of (D.trace config.old.device)).log.bytes; blobs = λ _. None }) (shot_of first) Damaged }
     ensures answers { DeviceAnswers result (D.faults config.old.device) (D.faults config.new.device) }
     ensures trace { D.trace config.new.device ≡ D.trace config.old.device }
@@ -188,7 +172,7 @@ fn continue_in<D: Device, C: Checksum>(
     requires own { segment.now.slot ≡ 0 }
     requires found { IsFoundSegment C.sum_of config.old.config.segment_size (file_of buf.now) (least_place config.old.config.segment_size (shot_of first)) segment.now }
     requires only { (IsMisplaced config.old.config.segment_size segment.now → ⊥) → IsOrdering C.sum_of config.old.config.segment_size (file_of buf.now) (least_place config.old.config.segment_size (shot_of first)) (segment.now ∷ []) }
-    ensures ok { IfOk result (λ x. ContinuesFrom C.sum_of config.old.config.segment_size (read_of buf.now) (shot_of first) (Recovered (shot_of x.snapshot))) }
+    ensures ok { IfOk result (λ x. ContinuesFrom C.sum_of config.old.config.segment_size (read_of buf.now) (shot_of first) (Recovered (conclusion_of x))) }
     ensures corrupt { IsCorruption result → ContinuesFrom C.sum_of config.old.config.segment_size (read_of buf.now) (shot_of first) Damaged }
     ensures answers { DeviceAnswers result (D.faults config.old.device) (D.faults config.new.device) }
     ensures trace { D.trace config.new.device ≡ D.trace config.old.device }
@@ -243,7 +227,7 @@ fn replay(
     requires slot { segment.now.slot + size < 2 ^ 63 }
     requires stop { scan.now.stop ≤ size }
     requires places { All (λ m. m.place < segment.now.place + size) scan.now.met.items }
-    ensures ok { IfOk result (λ x. outcome_of size (shot_of first) (segment.now.place + scan.now.stop) (scanned_of segment.now scan.now ∷ []) ≡ Recovered (shot_of x.snapshot)) }
+    ensures ok { IfOk result (λ x. outcome_of size (shot_of first) (segment.now.place + scan.now.stop) (scanned_of segment.now scan.now ∷ []) ≡ Recovered (conclusion_of x)) }
     ensures corrupt { IsCorruption result → outcome_of size (shot_of first) (segment.now.place + scan.now.stop) (scanned_of segment.now scan.now ∷ []) ≡ Damaged }
     ensures errors { IfErr result IsDecodeError }
 {
@@ -277,7 +261,11 @@ fn conclude(
     requires size { 0 < size }
     requires cut { cut.0 < 2 ^ 63 }
     requires slot { IfSome cut.1 (λ slot. slot + size < 2 ^ 63) }
-    ensures ok { IfOk result (λ x. shot_of x.snapshot ≡ record { stable = Some (pos cut.0); active = cut.1; pages = map page_of pages.items }) }
+    ensures ok { IfOk result (λ x. conclusion_of x ≡ record {
+          shot = record { stable = Some (pos cut.0); active = cut.1; pages = map page_of pages.items };
+          tip = tip_of size cut.0 cut.1;
+          is_new = is_beyond was cut.0;
+        }) }
     ensures fine { OnOk result ((least ≤ cut.0) × (are_whole (map page_of pages.items) ≡ true)) }
     ensures corrupt { IsCorruption result → (cut.0 < least) ⊎ (are_whole (map page_of pages.items) ≡ false) }
     ensures errors { IfErr result IsDecodeError }
@@ -304,7 +292,7 @@ fn conclude(
 fn tip_of(size: u64, cut: u64, active: Option<LogOffset>) -> Option<Tip>
     requires size { 0 < size }
     requires slot { IfSome active (λ slot. slot + size < 2 ^ 63) }
-    ensures { MatchOption active (result ≡ None) (λ slot. IfSome result (λ tip. (tip.at ≡ slot + cut % size) × (tip.at + tip.len ≡ slot + size))) }
+    ensures { range_of result ≡ tip_of size cut active }
 {
     match active {
         Some(slot) => {
