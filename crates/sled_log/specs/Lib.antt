@@ -1,3 +1,2 @@
 pub mod Recovery
-pub mod Removals
 pub mod WritesBack

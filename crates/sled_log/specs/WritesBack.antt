@@ -1,7 +1,8 @@
 -- What recovery writes back: the calls that it makes of the device, and what is read afterwards.
-use Rattle.std.specs.Prelude.{◌≡◌, ◌≢◌, ◌↔◌, ◌+◌, ℕ, ℤ, pos, true, Bool, if◌then◌else◌, List, [], ◌∷◌, ◌++◌, length, map, replicate, Option, Some, None, IsSome, MatchOption, Contains}
+use Rattle.std.specs.Prelude.{◌≡◌, ◌≢◌, ◌⊎◌, ◌↔◌, ℕ, ℤ, pos, true, Bool, not, if◌then◌else◌, List, [], ◌∷◌, ◌++◌, length, map, replicate, Option, Some, None, IsSome, MatchOption, Contains}
 use Rattle.std.specs.Bool.{MatchBool}
-use Rattle.std.specs.Ordering.{int_cmp}
+use Rattle.std.specs.List.{filter}
+use Rattle.std.specs.Ordering.{int_cmp, int_eq}
 use Rattle.std.specs.Option.{unwrap_or}
 use Rattle.std.specs.List.Sorted.{IsStrictlySortedBy}
 use Rattle.sled_codec.specs.Snapshots.{Shot, shot_of, short_snapshot}
@@ -49,10 +50,21 @@ publishing_file bytes number = SnapshotFilled bytes bytes ∷ SnapshotPublished 
 abbrev pub publishing : (List ℕ → ℕ) → Shot → List ℤ → List Event
 publishing sum s numbers = publishing_file (short_file sum s) (number_of s) ++ removing numbers
 
+-- a number is another one than the one that is kept, and those of a list that are
+abbrev pub is_other : ℤ → ℤ → Bool
+is_other kept n = not (int_eq n kept)
+
+abbrev pub others : ℤ → List ℤ → List ℤ
+others kept numbers = filter (is_other kept) numbers
+
 -- these are all numbers of snapshots but the one that is kept, in ascending order
 pub record AreOthers (file : ℤ → Option (List ℕ)) (kept : ℤ) (numbers : List ℤ) : Type 0 where
   pub each : (n : ℤ) → Contains numbers n ↔ (IsSome (file n) × (n ≢ kept))
   pub ascending : IsStrictlySortedBy int_cmp numbers
+
+-- Snapshots that may have been removed where a call failed: all but the one that is kept, or none where they could not be listed.
+abbrev pub MayBeRemoved : (ℤ → Option (List ℕ)) → ℤ → List ℤ → Type 0
+MayBeRemoved file kept numbers = (numbers ≡ []) ⊎ AreOthers file kept numbers
 
 -- the calls that write back what recovery concludes
 abbrev pub writing_back : (List ℕ → ℕ) → Conclusion → List ℤ → List Event

@@ -1,15 +1,16 @@
 //! Recovery: what the device has, read into a table of pages (`specs/Recovery.antt`).
-ghost use Rattle.std.specs.Prelude.{replicate, IfSome, MatchOption, ◌↔◌, ◌≢◌, IsTrue, ◌≡◌, ◌⊎◌, ◌+◌, ◌-◌, ◌^◌, ◌*◌, ◌/◌, ◌%◌, ◌≤◌, ◌<◌, ℕ, map, pos, true, false, Some, [], ◌∷◌, length, None, IfOk, IfErr, OnOk};
+ghost use Rattle.std.specs.Prelude.{IfSome, List, ℤ, ◌↔◌, ◌≢◌, IsTrue, ◌≡◌, ◌⊎◌, ◌+◌, ◌-◌, ◌^◌, ◌*◌, ◌/◌, ◌%◌, ◌≤◌, ◌<◌, ℕ, map, pos, true, false, Some, [], ◌∷◌, length, None, IfOk, IfErr, OnOk};
 ghost use Rattle.std.specs.List.{All};
 ghost use Rattle.sled_codec.specs.Errors.{IsCorruption, IsDecodeError};
-ghost use Rattle.sled_codec.specs.Snapshots.{Shot, shot_of, page_of};
-ghost use Rattle.sled_store.specs.Device.{state_of, Wrote, Synced, NamesSynced};
+ghost use Rattle.sled_codec.specs.Snapshots.{Shot, shot_of, page_of, FitsSnapshot};
+ghost use Rattle.sled_store.specs.Device.{state_of, Synced, NamesSynced};
+ghost use Rattle.sled_store.specs.Script.{Performs, after_all};
 ghost use Rattle.sled_core.specs.Causes.{DeviceAnswers};
 ghost use Rattle.sled_core.specs.Reading.{file_of};
 ghost use Rattle.sled_core.specs.Scan.{read_of};
 ghost use Rattle.sled_store.specs.SnapshotFiles.{stable_place};
 ghost use Rattle.sled_log.specs.Recovery.{least_place, tail_begins, IsFoundSegment, IsMisplaced, IsOrdering, Recovered, Damaged, Conclusion, outcome_of, are_whole, scanned_of, cut_of, tip_of, is_beyond, ContinuesFrom, Recovers};
-ghost use Rattle.sled_log.specs.WritesBack.{conclusion_of, range_of};
+ghost use Rattle.sled_log.specs.WritesBack.{conclusion_of, range_of, number_of, shredding, publishing, writing_back, AreOthers, MayBeRemoved, IsWrittenBack};
 
 use crate::conclusion::{Recovery, Tip};
 use crate::snapshot_file::{encode_file, publish, read_newest, remove_others};
@@ -55,6 +56,7 @@ pub fn read_snapshot_or_default<D: Device, C: Checksum>(
 /// Settles the log file and the names.
 fn settle<D: Device>(device: &mut D) -> Result<()>
     ensures done { OnOk result (D.trace device.new ≡ NamesSynced ∷ Synced ∷ D.trace device.old) }
+    ensures calls { Performs (Synced ∷ NamesSynced ∷ []) (D.trace device.old) (D.trace device.new) }
     ensures answers { DeviceAnswers result (D.faults device.old) (D.faults device.new) }
     ensures readable { IsCorruption result → ⊥ }
 {
@@ -68,28 +70,36 @@ fn write_back<D: Device, C: Checksum>(
     config: &mut RunningConfig<D, C>,
     recovery: &Recovery,
 ) -> Result<()>
+    ensures done { let x = conclusion_of recovery.now in
+        OnOk result ((numbers : List ℤ) × (x.is_new ≡ true → AreOthers (state_of (D.trace config.old.device)).snapshots.file (number_of x.shot) numbers) × (D.trace config.new.device ≡ after_all (writing_back C.sum_of x numbers) (D.trace config.old.device))) }
+    ensures written { OnOk result (IsWrittenBack C.sum_of (conclusion_of recovery.now) (state_of (D.trace config.old.device)) (state_of (D.trace config.new.device))) }
+    ensures calls { let x = conclusion_of recovery.now in
+        (numbers : List ℤ) × MayBeRemoved (state_of (D.trace config.old.device)).snapshots.file (number_of x.shot) numbers × Performs (writing_back C.sum_of x numbers) (D.trace config.old.device) (D.trace config.new.device) }
+    ensures fits { OnOk result (recovery.now.is_new ≡ true → FitsSnapshot (shot_of recovery.now.snapshot)) }
     ensures answers { DeviceAnswers result (D.faults config.old.device) (D.faults config.new.device) }
     ensures readable { IsCorruption result → ⊥ }
     ensures config { config.new.config ≡ config.old.config }
     ensures checksum { config.new.checksum ≡ config.old.checksum }
 {
-    if let Some(tip) = recovery.tip {
-        shred(config, tip)?;
-    }
+    shred(config, recovery.tip)?;
     if recovery.is_new {
-        publish_new(config, &recovery.snapshot)?;
+        return publish_new(config, &recovery.snapshot);
     }
     Ok(())
 }
 
 /// Fills a range of the log file with zeros, and syncs it.
-fn shred<D: Device, C: Checksum>(config: &mut RunningConfig<D, C>, tip: Tip) -> Result<()>
-    ensures done { OnOk result (D.trace config.new.device ≡ Synced ∷ Wrote tip.at (replicate tip.len 0) (replicate tip.len 0) ∷ D.trace config.old.device) }
+fn shred<D: Device, C: Checksum>(config: &mut RunningConfig<D, C>, tip: Option<Tip>) -> Result<()>
+    ensures done { OnOk result (D.trace config.new.device ≡ after_all (shredding (range_of tip)) (D.trace config.old.device)) }
+    ensures calls { Performs (shredding (range_of tip)) (D.trace config.old.device) (D.trace config.new.device) }
     ensures answers { DeviceAnswers result (D.faults config.old.device) (D.faults config.new.device) }
     ensures readable { IsCorruption result → ⊥ }
     ensures config { config.new.config ≡ config.old.config }
     ensures checksum { config.new.checksum ≡ config.old.checksum }
 {
+    let Some(tip) = tip else {
+        return Ok(());
+    };
     let zeros = vec![in config.alloc(); 0; tip.len as usize]?;
     config.device.write_at(tip.at, &zeros)?;
     config.device.sync()?;
@@ -101,6 +111,11 @@ fn publish_new<D: Device, C: Checksum>(
     config: &mut RunningConfig<D, C>,
     snapshot: &Snapshot,
 ) -> Result<()>
+    ensures done { let s = shot_of snapshot.now in
+        OnOk result ((numbers : List ℤ) × AreOthers (state_of (D.trace config.old.device)).snapshots.file (number_of s) numbers × (D.trace config.new.device ≡ after_all (publishing C.sum_of s numbers) (D.trace config.old.device))) }
+    ensures calls { let s = shot_of snapshot.now in
+        (numbers : List ℤ) × MayBeRemoved (state_of (D.trace config.old.device)).snapshots.file (number_of s) numbers × Performs (publishing C.sum_of s numbers) (D.trace config.old.device) (D.trace config.new.device) }
+    ensures fits { OnOk result (FitsSnapshot (shot_of snapshot.now)) }
     ensures answers { DeviceAnswers result (D.faults config.old.device) (D.faults config.new.device) }
     ensures readable { IsCorruption result → ⊥ }
     ensures config { config.new.config ≡ config.old.config }

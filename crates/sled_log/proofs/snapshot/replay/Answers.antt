@@ -3,7 +3,7 @@ use Rattle.std.specs.Option.{unwrap_or}
 use Rattle.std.specs.Prelude.{OnOk}
 use Rattle.sled_codec.specs.Errors.{IsCorruption}
 use Rattle.sled_codec.specs.Snapshots.{Shot, shot_of, page_of}
-use Rattle.std.proofs.Common.{Option, Some, pos}
+use Rattle.std.proofs.Common.{Option}
 use Rattle.sled_core.specs.declared.met.Met.{Met}
 use Rattle.sled_store.specs.SnapshotFiles.{stable_place}
 use Rattle.sled_log.specs.Recovery.{Applied, Scanned, given, before_open, open_at, cut_of, scanned_of, has_no_table, are_whole, table_of}
