@@ -1,9 +1,9 @@
 -- What is read where recovery wrote back what it concludes.
 use Rattle.std.proofs.Common.{◌≡◌, ◌≢◌, ◌∙◌, ℕ, ℤ, Bool, true, false, is_some, if◌then◌else◌, List, [], ◌∷◌, ◌++◌, Option, Some, None, refl, sym, ap, subst, inl, inr}
 use Rattle.sled_codec.specs.Snapshots.{Shot}
-use Rattle.sled_store.specs.Device.{Event, Trace, SnapshotFilled, SnapshotPublished, NamesSynced, state_of}
+use Rattle.sled_store.specs.Device.{Event, Trace, SnapshotFilled, SnapshotPublished, Synced, NamesSynced, state_of}
 use Rattle.sled_store.specs.Script.{Performs, after_all}
-use Rattle.sled_log.specs.Recovery.{Conclusion}
+use Rattle.sled_log.specs.Recovery.{Conclusion, Outcome, Recovers}
 use Rattle.sled_log.specs.WritesBack.{short_file, number_of, publishing_file, publishing, removing, shredding, writing_back, AreOthers, MayBeRemoved, IsOnlySnapshot, IsWrittenBack}
 use Rattle.sled_log.proofs.CallLemmas.{after_joined, performs_whole, performs_front, performs_behind}
 use Rattle.sled_log.proofs.OtherLemmas.{file_at, same_name, other_name, same_others, missing_after, gone_after, kept_after, log_after, blobs_after}
@@ -150,3 +150,18 @@ writes_whole sum x old new is_old (ns, are, is) = (
   inl refl,
   performs_whole (writing_back sum x []) old new (is ∙ ap (λ (b : Bool). after_all (shredding x.tip ++ (if b then publishing sum x.shot ns else [])) old) is_old ∙ ap (λ (b : Bool). after_all (shredding x.tip ++ (if b then publishing sum x.shot [] else [])) old) (sym is_old)),
 )
+
+-- The device was settled before.
+module _ (sum : List ℕ → ℕ) (old mid : Trace) (settled : mid ≡ NamesSynced ∷ Synced ∷ old) where
+  pub recovers_settled : (size : ℕ) (o : Outcome) → Recovers sum size (record { log = (state_of mid).log.bytes; blobs = λ _. None }) (state_of mid).snapshots.file o
+      → Recovers sum size (record { log = (state_of old).log.bytes; blobs = λ _. None }) (state_of old).snapshots.file o
+  recovers_settled size o is =
+      subst (λ (h : Trace). Recovers sum size (record { log = (state_of h).log.bytes; blobs = λ _. None }) (state_of h).snapshots.file o) settled is
+
+  pub writes_settled : (x : Conclusion) (new : Trace) → WritesBack sum x mid new
+      → (numbers : List ℤ) × MayBeRemoved (file_at old) (number_of x.shot) numbers × Performs (Synced ∷ NamesSynced ∷ writing_back sum x numbers) old new
+  writes_settled x new (ns, may, calls) = (
+    ns,
+    subst (λ (h : Trace). MayBeRemoved (file_at h) (number_of x.shot) ns) settled may,
+    performs_behind (Synced ∷ NamesSynced ∷ []) (writing_back sum x ns) old mid new settled calls,
+  )

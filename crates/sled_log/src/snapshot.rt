@@ -36,7 +36,11 @@ use std::alloc::Global;
 pub fn read_snapshot_or_default<D: Device, C: Checksum>(
     config: &mut RunningConfig<D, C>,
 ) -> Result<Snapshot>
-    ensures ok { IfOk result (λ s. (x : Conclusion) × Recovers C.sum_of config.old.config.segment_size (record { log = (state_of (D.trace config.old.device)).log.bytes; blobs = λ _. None }) (state_of (D.trace config.old.device)).snapshots.file (Recovered x) × (shot_of s ≡ x.shot)) }
+    ensures ok { let old = state_of (D.trace config.old.device) in
+        IfOk result (λ s. (x : Conclusion) × Recovers C.sum_of config.old.config.segment_size (record { log = old.log.bytes; blobs = λ _. None }) old.snapshots.file (Recovered x) × (shot_of s ≡ x.shot) × IsWrittenBack C.sum_of x (state_of (NamesSynced ∷ Synced ∷ D.trace config.old.device)) (state_of (D.trace config.new.device))) }
+    ensures calls { let old = state_of (D.trace config.old.device) in
+        Performs (Synced ∷ NamesSynced ∷ []) (D.trace config.old.device) (D.trace config.new.device)
+        ⊎ ((x : Conclusion) × Recovers C.sum_of config.old.config.segment_size (record { log = old.log.bytes; blobs = λ _. None }) old.snapshots.file (Recovered x) × (numbers : List ℤ) × MayBeRemoved old.snapshots.file (number_of x.shot) numbers × Performs (Synced ∷ NamesSynced ∷ writing_back C.sum_of x numbers) (D.trace config.old.device) (D.trace config.new.device)) }
     ensures corrupt { IsCorruption result → (config.old.config.segment_size < length (state_of (D.trace config.old.device)).log.bytes) ⊎ Recovers C.sum_of config.old.config.segment_size (record { log = (state_of (D.trace config.old.device)).log.bytes; blobs = λ _. None }) (state_of (D.trace config.old.device)).snapshots.file Damaged }
     ensures unwritten { IsCorruption result → D.trace config.new.device ≡ NamesSynced ∷ Synced ∷ D.trace config.old.device }
     ensures answers { DeviceAnswers result (D.faults config.old.device) (D.faults config.new.device) }
@@ -45,10 +49,10 @@ pub fn read_snapshot_or_default<D: Device, C: Checksum>(
 {
     settle(&mut config.device)?;
     match recover(config) {
-        Ok(recovery) => {
-            write_back(config, &recovery)?;
-            Ok(recovery.snapshot)
-        }
+        Ok(recovery) => match write_back(config, &recovery) {
+            Ok(()) => Ok(recovery.snapshot),
+            Err(e) => Err(e),
+        },
         Err(e) => Err(e),
     }
 }
