@@ -16,7 +16,7 @@ use Rattle.std.proofs.lemmas.List.{take_all}
 use Rattle.sled_core.specs.declared.read_at.BasedBuf.{BasedBuf}
 use Rattle.sled_core.specs.Reading.{file_of}
 use Rattle.sled_core.specs.Scan.{Readable, IsScan, IsDamagedIn}
-use Rattle.sled_log.specs.Recovery.{IsFoundSegment, IsMisplaced, IsOrdering, Scanned, IsTail, GoesOn, begun_below, AreScanned, ContinuesFrom, Outcome, Recovered, Damaged, outcome_of, least_place, tail_begins}
+use Rattle.sled_log.specs.Recovery.{IsFoundSegment, IsMisplaced, IsOrdering, Scanned, IsTail, GoesOn, begun_below, AreScanned, ContinuesFrom, Outcome, Recovered, Damaged, unchanged, outcome_of, least_place, tail_begins}
 
 -- lists of no segment and of one
 not_in_none : {X : Type 0} (x : X) → Contains [] x → ⊥
@@ -85,7 +85,7 @@ module _ (sum : List ℕ → ℕ) (size : ℕ) (log : List ℕ) (least : ℕ) (s
 -- What comes of one segment, or of none.
 module _ (sum : List ℕ → ℕ) (size : ℕ) (r : Readable) (first : Shot) (some : 0 < size) where
   -- no segment is found: the snapshot stays
-  pub nothing_found : IsOrdering sum size r.log (least_place size first) [] → ContinuesFrom sum size r first (Recovered first)
+  pub nothing_found : IsOrdering sum size r.log (least_place size first) [] → ContinuesFrom sum size r first (Recovered (unchanged first))
   unfolding ContinuesFrom
   nothing_found none = inr ([], none, inr ([], λ s there. absurd (not_in_none s there), refl))
 
@@ -96,7 +96,7 @@ module _ (sum : List ℕ → ℕ) (size : ℕ) (r : Readable) (first : Shot) (so
 
   module _ (s : Segment) (ordering : IsOrdering sum size r.log (least_place size first) (s ∷ [])) where
     -- the tail begins elsewhere: the snapshot stays
-    pub not_read : s.place ≢ tail_begins size (least_place size first) (s ∷ []) → ContinuesFrom sum size r first (Recovered first)
+    pub not_read : s.place ≢ tail_begins size (least_place size first) (s ∷ []) → ContinuesFrom sum size r first (Recovered (unchanged first))
     unfolding ContinuesFrom
     not_read elsewhere = inr (s ∷ [], ordering, inr ([], λ t there at. elsewhere (ap (λ (x : Segment). x.place) (only_in s t there) ∙ at), refl))
 

@@ -8,6 +8,9 @@ pub mod TableParts
 mod TableLemmas
 mod RecoveryLemmas
 mod FindLemmas
+pub mod CallLemmas
 pub mod Numbers
+pub mod OtherLemmas
 pub mod RemovalLemmas
 pub mod Trailers
+pub mod WriteLemmas

@@ -6,12 +6,13 @@ use Rattle.std.proofs.lemmas.List.Elements.{recursion_from_All}
 use Rattle.std.proofs.lemmas.Bool.Decides.{nat_tests}
 use Rattle.std.specs.Prelude.{Result, Ok, Err, IfOk, OnOk}
 use Rattle.sled_codec.specs.declared.result.Error.{Error}
-use Rattle.sled_log.specs.declared.snapshot.Recovery.{Recovery}
-use Rattle.sled_codec.specs.Snapshots.{Shot, shot_of}
+use Rattle.sled_log.specs.declared.conclusion.Recovery.{Recovery}
+use Rattle.sled_codec.specs.Snapshots.{Shot}
 use Rattle.sled_core.specs.declared.met.Met.{Met}
 use Rattle.sled_core.specs.declared.met.Segment.{Segment}
 use Rattle.sled_store.specs.SnapshotFiles.{stable_place}
-use Rattle.sled_log.specs.Recovery.{Scanned, Applied, Outcome, Recovered, Damaged, opens, before_open, open_at, passed_in, stops_in, concluded, outcome_of, given, cut_of, has_no_table, are_whole, table_of}
+use Rattle.sled_log.specs.WritesBack.{conclusion_of}
+use Rattle.sled_log.specs.Recovery.{Scanned, Applied, Outcome, Recovered, Damaged, Conclusion, tip_of, is_beyond, opens, before_open, open_at, passed_in, stops_in, concluded, outcome_of, given, cut_of, has_no_table, are_whole, table_of}
 
 -- where no batch is open, all that is met lies before one
 pub before_none : (end : ℕ) (ms : List Met) → open_at end ms ≡ None → before_open end ms ≡ ms
@@ -31,33 +32,37 @@ module _ (size : ℕ) (first : Shot) (end : ℕ) (s : Scanned) where
   one_passed None is = sym (before_none end s.met is)
   one_passed (Some place) is = refl
 
-  pub one_outcome : outcome_of size first end (s ∷ []) ≡ concluded first (given (stable_place first.stable) (before_open end s.met)) (cut_of size (s.segment, unwrap_or (open_at end s.met) (s.segment.place + s.stop)))
+  pub one_outcome : outcome_of size first end (s ∷ []) ≡ concluded size first (given (stable_place first.stable) (before_open end s.met)) (cut_of size (s.segment, unwrap_or (open_at end s.met) (s.segment.place + s.stop)))
   one_outcome =
-      ap (λ (ms : List Met). concluded first (given (stable_place first.stable) ms) (cut_of size (stops_in end s (open_at end s.met) []))) (one_passed (open_at end s.met) refl)
-      ∙ ap (λ (at : Segment × ℕ). concluded first (given (stable_place first.stable) (before_open end s.met)) (cut_of size at)) (one_stop (open_at end s.met))
+      ap (λ (ms : List Met). concluded size first (given (stable_place first.stable) ms) (cut_of size (stops_in end s (open_at end s.met) []))) (one_passed (open_at end s.met) refl)
+      ∙ ap (λ (at : Segment × ℕ). concluded size first (given (stable_place first.stable) (before_open end s.met)) (cut_of size at)) (one_stop (open_at end s.met))
 
 -- When a pass gives a snapshot, and when the content is damaged.
-module _ (first : Shot) (messages : List Applied) (cut : ℕ × Option ℕ) where
-  abbrev made : Shot
-  made = record { stable = Some (pos cut.0); active = cut.1; pages = table_of first.pages messages }
+module _ (size : ℕ) (first : Shot) (messages : List Applied) (cut : ℕ × Option ℕ) where
+  abbrev pub made : Conclusion
+  made = record {
+    shot = record { stable = Some (pos cut.0); active = cut.1; pages = table_of first.pages messages };
+    tip = tip_of size cut.0 cut.1;
+    is_new = is_beyond first.stable cut.0;
+  }
 
   abbrev chosen : Bool → Bool → Bool → Outcome
   chosen a b c = if a || b || not c then Damaged else Recovered made
 
-  pub concluded_well : has_no_table messages ≡ false → stable_place first.stable ≤ cut.0 → are_whole (table_of first.pages messages) ≡ true → concluded first messages cut ≡ Recovered made
+  pub concluded_well : has_no_table messages ≡ false → stable_place first.stable ≤ cut.0 → are_whole (table_of first.pages messages) ≡ true → concluded size first messages cut ≡ Recovered made
   concluded_well is le whole =
       let above : nat_lt cut.0 (stable_place first.stable) ≡ false = grind (arith, nat_tests, le) in
       ap (λ a. chosen a (nat_lt cut.0 (stable_place first.stable)) (are_whole (table_of first.pages messages))) is
       ∙ ap (λ b. chosen false b (are_whole (table_of first.pages messages))) above ∙ ap (chosen false false) whole
 
-  pub no_table_damaged : has_no_table messages ≡ true → concluded first messages cut ≡ Damaged
+  pub no_table_damaged : has_no_table messages ≡ true → concluded size first messages cut ≡ Damaged
   no_table_damaged is = ap (λ a. chosen a (nat_lt cut.0 (stable_place first.stable)) (are_whole (table_of first.pages messages))) is
 
   low_cut : (a : Bool) → chosen a true (are_whole (table_of first.pages messages)) ≡ Damaged
   low_cut true = refl
   low_cut false = refl
 
-  pub low_cut_damaged : cut.0 < stable_place first.stable → concluded first messages cut ≡ Damaged
+  pub low_cut_damaged : cut.0 < stable_place first.stable → concluded size first messages cut ≡ Damaged
   low_cut_damaged lt =
       let below : nat_lt cut.0 (stable_place first.stable) ≡ true = grind (arith, nat_tests, lt) in
       ap (λ b. chosen (has_no_table messages) b (are_whole (table_of first.pages messages))) below ∙ low_cut (has_no_table messages)
@@ -67,7 +72,7 @@ module _ (first : Shot) (messages : List Applied) (cut : ℕ × Option ℕ) wher
   not_whole false true = refl
   not_whole false false = refl
 
-  pub not_whole_damaged : are_whole (table_of first.pages messages) ≡ false → concluded first messages cut ≡ Damaged
+  pub not_whole_damaged : are_whole (table_of first.pages messages) ≡ false → concluded size first messages cut ≡ Damaged
   not_whole_damaged is = ap (chosen (has_no_table messages) (nat_lt cut.0 (stable_place first.stable))) is ∙ not_whole (has_no_table messages) (nat_lt cut.0 (stable_place first.stable))
 
 -- where a batch is open lies a record that is met
@@ -82,6 +87,6 @@ pub open_below : (end limit : ℕ) (ms : List Met) (else_at : ℕ) → All (λ m
 open_below end limit ms else_at small le = open_in end limit ms else_at (recursion_from_All (λ m. m.place < limit) ms small) le
 
 -- where a snapshot is made, and this is so of it, that is the outcome
-pub made_well : (r : Result Recovery Error) (made_of : Shot) (A : Type 0) (o : Outcome) → IfOk r (λ x. shot_of x.snapshot ≡ made_of) → OnOk r A → (A → o ≡ Recovered made_of) → IfOk r (λ x. o ≡ Recovered (shot_of x.snapshot))
+pub made_well : (r : Result Recovery Error) (made_of : Conclusion) (A : Type 0) (o : Outcome) → IfOk r (λ x. conclusion_of x ≡ made_of) → OnOk r A → (A → o ≡ Recovered made_of) → IfOk r (λ x. o ≡ Recovered (conclusion_of x))
 made_well (Ok x) made_of A o is holds leads = leads holds ∙ ap Recovered (sym is)
 made_well (Err e) made_of A o is holds leads = tt

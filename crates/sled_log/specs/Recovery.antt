@@ -203,21 +203,47 @@ is_filled size at = nat_lt (at.0.place + size) (at.1 + 32)
 abbrev pub cut_of : ℕ → Segment × ℕ → ℕ × Option ℕ
 cut_of size at = if is_filled size at then (at.0.place + size, None) else (at.1, Some at.0.slot)
 
+-- What recovery concludes: the table, and what is left to be written.
+pub record Conclusion : Type 0 where
+  pub shot : Shot
+  -- the rest of the active segment behind the cut, where one was read: an offset of the file, and how many bytes
+  pub tip : Option (ℕ × ℕ)
+  -- the table ends above the snapshot that it began from, or that had no place
+  pub is_new : Bool
+
 -- what recovery answers
 pub data Outcome : Type 0 where
   Damaged : Outcome
-  Recovered : (s : Shot) → Outcome
+  Recovered : (x : Conclusion) → Outcome
+
+-- The rest of the active segment behind a cut.
+abbrev pub tip_of : ℕ → ℕ → Option ℕ → Option (ℕ × ℕ)
+tip_of size cut None = None
+tip_of size cut (Some slot) = Some (slot + cut % size, size - cut % size)
+
+-- a cut lies above the place of a snapshot, or that has none
+abbrev pub is_beyond : Option ℤ → ℕ → Bool
+is_beyond None cut = true
+is_beyond (Some place) cut = int_lt place (pos cut)
 
 -- A table with this cut, unless it can't be one.
-abbrev pub concluded : Shot → List Applied → ℕ × Option ℕ → Outcome
-concluded first messages cut =
+abbrev pub concluded : ℕ → Shot → List Applied → ℕ × Option ℕ → Outcome
+concluded size first messages cut =
     if has_no_table messages || nat_lt cut.0 (stable_place first.stable) || not (are_whole (table_of first.pages messages)) then Damaged
-    else Recovered (record { stable = Some (pos cut.0); active = cut.1; pages = table_of first.pages messages })
+    else Recovered (record {
+      shot = record { stable = Some (pos cut.0); active = cut.1; pages = table_of first.pages messages };
+      tip = tip_of size cut.0 cut.1;
+      is_new = is_beyond first.stable cut.0;
+    })
+
+-- the snapshot stays as it was, and nothing is left to be written
+abbrev pub unchanged : Shot → Conclusion
+unchanged first = record { shot = first; tip = None; is_new = false }
 
 -- What comes of the segments that the pass reads. Where it reads none, the snapshot stays as it was.
 abbrev pub outcome_of : ℕ → Shot → ℕ → List Scanned → Outcome
-outcome_of size first end [] = Recovered first
-outcome_of size first end (s ∷ ss) = concluded first (given (stable_place first.stable) (passed_in end s (open_at end s.met) ss)) (cut_of size (stops_in end s (open_at end s.met) ss))
+outcome_of size first end [] = Recovered (unchanged first)
+outcome_of size first end (s ∷ ss) = concluded size first (given (stable_place first.stable) (passed_in end s (open_at end s.met) ss)) (cut_of size (stops_in end s (open_at end s.met) ss))
 
 -- The whole.
 
@@ -260,7 +286,7 @@ pub record IsDamagedPass (sum : List ℕ → ℕ) (size : ℕ) (r : Readable) (e
 
 -- what comes of a tail that ends there
 abbrev pub Passes : (List ℕ → ℕ) → ℕ → Readable → Shot → List Segment → Option ℕ → Outcome → Type 0
-Passes sum size r first ordering None o = o ≡ Recovered first
+Passes sum size r first ordering None o = o ≡ Recovered (unchanged first)
 Passes sum size r first ordering (Some end) o =
     ((o ≡ Damaged) × IsDamagedPass sum size r end (begun_below end ordering))
     ⊎ ((passes : List Scanned) × AreScanned sum size r (begun_below end ordering) passes × (o ≡ outcome_of size first end passes))

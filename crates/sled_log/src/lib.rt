@@ -7,6 +7,7 @@
 
 pub use sled_codec::{result as result, serialization as serialization};
 
+mod conclusion;
 pub mod config;
 pub mod device;
 pub mod iobuf;

@@ -1,15 +1,18 @@
 //! Recovery: what the device has, read into a table of pages (`specs/Recovery.antt`).
-ghost use Rattle.std.specs.Prelude.{replicate, IfSome, MatchOption, ◌↔◌, ◌≢◌, IsTrue, ◌≡◌, ◌⊎◌, ◌+◌, ◌-◌, ◌^◌, ◌*◌, ◌/◌, ◌%◌, ◌≤◌, ◌<◌, ℕ, map, pos, true, false, Some, [], ◌∷◌, length, None, IfOk, IfErr, OnOk};
+ghost use Rattle.std.specs.Prelude.{IfSome, List, ℤ, ◌↔◌, ◌≢◌, IsTrue, ◌≡◌, ◌⊎◌, ◌+◌, ◌-◌, ◌^◌, ◌*◌, ◌/◌, ◌%◌, ◌≤◌, ◌<◌, ℕ, map, pos, true, false, Some, [], ◌∷◌, length, None, IfOk, IfErr, OnOk};
 ghost use Rattle.std.specs.List.{All};
 ghost use Rattle.sled_codec.specs.Errors.{IsCorruption, IsDecodeError};
-ghost use Rattle.sled_codec.specs.Snapshots.{Shot, shot_of, page_of};
-ghost use Rattle.sled_store.specs.Device.{state_of, Wrote, Synced, NamesSynced};
+ghost use Rattle.sled_codec.specs.Snapshots.{Shot, shot_of, page_of, FitsSnapshot};
+ghost use Rattle.sled_store.specs.Device.{state_of, Synced, NamesSynced};
+ghost use Rattle.sled_store.specs.Script.{Performs, after_all};
 ghost use Rattle.sled_core.specs.Causes.{DeviceAnswers};
 ghost use Rattle.sled_core.specs.Reading.{file_of};
 ghost use Rattle.sled_core.specs.Scan.{read_of};
 ghost use Rattle.sled_store.specs.SnapshotFiles.{stable_place};
-ghost use Rattle.sled_log.specs.Recovery.{least_place, tail_begins, IsFoundSegment, IsMisplaced, IsOrdering, Recovered, Damaged, outcome_of, are_whole, scanned_of, cut_of, ContinuesFrom, Recovers};
+ghost use Rattle.sled_log.specs.Recovery.{least_place, tail_begins, IsFoundSegment, IsMisplaced, IsOrdering, Recovered, Damaged, Conclusion, outcome_of, are_whole, scanned_of, cut_of, tip_of, is_beyond, ContinuesFrom, Recovers};
+ghost use Rattle.sled_log.specs.WritesBack.{conclusion_of, range_of, number_of, shredding, publishing, writing_back, AreOthers, MayBeRemoved, IsWrittenBack};
 
+use crate::conclusion::{Recovery, Tip};
 use crate::snapshot_file::{encode_file, publish, read_newest, remove_others};
 use crate::table::{apply_all, are_whole};
 use sled_codec::result::{Error, LogOffset, Result};
@@ -20,24 +23,6 @@ use sled_core::met::{Scan, Segment};
 use sled_core::read_at::BasedBuf;
 use sled_store::{Device, RunningConfig};
 use std::alloc::Global;
-
-/// What recovery makes of a log file.
-#[derive(Drop)]
-pub(crate) struct Recovery {
-    pub(crate) snapshot: Snapshot,
-    /// It ends above the snapshot that recovery began from, or that had no place.
-    pub(crate) is_new: bool,
-    /// The rest of the active segment behind the cut, where one was read.
-    pub(crate) tip: Option<Tip>,
-}
-
-/// A range of the log file.
-#[derive(Debug, Clone, Copy)]
-pub(crate) struct Tip {
-    pub(crate) at: LogOffset,
-    pub(crate) len: u64,
-    ghost small: { at + len < 2 ^ 63 },
-}
 
 /// Recovers the table of pages from a device whose log file is no longer than a segment. First it settles
 /// the device. Then it reads the newest snapshot and the log file, and at last it fills the rest of the
@@ -51,7 +36,11 @@ pub(crate) struct Tip {
 pub fn read_snapshot_or_default<D: Device, C: Checksum>(
     config: &mut RunningConfig<D, C>,
 ) -> Result<Snapshot>
-    ensures ok { IfOk result (λ s. Recovers C.sum_of config.old.config.segment_size (record { log = (state_of (D.trace config.old.device)).log.bytes; blobs = λ _. None }) (state_of (D.trace config.old.device)).snapshots.file (Recovered (shot_of s))) }
+    ensures ok { let old = state_of (D.trace config.old.device) in
+        IfOk result (λ s. (x : Conclusion) × Recovers C.sum_of config.old.config.segment_size (record { log = old.log.bytes; blobs = λ _. None }) old.snapshots.file (Recovered x) × (shot_of s ≡ x.shot) × IsWrittenBack C.sum_of x (state_of (NamesSynced ∷ Synced ∷ D.trace config.old.device)) (state_of (D.trace config.new.device))) }
+    ensures calls { let old = state_of (D.trace config.old.device) in
+        Performs (Synced ∷ NamesSynced ∷ []) (D.trace config.old.device) (D.trace config.new.device)
+        ⊎ ((x : Conclusion) × Recovers C.sum_of config.old.config.segment_size (record { log = old.log.bytes; blobs = λ _. None }) old.snapshots.file (Recovered x) × (numbers : List ℤ) × MayBeRemoved old.snapshots.file (number_of x.shot) numbers × Performs (Synced ∷ NamesSynced ∷ writing_back C.sum_of x numbers) (D.trace config.old.device) (D.trace config.new.device)) }
     ensures corrupt { IsCorruption result → (config.old.config.segment_size < length (state_of (D.trace config.old.device)).log.bytes) ⊎ Recovers C.sum_of config.old.config.segment_size (record { log = (state_of (D.trace config.old.device)).log.bytes; blobs = λ _. None }) (state_of (D.trace config.old.device)).snapshots.file Damaged }
     ensures unwritten { IsCorruption result → D.trace config.new.device ≡ NamesSynced ∷ Synced ∷ D.trace config.old.device }
     ensures answers { DeviceAnswers result (D.faults config.old.device) (D.faults config.new.device) }
@@ -60,10 +49,10 @@ pub fn read_snapshot_or_default<D: Device, C: Checksum>(
 {
     settle(&mut config.device)?;
     match recover(config) {
-        Ok(recovery) => {
-            write_back(config, &recovery)?;
-            Ok(recovery.snapshot)
-        }
+        Ok(recovery) => match write_back(config, &recovery) {
+            Ok(()) => Ok(recovery.snapshot),
+            Err(e) => Err(e),
+        },
         Err(e) => Err(e),
     }
 }
@@ -71,6 +60,7 @@ pub fn read_snapshot_or_default<D: Device, C: Checksum>(
 /// Settles the log file and the names.
 fn settle<D: Device>(device: &mut D) -> Result<()>
     ensures done { OnOk result (D.trace device.new ≡ NamesSynced ∷ Synced ∷ D.trace device.old) }
+    ensures calls { Performs (Synced ∷ NamesSynced ∷ []) (D.trace device.old) (D.trace device.new) }
     ensures answers { DeviceAnswers result (D.faults device.old) (D.faults device.new) }
     ensures readable { IsCorruption result → ⊥ }
 {
@@ -84,28 +74,36 @@ fn write_back<D: Device, C: Checksum>(
     config: &mut RunningConfig<D, C>,
     recovery: &Recovery,
 ) -> Result<()>
+    ensures done { let x = conclusion_of recovery.now in
+        OnOk result ((numbers : List ℤ) × (x.is_new ≡ true → AreOthers (state_of (D.trace config.old.device)).snapshots.file (number_of x.shot) numbers) × (D.trace config.new.device ≡ after_all (writing_back C.sum_of x numbers) (D.trace config.old.device))) }
+    ensures written { OnOk result (IsWrittenBack C.sum_of (conclusion_of recovery.now) (state_of (D.trace config.old.device)) (state_of (D.trace config.new.device))) }
+    ensures calls { let x = conclusion_of recovery.now in
+        (numbers : List ℤ) × MayBeRemoved (state_of (D.trace config.old.device)).snapshots.file (number_of x.shot) numbers × Performs (writing_back C.sum_of x numbers) (D.trace config.old.device) (D.trace config.new.device) }
+    ensures fits { OnOk result (recovery.now.is_new ≡ true → FitsSnapshot (shot_of recovery.now.snapshot)) }
     ensures answers { DeviceAnswers result (D.faults config.old.device) (D.faults config.new.device) }
     ensures readable { IsCorruption result → ⊥ }
     ensures config { config.new.config ≡ config.old.config }
     ensures checksum { config.new.checksum ≡ config.old.checksum }
 {
-    if let Some(tip) = recovery.tip {
-        shred(config, tip)?;
-    }
+    shred(config, recovery.tip)?;
     if recovery.is_new {
-        publish_new(config, &recovery.snapshot)?;
+        return publish_new(config, &recovery.snapshot);
     }
     Ok(())
 }
 
 /// Fills a range of the log file with zeros, and syncs it.
-fn shred<D: Device, C: Checksum>(config: &mut RunningConfig<D, C>, tip: Tip) -> Result<()>
-    ensures done { OnOk result (D.trace config.new.device ≡ Synced ∷ Wrote tip.at (replicate tip.len 0) (replicate tip.len 0) ∷ D.trace config.old.device) }
+fn shred<D: Device, C: Checksum>(config: &mut RunningConfig<D, C>, tip: Option<Tip>) -> Result<()>
+    ensures done { OnOk result (D.trace config.new.device ≡ after_all (shredding (range_of tip)) (D.trace config.old.device)) }
+    ensures calls { Performs (shredding (range_of tip)) (D.trace config.old.device) (D.trace config.new.device) }
     ensures answers { DeviceAnswers result (D.faults config.old.device) (D.faults config.new.device) }
     ensures readable { IsCorruption result → ⊥ }
     ensures config { config.new.config ≡ config.old.config }
     ensures checksum { config.new.checksum ≡ config.old.checksum }
 {
+    let Some(tip) = tip else {
+        return Ok(());
+    };
     let zeros = vec![in config.alloc(); 0; tip.len as usize]?;
     config.device.write_at(tip.at, &zeros)?;
     config.device.sync()?;
@@ -117,6 +115,11 @@ fn publish_new<D: Device, C: Checksum>(
     config: &mut RunningConfig<D, C>,
     snapshot: &Snapshot,
 ) -> Result<()>
+    ensures done { let s = shot_of snapshot.now in
+        OnOk result ((numbers : List ℤ) × AreOthers (state_of (D.trace config.old.device)).snapshots.file (number_of s) numbers × (D.trace config.new.device ≡ after_all (publishing C.sum_of s numbers) (D.trace config.old.device))) }
+    ensures calls { let s = shot_of snapshot.now in
+        (numbers : List ℤ) × MayBeRemoved (state_of (D.trace config.old.device)).snapshots.file (number_of s) numbers × Performs (publishing C.sum_of s numbers) (D.trace config.old.device) (D.trace config.new.device) }
+    ensures fits { OnOk result (FitsSnapshot (shot_of snapshot.now)) }
     ensures answers { DeviceAnswers result (D.faults config.old.device) (D.faults config.new.device) }
     ensures readable { IsCorruption result → ⊥ }
     ensures config { config.new.config ≡ config.old.config }
@@ -135,7 +138,7 @@ fn publish_new<D: Device, C: Checksum>(
 /// reads. `Corruption` comes where the newest snapshot is damaged, where segments are found that can't be
 /// of one log, where a damaged record is met, where the table can't be one, and where the file is longer.
 pub(crate) fn recover<D: Device, C: Checksum>(config: &mut RunningConfig<D, C>) -> Result<Recovery>
-    ensures ok { IfOk result (λ x. Recovers C.sum_of config.old.config.segment_size (record { log = (state_of (D.trace config.old.device)).log.bytes; blobs = λ _. None }) (state_of (D.trace config.old.device)).snapshots.file (Recovered (shot_of x.snapshot))) }
+    ensures ok { IfOk result (λ x. Recovers C.sum_of config.old.config.segment_size (record { log = (state_of (D.trace config.old.device)).log.bytes; blobs = λ _. None }) (state_of (D.trace config.old.device)).snapshots.file (Recovered (conclusion_of x))) }
     ensures corrupt { IsCorruption result → (config.old.config.segment_size < length (state_of (D.trace config.old.device)).log.bytes) ⊎ Recovers C.sum_of config.old.config.segment_size (record { log = (state_of (D.trace config.old.device)).log.bytes; blobs = λ _. None }) (state_of (D.trace config.old.device)).snapshots.file Damaged }
     ensures answers { DeviceAnswers result (D.faults config.old.device) (D.faults config.new.device) }
     ensures trace { D.trace config.new.device ≡ D.trace config.old.device }
@@ -157,7 +160,7 @@ fn continue_from<D: Device, C: Checksum>(
     first: Snapshot,
 ) -> Result<Recovery>
     requires short { length (state_of (D.trace config.old.device)).log.bytes ≤ config.old.config.segment_size }
-    ensures ok { IfOk result (λ x. ContinuesFrom C.sum_of config.old.config.segment_size (record { log = (state_of (D.trace config.old.device)).log.bytes; blobs = λ _. None }) (shot_of first) (Recovered (shot_of x.snapshot))) }
+    ensures ok { IfOk result (λ x. ContinuesFrom C.sum_of config.old.config.segment_size (record { log = (state_of (D.trace config.old.device)).log.bytes; blobs = λ _. None }) (shot_of first) (Recovered (conclusion_of x))) }
     ensures corrupt { IsCorruption result → ContinuesFrom C.sum_of config.old.config.segment_size (record { log = (state_of (D.trace config.old.device)).log.bytes; blobs = λ _. None }) (shot_of first) Damaged }
     ensures answers { DeviceAnswers result (D.faults config.old.device) (D.faults config.new.device) }
     ensures trace { D.trace config.new.device ≡ D.trace config.old.device }
@@ -188,7 +191,7 @@ fn continue_in<D: Device, C: Checksum>(
     requires own { segment.now.slot ≡ 0 }
     requires found { IsFoundSegment C.sum_of config.old.config.segment_size (file_of buf.now) (least_place config.old.config.segment_size (shot_of first)) segment.now }
     requires only { (IsMisplaced config.old.config.segment_size segment.now → ⊥) → IsOrdering C.sum_of config.old.config.segment_size (file_of buf.now) (least_place config.old.config.segment_size (shot_of first)) (segment.now ∷ []) }
-    ensures ok { IfOk result (λ x. ContinuesFrom C.sum_of config.old.config.segment_size (read_of buf.now) (shot_of first) (Recovered (shot_of x.snapshot))) }
+    ensures ok { IfOk result (λ x. ContinuesFrom C.sum_of config.old.config.segment_size (read_of buf.now) (shot_of first) (Recovered (conclusion_of x))) }
     ensures corrupt { IsCorruption result → ContinuesFrom C.sum_of config.old.config.segment_size (read_of buf.now) (shot_of first) Damaged }
     ensures answers { DeviceAnswers result (D.faults config.old.device) (D.faults config.new.device) }
     ensures trace { D.trace config.new.device ≡ D.trace config.old.device }
@@ -243,7 +246,7 @@ fn replay(
     requires slot { segment.now.slot + size < 2 ^ 63 }
     requires stop { scan.now.stop ≤ size }
     requires places { All (λ m. m.place < segment.now.place + size) scan.now.met.items }
-    ensures ok { IfOk result (λ x. outcome_of size (shot_of first) (segment.now.place + scan.now.stop) (scanned_of segment.now scan.now ∷ []) ≡ Recovered (shot_of x.snapshot)) }
+    ensures ok { IfOk result (λ x. outcome_of size (shot_of first) (segment.now.place + scan.now.stop) (scanned_of segment.now scan.now ∷ []) ≡ Recovered (conclusion_of x)) }
     ensures corrupt { IsCorruption result → outcome_of size (shot_of first) (segment.now.place + scan.now.stop) (scanned_of segment.now scan.now ∷ []) ≡ Damaged }
     ensures errors { IfErr result IsDecodeError }
 {
@@ -277,7 +280,11 @@ fn conclude(
     requires size { 0 < size }
     requires cut { cut.0 < 2 ^ 63 }
     requires slot { IfSome cut.1 (λ slot. slot + size < 2 ^ 63) }
-    ensures ok { IfOk result (λ x. shot_of x.snapshot ≡ record { stable = Some (pos cut.0); active = cut.1; pages = map page_of pages.items }) }
+    ensures ok { IfOk result (λ x. conclusion_of x ≡ record {
+          shot = record { stable = Some (pos cut.0); active = cut.1; pages = map page_of pages.items };
+          tip = tip_of size cut.0 cut.1;
+          is_new = is_beyond was cut.0;
+        }) }
     ensures fine { OnOk result ((least ≤ cut.0) × (are_whole (map page_of pages.items) ≡ true)) }
     ensures corrupt { IsCorruption result → (cut.0 < least) ⊎ (are_whole (map page_of pages.items) ≡ false) }
     ensures errors { IfErr result IsDecodeError }
@@ -304,7 +311,7 @@ fn conclude(
 fn tip_of(size: u64, cut: u64, active: Option<LogOffset>) -> Option<Tip>
     requires size { 0 < size }
     requires slot { IfSome active (λ slot. slot + size < 2 ^ 63) }
-    ensures { MatchOption active (result ≡ None) (λ slot. IfSome result (λ tip. (tip.at ≡ slot + cut % size) × (tip.at + tip.len ≡ slot + size))) }
+    ensures { range_of result ≡ tip_of size cut active }
 {
     match active {
         Some(slot) => {

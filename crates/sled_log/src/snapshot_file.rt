@@ -3,14 +3,15 @@
 //!
 //! Recovery begins from the snapshot with the greatest number. A newer one is published before the
 //! others are removed, so that there is one at every moment.
-ghost use Rattle.std.specs.Prelude.{◌≡◌, ◌≢◌, ◌≤ℤ◌, ◌↔◌, ◌<◌, ◌+◌, ◌^◌, ◌∷◌, ◌++◌, ℕ, ℤ, List, length, IfOk, OnOk, IfErr, OnErr, IsOkUnless, IfSome, IfNone, MatchOption, IsSome, Some, None, Contains, true, false};
+ghost use Rattle.std.specs.Prelude.{◌≡◌, ◌≢◌, ◌≤ℤ◌, ◌↔◌, ◌<◌, ◌+◌, ◌^◌, [], ◌∷◌, ◌++◌, ℕ, ℤ, List, length, IfOk, OnOk, IfErr, OnErr, IsOkUnless, IfSome, IfNone, MatchOption, IsSome, Some, None, Contains, true, false};
 ghost use Rattle.sled_codec.specs.Errors.{IsCorruption, IsDecodeError};
 ghost use Rattle.sled_codec.specs.Snapshots.{Shot, shot_of, FitsSnapshot, short_snapshot};
 ghost use Rattle.sled_codec.specs.Spelling.{low_bytes};
-ghost use Rattle.sled_store.specs.Device.{state_of, SnapshotFilled, SnapshotPublished, NamesSynced};
+ghost use Rattle.sled_store.specs.Device.{state_of};
+ghost use Rattle.sled_store.specs.Script.{Performs, after_all};
 ghost use Rattle.sled_core.specs.Causes.{DeviceAnswers};
 ghost use Rattle.sled_store.specs.SnapshotFiles.{IsSnapshotFile, is_sound, BeginsFrom, IsDamagedSnapshot};
-ghost use Rattle.sled_log.specs.Removals.{Removes, RemovesUpTo};
+ghost use Rattle.sled_log.specs.WritesBack.{publishing_file, removing, others, AreOthers, MayBeRemoved};
 
 use sled_codec::result::{Error, Result};
 use sled_codec::serialization::{Checksum, Serialize, Snapshot};
@@ -169,7 +170,8 @@ pub(crate) fn is_sound(snapshot: &Snapshot) -> bool
 
 /// Writes the bytes of a snapshot and gives them a number that a crash does not take back.
 pub(crate) fn publish<D: Device>(device: &mut D, bytes: &[u8], number: i64) -> Result<()>
-    ensures done { OnOk result (D.trace device.new ≡ NamesSynced ∷ SnapshotPublished number true ∷ SnapshotFilled bytes.now bytes.now ∷ D.trace device.old) }
+    ensures done { OnOk result (D.trace device.new ≡ after_all (publishing_file bytes.now number) (D.trace device.old)) }
+    ensures calls { Performs (publishing_file bytes.now number) (D.trace device.old) (D.trace device.new) }
     ensures answers { DeviceAnswers result (D.faults device.old) (D.faults device.new) }
     ensures readable { IsCorruption result → ⊥ }
 {
@@ -181,10 +183,8 @@ pub(crate) fn publish<D: Device>(device: &mut D, bytes: &[u8], number: i64) -> R
 
 /// Removes all snapshots but the one of a number. After a failure some of them may be left.
 pub(crate) fn remove_others<D: Device>(device: &mut D, kept: i64) -> Result<()>
-    ensures done { OnOk result (Removes kept (D.trace device.old) (D.trace device.new)) }
-    ensures gone { OnOk result ((n : ℤ) → n ≢ kept → (state_of (D.trace device.new)).snapshots.file n ≡ None) }
-    ensures stays { (state_of (D.trace device.new)).snapshots.file kept ≡ (state_of (D.trace device.old)).snapshots.file kept }
-    ensures failed { OnErr result (RemovesUpTo kept (D.trace device.old) (D.trace device.new)) }
+    ensures done { OnOk result ((numbers : List ℤ) × AreOthers (state_of (D.trace device.old)).snapshots.file kept numbers × (D.trace device.new ≡ after_all (removing numbers) (D.trace device.old))) }
+    ensures calls { (numbers : List ℤ) × MayBeRemoved (state_of (D.trace device.old)).snapshots.file kept numbers × Performs (removing numbers) (D.trace device.old) (D.trace device.new) }
     ensures answers { DeviceAnswers result (D.faults device.old) (D.faults device.new) }
     ensures readable { IsCorruption result → ⊥ }
 {
@@ -192,13 +192,10 @@ pub(crate) fn remove_others<D: Device>(device: &mut D, kept: i64) -> Result<()>
     remove_listed(device, &numbers, kept)
 }
 
-/// Removes the snapshots of these numbers, which are all that there are, but for the one that is kept.
+/// Removes the snapshots of these numbers, but the one that is kept.
 fn remove_listed<D: Device>(device: &mut D, numbers: &[i64], kept: i64) -> Result<()>
-    requires { (n : ℤ) → IsSome ((state_of (D.trace device.old)).snapshots.file n) ↔ Contains numbers.now n }
-    ensures done { OnOk result (Removes kept (D.trace device.old) (D.trace device.new)) }
-    ensures gone { OnOk result ((n : ℤ) → n ≢ kept → (state_of (D.trace device.new)).snapshots.file n ≡ None) }
-    ensures stays { (state_of (D.trace device.new)).snapshots.file kept ≡ (state_of (D.trace device.old)).snapshots.file kept }
-    ensures failed { OnErr result (RemovesUpTo kept (D.trace device.old) (D.trace device.new)) }
+    ensures done { OnOk result (D.trace device.new ≡ after_all (removing (others kept numbers.now)) (D.trace device.old)) }
+    ensures calls { Performs (removing (others kept numbers.now)) (D.trace device.old) (D.trace device.new) }
     ensures answers { DeviceAnswers result (D.faults device.old) (D.faults device.new) }
     ensures readable { IsCorruption result → ⊥ }
 {
@@ -210,9 +207,8 @@ fn remove_listed<D: Device>(device: &mut D, numbers: &[i64], kept: i64) -> Resul
 
 /// Removes the snapshot of a number, unless that is the one that is kept.
 fn remove_other<D: Device>(device: &mut D, number: &i64, kept: i64) -> Result<()>
-    ensures done { OnOk result (Removes kept (D.trace device.old) (D.trace device.new)) }
-    ensures gone { OnOk result (number.now ≢ kept → (state_of (D.trace device.new)).snapshots.file number.now ≡ None) }
-    ensures failed { OnErr result (RemovesUpTo kept (D.trace device.old) (D.trace device.new)) }
+    ensures done { OnOk result (D.trace device.new ≡ after_all (removing (others kept (number.now ∷ []))) (D.trace device.old)) }
+    ensures calls { Performs (removing (others kept (number.now ∷ []))) (D.trace device.old) (D.trace device.new) }
     ensures answers { DeviceAnswers result (D.faults device.old) (D.faults device.new) }
     ensures readable { IsCorruption result → ⊥ }
 {

@@ -3,6 +3,7 @@ use Rattle.sled_codec.specs.Snapshots.{Shot, shot_of}
 use Rattle.sled_core.specs.Scan.{IsScan, IsDamagedIn, read_of}
 use Rattle.sled_core.proofs.ReadingLemmas.{if_ok}
 use Rattle.sled_store.specs.SnapshotFiles.{stable_place}
+use Rattle.sled_log.specs.WritesBack.{conclusion_of}
 use Rattle.sled_log.specs.Recovery.{ContinuesFrom, Recovered, Damaged, least_place, tail_begins}
 use Rattle.sled_core.specs.declared.met.Segment.{Segment}
 use Rattle.sled_log.proofs.FindLemmas.{misplaced, not_read, damaged_in, replayed}
@@ -38,8 +39,8 @@ returns-in-Ok-clause-ok g c =
     let begins = begins_there s.place size (stable_place first.stable) c.stable_place.result c.tail_begins.result (λ n. tail_begins size n (s ∷ [])) c.tail_begins.ensures c.stable_place.ensures.place c.if-tail_begins-segment.false in
     let slots : c.args.buf.now.offset ≡ s.slot = c.requires.slot ∙ sym c.requires.own in
     let scan = subst (λ (at : ℕ). IsScan g.C.Checksum.sum_of size (read_of c.args.buf.now) at s.place c.in-Ok.scan.met.items c.in-Ok.scan.stop c.in-Ok.scan.ending) slots c.in-Ok.ensures.scan in
-    if_ok c.replay.result _ (λ x. ContinuesFrom g.C.Checksum.sum_of size (read_of c.args.buf.now) first (Recovered (shot_of x.snapshot)))
-    (λ x is. replayed g.C.Checksum.sum_of size (read_of c.args.buf.now) first (some size c.args.config.now.config.least) s ordering begins c.in-Ok.scan.met.items c.in-Ok.scan.stop c.in-Ok.scan.ending (Recovered (shot_of x.snapshot)) scan c.in-Ok.ensures.stop.0 is)
+    if_ok c.replay.result _ (λ x. ContinuesFrom g.C.Checksum.sum_of size (read_of c.args.buf.now) first (Recovered (conclusion_of x)))
+    (λ x is. replayed g.C.Checksum.sum_of size (read_of c.args.buf.now) first (some size c.args.config.now.config.least) s ordering begins c.in-Ok.scan.met.items c.in-Ok.scan.stop c.in-Ok.scan.ending (Recovered (conclusion_of x)) scan c.in-Ok.ensures.stop.0 is)
     c.replay.ensures.ok
 
 pub returns-in-Ok-clause-corrupt : goal.returns-in-Ok-clause-corrupt

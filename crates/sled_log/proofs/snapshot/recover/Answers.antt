@@ -4,6 +4,7 @@ use Rattle.sled_store.specs.declared.config.Config.{Config}
 use Rattle.sled_store.specs.Device.{Trace, state_of}
 use Rattle.sled_core.proofs.ReadingLemmas.{if_ok}
 use Rattle.sled_store.specs.SnapshotFiles.{BeginsFrom, IsDamagedSnapshot}
+use Rattle.sled_log.specs.WritesBack.{conclusion_of}
 use Rattle.sled_log.specs.Recovery.{ContinuesFrom, Recovers, Outcome, Recovered, Damaged}
 use Rattle.sled_log.proofs.snapshot.recover.Goals as goal
 
@@ -34,9 +35,9 @@ returns-in-Ok-clause-ok g c =
     let cfg : Config = c.args.config.now.config in
     let first : Shot = shot_of c.in-Ok.first in
     if_ok c.continue_from.result _ _ (λ x comes.
-    from_it sum cfg.segment_size (state_of before).log.bytes (state_of before).snapshots.file first (Recovered (shot_of x.snapshot))
+    from_it sum cfg.segment_size (state_of before).log.bytes (state_of before).snapshots.file first (Recovered (conclusion_of x))
     (begins_as sum first before _ c.len.ensures.trace c.in-Ok.ensures.ok)
-    (comes_as sum first (Recovered (shot_of x.snapshot)) cfg _ before _ c.in-Ok.ensures.config (c.in-Ok.ensures.trace ∙ c.len.ensures.trace) comes))
+    (comes_as sum first (Recovered (conclusion_of x)) cfg _ before _ c.in-Ok.ensures.config (c.in-Ok.ensures.trace ∙ c.len.ensures.trace) comes))
     c.continue_from.ensures.ok
 
 pub returns-in-Ok-clause-corrupt : goal.returns-in-Ok-clause-corrupt

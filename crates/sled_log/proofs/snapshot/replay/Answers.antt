@@ -3,11 +3,11 @@ use Rattle.std.specs.Option.{unwrap_or}
 use Rattle.std.specs.Prelude.{OnOk}
 use Rattle.sled_codec.specs.Errors.{IsCorruption}
 use Rattle.sled_codec.specs.Snapshots.{Shot, shot_of, page_of}
-use Rattle.std.proofs.Common.{Option, Some, pos}
+use Rattle.std.proofs.Common.{Option}
 use Rattle.sled_core.specs.declared.met.Met.{Met}
 use Rattle.sled_store.specs.SnapshotFiles.{stable_place}
 use Rattle.sled_log.specs.Recovery.{Applied, Scanned, given, before_open, open_at, cut_of, scanned_of, has_no_table, are_whole, table_of}
-use Rattle.sled_log.proofs.RecoveryLemmas.{one_outcome, made_well, open_below, concluded_well, no_table_damaged, low_cut_damaged, not_whole_damaged}
+use Rattle.sled_log.proofs.RecoveryLemmas.{one_outcome, made, made_well, open_below, concluded_well, no_table_damaged, low_cut_damaged, not_whole_damaged}
 use Rattle.sled_log.proofs.snapshot.replay.Goals as goal
 
 pub cut_of-requires-clause-at : goal.cut_of-requires-clause-at
@@ -50,10 +50,10 @@ module _ (c : goal.After-conclude) where
 pub returns-in-Ok-clause-ok : goal.returns-in-Ok-clause-ok
 returns-in-Ok-clause-ok c =
     let s : Scanned = scanned_of c.args.segment.now c.args.scan.now in
-    made_well c.conclude.result (record { stable = Some (pos (cut c).0); active = (cut c).1; pages = table_of (first c).pages (messages c) }) ((stable_place (first c).stable ≤ (cut c).0) × (are_whole (table_of (first c).pages (messages c)) ≡ true)) _
+    made_well c.conclude.result (made c.args.size (first c) (messages c) (cut c)) ((stable_place (first c).stable ≤ (cut c).0) × (are_whole (table_of (first c).pages (messages c)) ≡ true)) _
     (rw (same_cut c, pages c) at c.conclude.ensures.ok)
     (subst (λ n. OnOk c.conclude.result ((n ≤ (cut c).0) × (are_whole (table_of (first c).pages (messages c)) ≡ true))) c.stable_place-least.ensures.place (rw (same_cut c, pages c) at c.conclude.ensures.fine))
-    (λ x. one_outcome c.args.size (first c) (end c) s ∙ concluded_well (first c) (messages c) (cut c) (none_out c) x.0 x.1)
+    (λ x. one_outcome c.args.size (first c) (end c) s ∙ concluded_well c.args.size (first c) (messages c) (cut c) (none_out c) x.0 x.1)
 
 pub returns-in-Ok-clause-corrupt : goal.returns-in-Ok-clause-corrupt
 returns-in-Ok-clause-corrupt c = λ corrupt.
@@ -61,8 +61,8 @@ returns-in-Ok-clause-corrupt c = λ corrupt.
     let why : ((cut c).0 < stable_place (first c).stable) ⊎ (are_whole (table_of (first c).pages (messages c)) ≡ false) =
     (subst (λ n. IsCorruption c.conclude.result → ((cut c).0 < n) ⊎ (are_whole (table_of (first c).pages (messages c)) ≡ false)) c.stable_place-least.ensures.place (rw (same_cut c, pages c) at c.conclude.ensures.corrupt)) corrupt in
     one_outcome c.args.size (first c) (end c) s ∙ elim why [
-      | inl low ↦ low_cut_damaged (first c) (messages c) (cut c) low
-      | inr part ↦ not_whole_damaged (first c) (messages c) (cut c) part
+      | inl low ↦ low_cut_damaged c.args.size (first c) (messages c) (cut c) low
+      | inr part ↦ not_whole_damaged c.args.size (first c) (messages c) (cut c) part
     ]
 
 pub returns-in-Err-clause-corrupt : goal.returns-in-Err-clause-corrupt
@@ -70,4 +70,4 @@ returns-in-Err-clause-corrupt c = λ corrupt.
     let first : Shot = shot_of c.args.first in
     let end : ℕ = c.args.segment.now.place + c.args.scan.now.stop in
     let s : Scanned = scanned_of c.args.segment.now c.args.scan.now in
-    one_outcome c.args.size first end s ∙ no_table_damaged first (given (stable_place first.stable) (before_open end s.met)) _ (rw (c.deref.ensures.value, c.stable_place-least.ensures.place) at c.in-Err.ensures.corrupt corrupt)
+    one_outcome c.args.size first end s ∙ no_table_damaged c.args.size first (given (stable_place first.stable) (before_open end s.met)) _ (rw (c.deref.ensures.value, c.stable_place-least.ensures.place) at c.in-Err.ensures.corrupt corrupt)

@@ -1,0 +1,86 @@
+-- What recovery writes back: the calls that it makes of the device, and what is read afterwards.
+use Rattle.std.specs.Prelude.{◌≡◌, ◌≢◌, ◌⊎◌, ◌↔◌, ℕ, ℤ, pos, true, Bool, not, if◌then◌else◌, List, [], ◌∷◌, ◌++◌, length, map, replicate, Option, Some, None, IsSome, MatchOption, Contains}
+use Rattle.std.specs.Bool.{MatchBool}
+use Rattle.std.specs.List.{filter}
+use Rattle.std.specs.Ordering.{int_cmp, int_eq}
+use Rattle.std.specs.Option.{unwrap_or}
+use Rattle.std.specs.List.Sorted.{IsStrictlySortedBy}
+use Rattle.sled_codec.specs.Snapshots.{Shot, shot_of, short_snapshot}
+use Rattle.sled_codec.specs.Spelling.{low_bytes}
+use Rattle.sled_store.specs.Device.{Event, Wrote, Synced, SnapshotFilled, SnapshotPublished, SnapshotRemoved, NamesSynced, State, at_rest, overwritten}
+use Rattle.sled_log.specs.Recovery.{Conclusion}
+use Rattle.sled_log.specs.declared.conclusion.Recovery.{Recovery}
+use Rattle.sled_log.specs.declared.conclusion.Tip.{Tip}
+
+-- What code concludes.
+
+-- a range of the log file as code holds it
+abbrev pub range_of : Option Tip → Option (ℕ × ℕ)
+range_of None = None
+range_of (Some tip) = Some (tip.at, tip.len)
+
+-- what recovery concludes, as code holds it
+abbrev pub conclusion_of : Recovery → Conclusion
+conclusion_of x = record { shot = shot_of x.snapshot; tip = range_of x.tip; is_new = x.is_new }
+
+-- The calls.
+
+-- the calls that fill a range with zeros and settle it
+abbrev pub shredding : Option (ℕ × ℕ) → List Event
+shredding None = []
+shredding (Some tip) = Wrote tip.0 (replicate tip.1 0) (replicate tip.1 0) ∷ Synced ∷ []
+
+-- the bytes of the file of a snapshot as it is written
+abbrev pub short_file : (List ℕ → ℕ) → Shot → List ℕ
+short_file sum s = short_snapshot s ++ low_bytes 8 (length (short_snapshot s)) ++ low_bytes 4 (sum (short_snapshot s))
+
+-- the number that a snapshot is published under: its stable place, and 0 where it has none
+abbrev pub number_of : Shot → ℤ
+number_of s = unwrap_or s.stable (pos 0)
+
+-- the calls that remove the snapshots of these numbers
+abbrev pub removing : List ℤ → List Event
+removing numbers = map (λ n. SnapshotRemoved n true) numbers
+
+-- the calls that publish these bytes under a number and settle that
+abbrev pub publishing_file : List ℕ → ℤ → List Event
+publishing_file bytes number = SnapshotFilled bytes bytes ∷ SnapshotPublished number true ∷ NamesSynced ∷ []
+
+-- the calls that publish a table and remove the snapshots of these numbers
+abbrev pub publishing : (List ℕ → ℕ) → Shot → List ℤ → List Event
+publishing sum s numbers = publishing_file (short_file sum s) (number_of s) ++ removing numbers
+
+-- a number is another one than the one that is kept, and those of a list that are
+abbrev pub is_other : ℤ → ℤ → Bool
+is_other kept n = not (int_eq n kept)
+
+abbrev pub others : ℤ → List ℤ → List ℤ
+others kept numbers = filter (is_other kept) numbers
+
+-- these are all numbers of snapshots but the one that is kept, in ascending order
+pub record AreOthers (file : ℤ → Option (List ℕ)) (kept : ℤ) (numbers : List ℤ) : Type 0 where
+  pub each : (n : ℤ) → Contains numbers n ↔ (IsSome (file n) × (n ≢ kept))
+  pub ascending : IsStrictlySortedBy int_cmp numbers
+
+-- Snapshots that may have been removed where a call failed: all but the one that is kept, or none where they could not be listed.
+abbrev pub MayBeRemoved : (ℤ → Option (List ℕ)) → ℤ → List ℤ → Type 0
+MayBeRemoved file kept numbers = (numbers ≡ []) ⊎ AreOthers file kept numbers
+
+-- the calls that write back what recovery concludes
+abbrev pub writing_back : (List ℕ → ℕ) → Conclusion → List ℤ → List Event
+writing_back sum x numbers = shredding x.tip ++ (if x.is_new then publishing sum x.shot numbers else [])
+
+-- What is read afterwards.
+
+-- the snapshot under its own number is the table, and there is no other one
+pub record IsOnlySnapshot (file : ℤ → Option (List ℕ)) (number : ℤ) (bytes : List ℕ) : Type 0 where
+  pub own : file number ≡ Some bytes
+  pub others : (n : ℤ) → n ≢ number → file n ≡ None
+
+-- What recovery concludes was written back, and nothing else was changed.
+pub record IsWrittenBack (sum : List ℕ → ℕ) (x : Conclusion) (old new : State) : Type 0 where
+  -- the rest of the active segment is filled with zeros, and all of the log file is settled
+  pub log : MatchOption x.tip (new.log ≡ old.log) (λ tip. new.log ≡ at_rest (overwritten old.log.bytes tip.0 (replicate tip.1 0)))
+  -- a table that is new is the one snapshot there is
+  pub snapshots : MatchBool x.is_new (IsOnlySnapshot new.snapshots.file (number_of x.shot) (short_file sum x.shot)) (new.snapshots ≡ old.snapshots)
+  pub blobs : (n : ℤ) → new.blobs.file n ≡ old.blobs.file n
