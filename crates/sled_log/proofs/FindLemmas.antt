@@ -16,7 +16,8 @@ use Rattle.std.proofs.lemmas.List.{take_all}
 use Rattle.sled_core.specs.declared.read_at.BasedBuf.{BasedBuf}
 use Rattle.sled_core.specs.Reading.{file_of}
 use Rattle.sled_core.specs.Scan.{Readable, IsScan, IsDamagedIn}
-use Rattle.sled_log.specs.Recovery.{IsFoundSegment, IsMisplaced, IsOrdering, Scanned, IsTail, GoesOn, begun_below, AreScanned, ContinuesFrom, Outcome, Recovered, Damaged, unchanged, outcome_of, least_place, tail_begins}
+use Rattle.sled_core.specs.Scan.{IsFoundSegment, IsMisplaced}
+use Rattle.sled_log.specs.Recovery.{IsOrdering, Scanned, IsTail, GoesOn, begun_below, AreScanned, ContinuesFrom, Outcome, Recovered, Damaged, unchanged, outcome_of, least_place, tail_begins}
 
 -- lists of no segment and of one
 not_in_none : {X : Type 0} (x : X) → Contains [] x → ⊥

@@ -9,7 +9,8 @@ ghost use Rattle.sled_core.specs.Causes.{DeviceAnswers};
 ghost use Rattle.sled_core.specs.Reading.{file_of};
 ghost use Rattle.sled_core.specs.Scan.{read_of};
 ghost use Rattle.sled_store.specs.SnapshotFiles.{stable_place};
-ghost use Rattle.sled_log.specs.Recovery.{least_place, tail_begins, IsFoundSegment, IsMisplaced, IsOrdering, Recovered, Damaged, Conclusion, outcome_of, are_whole, scanned_of, cut_of, tip_of, is_beyond, ContinuesFrom, Recovers};
+ghost use Rattle.sled_core.specs.Scan.{IsFoundSegment, IsMisplaced};
+ghost use Rattle.sled_log.specs.Recovery.{least_place, tail_begins, IsOrdering, Recovered, Damaged, Conclusion, outcome_of, are_whole, scanned_of, cut_of, tip_of, is_beyond, ContinuesFrom, Recovers};
 ghost use Rattle.sled_log.specs.WritesBack.{conclusion_of, range_of, number_of, shredding, publishing, writing_back, AreOthers, MayBeRemoved, IsWrittenBack};
 
 use crate::conclusion::{Recovery, Tip};

@@ -5,7 +5,8 @@ use Rattle.sled_codec.specs.Snapshots.{Shot, shot_of}
 use Rattle.sled_store.specs.declared.config.Config.{Config}
 use Rattle.sled_store.specs.Device.{state_of}
 use Rattle.sled_core.specs.Reading.{file_of}
-use Rattle.sled_log.specs.Recovery.{least_place, IsOrdering, IsMisplaced}
+use Rattle.sled_core.specs.Scan.{IsMisplaced}
+use Rattle.sled_log.specs.Recovery.{least_place, IsOrdering}
 use Rattle.sled_log.proofs.FindLemmas.{one_found, none_found, nothing_found, file_whole}
 use Rattle.sled_log.proofs.snapshot.continue_from.Goals as goal
 
