@@ -28,7 +28,7 @@ use Rattle.sled_core.specs.declared.iobuf.Site.{Site}
 use Rattle.sled_core.specs.declared.met.Segment.{Segment}
 use Rattle.sled_core.specs.Buffers.{text_in, body_in, message_in, placeholder, IsChain, completed_in, all_ended, Stands}
 use Rattle.sled_core.specs.LogFile.{MessageStands, StandIn, StandsElsewhere, HasHeader, IsLogFile}
-use Rattle.sled_core.specs.Fits.{HoldsIn, IsOnDevice, IsBegunFrom}
+use Rattle.sled_core.specs.Fits.{HoldsIn, IsOnDevice, IsBegunFrom, IsKept}
 use Rattle.sled_core.proofs.Ranges.{chain_grows, others, completed_between}
 use Rattle.sled_core.proofs.CompletesLemmas.{some_long}
 use Rattle.sled_core.proofs.ScanLemmas.{aligned_offset}
@@ -224,7 +224,7 @@ module _ (sum : List ℕ → ℕ) (size : ℕ) (site : Site) (device : State) (f
     settled_bytes = ap (λ (s : LogState). s.bytes) (holds.written whole).settled
 
     -- All that the log holds is on the device when its buffer was written and settled there.
-    pub flushed : (now : LogState) → now ≡ at_rest (overwritten device.log.bytes (site.slot + from) (drop from bytes)) → IsOnDevice sum size now site (length bytes) H.messages
+    flushed : (now : LogState) → now ≡ at_rest (overwritten device.log.bytes (site.slot + from) (drop from bytes)) → IsOnDevice sum size now site (length bytes) H.messages
     flushed now is = record {
       log = overwritten (holds.written whole).log (site.slot + from) (drop from bytes);
       settled = is ∙ ap (λ (l : List ℕ). at_rest (overwritten l (site.slot + from) (drop from bytes))) settled_bytes;
@@ -276,10 +276,18 @@ module _ (sum : List ℕ → ℕ) (size : ℕ) (site : Site) (device : State) (f
   }
 
   -- Where nothing was reserved since the last write, all is on the device.
-  pub nothing_due : rs ≡ [] → fault ≡ None → IsOnDevice sum size device.log site from H.messages
-  nothing_due none whole =
+  pub all_kept : rs ≡ [] → fault ≡ None → site.place + size < 2 ^ 63 → from ≤ size → IsKept sum size site from device H
+  all_kept none whole in_reach inside =
       let all : H.messages ≡ holds.earlier = holds.messages ∙ ap (λ (l : List Reserved). holds.earlier ++ completed_in site bytes l) none ∙ append-nil holds.earlier in
-      subst (λ (ms : List Message). IsOnDevice sum size device.log site from ms) (sym all) (holds.written whole)
+      record {
+        on_device = subst (λ (ms : List Message). IsOnDevice sum size device.log site from ms) (sym all) (holds.written whole);
+        begun = holds.begun;
+        batches = holds.batches;
+        place_begins = holds.place_begins;
+        slot_begins = holds.slot_begins;
+        in_reach = in_reach;
+        inside = inside;
+      }
 
   -- The same device and the same failure hold the same.
   pub holds-moved : (after : State) (now : Option IoError) → after ≡ device → now ≡ fault → HoldsIn sum size site after now bytes from rs H

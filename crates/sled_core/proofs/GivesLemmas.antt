@@ -49,14 +49,14 @@ inline_if true c x y z k ix iy iz is = let same : x ≡ k = cc in sym (ap is_inl
 inline_if false true x y z k ix iy iz is = let same : y ≡ k = cc in sym (ap is_inline same) ∙ iy
 inline_if false false x y z k ix iy iz is = let same : z ≡ k = cc in sym (ap is_inline same) ∙ iz
 
-kind_inline : (does_it : LogKind) (page : ℕ) (k : MessageKind) → kind_written does_it page false ≡ Some k → is_inline k ≡ true
+pub kind_inline : (does_it : LogKind) (page : ℕ) (k : MessageKind) → kind_written does_it page false ≡ Some k → is_inline k ≡ true
 kind_inline does.Replace page k is = inline_if (page == 1) (page == 0) _ _ _ k refl refl refl is
 kind_inline does.Link page k is = let same : kind.InlineLink ≡ k = cc in sym (ap is_inline same)
 kind_inline does.Free page k is = let same : kind.Free ≡ k = cc in sym (ap is_inline same)
 kind_inline does.Skip page k is = cc
 kind_inline does.Corrupted page k is = cc
 
-blob_apart : (k : MessageKind) → is_blob k ≡ true → is_inline k ≡ true → ⊥
+pub blob_apart : (k : MessageKind) → is_blob k ≡ true → is_inline k ≡ true → ⊥
 blob_apart kind.BlobMeta blob inline = cc
 blob_apart kind.BlobNode blob inline = cc
 blob_apart kind.BlobLink blob inline = cc

@@ -1,6 +1,7 @@
 pub mod LogFileLemmas
 pub mod BookLemmas
 pub mod Parts
+pub mod PathLemmas
 pub mod BegunLemmas
 pub mod CompletesLemmas
 pub mod FlushLemmas

@@ -122,9 +122,19 @@ pub record HoldsIn (sum : List ℕ → ℕ) (size : ℕ) (site : Site) (device :
 unfoldable pub Holds : {D C : Type 0} → (D → Trace) → (List ℕ → ℕ) → Log D C → History → Type 0
 Holds trace sum log H = HoldsIn sum log.config.config.segment_size log.site (state_of (trace log.config.device)) log.fault log.buffer.bytes.items log.buffer.from log.buffer.reserved.items H
 
+-- All of a history is on the device and settled: the log file has its messages, and the newest snapshot is its table below the place where the log began.
+pub record IsKept (sum : List ℕ → ℕ) (size : ℕ) (site : Site) (from : ℕ) (device : State) (H : History) : Type 0 where
+  pub on_device : IsOnDevice sum size device.log site from H.messages
+  pub begun : IsBegunFrom sum size device.snapshots.file site from H
+  pub batches : H.batches ≡ []
+  pub place_begins : site.place % size ≡ 0
+  pub slot_begins : site.slot % size ≡ 0
+  pub in_reach : site.place + size < 2 ^ 63
+  pub inside : from ≤ size
+
 -- all that a log holds is on its device, and settled
 abbrev pub IsWritten : {D C : Type 0} → (D → Trace) → (List ℕ → ℕ) → Log D C → History → Type 0
-IsWritten trace sum log H = IsOnDevice sum log.config.config.segment_size (state_of (trace log.config.device)).log log.site log.buffer.from H.messages
+IsWritten trace sum log H = IsKept sum log.config.config.segment_size log.site log.buffer.from (state_of (trace log.config.device)) H
 
 -- nothing that a caller sees of the log is another
 pub record IsUnchanged {D C : Type 0} (old new : Log D C) : Type 0 where

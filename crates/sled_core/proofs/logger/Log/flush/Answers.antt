@@ -1,25 +1,28 @@
-use Rattle.std.proofs.Common.{◌≡◌, ◌∙◌, ◌<◌, ◌+◌, ℤ, List, ℕ, Option, ap, sym, subst, [], length, rules, inl, inr}
+use Rattle.std.proofs.Common.{◌≡◌, ◌∙◌, ◌<◌, ◌+◌, ℤ, List, ℕ, Option, ap, sym, subst, refl, arith, [], length, rules, inl, inr}
 use Rattle.sled_store.specs.Device.{Trace, State, NamesState, state_of}
-use Rattle.sled_core.specs.Fits.{Holds, IsOnDevice}
+use Rattle.sled_core.specs.Fits.{Holds, IsKept}
 use Rattle.sled_core.proofs.Parts.{none_there}
-use Rattle.sled_core.proofs.FlushLemmas.{flushed, holds-flush, holds-faulty, holds-moved, nothing_due, memory_or_fault}
+use Rattle.sled_core.proofs.FlushLemmas.{holds-flush, holds-faulty, holds-moved, all_kept, memory_or_fault}
 use Rattle.sled_core.proofs.HoldsLemmas.{holds-same}
 use Rattle.sled_core.proofs.logger.Log.flush.Goals as goal
 
 pub returns-then-is_empty-clause-records : goal.returns-then-is_empty-clause-records
 unfolding Holds
 returns-then-is_empty-clause-records g c = λ H holds.
-    let none : c.args.self.now.buffer.reserved.items ≡ [] = none_there c.args.self.now.buffer.reserved.items (search rules) in
-    nothing_due g.C.Checksum.sum_of _ _ _ _ _ _ _ H holds none c.in_default.is
+    let old = c.args.self.now in
+    let none : old.buffer.reserved.items ≡ [] = none_there old.buffer.reserved.items (search rules) in
+    all_kept g.C.Checksum.sum_of _ _ _ _ _ _ _ H holds none c.in_default.is old.place_in_reach (omega (arith, old.buffer.behind, old.in_segment))
 
 pub returns-clause-records : goal.returns-clause-records
 unfolding Holds
 returns-clause-records g c = λ H holds.
     let old = c.args.self.now in
     let some : 0 < length old.buffer.reserved.items = search rules in
-    subst (λ (n : ℕ). IsOnDevice g.C.Checksum.sum_of old.config.config.segment_size (state_of (g.D.Device.trace c.write_out.new.device)).log old.site n H.messages) (sym c.advance.ensures.from)
-    (flushed g.C.Checksum.sum_of _ _ _ _ _ _ _ H holds old.buffer.begun old.buffer.behind old.in_segment old.place_in_reach old.slot_in_reach c.requires some c.in_default.is _
-    (ap (λ (t : Trace). (state_of t).log) c.in_default-write_out.ensures.done))
+    subst (λ (n : ℕ). IsKept g.C.Checksum.sum_of old.config.config.segment_size old.site n (state_of (g.D.Device.trace c.write_out.new.device)) H) (sym c.advance.ensures.from)
+    (all_kept g.C.Checksum.sum_of _ _ _ _ _ _ _ H
+    (holds-flush g.C.Checksum.sum_of _ _ _ _ _ _ _ H holds old.buffer.begun old.buffer.behind old.in_segment old.place_in_reach old.slot_in_reach c.requires some c.in_default.is _
+    (ap (λ (t : Trace). (state_of t).log) c.in_default-write_out.ensures.done) (ap (λ (s : NamesState). s.file) c.write_out.ensures.names))
+    refl c.in_default.is old.place_in_reach old.in_segment)
 
 pub returns-clause-history : goal.returns-clause-history
 unfolding Holds
