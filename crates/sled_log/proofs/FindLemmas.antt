@@ -20,14 +20,14 @@ use Rattle.sled_core.specs.Scan.{IsFoundSegment, IsMisplaced}
 use Rattle.sled_log.specs.Recovery.{IsOrdering, Scanned, IsTail, GoesOn, begun_below, AreScanned, ContinuesFrom, Outcome, Recovered, Damaged, unchanged, outcome_of, least_place, tail_begins}
 
 -- lists of no segment and of one
-not_in_none : {X : Type 0} (x : X) → Contains [] x → ⊥
+pub not_in_none : {X : Type 0} (x : X) → Contains [] x → ⊥
 not_in_none x there = omega (arith, there.1)
 
 only_at : {X : Type 0} (x y : X) (k : ℕ) → k < 1 → slice_index_or (x ∷ []) k y ≡ y → x ≡ y
 only_at x y zero lt is = is
 only_at x y (suc k) lt is = absurd (omega (arith, lt))
 
-only_in : {X : Type 0} (x y : X) → Contains (x ∷ []) y → x ≡ y
+pub only_in : {X : Type 0} (x y : X) → Contains (x ∷ []) y → x ≡ y
 only_in x y there = only_at x y there.0 there.1 there.2
 
 in_one : {X : Type 0} (x y : X) → x ≡ y → Contains (x ∷ []) y

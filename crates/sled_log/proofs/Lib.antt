@@ -1,4 +1,5 @@
 pub mod Ascending
+pub mod BeginLemmas
 pub mod FoldLemmas
 pub mod PageRuns
 pub mod PageStates
@@ -9,7 +10,9 @@ mod TableLemmas
 mod RecoveryLemmas
 mod FindLemmas
 pub mod CallLemmas
+pub mod KeptRecovers
 pub mod Numbers
+pub mod OneSegment
 pub mod OtherLemmas
 pub mod RemovalLemmas
 pub mod Trailers

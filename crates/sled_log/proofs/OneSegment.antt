@@ -1,0 +1,71 @@
+-- What recovery concludes where all of a history is on the device, in a log file of at most one segment.
+use Rattle.std.proofs.Common.{◌≡◌, ◌≢◌, ◌⊎◌, ◌≤◌, ◌<◌, ◌+◌, ◌-◌, ◌*◌, ◌/◌, ◌%◌, ◌^◌, ◌∙◌, ℕ, ℤ, zero, suc, pos, negsuc, max, Bool, true, false, ◌&&◌, ◌||◌, not, nat_lt, nat_le, int_lt, if◌then◌else◌, List, [], ◌∷◌, ◌++◌, length, map, take, drop, get_or, Option, Some, None, refl, sym, ap, subst, arith, inl, inr, length-take, length-drop, ltb-true, lt-ltb}
+use Rattle.std.specs.List.{All, Contains, filter}
+use Rattle.std.proofs.Math.Nat.{mod-eq_of_lt}
+use Rattle.std.proofs.lemmas.Bool.{cases_lt}
+use Rattle.std.proofs.lemmas.Bool.Decides.{nat_tests}
+use Rattle.sled_codec.specs.Places.{part}
+use Rattle.sled_codec.specs.Record.{IsHeader}
+use Rattle.sled_codec.specs.History.{Message, History}
+use Rattle.sled_codec.specs.Snapshots.{Shot}
+use Rattle.sled_codec.proofs.Segments.{one_header, length-short_header}
+use Rattle.sled_store.specs.Device.{LogState, State, at_rest}
+use Rattle.sled_store.specs.SnapshotFiles.{stable_place}
+use Rattle.sled_core.specs.declared.iobuf.Site.{Site}
+use Rattle.sled_core.specs.declared.met.Met.{Met}
+use Rattle.sled_core.specs.declared.met.Segment.{Segment}
+use Rattle.sled_core.specs.declared.met.Ending.{Ending}
+use Rattle.sled_core.specs.declared.met.Ending.TheVariants.{Full, Capped, Broken}
+use Rattle.sled_core.specs.Scan.{Readable, IsFoundSegment, IsMisplaced}
+use Rattle.sled_core.specs.LogFile.{MessageStands, StandIn, StandsElsewhere, HasHeader, IsLogFile}
+use Rattle.sled_core.specs.Fits.{IsKept, IsOnDevice, IsBegunFrom}
+use Rattle.sled_core.proofs.LogFileLemmas.{stands_some, stand_grows, stand_none}
+use Rattle.sled_core.proofs.PathLemmas.{met_of, IsEmpty, zeros_empty, scan_is}
+use Rattle.sled_log.specs.Recovery.{Scanned, IsScanned, IsOrdering, IsTail, GoesOn, AreScanned, begun_below, is_ascending, Conclusion, Outcome, Recovered, Damaged, Applied, applied, given, before_open, open_at, tail_end, tail_begins, greatest_mark, place_of_mark, least_place, outcome_of, concluded, unchanged, Passes, Replays, ContinuesFrom, Recovers, cut_of}
+use Rattle.sled_log.proofs.BeginLemmas.{one_begin}
+use Rattle.sled_log.proofs.FindLemmas.{found_first, header_first, is_found, only_found, not_in_none, only_in}
+
+-- what is met of messages
+pub given_messages : (low cut : ℕ) (ms : List Message) → All (λ m. m.place < cut) ms → given low (map met_of ms) ≡ map applied (filter (λ m. nat_le low m.place && nat_lt m.place cut) ms)
+given_messages low cut [] below = refl
+given_messages low cut (m ∷ ms) below =
+    let rest : given low (map met_of ms) ≡ map applied (filter (λ x. nat_le low x.place && nat_lt x.place cut) ms) = given_messages low cut ms (λ k d lt. below (suc k) d (omega (arith, lt))) in
+    let under : m.place < cut = below 0 m (omega arith) in
+    elim (cases_lt m.place low) [
+      | inl lower ↦ (
+          let skipped : nat_lt m.place low ≡ true = grind (arith, nat_tests, lower) in
+          let test : (nat_le low m.place && nat_lt m.place cut) ≡ false = grind (arith, nat_tests, lower) in
+          ap (λ (b : Bool). if b then given low (map met_of ms) else applied m ∷ given low (map met_of ms)) skipped ∙ rest
+          ∙ ap (map applied) (sym (ap (λ (b : Bool). if b then m ∷ filter (λ x. nat_le low x.place && nat_lt x.place cut) ms else filter (λ x. nat_le low x.place && nat_lt x.place cut) ms) test)))
+      | inr higher ↦ (
+          let taken : nat_lt m.place low ≡ false = grind (arith, nat_tests, higher) in
+          let test : (nat_le low m.place && nat_lt m.place cut) ≡ true = grind (arith, nat_tests, higher, under) in
+          ap (λ (b : Bool). if b then given low (map met_of ms) else applied m ∷ given low (map met_of ms)) taken ∙ ap (λ (l : List Applied). applied m ∷ l) rest
+          ∙ ap (map applied) (sym (ap (λ (b : Bool). if b then m ∷ filter (λ x. nat_le low x.place && nat_lt x.place cut) ms else filter (λ x. nat_le low x.place && nat_lt x.place cut) ms) test)))
+    ]
+
+-- among messages no batch begins
+pub none_open : (end : ℕ) (ms : List Message) → open_at end (map met_of ms) ≡ None
+none_open end [] = refl
+none_open end (m ∷ ms) = none_open end ms
+
+pub all_before : (end : ℕ) (ms : List Message) → before_open end (map met_of ms) ≡ map met_of ms
+all_before end [] = refl
+all_before end (m ∷ ms) = ap (λ (l : List Met). met_of m ∷ l) (all_before end ms)
+
+-- an ordering that has one segment and no other is that one
+pub only_one : (s : Segment) (ordering : List Segment) → is_ascending ordering ≡ true → Contains ordering s → ((t : Segment) → Contains ordering t → s ≡ t) → ordering ≡ s ∷ []
+only_one s [] ascending there alone = absurd (not_in_none s there)
+only_one s (t ∷ []) ascending there alone = ap (λ (x : Segment). x ∷ []) (sym (alone t (0, omega arith, refl)))
+only_one s (t ∷ u ∷ ss) ascending there alone =
+    let first : s ≡ t = alone t (0, omega arith, refl) in
+    let second : s ≡ u = alone u (1, omega arith, refl) in
+    let places : t.place ≡ u.place = ap (λ (x : Segment). x.place) (sym first ∙ second) in
+    let not_lower : nat_lt t.place u.place ≡ false = grind (arith, nat_tests, places) in
+    let both : true ≡ false = sym ascending ∙ ap (λ (b : Bool). b && is_ascending (u ∷ ss)) not_lower in
+    cc
+
+-- an ordering without an element is empty
+pub no_element : (ordering : List Segment) → ((t : Segment) → Contains ordering t → ⊥) → ordering ≡ []
+no_element [] none = refl
+no_element (t ∷ ts) none = absurd (none t (0, omega arith, refl))
