@@ -1,14 +1,14 @@
 //! The slots of a file and what a snapshot has in them, gone through entry by entry.
 //!
 //! `specs/Booked.antt` says what a book knows of the entries that it was given.
-ghost use Rattle.std.specs.Prelude.{◌≡◌, ◌≢◌, ◌↔◌, ◌/◌, ◌-◌, ◌<◌, ◌^◌, ◌≤◌, ◌++◌, ◌∷◌, [], ℕ, List, true, is_some, IsTrue, OnOk, IfErr};
+ghost use Rattle.std.specs.Prelude.{◌≡◌, ◌≢◌, ◌↔◌, ◌/◌, ◌-◌, ◌<◌, ◌^◌, ◌≤◌, ◌++◌, ◌∷◌, [], ℕ, List, map, true, is_some, IsTrue, OnOk, IfErr};
 ghost use Rattle.std.specs.BTreeMap.{get};
 ghost use Rattle.std.specs.BTreeSet.{contains};
 ghost use Rattle.std.specs.List.{All};
 ghost use Rattle.std.specs.Ordering.{nat_cmp};
 ghost use Rattle.sled_codec.specs.Errors.{IsCorruption, IsDecodeError};
 ghost use Rattle.sled_codec.specs.Snapshots.{Entry, Uninitialized, page_of};
-ghost use Rattle.sled_core.specs.Begin.{slot_of, number_of, entries_in, IsPlacedIn};
+ghost use Rattle.sled_core.specs.Begin.{slot_of, number_of, entries_in, entries_of, IsPlacedIn};
 ghost use Rattle.sled_core.specs.Booked.{IsBooked, AreFit, sum_in};
 
 use crate::iobuf::{MAX_MSG_HEADER_LEN, SEG_HEADER_LEN};
@@ -124,6 +124,72 @@ impl Book {
         }
         self.held.insert(slot, (number, sum + len))?;
         self.numbers.insert(number)?;
+        Ok(())
+    }
+
+    /// One more entry, where it lies within the limits.
+    fn put(&mut self, limits: Limits, entry: &Entry) -> Result<()>
+        ensures ok { (es : List Entry) → IsBooked limits.size self.old es → OnOk result (IsBooked limits.size self.new (es ++ entry.now ∷ [])) }
+        ensures placed { OnOk result (IsPlacedIn limits.size limits.slots limits.stable entry.now) }
+        ensures corrupt { (es : List Entry) → IsBooked limits.size self.old es → IsCorruption result → IsPlacedIn limits.size limits.slots limits.stable entry.now → AreFit limits.size (es ++ entry.now ∷ []) → ⊥ }
+        ensures errors { IfErr result IsDecodeError }
+    {
+        if !limits.hold(entry) {
+            return Err(Error::Corruption { at: None });
+        }
+        self.note(limits.size, entry)
+    }
+
+    /// More entries, one after another.
+    fn put_all(&mut self, limits: Limits, entries: &[Entry]) -> Result<()>
+        ensures ok { (es : List Entry) → IsBooked limits.size self.old es → OnOk result (IsBooked limits.size self.new (es ++ entries.now)) }
+        ensures placed { OnOk result (All (IsPlacedIn limits.size limits.slots limits.stable) entries.now) }
+        ensures corrupt { (es : List Entry) → IsBooked limits.size self.old es → IsCorruption result → All (IsPlacedIn limits.size limits.slots limits.stable) entries.now → AreFit limits.size (es ++ entries.now) → ⊥ }
+        ensures errors { IfErr result IsDecodeError }
+    {
+        for entry in entries {
+            match self.put(limits, entry) {
+                Ok(()) => {}
+                Err(e) => return Err(e),
+            }
+        }
+        Ok(())
+    }
+
+    /// The entries of a page. `Corruption` comes for one that was not seen, too.
+    fn put_page(&mut self, limits: Limits, page: &PageState) -> Result<()>
+        ensures ok { (es : List Entry) → IsBooked limits.size self.old es → OnOk result (IsBooked limits.size self.new (es ++ entries_in (page_of page.now))) }
+        ensures placed { OnOk result (All (IsPlacedIn limits.size limits.slots limits.stable) (entries_in (page_of page.now))) }
+        ensures seen { OnOk result (page_of page.now ≢ Uninitialized) }
+        ensures corrupt { (es : List Entry) → IsBooked limits.size self.old es → IsCorruption result → page_of page.now ≢ Uninitialized → All (IsPlacedIn limits.size limits.slots limits.stable) (entries_in (page_of page.now)) → AreFit limits.size (es ++ entries_in (page_of page.now)) → ⊥ }
+        ensures errors { IfErr result IsDecodeError }
+    {
+        match page {
+            PageState::Present { base, frags } => match self.put(limits, base) {
+                Ok(()) => self.put_all(limits, frags),
+                Err(e) => Err(e),
+            },
+            PageState::Free(place, pointer) => {
+                self.put(limits, &(*place, *pointer, MAX_MSG_HEADER_LEN as u64))
+            }
+            PageState::Uninitialized => Err(Error::Corruption { at: None }),
+        }
+    }
+
+    /// The entries of all pages.
+    pub(crate) fn put_pages(&mut self, limits: Limits, pages: &[PageState]) -> Result<()>
+        ensures ok { (es : List Entry) → IsBooked limits.size self.old es → OnOk result (IsBooked limits.size self.new (es ++ entries_of (map page_of pages.now))) }
+        ensures placed { OnOk result (All (IsPlacedIn limits.size limits.slots limits.stable) (entries_of (map page_of pages.now))) }
+        ensures seen { OnOk result (All (λ p. p ≢ Uninitialized) (map page_of pages.now)) }
+        ensures corrupt { (es : List Entry) → IsBooked limits.size self.old es → IsCorruption result → All (λ p. p ≢ Uninitialized) (map page_of pages.now) → All (IsPlacedIn limits.size limits.slots limits.stable) (entries_of (map page_of pages.now)) → AreFit limits.size (es ++ entries_of (map page_of pages.now)) → ⊥ }
+        ensures errors { IfErr result IsDecodeError }
+    {
+        for page in pages {
+            match self.put_page(limits, page) {
+                Ok(()) => {}
+                Err(e) => return Err(e),
+            }
+        }
         Ok(())
     }
 }
