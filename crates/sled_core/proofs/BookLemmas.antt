@@ -40,7 +40,7 @@ same_number : (n : ℕ) → (n == n) ≡ true
 same_number n = elim (eqb_tells n n) [ inl same_n ↦ same_n.0 | inr other_n ↦ absurd (other_n.1 refl) ]
 
 -- an element of a list is its first, or one of the others
-head_or_tail : {X : Type 0} (x y : X) (xs : List X) → Contains (x ∷ xs) y → (x ≡ y) ⊎ Contains xs y
+pub head_or_tail : {X : Type 0} (x y : X) (xs : List X) → Contains (x ∷ xs) y → (x ≡ y) ⊎ Contains xs y
 head_or_tail x y xs has = elim (Contains-append_cases (x ∷ []) xs y has) [
   | inl first ↦ inl (elim (Contains-push_cases [] x y first) [ inl none ↦ absurd (let lt = none.1 in omega arith) | inr is ↦ is ])
   | inr rest ↦ inr rest

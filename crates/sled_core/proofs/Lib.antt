@@ -11,3 +11,4 @@ pub mod Ranges
 pub mod ReadingLemmas
 pub mod ReserveLemmas
 pub mod ScanLemmas
+pub mod StartLemmas

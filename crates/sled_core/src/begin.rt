@@ -1,7 +1,18 @@
 //! Where a log begins on a log file, from a snapshot (`specs/Begin.antt`).
-ghost use Rattle.std.specs.Prelude.{◌≡◌};
+ghost use Rattle.std.specs.Prelude.{◌≡◌, ◌+◌, ◌^◌, ◌<◌, ℕ, is_some, IfOk, IfErr, OnOk};
+ghost use Rattle.std.specs.BTreeMap.{get};
+ghost use Rattle.std.specs.Ordering.{nat_cmp};
+ghost use Rattle.sled_codec.specs.Errors.{IsCorruption, IsDecodeError};
+ghost use Rattle.sled_codec.specs.Snapshots.{shot_of};
+ghost use Rattle.sled_store.specs.SnapshotFiles.{is_sound, stable_place};
+ghost use Rattle.sled_core.specs.Begin.{slots_of, is_used, IsStartable};
 
-pub(crate) mod book;
+mod book;
+
+use book::{Book, Limits};
+use sled_codec::result::{Error, Result};
+use sled_codec::serialization::snapshot::Snapshot;
+use std::alloc::Global;
 
 /// Where a log begins.
 #[derive(Debug, Clone, Copy)]
@@ -12,4 +23,62 @@ pub(crate) struct Beginning {
     pub(crate) slot: u64,
     /// How much of the segment is there already.
     pub(crate) offset: u64,
+}
+
+/// Which slots of a file a snapshot uses. `Corruption` comes where no log can begin from it.
+fn book_of(alloc: Global, size: u64, len: u64, snapshot: &Snapshot) -> Result<Book>
+    requires some { 0 < size }
+    requires small { len + size < 2 ^ 64 }
+    ensures startable { OnOk result (IsStartable size len (shot_of snapshot.now)) }
+    ensures used { IfOk result (λ b. (k : ℕ) → is_some (get nat_cmp b.held k) ≡ is_used size (shot_of snapshot.now) k) }
+    ensures corrupt { IsCorruption result → IsStartable size len (shot_of snapshot.now) → ⊥ }
+    ensures errors { IfErr result IsDecodeError }
+{
+    if !is_sound(snapshot) {
+        return Err(Error::Corruption { at: None });
+    }
+    let limits = Limits {
+        size,
+        slots: slots_of(size, len),
+        stable: stable_place(snapshot),
+    };
+    let mut book = Book::new(alloc);
+    match book.put_active(limits, snapshot.active_segment) {
+        Ok(()) => {}
+        Err(e) => return Err(e),
+    }
+    match book.put_pages(limits, &snapshot.pt) {
+        Ok(()) => Ok(book),
+        Err(e) => Err(e),
+    }
+}
+
+/// How many slots a file has.
+fn slots_of(size: u64, len: u64) -> u64
+    requires some { 0 < size }
+    requires small { len + size < 2 ^ 64 }
+    ensures { result ≡ slots_of size len }
+{
+    (len + (size - 1)) / size
+}
+
+/// Whether it has a stable place that is not negative, or is the one of a log that was never begun.
+fn is_sound(snapshot: &Snapshot) -> bool
+    ensures { result ≡ is_sound (shot_of snapshot.now) }
+{
+    match snapshot.stable_lsn {
+        Some(place) => place >= 0,
+        None => snapshot.active_segment.is_none() && snapshot.pt.is_empty(),
+    }
+}
+
+/// The place that a snapshot ends with, 0 where there is none.
+fn stable_place(snapshot: &Snapshot) -> u64
+    ensures place { result ≡ stable_place (shot_of snapshot.now).stable }
+    ensures small { result < 2 ^ 63 }
+{
+    match snapshot.stable_lsn {
+        Some(place) => u64::try_from(place).unwrap_or(0),
+        None => 0,
+    }
 }

@@ -1,18 +1,18 @@
 //! The slots of a file and what a snapshot has in them, gone through entry by entry.
 //!
 //! `specs/Booked.antt` says what a book knows of the entries that it was given.
-ghost use Rattle.std.specs.Prelude.{◌≡◌, ◌≢◌, ◌↔◌, ◌/◌, ◌-◌, ◌<◌, ◌^◌, ◌≤◌, ◌++◌, ◌∷◌, [], ℕ, List, map, true, is_some, IsTrue, OnOk, IfErr};
+ghost use Rattle.std.specs.Prelude.{◌≡◌, ◌≢◌, ◌↔◌, ◌/◌, ◌-◌, ◌<◌, ◌^◌, ◌≤◌, ◌++◌, ◌∷◌, [], ℕ, List, map, true, is_some, IsTrue, IfSome, OnOk, IfErr};
 ghost use Rattle.std.specs.BTreeMap.{get};
 ghost use Rattle.std.specs.BTreeSet.{contains};
 ghost use Rattle.std.specs.List.{All};
 ghost use Rattle.std.specs.Ordering.{nat_cmp};
 ghost use Rattle.sled_codec.specs.Errors.{IsCorruption, IsDecodeError};
 ghost use Rattle.sled_codec.specs.Snapshots.{Entry, Uninitialized, page_of};
-ghost use Rattle.sled_core.specs.Begin.{slot_of, number_of, entries_in, entries_of, IsPlacedIn};
-ghost use Rattle.sled_core.specs.Booked.{IsBooked, AreFit, sum_in};
+ghost use Rattle.sled_core.specs.Begin.{slot_of, number_of, entries_in, entries_of, IsPlacedIn, MayBeActive};
+ghost use Rattle.sled_core.specs.Booked.{IsBooked, AreFit, sum_in, active_entry};
 
 use crate::iobuf::{MAX_MSG_HEADER_LEN, SEG_HEADER_LEN};
-use sled_codec::result::{DiskPtr, Error, Result};
+use sled_codec::result::{DiskPtr, Error, LogOffset, Result};
 use sled_codec::serialization::snapshot::{Entry, PageState};
 use std::alloc::Global;
 use std::collections::{BTreeMap, BTreeSet};
@@ -32,7 +32,7 @@ pub(crate) struct Limits {
 
 impl Limits {
     /// Whether an entry lies within them.
-    pub(crate) fn hold(&self, entry: &Entry) -> bool
+    fn hold(&self, entry: &Entry) -> bool
         ensures { IsTrue result ↔ IsPlacedIn self.now.size self.now.slots self.now.stable entry.now }
     {
         let (place, pointer, len) = *entry;
@@ -47,10 +47,19 @@ impl Limits {
             && may_begin(offset, self.size)
             && len <= self.size - offset
     }
+
+    /// Whether a slot of the file may be the active one.
+    fn may_be_active(&self, active: LogOffset) -> bool
+        ensures { IsTrue result ↔ MayBeActive self.now.size self.now.slots self.now.stable active }
+    {
+        active % self.size == 0
+            && active / self.size < self.slots
+            && may_begin(self.stable % self.size, self.size)
+    }
 }
 
 /// Whether a record may begin so far behind the beginning of a segment.
-pub(crate) fn may_begin(offset: u64, size: u64) -> bool
+fn may_begin(offset: u64, size: u64) -> bool
     ensures { IsTrue result ↔ ((20 ≤ offset) × (offset ≤ size - 32)) }
 {
     offset >= SEG_HEADER_LEN as u64 && size >= MAX_MSG_HEADER_LEN as u64 && offset <= size - MAX_MSG_HEADER_LEN as u64
@@ -107,7 +116,7 @@ impl Book {
     }
 
     /// One more entry. `Corruption` comes where it can't lie beside the others.
-    pub(crate) fn note(&mut self, size: u64, entry: &Entry) -> Result<()>
+    fn note(&mut self, size: u64, entry: &Entry) -> Result<()>
         requires { 0 < size }
         ensures ok { (es : List Entry) → IsBooked size self.old es → OnOk result (IsBooked size self.new (es ++ entry.now ∷ [])) }
         ensures corrupt { (es : List Entry) → IsBooked size self.old es → IsCorruption result → AreFit size (es ++ entry.now ∷ []) → ⊥ }
@@ -125,6 +134,25 @@ impl Book {
         self.held.insert(slot, (number, sum + len))?;
         self.numbers.insert(number)?;
         Ok(())
+    }
+
+    /// The active segment, before all entries.
+    pub(crate) fn put_active(&mut self, limits: Limits, active: Option<LogOffset>) -> Result<()>
+        requires { IsBooked limits.size self.old [] }
+        ensures ok { OnOk result (IsBooked limits.size self.new (active_entry limits.stable active)) }
+        ensures active { OnOk result (IfSome active (MayBeActive limits.size limits.slots limits.stable)) }
+        ensures corrupt { IsCorruption result → IfSome active (MayBeActive limits.size limits.slots limits.stable) → ⊥ }
+        ensures errors { IfErr result IsDecodeError }
+    {
+        match active {
+            Some(slot) => {
+                if !limits.may_be_active(slot) {
+                    return Err(Error::Corruption { at: None });
+                }
+                self.note(limits.size, &(limits.stable as i64, DiskPtr::Inline(slot), 0))
+            }
+            None => Ok(()),
+        }
     }
 
     /// One more entry, where it lies within the limits.
