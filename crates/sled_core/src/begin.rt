@@ -1,17 +1,21 @@
 //! Where a log begins on a log file, from a snapshot (`specs/Begin.antt`).
-ghost use Rattle.std.specs.Prelude.{◌≡◌, ◌+◌, ◌^◌, ◌<◌, ℕ, is_some, IfOk, IfErr, OnOk};
+ghost use Rattle.std.specs.Prelude.{◌≡◌, ◌+◌, ◌*◌, ◌^◌, ◌<◌, ℕ, map, replicate, is_some, IfOk, IfErr, OnOk, OnErr};
 ghost use Rattle.std.specs.BTreeMap.{get};
 ghost use Rattle.std.specs.Ordering.{nat_cmp};
 ghost use Rattle.sled_codec.specs.Errors.{IsCorruption, IsDecodeError};
 ghost use Rattle.sled_codec.specs.Snapshots.{shot_of};
+ghost use Rattle.sled_store.specs.Script.{Performs, after_all};
 ghost use Rattle.sled_store.specs.SnapshotFiles.{is_sound, stable_place};
-ghost use Rattle.sled_core.specs.Begin.{slots_of, is_used, IsStartable};
+ghost use Rattle.sled_core.specs.Begin.{slots_of, is_used, IsStartable, not_below, fill, filling, first_of};
+ghost use Rattle.sled_core.specs.Causes.{DeviceAnswers};
 
 mod book;
 
 use book::{Book, Limits};
 use sled_codec::result::{Error, Result};
+use sled_codec::serialization::Checksum;
 use sled_codec::serialization::snapshot::Snapshot;
+use sled_store::{Device, RunningConfig};
 use std::alloc::Global;
 
 /// Where a log begins.
@@ -51,6 +55,61 @@ fn book_of(alloc: Global, size: u64, len: u64, snapshot: &Snapshot) -> Result<Bo
         Ok(()) => Ok(book),
         Err(e) => Err(e),
     }
+}
+
+/// Fills the slots of a file that are not in use with zeros, in ascending order, and then syncs it. Where
+/// there are none, it does nothing. Answers the lowest of them.
+fn fill_unused<D: Device, C: Checksum>(
+    config: &mut RunningConfig<D, C>,
+    book: &Book,
+    slots: u64,
+) -> Result<Option<u64>>
+    requires { slots * config.old.config.segment_size + config.old.config.segment_size < 2 ^ 63 }
+    ensures first { IfOk result (λ first. first ≡ first_of (not_below (λ k. is_some (get nat_cmp book.now.held k)) slots)) }
+    ensures done { OnOk result (D.trace config.new.device ≡ after_all (filling config.old.config.segment_size (not_below (λ k. is_some (get nat_cmp book.now.held k)) slots)) (D.trace config.old.device)) }
+    ensures calls { Performs (filling config.old.config.segment_size (not_below (λ k. is_some (get nat_cmp book.now.held k)) slots)) (D.trace config.old.device) (D.trace config.new.device) }
+    ensures answers { DeviceAnswers result (D.faults config.old.device) (D.faults config.new.device) }
+    ensures readable { IsCorruption result → ⊥ }
+    ensures config { config.new.config ≡ config.old.config }
+    ensures checksum { config.new.checksum ≡ config.old.checksum }
+{
+    let zeros = vec![in config.alloc(); 0; config.config.segment_size as usize]?;
+    match write_unused(config, book, slots, &zeros) {
+        Ok(Some(first)) => {
+            config.device.sync()?;
+            Ok(Some(first))
+        }
+        Ok(None) => Ok(None),
+        Err(e) => Err(e),
+    }
+}
+
+/// The same, but for the sync.
+fn write_unused<D: Device, C: Checksum>(
+    config: &mut RunningConfig<D, C>,
+    book: &Book,
+    slots: u64,
+    zeros: &[u8],
+) -> Result<Option<u64>>
+    requires zeros { zeros.now ≡ replicate config.old.config.segment_size 0 }
+    requires room { slots * config.old.config.segment_size + config.old.config.segment_size < 2 ^ 63 }
+    ensures first { IfOk result (λ first. first ≡ first_of (not_below (λ k. is_some (get nat_cmp book.now.held k)) slots)) }
+    ensures done { OnOk result (D.trace config.new.device ≡ after_all (map (fill config.old.config.segment_size) (not_below (λ k. is_some (get nat_cmp book.now.held k)) slots)) (D.trace config.old.device)) }
+    ensures failed { OnErr result (Performs (map (fill config.old.config.segment_size) (not_below (λ k. is_some (get nat_cmp book.now.held k)) slots)) (D.trace config.old.device) (D.trace config.new.device)) }
+    ensures answers { DeviceAnswers result (D.faults config.old.device) (D.faults config.new.device) }
+    ensures readable { IsCorruption result → ⊥ }
+    ensures config { config.new.config ≡ config.old.config }
+    ensures checksum { config.new.checksum ≡ config.old.checksum }
+{
+    let mut first = None;
+    for slot in 0..slots {
+        if book.has(slot) {
+            continue;
+        }
+        config.device.write_at(slot * config.config.segment_size, zeros)?;
+        first = first.or(Some(slot));
+    }
+    Ok(first)
 }
 
 /// How many slots a file has.
