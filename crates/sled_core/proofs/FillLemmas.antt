@@ -1,5 +1,5 @@
 -- Slots that are filled one after another: the calls so far, and where they stop.
-use Rattle.std.proofs.Common.{◌≡◌, ◌≢◌, ◌∙◌, ◌+◌, ◌*◌, ◌≤◌, ◌<◌, ◌⊎◌, inl, inr, ℕ, zero, suc, Bool, true, false, if◌then◌else◌, List, [], ◌∷◌, ◌++◌, map, reverse, replicate, Option, Some, None, Result, Ok, Err, OnErr, refl, sym, ap, subst, arith, append_assoc, append-nil, add-one}
+use Rattle.std.proofs.Common.{◌≡◌, ◌≢◌, ◌∙◌, ◌+◌, ◌*◌, ◌≤◌, ◌<◌, ◌⊎◌, inl, inr, ℕ, zero, suc, Bool, true, false, if◌then◌else◌, List, [], ◌∷◌, ◌++◌, map, reverse, replicate, Option, Some, None, IfSome, Result, Ok, Err, OnErr, refl, sym, ap, subst, arith, append_assoc, append-nil, add-one}
 use Rattle.std.specs.Option.{option_or}
 use Rattle.std.proofs.lemmas.List.{map-append}
 use Rattle.std.proofs.Math.Nat.{eq-or-lt_of_le}
@@ -34,12 +34,31 @@ performs_then es fs old mid new is = performs_joined es fs old mid new (is ∙ a
 
 -- The numbers below another at which a test is false.
 
+-- the same test gives the same numbers
+pub same_below : (p q : ℕ → Bool) (m n : ℕ) → ((k : ℕ) → p k ≡ q k) → m ≡ n → not_below p m ≡ not_below q n
+same_below p q m n same is = (λ i. not_below (λ k. same k i) m) ∙ ap (not_below q) is
+
 module _ (test : ℕ → Bool) where
   pub not_below_yes : (k : ℕ) → test k ≡ true → not_below test (k + 1) ≡ not_below test k
   not_below_yes k is = ap (not_below test) (add-one k) ∙ ap (λ (b : Bool). if b then not_below test k else not_below test k ++ k ∷ []) is
 
   pub not_below_no : (k : ℕ) → test k ≡ false → not_below test (k + 1) ≡ not_below test k ++ k ∷ []
   not_below_no k is = ap (not_below test) (add-one k) ∙ ap (λ (b : Bool). if b then not_below test k else not_below test k ++ k ∷ []) is
+
+  -- the first of them is below the other
+  pub first_below : (n : ℕ) → IfSome (first_of (not_below test n)) (λ k. k < n)
+  first_below zero = tt
+  first_below (suc m) = by_test (first_below m) (test m)
+    where
+      more : (ks : List ℕ) → IfSome (first_of ks) (λ k. k < m) → IfSome (first_of (ks ++ m ∷ [])) (λ k. k < suc m)
+      more [] below = omega arith
+      more (k ∷ ks) below = omega (arith, below)
+      as_before : (o : Option ℕ) → IfSome o (λ k. k < m) → IfSome o (λ k. k < suc m)
+      as_before None below = tt
+      as_before (Some k) below = omega (arith, below)
+      by_test : IfSome (first_of (not_below test m)) (λ k. k < m) → (b : Bool) → IfSome (first_of (if b then not_below test m else not_below test m ++ m ∷ [])) (λ k. k < suc m)
+      by_test below true = as_before (first_of (not_below test m)) below
+      by_test below false = more (not_below test m) below
 
   -- one of them, and what comes before and behind it
   pub split_at : (n k : ℕ) → k < n → test k ≡ false → (rest : List ℕ) × (not_below test n ≡ not_below test k ++ k ∷ [] ++ rest)

@@ -1,12 +1,14 @@
 //! Where a log begins on a log file, from a snapshot (`specs/Begin.antt`).
-ghost use Rattle.std.specs.Prelude.{◌≡◌, ◌+◌, ◌*◌, ◌^◌, ◌<◌, ℕ, map, replicate, is_some, IfOk, IfErr, OnOk, OnErr};
+ghost use Rattle.std.specs.Prelude.{◌≡◌, ◌+◌, ◌*◌, ◌^◌, ◌<◌, ℕ, List, length, map, replicate, is_some, IfSome, IfOk, IfErr, OnOk, OnErr};
 ghost use Rattle.std.specs.BTreeMap.{get};
 ghost use Rattle.std.specs.Ordering.{nat_cmp};
+ghost use Rattle.sled_codec.specs.Coords.{raised};
 ghost use Rattle.sled_codec.specs.Errors.{IsCorruption, IsDecodeError};
 ghost use Rattle.sled_codec.specs.Snapshots.{shot_of};
+ghost use Rattle.sled_store.specs.Device.{state_of};
 ghost use Rattle.sled_store.specs.Script.{Performs, after_all};
 ghost use Rattle.sled_store.specs.SnapshotFiles.{is_sound, stable_place};
-ghost use Rattle.sled_core.specs.Begin.{slots_of, is_used, IsStartable, not_below, fill, filling, first_of};
+ghost use Rattle.sled_core.specs.Begin.{slots_of, is_used, IsStartable, not_below, fill, filling, first_of, IsInReach, beginning_at, beginning_of, unused};
 ghost use Rattle.sled_core.specs.Causes.{DeviceAnswers};
 
 mod book;
@@ -27,6 +29,63 @@ pub(crate) struct Beginning {
     pub(crate) slot: u64,
     /// How much of the segment is there already.
     pub(crate) offset: u64,
+}
+
+/// Where a log begins on the log file, from a snapshot: behind the stable place in the active segment, or else
+/// a segment in the lowest slot that the snapshot does not use. First it fills all slots that are not used
+/// with zeros, in ascending order, and syncs the file where there is one.
+///
+/// `Corruption` comes where no log can begin from the snapshot, and nothing was written then. `Io` comes
+/// where the device failed, and `OutOfMemory` where memory was refused.
+pub(crate) fn begin<D: Device, C: Checksum>(
+    config: &mut RunningConfig<D, C>,
+    snapshot: &Snapshot,
+) -> Result<Beginning>
+    requires reach { IsInReach config.old.config.segment_size (length (state_of (D.trace config.old.device)).log.bytes) (shot_of snapshot.now) }
+    ensures startable { OnOk result (IsStartable config.old.config.segment_size (length (state_of (D.trace config.old.device)).log.bytes) (shot_of snapshot.now)) }
+    ensures corrupt { IsCorruption result → IsStartable config.old.config.segment_size (length (state_of (D.trace config.old.device)).log.bytes) (shot_of snapshot.now) → ⊥ }
+    ensures unwritten { IsCorruption result → D.trace config.new.device ≡ D.trace config.old.device }
+    ensures beginning { IfOk result (λ b. b ≡ beginning_of config.old.config.segment_size (length (state_of (D.trace config.old.device)).log.bytes) (shot_of snapshot.now)) }
+    ensures done { let size = config.old.config.segment_size in OnOk result (D.trace config.new.device ≡ after_all (filling size (unused size (slots_of size (length (state_of (D.trace config.old.device)).log.bytes)) (shot_of snapshot.now))) (D.trace config.old.device)) }
+    ensures calls { let size = config.old.config.segment_size in Performs (filling size (unused size (slots_of size (length (state_of (D.trace config.old.device)).log.bytes)) (shot_of snapshot.now))) (D.trace config.old.device) (D.trace config.new.device) }
+    ensures answers { DeviceAnswers result (D.faults config.old.device) (D.faults config.new.device) }
+    ensures config { config.new.config ≡ config.old.config }
+    ensures checksum { config.new.checksum ≡ config.old.checksum }
+{
+    let size = config.config.segment_size;
+    let len = config.device.len()?;
+    let book = match book_of(config.alloc(), size, len, snapshot) {
+        Ok(book) => book,
+        Err(e) => return Err(e),
+    };
+    let slots = slots_of(size, len);
+    match fill_unused(config, &book, slots) {
+        Ok(first) => Ok(beginning_at(size, slots, first, snapshot)),
+        Err(e) => Err(e),
+    }
+}
+
+/// Where a log begins, where this is the lowest of its slots that are not used.
+fn beginning_at(size: u64, slots: u64, first: Option<u64>, snapshot: &Snapshot) -> Beginning
+    requires some { 0 < size }
+    requires first { IfSome first (λ k. k < slots) }
+    requires slots { slots * size + size < 2 ^ 63 }
+    requires places { raised size (stable_place (shot_of snapshot.now).stable) + size < 2 ^ 63 }
+    ensures { (free : List ℕ) → first ≡ first_of free → result ≡ beginning_at size slots (stable_place (shot_of snapshot.now).stable) free (shot_of snapshot.now).active }
+{
+    let stable = stable_place(snapshot);
+    match snapshot.active_segment {
+        Some(slot) => Beginning {
+            place: stable / size * size,
+            slot,
+            offset: stable % size,
+        },
+        None => Beginning {
+            place: (stable + (size - 1)) / size * size,
+            slot: first.unwrap_or(slots) * size,
+            offset: 0,
+        },
+    }
 }
 
 /// Which slots of a file a snapshot uses. `Corruption` comes where no log can begin from it.
