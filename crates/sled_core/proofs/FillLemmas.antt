@@ -1,5 +1,5 @@
 -- Slots that are filled one after another: the calls so far, and where they stop.
-use Rattle.std.proofs.Common.{◌≡◌, ◌≢◌, ◌∙◌, ◌+◌, ◌*◌, ◌≤◌, ◌<◌, ◌⊎◌, inl, inr, ℕ, zero, suc, Bool, true, false, if◌then◌else◌, List, [], ◌∷◌, ◌++◌, map, reverse, replicate, Option, Some, None, IfSome, Result, Ok, Err, OnErr, refl, sym, ap, subst, arith, append_assoc, append-nil, add-one}
+use Rattle.std.proofs.Common.{◌≡◌, ◌∙◌, ◌+◌, ◌*◌, ◌≤◌, ◌<◌, ◌⊎◌, inl, inr, ℕ, zero, suc, Bool, true, false, if◌then◌else◌, List, [], ◌∷◌, ◌++◌, map, reverse, replicate, Option, Some, None, IfSome, Result, Ok, Err, OnErr, refl, sym, ap, subst, arith, append_assoc, append-nil, add-one}
 use Rattle.std.specs.Option.{option_or}
 use Rattle.std.proofs.lemmas.List.{map-append}
 use Rattle.std.proofs.Math.Nat.{eq-or-lt_of_le}
@@ -53,9 +53,11 @@ module _ (test : ℕ → Bool) where
       more : (ks : List ℕ) → IfSome (first_of ks) (λ k. k < m) → IfSome (first_of (ks ++ m ∷ [])) (λ k. k < suc m)
       more [] below = omega arith
       more (k ∷ ks) below = omega (arith, below)
+
       as_before : (o : Option ℕ) → IfSome o (λ k. k < m) → IfSome o (λ k. k < suc m)
       as_before None below = tt
       as_before (Some k) below = omega (arith, below)
+
       by_test : IfSome (first_of (not_below test m)) (λ k. k < m) → (b : Bool) → IfSome (first_of (if b then not_below test m else not_below test m ++ m ∷ [])) (λ k. k < suc m)
       by_test below true = as_before (first_of (not_below test m)) below
       by_test below false = more (not_below test m) below
@@ -69,7 +71,7 @@ module _ (test : ℕ → Bool) where
       by_place below (inl same) = (
         [],
         subst (λ j. not_below test (suc m) ≡ not_below test j ++ j ∷ [] ++ []) (sym same)
-        (ap (λ (b : Bool). if b then not_below test m else not_below test m ++ m ∷ []) (subst (λ j. test j ≡ false) same is) ∙ sym (append-nil (not_below test m ++ m ∷ []))),
+            (ap (λ (b : Bool). if b then not_below test m else not_below test m ++ m ∷ []) (subst (λ j. test j ≡ false) same is) ∙ sym (append-nil (not_below test m ++ m ∷ []))),
       )
       by_place below (inr less) = by_test (below less is) (test m)
         where

@@ -1,14 +1,13 @@
 -- Entries that may lie together, where they are gone through one after another.
-use Rattle.std.proofs.Common.{◌≡◌, ◌≢◌, ◌∙◌, ◌+◌, ◌<◌, ◌^◌, ℕ, List, [], ◌∷◌, ◌++◌, length, take, drop, get_or, map, sym, ap, subst, arith, append_assoc}
-use Rattle.std.specs.List.{All, flat_map}
-use Rattle.std.proofs.lemmas.List.{take_more, take-append-drop, flat_map_more, get_or-map, length-map}
+use Rattle.std.proofs.Common.{◌≡◌, ◌∙◌, ◌+◌, ◌<◌, ℕ, List, [], ◌∷◌, ◌++◌, length, take, drop, get_or, map, sym, ap, subst, arith, append_assoc}
+use Rattle.std.specs.List.{All}
+use Rattle.std.proofs.lemmas.List.{take_more, take-append-drop, flat_map_more, get_or-map}
 use Rattle.std.proofs.lemmas.List.Concat.{flat_map-append}
 use Rattle.std.proofs.lemmas.List.Elements.{Contains-append_left, All-push, All-take, All-drop}
 use Rattle.std.proofs.Math.Seq.{take-append_seam, drop-append_seam}
 use Rattle.std.proofs.lemmas.List.Sums.{sum_by-append}
-use Rattle.sled_codec.specs.declared.serialization.snapshot.PageState.{PageState}
-use Rattle.sled_codec.specs.Snapshots.{Entry, Page, Uninitialized, page_of}
-use Rattle.sled_core.specs.Begin.{slot_of, sizes_in, entries_in, entries_of, IsPlacedIn}
+use Rattle.sled_codec.specs.Snapshots.{Entry, Page}
+use Rattle.sled_core.specs.Begin.{sizes_in, entries_in, entries_of}
 use Rattle.sled_core.specs.Booked.{AreFit}
 
 -- one element more of a list, at the end

@@ -1,10 +1,10 @@
 -- A snapshot that a log can begin from: by its entries, and those with the active segment before them.
-use Rattle.std.proofs.Common.{◌≡◌, ◌≢◌, ◌↔◌, ◌==◌, ◌||◌, ◌∙◌, ◌+◌, ◌/◌, ◌^◌, ◌<◌, ◌⊎◌, inl, inr, ℕ, pos, Bool, true, false, if◌then◌else◌, List, [], ◌∷◌, ◌++◌, length, Option, Some, None, option_map, is_some, IfSome, refl, sym, ap, subst, arith}
+use Rattle.std.proofs.Common.{◌≡◌, ◌≢◌, ◌↔◌, ◌==◌, ◌||◌, ◌∙◌, ◌+◌, ◌/◌, ◌^◌, ◌<◌, inl, inr, ℕ, pos, Bool, true, false, if◌then◌else◌, List, [], ◌∷◌, ◌++◌, Option, Some, None, option_map, is_some, IfSome, refl, sym, ap, subst, arith}
 use Rattle.std.specs.List.{All, Contains, list_any}
 use Rattle.std.specs.Ordering.{nat_cmp}
 use Rattle.std.specs.BTreeMap.{get}
 use Rattle.std.proofs.lemmas.List.Elements.{Contains-append_left, Contains-append_right, Contains-push, All-contains, All-contains_itself}
-use Rattle.std.proofs.lemmas.List.Sums.{sum_by-append, sum_by-cons}
+use Rattle.std.proofs.lemmas.List.Sums.{sum_by-cons}
 use Rattle.sled_codec.specs.declared.result.DiskPtr.TheVariants.{Inline}
 use Rattle.sled_codec.specs.Snapshots.{Entry, Page, Uninitialized, Shot}
 use Rattle.sled_store.specs.SnapshotFiles.{is_sound, stable_place}
@@ -30,6 +30,7 @@ module _ (size : ℕ) where
     where
       only : (c : Entry) → Contains (e ∷ []) c → e ≡ c
       only c has = elim (head_or_tail e c [] has) [ inl is ↦ is | inr none ↦ absurd (let lt = none.1 in omega arith) ]
+
       by : (b : Bool) → (if b then e.2 else 0) < 2 ^ 63
       by true = small
       by false = omega arith
@@ -62,9 +63,9 @@ module _ (size : ℕ) where
         | inl is_d ↦ elim (head_or_tail first e es has_e) [
           | inl is_e ↦ (λ _. ap (number_of size) (sym is_d ∙ is_e), λ _. ap (slot_of size) (sym is_d ∙ is_e))
           | inr in_e ↦ (
-            let both = All-contains P es e beside in_e in
-            subst (λ (c : Entry). (slot_of size c ≡ slot_of size e) ↔ (number_of size c ≡ number_of size e)) is_d (λ same. sym (both.0 (sym same)), λ same. sym (both.1 (sym same)))
-          )
+              let both = All-contains P es e beside in_e in
+              subst (λ (c : Entry). (slot_of size c ≡ slot_of size e) ↔ (number_of size c ≡ number_of size e)) is_d (λ same. sym (both.0 (sym same)), λ same. sym (both.1 (sym same)))
+              )
         ]
         | inr in_d ↦ elim (head_or_tail first e es has_e) [
           | inl is_e ↦ subst (λ (c : Entry). (slot_of size d ≡ slot_of size c) ↔ (number_of size d ≡ number_of size c)) is_e (All-contains P es d beside in_d)
@@ -126,6 +127,7 @@ module _ (size : ℕ) where
       where
         active_moved : IfSome s.active (MayBeActive size slots stable) → IfSome s.active (MayBeActive size (slots_of size len) (stable_place s.stable))
         active_moved active = subst (λ n. IfSome s.active (MayBeActive size (slots_of size len) n)) stable_is (subst (λ n. IfSome s.active (MayBeActive size n stable)) slots_is active)
+
         fit_moved : AreFit size (active_entry stable s.active ++ entries_of pages) → AreFit size (active_entry (stable_place s.stable) s.active ++ entries_of s.pages)
         fit_moved fit = subst (λ (ps : List Page). AreFit size (active_entry (stable_place s.stable) s.active ++ entries_of ps)) pages_is (subst (λ n. AreFit size (active_entry n s.active ++ entries_of pages)) stable_is fit)
 

@@ -165,7 +165,9 @@ fn write_unused<D: Device, C: Checksum>(
         if book.has(slot) {
             continue;
         }
-        config.device.write_at(slot * config.config.segment_size, zeros)?;
+        config
+            .device
+            .write_at(slot * config.config.segment_size, zeros)?;
         first = first.or(Some(slot));
     }
     Ok(first)

@@ -1,11 +1,10 @@
-use Rattle.std.proofs.Common.{◌≡◌, ◌∙◌, ◌<◌, ◌∷◌, ℕ, Bool, List, length, Option, IfSome, is_some, ap, sym, subst}
+use Rattle.std.proofs.Common.{◌≡◌, ◌∙◌, ◌<◌, ℕ, Bool, List, length, Option, IfSome, is_some, ap, sym, subst}
 use Rattle.std.specs.Ordering.{nat_cmp}
 use Rattle.std.specs.BTreeMap.{get}
 use Rattle.sled_codec.specs.Snapshots.{Shot, shot_of}
 use Rattle.sled_store.specs.Device.{Event, Trace, state_of}
 use Rattle.sled_store.specs.SnapshotFiles.{stable_place}
 use Rattle.sled_store.specs.Script.{Performs, after_all}
-use Rattle.sled_core.specs.declared.begin.Beginning.{Beginning}
 use Rattle.sled_core.specs.Begin.{slots_of, is_used, not_below, unused, filling, beginning_at}
 use Rattle.sled_core.proofs.FillLemmas.{performs_nothing, same_below, first_below}
 use Rattle.sled_core.proofs.begin.begin.Goals as goal

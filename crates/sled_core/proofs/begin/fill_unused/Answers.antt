@@ -1,7 +1,6 @@
-use Rattle.std.proofs.Common.{◌≡◌, ◌∙◌, ℕ, Bool, List, map, Option, Some, None, is_some, ap, sym, subst, OnErr}
+use Rattle.std.proofs.Common.{◌≡◌, ℕ, List, Some, None, is_some}
 use Rattle.std.specs.Ordering.{nat_cmp}
 use Rattle.std.specs.BTreeMap.{get}
-use Rattle.sled_store.specs.Device.{Trace}
 use Rattle.sled_core.specs.Begin.{not_below, first_of}
 use Rattle.sled_core.proofs.FillLemmas.{performs_nothing, performs_after, nothing_filled, all_filled, sync_stopped, filling_stopped}
 use Rattle.sled_core.proofs.begin.fill_unused.Goals as goal

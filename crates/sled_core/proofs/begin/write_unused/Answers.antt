@@ -1,12 +1,11 @@
-use Rattle.std.proofs.Common.{◌≡◌, ◌∙◌, ◌+◌, ◌*◌, ◌<◌, ◌++◌, [], ◌∷◌, ℕ, Bool, true, false, List, map, Option, Some, is_some, ap, sym, subst, not, rules}
+use Rattle.std.proofs.Common.{◌≡◌, ◌∙◌, ◌+◌, ◌++◌, [], ◌∷◌, ℕ, Bool, false, List, map, Option, Some, is_some, ap, sym}
 use Rattle.std.specs.Option.{option_or}
 use Rattle.std.specs.Ordering.{nat_cmp}
 use Rattle.std.specs.BTreeMap.{get}
 use Rattle.sled_store.specs.declared.config.Config.{Config}
-use Rattle.sled_store.specs.Device.{Event, Trace, Wrote}
-use Rattle.sled_store.specs.Script.{Performs, after_all}
+use Rattle.sled_store.specs.Script.{after_all}
 use Rattle.sled_core.specs.Begin.{not_below, fill, first_of}
-use Rattle.sled_core.proofs.FillLemmas.{after_err, not_below_yes, not_below_no, first_push, filled_more, stopped_at, fill_is}
+use Rattle.sled_core.proofs.FillLemmas.{after_err, not_below_no, first_push, filled_more, stopped_at, fill_is}
 use Rattle.sled_core.proofs.begin.write_unused.Goals as goal
 
 pub returns-in_err-write_at-clause-failed : goal.returns-in_err-write_at-clause-failed

@@ -1,6 +1,5 @@
-use Rattle.std.proofs.Common.{◌≡◌, ◌<◌, ◌^◌, ◌++◌, [], ◌∷◌, ℕ, ℤ, List, Option, Some, pos, to_z, w64, sym, subst, rules, arith, OnOk}
+use Rattle.std.proofs.Common.{◌≡◌, [], ◌∷◌, ℕ, Option, pos, to_z, w64, sym, subst, rules, arith, OnOk}
 use Rattle.sled_codec.specs.declared.result.DiskPtr.TheVariants.{Inline}
-use Rattle.sled_codec.specs.Snapshots.{Entry}
 use Rattle.sled_core.specs.Booked.{IsBooked, active_entry}
 use Rattle.sled_core.proofs.StartLemmas.{fit_alone}
 use Rattle.sled_core.proofs.begin.book.Book.put_active.Goals as goal

@@ -1,8 +1,8 @@
-use Rattle.std.proofs.Common.{◌≡◌, ◌≢◌, ◌∙◌, ◌++◌, [], ◌∷◌, ℕ, ℤ, List, to_z, of_z, w64, rules, refl, ap, sym, subst, append_assoc, Result, Ok, Err, OnOk}
+use Rattle.std.proofs.Common.{◌≡◌, ◌∙◌, ◌++◌, [], ◌∷◌, ℕ, ℤ, List, to_z, of_z, w64, rules, ap, sym, subst, append_assoc, OnOk}
 use Rattle.std.specs.List.{All}
 use Rattle.std.proofs.lemmas.List.Elements.{All-head, All-tail}
 use Rattle.sled_codec.specs.declared.serialization.snapshot.PageState.{PageState}
-use Rattle.sled_codec.specs.Snapshots.{Entry, Uninitialized, page_of}
+use Rattle.sled_codec.specs.Snapshots.{Entry, page_of}
 use Rattle.sled_core.specs.Begin.{IsPlacedIn, entries_in}
 use Rattle.sled_core.specs.Booked.{IsBooked, AreFit}
 use Rattle.sled_core.proofs.FitLemmas.{fit_base}

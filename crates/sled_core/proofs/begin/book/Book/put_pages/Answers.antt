@@ -1,8 +1,7 @@
-use Rattle.std.proofs.Common.{◌≡◌, ◌≢◌, ◌∙◌, ◌+◌, ◌≤◌, ◌<◌, ◌++◌, [], ◌∷◌, ℕ, List, length, map, take, get_or, ap, sym, subst, arith, append_assoc, take_all}
+use Rattle.std.proofs.Common.{◌≡◌, ◌≢◌, ◌∙◌, ◌+◌, ◌<◌, ◌++◌, ℕ, List, length, map, take, get_or, ap, sym, subst, arith, append_assoc, take_all}
 use Rattle.std.proofs.lemmas.List.{length-map}
 use Rattle.std.proofs.lemmas.List.Elements.{All-append}
 use Rattle.std.specs.List.{All}
-use Rattle.sled_codec.specs.declared.serialization.snapshot.PageState.{PageState}
 use Rattle.sled_codec.specs.Snapshots.{Entry, Page, Uninitialized, page_of}
 use Rattle.sled_core.specs.Begin.{IsPlacedIn, entries_in, entries_of}
 use Rattle.sled_core.specs.Booked.{IsBooked}

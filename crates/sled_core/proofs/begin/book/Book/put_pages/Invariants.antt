@@ -1,5 +1,5 @@
 -- So far: the entries of the pages up to here are booked, and lie within the limits, and each of these pages was seen.
-use Rattle.std.proofs.Common.{◌≡◌, ◌≢◌, ◌++◌, List, take, map}
+use Rattle.std.proofs.Common.{◌≢◌, ◌++◌, List, take, map}
 use Rattle.std.specs.List.{All}
 use Rattle.sled_codec.specs.Snapshots.{Entry, Uninitialized, page_of}
 use Rattle.sled_core.specs.Begin.{IsPlacedIn, entries_of}
