@@ -4,6 +4,8 @@ pub mod Parts
 pub mod PathLemmas
 pub mod BegunLemmas
 pub mod CompletesLemmas
+pub mod FillLemmas
+pub mod FitLemmas
 pub mod FlushLemmas
 pub mod GivesLemmas
 pub mod Heads
@@ -12,3 +14,4 @@ pub mod Ranges
 pub mod ReadingLemmas
 pub mod ReserveLemmas
 pub mod ScanLemmas
+pub mod StartLemmas

@@ -1,7 +1,24 @@
 //! Where a log begins on a log file, from a snapshot (`specs/Begin.antt`).
-ghost use Rattle.std.specs.Prelude.{◌≡◌};
+ghost use Rattle.std.specs.Prelude.{◌≡◌, ◌+◌, ◌*◌, ◌^◌, ◌<◌, ℕ, List, length, map, replicate, is_some, IfSome, IfOk, IfErr, OnOk, OnErr};
+ghost use Rattle.std.specs.BTreeMap.{get};
+ghost use Rattle.std.specs.Ordering.{nat_cmp};
+ghost use Rattle.sled_codec.specs.Coords.{raised};
+ghost use Rattle.sled_codec.specs.Errors.{IsCorruption, IsDecodeError};
+ghost use Rattle.sled_codec.specs.Snapshots.{shot_of};
+ghost use Rattle.sled_store.specs.Device.{state_of};
+ghost use Rattle.sled_store.specs.Script.{Performs, after_all};
+ghost use Rattle.sled_store.specs.SnapshotFiles.{is_sound, stable_place};
+ghost use Rattle.sled_core.specs.Begin.{slots_of, is_used, IsStartable, not_below, fill, filling, first_of, IsInReach, beginning_at, beginning_of, unused};
+ghost use Rattle.sled_core.specs.Causes.{DeviceAnswers};
 
-pub(crate) mod book;
+mod book;
+
+use book::{Book, Limits};
+use sled_codec::result::{Error, Result};
+use sled_codec::serialization::Checksum;
+use sled_codec::serialization::snapshot::Snapshot;
+use sled_store::{Device, RunningConfig};
+use std::alloc::Global;
 
 /// Where a log begins.
 #[derive(Debug, Clone, Copy)]
@@ -12,4 +29,176 @@ pub(crate) struct Beginning {
     pub(crate) slot: u64,
     /// How much of the segment is there already.
     pub(crate) offset: u64,
+}
+
+/// Where a log begins on the log file, from a snapshot: behind the stable place in the active segment, or else
+/// a segment in the lowest slot that the snapshot does not use. First it fills all slots that are not used
+/// with zeros, in ascending order, and syncs the file where there is one.
+///
+/// `Corruption` comes where no log can begin from the snapshot, and nothing was written then. `Io` comes
+/// where the device failed, and `OutOfMemory` where memory was refused.
+pub(crate) fn begin<D: Device, C: Checksum>(
+    config: &mut RunningConfig<D, C>,
+    snapshot: &Snapshot,
+) -> Result<Beginning>
+    requires reach { IsInReach config.old.config.segment_size (length (state_of (D.trace config.old.device)).log.bytes) (shot_of snapshot.now) }
+    ensures startable { OnOk result (IsStartable config.old.config.segment_size (length (state_of (D.trace config.old.device)).log.bytes) (shot_of snapshot.now)) }
+    ensures corrupt { IsCorruption result → IsStartable config.old.config.segment_size (length (state_of (D.trace config.old.device)).log.bytes) (shot_of snapshot.now) → ⊥ }
+    ensures unwritten { IsCorruption result → D.trace config.new.device ≡ D.trace config.old.device }
+    ensures beginning { IfOk result (λ b. b ≡ beginning_of config.old.config.segment_size (length (state_of (D.trace config.old.device)).log.bytes) (shot_of snapshot.now)) }
+    ensures done { let size = config.old.config.segment_size in OnOk result (D.trace config.new.device ≡ after_all (filling size (unused size (slots_of size (length (state_of (D.trace config.old.device)).log.bytes)) (shot_of snapshot.now))) (D.trace config.old.device)) }
+    ensures calls { let size = config.old.config.segment_size in Performs (filling size (unused size (slots_of size (length (state_of (D.trace config.old.device)).log.bytes)) (shot_of snapshot.now))) (D.trace config.old.device) (D.trace config.new.device) }
+    ensures answers { DeviceAnswers result (D.faults config.old.device) (D.faults config.new.device) }
+    ensures config { config.new.config ≡ config.old.config }
+    ensures checksum { config.new.checksum ≡ config.old.checksum }
+{
+    let size = config.config.segment_size;
+    let len = config.device.len()?;
+    let book = match book_of(config.alloc(), size, len, snapshot) {
+        Ok(book) => book,
+        Err(e) => return Err(e),
+    };
+    let slots = slots_of(size, len);
+    match fill_unused(config, &book, slots) {
+        Ok(first) => Ok(beginning_at(size, slots, first, snapshot)),
+        Err(e) => Err(e),
+    }
+}
+
+/// Where a log begins, where this is the lowest of its slots that are not used.
+fn beginning_at(size: u64, slots: u64, first: Option<u64>, snapshot: &Snapshot) -> Beginning
+    requires some { 0 < size }
+    requires first { IfSome first (λ k. k < slots) }
+    requires slots { slots * size + size < 2 ^ 63 }
+    requires places { raised size (stable_place (shot_of snapshot.now).stable) + size < 2 ^ 63 }
+    ensures { (free : List ℕ) → first ≡ first_of free → result ≡ beginning_at size slots (stable_place (shot_of snapshot.now).stable) free (shot_of snapshot.now).active }
+{
+    let stable = stable_place(snapshot);
+    match snapshot.active_segment {
+        Some(slot) => Beginning {
+            place: stable / size * size,
+            slot,
+            offset: stable % size,
+        },
+        None => Beginning {
+            place: (stable + (size - 1)) / size * size,
+            slot: first.unwrap_or(slots) * size,
+            offset: 0,
+        },
+    }
+}
+
+/// Which slots of a file a snapshot uses. `Corruption` comes where no log can begin from it.
+fn book_of(alloc: Global, size: u64, len: u64, snapshot: &Snapshot) -> Result<Book>
+    requires some { 0 < size }
+    requires small { len + size < 2 ^ 64 }
+    ensures startable { OnOk result (IsStartable size len (shot_of snapshot.now)) }
+    ensures used { IfOk result (λ b. (k : ℕ) → is_some (get nat_cmp b.held k) ≡ is_used size (shot_of snapshot.now) k) }
+    ensures corrupt { IsCorruption result → IsStartable size len (shot_of snapshot.now) → ⊥ }
+    ensures errors { IfErr result IsDecodeError }
+{
+    if !is_sound(snapshot) {
+        return Err(Error::Corruption { at: None });
+    }
+    let limits = Limits {
+        size,
+        slots: slots_of(size, len),
+        stable: stable_place(snapshot),
+    };
+    let mut book = Book::new(alloc);
+    match book.put_active(limits, snapshot.active_segment) {
+        Ok(()) => {}
+        Err(e) => return Err(e),
+    }
+    match book.put_pages(limits, &snapshot.pt) {
+        Ok(()) => Ok(book),
+        Err(e) => Err(e),
+    }
+}
+
+/// Fills the slots of a file that are not in use with zeros, in ascending order, and then syncs it. Where
+/// there are none, it does nothing. Answers the lowest of them.
+fn fill_unused<D: Device, C: Checksum>(
+    config: &mut RunningConfig<D, C>,
+    book: &Book,
+    slots: u64,
+) -> Result<Option<u64>>
+    requires { slots * config.old.config.segment_size + config.old.config.segment_size < 2 ^ 63 }
+    ensures first { IfOk result (λ first. first ≡ first_of (not_below (λ k. is_some (get nat_cmp book.now.held k)) slots)) }
+    ensures done { OnOk result (D.trace config.new.device ≡ after_all (filling config.old.config.segment_size (not_below (λ k. is_some (get nat_cmp book.now.held k)) slots)) (D.trace config.old.device)) }
+    ensures calls { Performs (filling config.old.config.segment_size (not_below (λ k. is_some (get nat_cmp book.now.held k)) slots)) (D.trace config.old.device) (D.trace config.new.device) }
+    ensures answers { DeviceAnswers result (D.faults config.old.device) (D.faults config.new.device) }
+    ensures readable { IsCorruption result → ⊥ }
+    ensures config { config.new.config ≡ config.old.config }
+    ensures checksum { config.new.checksum ≡ config.old.checksum }
+{
+    let zeros = vec![in config.alloc(); 0; config.config.segment_size as usize]?;
+    match write_unused(config, book, slots, &zeros) {
+        Ok(Some(first)) => {
+            config.device.sync()?;
+            Ok(Some(first))
+        }
+        Ok(None) => Ok(None),
+        Err(e) => Err(e),
+    }
+}
+
+/// The same, but for the sync.
+fn write_unused<D: Device, C: Checksum>(
+    config: &mut RunningConfig<D, C>,
+    book: &Book,
+    slots: u64,
+    zeros: &[u8],
+) -> Result<Option<u64>>
+    requires zeros { zeros.now ≡ replicate config.old.config.segment_size 0 }
+    requires room { slots * config.old.config.segment_size + config.old.config.segment_size < 2 ^ 63 }
+    ensures first { IfOk result (λ first. first ≡ first_of (not_below (λ k. is_some (get nat_cmp book.now.held k)) slots)) }
+    ensures done { OnOk result (D.trace config.new.device ≡ after_all (map (fill config.old.config.segment_size) (not_below (λ k. is_some (get nat_cmp book.now.held k)) slots)) (D.trace config.old.device)) }
+    ensures failed { OnErr result (Performs (map (fill config.old.config.segment_size) (not_below (λ k. is_some (get nat_cmp book.now.held k)) slots)) (D.trace config.old.device) (D.trace config.new.device)) }
+    ensures answers { DeviceAnswers result (D.faults config.old.device) (D.faults config.new.device) }
+    ensures readable { IsCorruption result → ⊥ }
+    ensures config { config.new.config ≡ config.old.config }
+    ensures checksum { config.new.checksum ≡ config.old.checksum }
+{
+    let mut first = None;
+    for slot in 0..slots {
+        if book.has(slot) {
+            continue;
+        }
+        config
+            .device
+            .write_at(slot * config.config.segment_size, zeros)?;
+        first = first.or(Some(slot));
+    }
+    Ok(first)
+}
+
+/// How many slots a file has.
+fn slots_of(size: u64, len: u64) -> u64
+    requires some { 0 < size }
+    requires small { len + size < 2 ^ 64 }
+    ensures { result ≡ slots_of size len }
+{
+    (len + (size - 1)) / size
+}
+
+/// Whether it has a stable place that is not negative, or is the one of a log that was never begun.
+fn is_sound(snapshot: &Snapshot) -> bool
+    ensures { result ≡ is_sound (shot_of snapshot.now) }
+{
+    match snapshot.stable_lsn {
+        Some(place) => place >= 0,
+        None => snapshot.active_segment.is_none() && snapshot.pt.is_empty(),
+    }
+}
+
+/// The place that a snapshot ends with, 0 where there is none.
+fn stable_place(snapshot: &Snapshot) -> u64
+    ensures place { result ≡ stable_place (shot_of snapshot.now).stable }
+    ensures small { result < 2 ^ 63 }
+{
+    match snapshot.stable_lsn {
+        Some(place) => u64::try_from(place).unwrap_or(0),
+        None => 0,
+    }
 }

@@ -1,0 +1,4 @@
+use Rattle.sled_core.proofs.begin.book.Book.put.Goals as goal
+
+pub returns-clause-corrupt : goal.returns-clause-corrupt
+returns-clause-corrupt c = λ es booked corrupt _ fit. c.note.ensures.corrupt es booked corrupt fit
