@@ -156,10 +156,10 @@ module _ (size : ℕ) where
       by (Some n) b first known is = elim (eqb_tells n (number_of size x)) [
         | inl same_k ↦ (
           let taken : Some (sizes_in size (slot_of size x) es) ≡ Some s = subst (λ (t : Bool). (if t then Some (sizes_in size (slot_of size x) es) else None) ≡ Some s) same_k.0 is in
-          let same : s ≡ sizes_in size (slot_of size x) es = cc in
-          same,
+              let same : s ≡ sizes_in size (slot_of size x) es = cc in
+              same,
           let w = first_in (slot_of size x) es n first in
-          λ d has. (λ same. (apart d w.0 has w.1).0 (same ∙ sym w.2) ∙ w.3 ∙ same_k.1, λ same. (apart d w.0 has w.1).1 (same ∙ sym same_k.1 ∙ sym w.3) ∙ w.2),
+              λ d has. (λ same. (apart d w.0 has w.1).0 (same ∙ sym w.2) ∙ w.3 ∙ same_k.1, λ same. (apart d w.0 has w.1).1 (same ∙ sym same_k.1 ∙ sym w.3) ∙ w.2),
         )
         | inr other_k ↦ absurd (let none : None ≡ Some s = subst (λ (t : Bool). (if t then Some (sizes_in size (slot_of size x) es) else None) ≡ Some s) other_k.0 is in cc)
       ]
@@ -191,25 +191,28 @@ module _ (size : ℕ) where
   held_push b es x s new booked is beside put k = elim (eqb_tells (slot_of size x) k) [
     | inl same_k ↦ subst (λ j. get nat_cmp new j ≡ option_map (λ n. (n, sizes_in size j (es ++ x ∷ []))) (number_in size j (es ++ x ∷ []))) same_k.1 here
     | inr other_k ↦ (
-      let number : number_in size k (es ++ x ∷ []) ≡ number_in size k es = number_push k es x ∙ ap (λ (t : Bool). or_else (number_in size k es) (if t then Some (number_of size x) else None)) other_k.0 ∙ or_none (number_in size k es) in
-      let sizes : sizes_in size k (es ++ x ∷ []) ≡ sizes_in size k es = sizes_push k es x ∙ ap (λ (t : Bool). sizes_in size k es + (if t then x.2 else 0)) other_k.0 ∙ (let e : sizes_in size k es + 0 ≡ sizes_in size k es = omega arith in e) in
-      put k ∙ ap (λ (t : Bool). cond t (Some (number_of size x, s + x.2)) (get nat_cmp b.held k)) (at_other (slot_of size x) k other_k.1) ∙ booked.held k
-      ∙ ap (λ m. option_map (λ n. (n, m)) (number_in size k es)) (sym sizes) ∙ ap (λ (o : Option ℕ). option_map (λ n. (n, sizes_in size k (es ++ x ∷ []))) o) (sym number)
-    )
+        let number : number_in size k (es ++ x ∷ []) ≡ number_in size k es = number_push k es x ∙ ap (λ (t : Bool). or_else (number_in size k es) (if t then Some (number_of size x) else None)) other_k.0 ∙ or_none (number_in size k es) in
+        let sizes : sizes_in size k (es ++ x ∷ []) ≡ sizes_in size k es = sizes_push k es x ∙ ap (λ (t : Bool). sizes_in size k es + (if t then x.2 else 0)) other_k.0 ∙ (let e : sizes_in size k es + 0 ≡ sizes_in size k es = omega arith in e) in
+        put k ∙ ap (λ (t : Bool). cond t (Some (number_of size x, s + x.2)) (get nat_cmp b.held k)) (at_other (slot_of size x) k other_k.1) ∙ booked.held k
+        ∙ ap (λ m. option_map (λ n. (n, m)) (number_in size k es)) (sym sizes) ∙ ap (λ (o : Option ℕ). option_map (λ n. (n, sizes_in size k (es ++ x ∷ []))) o) (sym number)
+        )
   ]
     where
       or_none : (o : Option ℕ) → or_else o None ≡ o
       or_none (Some n) = refl
       or_none None = refl
+
       at_x : number_in size (slot_of size x) (es ++ x ∷ []) ≡ Some (number_of size x)
       at_x = number_push (slot_of size x) es x ∙ ap (λ (t : Bool). or_else (number_in size (slot_of size x) es) (if t then Some (number_of size x) else None)) (same_number (slot_of size x)) ∙ by (number_in size (slot_of size x) es) refl
         where
           by : (o : Option ℕ) → number_in size (slot_of size x) es ≡ o → or_else o (Some (number_of size x)) ≡ Some (number_of size x)
           by None none = refl
           by (Some n) first = let w = first_in (slot_of size x) es n first in ap (λ (m : ℕ). Some m) (sym w.3 ∙ (beside w.0 w.1).0 w.2)
+
       sizes_at_x : sizes_in size (slot_of size x) (es ++ x ∷ []) ≡ s + x.2
       sizes_at_x =
           sizes_push (slot_of size x) es x ∙ ap (λ (t : Bool). sizes_in size (slot_of size x) es + (if t then x.2 else 0)) (same_number (slot_of size x)) ∙ ap (λ (n : ℕ). n + x.2) (sym is)
+
       here : get nat_cmp new (slot_of size x) ≡ option_map (λ n. (n, sizes_in size (slot_of size x) (es ++ x ∷ []))) (number_in size (slot_of size x) (es ++ x ∷ []))
       here =
           put (slot_of size x)
@@ -224,26 +227,26 @@ module _ (size : ℕ) where
       put n ∙ ap (λ (t : Bool). cond (is_at (nat_cmp (number_of size x)) n) true t) (booked.numbers n)
       ∙ elim (eqb_tells (number_of size x) n) as (λ _. cond (is_at (nat_cmp (number_of size x)) n) true (list_any (λ e. number_of size e == n) es) ≡ list_any (λ e. number_of size e == n) (es ++ x ∷ [])) [
         | inl same_n ↦ (
-          ap (λ (t : Bool). cond t true (list_any (λ e. number_of size e == n) es)) (subst (λ (m : ℕ). is_at (nat_cmp (number_of size x)) m ≡ true) same_n.1 (at_self (number_of size x)))
-          ∙ sym (list_any-append (λ (e : Entry). number_of size e == n) es (x ∷ []) ∙ ap (λ (t : Bool). list_any (λ (e : Entry). number_of size e == n) es || (t || false)) same_n.0 ∙ or_true (list_any (λ (e : Entry). number_of size e == n) es))
-        )
+            ap (λ (t : Bool). cond t true (list_any (λ e. number_of size e == n) es)) (subst (λ (m : ℕ). is_at (nat_cmp (number_of size x)) m ≡ true) same_n.1 (at_self (number_of size x)))
+            ∙ sym (list_any-append (λ (e : Entry). number_of size e == n) es (x ∷ []) ∙ ap (λ (t : Bool). list_any (λ (e : Entry). number_of size e == n) es || (t || false)) same_n.0 ∙ or_true (list_any (λ (e : Entry). number_of size e == n) es))
+            )
         | inr other_n ↦ (
-          ap (λ (t : Bool). cond t true (list_any (λ e. number_of size e == n) es)) (at_other (number_of size x) n other_n.1)
-          ∙ sym (list_any-append (λ (e : Entry). number_of size e == n) es (x ∷ []) ∙ ap (λ (t : Bool). list_any (λ (e : Entry). number_of size e == n) es || (t || false)) other_n.0 ∙ or_false (list_any (λ (e : Entry). number_of size e == n) es))
-        )
+            ap (λ (t : Bool). cond t true (list_any (λ e. number_of size e == n) es)) (at_other (number_of size x) n other_n.1)
+            ∙ sym (list_any-append (λ (e : Entry). number_of size e == n) es (x ∷ []) ∙ ap (λ (t : Bool). list_any (λ (e : Entry). number_of size e == n) es || (t || false)) other_n.0 ∙ or_false (list_any (λ (e : Entry). number_of size e == n) es))
+            )
       ]
 
   counted_push : (es : List Entry) (x : Entry) (s : ℕ) → AreFit size es → s ≡ sizes_in size (slot_of size x) es → s + x.2 < 2 ^ 63 → (k : ℕ) → sizes_in size k (es ++ x ∷ []) < 2 ^ 63
   counted_push es x s fit is small k = elim (eqb_tells (slot_of size x) k) [
     | inl same_k ↦ (
-      let sum : sizes_in size k (es ++ x ∷ []) ≡ sizes_in size k es + x.2 = sizes_push k es x ∙ ap (λ (t : Bool). sizes_in size k es + (if t then x.2 else 0)) same_k.0 in
-      let at : s ≡ sizes_in size k es = is ∙ ap (λ (j : ℕ). sizes_in size j es) same_k.1 in
-      omega (arith, sum, at, small)
-    )
+        let sum : sizes_in size k (es ++ x ∷ []) ≡ sizes_in size k es + x.2 = sizes_push k es x ∙ ap (λ (t : Bool). sizes_in size k es + (if t then x.2 else 0)) same_k.0 in
+        let at : s ≡ sizes_in size k es = is ∙ ap (λ (j : ℕ). sizes_in size j es) same_k.1 in
+        omega (arith, sum, at, small)
+        )
     | inr other_k ↦ (
-      let sum : sizes_in size k (es ++ x ∷ []) ≡ sizes_in size k es + 0 = sizes_push k es x ∙ ap (λ (t : Bool). sizes_in size k es + (if t then x.2 else 0)) other_k.0 in
-      omega (arith, sum, fit.counted k)
-    )
+        let sum : sizes_in size k (es ++ x ∷ []) ≡ sizes_in size k es + 0 = sizes_push k es x ∙ ap (λ (t : Bool). sizes_in size k es + (if t then x.2 else 0)) other_k.0 in
+        omega (arith, sum, fit.counted k)
+        )
   ]
 
   -- one more entry that lies beside the others

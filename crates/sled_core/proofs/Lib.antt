@@ -3,6 +3,7 @@ pub mod BookLemmas
 pub mod Parts
 pub mod BegunLemmas
 pub mod CompletesLemmas
+pub mod FillLemmas
 pub mod FlushLemmas
 pub mod GivesLemmas
 pub mod Heads

@@ -88,7 +88,7 @@ module _ (sum : List ℕ → ℕ) (size : ℕ) (old : List ℕ) (at : ℕ) (xs :
   elsewhere_kept site m begins ends s = record {
     lid = s.lid;
     pointer = s.pointer;
-    stands = message_kept s.lid (m.place / size) m (elim s.apart [ | inl below ↦ inl (omega (arith, below, begins)) | inr above ↦ inr (omega (arith, above, ends)) ]) s.stands;
+    stands = message_kept s.lid (m.place / size) m (elim s.apart [ inl below ↦ inl (omega (arith, below, begins)) | inr above ↦ inr (omega (arith, above, ends)) ]) s.stands;
     apart = s.apart;
     below = s.below;
   }

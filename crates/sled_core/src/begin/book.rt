@@ -53,7 +53,9 @@ impl Limits {
 pub(crate) fn may_begin(offset: u64, size: u64) -> bool
     ensures { IsTrue result ↔ ((20 ≤ offset) × (offset ≤ size - 32)) }
 {
-    offset >= SEG_HEADER_LEN as u64 && size >= MAX_MSG_HEADER_LEN as u64 && offset <= size - MAX_MSG_HEADER_LEN as u64
+    offset >= SEG_HEADER_LEN as u64
+        && size >= MAX_MSG_HEADER_LEN as u64
+        && offset <= size - MAX_MSG_HEADER_LEN as u64
 }
 
 /// Which slots are in use, and by which segments.
@@ -89,13 +91,7 @@ impl Book {
         ensures { result ≡ sum_in (get nat_cmp self.now.held slot) (contains nat_cmp self.now.numbers number) number }
     {
         match self.held.get(&slot) {
-            Some(&(segment, sum)) => {
-                if segment == number {
-                    Some(sum)
-                } else {
-                    None
-                }
-            }
+            Some(&(segment, sum)) => { if segment == number { Some(sum) } else { None } }
             None => {
                 if self.numbers.contains(&number) {
                     None
