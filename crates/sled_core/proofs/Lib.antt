@@ -10,5 +10,6 @@ pub mod Heads
 pub mod HoldsLemmas
 pub mod Ranges
 pub mod ReadingLemmas
+pub mod ReadyLemmas
 pub mod ReserveLemmas
 pub mod ScanLemmas
