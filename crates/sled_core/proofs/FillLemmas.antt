@@ -1,17 +1,18 @@
 -- A log file whose slots are filled with zeros, one after another: how long it gets, which bytes stay, and which are zeros.
-use Rattle.std.proofs.Common.{◌≡◌, ◌≢◌, ◌⊎◌, ◌≤◌, ◌<◌, ◌+◌, ◌-◌, ◌*◌, ◌/◌, ◌∙◌, ℕ, zero, suc, max, List, [], ◌∷◌, ◌++◌, length, take, drop, replicate, map, get_or, refl, sym, ap, subst, arith, append_assoc, inl, inr, length-append, length-take}
+use Rattle.std.proofs.Common.{◌≡◌, ◌≢◌, ◌⊎◌, ◌≤◌, ◌<◌, ◌+◌, ◌-◌, ◌*◌, ◌∙◌, ℕ, zero, suc, max, List, [], ◌∷◌, ◌++◌, length, take, drop, replicate, map, get_or, refl, sym, ap, subst, arith, inl, inr, length-append, length-take, Bool, true, false, if◌then◌else◌}
 use Rattle.std.specs.List.{All, Contains}
+use Rattle.std.proofs.lemmas.List.Elements.{All-push, Contains-push, Contains-append_left}
 use Rattle.std.proofs.Math.Nat.{mul-le-mul_right, div-mul-le_self, lt-div-mul-add}
 use Rattle.std.proofs.lemmas.Bool.{cases_lt}
 use Rattle.std.proofs.lemmas.Bool.Decides.{eqb_tells}
 use Rattle.std.proofs.lemmas.List.{length-replicate, get_or-replicate, get_or-take, get_or-drop}
 use Rattle.std.proofs.lemmas.Slice.{drop-append-drop}
 use Rattle.sled_codec.specs.Places.{part}
-use Rattle.sled_store.specs.Device.{Trace, State, LogState, NamesState, state_of, at_rest, overwritten, end_of, Synced}
+use Rattle.sled_store.specs.Device.{Trace, LogState, state_of, at_rest, overwritten, end_of, Synced}
 use Rattle.sled_store.specs.Script.{after_all}
 use Rattle.sled_store.proofs.OverwrittenLemmas.{length-overwritten, overwritten-part, overwritten-below, overwritten-above}
 use Rattle.sled_store.proofs.LogLemmas.{part_written}
-use Rattle.sled_core.specs.Begin.{slots_of, fill, filling}
+use Rattle.sled_core.specs.Begin.{slots_of, fill, filling, not_below, first_or}
 use Rattle.sled_core.proofs.Ranges.{others}
 
 -- the bytes of a file, with these slots filled with zeros
@@ -33,7 +34,7 @@ fills_blobs : (size : ℕ) (ks : List ℕ) (t : Trace) → (state_of (after_all 
 fills_blobs size [] t = refl
 fills_blobs size (k ∷ ks) t = fills_blobs size ks (fill size k ∷ t)
 
--- where something is filled, all is settled
+-- where something was filled, all is settled
 pub filling-settles : (size k : ℕ) (ks : List ℕ) (t : Trace) → (state_of (after_all (filling size (k ∷ ks)) t)).log ≡ at_rest (filled size (state_of t).log.bytes (k ∷ ks))
 filling-settles size k ks t = fills size (k ∷ ks) t
 
@@ -46,6 +47,7 @@ pub filling-log : (size : ℕ) (ks : List ℕ) (t : Trace) (log : List ℕ) → 
 filling-log size [] t log is = is
 filling-log size (k ∷ ks) t log is = fills size (k ∷ ks) t ∙ ap (λ (s : LogState). at_rest (filled size s.bytes (k ∷ ks))) is
 
+-- snapshots and blobs stay
 pub filling-snapshots : (size : ℕ) (ks : List ℕ) (t : Trace) → (state_of (after_all (filling size ks) t)).snapshots ≡ (state_of t).snapshots
 filling-snapshots size [] t = refl
 filling-snapshots size (k ∷ ks) t = fills_snapshots size (k ∷ ks) t
@@ -197,9 +199,42 @@ module _ (size : ℕ) (some : 0 < size) where
   -- Slots are filled that are slots of the file.
 
   module _ (log ks : List ℕ) (slots : All (λ k. k < slots_of size (length log)) ks) where
+    -- each begins in the file
     pub all_begin : All (λ k. k * size < length log) ks
     all_begin = λ k d lt. begins_in size (length log) (get_or ks k d) some (slots k d lt)
 
     -- the file is not longer than its slots
     pub filled_covered : length (filled size log ks) ≤ slots_of size (length log) * size
     filled_covered = filled_ends (slots_of size (length log) * size) ks log (slots_cover size (length log) some) (λ k d lt. slot_before size (get_or ks k d) (slots_of size (length log)) (slots k d lt))
+
+-- Numbers at which a test is false.
+
+module _ (test : ℕ → Bool) where
+  -- each of those that are listed is one
+  pub free_below : (n : ℕ) → All (λ k. (k < n) × (test k ≡ false)) (not_below test n)
+  free_below zero = λ k d lt. absurd (omega (arith, lt))
+  free_below (suc n) = by (λ k d lt. let r = free_below n k d lt in (omega (arith, r.0), r.1)) (test n) refl
+    where
+      by : All (λ k. (k < suc n) × (test k ≡ false)) (not_below test n) → (b : Bool) → test n ≡ b → All (λ k. (k < suc n) × (test k ≡ false)) (if b then not_below test n else not_below test n ++ n ∷ [])
+      by more true is = more
+      by more false is = All-push (λ k. (k < suc n) × (test k ≡ false)) (not_below test n) n more (omega arith, is)
+
+  -- and each one is listed
+  pub free_has : (n k : ℕ) → k < n → test k ≡ false → Contains (not_below test n) k
+  free_has zero k less free = absurd (omega (arith, less))
+  free_has (suc n) k less free = by (λ lower. free_has n k lower free) (test n) refl
+    where
+      by : (k < n → Contains (not_below test n) k) → (b : Bool) → test n ≡ b → Contains (if b then not_below test n else not_below test n ++ n ∷ []) k
+      by rest true is = elim (cases_lt k n) [
+        | inl lower ↦ rest lower
+        | inr last ↦ (let same : n ≡ k = omega (arith, last, less) in let both : true ≡ false = sym is ∙ ap test same ∙ free in cc)
+      ]
+      by rest false is = elim (cases_lt k n) [
+        | inl lower ↦ Contains-append_left (not_below test n) (n ∷ []) k (rest lower)
+        | inr last ↦ (let same : n ≡ k = omega (arith, last, less) in subst (λ (x : ℕ). Contains (not_below test n ++ n ∷ []) x) same (Contains-push (not_below test n) n))
+      ]
+
+-- the first number of a list is in it, where there is one
+pub first_there : (n : ℕ) (ks : List ℕ) → Contains ks (first_or n ks) ⊎ (first_or n ks ≡ n)
+first_there n [] = inr refl
+first_there n (k ∷ ks) = inl (0, omega arith, refl)

@@ -13,3 +13,4 @@ pub mod ReadingLemmas
 pub mod ReadyLemmas
 pub mod ReserveLemmas
 pub mod ScanLemmas
+pub mod UsedLemmas
