@@ -1,5 +1,4 @@
-use Rattle.std.proofs.Common.{◌≡◌, ◌+◌, ◌/◌, ◌≤◌, ◌<◌, ◌^◌, ◌∙◌, ℕ, ℤ, sym, ap, rules, arith, unsigned_abs, to_z, of_z, w64}
-use Rattle.sled_codec.specs.Snapshots.{Entry}
+use Rattle.std.proofs.Common.{◌≡◌, ◌+◌, ◌/◌, ◌≤◌, ◌<◌, ◌^◌, ◌∙◌, ℕ, sym, ap, rules, arith, unsigned_abs, to_z, of_z, w64}
 use Rattle.sled_core.specs.Begin.{slot_of, number_of}
 use Rattle.sled_core.proofs.BookLemmas.{booked_at, place_unfit, size_unfit}
 use Rattle.sled_core.proofs.begin.book.Book.note.Goals as goal
