@@ -1,8 +1,6 @@
 -- A message that is completed leaves the table below the newest snapshot's place as it was.
-use Rattle.std.proofs.Common.{◌≡◌, ◌≤◌, ◌<◌, ◌+◌, ◌∙◌, ℕ, ℤ, List, ◌∷◌, ◌++◌, sym, ap, subst, arith, Option, inl, inr}
-use Rattle.std.specs.List.{Contains}
-use Rattle.std.proofs.lemmas.List.Elements.{Contains-append_cases}
-use Rattle.sled_codec.specs.History.{Message, History, Batch, CutFits, AddsMessage}
+use Rattle.std.proofs.Common.{◌≤◌, ◌+◌, ℕ, ℤ, List, arith, Option}
+use Rattle.sled_codec.specs.History.{Message, History, AddsMessage}
 use Rattle.sled_codec.proofs.Histories.{table-adds, fits-adds}
 use Rattle.sled_store.specs.SnapshotFiles.{stable_place}
 use Rattle.sled_core.specs.declared.iobuf.Site.{Site}

@@ -1,5 +1,5 @@
 -- Where the record of a message stands, what is read is that message.
-use Rattle.std.proofs.Common.{◌≡◌, ◌≢◌, ◌≤◌, ◌<◌, ◌+◌, ◌/◌, ◌%◌, ℕ, List, [], ◌∷◌, length, sym, ◌∙◌, ap, arith, refl, subst, true, false, Bool, if◌then◌else◌, ◌==◌, Option, None, Some, max, inl, inr}
+use Rattle.std.proofs.Common.{◌≡◌, ◌≤◌, ◌<◌, ◌+◌, ◌/◌, ◌%◌, ℕ, List, [], ◌∷◌, length, sym, ◌∙◌, ap, arith, refl, subst, true, false, Bool, if◌then◌else◌, ◌==◌, None, Some, max, inl, inr}
 use Rattle.std.specs.List.{All, Contains}
 use Rattle.std.proofs.lemmas.List.Elements.{Contains-append_cases}
 use Rattle.sled_codec.specs.declared.result.DiskPtr.TheVariants as ptr

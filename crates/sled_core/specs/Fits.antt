@@ -1,5 +1,5 @@
 -- What a log has to do with the history of what was completed, and with its device. It has one current segment, whose buffer has all of what is not written.
-use Rattle.std.specs.Prelude.{◌≡◌, ◌+◌, ◌-◌, ◌*◌, ◌/◌, ◌%◌, ◌^◌, ◌≤◌, ◌<◌, ◌-ℤ◌, ℕ, ℤ, pos, max, true, List, [], ◌∷◌, ◌++◌, length, take, All, Option, None, Some, slice_get}
+use Rattle.std.specs.Prelude.{◌≡◌, ◌+◌, ◌-◌, ◌*◌, ◌/◌, ◌%◌, ◌^◌, ◌≤◌, ◌<◌, ◌-ℤ◌, ℕ, ℤ, pos, max, true, List, [], ◌++◌, length, take, All, Option, None, Some, slice_get}
 use Rattle.std.specs.declared.io.Error.{Error as IoError}
 use Rattle.sled_codec.specs.declared.result.DiskPtr.TheVariants.{Inline}
 use Rattle.sled_codec.specs.declared.serialization.message.LogKind.{LogKind}

@@ -1,5 +1,5 @@
 -- What a recovery leaves, for a log to go on from: a snapshot and a device that hold a history.
-use Rattle.std.specs.Prelude.{◌≡◌, ◌+◌, ◌*◌, ◌/◌, ◌%◌, ◌≤◌, ◌<◌, ℕ, true, false, List, [], ◌++◌, Option, Some, None}
+use Rattle.std.specs.Prelude.{◌≡◌, ◌+◌, ◌*◌, ◌/◌, ◌%◌, ◌≤◌, ◌<◌, ℕ, true, false, List, [], Option, Some, None}
 use Rattle.std.specs.List.{All}
 use Rattle.sled_codec.specs.declared.result.DiskPtr.TheVariants.{Inline}
 use Rattle.sled_codec.specs.History.{Message, History}
@@ -10,7 +10,7 @@ use Rattle.sled_store.specs.SnapshotFiles.{BeginsFrom, stable_place}
 use Rattle.sled_core.specs.declared.iobuf.Site.{Site}
 use Rattle.sled_core.specs.declared.met.Segment.{Segment}
 use Rattle.sled_core.specs.Begin.{is_used}
-use Rattle.sled_core.specs.LogFile.{MessageStands, StandsElsewhere, IsLogFile}
+use Rattle.sled_core.specs.LogFile.{MessageStands, IsLogFile}
 use Rattle.sled_core.specs.Scan.{IsFoundSegment}
 
 -- the record of a message stands at its pointer, in a slot that the snapshot uses

@@ -1,9 +1,8 @@
-use Rattle.std.proofs.Common.{◌≡◌, ◌∙◌, ◌+◌, ◌<◌, ◌/◌, ap, sym, subst, refl, ℕ, List, length, arith, inr, Option}
+use Rattle.std.proofs.Common.{◌≡◌, ◌∙◌, ◌+◌, ◌<◌, ◌/◌, ap, sym, subst, refl, ℕ, List, arith, inr, Option}
 use Rattle.std.specs.Int.{w64}
 use Rattle.std.specs.Prelude.{unsigned_abs}
 use Rattle.std.specs.declared.io.Error.{Error as IoError}
 use Rattle.std.proofs.lemmas.Int.{to_z-of_z}
-use Rattle.std.proofs.Math.Nat.{div-eq_of_lt}
 use Rattle.sled_codec.specs.Pointers.{lid_of}
 use Rattle.sled_store.specs.Device.{State, Trace, state_of}
 use Rattle.sled_core.specs.Reading.{IsReading, IsMalformed, GivesMessage}
