@@ -2,6 +2,7 @@ pub mod BookLemmas
 pub mod Images
 pub mod Parts
 pub mod CompletesLemmas
+pub mod EntryLemmas
 pub mod FillLemmas
 pub mod FitLemmas
 pub mod FlushLemmas
