@@ -1,5 +1,5 @@
 -- What a book knows of the entries that it was given: what one more entry changes, and where it can't lie beside the others.
-use Rattle.std.proofs.Common.{◌≡◌, ◌≢◌, ◌↔◌, ◌==◌, ◌||◌, ◌∙◌, ◌+◌, ◌^◌, ◌<◌, ◌≤◌, ◌⊎◌, inl, inr, ℕ, Bool, true, false, if◌then◌else◌, cond, List, [], ◌∷◌, ◌++◌, Option, Some, None, option_map, refl, sym, ap, subst, arith}
+use Rattle.std.proofs.Common.{◌≡◌, ◌≢◌, ◌↔◌, ◌==◌, ◌||◌, ◌∙◌, ◌+◌, ◌^◌, ◌<◌, ◌≤◌, inl, inr, ℕ, Bool, true, false, if◌then◌else◌, cond, List, [], ◌∷◌, ◌++◌, Option, Some, None, option_map, refl, sym, ap, subst, arith}
 use Rattle.std.specs.List.{Contains, list_any}
 use Rattle.std.specs.Ordering.{nat_cmp}
 use Rattle.std.specs.BTreeMap.{BTreeMap, get, is_at}
@@ -8,13 +8,13 @@ use Rattle.std.proofs.lemmas.Bool.Decides.{eqb_tells}
 use Rattle.std.proofs.lemmas.Cmp.{nat_cmp_total, eq_by_cmp_equiv}
 use Rattle.std.proofs.lemmas.Map.Lookups.{exact_unsigned}
 use Rattle.std.proofs.lemmas.Map.Views.{tells_apart}
-use Rattle.std.proofs.lemmas.List.Elements.{Contains-append_left, Contains-append_right, Contains-append_cases, Contains-push, Contains-push_cases}
+use Rattle.std.proofs.lemmas.List.Elements.{Contains-append_left, Contains-push, Contains-push_cases}
 use Rattle.std.proofs.lemmas.List.Folds.{list_any-append}
-use Rattle.std.proofs.lemmas.List.Sums.{sum_by-append, sum_by-cons}
 use Rattle.sled_codec.specs.Snapshots.{Entry}
 use Rattle.sled_core.specs.declared.begin.book.Book.{Book}
 use Rattle.sled_core.specs.Begin.{slot_of, number_of, sizes_in, AreApart}
 use Rattle.sled_core.specs.Booked.{number_in, sum_in, AreFit, IsBooked}
+use Rattle.sled_core.proofs.EntryLemmas.{same_number, first_in, none_in, of_segment, none_of, sizes_push, no_sizes, or_else, number_push}
 
 -- A key of a map, and others.
 
@@ -36,92 +36,7 @@ at_other m n other = by (is_at (nat_cmp m) n) refl
     by true is = absurd (other (tells_apart exact_unsigned m n is))
     by false is = is
 
-same_number : (n : ℕ) → (n == n) ≡ true
-same_number n = elim (eqb_tells n n) [ inl same_n ↦ same_n.0 | inr other_n ↦ absurd (other_n.1 refl) ]
-
--- an element of a list is its first, or one of the others
-pub head_or_tail : {X : Type 0} (x y : X) (xs : List X) → Contains (x ∷ xs) y → (x ≡ y) ⊎ Contains xs y
-head_or_tail x y xs has = elim (Contains-append_cases (x ∷ []) xs y has) [
-  | inl first ↦ inl (elim (Contains-push_cases [] x y first) [ inl none ↦ absurd (let lt = none.1 in omega arith) | inr is ↦ is ])
-  | inr rest ↦ inr rest
-]
-
 module _ (size : ℕ) where
-  -- Which entries lie in a slot, and which are of a segment.
-
-  pub first_in : (k : ℕ) (es : List Entry) (n : ℕ) → number_in size k es ≡ Some n → (e : Entry) × Contains es e × (slot_of size e ≡ k) × (number_of size e ≡ n)
-  first_in k [] n is = absurd (let never : ⊥ = cc in never)
-  first_in k (e ∷ es) n is = by (first_in k es n) (slot_of size e == k) refl is
-    where
-      by : (number_in size k es ≡ Some n → (d : Entry) × Contains es d × (slot_of size d ≡ k) × (number_of size d ≡ n)) → (b : Bool) → (slot_of size e == k) ≡ b
-          → (if b then Some (number_of size e) else number_in size k es) ≡ Some n → (d : Entry) × Contains (e ∷ es) d × (slot_of size d ≡ k) × (number_of size d ≡ n)
-      by others true test found = (e, Contains-append_left (e ∷ []) es e (Contains-push [] e), elim (eqb_tells (slot_of size e) k) [ inl same_k ↦ same_k.1 | inr other_k ↦ absurd (let p = other_k.0 in cc) ], let same : number_of size e ≡ n = cc in same)
-      by others false test found =
-          let rest = others found in
-          (rest.0, Contains-append_right (e ∷ []) es rest.0 rest.1, rest.2, rest.3)
-
-  pub none_in : (k : ℕ) (es : List Entry) → number_in size k es ≡ None → (d : Entry) → Contains es d → slot_of size d ≡ k → ⊥
-  none_in k [] is d has at = let lt = has.1 in omega arith
-  none_in k (e ∷ es) is d has at = by (none_in k es) (slot_of size e == k) refl is
-    where
-      by : (number_in size k es ≡ None → (c : Entry) → Contains es c → slot_of size c ≡ k → ⊥) → (b : Bool) → (slot_of size e == k) ≡ b → (if b then Some (number_of size e) else number_in size k es) ≡ None → ⊥
-      by others true test none = cc
-      by others false test none = elim (head_or_tail e d es has) [
-        | inl same ↦ elim (eqb_tells (slot_of size e) k) [ inl same_k ↦ (let p = same_k.0 in cc) | inr other_k ↦ other_k.1 (ap (slot_of size) same ∙ at) ]
-        | inr rest ↦ others none d rest at
-      ]
-
-  pub of_segment : (n : ℕ) (es : List Entry) → list_any (λ e. number_of size e == n) es ≡ true → (e : Entry) × Contains es e × (number_of size e ≡ n)
-  of_segment n [] is = absurd (let never : ⊥ = cc in never)
-  of_segment n (e ∷ es) is = by (of_segment n es) (number_of size e == n) refl is
-    where
-      by : (list_any (λ d. number_of size d == n) es ≡ true → (d : Entry) × Contains es d × (number_of size d ≡ n)) → (b : Bool) → (number_of size e == n) ≡ b
-          → (b || list_any (λ d. number_of size d == n) es) ≡ true → (d : Entry) × Contains (e ∷ es) d × (number_of size d ≡ n)
-      by others true test found = (e, Contains-append_left (e ∷ []) es e (Contains-push [] e), elim (eqb_tells (number_of size e) n) [ inl same_k ↦ same_k.1 | inr other_k ↦ absurd (let p = other_k.0 in cc) ])
-      by others false test found =
-          let rest = others found in
-          (rest.0, Contains-append_right (e ∷ []) es rest.0 rest.1, rest.2)
-
-  pub none_of : (n : ℕ) (es : List Entry) → list_any (λ e. number_of size e == n) es ≡ false → (d : Entry) → Contains es d → number_of size d ≡ n → ⊥
-  none_of n [] is d has at = let lt = has.1 in omega arith
-  none_of n (e ∷ es) is d has at = by (none_of n es) (number_of size e == n) refl is
-    where
-      by : (list_any (λ c. number_of size c == n) es ≡ false → (c : Entry) → Contains es c → number_of size c ≡ n → ⊥) → (b : Bool) → (number_of size e == n) ≡ b → (b || list_any (λ c. number_of size c == n) es) ≡ false → ⊥
-      by others true test none = cc
-      by others false test none = elim (head_or_tail e d es has) [
-        | inl same ↦ elim (eqb_tells (number_of size e) n) [ inl same_k ↦ (let p = same_k.0 in cc) | inr other_k ↦ other_k.1 (ap (number_of size) same ∙ at) ]
-        | inr rest ↦ others none d rest at
-      ]
-
-  -- What one more entry adds.
-
-  pub sizes_push : (k : ℕ) (es : List Entry) (x : Entry) → sizes_in size k (es ++ x ∷ []) ≡ sizes_in size k es + (if slot_of size x == k then x.2 else 0)
-  sizes_push k es x =
-      let one : sizes_in size k (x ∷ []) ≡ (if slot_of size x == k then x.2 else 0) = let e = sum_by-cons (λ (e : Entry). if slot_of size e == k then e.2 else 0) x [] in omega (arith, e) in
-      sum_by-append (λ (e : Entry). if slot_of size e == k then e.2 else 0) es (x ∷ []) ∙ ap (λ n. sizes_in size k es + n) one
-
-  pub no_sizes : (k : ℕ) (es : List Entry) → number_in size k es ≡ None → sizes_in size k es ≡ 0
-  no_sizes k [] is = refl
-  no_sizes k (e ∷ es) is = sum_by-cons (λ (d : Entry). if slot_of size d == k then d.2 else 0) e es ∙ by (no_sizes k es) (slot_of size e == k) is
-    where
-      by : (number_in size k es ≡ None → sizes_in size k es ≡ 0) → (b : Bool) → (if b then Some (number_of size e) else number_in size k es) ≡ None → (if b then e.2 else 0) + sizes_in size k es ≡ 0
-      by others true none = absurd (let never : ⊥ = cc in never)
-      by others false none = let zero = others none in omega arith
-
-  -- the first of two, or the other where there is none
-  abbrev or_else : Option ℕ → Option ℕ → Option ℕ
-  or_else (Some n) o = Some n
-  or_else None o = o
-
-  number_push : (k : ℕ) (es : List Entry) (x : Entry) → number_in size k (es ++ x ∷ []) ≡ or_else (number_in size k es) (if slot_of size x == k then Some (number_of size x) else None)
-  number_push k [] x = refl
-  number_push k (e ∷ es) x = by (number_push k es x) (slot_of size e == k)
-    where
-      by : number_in size k (es ++ x ∷ []) ≡ or_else (number_in size k es) (if slot_of size x == k then Some (number_of size x) else None) → (b : Bool)
-          → (if b then Some (number_of size e) else number_in size k (es ++ x ∷ [])) ≡ or_else (if b then Some (number_of size e) else number_in size k es) (if slot_of size x == k then Some (number_of size x) else None)
-      by others true = refl
-      by others false = others
-
   -- An entry beside others.
 
   abbrev pub LiesBeside : List Entry → Entry → Type 0
@@ -153,20 +68,20 @@ module _ (size : ℕ) where
     where
       by : (o : Option ℕ) (b : Bool) → number_in size (slot_of size x) es ≡ o → list_any (λ e. number_of size e == number_of size x) es ≡ b
           → sum_in (option_map (λ n. (n, sizes_in size (slot_of size x) es)) o) b (number_of size x) ≡ Some s → (s ≡ sizes_in size (slot_of size x) es) × LiesBeside es x
-      by (Some n) b first known is = elim (eqb_tells n (number_of size x)) [
+      by (Some n) b first has is = elim (eqb_tells n (number_of size x)) [
         | inl same_k ↦ (
           let taken : Some (sizes_in size (slot_of size x) es) ≡ Some s = subst (λ (t : Bool). (if t then Some (sizes_in size (slot_of size x) es) else None) ≡ Some s) same_k.0 is in
               let same : s ≡ sizes_in size (slot_of size x) es = cc in
               same,
-          let w = first_in (slot_of size x) es n first in
+          let w = first_in size (slot_of size x) es n first in
               λ d has. (λ same. (apart d w.0 has w.1).0 (same ∙ sym w.2) ∙ w.3 ∙ same_k.1, λ same. (apart d w.0 has w.1).1 (same ∙ sym same_k.1 ∙ sym w.3) ∙ w.2),
         )
         | inr other_k ↦ absurd (let none : None ≡ Some s = subst (λ (t : Bool). (if t then Some (sizes_in size (slot_of size x) es) else None) ≡ Some s) other_k.0 is in cc)
       ]
-      by None true first known is = absurd (let never : ⊥ = cc in never)
-      by None false first known is = (
-        let zero : s ≡ 0 = cc in zero ∙ sym (no_sizes (slot_of size x) es first),
-        λ d has. (λ same. absurd (none_in (slot_of size x) es first d has same), λ same. absurd (none_of (number_of size x) es known d has same)),
+      by None true first has is = absurd (let never : ⊥ = cc in never)
+      by None false first has is = (
+        let zero : s ≡ 0 = cc in zero ∙ sym (no_sizes size (slot_of size x) es first),
+        λ d in_es. (λ same. absurd (none_in size (slot_of size x) es first d in_es same), λ same. absurd (none_of size (number_of size x) es has d in_es same)),
       )
 
   not_beside : (es : List Entry) (x : Entry) → found es x ≡ None → AreApart size (es ++ x ∷ []) → ⊥
@@ -174,14 +89,14 @@ module _ (size : ℕ) where
     where
       by : (o : Option ℕ) (b : Bool) → number_in size (slot_of size x) es ≡ o → list_any (λ e. number_of size e == number_of size x) es ≡ b
           → sum_in (option_map (λ n. (n, sizes_in size (slot_of size x) es)) o) b (number_of size x) ≡ None → ⊥
-      by (Some n) b first known is = elim (eqb_tells n (number_of size x)) [
+      by (Some n) b first has is = elim (eqb_tells n (number_of size x)) [
         | inl same_k ↦ (let taken : Some (sizes_in size (slot_of size x) es) ≡ None = subst (λ (t : Bool). (if t then Some (sizes_in size (slot_of size x) es) else None) ≡ None) same_k.0 is in cc)
-        | inr other_k ↦ (let w = first_in (slot_of size x) es n first in other_k.1 (sym w.3 ∙ (apart w.0 x (Contains-append_left es (x ∷ []) w.0 w.1) (Contains-push es x)).0 w.2))
+        | inr other_k ↦ (let w = first_in size (slot_of size x) es n first in other_k.1 (sym w.3 ∙ (apart w.0 x (Contains-append_left es (x ∷ []) w.0 w.1) (Contains-push es x)).0 w.2))
       ]
-      by None true first known is =
-          let w = of_segment (number_of size x) es known in
-          none_in (slot_of size x) es first w.0 w.1 ((apart w.0 x (Contains-append_left es (x ∷ []) w.0 w.1) (Contains-push es x)).1 w.2)
-      by None false first known is = cc
+      by None true first has is =
+          let w = of_segment size (number_of size x) es has in
+          none_in size (slot_of size x) es first w.0 w.1 ((apart w.0 x (Contains-append_left es (x ∷ []) w.0 w.1) (Contains-push es x)).1 w.2)
+      by None false first has is = cc
 
   -- The whole of a book.
 
@@ -191,8 +106,8 @@ module _ (size : ℕ) where
   held_push b es x s new booked is beside put k = elim (eqb_tells (slot_of size x) k) [
     | inl same_k ↦ subst (λ j. get nat_cmp new j ≡ option_map (λ n. (n, sizes_in size j (es ++ x ∷ []))) (number_in size j (es ++ x ∷ []))) same_k.1 here
     | inr other_k ↦ (
-        let number : number_in size k (es ++ x ∷ []) ≡ number_in size k es = number_push k es x ∙ ap (λ (t : Bool). or_else (number_in size k es) (if t then Some (number_of size x) else None)) other_k.0 ∙ or_none (number_in size k es) in
-        let sizes : sizes_in size k (es ++ x ∷ []) ≡ sizes_in size k es = sizes_push k es x ∙ ap (λ (t : Bool). sizes_in size k es + (if t then x.2 else 0)) other_k.0 ∙ (let e : sizes_in size k es + 0 ≡ sizes_in size k es = omega arith in e) in
+        let number : number_in size k (es ++ x ∷ []) ≡ number_in size k es = number_push size k es x ∙ ap (λ (t : Bool). or_else (number_in size k es) (if t then Some (number_of size x) else None)) other_k.0 ∙ or_none (number_in size k es) in
+        let sizes : sizes_in size k (es ++ x ∷ []) ≡ sizes_in size k es = sizes_push size k es x ∙ ap (λ (t : Bool). sizes_in size k es + (if t then x.2 else 0)) other_k.0 ∙ (let e : sizes_in size k es + 0 ≡ sizes_in size k es = omega arith in e) in
         put k ∙ ap (λ (t : Bool). cond t (Some (number_of size x, s + x.2)) (get nat_cmp b.held k)) (at_other (slot_of size x) k other_k.1) ∙ booked.held k
         ∙ ap (λ m. option_map (λ n. (n, m)) (number_in size k es)) (sym sizes) ∙ ap (λ (o : Option ℕ). option_map (λ n. (n, sizes_in size k (es ++ x ∷ []))) o) (sym number)
         )
@@ -203,15 +118,15 @@ module _ (size : ℕ) where
       or_none None = refl
 
       at_x : number_in size (slot_of size x) (es ++ x ∷ []) ≡ Some (number_of size x)
-      at_x = number_push (slot_of size x) es x ∙ ap (λ (t : Bool). or_else (number_in size (slot_of size x) es) (if t then Some (number_of size x) else None)) (same_number (slot_of size x)) ∙ by (number_in size (slot_of size x) es) refl
+      at_x = number_push size (slot_of size x) es x ∙ ap (λ (t : Bool). or_else (number_in size (slot_of size x) es) (if t then Some (number_of size x) else None)) (same_number (slot_of size x)) ∙ by (number_in size (slot_of size x) es) refl
         where
           by : (o : Option ℕ) → number_in size (slot_of size x) es ≡ o → or_else o (Some (number_of size x)) ≡ Some (number_of size x)
           by None none = refl
-          by (Some n) first = let w = first_in (slot_of size x) es n first in ap (λ (m : ℕ). Some m) (sym w.3 ∙ (beside w.0 w.1).0 w.2)
+          by (Some n) first = let w = first_in size (slot_of size x) es n first in ap (λ (m : ℕ). Some m) (sym w.3 ∙ (beside w.0 w.1).0 w.2)
 
       sizes_at_x : sizes_in size (slot_of size x) (es ++ x ∷ []) ≡ s + x.2
       sizes_at_x =
-          sizes_push (slot_of size x) es x ∙ ap (λ (t : Bool). sizes_in size (slot_of size x) es + (if t then x.2 else 0)) (same_number (slot_of size x)) ∙ ap (λ (n : ℕ). n + x.2) (sym is)
+          sizes_push size (slot_of size x) es x ∙ ap (λ (t : Bool). sizes_in size (slot_of size x) es + (if t then x.2 else 0)) (same_number (slot_of size x)) ∙ ap (λ (n : ℕ). n + x.2) (sym is)
 
       here : get nat_cmp new (slot_of size x) ≡ option_map (λ n. (n, sizes_in size (slot_of size x) (es ++ x ∷ []))) (number_in size (slot_of size x) (es ++ x ∷ []))
       here =
@@ -239,12 +154,12 @@ module _ (size : ℕ) where
   counted_push : (es : List Entry) (x : Entry) (s : ℕ) → AreFit size es → s ≡ sizes_in size (slot_of size x) es → s + x.2 < 2 ^ 63 → (k : ℕ) → sizes_in size k (es ++ x ∷ []) < 2 ^ 63
   counted_push es x s fit is small k = elim (eqb_tells (slot_of size x) k) [
     | inl same_k ↦ (
-        let sum : sizes_in size k (es ++ x ∷ []) ≡ sizes_in size k es + x.2 = sizes_push k es x ∙ ap (λ (t : Bool). sizes_in size k es + (if t then x.2 else 0)) same_k.0 in
+        let sum : sizes_in size k (es ++ x ∷ []) ≡ sizes_in size k es + x.2 = sizes_push size k es x ∙ ap (λ (t : Bool). sizes_in size k es + (if t then x.2 else 0)) same_k.0 in
         let at : s ≡ sizes_in size k es = is ∙ ap (λ (j : ℕ). sizes_in size j es) same_k.1 in
         omega (arith, sum, at, small)
         )
     | inr other_k ↦ (
-        let sum : sizes_in size k (es ++ x ∷ []) ≡ sizes_in size k es + 0 = sizes_push k es x ∙ ap (λ (t : Bool). sizes_in size k es + (if t then x.2 else 0)) other_k.0 in
+        let sum : sizes_in size k (es ++ x ∷ []) ≡ sizes_in size k es + 0 = sizes_push size k es x ∙ ap (λ (t : Bool). sizes_in size k es + (if t then x.2 else 0)) other_k.0 in
         omega (arith, sum, fit.counted k)
         )
   ]
@@ -274,7 +189,7 @@ module _ (size : ℕ) where
   unfit_size b es x s booked is large fit =
       let beside = lies_beside es x s booked.fit.apart (sym (known b es x booked) ∙ is) in
       let sum : sizes_in size (slot_of size x) (es ++ x ∷ []) ≡ sizes_in size (slot_of size x) es + x.2 =
-      sizes_push (slot_of size x) es x ∙ ap (λ (t : Bool). sizes_in size (slot_of size x) es + (if t then x.2 else 0)) (same_number (slot_of size x)) in
+      sizes_push size (slot_of size x) es x ∙ ap (λ (t : Bool). sizes_in size (slot_of size x) es + (if t then x.2 else 0)) (same_number (slot_of size x)) in
       omega (arith, sum, beside.0, large, fit.counted (slot_of size x))
 
   -- The same, where the slot and the number are given by themselves.

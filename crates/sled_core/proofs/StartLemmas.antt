@@ -11,7 +11,7 @@ use Rattle.sled_store.specs.SnapshotFiles.{is_sound, stable_place}
 use Rattle.sled_core.specs.declared.begin.book.Book.{Book}
 use Rattle.sled_core.specs.Begin.{slot_of, number_of, slots_of, sizes_in, entries_of, AreApart, IsPlacedIn, MayBeActive, IsStartable, is_active, is_used}
 use Rattle.sled_core.specs.Booked.{number_in, AreFit, IsBooked, active_entry}
-use Rattle.sled_core.proofs.BookLemmas.{head_or_tail}
+use Rattle.sled_core.proofs.EntryLemmas.{head_or_tail}
 
 module _ (size : ℕ) where
   -- one entry may lie alone
