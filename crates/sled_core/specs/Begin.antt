@@ -1,5 +1,5 @@
 -- Where a log begins on a log file, and what it asks of the snapshot that it begins from.
-use Rattle.std.specs.Prelude.{◌≡◌, ◌≢◌, ◌↔◌, ◌==◌, ◌||◌, ◌+◌, ◌-◌, ◌*◌, ◌/◌, ◌%◌, ◌^◌, ◌≤◌, ◌<◌, ◌≤ℤ◌, ℕ, zero, suc, pos, unsigned_abs, Bool, true, false, if◌then◌else◌, List, [], ◌∷◌, ◌++◌, map, replicate, Option, Some, None, IfSome, Contains}
+use Rattle.std.specs.Prelude.{◌≡◌, ◌≢◌, ◌↔◌, ◌==◌, ◌||◌, ◌+◌, ◌-◌, ◌*◌, ◌/◌, ◌%◌, ◌^◌, ◌≤◌, ◌<◌, ◌≤ℤ◌, ◌-ℤ◌, ℕ, zero, suc, pos, unsigned_abs, Bool, true, false, if◌then◌else◌, List, [], ◌∷◌, ◌++◌, length, map, replicate, Option, Some, None, IfSome, Contains}
 use Rattle.std.specs.List.{All, flat_map, list_any, sum_by}
 use Rattle.sled_codec.specs.Coords.{raised}
 use Rattle.sled_codec.specs.Places.{MayBegin}
@@ -7,6 +7,8 @@ use Rattle.sled_codec.specs.Pointers.{lid_of}
 use Rattle.sled_codec.specs.Snapshots.{Entry, Page, Present, Free, Uninitialized, Shot}
 use Rattle.sled_store.specs.Device.{Event, Wrote, Synced}
 use Rattle.sled_store.specs.SnapshotFiles.{is_sound, stable_place}
+use Rattle.sled_codec.specs.Record.{short_header}
+use Rattle.sled_core.specs.declared.iobuf.Buffer.{Buffer}
 use Rattle.sled_core.specs.declared.begin.Beginning.{Beginning}
 
 -- Entries, and where they lie.
@@ -120,7 +122,24 @@ beginning_at size slots stable free None = record { place = raised size stable; 
 abbrev pub beginning_of : ℕ → ℕ → Shot → Beginning
 beginning_of size len s = beginning_at size (slots_of size len) (stable_place s.stable) (unused size (slots_of size len) s) s.active
 
--- one more slot of the file, and the next segment of the log, end below 2^63
+-- the beginning, in the log, of the segment in which a log goes on
+abbrev pub place_at : ℕ → ℕ → Option ℕ → ℕ
+place_at size stable None = raised size stable
+place_at size stable (Some a) = stable / size * size
+
+-- one more slot of the file, and the segment in which the log goes on, end below 2^63
 pub record IsInReach (size len : ℕ) (s : Shot) : Type 0 where
   pub slots : slots_of size len * size + size < 2 ^ 63
-  pub places : raised size (stable_place s.stable) + size < 2 ^ 63
+  pub places : place_at size (stable_place s.stable) s.active + size < 2 ^ 63
+
+-- how much of that segment is there already
+abbrev pub offset_at : ℕ → ℕ → Option ℕ → ℕ
+offset_at size stable None = 0
+offset_at size stable (Some a) = stable % size
+
+-- The buffer of a segment of which so much is there: the header where nothing is there, whose mark is the place before it; else as many bytes as are there, which are written already.
+pub record IsFirstBuffer (sum : List ℕ → ℕ) (place offset : ℕ) (b : Buffer) : Type 0 where
+  pub header : offset ≡ 0 → b.bytes.items ≡ short_header sum (pos place) (pos place -ℤ pos 1)
+  pub resumed : 0 < offset → length b.bytes.items ≡ offset
+  pub from : b.from ≡ offset
+  pub reserved : b.reserved.items ≡ []

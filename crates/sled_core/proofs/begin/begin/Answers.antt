@@ -23,10 +23,13 @@ returns-in_err-len-clause-calls g c = none_made _ (g.D.Device.trace c.args.confi
 pub returns-in-Err-clause-calls : goal.returns-in-Err-clause-calls
 returns-in-Err-clause-calls g c = none_made _ (g.D.Device.trace c.args.config.now.device) (g.D.Device.trace c.len.new.self) c.len.ensures.trace
 
+pub returns-in-Err-first_buffer-clause-calls : goal.returns-in-Err-first_buffer-clause-calls
+returns-in-Err-first_buffer-clause-calls g c = none_made _ (g.D.Device.trace c.args.config.now.device) (g.D.Device.trace c.len.new.self) c.len.ensures.trace
+
 pub beginning_at-requires-clause-first : goal.beginning_at-requires-clause-first
 beginning_at-requires-clause-first g c =
-    let test : ℕ → Bool = λ k. is_some (get nat_cmp c.in-Ok.book.held k) in
-    subst (λ (o : Option ℕ). IfSome o (λ k. k < c.slots_of-slots.result)) (sym c.in-Ok-fill_unused.ensures.first) (first_below test c.slots_of-slots.result)
+    let test : ℕ → Bool = λ k. is_some (get nat_cmp c.in-Ok.survey.0.held k) in
+    subst (λ (o : Option ℕ). IfSome o (λ k. k < c.in-Ok.survey.1)) (sym c.in-Ok-fill_unused.ensures.first) (first_below test c.in-Ok.survey.1)
 
 -- the slots that the book does not have are those that are not used
 free_is : (size slots told len : ℕ) (s : Shot) (test : ℕ → Bool) → slots ≡ slots_of size told → told ≡ len → ((k : ℕ) → test k ≡ is_used size s k) → not_below test slots ≡ unused size (slots_of size len) s
@@ -37,10 +40,10 @@ returns-in-Ok-fill_unused-clause-beginning g c =
     let size : ℕ = c.args.config.now.config.segment_size in
     let len : ℕ = length (state_of (g.D.Device.trace c.args.config.now.device)).log.bytes in
     let s : Shot = shot_of c.args.snapshot.now in
-    let test : ℕ → Bool = λ k. is_some (get nat_cmp c.in-Ok.book.held k) in
-    let same = free_is size c.slots_of-slots.result c.in_ok-len.len len s test c.slots_of-slots.ensures c.in_ok-len.ensures.len c.in-Ok.ensures.used in
-    let slots_is : c.slots_of-slots.result ≡ slots_of size len = c.slots_of-slots.ensures ∙ ap (slots_of size) c.in_ok-len.ensures.len in
-    c.beginning_at.ensures (not_below test c.slots_of-slots.result) c.in-Ok-fill_unused.ensures.first ∙ ap (λ n. beginning_at size n (stable_place s.stable) (not_below test c.slots_of-slots.result) s.active) slots_is
+    let test : ℕ → Bool = λ k. is_some (get nat_cmp c.in-Ok.survey.0.held k) in
+    let same = free_is size c.in-Ok.survey.1 c.in_ok-len.len len s test c.in-Ok.ensures.slots c.in_ok-len.ensures.len c.in-Ok.ensures.used in
+    let slots_is : c.in-Ok.survey.1 ≡ slots_of size len = c.in-Ok.ensures.slots ∙ ap (slots_of size) c.in_ok-len.ensures.len in
+    c.beginning_at.ensures (not_below test c.in-Ok.survey.1) c.in-Ok-fill_unused.ensures.first ∙ ap (λ n. beginning_at size n (stable_place s.stable) (not_below test c.in-Ok.survey.1) s.active) slots_is
     ∙ ap (λ (ks : List ℕ). beginning_at size (slots_of size len) (stable_place s.stable) ks s.active) same
 
 pub returns-in-Ok-fill_unused-clause-done : goal.returns-in-Ok-fill_unused-clause-done
@@ -49,8 +52,8 @@ returns-in-Ok-fill_unused-clause-done g c =
     let old : Trace = g.D.Device.trace c.args.config.now.device in
     let len : ℕ = length (state_of old).log.bytes in
     let s : Shot = shot_of c.args.snapshot.now in
-    let test : ℕ → Bool = λ k. is_some (get nat_cmp c.in-Ok.book.held k) in
-    let same = free_is size c.slots_of-slots.result c.in_ok-len.len len s test c.slots_of-slots.ensures c.in_ok-len.ensures.len c.in-Ok.ensures.used in
+    let test : ℕ → Bool = λ k. is_some (get nat_cmp c.in-Ok.survey.0.held k) in
+    let same = free_is size c.in-Ok.survey.1 c.in_ok-len.len len s test c.in-Ok.ensures.slots c.in_ok-len.ensures.len c.in-Ok.ensures.used in
     c.in-Ok-fill_unused.ensures.done ∙ ap (λ (ks : List ℕ). after_all (filling size ks) (g.D.Device.trace c.len.new.self)) same ∙ ap (after_all (filling size (unused size (slots_of size len) s))) c.len.ensures.trace
 
 pub returns-in-Ok-fill_unused-clause-calls : goal.returns-in-Ok-fill_unused-clause-calls
@@ -59,8 +62,8 @@ returns-in-Ok-fill_unused-clause-calls g c =
     let old : Trace = g.D.Device.trace c.args.config.now.device in
     let len : ℕ = length (state_of old).log.bytes in
     let s : Shot = shot_of c.args.snapshot.now in
-    let test : ℕ → Bool = λ k. is_some (get nat_cmp c.in-Ok.book.held k) in
-    let same = free_is size c.slots_of-slots.result c.in_ok-len.len len s test c.slots_of-slots.ensures c.in_ok-len.ensures.len c.in-Ok.ensures.used in
+    let test : ℕ → Bool = λ k. is_some (get nat_cmp c.in-Ok.survey.0.held k) in
+    let same = free_is size c.in-Ok.survey.1 c.in_ok-len.len len s test c.in-Ok.ensures.slots c.in_ok-len.ensures.len c.in-Ok.ensures.used in
     performs_as size _ _ _ old (g.D.Device.trace c.fill_unused.new.config.device) same c.len.ensures.trace c.fill_unused.ensures.calls
 
 pub returns-clause-calls : goal.returns-clause-calls
@@ -69,6 +72,6 @@ returns-clause-calls g c =
     let old : Trace = g.D.Device.trace c.args.config.now.device in
     let len : ℕ = length (state_of old).log.bytes in
     let s : Shot = shot_of c.args.snapshot.now in
-    let test : ℕ → Bool = λ k. is_some (get nat_cmp c.in-Ok.book.held k) in
-    let same = free_is size c.slots_of-slots.result c.in_ok-len.len len s test c.slots_of-slots.ensures c.in_ok-len.ensures.len c.in-Ok.ensures.used in
+    let test : ℕ → Bool = λ k. is_some (get nat_cmp c.in-Ok.survey.0.held k) in
+    let same = free_is size c.in-Ok.survey.1 c.in_ok-len.len len s test c.in-Ok.ensures.slots c.in_ok-len.ensures.len c.in-Ok.ensures.used in
     performs_as size _ _ _ old (g.D.Device.trace c.fill_unused.new.config.device) same c.len.ensures.trace c.fill_unused.ensures.calls
