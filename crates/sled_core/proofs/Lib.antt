@@ -10,6 +10,7 @@ pub mod GivesLemmas
 pub mod Heads
 pub mod HoldsLemmas
 pub mod LogFileLemmas
+pub mod OpenLemmas
 pub mod Parts
 pub mod PathLemmas
 pub mod Ranges

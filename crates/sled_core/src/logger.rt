@@ -5,7 +5,7 @@
 ghost use Rattle.std.specs.Prelude.{◌≡◌, ◌≢◌, ◌↔◌, ◌+◌, ◌-◌, ◌<◌, ◌≤◌, ◌^◌, ◌∷◌, ◌-ℤ◌, ◌<ℤ◌, pos, [], ℕ, length, drop, true, false, IsTrue, IfOk, IfErr, OnOk, OnErr, IsErrOf, Contains, None, Some, ◌⊎◌, ◌/◌, unsigned_abs};
 ghost use Rattle.std.specs.declared.io.Error.{Error as IoError};
 ghost use Rattle.sled_codec.specs.Kinds.{kind_written};
-ghost use Rattle.sled_codec.specs.History.{History, Message, Completed, Step, no_history};
+ghost use Rattle.sled_codec.specs.History.{History, Message, Completed, Step};
 ghost use Rattle.std.specs.IoError.{error_kind};
 ghost use Rattle.std.specs.declared.io.ErrorKind.TheVariants.{OutOfMemory};
 ghost use Rattle.sled_codec.specs.Errors.{IsErrorOf, IsCorruption};
@@ -16,8 +16,14 @@ ghost use Rattle.sled_core.specs.Reading.{GivesMessage, IsInline, IsReading, IsM
 ghost use Rattle.sled_codec.specs.Places.{MayBegin};
 ghost use Rattle.sled_codec.specs.Pointers.{lid_of};
 ghost use Rattle.sled_core.specs.Buffers.{record_size};
-ghost use Rattle.sled_core.specs.Causes.{Answers, FaultAnswers, ReserveAnswers, ReadAnswers, failure_in};
+ghost use Rattle.sled_codec.specs.Snapshots.{shot_of};
+ghost use Rattle.sled_store.specs.Script.{after_all, Performs};
+ghost use Rattle.sled_store.specs.SnapshotFiles.{stable_place};
+ghost use Rattle.sled_core.specs.Begin.{IsStartable, IsInReach, slots_of, unused, filling, place_at, offset_at};
+ghost use Rattle.sled_core.specs.Ready.{IsReady};
+ghost use Rattle.sled_core.specs.Causes.{StartRefuses, Answers, FaultAnswers, ReserveAnswers, ReadAnswers, failure_in};
 
+use crate::begin::begin;
 use crate::iobuf::{Buffer, Kept, MAX_MSG_HEADER_LEN, Reserved, SEG_HEADER_LEN, Site};
 use crate::reading::{LogRead, read_message};
 use crate::record::head_of;
@@ -46,6 +52,50 @@ pub struct Log<D, C> {
 
 impl<D: Device, C: Checksum> Log<D, C> {
     ghost use Rattle.sled_core.specs.Fits.{Holds, AllEnded, Awaits, IsOpen, HasRoom, IsUnchanged, fault_of, next_place, synced_end, reserved_end, pins_of, config_of, device_of, site_of, IsWritten, manifest_page, segment_size_of, size_for, message_for, KeepsAll};
+
+    /// Begins a log on what a recovery left: it goes on at the snapshot's stable place. First it fills the
+    /// slots of the file that the snapshot does not use with zeros, in ascending order, and syncs the file
+    /// where there is one.
+    ///
+    /// `Corruption` comes where no log can begin from the snapshot, and `PlacesUsedUp` where one more slot of
+    /// the file, or the segment in which the log goes on, would not end below 2^63; nothing was written then.
+    /// `Io` comes where the device failed, and `OutOfMemory` where memory was refused. With each of them the
+    /// configuration comes back.
+    pub fn start(
+        config: RunningConfig<D, C>,
+        snapshot: &Snapshot,
+    ) -> std::result::Result<Log<D, C>, (Error, RunningConfig<D, C>)>
+        ensures history { (H : History) → IsReady C.sum_of config.config.segment_size (state_of (D.trace config.device)) (shot_of snapshot.now) H → IfOk result (λ log. Holds D.trace C.sum_of log H) }
+        ensures startable { OnOk result (IsStartable config.config.segment_size (length (state_of (D.trace config.device)).log.bytes) (shot_of snapshot.now)) }
+        ensures synced { IfOk result (λ log. synced_end log ≡ place_at config.config.segment_size (stable_place snapshot.now.stable_lsn) snapshot.now.active_segment + offset_at config.config.segment_size (stable_place snapshot.now.stable_lsn) snapshot.now.active_segment) }
+        ensures filled { let size = config.config.segment_size in let s = shot_of snapshot.now in let old = D.trace config.device in
+            IfOk result (λ log. D.trace (device_of log) ≡ after_all (filling size (unused size (slots_of size (length (state_of old).log.bytes)) s)) old) }
+        ensures ended { IfOk result (λ log. AllEnded log) }
+        ensures fault { IfOk result (λ log. fault_of log ≡ None) }
+        ensures pins { IfOk result (λ log. pins_of log ≡ 0) }
+        ensures size { IfOk result (λ log. segment_size_of log ≡ config.config.segment_size) }
+        ensures reach { OnOk result (IsInReach config.config.segment_size (length (state_of (D.trace config.device)).log.bytes) (shot_of snapshot.now)) }
+        ensures faults { IfOk result (λ log. D.faults (device_of log) ≡ D.faults config.device) }
+        ensures refused { IfErr result (λ e. StartRefuses e.0 (IsStartable config.config.segment_size (length (state_of (D.trace config.device)).log.bytes) (shot_of snapshot.now)) (IsInReach config.config.segment_size (length (state_of (D.trace config.device)).log.bytes) (shot_of snapshot.now)) (D.trace e.1.device ≡ D.trace config.device) (D.faults config.device) (D.faults e.1.device)) }
+        ensures calls { let size = config.config.segment_size in let s = shot_of snapshot.now in let old = D.trace config.device in
+            IfErr result (λ e. Performs (filling size (unused size (slots_of size (length (state_of old).log.bytes)) s)) old (D.trace e.1.device)) }
+        ensures back { IfErr result (λ e. (e.1.config ≡ config.config) × (e.1.checksum ≡ config.checksum)) }
+    {
+        let mut config = config;
+        match begin(&mut config, snapshot) {
+            Ok((beginning, buffer)) => Ok(Log {
+                config,
+                site: Site {
+                    place: beginning.place,
+                    slot: beginning.slot,
+                },
+                buffer,
+                fault: None,
+                pins: 0,
+            }),
+            Err(e) => Err((e, config)),
+        }
+    }
 
     /// Takes a pin. There may be fewer than 2^32 - 1.
     pub fn pin(&mut self) -> Guard
