@@ -1,0 +1,1 @@
+-- A recovery begins from what one answered before.
