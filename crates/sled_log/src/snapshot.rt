@@ -8,7 +8,7 @@ ghost use Rattle.sled_store.specs.Script.{Performs, after_all};
 ghost use Rattle.sled_core.specs.Causes.{DeviceAnswers};
 ghost use Rattle.sled_core.specs.Reading.{file_of};
 ghost use Rattle.sled_core.specs.Scan.{read_of};
-ghost use Rattle.sled_store.specs.SnapshotFiles.{stable_place};
+ghost use Rattle.sled_store.specs.SnapshotFiles.{stable_place, BeginsFrom};
 ghost use Rattle.sled_log.specs.Recovery.{least_place, tail_begins, IsFoundSegment, IsMisplaced, IsOrdering, Recovered, Damaged, Conclusion, outcome_of, are_whole, scanned_of, cut_of, tip_of, is_beyond, ContinuesFrom, Recovers};
 ghost use Rattle.sled_log.specs.WritesBack.{conclusion_of, range_of, number_of, shredding, publishing, writing_back, AreOthers, MayBeRemoved, IsWrittenBack};
 
@@ -38,6 +38,7 @@ pub fn read_snapshot_or_default<D: Device, C: Checksum>(
 ) -> Result<Snapshot>
     ensures ok { let old = state_of (D.trace config.old.device) in
         IfOk result (λ s. (x : Conclusion) × Recovers C.sum_of config.old.config.segment_size (record { log = old.log.bytes; blobs = λ _. None }) old.snapshots.file (Recovered x) × (shot_of s ≡ x.shot) × IsWrittenBack C.sum_of x (state_of (NamesSynced ∷ Synced ∷ D.trace config.old.device)) (state_of (D.trace config.new.device))) }
+    ensures newest { IfOk result (λ s. (first : Shot) × BeginsFrom C.sum_of (state_of (D.trace config.new.device)).snapshots.file first × (first.stable ≡ s.stable_lsn) × (first.pages ≡ (shot_of s).pages)) }
     ensures calls { let old = state_of (D.trace config.old.device) in
         Performs (Synced ∷ NamesSynced ∷ []) (D.trace config.old.device) (D.trace config.new.device)
         ⊎ ((x : Conclusion) × Recovers C.sum_of config.old.config.segment_size (record { log = old.log.bytes; blobs = λ _. None }) old.snapshots.file (Recovered x) × (numbers : List ℤ) × MayBeRemoved old.snapshots.file (number_of x.shot) numbers × Performs (Synced ∷ NamesSynced ∷ writing_back C.sum_of x numbers) (D.trace config.old.device) (D.trace config.new.device)) }
