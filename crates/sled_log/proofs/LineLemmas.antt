@@ -69,9 +69,11 @@ module _ (sum : List ℕ → ℕ) (size : ℕ) (r : Readable) (slot place : ℕ)
 
 -- Segments that were read, one behind another.
 module _ (sum : List ℕ → ℕ) (size : ℕ) (r : Readable) (large : 20 ≤ size) where
+  -- it was read, in a slot of the file
   abbrev pub IsRead : Scanned → Type 0
   IsRead s = IsScanned sum size r s × (s.segment.slot % size ≡ 0)
 
+  -- each was read, and begins no earlier than the one before it ends
   abbrev pub IsLine : List Scanned → Type 0
   IsLine [] = Unit {0}
   IsLine (s ∷ []) = IsRead s
@@ -118,10 +120,11 @@ module _ (sum : List ℕ → ℕ) (size : ℕ) (r : Readable) (large : 20 ≤ si
       (lie_further (s.segment.place + s.stop) (stops_in end t (open_at end t.met) ts).1 s.met (omega (arith, within, above, line.1)) own)
       (passed_lie end t ts (open_at end t.met) line.2 refl)
 
-  -- a cut is no lower than where the pass stopped
+  -- the cut, where the segment is filled and where not
   abbrev cut : Segment × ℕ → Bool → ℕ × Option ℕ
   cut at b = if b then (at.0.place + size, None) else (at.1, Some at.0.slot)
 
+  -- a cut is no lower than where the pass stopped
   cut_above : (at : Segment × ℕ) → at.1 ≤ at.0.place + size → at.1 ≤ (cut_of size at).0
   cut_above at le = by_test (is_filled size at)
     where
@@ -138,13 +141,16 @@ module _ (sum : List ℕ → ℕ) (size : ℕ) (r : Readable) (large : 20 ≤ si
 
 -- The segments that are found, below a place.
 module _ (size : ℕ) (some : 0 < size) where
+  -- these begin above a place
   abbrev Above : ℕ → List Segment → Type 0
   Above place [] = Unit {0}
   Above place (s ∷ ss) = (place < s.place) × Above place ss
 
+  -- it begins at a multiple of the size, in the log and in the file
   abbrev IsAligned : Segment → Type 0
   IsAligned s = (s.place % size ≡ 0) × (s.slot % size ≡ 0)
 
+  -- each begins so, and above those before it
   abbrev pub IsChain : List Segment → Type 0
   IsChain [] = Unit {0}
   IsChain (s ∷ ss) = IsAligned s × Above s.place ss × IsChain ss

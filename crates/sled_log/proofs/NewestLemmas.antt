@@ -24,6 +24,7 @@ IsConcluded size first x = (met : List Met) × (cut : ℕ × Option ℕ) × LieB
 abbrev Comes : ℕ → Shot → Conclusion → Type 0
 Comes size first x = (x ≡ unchanged first) ⊎ IsConcluded size first x
 
+-- a number that cannot be other than 0
 not_none : (n : ℕ) → (n ≢ 0 → ⊥) → n ≡ 0
 not_none zero h = refl
 not_none (suc n) h = absurd (h (λ e. omega (arith, e)))
@@ -108,6 +109,7 @@ begins_from_only sum file s cut place fits only = inr (
 
 -- The whole.
 module _ (sum : List ℕ → ℕ) (size : ℕ) (r : Readable) (large : 20 ≤ size) (x : Conclusion) (old new : State) (back : IsWrittenBack sum x old new) where
+  -- a recovery of the new state begins from the same place and the same pages
   abbrev pub BeginsThere : Type 0
   BeginsThere = (first : Shot) × BeginsFrom sum new.snapshots.file first × (first.stable ≡ x.shot.stable) × (first.pages ≡ x.shot.pages)
 
@@ -120,7 +122,7 @@ module _ (sum : List ℕ → ℕ) (size : ℕ) (r : Readable) (large : 20 ≤ si
       let stays = stays_old size first x comes is in
       (first, subst (λ s. BeginsFrom sum s.file first) (sym same) begins, stays.0, stays.1)
 
-  -- where it was written back, a recovery would begin from the same place and the same pages
+  -- so it does where the conclusion was written back
   pub begins_again : Recovers sum size r old.snapshots.file (Recovered x) → (x.is_new ≡ true → FitsSnapshot x.shot) → BeginsThere
   unfolding Recovers
   begins_again (inl damaged) fits = let no = damaged.0 in absurd (cc)

@@ -10,6 +10,7 @@ use Rattle.sled_log.proofs.OtherLemmas.{file_at, same_name, other_name, same_oth
 
 -- A file is published under a number.
 module _ (bytes : List ℕ) (number : ℤ) (h : Trace) where
+  -- the trace behind that
   abbrev pub published : Trace
   published = NamesSynced ∷ SnapshotPublished number true ∷ SnapshotFilled bytes bytes ∷ h
 
@@ -32,6 +33,7 @@ module _ (bytes : List ℕ) (number : ℤ) (h : Trace) where
 
 -- All calls were made.
 module _ (sum : List ℕ → ℕ) (shot : Shot) where
+  -- the file of the table
   abbrev bytes : List ℕ
   bytes = short_file sum shot
 

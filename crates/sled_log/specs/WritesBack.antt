@@ -51,10 +51,11 @@ publishing_file bytes number = SnapshotFilled bytes bytes ∷ SnapshotPublished 
 abbrev pub publishing : (List ℕ → ℕ) → Shot → List ℤ → List Event
 publishing sum s numbers = publishing_file (short_file sum s) (number_of s) ++ removing numbers
 
--- a number is another one than the one that is kept, and those of a list that are
+-- a number is another one than the one that is kept
 abbrev pub is_other : ℤ → ℤ → Bool
 is_other kept n = not (int_eq n kept)
 
+-- the numbers of a list but the one that is kept
 abbrev pub others : ℤ → List ℤ → List ℤ
 others kept numbers = filter (is_other kept) numbers
 
