@@ -1,19 +1,21 @@
 pub mod Ascending
 pub mod BeginLemmas
-pub mod FoldLemmas
-pub mod PageRuns
-pub mod PageStates
-pub mod PageWise
-pub mod TableCuts
-pub mod TableParts
-mod TableLemmas
-mod RecoveryLemmas
-mod FindLemmas
 pub mod CallLemmas
+mod FindLemmas
+pub mod FoldLemmas
 pub mod KeptRecovers
+pub mod LineLemmas
+pub mod NewestLemmas
 pub mod Numbers
 pub mod OneSegment
 pub mod OtherLemmas
+pub mod PageRuns
+pub mod PageStates
+pub mod PageWise
+mod RecoveryLemmas
 pub mod RemovalLemmas
+pub mod TableCuts
+mod TableLemmas
+pub mod TableParts
 pub mod Trailers
 pub mod WriteLemmas

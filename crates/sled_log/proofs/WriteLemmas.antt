@@ -4,12 +4,13 @@ use Rattle.sled_codec.specs.Snapshots.{Shot}
 use Rattle.sled_store.specs.Device.{Event, Trace, SnapshotFilled, SnapshotPublished, Synced, NamesSynced, state_of}
 use Rattle.sled_store.specs.Script.{Performs, after_all}
 use Rattle.sled_log.specs.Recovery.{Conclusion, Outcome, Recovers}
-use Rattle.sled_log.specs.WritesBack.{short_file, number_of, publishing_file, publishing, removing, shredding, writing_back, AreOthers, MayBeRemoved, IsOnlySnapshot, IsWrittenBack}
+use Rattle.sled_log.specs.WritesBack.{HasPublished, Publishes, HasWrittenBack, WritesBack, short_file, number_of, publishing_file, publishing, removing, shredding, writing_back, AreOthers, MayBeRemoved, IsOnlySnapshot, IsWrittenBack}
 use Rattle.sled_log.proofs.CallLemmas.{after_joined, performs_whole, performs_front, performs_behind}
 use Rattle.sled_log.proofs.OtherLemmas.{file_at, same_name, other_name, same_others, missing_after, gone_after, kept_after, log_after, blobs_after}
 
 -- A file is published under a number.
 module _ (bytes : List ℕ) (number : ℤ) (h : Trace) where
+  -- the trace behind that
   abbrev pub published : Trace
   published = NamesSynced ∷ SnapshotPublished number true ∷ SnapshotFilled bytes bytes ∷ h
 
@@ -32,6 +33,7 @@ module _ (bytes : List ℕ) (number : ℤ) (h : Trace) where
 
 -- All calls were made.
 module _ (sum : List ℕ → ℕ) (shot : Shot) where
+  -- the file of the table
   abbrev bytes : List ℕ
   bytes = short_file sum shot
 
@@ -58,23 +60,6 @@ written_back sum x ns old new are is =
     subst (λ (h : Trace). IsWrittenBack sum x (state_of old) (state_of h)) (sym is) (made sum x.shot x.tip x.is_new ns old are)
 
 -- What the steps that write back made of the device.
-
--- a table was published, and all other snapshots were removed
-abbrev pub HasPublished : (List ℕ → ℕ) → Shot → Trace → Trace → Type 0
-HasPublished sum shot old new = (numbers : List ℤ) × AreOthers (file_at old) (number_of shot) numbers × (new ≡ after_all (publishing sum shot numbers) old)
-
--- the same, as far as it came
-abbrev pub Publishes : (List ℕ → ℕ) → Shot → Trace → Trace → Type 0
-Publishes sum shot old new = (numbers : List ℤ) × MayBeRemoved (file_at old) (number_of shot) numbers × Performs (publishing sum shot numbers) old new
-
--- all was written back
-abbrev pub HasWritten : (List ℕ → ℕ) → Conclusion → Trace → Trace → Type 0
-HasWritten sum x old new = (numbers : List ℤ) × (x.is_new ≡ true → AreOthers (file_at old) (number_of x.shot) numbers) × (new ≡ after_all (writing_back sum x numbers) old)
-
--- the same, as far as it came
-abbrev pub WritesBack : (List ℕ → ℕ) → Conclusion → Trace → Trace → Type 0
-WritesBack sum x old new = (numbers : List ℤ) × MayBeRemoved (file_at old) (number_of x.shot) numbers × Performs (writing_back sum x numbers) old new
-
 module _ (sum : List ℕ → ℕ) (shot : Shot) (file : List ℕ) (number : ℤ) (is_file : file ≡ short_file sum shot) (is_number : number ≡ number_of shot) (old : Trace) where
   same_calls : (ns : List ℤ) → publishing_file file number ++ removing ns ≡ publishing sum shot ns
   same_calls ns =
@@ -119,7 +104,7 @@ module _ (sum : List ℕ → ℕ) (x : Conclusion) (old : Trace) where
     files = ap file_at came ∙ shredded_files x.tip old
 
     -- a table that is new was published then
-    pub has_written_new : x.is_new ≡ true → HasPublished sum x.shot mid new → HasWritten sum x old new
+    pub has_written_new : x.is_new ≡ true → HasPublished sum x.shot mid new → HasWrittenBack sum x old new
     has_written_new is_new (ns, are, is) = (
       ns,
       λ _. subst (λ (f : ℤ → Option (List ℕ)). AreOthers f (number_of x.shot) ns) files are,
@@ -134,17 +119,17 @@ module _ (sum : List ℕ → ℕ) (x : Conclusion) (old : Trace) where
     )
 
     -- nothing more is to be written where it is not new
-    pub has_written_old : x.is_new ≡ false → new ≡ mid → HasWritten sum x old new
+    pub has_written_old : x.is_new ≡ false → new ≡ mid → HasWrittenBack sum x old new
     has_written_old is_old same = (
       [],
       (λ is_new. let no = is_old in cc),
       same ∙ came ∙ sym (after_joined (shredding x.tip) [] old) ∙ ap (λ (b : Bool). after_all (shredding x.tip ++ (if b then publishing sum x.shot [] else [])) old) (sym is_old),
     )
 
-pub written_as : (sum : List ℕ → ℕ) (x : Conclusion) (old new : Trace) → HasWritten sum x old new → IsWrittenBack sum x (state_of old) (state_of new)
+pub written_as : (sum : List ℕ → ℕ) (x : Conclusion) (old new : Trace) → HasWrittenBack sum x old new → IsWrittenBack sum x (state_of old) (state_of new)
 written_as sum x old new (ns, are, is) = written_back sum x ns old new are is
 
-pub writes_whole : (sum : List ℕ → ℕ) (x : Conclusion) (old new : Trace) → x.is_new ≡ false → HasWritten sum x old new → WritesBack sum x old new
+pub writes_whole : (sum : List ℕ → ℕ) (x : Conclusion) (old new : Trace) → x.is_new ≡ false → HasWrittenBack sum x old new → WritesBack sum x old new
 writes_whole sum x old new is_old (ns, are, is) = (
   [],
   inl refl,

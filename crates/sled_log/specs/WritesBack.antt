@@ -7,7 +7,8 @@ use Rattle.std.specs.Option.{unwrap_or}
 use Rattle.std.specs.List.Sorted.{IsStrictlySortedBy}
 use Rattle.sled_codec.specs.Snapshots.{Shot, shot_of, short_snapshot}
 use Rattle.sled_codec.specs.Spelling.{low_bytes}
-use Rattle.sled_store.specs.Device.{Event, Wrote, Synced, SnapshotFilled, SnapshotPublished, SnapshotRemoved, NamesSynced, State, at_rest, overwritten}
+use Rattle.sled_store.specs.Device.{Event, Wrote, Synced, SnapshotFilled, SnapshotPublished, SnapshotRemoved, NamesSynced, Trace, State, state_of, at_rest, overwritten}
+use Rattle.sled_store.specs.Script.{Performs, after_all}
 use Rattle.sled_log.specs.Recovery.{Conclusion}
 use Rattle.sled_log.specs.declared.conclusion.Recovery.{Recovery}
 use Rattle.sled_log.specs.declared.conclusion.Tip.{Tip}
@@ -50,10 +51,11 @@ publishing_file bytes number = SnapshotFilled bytes bytes ∷ SnapshotPublished 
 abbrev pub publishing : (List ℕ → ℕ) → Shot → List ℤ → List Event
 publishing sum s numbers = publishing_file (short_file sum s) (number_of s) ++ removing numbers
 
--- a number is another one than the one that is kept, and those of a list that are
+-- a number is another one than the one that is kept
 abbrev pub is_other : ℤ → ℤ → Bool
 is_other kept n = not (int_eq n kept)
 
+-- the numbers of a list but the one that is kept
 abbrev pub others : ℤ → List ℤ → List ℤ
 others kept numbers = filter (is_other kept) numbers
 
@@ -69,6 +71,22 @@ MayBeRemoved file kept numbers = (numbers ≡ []) ⊎ AreOthers file kept number
 -- the calls that write back what recovery concludes
 abbrev pub writing_back : (List ℕ → ℕ) → Conclusion → List ℤ → List Event
 writing_back sum x numbers = shredding x.tip ++ (if x.is_new then publishing sum x.shot numbers else [])
+
+-- a table was published, and then all other snapshots were removed
+abbrev pub HasPublished : (List ℕ → ℕ) → Shot → Trace → Trace → Type 0
+HasPublished sum s old new = (numbers : List ℤ) × AreOthers (state_of old).snapshots.file (number_of s) numbers × (new ≡ after_all (publishing sum s numbers) old)
+
+-- the same calls, all of them or up to one that failed
+abbrev pub Publishes : (List ℕ → ℕ) → Shot → Trace → Trace → Type 0
+Publishes sum s old new = (numbers : List ℤ) × MayBeRemoved (state_of old).snapshots.file (number_of s) numbers × Performs (publishing sum s numbers) old new
+
+-- all calls were made that write back what recovery concludes
+abbrev pub HasWrittenBack : (List ℕ → ℕ) → Conclusion → Trace → Trace → Type 0
+HasWrittenBack sum x old new = (numbers : List ℤ) × (x.is_new ≡ true → AreOthers (state_of old).snapshots.file (number_of x.shot) numbers) × (new ≡ after_all (writing_back sum x numbers) old)
+
+-- the same calls, all of them or up to one that failed
+abbrev pub WritesBack : (List ℕ → ℕ) → Conclusion → Trace → Trace → Type 0
+WritesBack sum x old new = (numbers : List ℤ) × MayBeRemoved (state_of old).snapshots.file (number_of x.shot) numbers × Performs (writing_back sum x numbers) old new
 
 -- What is read afterwards.
 

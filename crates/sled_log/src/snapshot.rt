@@ -8,10 +8,10 @@ ghost use Rattle.sled_store.specs.Script.{Performs, after_all};
 ghost use Rattle.sled_core.specs.Causes.{DeviceAnswers};
 ghost use Rattle.sled_core.specs.Reading.{file_of};
 ghost use Rattle.sled_core.specs.Scan.{read_of};
-ghost use Rattle.sled_store.specs.SnapshotFiles.{stable_place};
+ghost use Rattle.sled_store.specs.SnapshotFiles.{stable_place, BeginsFrom};
 ghost use Rattle.sled_core.specs.Scan.{IsFoundSegment, IsMisplaced};
 ghost use Rattle.sled_log.specs.Recovery.{least_place, tail_begins, IsOrdering, Recovered, Damaged, Conclusion, outcome_of, are_whole, scanned_of, cut_of, tip_of, is_beyond, ContinuesFrom, Recovers};
-ghost use Rattle.sled_log.specs.WritesBack.{conclusion_of, range_of, number_of, shredding, publishing, writing_back, AreOthers, MayBeRemoved, IsWrittenBack};
+ghost use Rattle.sled_log.specs.WritesBack.{conclusion_of, range_of, number_of, shredding, writing_back, MayBeRemoved, HasPublished, Publishes, HasWrittenBack, WritesBack, IsWrittenBack};
 
 use crate::conclusion::{Recovery, Tip};
 use crate::snapshot_file::{encode_file, publish, read_newest, remove_others};
@@ -38,7 +38,8 @@ pub fn read_snapshot_or_default<D: Device, C: Checksum>(
     config: &mut RunningConfig<D, C>,
 ) -> Result<Snapshot>
     ensures ok { let old = state_of (D.trace config.old.device) in
-        IfOk result (λ s. (x : Conclusion) × Recovers C.sum_of config.old.config.segment_size (record { log = old.log.bytes; blobs = λ _. None }) old.snapshots.file (Recovered x) × (shot_of s ≡ x.shot) × IsWrittenBack C.sum_of x (state_of (NamesSynced ∷ Synced ∷ D.trace config.old.device)) (state_of (D.trace config.new.device))) }
+        IfOk result (λ s. (x : Conclusion) × Recovers C.sum_of config.old.config.segment_size (record { log = old.log.bytes; blobs = λ _. None }) old.snapshots.file (Recovered x) × (shot_of s ≡ x.shot) × IsWrittenBack C.sum_of x (state_of (NamesSynced ∷ Synced ∷ D.trace config.old.device)) (state_of (D.trace config.new.device)) × HasWrittenBack C.sum_of x (NamesSynced ∷ Synced ∷ D.trace config.old.device) (D.trace config.new.device)) }
+    ensures newest { IfOk result (λ s. (first : Shot) × BeginsFrom C.sum_of (state_of (D.trace config.new.device)).snapshots.file first × (first.stable ≡ s.stable_lsn) × (first.pages ≡ (shot_of s).pages)) }
     ensures calls { let old = state_of (D.trace config.old.device) in
         Performs (Synced ∷ NamesSynced ∷ []) (D.trace config.old.device) (D.trace config.new.device)
         ⊎ ((x : Conclusion) × Recovers C.sum_of config.old.config.segment_size (record { log = old.log.bytes; blobs = λ _. None }) old.snapshots.file (Recovered x) × (numbers : List ℤ) × MayBeRemoved old.snapshots.file (number_of x.shot) numbers × Performs (Synced ∷ NamesSynced ∷ writing_back C.sum_of x numbers) (D.trace config.old.device) (D.trace config.new.device)) }
@@ -75,11 +76,9 @@ fn write_back<D: Device, C: Checksum>(
     config: &mut RunningConfig<D, C>,
     recovery: &Recovery,
 ) -> Result<()>
-    ensures done { let x = conclusion_of recovery.now in
-        OnOk result ((numbers : List ℤ) × (x.is_new ≡ true → AreOthers (state_of (D.trace config.old.device)).snapshots.file (number_of x.shot) numbers) × (D.trace config.new.device ≡ after_all (writing_back C.sum_of x numbers) (D.trace config.old.device))) }
+    ensures done { OnOk result (HasWrittenBack C.sum_of (conclusion_of recovery.now) (D.trace config.old.device) (D.trace config.new.device)) }
     ensures written { OnOk result (IsWrittenBack C.sum_of (conclusion_of recovery.now) (state_of (D.trace config.old.device)) (state_of (D.trace config.new.device))) }
-    ensures calls { let x = conclusion_of recovery.now in
-        (numbers : List ℤ) × MayBeRemoved (state_of (D.trace config.old.device)).snapshots.file (number_of x.shot) numbers × Performs (writing_back C.sum_of x numbers) (D.trace config.old.device) (D.trace config.new.device) }
+    ensures calls { WritesBack C.sum_of (conclusion_of recovery.now) (D.trace config.old.device) (D.trace config.new.device) }
     ensures fits { OnOk result (recovery.now.is_new ≡ true → FitsSnapshot (shot_of recovery.now.snapshot)) }
     ensures answers { DeviceAnswers result (D.faults config.old.device) (D.faults config.new.device) }
     ensures readable { IsCorruption result → ⊥ }
@@ -116,10 +115,8 @@ fn publish_new<D: Device, C: Checksum>(
     config: &mut RunningConfig<D, C>,
     snapshot: &Snapshot,
 ) -> Result<()>
-    ensures done { let s = shot_of snapshot.now in
-        OnOk result ((numbers : List ℤ) × AreOthers (state_of (D.trace config.old.device)).snapshots.file (number_of s) numbers × (D.trace config.new.device ≡ after_all (publishing C.sum_of s numbers) (D.trace config.old.device))) }
-    ensures calls { let s = shot_of snapshot.now in
-        (numbers : List ℤ) × MayBeRemoved (state_of (D.trace config.old.device)).snapshots.file (number_of s) numbers × Performs (publishing C.sum_of s numbers) (D.trace config.old.device) (D.trace config.new.device) }
+    ensures done { OnOk result (HasPublished C.sum_of (shot_of snapshot.now) (D.trace config.old.device) (D.trace config.new.device)) }
+    ensures calls { Publishes C.sum_of (shot_of snapshot.now) (D.trace config.old.device) (D.trace config.new.device) }
     ensures fits { OnOk result (FitsSnapshot (shot_of snapshot.now)) }
     ensures answers { DeviceAnswers result (D.faults config.old.device) (D.faults config.new.device) }
     ensures readable { IsCorruption result → ⊥ }
@@ -282,10 +279,10 @@ fn conclude(
     requires cut { cut.0 < 2 ^ 63 }
     requires slot { IfSome cut.1 (λ slot. slot + size < 2 ^ 63) }
     ensures ok { IfOk result (λ x. conclusion_of x ≡ record {
-          shot = record { stable = Some (pos cut.0); active = cut.1; pages = map page_of pages.items };
-          tip = tip_of size cut.0 cut.1;
-          is_new = is_beyond was cut.0;
-        }) }
+      shot = record { stable = Some (pos cut.0); active = cut.1; pages = map page_of pages.items };
+      tip = tip_of size cut.0 cut.1;
+      is_new = is_beyond was cut.0;
+    }) }
     ensures fine { OnOk result ((least ≤ cut.0) × (are_whole (map page_of pages.items) ≡ true)) }
     ensures corrupt { IsCorruption result → (cut.0 < least) ⊎ (are_whole (map page_of pages.items) ≡ false) }
     ensures errors { IfErr result IsDecodeError }
