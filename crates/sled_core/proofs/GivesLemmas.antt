@@ -92,7 +92,7 @@ gives sum size log lid number m h (BatchManifest peg n) stands known page reads 
     let not_so : is_inline kind.BatchManifest ≡ true = ap is_inline (sym reads.3) ∙ inline in cc
 
 -- the messages of a segment stand at their pointers
-own_stands : (sum : List ℕ → ℕ) (size : ℕ) (log : List ℕ) (site : Site) (at : ℕ) (ms : List Message) (end : ℕ) → site.place % size ≡ 0 → StandIn sum size log site at ms end → All (StandsWhole sum size log) ms
+pub own_stands : (sum : List ℕ → ℕ) (size : ℕ) (log : List ℕ) (site : Site) (at : ℕ) (ms : List Message) (end : ℕ) → site.place % size ≡ 0 → StandIn sum size log site at ms end → All (StandsWhole sum size log) ms
 own_stands sum size log site at [] end aligned stand = λ k d lt. absurd (omega arith)
 own_stands sum size log site at (m ∷ ms) end aligned stand =
     let below : at < size = omega (arith, stand.0) in

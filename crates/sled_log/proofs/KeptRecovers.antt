@@ -81,7 +81,7 @@ module _ (sum : List ℕ → ℕ) (size : ℕ) (r : Readable) (snapshots : ℤ �
     pub slot_first : site.slot ≡ 0
     slot_first = sym (mod-eq_of_lt (omega (arith, header_there, short))) ∙ slot_begins
 
-    abbrev segment : Segment
+    abbrev pub segment : Segment
     segment = record { place = site.place; slot = site.slot; mark = header.mark }
 
     -- there is no other slot
@@ -101,7 +101,7 @@ module _ (sum : List ℕ → ℕ) (size : ℕ) (r : Readable) (snapshots : ℤ �
     pub own_all : H.messages ≡ file.own
     own_all = file.parts ∙ ap (λ (l : List Message). l ++ file.own) (none_older file.older file.elsewhere)
 
-    stand : StandIn sum size r.log site 20 file.own from
+    pub stand : StandIn sum size r.log site 20 file.own from
     stand = subst (λ n. StandIn sum size r.log site 20 file.own n) (omega (arith, long)) file.stand
 
     pub all_below : All (λ m. (m.place < site.place + from) × (m.place + m.size ≤ site.place + from)) H.messages
@@ -110,10 +110,10 @@ module _ (sum : List ℕ → ℕ) (size : ℕ) (r : Readable) (snapshots : ℤ �
     empty : from + 32 ≤ size → IsEmpty sum size r.log (site.slot + from) (site.place / size)
     empty room = zeros_empty sum size r.log (site.slot + from) (site.place / size) (file.clean (site.slot + from + 4) (omega arith) (omega (arith, room)))
 
-    header_at_first : IsHeader sum (take 20 r.log) (pos site.place) header.mark
+    pub header_at_first : IsHeader sum (take 20 r.log) (pos site.place) header.mark
     header_at_first = subst (λ n. IsHeader sum (part r.log n 20) (pos site.place) header.mark) slot_first header.header
 
-    not_below : least_place size first ≤ site.place
+    pub not_below : least_place size first ≤ site.place
     not_below = omega (arith, begun.least)
 
     the_ordering : (ordering : List Segment) → IsOrdering sum size r.log (least_place size first) ordering → ordering ≡ segment ∷ []
@@ -155,13 +155,13 @@ module _ (sum : List ℕ → ℕ) (size : ℕ) (r : Readable) (snapshots : ℤ �
     abbrev end : ℕ
     end = site.place + from
 
-    abbrev messages : List Applied
+    abbrev pub messages : List Applied
     messages = map applied (filter (λ m. nat_le (stable_place first.stable) m.place && nat_lt m.place end) H.messages)
 
-    own_below : All (λ m. m.place < end) file.own
+    pub own_below : All (λ m. m.place < end) file.own
     own_below k d lt = (stand_below sum size r.log site 20 file.own from stand k d lt).0
 
-    given_is : given (stable_place first.stable) (map met_of file.own) ≡ messages
+    pub given_is : given (stable_place first.stable) (map met_of file.own) ≡ messages
     given_is = given_messages (stable_place first.stable) end file.own own_below
         ∙ ap (λ (l : List Message). map applied (filter (λ m. nat_le (stable_place first.stable) m.place && nat_lt m.place end) l)) (sym own_all)
 

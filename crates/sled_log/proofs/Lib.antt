@@ -19,3 +19,5 @@ mod TableLemmas
 pub mod TableParts
 pub mod Trailers
 pub mod WriteLemmas
+pub mod UsedSlot
+pub mod RestartLemmas

@@ -53,7 +53,7 @@ module _ (sum : List ℕ → ℕ) (size : ℕ) (r : Readable) (large : 20 ≤ si
 
 -- What is known of a table that was concluded.
 
-chosen_well : (a b c : Bool) (made x : Conclusion) → (if a || b || not c then Damaged else Recovered made) ≡ Recovered x → (b ≡ false) × (made ≡ x)
+pub chosen_well : (a b c : Bool) (made x : Conclusion) → (if a || b || not c then Damaged else Recovered made) ≡ Recovered x → (b ≡ false) × (made ≡ x)
 chosen_well true b c made x is = absurd (cc)
 chosen_well false true c made x is = absurd (cc)
 chosen_well false false false made x is = absurd (cc)
@@ -109,18 +109,18 @@ begins_from_only sum file s cut place fits only = inr (
 
 -- The whole.
 module _ (sum : List ℕ → ℕ) (size : ℕ) (r : Readable) (large : 20 ≤ size) (x : Conclusion) (old new : State) (back : IsWrittenBack sum x old new) where
-  -- a recovery of the new state begins from the same place and the same pages
+  -- a recovery of the new state begins from the same place and the same pages: from the table, or from the snapshot from which that began
   abbrev pub BeginsThere : Type 0
-  BeginsThere = (first : Shot) × BeginsFrom sum new.snapshots.file first × (first.stable ≡ x.shot.stable) × (first.pages ≡ x.shot.pages)
+  BeginsThere = (first : Shot) × BeginsFrom sum new.snapshots.file first × (first.stable ≡ x.shot.stable) × (first.pages ≡ x.shot.pages) × ((first ≡ x.shot) ⊎ BeginsFrom sum old.snapshots.file first)
 
   by_new : (first : Shot) → BeginsFrom sum old.snapshots.file first → Comes size first x → (x.is_new ≡ true → FitsSnapshot x.shot) → (b : Bool) → x.is_new ≡ b
       → MatchBool b (IsOnlySnapshot new.snapshots.file (number_of x.shot) (short_file sum x.shot)) (new.snapshots ≡ old.snapshots) → BeginsThere
   by_new first begins comes fits true is only =
       let place = new_place size first x comes is in
-      (x.shot, begins_from_only sum new.snapshots.file x.shot place.0 place.1 (fits is) only, refl, refl)
+      (x.shot, begins_from_only sum new.snapshots.file x.shot place.0 place.1 (fits is) only, refl, refl, inl refl)
   by_new first begins comes fits false is same =
       let stays = stays_old size first x comes is in
-      (first, subst (λ s. BeginsFrom sum s.file first) (sym same) begins, stays.0, stays.1)
+      (first, subst (λ s. BeginsFrom sum s.file first) (sym same) begins, stays.0, stays.1, inr begins)
 
   -- so it does where the conclusion was written back
   pub begins_again : Recovers sum size r old.snapshots.file (Recovered x) → (x.is_new ≡ true → FitsSnapshot x.shot) → BeginsThere

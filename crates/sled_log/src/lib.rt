@@ -13,6 +13,7 @@ pub mod device;
 pub mod iobuf;
 pub mod logger;
 pub mod reservation;
+pub mod restart;
 pub mod snapshot;
 mod snapshot_file;
 mod table;

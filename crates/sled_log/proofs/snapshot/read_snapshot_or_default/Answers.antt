@@ -1,6 +1,7 @@
-use Rattle.std.proofs.Common.{◌∙◌, ℕ, None, inr, sym, subst, arith}
+use Rattle.std.proofs.Common.{◌≡◌, ◌⊎◌, ◌∙◌, ℕ, None, inr, sym, subst, arith}
 use Rattle.sled_core.specs.Scan.{Readable}
 use Rattle.sled_store.specs.Device.{Trace, state_of}
+use Rattle.sled_store.specs.SnapshotFiles.{BeginsFrom}
 use Rattle.sled_log.specs.Recovery.{Conclusion, Recovered, Recovers}
 use Rattle.sled_log.specs.WritesBack.{conclusion_of}
 use Rattle.sled_log.proofs.NewestLemmas.{begins_again}
@@ -36,4 +37,6 @@ returns-in-Ok-write_back-clause-newest g c =
     let size : ℕ = c.args.config.now.config.segment_size in
     let r : Readable = record { log = (state_of settled).log.bytes; blobs = λ _. None } in
     let recovers = subst (λ (h : Trace). Recovers g.C.Checksum.sum_of size r (state_of h).snapshots.file (Recovered x)) (sym c.in-Ok.ensures.trace) c.in-Ok.ensures.ok in
-    begins_again g.C.Checksum.sum_of size r (omega (arith, c.args.config.now.config.least)) x (state_of mid) (state_of new) c.in-Ok-write_back.ensures.written recovers c.in-Ok-write_back.ensures.fits
+    let again = begins_again g.C.Checksum.sum_of size r (omega (arith, c.args.config.now.config.least)) x (state_of mid) (state_of new) c.in-Ok-write_back.ensures.written recovers c.in-Ok-write_back.ensures.fits in
+    let as_before = subst (λ (h : Trace). (again.0 ≡ x.shot) ⊎ BeginsFrom g.C.Checksum.sum_of (state_of h).snapshots.file again.0) (c.in-Ok.ensures.trace ∙ c.in_ok-settle.ensures.done) again.4 in
+    (again.0, again.1, again.2, again.3, as_before)

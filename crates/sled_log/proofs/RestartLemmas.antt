@@ -1,0 +1,371 @@
+-- Where all of a history is on the device, recovery leaves snapshot and device ready for a log that holds it.
+use Rattle.std.proofs.Common.{◌≡◌, ◌≢◌, ◌⊎◌, ◌∙◌, ◌≤◌, ◌<◌, ◌+◌, ◌-◌, ◌*◌, ◌/◌, ◌%◌, ◌^◌, ◌||◌, ◌&&◌, ◌==◌, ℕ, ℤ, zero, suc, pos, max, Bool, true, false, nat_lt, nat_le, if◌then◌else◌, List, [], ◌∷◌, ◌++◌, length, map, take, drop, replicate, get_or, Option, Some, None, MatchOption, refl, sym, ap, subst, arith, inl, inr}
+use Rattle.std.specs.List.{All, Contains, filter, list_any}
+use Rattle.std.proofs.Math.Nat.{mod-add-div', div-eq_of_lt, add-mod_right}
+use Rattle.std.proofs.Math.Bool.{or-true}
+use Rattle.std.proofs.lemmas.Bool.{cases_lt}
+use Rattle.std.proofs.lemmas.Bool.Decides.{nat_tests}
+use Rattle.std.proofs.lemmas.List.{get_or-drop, get_or-take, length-replicate, append-nil, get_or-replicate}
+use Rattle.sled_log.proofs.Ascending.{all_from_in}
+use Rattle.std.proofs.lemmas.List.Elements.{All-contains, Contains-append_cases}
+use Rattle.std.proofs.lemmas.Nat.{mod-mul-add, div-mul-add}
+use Rattle.sled_codec.specs.declared.result.DiskPtr.TheVariants.{Inline}
+use Rattle.sled_codec.specs.Pointers.{lid_of}
+use Rattle.sled_codec.specs.History.{Message, History}
+use Rattle.sled_codec.specs.PageTables.{IsTable}
+use Rattle.sled_codec.specs.WellFormed.{IsWellFormed}
+use Rattle.sled_codec.specs.Snapshots.{Shot, Page}
+use Rattle.std.specs.Prelude.{Result, Ok, Err, IfOk, OnOk}
+use Rattle.sled_store.specs.Device.{State, LogState, Synced, NamesSynced, step, at_rest, overwritten}
+use Rattle.sled_store.specs.SnapshotFiles.{BeginsFrom, stable_place}
+use Rattle.sled_store.proofs.OverwrittenLemmas.{overwritten-part}
+use Rattle.sled_core.specs.declared.iobuf.Site.{Site}
+use Rattle.sled_core.specs.declared.met.Segment.{Segment}
+use Rattle.sled_core.specs.Scan.{Readable, IsFoundSegment, IsMisplaced}
+use Rattle.sled_core.specs.Begin.{entries_of, slot_of, is_used, is_active}
+use Rattle.sled_core.specs.LogFile.{MessageStands, StandIn, StandsElsewhere, IsLogFile}
+use Rattle.sled_core.specs.Fits.{IsBegunFrom, IsKept}
+use Rattle.sled_core.specs.Ready.{StandsUsed, HasActive, HasNoActive, HasFile, IsReady, active_site}
+use Rattle.sled_core.proofs.Ranges.{with_first}
+use Rattle.sled_core.proofs.ScanLemmas.{aligned_offset}
+use Rattle.sled_core.proofs.LogFileLemmas.{stands_some, stand_none, stand_kept, header_kept, behind_write}
+use Rattle.sled_core.proofs.GivesLemmas.{StandsWhole, own_stands}
+use Rattle.sled_log.specs.Recovery.{Conclusion, Recovered, Damaged, Applied, applied, given, has_no_table, are_whole, table_of, unchanged, concluded, cut_of, is_filled, tip_of, is_beyond, IsOrdering, least_place, ContinuesFrom, Recovers}
+use Rattle.sled_log.specs.WritesBack.{IsWrittenBack}
+use Rattle.sled_log.proofs.FoldLemmas.{fold_all}
+use Rattle.sled_log.proofs.NewestLemmas.{chosen_well}
+use Rattle.sled_log.proofs.BeginLemmas.{one_begin}
+use Rattle.sled_log.proofs.OneSegment.{given_messages}
+use Rattle.sled_log.proofs.UsedSlot.{uses_slot}
+use Rattle.sled_log.proofs.FindLemmas.{only_found}
+use Rattle.sled_log.proofs.KeptRecovers.{stays, continues, concludes, slot_first, own_all, own_below, given_is, all_below, segment, messages, header_at_first, not_below}
+
+-- a segment that is found where recovery succeeds is not misplaced
+none_misplaced : (sum : List ℕ → ℕ) (size : ℕ) (r : Readable) (first : Shot) (x : Conclusion) → ContinuesFrom sum size r first (Recovered x) → (y : Segment) → IsFoundSegment sum size r.log (least_place size first) y → IsMisplaced size y → ⊥
+unfolding ContinuesFrom
+none_misplaced sum size r first x (inl damaged) y found bad = let no : Recovered x ≡ Damaged = damaged.0 in cc
+none_misplaced sum size r first x (inr (ordering, is, replays)) y found bad = is.placed y ((is.found y).1 found) bad
+
+-- zeros that were written are read
+zeros_read : (bytes : List ℕ) (at n i : ℕ) → at ≤ i → i < at + n → get_or (overwritten bytes at (replicate n 0)) i 0 ≡ 0
+zeros_read bytes at n i from to =
+    let new : List ℕ = overwritten bytes at (replicate n 0) in
+    let here : at + (i - at) ≡ i = omega (arith, from) in
+    let within : i - at < n = omega (arith, from, to) in
+    let long : length (replicate {A = ℕ} n 0) ≡ n = length-replicate n 0 in
+    ap (λ k. get_or new k 0) (sym here)
+    ∙ sym (get_or-drop at new (i - at) 0)
+    ∙ sym (get_or-take n (drop at new) (i - at) 0 within)
+    ∙ ap (λ k. get_or (take k (drop at new)) (i - at) 0) (sym long)
+    ∙ ap (λ (l : List ℕ). get_or l (i - at) 0) (overwritten-part bytes at (replicate n 0))
+    ∙ get_or-replicate n (i - at) 0 0 within
+
+-- a recovery would begin from this snapshot or one of the same place and pages: from itself, or from the one that was there
+abbrev pub BeginsAgain : (List ℕ → ℕ) → (ℤ → Option (List ℕ)) → State → Shot → Type 0
+BeginsAgain sum snapshots new s = (w : Shot) × BeginsFrom sum new.snapshots.file w × (w.stable ≡ s.stable) × (w.pages ≡ s.pages) × ((w ≡ s) ⊎ BeginsFrom sum snapshots w)
+
+module _ (sum : List ℕ → ℕ) (size : ℕ) (r : Readable) (snapshots : ℤ → Option (List ℕ)) (site : Site) (from : ℕ) (H : History) (file : IsLogFile sum size r.log site from H.messages)
+    (begun : IsBegunFrom sum size snapshots site from H) (some : 256 ≤ size) (short : length r.log ≤ size) (inside : from ≤ size) (place_begins : site.place % size ≡ 0) (slot_begins : site.slot % size ≡ 0)
+    (batches : H.batches ≡ []) (formed : IsWellFormed H) (new : State) where
+  abbrev first : Shot
+  first = begun.first
+
+  abbrev c0 : ℕ
+  c0 = stable_place first.stable
+
+  -- a snapshot of the whole history uses the first slot, where a message lies there
+  stands_used : (s : Shot) (cut : ℕ) → IsTable s.pages H cut → All (λ m. m.place < cut) H.messages → (m : Message) → Contains H.messages m
+      → ((x : Message) → Contains H.messages x → lid_of x.pointer / size ≡ 0) → StandsWhole sum size r.log m → StandsUsed sum size r.log s m
+  stands_used s cut is below m there slots (lid, pointer, stands) =
+      let first_slot : lid / size ≡ 0 = ap (λ p. lid_of p / size) (sym pointer) ∙ slots m there in
+      record {
+        lid = lid;
+        pointer = pointer;
+        stands = stands;
+        used = ap (is_used size s) first_slot ∙ ap (λ (b : Bool). is_active size s.active 0 || b) (uses_slot size H cut s.pages formed is below slots m there) ∙ or-true (is_active size s.active 0);
+      }
+
+  -- Nothing was written since the log began.
+  module _ (unbegun : from ≡ 0) (x : Conclusion) (on : ContinuesFrom sum size r first (Recovered x)) (log_is : new.log ≡ at_rest r.log) (begins : BeginsFrom sum new.snapshots.file first) where
+    cut_is : c0 ≡ site.place
+    cut_is = let reached = begun.reached in omega (arith, reached, unbegun, begun.least, mod-add-div' c0 size)
+
+    no_own : file.own ≡ []
+    no_own = stand_none sum size r.log site 20 file.own (subst (λ n. StandIn sum size r.log site 20 file.own n) (omega (arith, unbegun)) file.stand)
+
+    older_all : H.messages ≡ file.older
+    older_all = file.parts ∙ ap (λ (l : List Message). file.older ++ l) no_own ∙ append-nil file.older
+
+    older : (m : Message) → Contains H.messages m → StandsElsewhere sum size r.log site m
+    older m there = All-contains (StandsElsewhere sum size r.log site) file.older m file.elsewhere (subst (λ (l : List Message). Contains l m) older_all there)
+
+    in_first : (m : Message) → Contains H.messages m → lid_of m.pointer / size ≡ 0
+    in_first m there =
+        let s = older m there in
+        let some_long = stands_some sum size r.log s.lid (m.place / size) m s.stands in
+        let within = s.stands.stands.in_file in
+        ap (λ p. lid_of p / size) s.pointer ∙ div-eq_of_lt (omega (arith, some_long, within, short))
+
+    low : (m : Message) → Contains H.messages m → (m.place < c0) × (m.place + m.size ≤ c0)
+    low m there =
+        let s = older m there in
+        let some_long = stands_some sum size r.log s.lid (m.place / size) m s.stands in
+        let below = s.below in
+        (omega (arith, some_long, below, cut_is), omega (arith, below, cut_is))
+
+    ready_first : IsReady sum size new first H
+    ready_first = record {
+      log = r.log;
+      settled = log_is;
+      begins = begins;
+      table = begun.table;
+      batches = batches;
+      below = all_from_in (λ m. (m.place < c0) × (m.place + m.size ≤ c0)) H.messages low;
+      file = subst (λ (o : Option ℕ). HasFile sum size r.log first o H.messages) (sym (begun.none_active begins_there)) (record {
+        begins = begins_there;
+        used = all_from_in (StandsUsed sum size r.log first) H.messages (λ m there.
+            let s = older m there in
+            stands_used first c0 begun.table (all_from_in (λ y. y.place < c0) H.messages (λ y has. (low y has).0)) m there in_first (s.lid, s.pointer, s.stands));
+        none = λ y found. absurd (none_misplaced sum size r first x on y (subst (λ n. IsFoundSegment sum size r.log n y) (cut_is ∙ sym begun.least) found)
+            (file.alone unbegun y (subst (λ n. IsFoundSegment sum size r.log n y) cut_is found)));
+      });
+    } where
+      begins_there : c0 % size ≡ 0
+      begins_there = ap (λ n. n % size) cut_is ∙ place_begins
+
+  -- The segment was begun.
+  module _ (long : 20 ≤ from) where
+    abbrev end : ℕ
+    end = site.place + from
+
+    abbrev found : Segment
+    found = segment sum size r snapshots site from H file begun some short inside place_begins slot_begins long
+
+    abbrev given_all : List Applied
+    given_all = messages sum size r snapshots site from H file begun some short inside place_begins slot_begins long
+
+    at_first : site.slot ≡ 0
+    at_first = slot_first sum size r snapshots site from H file begun some short inside place_begins slot_begins long
+
+    all_own : H.messages ≡ file.own
+    all_own = own_all sum size r snapshots site from H file begun some short inside place_begins slot_begins long
+
+    within : All (λ m. (m.place < end) × (m.place + m.size ≤ end)) H.messages
+    within = all_below sum size r snapshots site from H file begun some short inside place_begins slot_begins long
+
+    stand_own : StandIn sum size r.log site 20 file.own from
+    stand_own = subst (λ n. StandIn sum size r.log site 20 file.own n) (omega (arith, long)) file.stand
+
+    whole : (m : Message) → Contains H.messages m → StandsWhole sum size r.log m
+    whole m there = All-contains (StandsWhole sum size r.log) file.own m (own_stands sum size r.log site 20 file.own from place_begins stand_own) (subst (λ (l : List Message). Contains l m) all_own there)
+
+    -- each message lies in the first slot
+    in_slot : (at : ℕ) (ms : List Message) (stop : ℕ) → StandIn sum size r.log site at ms stop → All (λ m. lid_of m.pointer / size ≡ 0) ms
+    in_slot at [] stop stand = λ k d lt. absurd (omega (arith, lt))
+    in_slot at (m ∷ ms) stop stand =
+        let room = stand.0 in
+        with_first (λ (y : Message). lid_of y.pointer / size ≡ 0) m ms (ap (λ p. lid_of p / size) stand.2 ∙ div-eq_of_lt (omega (arith, room, at_first))) (in_slot (at + m.size) ms stop stand.4)
+
+    slots : (m : Message) → Contains H.messages m → lid_of m.pointer / size ≡ 0
+    slots m there = All-contains (λ (y : Message). lid_of y.pointer / size ≡ 0) file.own m (in_slot 20 file.own from stand_own) (subst (λ (l : List Message). Contains l m) all_own there)
+
+    reached : c0 ≤ end
+    reached = begun.reached
+
+    -- what was applied makes the table below each cut past the last message
+    table_there : (cut : ℕ) → end ≤ cut → IsTable (table_of first.pages given_all) H cut
+    table_there cut le =
+        let under : All (λ m. m.place < cut) file.own = λ k d lt. let b = own_below sum size r snapshots site from H file begun some short inside place_begins slot_begins long k d lt in omega (arith, b, le) in
+        let same : given_all ≡ map applied (filter (λ m. nat_le c0 m.place && nat_lt m.place cut) H.messages) =
+        sym (given_is sum size r snapshots site from H file begun some short inside place_begins slot_begins long)
+        ∙ given_messages c0 cut file.own under
+        ∙ ap (λ (l : List Message). map applied (filter (λ m. nat_le c0 m.place && nat_lt m.place cut) l)) (sym all_own) in
+        subst (λ (l : List Applied). IsTable (table_of first.pages l) H cut) (sym same) (fold_all H c0 cut first.pages formed (omega (arith, reached, le)) begun.table)
+
+    -- The segment is filled: the cut is its end, and none is active.
+    abbrev full_shot : Shot
+    full_shot = record { stable = Some (pos (site.place + size)); active = None; pages = table_of first.pages given_all }
+
+    none_above : (y : Segment) → IsFoundSegment sum size r.log (site.place + size) y → ⊥
+    none_above y is =
+        let low : least_place size first ≤ y.place = let nb = is.not_below in omega (arith, nb, begun.least) in
+        let again : IsFoundSegment sum size r.log (least_place size first) y = record { slot = is.slot; header = is.header; not_below = low } in
+        let same : found ≡ y = only_found sum size r.log (least_place size first) short found at_first
+            (not_below sum size r snapshots site from H file begun some short inside place_begins slot_begins long) (header_at_first sum size r snapshots site from H file begun some short inside place_begins slot_begins long) y again in
+        let nb = is.not_below in
+        omega (arith, nb, ap (λ (z : Segment). z.place) same, some)
+
+    ready_full : new.log ≡ at_rest r.log → BeginsFrom sum new.snapshots.file full_shot → IsReady sum size new full_shot H
+    ready_full log_is begins =
+        let under : All (λ m. (m.place < site.place + size) × (m.place + m.size ≤ site.place + size)) H.messages = λ k d lt. let b = within k d lt in (omega (arith, b.0, inside), omega (arith, b.1, inside)) in
+        let table : IsTable full_shot.pages H (site.place + size) = table_there (site.place + size) (omega (arith, inside)) in
+        record {
+          log = r.log;
+          settled = log_is;
+          begins = begins;
+          table = table;
+          batches = batches;
+          below = under;
+          file = record {
+            begins = add-mod_right site.place size ∙ place_begins;
+            used = all_from_in (StandsUsed sum size r.log full_shot) H.messages (λ m there. stands_used full_shot (site.place + size) table (λ k d lt. (under k d lt).0) m there slots (whole m there));
+            none = λ y is. absurd (none_above y is);
+          };
+        }
+
+    -- The segment goes on: the cut is where the last record ends, and the rest of it is zeros.
+    abbrev tip_shot : Shot
+    tip_shot = record { stable = Some (pos end); active = Some site.slot; pages = table_of first.pages given_all }
+
+    abbrev shredded : List ℕ
+    shredded = overwritten r.log (site.slot + from) (replicate (size - from) 0)
+
+    offset : from < size → end % size ≡ from
+    offset less = aligned_offset site.place from size place_begins less
+
+    base : from < size → end / size * size ≡ site.place
+    base less = let off = offset less in omega (arith, off, mod-add-div' end size)
+
+    -- the file holds the messages, and none of them in another slot
+    abbrev ShreddedFile : Site → ℕ → Type 0
+    ShreddedFile at n = (f : IsLogFile sum size shredded at n H.messages) × (f.older ≡ [])
+
+    shredded_file : from < size → ShreddedFile site from
+    shredded_file less =
+        let zeros : List ℕ = replicate (size - from) 0 in
+        let count : length zeros ≡ size - from = length-replicate (size - from) 0 in
+        (record {
+          older = [];
+          own = file.own;
+          parts = all_own;
+          elsewhere = λ k d lt. absurd (omega (arith, lt));
+          begun = λ _. long;
+          header = λ _. header_kept sum size r.log (site.slot + from) zeros site (omega (arith, long)) (file.header (omega (arith, long)));
+          stand = stand_kept sum size r.log (site.slot + from) zeros site 20 file.own (max 20 from) (omega (arith, long)) file.stand;
+          clean = λ i above below. zeros_read r.log (site.slot + from) (size - from) i above (omega (arith, below, less));
+          alone = λ none. absurd (omega (arith, long, none));
+        }, refl)
+
+    ready_tip : from < size → new.log ≡ at_rest shredded → BeginsFrom sum new.snapshots.file tip_shot → IsReady sum size new tip_shot H
+    ready_tip less log_is begins =
+        let off = offset less in
+        let at : site ≡ active_site size end site.slot = λ i. record { place = sym (base less) i; slot = site.slot } in
+        let there : ShreddedFile (active_site size end site.slot) (end % size) =
+        subst (λ (n : ℕ). ShreddedFile (active_site size end site.slot) n) (sym off) (subst (λ (x : Site). ShreddedFile x from) at (shredded_file less)) in
+        record {
+          log = shredded;
+          settled = log_is;
+          begins = begins;
+          table = table_there end (omega arith);
+          batches = batches;
+          below = within;
+          file = record {
+            inside = omega (arith, off, long);
+            file = there.0;
+            used = λ k d lt. absurd (omega (arith, lt, ap length there.1));
+          };
+        }
+
+    -- The snapshot is that of the filled segment or of the one that goes on.
+    module _ (x : Conclusion) (is : concluded size first given_all (cut_of size (found, end)) ≡ Recovered x)
+        (log_is : MatchOption x.tip (new.log ≡ at_rest r.log) (λ tip. new.log ≡ at_rest (overwritten r.log tip.0 (replicate tip.1 0)))) (again : BeginsAgain sum snapshots new x.shot) where
+      -- where recovery would begin from the first snapshot again, its place is the cut
+      from_first : (s : Shot) → x.shot ≡ s → (first.stable ≡ s.stable → first.pages ≡ s.pages → first ≡ s) → BeginsFrom sum new.snapshots.file s
+      from_first s same grown = elim again.4 [
+        | inl own ↦ subst (λ (w : Shot). BeginsFrom sum new.snapshots.file w) (own ∙ same) again.1
+        | inr old ↦ (
+            let one : again.0 ≡ first = one_begin sum snapshots again.0 first old begun.begins in
+            let stable : first.stable ≡ s.stable = ap (λ (w : Shot). w.stable) (sym one) ∙ again.2 ∙ ap (λ (w : Shot). w.stable) same in
+            let pages : first.pages ≡ s.pages = ap (λ (w : Shot). w.pages) (sym one) ∙ again.3 ∙ ap (λ (w : Shot). w.pages) same in
+            subst (λ (w : Shot). BeginsFrom sum new.snapshots.file w) (one ∙ grown stable pages) again.1)
+      ]
+
+      abbrev made_at : ℕ × Option ℕ → Conclusion
+      made_at cut = record {
+        shot = record { stable = Some (pos cut.0); active = cut.1; pages = table_of first.pages given_all };
+        tip = tip_of size cut.0 cut.1;
+        is_new = is_beyond first.stable cut.0;
+      }
+
+      -- what was concluded, where this is the cut
+      made_is : (cut : ℕ × Option ℕ) → cut_of size (found, end) ≡ cut → made_at cut ≡ x
+      made_is cut at =
+          (chosen_well (has_no_table given_all) (nat_lt cut.0 c0) (are_whole (table_of first.pages given_all)) (made_at cut) x (ap (concluded size first given_all) (sym at) ∙ is)).1
+
+      not_full : first.stable ≡ Some (pos (site.place + size)) → ⊥
+      not_full at =
+          let c_is : c0 ≡ site.place + size = ap stable_place at in
+          let up : (site.place + size) / size * size ≡ site.place = ap (λ n. n / size * size) (sym c_is) ∙ begun.least in
+          let whole_place : (site.place + size) % size ≡ 0 = add-mod_right site.place size ∙ place_begins in
+          omega (arith, up, whole_place, mod-add-div' (site.place + size) size, some)
+
+      ready_filled : cut_of size (found, end) ≡ (site.place + size, None) → IsReady sum size new x.shot H
+      ready_filled at =
+          let made = made_is (site.place + size, None) at in
+          let shot : x.shot ≡ full_shot = ap (λ (y : Conclusion). y.shot) (sym made) in
+          let logs : new.log ≡ at_rest r.log = subst (λ (t : Option (ℕ × ℕ)). MatchOption t (new.log ≡ at_rest r.log) (λ tip. new.log ≡ at_rest (overwritten r.log tip.0 (replicate tip.1 0)))) (ap (λ (y : Conclusion). y.tip) (sym made)) log_is in
+          subst (λ (w : Shot). IsReady sum size new w H) (sym shot) (ready_full logs (from_first full_shot shot (λ stable pages. absurd (not_full stable))))
+
+      ready_going : from + 32 ≤ size → cut_of size (found, end) ≡ (end, Some site.slot) → IsReady sum size new x.shot H
+      ready_going room at =
+          let less : from < size = omega (arith, room) in
+          let off = offset less in
+          let made = made_is (end, Some site.slot) at in
+          let shot : x.shot ≡ tip_shot = ap (λ (y : Conclusion). y.shot) (sym made) in
+          let logs : new.log ≡ at_rest (overwritten r.log (site.slot + end % size) (replicate (size - end % size) 0)) =
+          subst (λ (t : Option (ℕ × ℕ)). MatchOption t (new.log ≡ at_rest r.log) (λ tip. new.log ≡ at_rest (overwritten r.log tip.0 (replicate tip.1 0)))) (ap (λ (y : Conclusion). y.tip) (sym made)) log_is in
+          let grown : first.stable ≡ tip_shot.stable → first.pages ≡ tip_shot.pages → first ≡ tip_shot = λ stable pages.
+              let c_is : c0 ≡ end = ap stable_place stable in
+              let active : first.active ≡ Some site.slot = begun.active (omega (arith, ap (λ n. n % size) c_is, off, long)) in
+              λ i. record { stable = stable i; active = active i; pages = pages i } in
+          subst (λ (w : Shot). IsReady sum size new w H) (sym shot)
+          (ready_tip less (subst (λ (n : ℕ). new.log ≡ at_rest (overwritten r.log (site.slot + n) (replicate (size - n) 0))) off logs) (from_first tip_shot shot grown))
+
+      ready_begun : IsReady sum size new x.shot H
+      ready_begun = by (is_filled size (found, end)) refl where
+        by : (b : Bool) → is_filled size (found, end) ≡ b → IsReady sum size new x.shot H
+        by true filled = ready_filled (ap (λ (t : Bool). if t then (site.place + size, None) else (end, Some site.slot)) filled)
+        by false filled =
+            let room : from + 32 ≤ size = grind (arith, nat_tests, filled) in
+            ready_going room (ap (λ (t : Bool). if t then (site.place + size, None) else (end, Some site.slot)) filled)
+
+  -- Recovery leaves snapshot and device ready for a log that holds the history.
+  pub ready_after : (x : Conclusion) → Recovers sum size r snapshots (Recovered x) → MatchOption x.tip (new.log ≡ at_rest r.log) (λ tip. new.log ≡ at_rest (overwritten r.log tip.0 (replicate tip.1 0)))
+      → BeginsAgain sum snapshots new x.shot → IsReady sum size new x.shot H
+  ready_after x recovers log_is again =
+      let on = continues sum size r snapshots site from H file begun some short inside place_begins slot_begins x recovers in
+      elim (cases_lt 0 from) [
+        | inl begun_at ↦ (
+            let long = file.begun begun_at in
+            ready_begun long x (concludes sum size r snapshots site from H file begun some short inside place_begins slot_begins long x on) log_is again)
+        | inr none ↦ (
+            let unbegun : from ≡ 0 = omega (arith, none) in
+            let same : x ≡ unchanged first = stays sum size r snapshots site from H file begun some short inside place_begins slot_begins unbegun x on in
+            let logs : new.log ≡ at_rest r.log = subst (λ (t : Option (ℕ × ℕ)). MatchOption t (new.log ≡ at_rest r.log) (λ tip. new.log ≡ at_rest (overwritten r.log tip.0 (replicate tip.1 0)))) (ap (λ (y : Conclusion). y.tip) same) log_is in
+            let begins : BeginsFrom sum new.snapshots.file first = elim again.4 [
+              | inl own ↦ subst (λ (w : Shot). BeginsFrom sum new.snapshots.file w) (own ∙ ap (λ (y : Conclusion). y.shot) same) again.1
+              | inr old ↦ subst (λ (w : Shot). BeginsFrom sum new.snapshots.file w) (one_begin sum snapshots again.0 first old begun.begins) again.1
+            ] in
+            subst (λ (w : Shot). IsReady sum size new w H) (sym (ap (λ (y : Conclusion). y.shot) same)) (ready_first unbegun x on logs begins))
+      ]
+
+-- a state whose log file and names were settled
+abbrev pub state_settled : State → State
+state_settled s = step NamesSynced (step Synced s)
+
+-- what follows from three facts of an answer
+pub if_all : {T E : Type 0} (a : Result T E) (P Q : T → Type 0) (R : Type 0) (S : T → Type 0) → ((t : T) → P t → Q t → R → S t) → IfOk a P → IfOk a Q → OnOk a R → IfOk a S
+if_all (Ok t) P Q R S follows p q r = follows t p q r
+if_all (Err e) P Q R S follows p q r = tt
+
+-- The same, from what is kept on the device and what recovery says of its writes.
+pub ready_kept : (sum : List ℕ → ℕ) (size : ℕ) (site : Site) (from : ℕ) (device new : State) (H : History) → IsKept sum size site from device H → IsWellFormed H → 256 ≤ size → length device.log.bytes ≤ size
+    → (s : Shot) (x : Conclusion) → Recovers sum size (record { log = device.log.bytes; blobs = λ _. None }) device.snapshots.file (Recovered x) → s ≡ x.shot
+    → IsWrittenBack sum x (state_settled device) new → BeginsAgain sum device.snapshots.file new s → IsReady sum size new s H
+ready_kept sum size site from device new H kept formed some short s x recovers same back again =
+    let r : Readable = record { log = device.log.bytes; blobs = λ _. None } in
+    let there : kept.on_device.log ≡ device.log.bytes = sym (ap (λ (l : LogState). l.bytes) kept.on_device.settled) in
+    let file : IsLogFile sum size device.log.bytes site from H.messages = subst (λ (l : List ℕ). IsLogFile sum size l site from H.messages) there kept.on_device.file in
+    subst (λ (w : Shot). IsReady sum size new w H) (sym same)
+    (ready_after sum size r device.snapshots.file site from H file kept.begun some short kept.inside kept.place_begins kept.slot_begins kept.batches formed new x recovers back.log
+    (subst (λ (w : Shot). BeginsAgain sum device.snapshots.file new w) same again))

@@ -1,0 +1,45 @@
+//! A log that is given up in order, and comes back.
+//!
+//! What a flush left is what a recovery reads: its table is that of the whole history, and a log that begins on
+//! it holds that history again (`specs/Recovery.antt`; `Log::start`).
+ghost use Rattle.std.specs.Prelude.{◌≡◌, ◌+◌, ◌≤◌, IfOk};
+ghost use Rattle.std.specs.List.{All};
+ghost use Rattle.sled_codec.specs.History.{History, Message};
+ghost use Rattle.sled_codec.specs.PageTables.{IsTable};
+ghost use Rattle.sled_codec.specs.Snapshots.{shot_of};
+ghost use Rattle.sled_codec.specs.WellFormed.{IsWellFormed};
+ghost use Rattle.sled_store.specs.Device.{state_of};
+ghost use Rattle.sled_store.specs.SnapshotFiles.{stable_place};
+ghost use Rattle.sled_core.specs.Fits.{Holds, AllEnded, segment_size_of};
+ghost use Rattle.sled_core.specs.Ready.{IsReady};
+
+use crate::snapshot::{Snapshot, read_snapshot_or_default};
+use sled_codec::result::Result;
+use sled_codec::serialization::Checksum;
+use sled_core::logger::Log;
+use sled_store::{Device, RunningConfig};
+
+/// Writes what a log holds, gives the log up, and recovers its device. Where all of this succeeds, the table is
+/// that of all completed messages, its place lies past each of them, and `Log::start` on the snapshot gives a
+/// log that holds them again. No reservation may be open.
+///
+/// The errors are those of `Log::flush` and of `read_snapshot_or_default`; the configuration comes back with each
+/// of them.
+pub fn restart<D: Device, C: Checksum>(log: Log<D, C>) -> (RunningConfig<D, C>, Result<Snapshot>)
+    requires ended { AllEnded log }
+    ensures table { (H : History) → Holds D.trace C.sum_of log H → IsWellFormed H → IfOk result.1 (λ s. IsTable (shot_of s).pages H (stable_place s.stable_lsn)) }
+    ensures past { (H : History) → Holds D.trace C.sum_of log H → IsWellFormed H → IfOk result.1 (λ s. All (λ m. m.place + m.size ≤ stable_place s.stable_lsn) H.messages) }
+    ensures ready { (H : History) → Holds D.trace C.sum_of log H → IsWellFormed H → IfOk result.1 (λ s. IsReady C.sum_of (segment_size_of log) (state_of (D.trace result.0.device)) (shot_of s) H) }
+    ensures size { result.0.config.segment_size ≡ segment_size_of log }
+{
+    let mut log = log;
+    let flushed = log.flush();
+    let mut config = log.halt();
+    match flushed {
+        Ok(_) => {
+            let snapshot = read_snapshot_or_default(&mut config);
+            (config, snapshot)
+        }
+        Err(e) => (config, Err(e)),
+    }
+}
