@@ -26,9 +26,11 @@ or_false : (b : Bool) → (b || false) ≡ b
 or_false true = refl
 or_false false = refl
 
+-- a key is itself to a map
 at_self : (n : ℕ) → is_at (nat_cmp n) n ≡ true
 at_self n = (eq_by_cmp_equiv nat_cmp_total).refl n
 
+-- another number is another key
 at_other : (m n : ℕ) → m ≢ n → is_at (nat_cmp m) n ≡ false
 at_other m n other = by (is_at (nat_cmp m) n) refl
   where
@@ -39,9 +41,11 @@ at_other m n other = by (is_at (nat_cmp m) n) refl
 module _ (size : ℕ) where
   -- An entry beside others.
 
+  -- an entry lies in the slot of another exactly where it is of its segment
   abbrev pub LiesBeside : List Entry → Entry → Type 0
   LiesBeside es x = (d : Entry) → Contains es d → (slot_of size d ≡ slot_of size x) ↔ (number_of size d ≡ number_of size x)
 
+  -- and so one more may lie there
   apart_push : (es : List Entry) (x : Entry) → AreApart size es → LiesBeside es x → AreApart size (es ++ x ∷ [])
   apart_push es x apart beside d e has_d has_e = elim (Contains-push_cases es x d has_d) [
     | inl old_d ↦ elim (Contains-push_cases es x e has_e) [
@@ -58,11 +62,13 @@ module _ (size : ℕ) where
   abbrev found : List Entry → Entry → Option ℕ
   found es x = sum_in (option_map (λ n. (n, sizes_in size (slot_of size x) es)) (number_in size (slot_of size x) es)) (list_any (λ e. number_of size e == number_of size x) es) (number_of size x)
 
+  -- a book answers that
   known : (b : Book) (es : List Entry) (x : Entry) → IsBooked size b es → sum_in (get nat_cmp b.held (slot_of size x)) (contains nat_cmp b.numbers (number_of size x)) (number_of size x) ≡ found es x
   known b es x booked =
       ap (λ (o : Option (ℕ × ℕ)). sum_in o (contains nat_cmp b.numbers (number_of size x)) (number_of size x)) (booked.held (slot_of size x))
       ∙ ap (λ (t : Bool). sum_in (option_map (λ n. (n, sizes_in size (slot_of size x) es)) (number_in size (slot_of size x) es)) t (number_of size x)) (booked.numbers (number_of size x))
 
+  -- where a sum is found, the entry lies beside the others
   lies_beside : (es : List Entry) (x : Entry) (s : ℕ) → AreApart size es → found es x ≡ Some s → (s ≡ sizes_in size (slot_of size x) es) × LiesBeside es x
   lies_beside es x s apart is = by (number_in size (slot_of size x) es) (list_any (λ e. number_of size e == number_of size x) es) refl refl is
     where
@@ -84,6 +90,7 @@ module _ (size : ℕ) where
         λ d in_es. (λ same. absurd (none_in size (slot_of size x) es first d in_es same), λ same. absurd (none_of size (number_of size x) es has d in_es same)),
       )
 
+  -- where none is found, it does not
   not_beside : (es : List Entry) (x : Entry) → found es x ≡ None → AreApart size (es ++ x ∷ []) → ⊥
   not_beside es x is apart = by (number_in size (slot_of size x) es) (list_any (λ e. number_of size e == number_of size x) es) refl refl is
     where
@@ -100,6 +107,7 @@ module _ (size : ℕ) where
 
   -- The whole of a book.
 
+  -- the slots, with one more entry
   held_push : (b : Book) (es : List Entry) (x : Entry) (s : ℕ) (new : BTreeMap ℕ (ℕ × ℕ)) → IsBooked size b es → s ≡ sizes_in size (slot_of size x) es → LiesBeside es x
       → ((q : ℕ) → get nat_cmp new q ≡ cond (is_at (nat_cmp (slot_of size x)) q) (Some (number_of size x, s + x.2)) (get nat_cmp b.held q))
       → (k : ℕ) → get nat_cmp new k ≡ option_map (λ n. (n, sizes_in size k (es ++ x ∷ []))) (number_in size k (es ++ x ∷ []))
@@ -135,6 +143,7 @@ module _ (size : ℕ) where
           ∙ ap (λ m. Some (number_of size x, m)) (sym sizes_at_x)
           ∙ ap (λ (o : Option ℕ). option_map (λ n. (n, sizes_in size (slot_of size x) (es ++ x ∷ []))) o) (sym at_x)
 
+  -- the segments, with one more entry
   numbers_push : (b : Book) (es : List Entry) (x : Entry) (new : BTreeSet ℕ) → IsBooked size b es
       → ((q : ℕ) → contains nat_cmp new q ≡ cond (is_at (nat_cmp (number_of size x)) q) true (contains nat_cmp b.numbers q))
       → (n : ℕ) → contains nat_cmp new n ≡ list_any (λ e. number_of size e == n) (es ++ x ∷ [])
@@ -151,6 +160,7 @@ module _ (size : ℕ) where
             )
       ]
 
+  -- the sums, with one more entry
   counted_push : (es : List Entry) (x : Entry) (s : ℕ) → AreFit size es → s ≡ sizes_in size (slot_of size x) es → s + x.2 < 2 ^ 63 → (k : ℕ) → sizes_in size k (es ++ x ∷ []) < 2 ^ 63
   counted_push es x s fit is small k = elim (eqb_tells (slot_of size x) k) [
     | inl same_k ↦ (

@@ -8,6 +8,7 @@ use Rattle.sled_codec.specs.Snapshots.{Entry}
 use Rattle.sled_core.specs.Begin.{slot_of, number_of, sizes_in}
 use Rattle.sled_core.specs.Booked.{number_in}
 
+-- a number is itself
 pub same_number : (n : ℕ) → (n == n) ≡ true
 same_number n = elim (eqb_tells n n) [ inl same_n ↦ same_n.0 | inr other_n ↦ absurd (other_n.1 refl) ]
 
@@ -26,6 +27,7 @@ or_else None o = o
 module _ (size : ℕ) where
   -- Which entries lie in a slot, and which are of a segment.
 
+  -- the number that is found of a slot is that of an entry in it
   pub first_in : (k : ℕ) (es : List Entry) (n : ℕ) → number_in size k es ≡ Some n → (e : Entry) × Contains es e × (slot_of size e ≡ k) × (number_of size e ≡ n)
   first_in k [] n is = absurd (let never : ⊥ = cc in never)
   first_in k (e ∷ es) n is = by (first_in k es n) (slot_of size e == k) refl is
@@ -37,6 +39,7 @@ module _ (size : ℕ) where
           let rest = others found in
           (rest.0, Contains-append_right (e ∷ []) es rest.0 rest.1, rest.2, rest.3)
 
+  -- where no number is found, no entry lies in the slot
   pub none_in : (k : ℕ) (es : List Entry) → number_in size k es ≡ None → (d : Entry) → Contains es d → slot_of size d ≡ k → ⊥
   none_in k [] is d has at = let lt = has.1 in omega arith
   none_in k (e ∷ es) is d has at = by (none_in k es) (slot_of size e == k) refl is
@@ -48,6 +51,7 @@ module _ (size : ℕ) where
         | inr rest ↦ others none d rest at
       ]
 
+  -- an entry that is of a segment, where there is one
   pub of_segment : (n : ℕ) (es : List Entry) → list_any (λ e. number_of size e == n) es ≡ true → (e : Entry) × Contains es e × (number_of size e ≡ n)
   of_segment n [] is = absurd (let never : ⊥ = cc in never)
   of_segment n (e ∷ es) is = by (of_segment n es) (number_of size e == n) refl is
@@ -59,6 +63,7 @@ module _ (size : ℕ) where
           let rest = others found in
           (rest.0, Contains-append_right (e ∷ []) es rest.0 rest.1, rest.2)
 
+  -- where none is found, no entry is of the segment
   pub none_of : (n : ℕ) (es : List Entry) → list_any (λ e. number_of size e == n) es ≡ false → (d : Entry) → Contains es d → number_of size d ≡ n → ⊥
   none_of n [] is d has at = let lt = has.1 in omega arith
   none_of n (e ∷ es) is d has at = by (none_of n es) (number_of size e == n) refl is
@@ -72,11 +77,13 @@ module _ (size : ℕ) where
 
   -- What one more entry adds.
 
+  -- what an entry adds to the sum of a slot
   pub sizes_push : (k : ℕ) (es : List Entry) (x : Entry) → sizes_in size k (es ++ x ∷ []) ≡ sizes_in size k es + (if slot_of size x == k then x.2 else 0)
   sizes_push k es x =
       let one : sizes_in size k (x ∷ []) ≡ (if slot_of size x == k then x.2 else 0) = let e = sum_by-cons (λ (e : Entry). if slot_of size e == k then e.2 else 0) x [] in omega (arith, e) in
       sum_by-append (λ (e : Entry). if slot_of size e == k then e.2 else 0) es (x ∷ []) ∙ ap (λ n. sizes_in size k es + n) one
 
+  -- a slot with no entries sums up to nothing
   pub no_sizes : (k : ℕ) (es : List Entry) → number_in size k es ≡ None → sizes_in size k es ≡ 0
   no_sizes k [] is = refl
   no_sizes k (e ∷ es) is = sum_by-cons (λ (d : Entry). if slot_of size d == k then d.2 else 0) e es ∙ by (no_sizes k es) (slot_of size e == k) is
@@ -85,6 +92,7 @@ module _ (size : ℕ) where
       by others true none = absurd (let never : ⊥ = cc in never)
       by others false none = let zero = others none in omega arith
 
+  -- what an entry adds to the numbers of slots
   pub number_push : (k : ℕ) (es : List Entry) (x : Entry) → number_in size k (es ++ x ∷ []) ≡ or_else (number_in size k es) (if slot_of size x == k then Some (number_of size x) else None)
   number_push k [] x = refl
   number_push k (e ∷ es) x = by (number_push k es x) (slot_of size e == k)

@@ -20,6 +20,7 @@ pub after_is : (es : List Event) (old : Trace) → after_all es old ≡ reverse 
 after_is [] old = done_none old
 after_is (e ∷ es) old = done_all e es old (e ∷ old) (after_all es (e ∷ old)) refl (after_is es (e ∷ old))
 
+-- the trace after two lists of calls
 pub after_joined : (es fs : List Event) (old : Trace) → after_all (es ++ fs) old ≡ after_all fs (after_all es old)
 after_joined [] fs old = refl
 after_joined (e ∷ es) fs old = after_joined es fs (e ∷ old)
@@ -39,9 +40,11 @@ pub same_below : (p q : ℕ → Bool) (m n : ℕ) → ((k : ℕ) → p k ≡ q k
 same_below p q m n same is = (λ i. not_below (λ k. same k i) m) ∙ ap (not_below q) is
 
 module _ (test : ℕ → Bool) where
+  -- a number at which the test is true is left out
   pub not_below_yes : (k : ℕ) → test k ≡ true → not_below test (k + 1) ≡ not_below test k
   not_below_yes k is = ap (not_below test) (add-one k) ∙ ap (λ (b : Bool). if b then not_below test k else not_below test k ++ k ∷ []) is
 
+  -- and one at which it is false stands at the end
   pub not_below_no : (k : ℕ) → test k ≡ false → not_below test (k + 1) ≡ not_below test k ++ k ∷ []
   not_below_no k is = ap (not_below test) (add-one k) ∙ ap (λ (b : Bool). if b then not_below test k else not_below test k ++ k ∷ []) is
 

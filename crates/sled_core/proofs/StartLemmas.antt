@@ -48,12 +48,14 @@ module _ (size : ℕ) where
   abbrev AreBeside : ℕ → List Entry → ℕ → Type 0
   AreBeside stable es a = All (λ e. (slot_of size e ≡ a / size) ↔ (number_of size e ≡ stable / size)) es
 
+  -- entries that may lie together with the active segment lie beside it
   beside_active : (stable : ℕ) (active : Option ℕ) (es : List Entry) → AreApart size (active_entry stable active ++ es) → IfSome active (AreBeside stable es)
   beside_active stable None es apart = tt
   beside_active stable (Some a) es apart = λ k d lt.
       let first : Entry = (pos stable, Inline a, 0) in
       apart _ first (Contains-append_right (first ∷ []) es _ (All-contains_itself es k d lt)) (Contains-append_left (first ∷ []) es first (Contains-push [] first))
 
+  -- and the other way round
   apart_active : (stable : ℕ) (active : Option ℕ) (es : List Entry) → AreApart size es → IfSome active (AreBeside stable es) → AreApart size (active_entry stable active ++ es)
   apart_active stable None es apart beside d e has_d has_e = apart d e has_d has_e
   apart_active stable (Some a) es apart beside d e has_d has_e =
@@ -89,6 +91,7 @@ module _ (size : ℕ) where
         counted = λ k. let sum = sizes_active k (stable_place s.stable) s.active es in omega (arith, sum, fit.counted k);
       }
 
+  -- the entries of such a snapshot may lie together with its active segment
   pub startable_fits : (len : ℕ) (s : Shot) → IsStartable size len s → AreFit size (active_entry (stable_place s.stable) s.active ++ entries_of s.pages)
   startable_fits len s may = record {
     apart = apart_active (stable_place s.stable) s.active (entries_of s.pages) may.apart may.of_active;
@@ -105,6 +108,7 @@ module _ (size : ℕ) where
       by others true = refl
       by others false = others
 
+  -- the slots of the active segment and of entries
   any_active : (k stable : ℕ) (active : Option ℕ) (es : List Entry) → list_any (λ e. slot_of size e == k) (active_entry stable active ++ es) ≡ (is_active size active k || list_any (λ e. slot_of size e == k) es)
   any_active k stable None es = refl
   any_active k stable (Some a) es = refl

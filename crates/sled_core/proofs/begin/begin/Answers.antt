@@ -1,3 +1,4 @@
+-- Where a log begins: what was filled, and where no call was made.
 use Rattle.std.proofs.Common.{◌≡◌, ◌∙◌, ◌<◌, ℕ, Bool, List, length, Option, IfSome, is_some, ap, sym, subst}
 use Rattle.std.specs.Ordering.{nat_cmp}
 use Rattle.std.specs.BTreeMap.{get}

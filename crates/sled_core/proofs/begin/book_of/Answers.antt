@@ -1,3 +1,4 @@
+-- Where all is booked, a log can begin from the snapshot, and the book has the slots that are used.
 use Rattle.std.proofs.Common.{◌≡◌, ◌∙◌, ℕ, List, map, ap, sym}
 use Rattle.sled_codec.specs.Snapshots.{Page, Shot, shot_of, page_of}
 use Rattle.sled_core.proofs.StartLemmas.{startable_at, seen_there, placed_there, fit_there, used_there}

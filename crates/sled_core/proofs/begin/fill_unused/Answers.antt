@@ -1,3 +1,4 @@
+-- The unused slots were filled and the file synced, or this stopped on the way.
 use Rattle.std.proofs.Common.{◌≡◌, ℕ, List, Some, None, is_some}
 use Rattle.std.specs.Ordering.{nat_cmp}
 use Rattle.std.specs.BTreeMap.{get}

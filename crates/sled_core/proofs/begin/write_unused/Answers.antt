@@ -1,3 +1,4 @@
+-- One more slot was filled, or this stopped.
 use Rattle.std.proofs.Common.{◌≡◌, ◌∙◌, ◌+◌, ◌++◌, [], ◌∷◌, ℕ, Bool, false, List, map, Option, Some, is_some, ap, sym}
 use Rattle.std.specs.Option.{option_or}
 use Rattle.std.specs.Ordering.{nat_cmp}

@@ -1,3 +1,4 @@
+-- An entry is booked beside the others, or can't lie there.
 use Rattle.std.proofs.Common.{◌≡◌, ◌+◌, ◌/◌, ◌≤◌, ◌<◌, ◌^◌, ◌∙◌, ℕ, sym, ap, rules, arith, unsigned_abs, to_z, of_z, w64}
 use Rattle.sled_core.specs.Begin.{slot_of, number_of}
 use Rattle.sled_core.proofs.BookLemmas.{booked_at, place_unfit, size_unfit}

@@ -1,3 +1,4 @@
+-- An entry that is within the limits can't be booked only where it can't lie beside the others.
 use Rattle.sled_core.proofs.begin.book.Book.put.Goals as goal
 
 pub returns-clause-corrupt : goal.returns-clause-corrupt

@@ -1,3 +1,4 @@
+-- The active segment is booked as an entry of no bytes.
 use Rattle.std.proofs.Common.{◌≡◌, [], ◌∷◌, ℕ, Option, pos, to_z, w64, sym, subst, rules, arith, OnOk}
 use Rattle.sled_codec.specs.declared.result.DiskPtr.TheVariants.{Inline}
 use Rattle.sled_core.specs.Booked.{IsBooked, active_entry}

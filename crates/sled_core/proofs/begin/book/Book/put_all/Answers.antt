@@ -1,3 +1,4 @@
+-- Entries are booked one after another, or one of them can't be.
 use Rattle.std.proofs.Common.{◌≡◌, ◌∙◌, ◌+◌, ◌++◌, [], ◌∷◌, ℕ, List, pos, take, get_or, ap, sym, subst, arith, append_assoc, take_all}
 use Rattle.std.proofs.lemmas.List.{get_or_default}
 use Rattle.std.specs.List.{All}

@@ -1,3 +1,4 @@
+-- The entries of a page are booked, or one of them can't be.
 use Rattle.std.proofs.Common.{◌≡◌, ◌∙◌, ◌++◌, [], ◌∷◌, ℕ, ℤ, List, to_z, of_z, w64, rules, ap, sym, subst, append_assoc, OnOk}
 use Rattle.std.specs.List.{All}
 use Rattle.std.proofs.lemmas.List.Elements.{All-head, All-tail}

@@ -1,3 +1,4 @@
+-- The entries of all pages are booked, or one of them can't be.
 use Rattle.std.proofs.Common.{◌≡◌, ◌≢◌, ◌∙◌, ◌+◌, ◌<◌, ◌++◌, ℕ, List, length, map, take, get_or, ap, sym, subst, arith, append_assoc, take_all}
 use Rattle.std.proofs.lemmas.List.{length-map}
 use Rattle.std.proofs.lemmas.List.Elements.{All-append}
