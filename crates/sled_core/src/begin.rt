@@ -18,6 +18,7 @@ use book::{Book, Limits};
 use sled_codec::result::{Error, Result};
 use sled_codec::serialization::{Checksum, SegmentHeader};
 use sled_codec::serialization::snapshot::Snapshot;
+use sled_store::snapshot::{is_sound, stable_place};
 use sled_store::{Device, RunningConfig};
 use std::alloc::Global;
 
@@ -246,25 +247,4 @@ fn slots_of(size: u64, len: u64) -> u64
     ensures { result ≡ slots_of size len }
 {
     (len + (size - 1)) / size
-}
-
-/// Whether it has a stable place that is not negative, or is the one of a log that was never begun.
-fn is_sound(snapshot: &Snapshot) -> bool
-    ensures { result ≡ is_sound (shot_of snapshot.now) }
-{
-    match snapshot.stable_lsn {
-        Some(place) => place >= 0,
-        None => snapshot.active_segment.is_none() && snapshot.pt.is_empty(),
-    }
-}
-
-/// The place that a snapshot ends with, 0 where there is none.
-fn stable_place(snapshot: &Snapshot) -> u64
-    ensures place { result ≡ stable_place (shot_of snapshot.now).stable }
-    ensures small { result < 2 ^ 63 }
-{
-    match snapshot.stable_lsn {
-        Some(place) => u64::try_from(place).unwrap_or(0),
-        None => 0,
-    }
 }

@@ -22,6 +22,7 @@ use sled_codec::serialization::{Checksum, Serialize};
 use sled_core::iterator::{read_slot, scan, segment_in};
 use sled_core::met::{Scan, Segment};
 use sled_core::read_at::BasedBuf;
+use sled_store::snapshot::stable_place;
 use sled_store::{Device, RunningConfig};
 use std::alloc::Global;
 
@@ -322,17 +323,6 @@ fn tip_of(size: u64, cut: u64, active: Option<LogOffset>) -> Option<Tip>
             })
         }
         None => None,
-    }
-}
-
-/// The place that a snapshot ends with, 0 where there is none.
-fn stable_place(snapshot: &Snapshot) -> u64
-    ensures place { result ≡ stable_place snapshot.now.stable_lsn }
-    ensures small { result < 2 ^ 63 }
-{
-    match snapshot.stable_lsn {
-        Some(place) => u64::try_from(place).unwrap_or(0),
-        None => 0,
     }
 }
 

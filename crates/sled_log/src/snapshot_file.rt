@@ -15,6 +15,7 @@ ghost use Rattle.sled_log.specs.WritesBack.{publishing_file, removing, others, A
 
 use sled_codec::result::{Error, Result};
 use sled_codec::serialization::{Checksum, Serialize, Snapshot};
+use sled_store::snapshot::is_sound;
 use sled_store::{Device, RunningConfig};
 use std::alloc::Global;
 
@@ -155,17 +156,6 @@ fn read_file<D: Device>(device: &mut D, number: i64) -> Result<Vec<u8>>
     ensures trace { D.trace device.new ≡ D.trace device.old }
 {
     Ok(device.snapshot_read(number)?)
-}
-
-/// Whether recovery can begin from it: it has a stable place that is not negative, or it is the one of a
-/// log that was never begun.
-pub(crate) fn is_sound(snapshot: &Snapshot) -> bool
-    ensures { result ≡ is_sound (shot_of snapshot.now) }
-{
-    match snapshot.stable_lsn {
-        Some(place) => place >= 0,
-        None => snapshot.active_segment.is_none() && snapshot.pt.is_empty(),
-    }
 }
 
 /// Writes the bytes of a snapshot and gives them a number that a crash does not take back.

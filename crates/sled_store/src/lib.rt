@@ -1,4 +1,5 @@
-//! What the segment log stands on: the device that it is kept on, and the sizes that it is kept in.
+//! What the segment log stands on: the device that it is kept on, the sizes that it is kept in, and what a snapshot
+//! says of it.
 //!
 //! What a device does, and what a crash may leave of it, is defined in `specs/Device.antt` and told in
 //! `docs/DEVICE.md`.
@@ -6,6 +7,7 @@
 
 pub mod config;
 pub mod device;
+pub mod snapshot;
 
 pub use config::{Config, RunningConfig};
 pub use device::Device;
