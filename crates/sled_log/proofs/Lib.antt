@@ -14,3 +14,7 @@ pub mod OtherLemmas
 pub mod RemovalLemmas
 pub mod Trailers
 pub mod WriteLemmas
+mod PlainSegments
+mod PlainPasses
+mod PlainSlots
+mod PlainFound
