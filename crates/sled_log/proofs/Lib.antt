@@ -18,3 +18,5 @@ mod PlainSegments
 mod PlainPasses
 mod PlainSlots
 mod PlainFound
+mod PlainSame
+mod PlainTail

@@ -1,5 +1,5 @@
 -- Looking for segments slot by slot.
-use Rattle.std.proofs.Common.{◌≡◌, ◌≢◌, ◌∙◌, ◌⊎◌, ◌↔◌, ◌+◌, ◌-◌, ◌%◌, ◌^◌, ◌<◌, ◌≤◌, ℕ, ℤ, pos, List, length, take, drop, Option, Some, None, IfSome, IfNone, refl, sym, ap, subst, arith, inl, inr, ⊎_elim, length-take, length-drop}
+use Rattle.std.proofs.Common.{◌≡◌, ◌≢◌, ◌∙◌, ◌⊎◌, ◌↔◌, ◌+◌, ◌-◌, ◌%◌, ◌^◌, ◌<◌, ◌≤◌, ℕ, ℤ, pos, List, [], length, Result, Ok, Err, OnOk, take, drop, Option, Some, None, IfSome, IfNone, refl, sym, ap, subst, arith, inl, inr, ⊎_elim, length-take, length-drop}
 use Rattle.std.specs.List.{Contains}
 use Rattle.std.proofs.lemmas.Bool.{cases_lt}
 use Rattle.std.proofs.lemmas.List.{take-take}
@@ -10,8 +10,10 @@ use Rattle.sled_core.specs.declared.met.Segment.{Segment}
 use Rattle.sled_core.specs.Scan.{IsFoundSegment, IsMisplaced}
 use Rattle.sled_core.proofs.ScanLemmas.{aligned_offset}
 use Rattle.sled_log.specs.Recovery.{IsOrdering, IsUnordered}
-use Rattle.sled_log.specs.Plain.{Chain, IsReady}
+use Rattle.sled_log.specs.Plain.{Chain, AreFound, IsReady}
 use Rattle.sled_log.proofs.PlainSegments.{chain_ascends}
+use Rattle.sled_codec.specs.declared.result.Error.{Error}
+use Rattle.sled_log.proofs.Ascending.{in_nothing}
 use Rattle.sled_log.proofs.FindLemmas.{pos_injective}
 
 -- of two slots one is no further than the other, or it is a whole size further
@@ -56,14 +58,8 @@ module _ (sum : List ℕ → ℕ) (size : ℕ) (log : List ℕ) (least : ℕ) wh
   pub all_ready : (ss : List Segment) → length log + size < 2 ^ 63 → IsOrdering sum size log least ss → (s : Segment) → Contains ss s → IsReady size log s
   all_ready ss small ordering s there = ready s small ((ordering.found s).0 there) (ordering.placed s there)
 
-  -- The segments of the slots below one.
-  pub record AreFound (ss : List Segment) (slot : ℕ) : Type 0 where
-    pub has : (s : Segment) → Contains ss s ↔ (IsFoundSegment sum size log least s × (s.slot < slot))
-    pub chain : Chain 0 ss
-    pub placed : (s : Segment) → Contains ss s → IsMisplaced size s → ⊥
-
-  -- and of one slot more, where none is found in it
-  pub none_more : (ss : List Segment) (slot : ℕ) → slot % size ≡ 0 → ((s : Segment) → IsFoundSegment sum size log least s → s.slot ≡ slot → ⊥) → 0 < size → AreFound ss slot → AreFound ss (slot + size)
+  -- one slot more, in which none is found
+  pub none_more : (ss : List Segment) (slot : ℕ) → slot % size ≡ 0 → ((s : Segment) → IsFoundSegment sum size log least s → s.slot ≡ slot → ⊥) → 0 < size → AreFound sum size log least ss slot → AreFound sum size log least ss (slot + size)
   none_more ss slot aligned none some are = record {
     has = λ s. (
       λ there. (((are.has s).0 there).0, let lt = ((are.has s).0 there).1 in omega (arith, lt)),
@@ -75,7 +71,7 @@ module _ (sum : List ℕ → ℕ) (size : ℕ) (log : List ℕ) (least : ℕ) wh
 
   -- and where one is
   pub one_more_found : (ss new : List Segment) (slot : ℕ) (t : Segment) → slot % size ≡ 0 → 0 < size → IsFoundSegment sum size log least t → t.slot ≡ slot → Chain 0 new
-      → ((s : Segment) → Contains new s ↔ ((t ≡ s) ⊎ Contains ss s)) → (IsMisplaced size t → ⊥) → AreFound ss slot → AreFound new (slot + size)
+      → ((s : Segment) → Contains new s ↔ ((t ≡ s) ⊎ Contains ss s)) → (IsMisplaced size t → ⊥) → AreFound sum size log least ss slot → AreFound sum size log least new (slot + size)
   one_more_found ss new slot t aligned some found at chain has placed are = record {
     has = λ s. (
       λ there. ⊎_elim (λ is. subst (λ x. Found x × (x.slot < slot + size)) is (found, omega (arith, at, some))) (λ old. (((are.has s).0 old).0, let lt = ((are.has s).0 old).1 in omega (arith, lt))) ((has s).0 there),
@@ -85,8 +81,18 @@ module _ (sum : List ℕ → ℕ) (size : ℕ) (log : List ℕ) (least : ℕ) wh
     placed = λ s there. ⊎_elim (λ is. subst (λ (x : Segment). IsMisplaced size x → ⊥) is placed) (λ old. are.placed s old) ((has s).0 there);
   }
 
+  -- none are below the first slot
+  pub none_found_yet : AreFound sum size log least [] 0
+  none_found_yet = record { has = λ s. (λ there. absurd (in_nothing s there), λ both. absurd (omega (arith, both.1))); chain = tt; placed = λ s there. absurd (in_nothing s there) }
+
+  -- what putting it among the others leaves
+  pub added : (r : Result Unit Error) (ss new : List Segment) (slot : ℕ) (t : Segment) → slot % size ≡ 0 → 0 < size → IsFoundSegment sum size log least t → t.slot ≡ slot → OnOk r (Chain 0 new)
+      → OnOk r ((s : Segment) → Contains new s ↔ ((t ≡ s) ⊎ Contains ss s)) → OnOk r (IsMisplaced size t → ⊥) → AreFound sum size log least ss slot → OnOk r (AreFound sum size log least new (slot + size))
+  added (Ok x) ss new slot t aligned some found at chain has placed are = one_more_found ss new slot t aligned some found at chain has placed are
+  added (Err e) ss new slot t aligned some found at chain has placed are = tt
+
   -- those of all slots
-  pub all_found : (ss : List Segment) (slot : ℕ) → length log ≤ slot → AreFound ss slot → IsOrdering sum size log least ss
+  pub all_found : (ss : List Segment) (slot : ℕ) → length log ≤ slot → AreFound sum size log least ss slot → IsOrdering sum size log least ss
   all_found ss slot past are = record {
     ascending = chain_ascends 0 ss are.chain;
     found = λ s. (λ there. ((are.has s).0 there).0, λ found. (are.has s).1 (found, omega (arith, past, found_inside s found)));
@@ -94,7 +100,7 @@ module _ (sum : List ℕ → ℕ) (size : ℕ) (log : List ℕ) (least : ℕ) wh
   }
 
   -- segments that can't be of one log
-  pub unordered : (ss : List Segment) (slot : ℕ) (t : Segment) → IsFoundSegment sum size log least t → t.slot ≡ slot → AreFound ss slot → IsMisplaced size t ⊎ ((s : Segment) × Contains ss s × (s.place ≡ t.place)) → IsUnordered sum size log least
+  pub unordered : (ss : List Segment) (slot : ℕ) (t : Segment) → IsFoundSegment sum size log least t → t.slot ≡ slot → AreFound sum size log least ss slot → IsMisplaced size t ⊎ ((s : Segment) × Contains ss s × (s.place ≡ t.place)) → IsUnordered sum size log least
   unordered ss slot t found at are (inl bad) = inl (t, found, bad)
   unordered ss slot t found at are (inr twin) =
       let before = (are.has twin.0).0 twin.1 in

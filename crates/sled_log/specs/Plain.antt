@@ -1,11 +1,11 @@
 -- What the plain recovery speaks of, beside what recovery makes of a log file.
-use Rattle.std.specs.Prelude.{◌≡◌, ◌+◌, ◌/◌, ◌%◌, ◌^◌, ◌≤◌, ◌<◌, ℕ, ℤ, nat_lt, suc, List, [], ◌∷◌, ◌++◌, length, Option, Some, None, if◌then◌else◌}
+use Rattle.std.specs.Prelude.{◌≡◌, ◌↔◌, Contains, ◌+◌, ◌/◌, ◌%◌, ◌^◌, ◌≤◌, ◌<◌, ℕ, ℤ, nat_lt, suc, List, [], ◌∷◌, ◌++◌, length, Option, Some, None, if◌then◌else◌}
 use Rattle.std.specs.List.{All}
 use Rattle.sled_codec.specs.Snapshots.{Shot}
 use Rattle.sled_store.specs.SnapshotFiles.{BeginsFrom}
 use Rattle.sled_core.specs.declared.met.Met.{Met}
 use Rattle.sled_core.specs.declared.met.Segment.{Segment}
-use Rattle.sled_core.specs.Scan.{Readable, IsPath, IsDamagedAt}
+use Rattle.sled_core.specs.Scan.{Readable, IsFoundSegment, IsMisplaced, IsPath, IsDamagedAt}
 use Rattle.sled_log.specs.declared.plain.Pass.{Pass}
 use Rattle.sled_log.specs.Recovery.{Scanned, IsScanned, IsOrdering, IsTail, tail_begins, tail_end, begun_below, AreScanned, AreClosed, open_at, passed_in, stops_in, scanned_of, least_place}
 
@@ -17,6 +17,12 @@ log_alone log = record { log = log; blobs = λ _. None }
 abbrev pub Chain : ℕ → List Segment → Type 0
 Chain from [] = Unit {0}
 Chain from (s ∷ ss) = (from ≤ s.place) × Chain (s.place + 1) ss
+
+-- These are the segments of the slots below one, by place. None begins where it can't.
+pub record AreFound (sum : List ℕ → ℕ) (size : ℕ) (log : List ℕ) (least : ℕ) (ss : List Segment) (slot : ℕ) : Type 0 where
+  pub has : (s : Segment) → Contains ss s ↔ (IsFoundSegment sum size log least s × (s.slot < slot))
+  pub chain : Chain 0 ss
+  pub placed : (s : Segment) → Contains ss s → IsMisplaced size s → ⊥
 
 -- how many segments at the front begin below a place
 abbrev pub rank : ℕ → List Segment → ℕ

@@ -11,7 +11,7 @@ ghost use Rattle.sled_core.specs.Scan.{IsFoundSegment, IsMisplaced, IsDamagedIn}
 ghost use Rattle.sled_core.specs.declared.met.Segment.{Segment};
 ghost use Rattle.sled_log.specs.Recovery.{Scanned, IsScanned, IsUnordered, IsOrdering, IsTail, IsDamagedTail, AreScanned, begun_below, IsDamagedPass, tail_begins, tail_end, Recovered, Damaged, Conclusion, outcome_of, least_place, scanned_of, given, has_no_table, table_of, ContinuesFrom, Recovers};
 ghost use Rattle.sled_log.specs.WritesBack.{conclusion_of};
-ghost use Rattle.sled_log.specs.Plain.{log_alone, Chain, rank, IsReady, IsPass, pass_of, passed_all, stop_of, IsHiddenPass, HidesFrom, Hides};
+ghost use Rattle.sled_log.specs.Plain.{log_alone, Chain, AreFound, rank, IsReady, IsPass, pass_of, passed_all, stop_of, IsHiddenPass, HidesFrom, Hides};
 
 use crate::conclusion::Recovery;
 use crate::snapshot::{conclude, cut_of, is_misplaced, stable_place};
@@ -172,15 +172,36 @@ fn found_segments<D: Device, C: Checksum>(
     let mut segments = Vec::new(config.alloc());
     let mut slot = 0;
     while slot < len {
-        if let Some(segment) = found_in(config, slot, least)? {
-            match add(size, &mut segments, segment) {
-                Ok(()) => {}
-                Err(e) => return Err(e),
-            }
+        match look_in(config, slot, least, &mut segments) {
+            Ok(()) => {}
+            Err(e) => return Err(e),
         }
         slot += size;
     }
     Ok(segments)
+}
+
+/// Puts the segment that is found in a slot among those of the slots before.
+fn look_in<D: Device, C: Checksum>(
+    config: &mut RunningConfig<D, C>,
+    slot: LogOffset,
+    least: u64,
+    segments: &mut Vec<Segment>,
+) -> Result<()>
+    requires slot { slot % config.old.config.segment_size ≡ 0 }
+    requires found { AreFound C.sum_of config.old.config.segment_size (state_of (D.trace config.old.device)).log.bytes least segments.old.items slot }
+    ensures found { OnOk result (AreFound C.sum_of config.old.config.segment_size (state_of (D.trace config.old.device)).log.bytes least segments.new.items (slot + config.old.config.segment_size)) }
+    ensures corrupt { IsCorruption result → IsUnordered C.sum_of config.old.config.segment_size (state_of (D.trace config.old.device)).log.bytes least }
+    ensures answers { DeviceAnswers result (D.faults config.old.device) (D.faults config.new.device) }
+    ensures trace { D.trace config.new.device ≡ D.trace config.old.device }
+    ensures config { config.new.config ≡ config.old.config }
+    ensures checksum { config.new.checksum ≡ config.old.checksum }
+{
+    match found_in(config, slot, least) {
+        Ok(Some(segment)) => add(config.config.segment_size, segments, segment),
+        Ok(None) => Ok(()),
+        Err(e) => Err(e),
+    }
 }
 
 /// The segment that is found in a slot.

@@ -1,6 +1,6 @@
 use Rattle.std.proofs.Common.{◌≡◌, ◌+◌, ◌-◌, ◌^◌, ◌%◌, ◌<◌, length}
 use Rattle.sled_store.specs.Device.{state_of}
-use Rattle.sled_log.proofs.PlainFound.{AreFound}
+use Rattle.sled_log.specs.Plain.{AreFound}
 use Rattle.sled_log.proofs.plain.found_segments.Given as goal
 
 -- the segments of the slots so far were found

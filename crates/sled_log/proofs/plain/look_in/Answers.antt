@@ -1,0 +1,1 @@
+use Rattle.sled_log.proofs.plain.look_in.Goals as goal
