@@ -20,3 +20,4 @@ mod PlainSlots
 mod PlainFound
 mod PlainSame
 mod PlainTail
+mod PlainWhole

@@ -1,6 +1,7 @@
 -- The tail and the pass in the plain recovery, segment by segment.
 use Rattle.std.proofs.Common.{◌≡◌, ◌≢◌, ◌∙◌, ◌⊎◌, ◌+◌, ◌/◌, ◌<◌, ◌≤◌, ℕ, Bool, true, false, nat_lt, List, [], ◌∷◌, ◌++◌, length, map, drop, get_or, Option, Some, None, if◌then◌else◌, refl, sym, ap, subst, arith, inl, inr, ⊎_elim}
 use Rattle.std.specs.List.{All, AllByRecursion, Contains}
+use Rattle.std.proofs.lemmas.Bool.Decides.{nat_tests}
 use Rattle.std.proofs.lemmas.List.Elements.{recursion_from_All}
 use Rattle.sled_core.specs.declared.met.Met.{Met}
 use Rattle.sled_core.specs.declared.met.Segment.{Segment}
@@ -85,11 +86,9 @@ pub damaged_or_hidden : (sum : List ℕ → ℕ) (size : ℕ) (r : Readable) (en
 unfolding IsDamagedIn
 damaged_or_hidden sum size r end segments first s rest before is scanned damaged = by_cases (closed_or_not end before) (open_at end damaged.0) refl where
   hidden : (AreClosed end before → open_at end damaged.0 ≡ None → ⊥) → IsHiddenPass sum size r end segments
-  unfolding IsDamagedIn
   hidden opened = record { first = first; segment = s; rest = rest; is = is; before = before; scanned = scanned; met = damaged.0; next = damaged.1; path = damaged.2; room = damaged.3; damaged = damaged.4; opened = opened }
 
   by_cases : AreClosed end before ⊎ (AreClosed end before → ⊥) → (o : Option ℕ) → open_at end damaged.0 ≡ o → IsDamagedPass sum size r end segments ⊎ IsHiddenPass sum size r end segments
-  unfolding IsDamagedIn
   by_cases (inl closed) None none = inl (record { first = first; segment = s; rest = rest; is = is; before = before; scanned = scanned; closed = closed; met = damaged.0; next = damaged.1; path = damaged.2; not_open = none; room = damaged.3; damaged = damaged.4 })
   by_cases (inl closed) (Some place) some = inr (hidden (λ closed none. let no = sym some ∙ none in cc))
   by_cases (inr opened) o at = inr (hidden (λ closed none. opened closed))
