@@ -1,4 +1,4 @@
-use Rattle.std.proofs.Common.{◌≡◌, ◌<◌, ◌+◌, ◌⊎◌, ℕ, List, Some, OnOk, IfSome, Option, subst, arith}
+use Rattle.std.proofs.Common.{◌≡◌, ◌<◌, ◌≤◌, ◌+◌, ◌⊎◌, ℕ, List, Some, OnOk, IfSome, Option, subst, arith}
 use Rattle.std.specs.List.{Contains}
 use Rattle.sled_codec.specs.Errors.{IsCorruption}
 use Rattle.sled_core.specs.declared.met.Segment.{Segment}

@@ -1,0 +1,40 @@
+use Rattle.std.proofs.Common.{◌≡◌, ◌∙◌, ◌+◌, ◌≤◌, ◌<◌, ◌⊎◌, ◌++◌, ◌∷◌, [], ℕ, List, map, get_or, drop, pos, ap, sym, subst, arith}
+use Rattle.std.specs.List.{All, Contains}
+use Rattle.std.proofs.lemmas.List.{append-nil, drop_all}
+use Rattle.std.proofs.lemmas.List.Elements.{Contains-get_or}
+use Rattle.sled_core.specs.declared.met.Segment.{Segment}
+use Rattle.sled_core.specs.Scan.{IsDamagedIn}
+use Rattle.sled_store.specs.declared.config.Config.{Config}
+use Rattle.sled_store.specs.Device.{Trace, state_of}
+use Rattle.sled_log.specs.declared.plain.Pass.{Pass}
+use Rattle.sled_log.specs.Recovery.{Scanned, AreScanned, begun_below}
+use Rattle.sled_log.specs.Plain.{log_alone, IsReady, pass_of}
+use Rattle.sled_log.proofs.PlainSame.{was_so, still_so}
+use Rattle.sled_log.proofs.PlainTail.{begun_here, begun_later, are_scanned, damaged_or_hidden}
+use Rattle.sled_log.proofs.plain.passes_below.Goals as goal
+
+-- what stands for a segment that isn't there
+abbrev none : Segment
+none = record { place = 0; slot = 0; mark = pos 0 }
+
+pub scan_of-requires : goal.scan_of-requires
+scan_of-requires g c =
+    let i : ℕ = c.loop-segment.segment-index in
+    still_so (λ n l. IsReady n l (get_or c.args.segments.now i none)) c.args.config.now.config c.loop-segment.config.config (g.D.Device.trace c.args.config.now.device) (g.D.Device.trace c.loop-segment.config.device)
+    c.loop-segment.invariant.config c.loop-segment.invariant.trace (c.requires (get_or c.args.segments.now i none) (Contains-get_or c.args.segments.now i none c.loop-segment-test.true))
+
+pub returns-in-Err-clause-damaged : goal.returns-in-Err-clause-damaged
+returns-in-Err-clause-damaged g c = λ corrupt. ?
+
+pub loop-segment-preserved : goal.loop-segment-preserved
+loop-segment-preserved g c = ?
+
+pub returns-clause-scanned : goal.returns-clause-scanned
+returns-clause-scanned g c =
+    let log : List ℕ = (state_of (g.D.Device.trace c.args.config.now.device)).log.bytes in
+    let end : ℕ = c.args.end in
+    let ps : List Pass = c.loop-segment.passes.items in
+    let nothing : begun_below end (drop c.loop-segment.segment-index c.args.segments.now) ≡ [] = ap (begun_below end) (drop_all c.loop-segment.segment-index c.args.segments.now c.loop-segment-test.false) in
+    let whole : begun_below end c.args.segments.now ≡ map (λ p. p.segment) ps = c.loop-segment.invariant.split ∙ ap (λ (l : List Segment). map (λ p. p.segment) ps ++ l) nothing ∙ append-nil (map (λ p. p.segment) ps) in
+    subst (λ (l : List Segment). AreScanned g.C.Checksum.sum_of c.args.config.now.config.segment_size (log_alone log) l (map pass_of ps)) (sym whole)
+    (are_scanned g.C.Checksum.sum_of c.args.config.now.config.segment_size (log_alone log) ps c.loop-segment.invariant.scanned)
