@@ -376,14 +376,15 @@ fn passes_below<D: Device, C: Checksum>(
 {
     let mut passes = Vec::new(config.alloc());
     for segment in segments {
-        if segment.place < end {
-            match scan_of(config, segment) {
-                Ok(scan) => passes.push(Pass {
-                    segment: *segment,
-                    scan,
-                })?,
-                Err(e) => return Err(e),
-            }
+        if segment.place >= end {
+            continue;
+        }
+        match scan_of(config, segment) {
+            Ok(scan) => passes.push(Pass {
+                segment: *segment,
+                scan,
+            })?,
+            Err(e) => return Err(e),
         }
     }
     Ok(passes)

@@ -21,13 +21,20 @@ pub scan_of-requires : goal.scan_of-requires
 scan_of-requires g c =
     let i : ℕ = c.loop-segment.segment-index in
     still_so (λ n l. IsReady n l (get_or c.args.segments.now i none)) c.args.config.now.config c.loop-segment.config.config (g.D.Device.trace c.args.config.now.device) (g.D.Device.trace c.loop-segment.config.device)
-    c.loop-segment.invariant.config c.loop-segment.invariant.trace (c.requires (get_or c.args.segments.now i none) (Contains-get_or c.args.segments.now i none c.loop-segment-test.true))
+    c.loop-segment.invariant.config c.loop-segment.invariant.trace (c.requires.ready (get_or c.args.segments.now i none) (Contains-get_or c.args.segments.now i none c.loop-segment-test.true))
 
 pub returns-in-Err-clause-damaged : goal.returns-in-Err-clause-damaged
-returns-in-Err-clause-damaged g c = λ corrupt. ?
-
-pub loop-segment-preserved : goal.loop-segment-preserved
-loop-segment-preserved g c = ?
+returns-in-Err-clause-damaged g c = λ corrupt.
+    let log : List ℕ = (state_of (g.D.Device.trace c.args.config.now.device)).log.bytes in
+    let i : ℕ = c.loop-segment.segment-index in
+    let ss : List Segment = c.args.segments.now in
+    let s : Segment = get_or ss i none in
+    let ps : List Pass = c.loop-segment.passes.items in
+    let damaged = was_so (λ n l. IsDamagedIn g.C.Checksum.sum_of n (log_alone l) s.slot s.place) c.args.config.now.config c.loop-segment.config.config (g.D.Device.trace c.args.config.now.device) (g.D.Device.trace c.loop-segment.config.device)
+    c.loop-segment.invariant.config c.loop-segment.invariant.trace (c.in-Err.ensures.damaged corrupt) in
+    let here = begun_here c.args.end ss i none c.loop-segment-test.true c.if-segment-end.false in
+    damaged_or_hidden g.C.Checksum.sum_of c.args.config.now.config.segment_size (log_alone log) c.args.end (begun_below c.args.end ss) (map (λ p. p.segment) ps) s (begun_below c.args.end (drop (i + 1) ss)) (map pass_of ps)
+    (c.loop-segment.invariant.split ∙ ap (λ (l : List Segment). map (λ p. p.segment) ps ++ l) here) (are_scanned g.C.Checksum.sum_of c.args.config.now.config.segment_size (log_alone log) ps c.loop-segment.invariant.scanned) damaged
 
 pub returns-clause-scanned : goal.returns-clause-scanned
 returns-clause-scanned g c =

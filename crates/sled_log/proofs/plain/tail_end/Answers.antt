@@ -97,4 +97,4 @@ pub returns-clause-end : goal.returns-clause-end
 returns-clause-end g c =
     let log : List ℕ = (state_of (g.D.Device.trace c.args.config.now.device)).log.bytes in
     let read = c.loop-segment.invariant.read in
-    (read.0, tail_ends g.C.Checksum.sum_of c.args.config.now.config.segment_size (log_alone log) c.args.segments.now c.args.begin read.0 c.loop-segment.place read.1 ?, read.2)
+    (read.0, tail_ends g.C.Checksum.sum_of c.args.config.now.config.segment_size (log_alone log) c.args.segments.now c.args.begin read.0 c.loop-segment.place read.1 c.in_default.ensures.none, read.2)
