@@ -1,7 +1,8 @@
 -- The tail and the pass in the plain recovery, segment by segment.
-use Rattle.std.proofs.Common.{◌≡◌, ◌≢◌, ◌∙◌, ◌⊎◌, ◌+◌, ◌/◌, ◌<◌, ◌≤◌, ℕ, Bool, true, false, nat_lt, List, [], ◌∷◌, ◌++◌, length, map, drop, get_or, Option, Some, None, if◌then◌else◌, refl, sym, ap, subst, arith, inl, inr, ⊎_elim}
+use Rattle.std.proofs.Common.{◌≡◌, ◌≢◌, ◌∙◌, ◌⊎◌, ◌+◌, ◌/◌, ◌<◌, ◌≤◌, ℕ, Bool, true, false, nat_lt, List, [], ◌∷◌, ◌++◌, length, map, drop, get_or, Option, Some, None, if◌then◌else◌, refl, sym, ap, subst, arith, inl, inr, ⊎_elim, append_assoc}
 use Rattle.std.specs.List.{All, AllByRecursion, Contains}
 use Rattle.std.proofs.lemmas.Bool.Decides.{nat_tests}
+use Rattle.std.proofs.lemmas.List.{map-append}
 use Rattle.std.proofs.lemmas.List.Elements.{recursion_from_All}
 use Rattle.sled_core.specs.declared.met.Met.{Met}
 use Rattle.sled_core.specs.declared.met.Segment.{Segment}
@@ -61,6 +62,18 @@ begun_later end ss i d lt above =
     let s : Segment = get_or ss i d in
     let is : nat_lt s.place end ≡ false = grind (arith, nat_tests, above) in
     ap (begun_below end) (behind ss i d lt) ∙ ap (λ (b : Bool). if b then s ∷ begun_below end (drop (i + 1) ss) else begun_below end (drop (i + 1) ss)) is
+
+-- one more was read
+pub split_more : (end : ℕ) (ss : List Segment) (i : ℕ) (d : Segment) (ps new : List Pass) (p : Pass) → i < length ss → (get_or ss i d).place < end → p.segment ≡ get_or ss i d → new ≡ ps ++ p ∷ []
+    → begun_below end ss ≡ map (λ x. x.segment) ps ++ begun_below end (drop i ss) → begun_below end ss ≡ map (λ x. x.segment) new ++ begun_below end (drop (i + 1) ss)
+split_more end ss i d ps new p lt below own is split =
+    let rest : List Segment = begun_below end (drop (i + 1) ss) in
+    let segments : List Pass → List Segment = map (λ x. x.segment) in
+    split
+    ∙ ap (λ (l : List Segment). segments ps ++ l) (begun_here end ss i d lt below ∙ ap (λ (s : Segment). s ∷ rest) (sym own))
+    ∙ sym (append_assoc (segments ps) (p.segment ∷ []) rest)
+    ∙ ap (λ (l : List Segment). l ++ rest) (sym (map-append (λ x. x.segment) ps (p ∷ [])))
+    ∙ ap (λ l. segments l ++ rest) (sym is)
 
 -- segments that were read one by one
 scanned_each : (sum : List ℕ → ℕ) (size : ℕ) (r : Readable) (ps : List Pass) → AllByRecursion (λ p. IsScanned sum size r (pass_of p)) ps → AreScanned sum size r (map (λ p. p.segment) ps) (map pass_of ps)

@@ -1,11 +1,15 @@
 -- The plain recovery as a whole: what comes of its steps.
-use Rattle.std.proofs.Common.{◌≡◌, ◌⊎◌, ℕ, ℤ, List, Option, Some, None, refl, sym, subst, inl, inr}
+use Rattle.std.proofs.Common.{◌≡◌, ◌∙◌, ◌⊎◌, ◌*◌, ◌/◌, ap, ℕ, ℤ, List, Option, Some, None, refl, sym, subst, inl, inr}
 use Rattle.sled_codec.specs.Snapshots.{Shot}
-use Rattle.sled_store.specs.SnapshotFiles.{BeginsFrom, IsDamagedSnapshot}
+use Rattle.sled_store.specs.SnapshotFiles.{stable_place, BeginsFrom, IsDamagedSnapshot}
 use Rattle.sled_core.specs.declared.met.Segment.{Segment}
 use Rattle.sled_core.specs.Scan.{Readable}
 use Rattle.sled_log.specs.Recovery.{Scanned, IsOrdering, IsUnordered, IsTail, IsDamagedTail, tail_begins, tail_end, begun_below, AreScanned, IsDamagedPass, Passes, Outcome, Recovered, Damaged, unchanged, outcome_of, least_place, ContinuesFrom, Recovers}
 use Rattle.sled_log.specs.Plain.{IsHiddenPass, HidesFrom, Hides}
+
+-- where the tail begins, from the place that a snapshot ends with
+pub begins_there : (size stable begin : ℕ) (first : Shot) (ss : List Segment) → begin ≡ tail_begins size (stable / size * size) ss → stable ≡ stable_place first.stable → begin ≡ tail_begins size (least_place size first) ss
+begins_there size stable begin first ss is same = is ∙ ap (λ n. tail_begins size (n / size * size) ss) same
 
 module _ (sum : List ℕ → ℕ) (size : ℕ) (r : Readable) (first : Shot) where
   -- segments that can't be of one log
@@ -45,6 +49,13 @@ module _ (sum : List ℕ → ℕ) (size : ℕ) (r : Readable) (first : Shot) whe
         pub comes_hidden : IsHiddenPass sum size r end (begun_below end ordering) → HidesFrom sum size r first
         unfolding HidesFrom
         comes_hidden hidden = (ordering, are, scanned, tail, end, ends, hidden)
+
+        -- what comes of a pass that gives no table
+        pub comes_corrupt : IsDamagedPass sum size r end (begun_below end ordering) ⊎ IsHiddenPass sum size r end (begun_below end ordering) ⊎ ((xs : List Scanned) × AreScanned sum size r (begun_below end ordering) xs × (outcome_of size first end xs ≡ Damaged))
+            → ContinuesFrom sum size r first Damaged ⊎ HidesFrom sum size r first
+        comes_corrupt (inl (inl damaged)) = inl (comes_damaged_pass damaged)
+        comes_corrupt (inl (inr hidden)) = inr (comes_hidden hidden)
+        comes_corrupt (inr passed) = inl (comes_passed Damaged passed.0 passed.1 passed.2)
 
 -- From the newest snapshot on.
 module _ (sum : List ℕ → ℕ) (size : ℕ) (r : Readable) (snapshots : ℤ → Option (List ℕ)) where
