@@ -53,9 +53,9 @@ module _ (sum : List ℕ → ℕ) (size : ℕ) (r : Readable) (first : Shot) whe
         -- what comes of a pass that gives no table
         pub comes_corrupt : IsDamagedPass sum size r end (begun_below end ordering) ⊎ IsHiddenPass sum size r end (begun_below end ordering) ⊎ ((xs : List Scanned) × AreScanned sum size r (begun_below end ordering) xs × (outcome_of size first end xs ≡ Damaged))
             → ContinuesFrom sum size r first Damaged ⊎ HidesFrom sum size r first
-        comes_corrupt (inl (inl damaged)) = inl (comes_damaged_pass damaged)
-        comes_corrupt (inl (inr hidden)) = inr (comes_hidden hidden)
-        comes_corrupt (inr passed) = inl (comes_passed Damaged passed.0 passed.1 passed.2)
+        comes_corrupt (inl damaged) = inl (comes_damaged_pass damaged)
+        comes_corrupt (inr (inl hidden)) = inr (comes_hidden hidden)
+        comes_corrupt (inr (inr passed)) = inl (comes_passed Damaged passed.0 passed.1 passed.2)
 
 -- From the newest snapshot on.
 module _ (sum : List ℕ → ℕ) (size : ℕ) (r : Readable) (snapshots : ℤ → Option (List ℕ)) where
