@@ -36,7 +36,7 @@ in_one x y is = (0, omega arith, is)
 zero_mod : (n : ℕ) → 0 % n ≡ 0
 zero_mod n = omega arith
 
-pos_injective : (m n : ℕ) → pos m ≡ pos n → m ≡ n
+pub pos_injective : (m n : ℕ) → pos m ≡ pos n → m ≡ n
 pos_injective m n is = ap nat_abs is
 
 module _ (sum : List ℕ → ℕ) (size : ℕ) (log : List ℕ) (least : ℕ) (short : length log ≤ size) where

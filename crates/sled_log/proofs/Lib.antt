@@ -12,12 +12,19 @@ pub mod OtherLemmas
 pub mod PageRuns
 pub mod PageStates
 pub mod PageWise
+mod PlainFound
+mod PlainPasses
+mod PlainSame
+mod PlainSegments
+mod PlainSlots
+mod PlainTail
+mod PlainWhole
 mod RecoveryLemmas
 pub mod RemovalLemmas
+pub mod RestartLemmas
 pub mod TableCuts
 mod TableLemmas
 pub mod TableParts
 pub mod Trailers
-pub mod WriteLemmas
 pub mod UsedSlot
-pub mod RestartLemmas
+pub mod WriteLemmas

@@ -1,2 +1,3 @@
+pub mod Plain
 pub mod Recovery
 pub mod WritesBack

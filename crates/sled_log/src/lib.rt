@@ -12,6 +12,7 @@ pub mod config;
 pub mod device;
 pub mod iobuf;
 pub mod logger;
+pub mod plain;
 pub mod reservation;
 pub mod restart;
 pub mod snapshot;

@@ -218,7 +218,7 @@ fn continue_in<D: Device, C: Checksum>(
 }
 
 /// Whether a segment can't begin at a place.
-fn is_misplaced(size: u64, place: u64) -> bool
+pub(crate) fn is_misplaced(size: u64, place: u64) -> bool
     requires { (0 < size) × (size < 2 ^ 32) }
     ensures { IsTrue result ↔ ((place % size ≢ 0) ⊎ (2 ^ 63 ≤ place + size)) }
 {
@@ -271,7 +271,7 @@ fn replay(
 }
 
 /// A snapshot of a table with this cut, unless it can't be one.
-fn conclude(
+pub(crate) fn conclude(
     size: u64,
     pages: Vec<PageState>,
     was: Option<i64>,
@@ -327,7 +327,7 @@ fn tip_of(size: u64, cut: u64, active: Option<LogOffset>) -> Option<Tip>
 }
 
 /// The cut, where the pass stopped at a place in this segment, and the slot that is active then.
-fn cut_of(size: u64, segment: &Segment, at: u64) -> (u64, Option<LogOffset>)
+pub(crate) fn cut_of(size: u64, segment: &Segment, at: u64) -> (u64, Option<LogOffset>)
     requires place { segment.now.place + size < 2 ^ 63 }
     requires at { at ≤ segment.now.place + size }
     ensures slot { IfSome result.1 (λ slot. slot ≡ segment.now.slot) }

@@ -34,6 +34,8 @@ mod numbers;
 #[cfg(test)]
 mod parts;
 #[cfg(test)]
+mod plain;
+#[cfg(test)]
 mod reading;
 #[cfg(test)]
 mod records;

@@ -1,0 +1,84 @@
+-- What the plain recovery speaks of, beside what recovery makes of a log file.
+use Rattle.std.specs.Prelude.{◌≡◌, ◌↔◌, Contains, ◌+◌, ◌/◌, ◌%◌, ◌^◌, ◌≤◌, ◌<◌, ℕ, ℤ, nat_lt, suc, List, [], ◌∷◌, ◌++◌, length, Option, Some, None, if◌then◌else◌}
+use Rattle.std.specs.List.{All}
+use Rattle.sled_codec.specs.Snapshots.{Shot}
+use Rattle.sled_store.specs.SnapshotFiles.{BeginsFrom}
+use Rattle.sled_core.specs.declared.met.Met.{Met}
+use Rattle.sled_core.specs.declared.met.Segment.{Segment}
+use Rattle.sled_core.specs.Scan.{Readable, IsFoundSegment, IsMisplaced, IsPath, IsDamagedAt}
+use Rattle.sled_log.specs.declared.plain.Pass.{Pass}
+use Rattle.sled_log.specs.Recovery.{Scanned, IsScanned, IsOrdering, IsTail, tail_begins, tail_end, begun_below, AreScanned, AreClosed, open_at, passed_in, stops_in, scanned_of, least_place}
+
+-- a log file, where there are no blobs
+abbrev pub log_alone : List ℕ → Readable
+log_alone log = record { log = log; blobs = λ _. None }
+
+-- each begins above the one before it, and the first at this place or above it
+abbrev pub Chain : ℕ → List Segment → Type 0
+Chain from [] = Unit {0}
+Chain from (s ∷ ss) = (from ≤ s.place) × Chain (s.place + 1) ss
+
+-- These are the segments of the slots below one, by place. None begins where it can't.
+pub record AreFound (sum : List ℕ → ℕ) (size : ℕ) (log : List ℕ) (least : ℕ) (ss : List Segment) (slot : ℕ) : Type 0 where
+  pub has : (s : Segment) → Contains ss s ↔ (IsFoundSegment sum size log least s × (s.slot < slot))
+  pub chain : Chain 0 ss
+  pub placed : (s : Segment) → Contains ss s → IsMisplaced size s → ⊥
+
+-- how many segments at the front begin below a place
+abbrev pub rank : ℕ → List Segment → ℕ
+rank place [] = 0
+rank place (s ∷ ss) = if nat_lt s.place place then suc (rank place ss) else 0
+
+-- A segment can be read: its slot is one of the file, and its ends are places and offsets.
+pub record IsReady (size : ℕ) (log : List ℕ) (s : Segment) : Type 0 where
+  pub aligned : s.slot % size ≡ 0
+  pub inside : s.slot ≤ length log
+  pub slot : s.slot + size < 2 ^ 63
+  pub place : s.place + size < 2 ^ 63
+
+-- a segment as code has it, with what is met in it
+abbrev pub pass_of : Pass → Scanned
+pass_of p = scanned_of p.segment p.scan
+
+-- its ends are places and offsets, and so is what is met in it
+pub record IsPass (size : ℕ) (p : Pass) : Type 0 where
+  pub slot : p.segment.slot + size < 2 ^ 63
+  pub place : p.segment.place + size < 2 ^ 63
+  pub stop : p.scan.stop ≤ size
+  pub places : All (λ m. m.place < p.segment.place + size) p.scan.met.items
+
+-- all that the pass meets in these segments
+abbrev pub passed_all : ℕ → List Scanned → List Met
+passed_all end [] = []
+passed_all end (s ∷ ss) = passed_in end s (open_at end s.met) ss
+
+-- where the pass over these segments stops; over none it stays where it is
+abbrev pub stop_of : ℕ → Option (Segment × ℕ) → List Scanned → Option (Segment × ℕ)
+stop_of end last [] = last
+stop_of end last (s ∷ ss) = Some (stops_in end s (open_at end s.met) ss)
+
+-- A damaged record stands in a segment of the pass, behind a batch that is open. What recovery makes of that isn't said.
+pub record IsHiddenPass (sum : List ℕ → ℕ) (size : ℕ) (r : Readable) (end : ℕ) (segments : List Segment) : Type 0 where
+  pub first : List Segment
+  pub segment : Segment
+  pub rest : List Segment
+  pub is : segments ≡ first ++ segment ∷ rest
+  pub before : List Scanned
+  pub scanned : AreScanned sum size r first before
+  pub met : List Met
+  pub next : ℕ
+  pub path : IsPath sum size r segment.slot segment.place 20 met next
+  pub room : next + 32 ≤ size
+  pub damaged : IsDamagedAt sum size r (segment.slot + next) (segment.place / size)
+  pub opened : AreClosed end before → open_at end met ≡ None → ⊥
+
+-- the pass meets that in what is found from a snapshot on
+unfoldable pub HidesFrom : (List ℕ → ℕ) → ℕ → Readable → Shot → Type 0
+HidesFrom sum size r first =
+    let least = least_place size first in
+    (ordering : List Segment) × IsOrdering sum size r.log least ordering × (scanned : List Scanned) × IsTail sum size r ordering (tail_begins size least ordering) scanned
+    × (end : ℕ) × (tail_end scanned ≡ Some end) × IsHiddenPass sum size r end (begun_below end ordering)
+
+-- the pass meets that in what is read
+unfoldable pub Hides : (List ℕ → ℕ) → ℕ → Readable → (ℤ → Option (List ℕ)) → Type 0
+Hides sum size r snapshots = (first : Shot) × BeginsFrom sum snapshots first × HidesFrom sum size r first
