@@ -1,5 +1,5 @@
 //! What runs the commands: the log that is open, the tickets of its open reservations by number, and
-//! where each page was last replaced.
+//! where each page was last replaced; or, while no log is open, the device that keeps what was written.
 //!
 //! A command that breaks a condition of the log's calls is a bad line. Neither a log nor a ticket can
 //! be dropped, so a driver ends by `close`.
@@ -13,13 +13,16 @@ use sled_log::device::{MemDevice, PlaceSum};
 use sled_log::logger::{Log, LogKind, LogRead};
 use sled_log::reservation::{Guard, Reservation};
 use sled_log::result::{DiskPtr, Error, LogOffset, Lsn, PageId};
-use sled_log::serialization::Snapshot;
+use sled_log::snapshot::{PageState, Snapshot, read_snapshot_or_default};
 use std::alloc::{AllocError, AllocFailed, Global};
 use std::collections::BTreeMap;
 use std::io;
 
 // How many pins may be out.
 const MOST_PINS: u64 = 4294967295;
+
+// Where the last completed message of a page lies; `None` for one that has only been reserved.
+type Pages = BTreeMap<PageId, Option<(Lsn, DiskPtr)>>;
 
 /// Why the program ends before its input does.
 #[derive(Debug, Clone, Copy, PartialEq, Eq)]
@@ -77,6 +80,8 @@ pub enum Reply {
     Done(Lsn, DiskPtr),
     /// The stable end grew by so many bytes.
     Flushed(usize),
+    /// The log is closed, and its device is kept.
+    Halted,
     /// What a page is: the item's spelling.
     Page(Vec<u8>),
     /// The log answered an error.
@@ -86,7 +91,8 @@ pub enum Reply {
 /// What runs the commands.
 pub struct Driver {
     alloc: Global,
-    config: Option<Config>,
+    // What the next log runs on, while none is open.
+    halted: Option<RunningConfig<MemDevice, PlaceSum>>,
     opened: Option<Opened>,
 }
 
@@ -95,7 +101,7 @@ impl Driver {
     pub fn new(alloc: Global) -> Driver {
         Driver {
             alloc,
-            config: None,
+            halted: None,
             opened: None,
         }
     }
@@ -109,6 +115,7 @@ impl Driver {
             Command::Replace(page, item) => self.opened()?.replace(page, &item)?,
             Command::Complete(ticket) => self.opened()?.complete(ticket)?,
             Command::Flush => self.opened()?.flush()?,
+            Command::Halt => self.halt()?,
             Command::Read(page) => self.opened()?.read(page)?,
         };
         Ok(Some(reply))
@@ -118,40 +125,49 @@ impl Driver {
     pub fn close(self) {
         let Driver {
             alloc: _,
-            config: _,
+            halted: _,
             opened,
         } = self;
         if let Some(opened) = opened {
-            opened.close();
+            let _ = opened.halt();
         }
     }
 
-    // Takes the size of segments, once.
+    // Takes the size of segments, once, and an empty device.
     fn size(&mut self, size: u64) -> Result<Option<Reply>, Stop> {
-        if self.config.is_some() {
+        if self.halted.is_some() || self.opened.is_some() {
             return Err(Stop::BadLine);
         }
-        self.config = Config::new(size);
-        match self.config {
-            Some(_) => Ok(None),
-            None => Err(Stop::BadLine),
-        }
-    }
-
-    // Opens a log on an empty device, where none is open.
-    fn open(&mut self) -> Result<Reply, Stop> {
-        let Some(config) = self.config else {
+        let Some(config) = Config::new(size) else {
             return Err(Stop::BadLine);
         };
-        if self.opened.is_some() {
-            return Err(Stop::BadLine);
-        }
         let device = MemDevice::new(self.alloc);
-        let snapshot = Snapshot::empty(self.alloc);
-        let running = RunningConfig::new(self.alloc, config, device, PlaceSum);
-        match Log::start(running, &snapshot) {
-            Ok(log) => self.keep(log),
-            Err((e, _)) => return Ok(Reply::Failed(e)),
+        self.halted = Some(RunningConfig::new(self.alloc, config, device, PlaceSum));
+        Ok(None)
+    }
+
+    // Recovers what the device has, and opens a log on it, where none is open. After an error of the log
+    // none is, and the device is kept.
+    fn open(&mut self) -> Result<Reply, Stop> {
+        let Some(mut config) = self.halted.take() else {
+            return Err(Stop::BadLine);
+        };
+        match read_snapshot_or_default(&mut config) {
+            Ok(snapshot) => self.start(config, &snapshot),
+            Err(e) => Ok(self.refuse(config, e)),
+        }
+    }
+
+    // Opens a log on what was recovered.
+    fn start(
+        &mut self,
+        config: RunningConfig<MemDevice, PlaceSum>,
+        snapshot: &Snapshot,
+    ) -> Result<Reply, Stop> {
+        let pages = pages_of(self.alloc, snapshot)?;
+        match Log::start(config, snapshot) {
+            Ok(log) => self.keep(log, pages),
+            Err((e, config)) => return Ok(self.refuse(config, e)),
         }
         Ok(Reply::Opened {
             stable: snapshot.stable_lsn,
@@ -160,16 +176,31 @@ impl Driver {
         })
     }
 
-    // Keeps a log that was opened.
-    fn keep(&mut self, log: Log<MemDevice, PlaceSum>) {
+    // Keeps a log that was opened, and where its pages lie.
+    fn keep(&mut self, log: Log<MemDevice, PlaceSum>, pages: Pages) {
         let opened = Opened {
             log,
             tickets: Vec::new(self.alloc),
-            pages: BTreeMap::new(self.alloc),
+            pages,
         };
         if let Some(former) = self.opened.replace(opened) {
-            former.close();
+            let _ = former.halt();
         }
+    }
+
+    // Keeps the device of a log that could not be opened.
+    fn refuse(&mut self, config: RunningConfig<MemDevice, PlaceSum>, e: Error) -> Reply {
+        self.halted = Some(config);
+        Reply::Failed(e)
+    }
+
+    // Closes the log that is open, and keeps its device. What was not flushed is lost.
+    fn halt(&mut self) -> Result<Reply, Stop> {
+        let Some(opened) = self.opened.take() else {
+            return Err(Stop::BadLine);
+        };
+        self.halted = Some(opened.halt());
+        Ok(Reply::Halted)
     }
 
     // The log that is open, if one is.
@@ -183,8 +214,7 @@ struct Opened {
     log: Log<MemDevice, PlaceSum>,
     // By number. One that was completed is gone.
     tickets: Vec<Option<Ticket>>,
-    // Where the last completed message of a page lies; `None` for one that has only been reserved.
-    pages: BTreeMap<PageId, Option<(Lsn, DiskPtr)>>,
+    pages: Pages,
 }
 
 // What is held for an open reservation.
@@ -306,8 +336,8 @@ impl Opened {
         }
     }
 
-    // Gives all tickets up, and then the log.
-    fn close(self) {
+    // Gives all tickets up, and then the log, and answers what that ran on.
+    fn halt(self) -> RunningConfig<MemDevice, PlaceSum> {
         let Opened {
             log,
             mut tickets,
@@ -319,7 +349,7 @@ impl Opened {
             }
         }
         tickets.destroy_empty();
-        let _ = log.halt();
+        log.halt()
     }
 }
 
@@ -333,6 +363,28 @@ impl Ticket {
         } = self;
         reservation.abandon();
         guard.abandon();
+    }
+}
+
+// Where the pages of a snapshot lie, by their number.
+fn pages_of(alloc: Global, snapshot: &Snapshot) -> Result<Pages, AllocError> {
+    let mut pages = BTreeMap::new(alloc);
+    for (page, state) in snapshot.pt.iter().enumerate() {
+        if let Some(at) = last_of(state) {
+            pages.insert(page as PageId, Some(at))?;
+        }
+    }
+    Ok(pages)
+}
+
+// Where the last message of a page lies, if it has one.
+fn last_of(state: &PageState) -> Option<(Lsn, DiskPtr)> {
+    match state {
+        PageState::Present { base, frags } => {
+            let last = frags.last().unwrap_or(base);
+            Some((last.0, last.1))
+        }
+        PageState::Free(_, _) | PageState::Uninitialized => None,
     }
 }
 

@@ -16,8 +16,10 @@ use std::alloc::{AllocError, Global};
 pub enum Command {
     /// Segments have this size.
     Size(u64),
-    /// Open the log.
+    /// Open the log, on what the device has.
     Open,
+    /// Close the log.
+    Halt,
     /// Reserve a place for a message that replaces a page by this item.
     Replace(PageId, Vec<u8>),
     /// Complete the message of this ticket.
@@ -46,6 +48,7 @@ fn alone(word: &str) -> Option<Command> {
     match word {
         "open" => Some(Command::Open),
         "flush" => Some(Command::Flush),
+        "halt" => Some(Command::Halt),
         _ => None,
     }
 }

@@ -21,11 +21,99 @@ fn prints(alloc: Global, lines: &[u8], text: &str, status: u8) -> Result<bool, F
 
 #[test]
 fn stored_run(rt: HostRuntime) -> Result<(), Fail> {
-    let lines = b"size 256\nopen\nreplace 0 070707\ncomplete 0\nflush\nread 0\n";
+    let lines = b"size 256\nopen\nreplace 0 070707\ncomplete 0\nflush\nread 0\nhalt\nopen\n";
     let (printed, status) = run(rt.alloc(), lines)?;
-    let text = "opened - - 0\nreserved 0 20 I:20\ndone 20 I:20\nflushed 32\npage 03070707\n";
+    let text =
+        "opened - - 0\nreserved 0 20 I:20\ndone 20 I:20\nflushed 32\npage 03070707\nhalted\nopened 32 0 1\n";
     assert_eq!(rt; printed.as_str(), text);
     assert_eq!(rt; status, 0);
+    Ok(())
+}
+
+// The second record has 10 bytes, and tickets are numbered from 0 again.
+#[test]
+fn a_log_that_was_halted_goes_on(rt: HostRuntime) -> Result<(), Fail> {
+    let lines =
+        b"size 256\nopen\nreplace 0 070707\ncomplete 0\nflush\nhalt\nopen\nread 0\nreplace 1 07\ncomplete 0\nflush\nread 0\nread 1\nhalt\nopen\nread 1\n";
+    let text =
+        "opened - - 0\nreserved 0 20 I:20\ndone 20 I:20\nflushed 32\nhalted\nopened 32 0 1\npage 03070707\nreserved 0 32 I:32\ndone 32 I:32\nflushed 10\npage 03070707\npage 0107\nhalted\nopened 42 0 2\npage 0107\n";
+    assert!(rt; prints(rt.alloc(), lines, text, 0)?);
+    Ok(())
+}
+
+// The second record of page 0 lies at 32, and is the one that is read after it was recovered.
+#[test]
+fn a_page_that_was_recovered_is_replaced(rt: HostRuntime) -> Result<(), Fail> {
+    let lines =
+        b"size 256\nopen\nreplace 0 070707\ncomplete 0\nflush\nhalt\nopen\nreplace 0 ff\ncomplete 0\nread 0\nhalt\nopen\nread 0\n";
+    let text =
+        "opened - - 0\nreserved 0 20 I:20\ndone 20 I:20\nflushed 32\nhalted\nopened 32 0 1\nreserved 0 32 I:32\ndone 32 I:32\npage 01ff\nhalted\nopened 42 0 1\npage 01ff\n";
+    assert!(rt; prints(rt.alloc(), lines, text, 0)?);
+    Ok(())
+}
+
+#[test]
+fn halt_forgets_what_was_not_flushed(rt: HostRuntime) -> Result<(), Fail> {
+    let lines = b"size 256\nopen\nreplace 0 070707\ncomplete 0\nhalt\nopen\nread 0\n";
+    let text = "opened - - 0\nreserved 0 20 I:20\ndone 20 I:20\nhalted\nopened - - 0\nbad line 7\n";
+    assert!(rt; prints(rt.alloc(), lines, text, 2)?);
+    let later =
+        b"size 256\nopen\nreplace 0 070707\ncomplete 0\nflush\nreplace 0 ff\ncomplete 1\nhalt\nopen\nread 0\n";
+    let text =
+        "opened - - 0\nreserved 0 20 I:20\ndone 20 I:20\nflushed 32\nreserved 1 32 I:32\ndone 32 I:32\nhalted\nopened 32 0 1\npage 03070707\n";
+    assert!(rt; prints(rt.alloc(), later, text, 0)?);
+    Ok(())
+}
+
+#[test]
+fn halt_gives_open_tickets_up(rt: HostRuntime) -> Result<(), Fail> {
+    let lines =
+        b"size 256\nopen\nreplace 0 07\nreplace 1 07\ncomplete 0\nhalt\nopen\nflush\ncomplete 1\n";
+    let text =
+        "opened - - 0\nreserved 0 20 I:20\nreserved 1 30 I:30\ndone 20 I:20\nhalted\nopened - - 0\nflushed 0\nbad line 9\n";
+    assert!(rt; prints(rt.alloc(), lines, text, 2)?);
+    Ok(())
+}
+
+#[test]
+fn halt_where_no_log_is_open(rt: HostRuntime) -> Result<(), Fail> {
+    let twice = b"size 256\nopen\nhalt\nhalt\n";
+    assert!(rt; prints(rt.alloc(), twice, "opened - - 0\nhalted\nbad line 4\n", 2)?);
+    let lines: [&[u8]; 4] = [
+        b"size 256\nopen\nhalt\nflush\n",
+        b"size 256\nopen\nhalt\nread 0\n",
+        b"size 256\nopen\nhalt\nreplace 0 07\n",
+        b"size 256\nopen\nhalt\nsize 256\n",
+    ];
+    for line in lines {
+        let text = "opened - - 0\nhalted\nbad line 4\n";
+        assert!(rt; prints(rt.alloc(), line, text, 2)?, "{line:?}");
+    }
+    Ok(())
+}
+
+// Eleven records of 20 bytes fill the first segment. The next message begins another one, and a recovery
+// answers damage for a file that is longer than a segment, each time that it is tried.
+#[test]
+fn an_error_of_recovery_keeps_the_device(rt: HostRuntime) -> Result<(), Fail> {
+    let alloc = rt.alloc();
+    let mut lines = String::from_str(alloc, "size 256\nopen\n")?;
+    let mut text = String::from_str(alloc, "opened - - 0\n")?;
+    for page in 0..11u32 {
+        let at = 20 + 20 * page;
+        let line = format!(in alloc; "replace {page} 0101010101010101010101\ncomplete {page}\n")?;
+        let printed = format!(in alloc; "reserved {page} {at} I:{at}\ndone {at} I:{at}\n")?;
+        lines.push_str(&line)?;
+        text.push_str(&printed)?;
+    }
+    lines.push_str(
+        "flush\nhalt\nopen\nreplace 11 07\ncomplete 0\nflush\nhalt\nopen\nopen\nflush\n",
+    )?;
+    text.push_str(
+        "flushed 240\nhalted\nopened 256 - 11\nreserved 0 276 I:276\ndone 276 I:276\nflushed 30\nhalted\n",
+    )?;
+    text.push_str("error corruption\nerror corruption\nbad line 34\n")?;
+    assert!(rt; prints(alloc, lines.as_bytes(), &text, 2)?);
     Ok(())
 }
 
@@ -84,8 +172,9 @@ fn bad_first_lines(rt: HostRuntime) -> Result<(), Fail> {
 
 #[test]
 fn bad_second_lines(rt: HostRuntime) -> Result<(), Fail> {
-    let lines: [&[u8]; 7] = [
+    let lines: [&[u8]; 8] = [
         b"size 256\nsize 256\n",
+        b"size 256\nhalt\n",
         b"size 256\n\nopen\n",
         b"size 256\nreplace 0 07\n",
         b"size 256\ncomplete 0\n",
@@ -101,8 +190,10 @@ fn bad_second_lines(rt: HostRuntime) -> Result<(), Fail> {
 
 #[test]
 fn bad_third_lines(rt: HostRuntime) -> Result<(), Fail> {
-    let lines: [&[u8]; 10] = [
+    let lines: [&[u8]; 12] = [
         b"size 256\nopen\nopen\n",
+        b"size 256\nopen\nsize 256\n",
+        b"size 256\nopen\nhalt 0\n",
         b"size 256\nopen\nread 0\n",
         b"size 256\nopen\ncomplete 0\n",
         b"size 256\nopen\ncomplete 18446744073709551616\n",

@@ -131,6 +131,7 @@ pub fn print<W: Write>(alloc: Global, writer: &mut W, reply: &Reply) -> io::Resu
         } => writeln!(writer, "reserved {ticket} {place} {}", Pointer(*pointer)),
         Reply::Done(place, pointer) => writeln!(writer, "done {place} {}", Pointer(*pointer)),
         Reply::Flushed(grown) => writeln!(writer, "flushed {grown}"),
+        Reply::Halted => writeln!(writer, "halted"),
         Reply::Page(item) => {
             let item = hex(alloc, item)?;
             writeln!(writer, "page {item}")

@@ -42,6 +42,8 @@ mod records;
 #[cfg(test)]
 mod recovery;
 #[cfg(test)]
+mod restart;
+#[cfg(test)]
 mod snapshots;
 #[cfg(test)]
 mod support;

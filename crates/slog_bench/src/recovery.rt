@@ -3,8 +3,8 @@
 //!
 //! Segments have 256 bytes, and the sum is the one for tests.
 
-use crate::support::{flush, fresh, item, log_bytes, put};
-use sled_log::config::{Config, RunningConfig};
+use crate::support::{flush, fresh, item, log_bytes, put, running};
+use sled_log::config::RunningConfig;
 use sled_log::device::{Device, MemDevice, PlaceSum};
 use sled_log::logger::DiskPtr;
 use sled_log::result::{Error, Result};
@@ -24,17 +24,6 @@ const SNAPSHOT: [u8; 33] = [
     33, 0, 0, 0, 0, 0, 0, 0, 1, 1, 20, 0, 0, 0, 0, 0, 0, 0, 0, 20, 12, 21, 0, 0, 0, 0, 0, 0, 0,
     156, 3, 0, 0,
 ];
-
-// What a log runs on whose file has these bytes.
-fn running<R: Abort>(rt: &R, alloc: Global, bytes: &[u8]) -> RunningConfig<MemDevice, PlaceSum> {
-    let Some(config) = Config::new(256) else {
-        panic!(rt; "256 is a size");
-    };
-    let mut device = MemDevice::new(alloc);
-    assert!(rt; bytes.len() < 1000);
-    device.write_at(0, bytes).expect(rt, "it is written");
-    RunningConfig::new(alloc, config, device, PlaceSum)
-}
 
 // Whether a table ends with this place, in this slot, and has no pages.
 fn is_bare(snapshot: &Result<Snapshot>, stable: Option<i64>, active: Option<u64>) -> bool {

@@ -17,17 +17,30 @@ use std::process::Abort;
 /// A log on a device in memory, with the sum for tests.
 pub type TestLog = Log<MemDevice, PlaceSum>;
 
-/// A log in segments of 256 bytes on an empty device, whose call of this number fails; 0 for none.
-pub fn fresh<R: Abort>(rt: &R, alloc: Global, failing: u64) -> TestLog {
+/// What a log in segments of 256 bytes runs on, on a device whose log file has these bytes.
+pub fn running<R: Abort>(
+    rt: &R,
+    alloc: Global,
+    bytes: &[u8],
+) -> RunningConfig<MemDevice, PlaceSum> {
     let Some(config) = Config::new(256) else {
         panic!(rt; "256 is a size");
     };
     let mut device = MemDevice::new(alloc);
+    assert!(rt; bytes.len() < 1000);
+    device.write_at(0, bytes).expect(rt, "it is written");
+    RunningConfig::new(alloc, config, device, PlaceSum)
+}
+
+/// A log in segments of 256 bytes on an empty device, whose call of this number behind the start fails; 0 for
+/// none.
+pub fn fresh<R: Abort>(rt: &R, alloc: Global, failing: u32) -> TestLog {
+    let mut config = running(rt, alloc, &[]);
     if failing > 0 {
-        device.fail_at(failing);
+        // The start makes one call: it asks for the length of the file.
+        config.device.fail_at(1 + u64::from(failing));
     }
-    let running = RunningConfig::new(alloc, config, device, PlaceSum);
-    match Log::start(running, &Snapshot::empty(alloc)) {
+    match Log::start(config, &Snapshot::empty(alloc)) {
         Ok(log) => log,
         Err(_) => panic!(rt; "there is memory"),
     }
