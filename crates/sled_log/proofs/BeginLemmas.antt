@@ -6,7 +6,7 @@ use Rattle.std.specs.declared.cmp.Ordering.{Ordering}
 use Rattle.std.specs.declared.cmp.Ordering.TheVariants.{Less, Equal, Greater}
 use Rattle.std.proofs.lemmas.Cmp.{int_ranked}
 use Rattle.sled_codec.specs.Snapshots.{Shot}
-use Rattle.sled_store.specs.SnapshotFiles.{IsSnapshotFile, IsNewest, BeginsFrom, empty_shot}
+use Rattle.sled_store.specs.SnapshotFiles.{IsSnapshotFile, IsNewest, BeginsFrom}
 use Rattle.sled_log.proofs.Trailers.{one_snapshot}
 
 by_rank : (a b : ℤ) (r : Ordering) → MatchOrdering r (a <ℤ b) (a ≡ b) (b <ℤ a) → a ≤ℤ b → b ≤ℤ a → a ≡ b

@@ -1,6 +1,6 @@
 -- What recovery concludes where all of a history is on the device, in a log file of at most one segment.
-use Rattle.std.proofs.Common.{◌≡◌, ◌≢◌, ◌⊎◌, ◌≤◌, ◌<◌, ◌+◌, ◌-◌, ◌*◌, ◌/◌, ◌%◌, ◌^◌, ◌∙◌, ℕ, ℤ, zero, suc, pos, negsuc, max, Bool, true, false, ◌&&◌, nat_lt, nat_le, if◌then◌else◌, List, [], ◌∷◌, ◌++◌, length, map, take, drop, Option, Some, None, refl, sym, ap, subst, arith, inl, inr, length-take, length-drop}
-use Rattle.std.specs.List.{All, Contains, filter}
+use Rattle.std.proofs.Common.{◌≡◌, ◌≢◌, ◌≤◌, ◌<◌, ◌+◌, ◌*◌, ◌/◌, ◌%◌, ◌∙◌, ℕ, ℤ, pos, negsuc, max, Bool, true, ◌&&◌, nat_lt, nat_le, if◌then◌else◌, List, [], ◌∷◌, ◌++◌, length, map, take, drop, Option, Some, refl, sym, ap, subst, arith, inl, inr, length-take, length-drop}
+use Rattle.std.specs.List.{All, filter}
 use Rattle.std.specs.Option.{unwrap_or}
 use Rattle.std.proofs.Math.Nat.{mod-eq_of_lt, mod-add-div'}
 use Rattle.std.proofs.lemmas.Bool.Decides.{nat_tests}
@@ -15,13 +15,13 @@ use Rattle.sled_core.specs.declared.met.Met.{Met}
 use Rattle.sled_core.specs.declared.met.Segment.{Segment}
 use Rattle.sled_core.specs.declared.met.Ending.{Ending}
 use Rattle.sled_core.specs.declared.met.Ending.TheVariants.{Full, Capped, Broken}
-use Rattle.sled_core.specs.Scan.{Readable, IsFoundSegment, IsMisplaced, IsScan}
-use Rattle.sled_core.specs.LogFile.{MessageStands, StandIn, StandsElsewhere, HasHeader, IsLogFile}
+use Rattle.sled_core.specs.Scan.{Readable, IsFoundSegment, IsScan}
+use Rattle.sled_core.specs.LogFile.{StandIn, StandsElsewhere, HasHeader, IsLogFile}
 use Rattle.sled_core.specs.Fits.{IsBegunFrom}
 use Rattle.sled_core.proofs.Ranges.{with_first}
 use Rattle.sled_core.proofs.LogFileLemmas.{stands_some, stand_grows}
 use Rattle.sled_core.proofs.PathLemmas.{met_of, IsEmpty, zeros_empty, scan_is}
-use Rattle.sled_log.specs.Recovery.{Scanned, IsScanned, IsOrdering, IsTail, GoesOn, AreScanned, begun_below, Conclusion, Outcome, Recovered, Damaged, Applied, applied, given, before_open, open_at, tail_end, tail_begins, greatest_mark, place_of_mark, least_place, outcome_of, concluded, unchanged, Passes, Replays, ContinuesFrom, Recovers, cut_of}
+use Rattle.sled_log.specs.Recovery.{Scanned, IsScanned, IsOrdering, IsTail, GoesOn, AreScanned, begun_below, Conclusion, Outcome, Recovered, Damaged, Applied, applied, given, open_at, tail_end, tail_begins, place_of_mark, least_place, outcome_of, concluded, unchanged, Passes, Replays, ContinuesFrom, Recovers, cut_of}
 use Rattle.sled_log.proofs.BeginLemmas.{one_begin}
 use Rattle.sled_log.proofs.RecoveryLemmas.{one_outcome}
 use Rattle.sled_log.proofs.FindLemmas.{is_found, only_found, not_in_none, only_in}

@@ -1,29 +1,14 @@
 -- What recovery concludes where all of a history is on the device, in a log file of at most one segment.
-use Rattle.std.proofs.Common.{◌≡◌, ◌≢◌, ◌⊎◌, ◌≤◌, ◌<◌, ◌+◌, ◌-◌, ◌*◌, ◌/◌, ◌%◌, ◌^◌, ◌∙◌, ℕ, ℤ, zero, suc, pos, negsuc, max, Bool, true, false, ◌&&◌, ◌||◌, not, nat_lt, nat_le, int_lt, if◌then◌else◌, List, [], ◌∷◌, ◌++◌, length, map, take, drop, get_or, Option, Some, None, refl, sym, ap, subst, arith, inl, inr, length-take, length-drop, ltb-true, lt-ltb}
+use Rattle.std.proofs.Common.{◌≡◌, ◌<◌, ◌∙◌, ℕ, suc, Bool, true, false, ◌&&◌, nat_lt, nat_le, if◌then◌else◌, List, [], ◌∷◌, map, None, refl, sym, ap, arith, inl, inr}
 use Rattle.std.specs.List.{All, Contains, filter}
-use Rattle.std.proofs.Math.Nat.{mod-eq_of_lt}
 use Rattle.std.proofs.lemmas.Bool.{cases_lt}
 use Rattle.std.proofs.lemmas.Bool.Decides.{nat_tests}
-use Rattle.sled_codec.specs.Places.{part}
-use Rattle.sled_codec.specs.Record.{IsHeader}
-use Rattle.sled_codec.specs.History.{Message, History}
-use Rattle.sled_codec.specs.Snapshots.{Shot}
-use Rattle.sled_codec.proofs.Segments.{one_header, length-short_header}
-use Rattle.sled_store.specs.Device.{LogState, State, at_rest}
-use Rattle.sled_store.specs.SnapshotFiles.{stable_place}
-use Rattle.sled_core.specs.declared.iobuf.Site.{Site}
+use Rattle.sled_codec.specs.History.{Message}
 use Rattle.sled_core.specs.declared.met.Met.{Met}
 use Rattle.sled_core.specs.declared.met.Segment.{Segment}
-use Rattle.sled_core.specs.declared.met.Ending.{Ending}
-use Rattle.sled_core.specs.declared.met.Ending.TheVariants.{Full, Capped, Broken}
-use Rattle.sled_core.specs.Scan.{Readable, IsFoundSegment, IsMisplaced}
-use Rattle.sled_core.specs.LogFile.{MessageStands, StandIn, StandsElsewhere, HasHeader, IsLogFile}
-use Rattle.sled_core.specs.Fits.{IsKept, IsOnDevice, IsBegunFrom}
-use Rattle.sled_core.proofs.LogFileLemmas.{stands_some, stand_grows, stand_none}
-use Rattle.sled_core.proofs.PathLemmas.{met_of, IsEmpty, zeros_empty, scan_is}
-use Rattle.sled_log.specs.Recovery.{Scanned, IsScanned, IsOrdering, IsTail, GoesOn, AreScanned, begun_below, is_ascending, Conclusion, Outcome, Recovered, Damaged, Applied, applied, given, before_open, open_at, tail_end, tail_begins, greatest_mark, place_of_mark, least_place, outcome_of, concluded, unchanged, Passes, Replays, ContinuesFrom, Recovers, cut_of}
-use Rattle.sled_log.proofs.BeginLemmas.{one_begin}
-use Rattle.sled_log.proofs.FindLemmas.{found_first, header_first, is_found, only_found, not_in_none, only_in}
+use Rattle.sled_core.proofs.PathLemmas.{met_of}
+use Rattle.sled_log.specs.Recovery.{is_ascending, Applied, applied, given, before_open, open_at}
+use Rattle.sled_log.proofs.FindLemmas.{not_in_none}
 
 -- what is met of messages
 pub given_messages : (low cut : ℕ) (ms : List Message) → All (λ m. m.place < cut) ms → given low (map met_of ms) ≡ map applied (filter (λ m. nat_le low m.place && nat_lt m.place cut) ms)

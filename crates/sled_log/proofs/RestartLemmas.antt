@@ -1,20 +1,18 @@
 -- Where all of a history is on the device, recovery leaves snapshot and device ready for a log that holds it.
-use Rattle.std.proofs.Common.{◌≡◌, ◌≢◌, ◌⊎◌, ◌∙◌, ◌≤◌, ◌<◌, ◌+◌, ◌-◌, ◌*◌, ◌/◌, ◌%◌, ◌^◌, ◌||◌, ◌&&◌, ◌==◌, ℕ, ℤ, zero, suc, pos, max, Bool, true, false, nat_lt, nat_le, if◌then◌else◌, List, [], ◌∷◌, ◌++◌, length, map, take, drop, replicate, get_or, Option, Some, None, MatchOption, refl, sym, ap, subst, arith, inl, inr}
-use Rattle.std.specs.List.{All, Contains, filter, list_any}
+use Rattle.std.proofs.Common.{◌≡◌, ◌⊎◌, ◌∙◌, ◌≤◌, ◌<◌, ◌+◌, ◌-◌, ◌*◌, ◌/◌, ◌%◌, ◌||◌, ◌&&◌, ℕ, ℤ, pos, max, Bool, true, false, nat_lt, nat_le, if◌then◌else◌, List, [], ◌∷◌, ◌++◌, length, map, take, drop, replicate, get_or, Option, Some, None, MatchOption, refl, sym, ap, subst, arith, inl, inr}
+use Rattle.std.specs.List.{All, Contains, filter}
 use Rattle.std.proofs.Math.Nat.{mod-add-div', div-eq_of_lt, add-mod_right}
 use Rattle.std.proofs.Math.Bool.{or-true}
 use Rattle.std.proofs.lemmas.Bool.{cases_lt}
 use Rattle.std.proofs.lemmas.Bool.Decides.{nat_tests}
 use Rattle.std.proofs.lemmas.List.{get_or-drop, get_or-take, length-replicate, append-nil, get_or-replicate}
 use Rattle.sled_log.proofs.Ascending.{all_from_in}
-use Rattle.std.proofs.lemmas.List.Elements.{All-contains, Contains-append_cases}
-use Rattle.std.proofs.lemmas.Nat.{mod-mul-add, div-mul-add}
-use Rattle.sled_codec.specs.declared.result.DiskPtr.TheVariants.{Inline}
+use Rattle.std.proofs.lemmas.List.Elements.{All-contains}
 use Rattle.sled_codec.specs.Pointers.{lid_of}
 use Rattle.sled_codec.specs.History.{Message, History}
 use Rattle.sled_codec.specs.PageTables.{IsTable}
 use Rattle.sled_codec.specs.WellFormed.{IsWellFormed}
-use Rattle.sled_codec.specs.Snapshots.{Shot, Page}
+use Rattle.sled_codec.specs.Snapshots.{Shot}
 use Rattle.std.specs.Prelude.{Result, Ok, Err, IfOk, OnOk}
 use Rattle.sled_store.specs.Device.{State, LogState, Synced, NamesSynced, step, at_rest, overwritten}
 use Rattle.sled_store.specs.SnapshotFiles.{BeginsFrom, stable_place}
@@ -22,15 +20,15 @@ use Rattle.sled_store.proofs.OverwrittenLemmas.{overwritten-part}
 use Rattle.sled_core.specs.declared.iobuf.Site.{Site}
 use Rattle.sled_core.specs.declared.met.Segment.{Segment}
 use Rattle.sled_core.specs.Scan.{Readable, IsFoundSegment, IsMisplaced}
-use Rattle.sled_core.specs.Begin.{entries_of, slot_of, is_used, is_active}
-use Rattle.sled_core.specs.LogFile.{MessageStands, StandIn, StandsElsewhere, IsLogFile}
+use Rattle.sled_core.specs.Begin.{is_used, is_active}
+use Rattle.sled_core.specs.LogFile.{StandIn, StandsElsewhere, IsLogFile}
 use Rattle.sled_core.specs.Fits.{IsBegunFrom, IsKept}
-use Rattle.sled_core.specs.Ready.{StandsUsed, HasActive, HasNoActive, HasFile, IsReady, active_site}
+use Rattle.sled_core.specs.Ready.{StandsUsed, HasFile, IsReady, active_site}
 use Rattle.sled_core.proofs.Ranges.{with_first}
 use Rattle.sled_core.proofs.ScanLemmas.{aligned_offset}
-use Rattle.sled_core.proofs.LogFileLemmas.{stands_some, stand_none, stand_kept, header_kept, behind_write}
+use Rattle.sled_core.proofs.LogFileLemmas.{stands_some, stand_none, stand_kept, header_kept}
 use Rattle.sled_core.proofs.GivesLemmas.{StandsWhole, own_stands}
-use Rattle.sled_log.specs.Recovery.{Conclusion, Recovered, Damaged, Applied, applied, given, has_no_table, are_whole, table_of, unchanged, concluded, cut_of, is_filled, tip_of, is_beyond, IsOrdering, least_place, ContinuesFrom, Recovers}
+use Rattle.sled_log.specs.Recovery.{Conclusion, Recovered, Damaged, Applied, applied, has_no_table, are_whole, table_of, unchanged, concluded, cut_of, is_filled, tip_of, is_beyond, least_place, ContinuesFrom, Recovers}
 use Rattle.sled_log.specs.WritesBack.{IsWrittenBack}
 use Rattle.sled_log.proofs.FoldLemmas.{fold_all}
 use Rattle.sled_log.proofs.NewestLemmas.{chosen_well}
@@ -191,7 +189,7 @@ module _ (sum : List ℕ → ℕ) (size : ℕ) (r : Readable) (snapshots : ℤ �
         let low : least_place size first ≤ y.place = let nb = is.not_below in omega (arith, nb, begun.least) in
         let again : IsFoundSegment sum size r.log (least_place size first) y = record { slot = is.slot; header = is.header; not_below = low } in
         let same : found ≡ y = only_found sum size r.log (least_place size first) short found at_first
-            (not_below sum size r snapshots site from H file begun some short inside place_begins slot_begins long) (header_at_first sum size r snapshots site from H file begun some short inside place_begins slot_begins long) y again in
+        (not_below sum size r snapshots site from H file begun some short inside place_begins slot_begins long) (header_at_first sum size r snapshots site from H file begun some short inside place_begins slot_begins long) y again in
         let nb = is.not_below in
         omega (arith, nb, ap (λ (z : Segment). z.place) same, some)
 
@@ -233,18 +231,20 @@ module _ (sum : List ℕ → ℕ) (size : ℕ) (r : Readable) (snapshots : ℤ �
     shredded_file : from < size → ShreddedFile site from
     shredded_file less =
         let zeros : List ℕ = replicate (size - from) 0 in
-        let count : length zeros ≡ size - from = length-replicate (size - from) 0 in
-        (record {
-          older = [];
-          own = file.own;
-          parts = all_own;
-          elsewhere = λ k d lt. absurd (omega (arith, lt));
-          begun = λ _. long;
-          header = λ _. header_kept sum size r.log (site.slot + from) zeros site (omega (arith, long)) (file.header (omega (arith, long)));
-          stand = stand_kept sum size r.log (site.slot + from) zeros site 20 file.own (max 20 from) (omega (arith, long)) file.stand;
-          clean = λ i above below. zeros_read r.log (site.slot + from) (size - from) i above (omega (arith, below, less));
-          alone = λ none. absurd (omega (arith, long, none));
-        }, refl)
+        let count : length zeros ≡ size - from = length-replicate (size - from) 0 in (
+          record {
+            older = [];
+            own = file.own;
+            parts = all_own;
+            elsewhere = λ k d lt. absurd (omega (arith, lt));
+            begun = λ _. long;
+            header = λ _. header_kept sum size r.log (site.slot + from) zeros site (omega (arith, long)) (file.header (omega (arith, long)));
+            stand = stand_kept sum size r.log (site.slot + from) zeros site 20 file.own (max 20 from) (omega (arith, long)) file.stand;
+            clean = λ i above below. zeros_read r.log (site.slot + from) (size - from) i above (omega (arith, below, less));
+            alone = λ none. absurd (omega (arith, long, none));
+          },
+          refl,
+        )
 
     ready_tip : from < size → new.log ≡ at_rest shredded → BeginsFrom sum new.snapshots.file tip_shot → IsReady sum size new tip_shot H
     ready_tip less log_is begins =
@@ -315,9 +315,9 @@ module _ (sum : List ℕ → ℕ) (size : ℕ) (r : Readable) (snapshots : ℤ �
           let logs : new.log ≡ at_rest (overwritten r.log (site.slot + end % size) (replicate (size - end % size) 0)) =
           subst (λ (t : Option (ℕ × ℕ)). MatchOption t (new.log ≡ at_rest r.log) (λ tip. new.log ≡ at_rest (overwritten r.log tip.0 (replicate tip.1 0)))) (ap (λ (y : Conclusion). y.tip) (sym made)) log_is in
           let grown : first.stable ≡ tip_shot.stable → first.pages ≡ tip_shot.pages → first ≡ tip_shot = λ stable pages.
-              let c_is : c0 ≡ end = ap stable_place stable in
-              let active : first.active ≡ Some site.slot = begun.active (omega (arith, ap (λ n. n % size) c_is, off, long)) in
-              λ i. record { stable = stable i; active = active i; pages = pages i } in
+          let c_is : c0 ≡ end = ap stable_place stable in
+          let active : first.active ≡ Some site.slot = begun.active (omega (arith, ap (λ n. n % size) c_is, off, long)) in
+          λ i. record { stable = stable i; active = active i; pages = pages i } in
           subst (λ (w : Shot). IsReady sum size new w H) (sym shot)
           (ready_tip less (subst (λ (n : ℕ). new.log ≡ at_rest (overwritten r.log (site.slot + n) (replicate (size - n) 0))) off logs) (from_first tip_shot shot grown))
 

@@ -1,16 +1,15 @@
 -- Where all messages of a history lie in the first slot of a file, the table of it uses that slot.
-use Rattle.std.proofs.Common.{◌≡◌, ◌≢◌, ◌⊎◌, ◌∙◌, ◌||◌, ◌==◌, ◌/◌, ◌<◌, ◌≤◌, ◌++◌, ℕ, zero, suc, pos, Bool, true, false, if◌then◌else◌, List, [], ◌∷◌, length, map, get_or, Option, Some, None, refl, sym, ap, subst, arith, inl, inr}
-use Rattle.std.specs.List.{All, Contains, list_any, flat_map, filter}
+use Rattle.std.proofs.Common.{◌≡◌, ◌∙◌, ◌||◌, ◌==◌, ◌/◌, ◌<◌, ℕ, zero, suc, pos, Bool, true, false, if◌then◌else◌, List, [], ◌∷◌, map, get_or, Option, Some, None, refl, ap, inl, inr}
+use Rattle.std.specs.List.{All, Contains, list_any}
 use Rattle.std.proofs.Math.Bool.{or-true}
 use Rattle.std.proofs.lemmas.List.Folds.{list_any-append}
 use Rattle.std.proofs.lemmas.List.Elements.{All-contains}
 use Rattle.sled_codec.specs.Pointers.{lid_of}
-use Rattle.sled_codec.specs.declared.serialization.message.LogKind.TheVariants as does
 use Rattle.sled_codec.specs.History.{Message, History, HasPage, table, of_page, page_state, last_beginning, entries_from, is_replace, begins_page}
 use Rattle.sled_codec.specs.PageTables.{entry_of, page_with, IsTable}
 use Rattle.sled_codec.specs.Snapshots.{Entry, Page, Present, Free, Uninitialized}
 use Rattle.sled_codec.specs.WellFormed.{IsWellFormed}
-use Rattle.sled_core.specs.Begin.{entries_in, entries_of, slot_of, is_used, is_active}
+use Rattle.sled_core.specs.Begin.{entries_in, entries_of, slot_of}
 use Rattle.sled_log.proofs.Ascending.{Ascends, apart_ascends}
 use Rattle.sled_log.proofs.PageStates.{none_begins, begins_false, last_found}
 use Rattle.sled_log.proofs.TableParts.{split_at, from_page, page_ascends, has_page, replaced_before}

@@ -1,19 +1,16 @@
-use Rattle.std.proofs.Common.{◌≡◌, ◌∙◌, ◌≤◌, ◌<◌, ◌+◌, ℕ, List, length, refl, sym, ap, subst}
+use Rattle.std.proofs.Common.{◌≡◌, ◌∙◌, ◌≤◌, ◌+◌, ℕ, sym, ap, subst}
 use Rattle.std.specs.List.{All}
 use Rattle.std.specs.Prelude.{IfOk}
-use Rattle.sled_codec.specs.History.{History, Message}
+use Rattle.sled_codec.specs.History.{Message}
 use Rattle.sled_codec.specs.PageTables.{IsTable}
-use Rattle.sled_codec.specs.WellFormed.{IsWellFormed}
-use Rattle.sled_codec.specs.Snapshots.{Shot, shot_of}
-use Rattle.sled_codec.specs.declared.serialization.snapshot.Snapshot.{Snapshot}
+use Rattle.sled_codec.specs.Snapshots.{shot_of}
 use Rattle.sled_store.specs.declared.config.RunningConfig.{RunningConfig}
 use Rattle.sled_store.specs.Device.{State, state_of}
 use Rattle.sled_store.specs.SnapshotFiles.{stable_place}
-use Rattle.sled_core.specs.Fits.{Holds, IsKept, segment_size_of}
+use Rattle.sled_core.specs.Fits.{IsKept, segment_size_of}
 use Rattle.sled_core.specs.Ready.{IsReady}
 use Rattle.sled_core.proofs.ReadingLemmas.{if_ok}
 use Rattle.sled_log.proofs.RestartLemmas.{ready_kept, if_all}
-use Rattle.sled_log.proofs.restart.restart.Given as given
 use Rattle.sled_log.proofs.restart.restart.Goals as goal
 
 pub returns-in-Ok-clause-ready : goal.returns-in-Ok-clause-ready
