@@ -19,4 +19,5 @@ pub mod ReadyLemmas
 pub mod ReserveLemmas
 pub mod ScanLemmas
 pub mod StartLemmas
+pub mod TornLemmas
 pub mod UsedLemmas
