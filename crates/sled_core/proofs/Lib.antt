@@ -20,4 +20,5 @@ pub mod ReserveLemmas
 pub mod ScanLemmas
 pub mod StartLemmas
 pub mod TornLemmas
+pub mod TornRecords
 pub mod UsedLemmas

@@ -1,0 +1,86 @@
+-- Of the records of a write that was torn the first ones stand, and nothing behind them, where only what the log wrote passes as its own.
+use Rattle.std.proofs.Common.{◌≡◌, ◌⊎◌, ◌≤◌, ◌<◌, ◌+◌, ◌-◌, ◌*◌, ◌/◌, ◌%◌, ◌∙◌, ℕ, ℤ, zero, suc, pos, min, max, List, [], ◌∷◌, ◌++◌, length, take, drop, get_or, sym, ap, arith, refl, subst, inl, inr, length-take, length-drop}
+use Rattle.std.specs.List.{Contains}
+use Rattle.std.specs.Str.{bytes_eq}
+use Rattle.std.proofs.Math.Nat.{mod-add-div'}
+use Rattle.std.proofs.lemmas.Bool.{cases_lt, cases_Bool}
+use Rattle.std.proofs.lemmas.List.{drop-take, take-take, drop-drop, get_or-take, get_or-drop}
+use Rattle.std.proofs.lemmas.Slice.Eq.{bytes_eq-Decides}
+use Rattle.sled_codec.specs.declared.serialization.message.MessageHeader.{MessageHeader}
+use Rattle.sled_codec.specs.HeaderLaws.{same_header}
+use Rattle.sled_codec.specs.Places.{part}
+use Rattle.sled_codec.specs.Record.{IsRecord, IsHeader}
+use Rattle.sled_codec.specs.Spelling.{SpellsMessageHeader}
+use Rattle.sled_codec.specs.Sums.{flipped}
+use Rattle.sled_codec.specs.History.{Message}
+use Rattle.sled_store.specs.Device.{LogState, overwritten, LeavesLog}
+use Rattle.sled_store.specs.Foreign.{IsReached, at_first, behind, LaidBy, StoodThere, RecordWasLaid, HeaderWasLaid, NoForeignLog}
+use Rattle.sled_core.specs.declared.iobuf.Site.{Site}
+use Rattle.sled_core.specs.declared.met.Segment.{Segment}
+use Rattle.sled_core.specs.Reading.{StandsAt}
+use Rattle.sled_core.specs.Scan.{IsFoundSegment, IsMisplaced}
+use Rattle.sled_core.specs.LogFile.{MessageStands, StandIn, HasHeader, IsLogFile}
+use Rattle.sled_core.proofs.Ranges.{of_one, with_first}
+use Rattle.sled_core.proofs.ReadingLemmas.{header_some, laid_of}
+use Rattle.sled_core.proofs.GivesLemmas.{one_len}
+use Rattle.sled_core.proofs.PathLemmas.{IsEmpty, zeros_empty}
+use Rattle.sled_core.proofs.ScanLemmas.{aligned_offset}
+use Rattle.sled_core.proofs.LogFileLemmas.{stand_grows, stand-append, record_moved, first_stay, header_stays, part_laid, laid_within}
+use Rattle.sled_core.proofs.TornLemmas.{behind_write, left_grows, part_left}
+
+-- one text is the other, or isn't
+same_or_not : (xs ys : List ℕ) → (xs ≡ ys) ⊎ (xs ≡ ys → ⊥)
+same_or_not xs ys = elim (cases_Bool (bytes_eq xs ys)) [
+  | inl same ↦ inl ((bytes_eq-Decides xs ys).0 same)
+  | inr other ↦ inr (λ is. let both = (bytes_eq-Decides xs ys).1 is in cc)
+]
+
+-- what is in a list of one is that one
+the_only : {X : Type 0} (x y : X) → Contains (x ∷ []) y → y ≡ x
+the_only x y there = of_one (λ z. z ≡ x) (x ∷ []) y (with_first (λ z. z ≡ x) x [] refl (λ k d lt. absurd (omega arith))) there
+
+-- What stands at an offset is a record there.
+pub record_of_stands : (sum : List ℕ → ℕ) (size : ℕ) (log : List ℕ) (lid number : ℕ) (h : MessageHeader) (body : List ℕ) (len : ℕ) → StandsAt sum size log lid number h body len
+    → IsRecord sum (part log lid len) h.kind h.pid number body
+record_of_stands sum size log lid number h body len s =
+    let full : MessageHeader = record { crc32 = flipped (sum (body ++ drop 4 s.header)); kind = h.kind; segment_number = record { 0 = number }; pid = h.pid; len = length body } in
+    record {
+      header = s.header;
+      spelled = subst (λ (x : MessageHeader). SpellsMessageHeader s.header x) (same_header h full s.summed refl s.counted s.numbered refl) s.spelled;
+      is = s.is;
+      valid = s.valid;
+    }
+
+-- a record that stands somewhere is no shorter than a header
+long_enough : (sum : List ℕ → ℕ) (size : ℕ) (log : List ℕ) (lid number : ℕ) (h : MessageHeader) (body : List ℕ) (len : ℕ) → StandsAt sum size log lid number h body len → 8 ≤ len
+long_enough sum size log lid number h body len s =
+    let some = header_some s.header h s.spelled in
+    omega (arith, some, (laid_of sum size log lid number h body len s).1)
+
+module _ (sum : List ℕ → ℕ) (size : ℕ) (log : List ℕ) (site : Site) (aligned : site.slot % size ≡ 0) where
+  -- a part of the slot is a part of the file
+  part_slot : (at len : ℕ) → at + len ≤ size → part (part log site.slot size) at len ≡ part log (site.slot + at) len
+  part_slot at len fits =
+      let whole : at + (size - at) ≡ size = omega (arith, fits) in
+      ap (λ n. take len (drop at (take n (drop site.slot log)))) (sym whole)
+      ∙ ap (take len) (drop-take at (size - at) (drop site.slot log))
+      ∙ take-take len (size - at) (drop at (drop site.slot log)) (omega (arith, fits))
+      ∙ ap (take len) (drop-drop at site.slot log)
+
+  -- a reader comes from a record that it has come to, to the end of that record
+  record_reached : (number first at : ℕ) (h : MessageHeader) (body : List ℕ) (len : ℕ) → at < size → StandsAt sum size log (site.slot + at) number h body len
+      → IsReached sum size number (part log site.slot size) first at → IsReached sum size number (part log site.slot size) first (at + len)
+  record_reached number first at h body len below s reached =
+      let inside = s.in_slot in let there = s.in_file in
+      let fits : at + len ≤ size = omega (arith, inside, aligned_offset site.slot at size aligned below) in
+      behind at len h.kind h.pid body reached
+      (omega (arith, fits, there, length-take size (drop site.slot log), length-drop site.slot log))
+      (subst (λ (l : List ℕ). IsRecord sum l h.kind h.pid number body) (sym (part_slot at len fits)) (record_of_stands sum size log (site.slot + at) number h body len s))
+
+  -- A reader comes along the records of messages to the end of the last one.
+  pub stand_reached : (first at : ℕ) (ms : List Message) (end : ℕ) → StandIn sum size log site at ms end
+      → IsReached sum size (site.place / size) (part log site.slot size) first at → IsReached sum size (site.place / size) (part log site.slot size) first end
+  stand_reached first at [] end stand reached = subst (λ n. IsReached sum size (site.place / size) (part log site.slot size) first n) (sym stand) reached
+  stand_reached first at (m ∷ ms) end stand reached =
+      stand_reached first (at + m.size) ms end stand.4
+      (record_reached (site.place / size) first at stand.3.header m.bytes m.size (omega (arith, stand.0)) stand.3.stands reached)
