@@ -84,3 +84,78 @@ module _ (sum : List ℕ → ℕ) (size : ℕ) (log : List ℕ) (site : Site) (a
   stand_reached first at (m ∷ ms) end stand reached =
       stand_reached first (at + m.size) ms end stand.4
       (record_reached (site.place / size) first at stand.3.header m.bytes m.size (omega (arith, stand.0)) stand.3.stands reached)
+
+-- How far the records of messages stand in a segment from an offset on: some first ones of them, up to an offset where no record of the segment begins.
+pub record StandsUpTo (sum : List ℕ → ℕ) (size : ℕ) (log : List ℕ) (site : Site) (from : ℕ) (ms : List Message) (last : ℕ) : Type 0 where
+  pub count : ℕ
+  pub end : ℕ
+  pub stand : StandIn sum size log site from (take count ms) end
+  pub no_further : end ≤ last
+  pub empty : end + 32 ≤ size → IsEmpty sum size log (site.slot + end) (site.place / size)
+
+-- A write to a settled log file, behind what stands in the current segment, of which a crash left this.
+module _ (sum : List ℕ → ℕ) (size : ℕ) (site : Site) (old asked now left : List ℕ) (from : ℕ) (messages : List Message) (file : IsLogFile sum size old site from messages)
+    (slot_begins : site.slot % size ≡ 0) (no_more : length now ≤ length asked) (leaves : LeavesLog (behind_write old (site.slot + from) asked now) left)
+    (only_own : NoForeignLog sum size (behind_write old (site.slot + from) asked now) left) where
+  abbrev new : List ℕ
+  new = overwritten old (site.slot + from) asked
+
+  abbrev past : LogState
+  past = behind_write old (site.slot + from) asked now
+
+  slot_there : site.slot / size * size ≡ site.slot
+  slot_there = omega (arith, mod-add-div' site.slot size, slot_begins)
+
+  -- what stood in the segment still does
+  pub own_left : StandIn sum size left site 20 file.own (max 20 from)
+  own_left =
+      first_stay sum size old left (site.slot + from) (length asked) (left_grows old (site.slot + from) asked now left no_more leaves) (part_left old (site.slot + from) asked now left no_more leaves)
+      site from file.own (omega arith) file.stand
+
+  -- A record that a reader comes to behind what stood is one of the write.
+  module _ (header : HasHeader sum left site) (at : ℕ) (later : max 20 from ≤ at) (below : at < size) (reached : IsReached sum size (site.place / size) (part left site.slot size) 20 at)
+      (h : MessageHeader) (body : List ℕ) (len : ℕ) (s : StandsAt sum size left (site.slot + at) (site.place / size) h body len) where
+    some : 8 ≤ len
+    some = long_enough sum size left (site.slot + at) (site.place / size) h body len s
+
+    fits : at + len ≤ size
+    fits = let inside = s.in_slot in omega (arith, inside, aligned_offset site.slot at size slot_begins below)
+
+    whole : length (part left (site.slot + at) len) ≡ len
+    whole = let there = s.in_file in omega (arith, there, length-take len (drop (site.slot + at) left), length-drop (site.slot + at) left)
+
+    laid : RecordWasLaid sum size past (site.slot / size) at (part left (site.slot / size * size + at) len)
+    laid =
+        only_own.records (site.slot / size) site.place header.mark at len h.kind h.pid body
+        (subst (λ n. IsHeader sum (part left n 20) (pos site.place) header.mark) (sym slot_there) header.header)
+        (subst (λ n. IsReached sum size (site.place / size) (part left n size) 20 at) (sym slot_there) reached)
+        fits
+        (subst (λ n. IsRecord sum (part left (n + at) len) h.kind h.pid (site.place / size) body) (sym slot_there) (record_of_stands sum size left (site.slot + at) (site.place / size) h body len s))
+
+    -- there were zeros before
+    not_before : part old (site.slot + at) (length (part left (site.slot + at) len)) ≡ part left (site.slot + at) len → ⊥
+    not_before same =
+        let zero : get_or left (site.slot + at + 4) 0 ≡ 0 =
+        sym (get_or-take len (drop (site.slot + at) left) 4 0 (omega (arith, some)) ∙ get_or-drop (site.slot + at) left 4 0)
+        ∙ ap (λ (l : List ℕ). get_or l 4 0) (sym same)
+        ∙ get_or-take (length (part left (site.slot + at) len)) (drop (site.slot + at) old) 4 0 (omega (arith, some, whole)) ∙ get_or-drop (site.slot + at) old 4 0
+        ∙ file.clean (site.slot + at + 4) (omega (arith, later)) (omega (arith, fits, some)) in
+        zeros_empty sum size left (site.slot + at) (site.place / size) zero h body len s
+
+    in_write : LaidBy sum size (site.slot + from, asked) (site.slot + at) (part left (site.slot + at) len) → (at + len ≤ from + length asked) × (part new (site.slot + at) len ≡ part left (site.slot + at) len)
+    in_write by =
+        let ends : site.slot + at + length (part left (site.slot + at) len) ≤ site.slot + from + length asked = by.ends in
+        let reach : at + len ≤ from + length asked = omega (arith, ends, whole) in
+        let there : site.slot + from + (site.slot + at - (site.slot + from)) ≡ site.slot + at = omega (arith, later) in
+        let counted : part asked (site.slot + at - (site.slot + from)) len ≡ part left (site.slot + at) len = ap (part asked (site.slot + at - (site.slot + from))) (sym whole) ∙ by.same in
+        (reach, ap (λ n. part new n len) (sym there) ∙ part_laid sum size old (site.slot + from) asked (site.slot + at - (site.slot + from)) len (omega (arith, reach, later)) ∙ counted)
+
+    pub written_there : (at + len ≤ from + length asked) × (part new (site.slot + at) len ≡ part left (site.slot + at) len)
+    unfolding RecordWasLaid
+    written_there = elim laid [
+      | inl stood ↦ absurd (not_before (subst (λ n. part old (n + at) (length (part left (n + at) len)) ≡ part left (n + at) len) slot_there stood.same))
+      | inr write ↦ (
+          let is : write.0 ≡ (site.slot + from, asked) = the_only (site.slot + from, asked) write.0 write.1 in
+          let here : LaidBy sum size write.0 (site.slot + at) (part left (site.slot + at) len) = subst (λ n. LaidBy sum size write.0 (n + at) (part left (n + at) len)) slot_there write.2 in
+          in_write (subst (λ (w : ℕ × List ℕ). LaidBy sum size w (site.slot + at) (part left (site.slot + at) len)) is here))
+    ]
