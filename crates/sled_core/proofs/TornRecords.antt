@@ -159,3 +159,56 @@ module _ (sum : List ℕ → ℕ) (size : ℕ) (site : Site) (old asked now left
           let here : LaidBy sum size write.0 (site.slot + at) (part left (site.slot + at) len) = subst (λ n. LaidBy sum size write.0 (n + at) (part left (n + at) len)) slot_there write.2 in
           in_write (subst (λ (w : ℕ × List ℕ). LaidBy sum size w (site.slot + at) (part left (site.slot + at) len)) is here))
     ]
+
+  -- Along the records that were written.
+  module _ (header : HasHeader sum left site) where
+    -- the record that was written at an offset stands there, or none does
+    stands_or_none : (at : ℕ) (m : Message) → max 20 from ≤ at → at < size → IsReached sum size (site.place / size) (part left site.slot size) 20 at → MessageStands sum size new (site.slot + at) (site.place / size) m
+        → MessageStands sum size left (site.slot + at) (site.place / size) m ⊎ IsEmpty sum size left (site.slot + at) (site.place / size)
+    stands_or_none at m later below reached written =
+        elim (same_or_not (part left (site.slot + at) m.size) (part new (site.slot + at) m.size)) [
+          | inl same ↦ elim (cases_lt (length left) (site.slot + at + m.size)) [
+            | inl short ↦ inr (λ h body len s. let is = same_size h body len s in let there = s.in_file in absurd (omega (arith, is, there, short)))
+            | inr there ↦ inl (record { header = written.header; stands = record_moved sum size new left (site.slot + at) (site.place / size) written.header m.bytes m.size same there written.stands; known = written.known; page = written.page })
+          ]
+          | inr other ↦ inr (λ h body len s.
+              let both = written_there header at later below reached h body len s in
+              absurd (other (subst (λ n. part left (site.slot + at) n ≡ part new (site.slot + at) n) (same_size h body len s) (sym both.1))))
+        ]
+      where
+        same_size : (h : MessageHeader) (body : List ℕ) (len : ℕ) → StandsAt sum size left (site.slot + at) (site.place / size) h body len → len ≡ m.size
+        same_size h body len s =
+            let both = written_there header at later below reached h body len s in
+            let reach : at + len ≤ from + length asked = both.0 in
+            let eight = long_enough sum size left (site.slot + at) (site.place / size) h body len s in
+            let within = laid_within sum size old (site.slot + from) asked (omega (arith, reach, later, eight)) in
+            one_len sum size new (site.slot + at) (site.place / size) h written.header body m.bytes len m.size
+            (record_moved sum size left new (site.slot + at) (site.place / size) h body len both.1 (omega (arith, within, reach)) s) written.stands
+
+    along : (at : ℕ) (ms : List Message) → max 20 from ≤ at → StandIn sum size new site at ms (from + length asked) → IsReached sum size (site.place / size) (part left site.slot size) 20 at
+        → StandsUpTo sum size left site at ms (from + length asked)
+    along at [] later stand reached = record {
+      count = 0;
+      end = at;
+      stand = refl;
+      no_further = omega (arith, stand);
+      empty = λ room h body len s.
+          let both = written_there header at later (omega (arith, room)) reached h body len s in
+          let reach : at + len ≤ from + length asked = both.0 in
+          let eight = long_enough sum size left (site.slot + at) (site.place / size) h body len s in
+          absurd (omega (arith, reach, stand, eight));
+    }
+    along at (m ∷ ms) later stand reached =
+        let below : at < size = omega (arith, stand.0) in
+        elim (stands_or_none at m later below reached stand.3) [
+          | inl there ↦ (
+              let rest = along (at + m.size) ms (omega (arith, later)) stand.4 (record_reached sum size left site slot_begins (site.place / size) 20 at there.header m.bytes m.size below there.stands reached) in
+              record { count = suc rest.count; end = rest.end; stand = (stand.0, stand.1, stand.2, there, rest.stand); no_further = rest.no_further; empty = rest.empty })
+          | inr none ↦ (
+              let grows = stand_grows sum size new site at (m ∷ ms) (from + length asked) stand in
+              record { count = 0; end = at; stand = refl; no_further = omega (arith, grows); empty = λ room. none })
+        ]
+
+    -- The first of the records that were written stand behind those that stood there, and no other one behind them.
+    pub torn_stand : (more : List Message) → StandIn sum size new site (max 20 from) more (from + length asked) → StandsUpTo sum size left site (max 20 from) more (from + length asked)
+    torn_stand more stand = along (max 20 from) more (omega arith) stand (stand_reached sum size left site slot_begins 20 20 file.own (max 20 from) own_left at_first)
