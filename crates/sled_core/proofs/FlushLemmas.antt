@@ -137,7 +137,7 @@ module _ (sum : List ℕ → ℕ) (size : ℕ) (site : Site) (old bytes : List �
   number_small : site.place / size < 2 ^ 63
   number_small = omega (arith, div-le_self site.place size, place_small)
 
-  completed_stand : StandIn sum size new site (max 20 from) (completed_in site bytes rs) (max 20 (length bytes))
+  pub completed_stand : StandIn sum size new site (max 20 from) (completed_in site bytes rs) (max 20 (length bytes))
   completed_stand =
       let end : length bytes ≡ max 20 (length bytes) = omega (arith, begun) in
       subst (λ n. StandIn sum size new site (max 20 from) (completed_in site bytes rs) n) end
@@ -150,7 +150,7 @@ module _ (sum : List ℕ → ℕ) (size : ℕ) (site : Site) (old bytes : List �
   place_fits = omega (arith, place_small)
 
   -- the header is there, or is written
-  header_stands : HasHeader sum new site
+  pub header_stands : HasHeader sum new site
   header_stands = elim (cases_lt 0 from) [
     | inl some ↦ header_kept sum size old (site.slot + from) xs site (let long = file.begun some in omega (arith, long)) (file.header some)
     | inr none ↦ (

@@ -9,10 +9,10 @@ use Rattle.sled_store.proofs.LooseLemmas.{end_of-le}
 use Rattle.sled_store.proofs.OverwrittenLemmas.{overwritten-above}
 
 -- the state of a settled log file behind a write, of which this much may have been done
-abbrev pub behind_write : List ℕ → ℕ → List ℕ → List ℕ → LogState
-behind_write old at asked now = log_step (Wrote at asked now) (at_rest old)
+abbrev pub after_write : List ℕ → ℕ → List ℕ → List ℕ → LogState
+after_write old at asked now = log_step (Wrote at asked now) (at_rest old)
 
-module _ (old : List ℕ) (at : ℕ) (asked now left : List ℕ) (no_more : length now ≤ length asked) (leaves : LeavesLog (behind_write old at asked now) left) where
+module _ (old : List ℕ) (at : ℕ) (asked now left : List ℕ) (no_more : length now ≤ length asked) (leaves : LeavesLog (after_write old at asked now) left) where
   pub left_grows : length old ≤ length left
   left_grows = leaves.no_shorter
 
@@ -23,7 +23,7 @@ module _ (old : List ℕ) (at : ℕ) (asked now left : List ℕ) (no_more : leng
       let firm : (lid + len ≤ at) ⊎ (at + max (length asked) (length now) ≤ lid) = elim apart [ inl before ↦ inl before | inr past ↦ inr (omega (arith, past, no_more)) ] in
       let unread : (lid + len ≤ at) ⊎ (at + length now ≤ lid) = elim apart [ inl before ↦ inl before | inr past ↦ inr (omega (arith, past, no_more)) ] in
       ap (λ k. take k (drop lid left)) (sym count)
-      ∙ durable_left (behind_write old at asked now) lid (lid + len) left (durable_written (at_rest old) at asked now lid (lid + len) firm (durable_at_rest old lid (lid + len) there)) leaves
+      ∙ durable_left (after_write old at asked now) lid (lid + len) left (durable_written (at_rest old) at asked now lid (lid + len) firm (durable_at_rest old lid (lid + len) there)) leaves
       ∙ part_written old at now lid (lid + len) there unread
       ∙ ap (λ k. take k (drop lid old)) count
 
@@ -31,7 +31,7 @@ module _ (old : List ℕ) (at : ℕ) (asked now left : List ℕ) (no_more : leng
   pub byte_left : (i : ℕ) → at + length asked ≤ i → get_or left i 0 ≡ get_or old i 0
   byte_left i past = elim (cases_lt i (length old)) [
     | inl there ↦
-        durable_byte (behind_write old at asked now) i (i + 1) left
+        durable_byte (after_write old at asked now) i (i + 1) left
         (durable_written (at_rest old) at asked now i (i + 1) (inr (omega (arith, past, no_more))) (durable_at_rest old i (i + 1) (omega (arith, there)))) leaves i (omega arith) (omega arith)
         ∙ overwritten-above old at now i (omega (arith, past, no_more, end_of-le at (length now) (length now) (omega arith)))
     | inr none ↦

@@ -26,7 +26,7 @@ use Rattle.sled_core.proofs.GivesLemmas.{one_len}
 use Rattle.sled_core.proofs.PathLemmas.{IsEmpty, zeros_empty}
 use Rattle.sled_core.proofs.ScanLemmas.{aligned_offset}
 use Rattle.sled_core.proofs.LogFileLemmas.{stand_grows, stand-append, record_moved, first_stay, header_stays, part_laid, laid_within}
-use Rattle.sled_core.proofs.TornLemmas.{behind_write, left_grows, part_left}
+use Rattle.sled_core.proofs.TornLemmas.{after_write, left_grows, part_left}
 
 -- one text is the other, or isn't
 same_or_not : (xs ys : List ℕ) → (xs ≡ ys) ⊎ (xs ≡ ys → ⊥)
@@ -85,23 +85,24 @@ module _ (sum : List ℕ → ℕ) (size : ℕ) (log : List ℕ) (site : Site) (a
       stand_reached first (at + m.size) ms end stand.4
       (record_reached (site.place / size) first at stand.3.header m.bytes m.size (omega (arith, stand.0)) stand.3.stands reached)
 
--- How far the records of messages stand in a segment from an offset on: some first ones of them, up to an offset where no record of the segment begins.
-pub record StandsUpTo (sum : List ℕ → ℕ) (size : ℕ) (log : List ℕ) (site : Site) (from : ℕ) (ms : List Message) (last : ℕ) : Type 0 where
+-- How far records stand in a segment: these ones from an offset up to a middle, some first ones of those that were to follow, and where they end no record of the segment begins.
+pub record StandsUpTo (sum : List ℕ → ℕ) (size : ℕ) (log : List ℕ) (site : Site) (from : ℕ) (own : List Message) (mid : ℕ) (more : List Message) (last : ℕ) : Type 0 where
   pub count : ℕ
   pub end : ℕ
-  pub stand : StandIn sum size log site from (take count ms) end
+  pub stand : StandIn sum size log site from (own ++ take count more) end
+  pub no_less : mid ≤ end
   pub no_further : end ≤ last
   pub empty : end + 32 ≤ size → IsEmpty sum size log (site.slot + end) (site.place / size)
 
 -- A write to a settled log file, behind what stands in the current segment, of which a crash left this.
 module _ (sum : List ℕ → ℕ) (size : ℕ) (site : Site) (old asked now left : List ℕ) (from : ℕ) (messages : List Message) (file : IsLogFile sum size old site from messages)
-    (slot_begins : site.slot % size ≡ 0) (no_more : length now ≤ length asked) (leaves : LeavesLog (behind_write old (site.slot + from) asked now) left)
-    (only_own : NoForeignLog sum size (behind_write old (site.slot + from) asked now) left) where
+    (slot_begins : site.slot % size ≡ 0) (no_more : length now ≤ length asked) (leaves : LeavesLog (after_write old (site.slot + from) asked now) left)
+    (only_own : NoForeignLog sum size (after_write old (site.slot + from) asked now) left) where
   abbrev new : List ℕ
   new = overwritten old (site.slot + from) asked
 
   abbrev past : LogState
-  past = behind_write old (site.slot + from) asked now
+  past = after_write old (site.slot + from) asked now
 
   slot_there : site.slot / size * size ≡ site.slot
   slot_there = omega (arith, mod-add-div' site.slot size, slot_begins)
@@ -186,11 +187,12 @@ module _ (sum : List ℕ → ℕ) (size : ℕ) (site : Site) (old asked now left
             (record_moved sum size left new (site.slot + at) (site.place / size) h body len both.1 (omega (arith, within, reach)) s) written.stands
 
     along : (at : ℕ) (ms : List Message) → max 20 from ≤ at → StandIn sum size new site at ms (from + length asked) → IsReached sum size (site.place / size) (part left site.slot size) 20 at
-        → StandsUpTo sum size left site at ms (from + length asked)
+        → StandsUpTo sum size left site at [] at ms (from + length asked)
     along at [] later stand reached = record {
       count = 0;
       end = at;
       stand = refl;
+      no_less = omega arith;
       no_further = omega (arith, stand);
       empty = λ room h body len s.
           let both = written_there header at later (omega (arith, room)) reached h body len s in
@@ -203,12 +205,58 @@ module _ (sum : List ℕ → ℕ) (size : ℕ) (site : Site) (old asked now left
         elim (stands_or_none at m later below reached stand.3) [
           | inl there ↦ (
               let rest = along (at + m.size) ms (omega (arith, later)) stand.4 (record_reached sum size left site slot_begins (site.place / size) 20 at there.header m.bytes m.size below there.stands reached) in
-              record { count = suc rest.count; end = rest.end; stand = (stand.0, stand.1, stand.2, there, rest.stand); no_further = rest.no_further; empty = rest.empty })
+              record { count = suc rest.count; end = rest.end; stand = (stand.0, stand.1, stand.2, there, rest.stand); no_less = let le = rest.no_less in omega (arith, le); no_further = rest.no_further; empty = rest.empty })
           | inr none ↦ (
               let grows = stand_grows sum size new site at (m ∷ ms) (from + length asked) stand in
-              record { count = 0; end = at; stand = refl; no_further = omega (arith, grows); empty = λ room. none })
+              record { count = 0; end = at; stand = refl; no_less = omega arith; no_further = omega (arith, grows); empty = λ room. none })
         ]
 
     -- The first of the records that were written stand behind those that stood there, and no other one behind them.
-    pub torn_stand : (more : List Message) → StandIn sum size new site (max 20 from) more (from + length asked) → StandsUpTo sum size left site (max 20 from) more (from + length asked)
-    torn_stand more stand = along (max 20 from) more (omega arith) stand (stand_reached sum size left site slot_begins 20 20 file.own (max 20 from) own_left at_first)
+    pub torn_stand : (more : List Message) → StandIn sum size new site (max 20 from) more (from + length asked) → StandsUpTo sum size left site 20 file.own (max 20 from) more (from + length asked)
+    torn_stand more stand =
+        let rest = along (max 20 from) more (omega arith) stand (stand_reached sum size left site slot_begins 20 20 file.own (max 20 from) own_left at_first) in
+        record {
+          count = rest.count;
+          end = rest.end;
+          stand = stand-append sum size left site 20 file.own (max 20 from) (take rest.count more) rest.end own_left rest.stand;
+          no_less = rest.no_less;
+          no_further = rest.no_further;
+          empty = rest.empty;
+        }
+
+  -- The header.
+
+  -- a header that is found after the crash stood there before, or the write began with it
+  found_where : (y : Segment) → IsFoundSegment sum size left site.place y → (part old y.slot 20 ≡ part left y.slot 20) ⊎ ((y.slot ≡ site.slot + from) × (take 20 asked ≡ part left y.slot 20))
+  unfolding HeaderWasLaid
+  found_where y found =
+      let there : y.slot / size * size ≡ y.slot = let begins = found.slot in omega (arith, mod-add-div' y.slot size, begins) in
+      let laid : HeaderWasLaid sum size past (y.slot / size) (part left (y.slot / size * size) 20) =
+      only_own.headers (y.slot / size) (pos y.place) y.mark (subst (λ n. IsHeader sum (part left n 20) (pos y.place) y.mark) (sym there) found.header) in
+      elim laid [
+        | inl stood ↦ inl (subst (λ n. part old n 20 ≡ part left n 20) there stood)
+        | inr write ↦ (
+            let is : write.0 ≡ (site.slot + from, asked) = the_only (site.slot + from, asked) write.0 write.1 in
+            inr (sym there ∙ sym write.2 ∙ ap (λ (w : ℕ × List ℕ). w.0) is, ap (λ (w : ℕ × List ℕ). take 20 w.1) (sym is) ∙ write.3 ∙ ap (λ n. part left n 20) there))
+      ]
+
+  -- Where the segment begins with the write, its header stands, or no segment is found that a reader could take for it.
+  pub torn_header : from ≡ 0 → 20 ≤ length asked → (written : HasHeader sum new site)
+      → ((has : HasHeader sum left site) × (has.mark ≡ written.mark)) ⊎ ((y : Segment) → IsFoundSegment sum size left site.place y → IsMisplaced size y)
+  torn_header first long written = elim (same_or_not (part left site.slot 20) (part new site.slot 20)) [
+    | inl same ↦ inl (record { mark = written.mark; header = subst (λ (l : List ℕ). IsHeader sum l (pos site.place) written.mark) (sym same) written.header; below = written.below }, refl)
+    | inr other ↦ inr (λ y found. elim (found_where y found) [
+      | inl stood ↦ file.alone first y (record { slot = found.slot; header = subst (λ (l : List ℕ). IsHeader sum l (pos y.place) y.mark) (sym stood) found.header; not_below = found.not_below })
+      | inr write ↦ (
+          let here : site.slot + from + 0 ≡ site.slot = omega (arith, first) in
+          let at : y.slot ≡ site.slot = write.0 ∙ omega (arith, first) in
+          absurd (other (ap (λ n. part left n 20) (sym at) ∙ sym write.1 ∙ sym (part_laid sum size old (site.slot + from) asked 0 20 (omega (arith, long))) ∙ ap (λ n. part new n 20) here)))
+    ])
+  ]
+
+  -- Where it began before, its header stays.
+  pub header_left : 0 < from → HasHeader sum left site
+  header_left some =
+      let begun = file.begun some in
+      header_stays sum size old left (site.slot + from) (length asked) (left_grows old (site.slot + from) asked now left no_more leaves) (part_left old (site.slot + from) asked now left no_more leaves)
+      site (omega (arith, begun)) (file.header some)
