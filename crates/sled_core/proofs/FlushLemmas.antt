@@ -1,10 +1,9 @@
 -- What is written of a log: the records that were completed, behind those that stand on the device.
-use Rattle.std.proofs.Common.{◌≡◌, ◌≢◌, ◌⊎◌, ◌≤◌, ◌<◌, ◌+◌, ◌-◌, ◌/◌, ◌%◌, ◌^◌, ◌∙◌, ◌-ℤ◌, ℕ, ℤ, zero, suc, pos, max, Bool, true, false, List, [], ◌∷◌, ◌++◌, length, take, drop, sym, ap, arith, refl, subst, append_assoc, length-append, length-take, length-drop, inl, inr, Option, None, Some, get_or, if◌then◌else◌, FitsSigned, nat_abs}
+use Rattle.std.proofs.Common.{◌≡◌, ◌≢◌, ◌⊎◌, ◌≤◌, ◌<◌, ◌+◌, ◌-◌, ◌/◌, ◌%◌, ◌^◌, ◌∙◌, ◌-ℤ◌, ℕ, ℤ, zero, suc, pos, max, Bool, true, false, List, [], ◌∷◌, ◌++◌, length, take, drop, sym, ap, arith, refl, subst, append_assoc, length-take, length-drop, inl, inr, Option, None, Some, get_or, if◌then◌else◌, FitsSigned, nat_abs}
 use Rattle.std.proofs.Math.IntN.{ -ℤ_one}
 use Rattle.std.specs.List.{All}
 use Rattle.std.specs.Int.{w64}
 use Rattle.std.specs.Bool.{MatchBool}
-use Rattle.std.specs.Option.{unwrap_or}
 use Rattle.std.specs.IoError.{error_kind}
 use Rattle.std.specs.declared.io.Error.{Error as IoError}
 use Rattle.std.specs.declared.io.ErrorKind.{ErrorKind}
@@ -15,24 +14,22 @@ use Rattle.std.proofs.lemmas.Bool.{cases_lt}
 use Rattle.std.proofs.Math.Nat.{div-le_self}
 use Rattle.sled_codec.specs.declared.result.DiskPtr.TheVariants.{Inline}
 use Rattle.sled_codec.specs.declared.serialization.message.MessageHeader.{MessageHeader}
-use Rattle.sled_codec.specs.Kinds.{kind_written}
 use Rattle.sled_codec.specs.Sums.{flipped}
 use Rattle.sled_codec.specs.Places.{part}
-use Rattle.sled_codec.specs.Record.{IsHeader, short_header, short_record}
+use Rattle.sled_codec.specs.Record.{short_header, short_record}
 use Rattle.sled_codec.specs.History.{Message, History}
-use Rattle.sled_codec.proofs.Records.{short_is_record, length-short_record}
+use Rattle.sled_codec.proofs.Records.{short_is_record}
 use Rattle.sled_store.specs.Device.{LogState, State, at_rest, overwritten}
 use Rattle.sled_store.specs.Answers.{is_fault, is_fault_kind}
 use Rattle.sled_core.specs.declared.iobuf.Reserved.{Reserved}
 use Rattle.sled_core.specs.declared.iobuf.Site.{Site}
-use Rattle.sled_core.specs.declared.met.Segment.{Segment}
 use Rattle.sled_core.specs.Buffers.{text_in, body_in, message_in, placeholder, IsChain, completed_in, all_ended, Stands}
-use Rattle.sled_core.specs.LogFile.{MessageStands, StandIn, StandsElsewhere, HasHeader, IsLogFile}
+use Rattle.sled_core.specs.LogFile.{MessageStands, StandIn, HasHeader, IsLogFile}
 use Rattle.sled_core.specs.Fits.{HoldsIn, IsOnDevice, IsBegunFrom, IsKept}
 use Rattle.sled_core.proofs.Ranges.{chain_grows, others, completed_between}
 use Rattle.sled_core.proofs.CompletesLemmas.{some_long}
 use Rattle.sled_core.proofs.ScanLemmas.{aligned_offset}
-use Rattle.sled_core.proofs.LogFileLemmas.{stand-append, part_kept, first_kept, elsewhere_kept, header_kept, part_laid, laid_within, behind_write}
+use Rattle.sled_core.proofs.LogFileLemmas.{stand-append, first_kept, elsewhere_kept, header_kept, part_laid, laid_within, behind_write}
 
 -- the first is ended, and so are the others
 ended_split : (o b : Bool) → (if o then false else b) ≡ true → (o ≡ false) × (b ≡ true)
@@ -137,6 +134,7 @@ module _ (sum : List ℕ → ℕ) (size : ℕ) (site : Site) (old bytes : List �
   number_small : site.place / size < 2 ^ 63
   number_small = omega (arith, div-le_self site.place size, place_small)
 
+  -- what was completed stands in what was written
   pub completed_stand : StandIn sum size new site (max 20 from) (completed_in site bytes rs) (max 20 (length bytes))
   completed_stand =
       let end : length bytes ≡ max 20 (length bytes) = omega (arith, begun) in

@@ -1,9 +1,8 @@
 -- Where a log begins lies in reach, and its first buffer in a segment.
-use Rattle.std.proofs.Common.{◌≡◌, ◌≤◌, ◌<◌, ◌+◌, ◌*◌, ◌/◌, ◌%◌, ◌^◌, ◌∙◌, ◌-ℤ◌, ℕ, pos, false, List, length, Option, Some, None, IfSome, refl, sym, ap, subst, arith, inl, inr}
+use Rattle.std.proofs.Common.{◌≡◌, ◌≤◌, ◌<◌, ◌+◌, ◌*◌, ◌/◌, ◌^◌, ◌-ℤ◌, ℕ, pos, false, List, length, Option, Some, None, IfSome, refl, ap, arith, inl, inr}
 use Rattle.std.proofs.Math.Nat.{mod-add-div', mod-lt}
 use Rattle.std.proofs.lemmas.Bool.{cases_lt}
 use Rattle.std.proofs.lemmas.List.Elements.{All-contains}
-use Rattle.sled_codec.specs.Record.{short_header}
 use Rattle.sled_codec.specs.Snapshots.{Shot}
 use Rattle.sled_codec.proofs.Segments.{length-short_header}
 use Rattle.sled_store.specs.SnapshotFiles.{stable_place}

@@ -1,5 +1,5 @@
 -- Where the records of messages stand one behind another and nothing behind them, a reader meets just these.
-use Rattle.std.proofs.Common.{◌≡◌, ◌≢◌, ◌⊎◌, ◌≤◌, ◌<◌, ◌+◌, ◌/◌, ◌%◌, ◌∙◌, ℕ, ℤ, Bool, true, false, ◌==◌, if◌then◌else◌, List, [], ◌∷◌, ◌++◌, length, map, take, drop, get_or, Option, Some, sym, ap, arith, refl, subst, inl, inr, length-append, length-take, length-drop, append_assoc}
+use Rattle.std.proofs.Common.{◌≡◌, ◌≢◌, ◌≤◌, ◌+◌, ◌/◌, ◌∙◌, ℕ, Bool, true, false, ◌==◌, if◌then◌else◌, List, [], ◌∷◌, ◌++◌, length, map, drop, get_or, Some, sym, ap, arith, refl, subst, inl, inr, length-append, length-take, length-drop, append_assoc}
 use Rattle.std.proofs.lemmas.List.{get_or-drop, get_or-take, get_or-append-add, get_or_append_left}
 use Rattle.sled_codec.specs.declared.result.DiskPtr.TheVariants as ptr
 use Rattle.sled_codec.specs.declared.serialization.message.LogKind.{LogKind}
@@ -16,7 +16,7 @@ use Rattle.sled_core.specs.declared.met.What.{What}
 use Rattle.sled_core.specs.declared.met.What.TheVariants.{Gives, Passed, Begins}
 use Rattle.sled_core.specs.declared.met.Ending.{Ending}
 use Rattle.sled_core.specs.declared.met.Ending.TheVariants.{Full, Capped, Broken}
-use Rattle.sled_core.specs.Reading.{StandsAt, is_inline, is_blob}
+use Rattle.sled_core.specs.Reading.{StandsAt, is_inline}
 use Rattle.sled_core.specs.Scan.{Readable, Says, IsMet, IsPath, IsEnd, EndsThere, IsScan}
 use Rattle.sled_core.specs.LogFile.{MessageStands, StandIn}
 use Rattle.sled_core.proofs.GivesLemmas.{one_header, one_len, kind_inline, blob_apart}

@@ -1,5 +1,5 @@
 -- What a crash leaves of a log file when the write of a flush was torn, or was not synced yet.
-use Rattle.std.proofs.Common.{◌≡◌, ◌⊎◌, ◌≤◌, ◌<◌, ◌+◌, ◌-◌, ◌/◌, ◌%◌, ◌^◌, ◌∙◌, ◌-ℤ◌, ℕ, pos, max, true, List, length, take, drop, get_or, sym, ap, arith, subst, inl, inr, length-drop}
+use Rattle.std.proofs.Common.{◌≡◌, ◌⊎◌, ◌≤◌, ◌<◌, ◌+◌, ◌/◌, ◌%◌, ◌^◌, ◌∙◌, ◌-ℤ◌, ℕ, pos, max, true, List, length, take, drop, get_or, arith, subst, inl, inr, length-drop}
 use Rattle.std.specs.List.{All}
 use Rattle.std.proofs.lemmas.Bool.{cases_lt}
 use Rattle.sled_codec.specs.Record.{short_header}
@@ -44,7 +44,7 @@ module _ (sum : List ℕ → ℕ) (size : ℕ) (site : Site) (old bytes : List �
       | inr none ↦ (
           let first : from ≡ 0 = omega (arith, none) in
           elim (torn_header sum size site old (drop from bytes) now left from earlier file slot_begins no_more leaves only_own first (omega (arith, last, first, begun))
-            (header_stands sum size site old bytes from rs earlier file begun behind short slot_begins place_small slot_small header chain stand room ended)) [
+          (header_stands sum size site old bytes from rs earlier file begun behind short slot_begins place_small slot_small header chain stand room ended)) [
             | inl has ↦ inl has.0
             | inr alone ↦ inr (first, alone)
           ])
@@ -58,4 +58,4 @@ module _ (sum : List ℕ → ℕ) (size : ℕ) (site : Site) (old bytes : List �
         let end : max 20 (length bytes) ≡ from + length (drop from bytes) = omega (arith, last, begun) in
         subst (λ n. StandsUpTo sum size left site 20 file.own (max 20 from) (completed_in site bytes rs) n) last
         (torn_stand sum size site old (drop from bytes) now left from earlier file slot_begins no_more leaves only_own has (completed_in site bytes rs)
-          (subst (λ n. StandIn sum size (overwritten old (site.slot + from) (drop from bytes)) site (max 20 from) (completed_in site bytes rs) n) end written))
+        (subst (λ n. StandIn sum size (overwritten old (site.slot + from) (drop from bytes)) site (max 20 from) (completed_in site bytes rs) n) end written))

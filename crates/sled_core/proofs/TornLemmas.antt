@@ -1,9 +1,9 @@
 -- What a crash leaves of a settled log file and one write to it that was not synced: outside the write all is as it was.
-use Rattle.std.proofs.Common.{◌≡◌, ◌⊎◌, ◌≤◌, ◌<◌, ◌+◌, ◌-◌, ℕ, max, List, [], ◌∷◌, length, take, drop, get_or, sym, ◌∙◌, ap, arith, refl, inl, inr}
+use Rattle.std.proofs.Common.{◌≡◌, ◌⊎◌, ◌≤◌, ◌+◌, ◌-◌, ℕ, max, List, length, take, drop, get_or, sym, ◌∙◌, ap, arith, inl, inr}
 use Rattle.std.proofs.lemmas.Bool.{cases_lt}
 use Rattle.std.proofs.lemmas.List.{get_or_past}
 use Rattle.sled_codec.specs.Places.{part}
-use Rattle.sled_store.specs.Device.{LogState, log_step, at_rest, overwritten, end_of, LeavesLog, Wrote}
+use Rattle.sled_store.specs.Device.{LogState, log_step, at_rest, LeavesLog, Wrote}
 use Rattle.sled_store.proofs.LogLemmas.{durable_left, durable_byte, durable_written, durable_at_rest, part_written}
 use Rattle.sled_store.proofs.LooseLemmas.{end_of-le}
 use Rattle.sled_store.proofs.OverwrittenLemmas.{overwritten-above}

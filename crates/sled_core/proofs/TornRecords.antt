@@ -1,5 +1,5 @@
 -- Of the records of a write that was torn the first ones stand, and nothing behind them, where only what the log wrote passes as its own.
-use Rattle.std.proofs.Common.{◌≡◌, ◌⊎◌, ◌≤◌, ◌<◌, ◌+◌, ◌-◌, ◌*◌, ◌/◌, ◌%◌, ◌∙◌, ℕ, ℤ, zero, suc, pos, min, max, List, [], ◌∷◌, ◌++◌, length, take, drop, get_or, sym, ap, arith, refl, subst, inl, inr, length-take, length-drop}
+use Rattle.std.proofs.Common.{◌≡◌, ◌⊎◌, ◌≤◌, ◌<◌, ◌+◌, ◌-◌, ◌*◌, ◌/◌, ◌%◌, ◌∙◌, ℕ, suc, pos, max, List, [], ◌∷◌, ◌++◌, length, take, drop, get_or, sym, ap, arith, refl, subst, inl, inr, length-take, length-drop}
 use Rattle.std.specs.List.{Contains}
 use Rattle.std.specs.Str.{bytes_eq}
 use Rattle.std.proofs.Math.Nat.{mod-add-div'}
@@ -14,7 +14,7 @@ use Rattle.sled_codec.specs.Spelling.{SpellsMessageHeader}
 use Rattle.sled_codec.specs.Sums.{flipped}
 use Rattle.sled_codec.specs.History.{Message}
 use Rattle.sled_store.specs.Device.{LogState, overwritten, LeavesLog}
-use Rattle.sled_store.specs.Foreign.{IsReached, at_first, behind, LaidBy, StoodThere, RecordWasLaid, HeaderWasLaid, NoForeignLog}
+use Rattle.sled_store.specs.Foreign.{IsReached, at_first, behind, LaidBy, RecordWasLaid, HeaderWasLaid, NoForeignLog}
 use Rattle.sled_core.specs.declared.iobuf.Site.{Site}
 use Rattle.sled_core.specs.declared.met.Segment.{Segment}
 use Rattle.sled_core.specs.Reading.{StandsAt}
@@ -186,6 +186,7 @@ module _ (sum : List ℕ → ℕ) (size : ℕ) (site : Site) (old asked now left
             one_len sum size new (site.slot + at) (site.place / size) h written.header body m.bytes len m.size
             (record_moved sum size left new (site.slot + at) (site.place / size) h body len both.1 (omega (arith, within, reach)) s) written.stands
 
+    -- the first of the records that were written from a boundary on stand, and behind them none
     along : (at : ℕ) (ms : List Message) → max 20 from ≤ at → StandIn sum size new site at ms (from + length asked) → IsReached sum size (site.place / size) (part left site.slot size) 20 at
         → StandsUpTo sum size left site at [] at ms (from + length asked)
     along at [] later stand reached = record {

@@ -16,8 +16,8 @@ mod book;
 use crate::iobuf::Buffer;
 use book::{Book, Limits};
 use sled_codec::result::{Error, Result};
-use sled_codec::serialization::{Checksum, SegmentHeader};
 use sled_codec::serialization::snapshot::Snapshot;
+use sled_codec::serialization::{Checksum, SegmentHeader};
 use sled_store::{Device, RunningConfig};
 use std::alloc::Global;
 

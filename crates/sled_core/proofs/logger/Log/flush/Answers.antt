@@ -1,5 +1,5 @@
-use Rattle.std.proofs.Common.{◌≡◌, ◌∙◌, ◌<◌, ◌+◌, ℤ, List, ℕ, Option, ap, sym, subst, refl, arith, [], length, rules, inl, inr}
-use Rattle.sled_store.specs.Device.{Trace, State, NamesState, state_of}
+use Rattle.std.proofs.Common.{◌≡◌, ◌∙◌, ◌<◌, ℕ, ap, sym, subst, refl, arith, [], length, rules, inl, inr}
+use Rattle.sled_store.specs.Device.{Trace, NamesState, state_of}
 use Rattle.sled_core.specs.Fits.{Holds, IsKept}
 use Rattle.sled_core.proofs.Parts.{none_there}
 use Rattle.sled_core.proofs.FlushLemmas.{holds-flush, holds-faulty, holds-moved, all_kept, memory_or_fault}

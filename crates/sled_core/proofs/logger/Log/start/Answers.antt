@@ -30,7 +30,7 @@ returns-in-Ok-clause-history g c = λ H ready.
     let ks : List ℕ = unused size (slots_of size (length old.log.bytes)) s in
     let now : State = state_of (g.D.Device.trace c.begin.new.config.device) in
     let log_now = ap (λ (t : Trace). (state_of t).log) c.in-Ok.ensures.done ∙ filling-log size ks (g.D.Device.trace c.args.config.device) ready.log ready.settled
-        ∙ ap (λ (l : List ℕ). at_rest (filled size l ks)) (sym (ap (λ (x : LogState). x.bytes) ready.settled)) in
+    ∙ ap (λ (l : List ℕ). at_rest (filled size l ks)) (sym (ap (λ (x : LogState). x.bytes) ready.settled)) in
     let names_now = ap (λ (t : Trace). (state_of t).snapshots.file) c.in-Ok.ensures.done ∙ ap (λ (n : NamesState). n.file) (filling-snapshots size ks (g.D.Device.trace c.args.config.device)) in
     let first = c.in-Ok.ensures.buffer in
     let holds = begins_ready g.C.Checksum.sum_of size old now s H c.in-Ok.buffer.bytes.items c.args.config.config.least ready c.in-Ok.ensures.startable log_now names_now c.in-Ok.beginning c.in-Ok.ensures.beginning first.header first.resumed in
