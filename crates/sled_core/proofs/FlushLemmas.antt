@@ -29,7 +29,7 @@ use Rattle.sled_core.specs.Fits.{HoldsIn, IsOnDevice, IsBegunFrom, IsKept}
 use Rattle.sled_core.proofs.Ranges.{chain_grows, others, completed_between}
 use Rattle.sled_core.proofs.CompletesLemmas.{some_long}
 use Rattle.sled_core.proofs.ScanLemmas.{aligned_offset}
-use Rattle.sled_core.proofs.LogFileLemmas.{stand_none, stand-append, stand_kept, elsewhere_kept, header_kept, part_laid, laid_within, behind_write}
+use Rattle.sled_core.proofs.LogFileLemmas.{stand-append, first_kept, elsewhere_kept, header_kept, part_laid, laid_within, behind_write}
 
 -- the first is ended, and so are the others
 ended_split : (o b : Bool) → (if o then false else b) ≡ true → (o ≡ false) × (b ≡ true)
@@ -134,26 +134,21 @@ module _ (sum : List ℕ → ℕ) (size : ℕ) (site : Site) (old bytes : List �
   number_small : site.place / size < 2 ^ 63
   number_small = omega (arith, div-le_self site.place size, place_small)
 
-  completed_stand : StandIn sum size new site (max 20 from) (completed_in site bytes rs) (max 20 (length bytes))
+  -- what was completed stands in what was written
+  pub completed_stand : StandIn sum size new site (max 20 from) (completed_in site bytes rs) (max 20 (length bytes))
   completed_stand =
       let end : length bytes ≡ max 20 (length bytes) = omega (arith, begun) in
       subst (λ n. StandIn sum size new site (max 20 from) (completed_in site bytes rs) n) end
       (records_laid sum size site new bytes from (max 20 from) rs same in_file slot_begins short slot_small number_small (omega arith) chain stand room ended)
 
   own_stand : StandIn sum size new site 20 file.own (max 20 from)
-  own_stand = elim (cases_lt from 20) [
-    | inl less ↦ (
-        let start : max 20 from ≡ 20 = omega (arith, less) in
-        let empty : file.own ≡ [] = stand_none sum size old site 20 file.own (subst (λ n. StandIn sum size old site 20 file.own n) start file.stand) in
-        subst (λ (ms : List Message). StandIn sum size new site 20 ms (max 20 from)) (sym empty) start)
-    | inr long ↦ stand_kept sum size old (site.slot + from) xs site 20 file.own (max 20 from) (omega (arith, long)) file.stand
-  ]
+  own_stand = first_kept sum size old (site.slot + from) xs site from file.own (omega arith) file.stand
 
   place_fits : FitsSigned w64 (pos site.place)
   place_fits = omega (arith, place_small)
 
   -- the header is there, or is written
-  header_stands : HasHeader sum new site
+  pub header_stands : HasHeader sum new site
   header_stands = elim (cases_lt 0 from) [
     | inl some ↦ header_kept sum size old (site.slot + from) xs site (let long = file.begun some in omega (arith, long)) (file.header some)
     | inr none ↦ (

@@ -19,4 +19,7 @@ pub mod ReadyLemmas
 pub mod ReserveLemmas
 pub mod ScanLemmas
 pub mod StartLemmas
+pub mod TornFlush
+pub mod TornLemmas
+pub mod TornRecords
 pub mod UsedLemmas

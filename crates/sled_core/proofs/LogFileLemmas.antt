@@ -1,5 +1,6 @@
 -- What stands in a log file stays where it is when the rest of the current segment is written.
-use Rattle.std.proofs.Common.{◌≡◌, ◌⊎◌, ◌≤◌, ◌<◌, ◌+◌, ◌-◌, ◌/◌, ℕ, zero, suc, pos, List, [], ◌∷◌, ◌++◌, length, take, drop, sym, ◌∙◌, ap, arith, refl, subst, length-take, length-drop, inl, inr, get_or}
+use Rattle.std.proofs.Common.{◌≡◌, ◌⊎◌, ◌≤◌, ◌<◌, ◌+◌, ◌-◌, ◌/◌, ℕ, zero, suc, pos, max, List, [], ◌∷◌, ◌++◌, length, take, drop, sym, ◌∙◌, ap, arith, refl, subst, length-take, length-drop, inl, inr, get_or}
+use Rattle.std.proofs.lemmas.Bool.{cases_lt}
 use Rattle.std.proofs.lemmas.List.{drop-drop, drop-take, take-take}
 use Rattle.sled_codec.specs.declared.serialization.message.MessageHeader.{MessageHeader}
 use Rattle.sled_codec.specs.Places.{part}
@@ -40,6 +41,76 @@ stand-append sum size log site at [] mid more end stand rest = subst (λ n. Stan
 stand-append sum size log site at (m ∷ ms) mid more end stand rest =
     (stand.0, stand.1, stand.2, stand.3, stand-append sum size log site (at + m.size) ms mid more end stand.4 rest)
 
+-- the header of a segment lies in the file
+pub header_there : (sum : List ℕ → ℕ) (log : List ℕ) (site : Site) → HasHeader sum log site → site.slot + 20 ≤ length log
+header_there sum log site h =
+    let long : length (part log site.slot 20) ≡ 20 = ap length h.header.is ∙ length-short_header sum (pos site.place) h.mark in
+    omega (arith, long, length-take 20 (drop site.slot log), length-drop site.slot log)
+
+-- a record that stands in a file stands in each other one that has the same bytes there
+pub record_moved : (sum : List ℕ → ℕ) (size : ℕ) (log log' : List ℕ) (lid number : ℕ) (h : MessageHeader) (body : List ℕ) (len : ℕ) → part log' lid len ≡ part log lid len → lid + len ≤ length log'
+    → StandsAt sum size log lid number h body len → StandsAt sum size log' lid number h body len
+record_moved sum size log log' lid number h body len same there s = record {
+  header = s.header;
+  spelled = s.spelled;
+  is = same ∙ s.is;
+  counted = s.counted;
+  numbered = s.numbered;
+  summed = s.summed;
+  valid = s.valid;
+  in_file = there;
+  in_slot = s.in_slot;
+  small = s.small;
+}
+
+-- What stands outside a range of a file stands in another one too that has the same bytes there.
+module _ (sum : List ℕ → ℕ) (size : ℕ) (old new : List ℕ) (at n : ℕ) (grows : length old ≤ length new)
+    (same : (lid len : ℕ) → lid + len ≤ length old → (lid + len ≤ at) ⊎ (at + n ≤ lid) → part new lid len ≡ part old lid len) where
+  record_stays : (lid number : ℕ) (h : MessageHeader) (body : List ℕ) (len : ℕ) → (lid + len ≤ at) ⊎ (at + n ≤ lid) → StandsAt sum size old lid number h body len → StandsAt sum size new lid number h body len
+  record_stays lid number h body len apart s =
+      let end = s.in_file in record_moved sum size old new lid number h body len (same lid len end apart) (omega (arith, end, grows)) s
+
+  message_stays : (lid number : ℕ) (m : Message) → (lid + m.size ≤ at) ⊎ (at + n ≤ lid) → MessageStands sum size old lid number m → MessageStands sum size new lid number m
+  message_stays lid number m apart s = record { header = s.header; stands = record_stays lid number s.header m.bytes m.size apart s.stands; known = s.known; page = s.page }
+
+  -- the records of a segment up to the beginning of the range
+  pub stand_stays : (site : Site) (from : ℕ) (ms : List Message) (end : ℕ) → site.slot + end ≤ at → StandIn sum size old site from ms end → StandIn sum size new site from ms end
+  stand_stays site from [] end before stand = stand
+  stand_stays site from (m ∷ ms) end before stand =
+      let rest = stand_grows sum size old site (from + m.size) ms end stand.4 in (
+        stand.0,
+        stand.1,
+        stand.2,
+        message_stays (site.slot + from) (site.place / size) m (inl (omega (arith, rest, before))) stand.3,
+        stand_stays site (from + m.size) ms end before stand.4,
+      )
+
+  -- those behind a header; there are none where the range begins within it
+  pub first_stay : (site : Site) (from : ℕ) (ms : List Message) → site.slot + from ≤ at → StandIn sum size old site 20 ms (max 20 from) → StandIn sum size new site 20 ms (max 20 from)
+  first_stay site from ms before stand = elim (cases_lt from 20) [
+    | inl less ↦ (
+        let start : max 20 from ≡ 20 = omega (arith, less) in
+        let empty : ms ≡ [] = stand_none sum size old site 20 ms (subst (λ k. StandIn sum size old site 20 ms k) start stand) in
+        subst (λ (l : List Message). StandIn sum size new site 20 l (max 20 from)) (sym empty) start)
+    | inr long ↦ stand_stays site 20 ms (max 20 from) (omega (arith, long, before)) stand
+  ]
+
+  -- records in other slots
+  pub elsewhere_stays : (site : Site) (m : Message) → site.slot ≤ at → at + n ≤ site.slot + size → StandsElsewhere sum size old site m → StandsElsewhere sum size new site m
+  elsewhere_stays site m begins ends s = record {
+    lid = s.lid;
+    pointer = s.pointer;
+    stands = message_stays s.lid (m.place / size) m (elim s.apart [ inl below ↦ inl (omega (arith, below, begins)) | inr above ↦ inr (omega (arith, above, ends)) ]) s.stands;
+    apart = s.apart;
+    below = s.below;
+  }
+
+  -- a header before the range
+  pub header_stays : (site : Site) → site.slot + 20 ≤ at → HasHeader sum old site → HasHeader sum new site
+  header_stays site before h =
+      let there : site.slot + 20 ≤ length old = header_there sum old site h in
+      record { mark = h.mark; header = subst (λ (l : List ℕ). IsHeader sum l (pos site.place) h.mark) (sym (same site.slot 20 there (inl before))) h.header; below = h.below }
+
 module _ (sum : List ℕ → ℕ) (size : ℕ) (old : List ℕ) (at : ℕ) (xs : List ℕ) where
   abbrev new : List ℕ
   new = overwritten old at xs
@@ -53,51 +124,24 @@ module _ (sum : List ℕ → ℕ) (size : ℕ) (old : List ℕ) (at : ℕ) (xs :
       let count : lid + n - lid ≡ n = omega arith in
       ap (λ k. take k (drop lid new)) (sym count) ∙ part_written old at xs lid (lid + n) there apart ∙ ap (λ k. take k (drop lid old)) count
 
-  record_kept : (lid number : ℕ) (h : MessageHeader) (body : List ℕ) (len : ℕ) → (lid + len ≤ at) ⊎ (at + length xs ≤ lid) → StandsAt sum size old lid number h body len → StandsAt sum size new lid number h body len
-  record_kept lid number h body len apart s = record {
-    header = s.header;
-    spelled = s.spelled;
-    is = part_kept lid len s.in_file apart ∙ s.is;
-    counted = s.counted;
-    numbered = s.numbered;
-    summed = s.summed;
-    valid = s.valid;
-    in_file = let end = s.in_file in omega (arith, end, file_grows);
-    in_slot = s.in_slot;
-    small = s.small;
-  }
-
   pub message_kept : (lid number : ℕ) (m : Message) → (lid + m.size ≤ at) ⊎ (at + length xs ≤ lid) → MessageStands sum size old lid number m → MessageStands sum size new lid number m
-  message_kept lid number m apart s = record { header = s.header; stands = record_kept lid number s.header m.bytes m.size apart s.stands; known = s.known; page = s.page }
+  message_kept = message_stays sum size old new at (length xs) file_grows part_kept
 
   -- the records of a segment up to the beginning of the write
   pub stand_kept : (site : Site) (from : ℕ) (ms : List Message) (end : ℕ) → site.slot + end ≤ at → StandIn sum size old site from ms end → StandIn sum size new site from ms end
-  stand_kept site from [] end before stand = stand
-  stand_kept site from (m ∷ ms) end before stand =
-      let rest = stand_grows sum size old site (from + m.size) ms end stand.4 in (
-        stand.0,
-        stand.1,
-        stand.2,
-        message_kept (site.slot + from) (site.place / size) m (inl (omega (arith, rest, before))) stand.3,
-        stand_kept site (from + m.size) ms end before stand.4,
-      )
+  stand_kept = stand_stays sum size old new at (length xs) file_grows part_kept
+
+  -- those behind its header
+  pub first_kept : (site : Site) (from : ℕ) (ms : List Message) → site.slot + from ≤ at → StandIn sum size old site 20 ms (max 20 from) → StandIn sum size new site 20 ms (max 20 from)
+  first_kept = first_stay sum size old new at (length xs) file_grows part_kept
 
   -- records in other slots
   pub elsewhere_kept : (site : Site) (m : Message) → site.slot ≤ at → at + length xs ≤ site.slot + size → StandsElsewhere sum size old site m → StandsElsewhere sum size new site m
-  elsewhere_kept site m begins ends s = record {
-    lid = s.lid;
-    pointer = s.pointer;
-    stands = message_kept s.lid (m.place / size) m (elim s.apart [ inl below ↦ inl (omega (arith, below, begins)) | inr above ↦ inr (omega (arith, above, ends)) ]) s.stands;
-    apart = s.apart;
-    below = s.below;
-  }
+  elsewhere_kept = elsewhere_stays sum size old new at (length xs) file_grows part_kept
 
   -- a header before the write
   pub header_kept : (site : Site) → site.slot + 20 ≤ at → HasHeader sum old site → HasHeader sum new site
-  header_kept site before h =
-      let long : length (part old site.slot 20) ≡ 20 = ap length h.header.is ∙ length-short_header sum (pos site.place) h.mark in
-      let there : site.slot + 20 ≤ length old = omega (arith, long, length-take 20 (drop site.slot old), length-drop site.slot old) in
-      record { mark = h.mark; header = subst (λ (l : List ℕ). IsHeader sum l (pos site.place) h.mark) (sym (part_kept site.slot 20 there (inl before))) h.header; below = h.below }
+  header_kept = header_stays sum size old new at (length xs) file_grows part_kept
 
   -- what was written stands there
   pub part_laid : (k n : ℕ) → k + n ≤ length xs → part new (at + k) n ≡ part xs k n
