@@ -1,5 +1,5 @@
 -- Looking for segments slot by slot.
-use Rattle.std.proofs.Common.{◌≡◌, ◌≢◌, ◌∙◌, ◌⊎◌, ◌↔◌, ◌+◌, ◌-◌, ◌%◌, ◌^◌, ◌<◌, ◌≤◌, ℕ, ℤ, pos, List, [], length, Result, Ok, Err, OnOk, take, drop, Option, Some, None, IfSome, IfNone, refl, sym, ap, subst, arith, inl, inr, ⊎_elim, length-take, length-drop}
+use Rattle.std.proofs.Common.{◌≡◌, ◌∙◌, ◌⊎◌, ◌↔◌, ◌+◌, ◌-◌, ◌%◌, ◌^◌, ◌<◌, ◌≤◌, ℕ, ℤ, pos, List, length, Result, Ok, Err, OnOk, take, drop, Option, Some, None, IfSome, IfNone, sym, ap, subst, arith, inl, inr, ⊎_elim, length-take, length-drop}
 use Rattle.std.specs.List.{Contains}
 use Rattle.std.proofs.lemmas.Bool.{cases_lt}
 use Rattle.std.proofs.lemmas.List.{take-take}
@@ -13,7 +13,6 @@ use Rattle.sled_log.specs.Recovery.{IsOrdering, IsUnordered}
 use Rattle.sled_log.specs.Plain.{Chain, AreFound, IsReady}
 use Rattle.sled_log.proofs.PlainSegments.{chain_ascends}
 use Rattle.sled_codec.specs.declared.result.Error.{Error}
-use Rattle.sled_log.proofs.Ascending.{in_nothing}
 use Rattle.sled_log.proofs.FindLemmas.{pos_injective}
 
 -- of two slots one is no further than the other, or it is a whole size further
@@ -80,10 +79,6 @@ module _ (sum : List ℕ → ℕ) (size : ℕ) (log : List ℕ) (least : ℕ) wh
     chain = chain;
     placed = λ s there. ⊎_elim (λ is. subst (λ (x : Segment). IsMisplaced size x → ⊥) is placed) (λ old. are.placed s old) ((has s).0 there);
   }
-
-  -- none are below the first slot
-  pub none_found_yet : AreFound sum size log least [] 0
-  none_found_yet = record { has = λ s. (λ there. absurd (in_nothing s there), λ both. absurd (omega (arith, both.1))); chain = tt; placed = λ s there. absurd (in_nothing s there) }
 
   -- what putting it among the others leaves
   pub added : (r : Result Unit Error) (ss new : List Segment) (slot : ℕ) (t : Segment) → slot % size ≡ 0 → 0 < size → IsFoundSegment sum size log least t → t.slot ≡ slot → OnOk r (Chain 0 new)

@@ -9,7 +9,7 @@ use Rattle.sled_store.specs.SnapshotFiles.{stable_place}
 use Rattle.sled_log.specs.declared.plain.Pass.{Pass}
 use Rattle.sled_core.specs.declared.met.Met.{Met}
 use Rattle.sled_core.specs.declared.met.Segment.{Segment}
-use Rattle.sled_log.specs.Recovery.{Scanned, Applied, Outcome, Recovered, Damaged, unchanged, outcome_of, concluded, cut_of, applied_of, opens, before_open, open_at, passed_in, stops_in, given, has_no_table, table_of, table_with}
+use Rattle.sled_log.specs.Recovery.{Scanned, Applied, Recovered, Damaged, unchanged, outcome_of, concluded, cut_of, applied_of, before_open, open_at, passed_in, stops_in, given, has_no_table, table_of, table_with}
 use Rattle.sled_log.specs.Plain.{IsPass, pass_of, passed_all, stop_of}
 use Rattle.sled_log.proofs.RecoveryLemmas.{before_none, open_below, no_table_damaged}
 
@@ -95,12 +95,12 @@ stops_fit : (size end : ℕ) (last : Option (Segment × ℕ)) (ps : List Pass) �
 stops_fit size end last [] all fits = fits
 stops_fit size end last (p ∷ ps) all fits =
     by_case (open_at end p.scan.met.items) refl (stops_fit size end (Some (p.segment, p.segment.place + p.scan.stop)) ps all.1 (all.0.place, all.0.slot, let stop = all.0.stop in omega (arith, stop))) where
-  by_case : (o : Option ℕ) → open_at end p.scan.met.items ≡ o → FitsStop size (stop_of end (Some (p.segment, p.segment.place + p.scan.stop)) (map pass_of ps)) → FitsStop size (stop_of end last (map pass_of (p ∷ ps)))
-  by_case None is rest = subst (FitsStop size) (sym (stop_none end (pass_of p) last (map pass_of ps) is)) rest
-  by_case (Some place) is rest =
-      let below : unwrap_or (open_at end p.scan.met.items) 0 ≤ p.segment.place + size = open_below end (p.segment.place + size) p.scan.met.items 0 all.0.places (omega arith) in
-      let within : place ≤ p.segment.place + size = subst (λ o. unwrap_or o 0 ≤ p.segment.place + size) is below in
-      subst (FitsStop size) (sym (stop_some end (pass_of p) last (map pass_of ps) place is)) (all.0.place, all.0.slot, within)
+      by_case : (o : Option ℕ) → open_at end p.scan.met.items ≡ o → FitsStop size (stop_of end (Some (p.segment, p.segment.place + p.scan.stop)) (map pass_of ps)) → FitsStop size (stop_of end last (map pass_of (p ∷ ps)))
+      by_case None is rest = subst (FitsStop size) (sym (stop_none end (pass_of p) last (map pass_of ps) is)) rest
+      by_case (Some place) is rest =
+          let below : unwrap_or (open_at end p.scan.met.items) 0 ≤ p.segment.place + size = open_below end (p.segment.place + size) p.scan.met.items 0 all.0.places (omega arith) in
+          let within : place ≤ p.segment.place + size = subst (λ o. unwrap_or o 0 ≤ p.segment.place + size) is below in
+          subst (FitsStop size) (sym (stop_some end (pass_of p) last (map pass_of ps) place is)) (all.0.place, all.0.slot, within)
 
 pub stop_fits : (size end : ℕ) (ps : List Pass) (at : Segment × ℕ) → All (IsPass size) ps → stop_of end None (map pass_of ps) ≡ Some at → (at.0.place + size < 2 ^ 63) × (at.0.slot + size < 2 ^ 63) × (at.1 ≤ at.0.place + size)
 stop_fits size end ps at all is = subst (FitsStop size) is (stops_fit size end None ps (recursion_from_All (IsPass size) ps all) tt)

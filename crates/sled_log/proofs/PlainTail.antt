@@ -1,10 +1,9 @@
 -- The tail and the pass in the plain recovery, segment by segment.
-use Rattle.std.proofs.Common.{◌≡◌, ◌≢◌, ◌∙◌, ◌⊎◌, ◌+◌, ◌/◌, ◌<◌, ◌≤◌, ℕ, Bool, true, false, nat_lt, List, [], ◌∷◌, ◌++◌, length, map, drop, get_or, Option, Some, None, if◌then◌else◌, refl, sym, ap, subst, arith, inl, inr, ⊎_elim, append_assoc}
+use Rattle.std.proofs.Common.{◌≡◌, ◌≢◌, ◌∙◌, ◌⊎◌, ◌+◌, ◌<◌, ℕ, Bool, true, nat_lt, List, [], ◌∷◌, ◌++◌, length, map, drop, get_or, Option, Some, None, if◌then◌else◌, refl, sym, ap, subst, arith, inl, inr, append_assoc}
 use Rattle.std.specs.List.{All, AllByRecursion, Contains}
 use Rattle.std.proofs.lemmas.Bool.Decides.{nat_tests}
 use Rattle.std.proofs.lemmas.List.{map-append}
 use Rattle.std.proofs.lemmas.List.Elements.{recursion_from_All}
-use Rattle.sled_core.specs.declared.met.Met.{Met}
 use Rattle.sled_core.specs.declared.met.Segment.{Segment}
 use Rattle.sled_core.specs.declared.met.Ending.{Ending}
 use Rattle.sled_core.specs.declared.met.Ending.TheVariants.{Full, Capped, Broken}
@@ -51,16 +50,11 @@ end_of_last (s ∷ t ∷ ss) x = end_of_last (t ∷ ss) x
 
 -- The segments of a pass.
 
+-- one that begins below the end is the next
 pub begun_here : (end : ℕ) (ss : List Segment) (i : ℕ) (d : Segment) → i < length ss → (get_or ss i d).place < end → begun_below end (drop i ss) ≡ get_or ss i d ∷ begun_below end (drop (i + 1) ss)
 begun_here end ss i d lt below =
     let s : Segment = get_or ss i d in
     let is : nat_lt s.place end ≡ true = grind (arith, nat_tests, below) in
-    ap (begun_below end) (behind ss i d lt) ∙ ap (λ (b : Bool). if b then s ∷ begun_below end (drop (i + 1) ss) else begun_below end (drop (i + 1) ss)) is
-
-pub begun_later : (end : ℕ) (ss : List Segment) (i : ℕ) (d : Segment) → i < length ss → end ≤ (get_or ss i d).place → begun_below end (drop i ss) ≡ begun_below end (drop (i + 1) ss)
-begun_later end ss i d lt above =
-    let s : Segment = get_or ss i d in
-    let is : nat_lt s.place end ≡ false = grind (arith, nat_tests, above) in
     ap (begun_below end) (behind ss i d lt) ∙ ap (λ (b : Bool). if b then s ∷ begun_below end (drop (i + 1) ss) else begun_below end (drop (i + 1) ss)) is
 
 -- one more was read

@@ -7,7 +7,7 @@ use Rattle.sled_core.specs.declared.met.Met.{Met}
 use Rattle.sled_core.specs.declared.met.Segment.{Segment}
 use Rattle.sled_core.specs.Scan.{Readable, IsFoundSegment, IsMisplaced, IsPath, IsDamagedAt}
 use Rattle.sled_log.specs.declared.plain.Pass.{Pass}
-use Rattle.sled_log.specs.Recovery.{Scanned, IsScanned, IsOrdering, IsTail, tail_begins, tail_end, begun_below, AreScanned, AreClosed, open_at, passed_in, stops_in, scanned_of, least_place}
+use Rattle.sled_log.specs.Recovery.{Scanned, IsOrdering, IsTail, tail_begins, tail_end, begun_below, AreScanned, AreClosed, open_at, passed_in, stops_in, scanned_of, least_place}
 
 -- a log file, where there are no blobs
 abbrev pub log_alone : List ℕ → Readable

@@ -5,8 +5,6 @@ use Rattle.sled_codec.specs.declared.serialization.message.LogKind.{LogKind}
 use Rattle.sled_codec.specs.declared.serialization.message.LogKind.TheVariants as does
 use Rattle.sled_codec.specs.History.{Message}
 use Rattle.sled_codec.specs.PageTables.{entry_of}
-use Rattle.sled_codec.specs.Places.{part}
-use Rattle.sled_codec.specs.Record.{IsHeader}
 use Rattle.sled_codec.specs.Snapshots.{Entry, Page, Present, Free, Uninitialized, Shot}
 use Rattle.sled_store.specs.SnapshotFiles.{stable_place, BeginsFrom, IsDamagedSnapshot}
 use Rattle.sled_core.specs.declared.met.Met.{Met}

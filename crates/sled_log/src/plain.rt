@@ -18,8 +18,8 @@ use crate::snapshot::{conclude, cut_of, is_misplaced, stable_place};
 use crate::snapshot_file::read_newest;
 use crate::table::apply_all;
 use sled_codec::result::{Error, LogOffset, Result};
-use sled_codec::serialization::snapshot::{PageState, Snapshot};
 use sled_codec::serialization::Checksum;
+use sled_codec::serialization::snapshot::{PageState, Snapshot};
 use sled_core::iterator::{read_slot, scan, segment_in};
 use sled_core::met::{Ending, Scan, Segment};
 use sled_store::{Device, RunningConfig};
@@ -34,6 +34,9 @@ struct Pass {
 
 /// What recovery makes of what a device has, for any number of segments: the snapshot, or `None` where the
 /// content is damaged. It only reads, and is slow: it is for tests.
+///
+/// `None` comes too where a damaged record stands in the pass behind a batch that is open. What recovery makes
+/// of that isn't said.
 ///
 /// `Io` comes where the device failed, and `OutOfMemory` where memory was refused, or where the log file
 /// ends so near to 2^63 that a segment in it could end above that.

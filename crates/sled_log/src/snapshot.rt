@@ -282,10 +282,10 @@ pub(crate) fn conclude(
     requires cut { cut.0 < 2 ^ 63 }
     requires slot { IfSome cut.1 (λ slot. slot + size < 2 ^ 63) }
     ensures ok { IfOk result (λ x. conclusion_of x ≡ record {
-          shot = record { stable = Some (pos cut.0); active = cut.1; pages = map page_of pages.items };
-          tip = tip_of size cut.0 cut.1;
-          is_new = is_beyond was cut.0;
-        }) }
+      shot = record { stable = Some (pos cut.0); active = cut.1; pages = map page_of pages.items };
+      tip = tip_of size cut.0 cut.1;
+      is_new = is_beyond was cut.0;
+    }) }
     ensures fine { OnOk result ((least ≤ cut.0) × (are_whole (map page_of pages.items) ≡ true)) }
     ensures corrupt { IsCorruption result → (cut.0 < least) ⊎ (are_whole (map page_of pages.items) ≡ false) }
     ensures errors { IfErr result IsDecodeError }

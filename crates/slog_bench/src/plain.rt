@@ -74,7 +74,7 @@ fn empty<R: Abort>(rt: &R, alloc: Global) -> Running {
 }
 
 // Writes a segment into its slot: a header, and records one behind another.
-fn lay<R: Abort>(rt: &R, config: &mut Running, slot: u32, header: &[u8], records: &[&[u8]]) {
+fn lay<R: Abort>(rt: &R, config: &mut Running, slot: u32, header: &[u8; 20], records: &[&[u8]]) {
     let mut at = u64::from(slot);
     config.device.write_at(at, &[0; 256]).expect(rt, "it is written");
     config.device.write_at(at, header).expect(rt, "it is written");

@@ -1,4 +1,4 @@
-use Rattle.std.proofs.Common.{◌≡◌, ◌<◌, ◌^◌, drop, map, None}
+use Rattle.std.proofs.Common.{◌≡◌, drop, map, None}
 use Rattle.sled_codec.specs.Snapshots.{page_of}
 use Rattle.sled_log.specs.Recovery.{table_of, given, has_no_table}
 use Rattle.sled_log.specs.Plain.{pass_of, passed_all, stop_of}

@@ -1,5 +1,5 @@
-use Rattle.std.proofs.Common.{◌≡◌, ◌*◌, ◌/◌, ℕ, List, subst, inl}
-use Rattle.sled_codec.specs.Snapshots.{Shot, shot_of}
+use Rattle.std.proofs.Common.{◌*◌, ◌/◌, ℕ, List, subst, inl}
+use Rattle.sled_codec.specs.Snapshots.{shot_of}
 use Rattle.sled_store.specs.declared.config.Config.{Config}
 use Rattle.sled_store.specs.Device.{state_of}
 use Rattle.sled_log.specs.Recovery.{IsUnordered}

@@ -1,5 +1,4 @@
-use Rattle.std.proofs.Common.{◌≡◌, ◌∙◌, ◌+◌, ◌≤◌, ◌<◌, ◌^◌, Some, ap, sym, subst, arith}
-use Rattle.sled_core.specs.declared.met.Segment.{Segment}
+use Rattle.std.proofs.Common.{◌∙◌, sym, arith}
 use Rattle.sled_log.proofs.PlainPasses.{stop_fits, slot_fits}
 use Rattle.sled_log.proofs.plain.outcome_of.Goals as goal
 

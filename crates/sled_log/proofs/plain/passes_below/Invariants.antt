@@ -1,9 +1,8 @@
-use Rattle.std.proofs.Common.{◌≡◌, ◌++◌, drop, map, List}
-use Rattle.std.specs.List.{All, Contains}
-use Rattle.sled_core.specs.declared.met.Segment.{Segment}
+use Rattle.std.proofs.Common.{◌≡◌, ◌++◌, drop, map}
+use Rattle.std.specs.List.{All}
 use Rattle.sled_store.specs.Device.{state_of}
 use Rattle.sled_log.specs.Recovery.{IsScanned, begun_below}
-use Rattle.sled_log.specs.Plain.{log_alone, IsReady, IsPass, pass_of}
+use Rattle.sled_log.specs.Plain.{log_alone, IsPass, pass_of}
 use Rattle.sled_log.proofs.plain.passes_below.Given as goal
 
 -- those so far were read, and the rest is left

@@ -1,4 +1,4 @@
-use Rattle.std.proofs.Common.{◌≡◌, ◌⊎◌, ℕ, List, inl, inr, ⊎_elim}
+use Rattle.std.proofs.Common.{◌⊎◌, inl}
 use Rattle.sled_core.proofs.ReadingLemmas.{if_ok}
 use Rattle.sled_codec.specs.Snapshots.{Shot, shot_of}
 use Rattle.sled_store.specs.declared.config.Config.{Config}
@@ -7,7 +7,7 @@ use Rattle.sled_log.specs.Recovery.{Recovered, Damaged, ContinuesFrom}
 use Rattle.sled_log.specs.Plain.{log_alone, HidesFrom}
 use Rattle.sled_log.specs.WritesBack.{conclusion_of}
 use Rattle.sled_log.proofs.PlainSame.{was_so}
-use Rattle.sled_log.proofs.PlainWhole.{recovers_from, recovers_damaged, hides_from}
+use Rattle.sled_log.proofs.PlainWhole.{recovers_from, recovers_damaged, damaged_or_hides}
 use Rattle.sled_log.proofs.plain.recover_all.Goals as goal
 
 pub returns-in-Ok-clause-ok : goal.returns-in-Ok-clause-ok
@@ -27,10 +27,7 @@ returns-in-Ok-clause-corrupt g c = λ corrupt.
     let first : Shot = shot_of c.in-Ok.first in
     let comes = was_so (λ n l. ContinuesFrom g.C.Checksum.sum_of n (log_alone l) first Damaged ⊎ HidesFrom g.C.Checksum.sum_of n (log_alone l) first) cfg c.read_newest.new.config.config before (g.D.Device.trace c.read_newest.new.config.device)
     c.in-Ok.ensures.config c.in-Ok.ensures.trace (c.continue_all.ensures.corrupt corrupt) in
-    ⊎_elim
-    (λ x. inl (recovers_from g.C.Checksum.sum_of cfg.segment_size (log_alone (state_of before).log.bytes) (state_of before).snapshots.file first Damaged c.in-Ok.ensures.ok x))
-    (λ x. inr (hides_from g.C.Checksum.sum_of cfg.segment_size (log_alone (state_of before).log.bytes) (state_of before).snapshots.file first c.in-Ok.ensures.ok x))
-    comes
+    damaged_or_hides g.C.Checksum.sum_of cfg.segment_size (log_alone (state_of before).log.bytes) (state_of before).snapshots.file first c.in-Ok.ensures.ok comes
 
 pub returns-in-Err-clause-corrupt : goal.returns-in-Err-clause-corrupt
 returns-in-Err-clause-corrupt g c = λ corrupt.

@@ -5,8 +5,8 @@ use Rattle.sled_core.specs.declared.met.Segment.{Segment}
 use Rattle.sled_codec.specs.Snapshots.{Shot, shot_of}
 use Rattle.sled_store.specs.declared.config.Config.{Config}
 use Rattle.sled_store.specs.Device.{Trace, state_of}
-use Rattle.sled_log.specs.Recovery.{Scanned, IsTail, IsDamagedTail, tail_end, begun_below, AreScanned, IsDamagedPass, outcome_of, Recovered, Damaged, least_place, ContinuesFrom}
-use Rattle.sled_log.specs.Plain.{log_alone, IsReady, IsHiddenPass, HidesFrom}
+use Rattle.sled_log.specs.Recovery.{Scanned, IsTail, IsDamagedTail, begun_below, AreScanned, IsDamagedPass, outcome_of, Recovered, Damaged, least_place}
+use Rattle.sled_log.specs.Plain.{log_alone, IsReady, IsHiddenPass}
 use Rattle.sled_log.specs.WritesBack.{conclusion_of}
 use Rattle.sled_log.proofs.PlainSame.{was_so, still_so}
 use Rattle.sled_log.proofs.PlainFound.{all_ready}

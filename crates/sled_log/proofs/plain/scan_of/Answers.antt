@@ -1,4 +1,4 @@
-use Rattle.std.proofs.Common.{◌≡◌, ℕ, List, ap}
+use Rattle.std.proofs.Common.{ℕ, List, ap}
 use Rattle.sled_core.proofs.ReadingLemmas.{if_ok}
 use Rattle.sled_core.specs.declared.met.Segment.{Segment}
 use Rattle.sled_store.specs.Device.{state_of}

@@ -1,4 +1,4 @@
-use Rattle.std.proofs.Common.{◌≡◌, ◌+◌, ◌-◌, ◌^◌, ◌<◌, List, IfSome}
+use Rattle.std.proofs.Common.{◌≡◌, ◌-◌, ◌^◌, ◌<◌, List, IfSome}
 use Rattle.std.specs.List.{Contains}
 use Rattle.sled_core.specs.declared.met.Segment.{Segment}
 use Rattle.sled_store.specs.Device.{state_of}

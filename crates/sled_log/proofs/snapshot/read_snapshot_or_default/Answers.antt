@@ -1,5 +1,5 @@
-use Rattle.std.proofs.Common.{◌≡◌, ◌∙◌, ◌∷◌, inr}
-use Rattle.sled_store.specs.Device.{Trace, Synced, NamesSynced}
+use Rattle.std.proofs.Common.{◌∙◌, inr}
+use Rattle.sled_store.specs.Device.{Trace}
 use Rattle.sled_log.specs.Recovery.{Conclusion, Recovered}
 use Rattle.sled_log.specs.WritesBack.{conclusion_of}
 use Rattle.sled_log.proofs.WriteLemmas.{recovers_settled, writes_settled}

@@ -25,7 +25,6 @@ loop-number-preserved g c =
       faults = c.in_ok-remove_other.ensures.answers ∙ c.loop-number.invariant.faults;
     }
 
-
 pub returns-clause-calls : goal.returns-clause-calls
 returns-clause-calls g c =
     let ns : List ℤ = c.args.numbers.now in
