@@ -70,3 +70,8 @@ module _ (sum : List ℕ → ℕ) (size : ℕ) (r : Readable) (snapshots : ℤ �
   pub hides_from : (first : Shot) → BeginsFrom sum snapshots first → HidesFrom sum size r first → Hides sum size r snapshots
   unfolding Hides
   hides_from first begins hides = (first, begins, hides)
+
+  -- where the content gives no table
+  pub damaged_or_hides : (first : Shot) → BeginsFrom sum snapshots first → ContinuesFrom sum size r first Damaged ⊎ HidesFrom sum size r first → Recovers sum size r snapshots Damaged ⊎ Hides sum size r snapshots
+  damaged_or_hides first begins (inl comes) = inl (recovers_from first Damaged begins comes)
+  damaged_or_hides first begins (inr hides) = inr (hides_from first begins hides)

@@ -36,6 +36,9 @@ struct Pass {
 /// What recovery makes of what a device has, for any number of segments: the snapshot, or `None` where the
 /// content is damaged. It only reads, and is slow: it is for tests.
 ///
+/// `None` comes too where a damaged record stands in the pass behind a batch that is open. What recovery makes
+/// of that isn't said.
+///
 /// `Io` comes where the device failed, and `OutOfMemory` where memory was refused, or where the log file
 /// ends so near to 2^63 that a segment in it could end above that.
 pub fn recovered_plainly<D: Device, C: Checksum>(

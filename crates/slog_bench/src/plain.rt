@@ -40,14 +40,14 @@ const META_OF_1: [u8; 12] = [128, 255, 255, 255, 6, 4, 1, 0, 3, 7, 7, 7];
 
 // Page 0 replaced by 23 ones, 32 bytes in all: 322 over the body, 774 over the header, 1096 = 4 * 256 + 72.
 const WIDE: [u8; 32] = [
-    183, 251, 255, 255, 6, 24, 0, 0, 23, 1, 1, 1, 1, 1, 1, 1, 1, 1, 1, 1, 1, 1, 1, 1, 1, 1, 1, 1, 1,
-    1, 1, 1,
+    183, 251, 255, 255, 6, 24, 0, 0, 23, 1, 1, 1, 1, 1, 1, 1, 1, 1, 1, 1, 1, 1, 1, 1, 1, 1, 1, 1,
+    1, 1, 1, 1,
 ];
 
 // The same in segment 1, whose number adds 27.
 const WIDE_OF_1: [u8; 32] = [
-    156, 251, 255, 255, 6, 24, 1, 0, 23, 1, 1, 1, 1, 1, 1, 1, 1, 1, 1, 1, 1, 1, 1, 1, 1, 1, 1, 1, 1,
-    1, 1, 1,
+    156, 251, 255, 255, 6, 24, 1, 0, 23, 1, 1, 1, 1, 1, 1, 1, 1, 1, 1, 1, 1, 1, 1, 1, 1, 1, 1, 1,
+    1, 1, 1, 1,
 ];
 
 // A batch up to place 83 + 256. Its sum is 34882 = 136 * 256 + 66.
@@ -74,15 +74,24 @@ fn empty<R: Abort>(rt: &R, alloc: Global) -> Running {
 }
 
 // Writes a segment into its slot: a header, and records one behind another.
-fn lay<R: Abort>(rt: &R, config: &mut Running, slot: u32, header: &[u8], records: &[&[u8]]) {
+fn lay<R: Abort>(rt: &R, config: &mut Running, slot: u32, header: &[u8; 20], records: &[&[u8]]) {
     let mut at = u64::from(slot);
-    config.device.write_at(at, &[0; 256]).expect(rt, "it is written");
-    config.device.write_at(at, header).expect(rt, "it is written");
+    config
+        .device
+        .write_at(at, &[0; 256])
+        .expect(rt, "it is written");
+    config
+        .device
+        .write_at(at, header)
+        .expect(rt, "it is written");
     at += 20;
     for record in records {
         assert!(rt; at < 10000);
         assert!(rt; record.len() < 10000);
-        config.device.write_at(at, record).expect(rt, "it is written");
+        config
+            .device
+            .write_at(at, record)
+            .expect(rt, "it is written");
         at += record.len() as u64;
     }
 }
@@ -140,7 +149,10 @@ fn one_segment_or_less(rt: HostRuntime) {
     bytes[20..].copy_from_slice(&META);
     for len in 0..33 {
         let mut config = empty(&rt, rt.alloc());
-        config.device.write_at(0, &bytes[..len]).expect(&rt, "it is written");
+        config
+            .device
+            .write_at(0, &bytes[..len])
+            .expect(&rt, "it is written");
         assert!(rt; agree(&mut config));
     }
 }
@@ -148,9 +160,18 @@ fn one_segment_or_less(rt: HostRuntime) {
 // What a log runs on whose newest snapshot has these bytes.
 fn with_snapshot<R: Abort>(rt: &R, alloc: Global, bytes: &[u8]) -> Running {
     let mut config = empty(rt, alloc);
-    config.device.write_at(0, &FIRST).expect(rt, "it is written");
-    config.device.write_at(20, &META).expect(rt, "it is written");
-    config.device.snapshot_write(bytes).expect(rt, "it is written");
+    config
+        .device
+        .write_at(0, &FIRST)
+        .expect(rt, "it is written");
+    config
+        .device
+        .write_at(20, &META)
+        .expect(rt, "it is written");
+    config
+        .device
+        .snapshot_write(bytes)
+        .expect(rt, "it is written");
     config.device.snapshot_publish(32).expect(rt, "it is named");
     config
 }
@@ -173,7 +194,10 @@ fn a_snapshot_whole_and_damaged(rt: HostRuntime) {
 #[test]
 fn a_longer_file_without_segments(rt: HostRuntime) {
     let mut config = empty(&rt, rt.alloc());
-    config.device.write_at(0, &[0; 257]).expect(&rt, "it is written");
+    config
+        .device
+        .write_at(0, &[0; 257])
+        .expect(&rt, "it is written");
     assert!(rt; is_bare(&recovered_plainly(&mut config), None, None));
 }
 
@@ -194,7 +218,13 @@ fn a_failing_recovery(rt: HostRuntime) {
 #[test]
 fn two_segments_in_order(rt: HostRuntime) {
     let mut config = empty(&rt, rt.alloc());
-    lay(&rt, &mut config, 0, &FIRST, &[&WIDE, &WIDE, &WIDE, &WIDE, &WIDE, &WIDE, &WIDE]);
+    lay(
+        &rt,
+        &mut config,
+        0,
+        &FIRST,
+        &[&WIDE, &WIDE, &WIDE, &WIDE, &WIDE, &WIDE, &WIDE],
+    );
     lay(&rt, &mut config, 256, &SECOND, &[&META_OF_1]);
     let answer = recovered_plainly(&mut config);
     assert!(rt; has_page(&answer, 288, Some(256), (276, DiskPtr::Inline(276), 12)));
@@ -203,7 +233,9 @@ fn two_segments_in_order(rt: HostRuntime) {
         &mut config,
         256,
         &SECOND,
-        &[&WIDE_OF_1, &WIDE_OF_1, &WIDE_OF_1, &WIDE_OF_1, &WIDE_OF_1, &WIDE_OF_1, &WIDE_OF_1],
+        &[
+            &WIDE_OF_1, &WIDE_OF_1, &WIDE_OF_1, &WIDE_OF_1, &WIDE_OF_1, &WIDE_OF_1, &WIDE_OF_1,
+        ],
     );
     let answer = recovered_plainly(&mut config);
     assert!(rt; has_page(&answer, 512, None, (468, DiskPtr::Inline(468), 32)));
@@ -213,7 +245,13 @@ fn two_segments_in_order(rt: HostRuntime) {
 fn a_torn_header_ends_the_tail(rt: HostRuntime) {
     for i in 0..20 {
         let mut config = empty(&rt, rt.alloc());
-        lay(&rt, &mut config, 0, &FIRST, &[&WIDE, &WIDE, &WIDE, &WIDE, &WIDE, &WIDE, &WIDE]);
+        lay(
+            &rt,
+            &mut config,
+            0,
+            &FIRST,
+            &[&WIDE, &WIDE, &WIDE, &WIDE, &WIDE, &WIDE, &WIDE],
+        );
         let mut header = SECOND;
         header[i] = header[i].wrapping_add(1);
         lay(&rt, &mut config, 256, &header, &[&META_OF_1]);
@@ -234,7 +272,13 @@ fn a_broken_segment_ends_the_tail(rt: HostRuntime) {
 #[test]
 fn swapped_slots(rt: HostRuntime) {
     let mut config = empty(&rt, rt.alloc());
-    lay(&rt, &mut config, 256, &FIRST, &[&WIDE, &WIDE, &WIDE, &WIDE, &WIDE, &WIDE, &WIDE]);
+    lay(
+        &rt,
+        &mut config,
+        256,
+        &FIRST,
+        &[&WIDE, &WIDE, &WIDE, &WIDE, &WIDE, &WIDE, &WIDE],
+    );
     lay(&rt, &mut config, 0, &SECOND, &[&META_OF_1]);
     let answer = recovered_plainly(&mut config);
     assert!(rt; has_page(&answer, 288, Some(0), (276, DiskPtr::Inline(20), 12)));
