@@ -4,8 +4,10 @@
 //! A command that breaks a condition of the log's calls is a bad line. Neither a log nor a ticket can
 //! be dropped, so a driver ends by `close`.
 
-ghost use Rattle.std.specs.Prelude.{◌<◌, vec_len, vec_capacity};
-ghost use Rattle.sled_core.specs.Fits.{AllEnded};
+ghost use Rattle.std.specs.Prelude.{◌≡◌, ◌<◌, Some, None, IfSome, vec_len, vec_capacity};
+ghost use Rattle.sled_codec.specs.Snapshots.{page_of};
+ghost use Rattle.sled_core.specs.Fits.{AllEnded, config_of};
+ghost use Rattle.slog.specs.Pages.{last_of};
 
 use crate::line::Command;
 use sled_log::config::{Config, RunningConfig};
@@ -189,13 +191,20 @@ impl Driver {
     }
 
     // Keeps the device of a log that could not be opened.
-    fn refuse(&mut self, config: RunningConfig<MemDevice, PlaceSum>, e: Error) -> Reply {
+    fn refuse(&mut self, config: RunningConfig<MemDevice, PlaceSum>, e: Error) -> Reply
+        ensures kept { self.new ≡ record self.old { halted = Some config } }
+        ensures reply { result ≡ Reply.Failed e }
+    {
         self.halted = Some(config);
         Reply::Failed(e)
     }
 
     // Closes the log that is open, and keeps its device. What was not flushed is lost.
-    fn halt(&mut self) -> Result<Reply, Stop> {
+    fn halt(&mut self) -> Result<Reply, Stop>
+        ensures kept { IfSome self.old.opened (λ opened. self.new.halted ≡ Some (config_of opened.log)) }
+        ensures closed { self.new.opened ≡ None }
+        ensures out_of_turn { self.old.opened ≡ None → self.new ≡ self.old }
+    {
         let Some(opened) = self.opened.take() else {
             return Err(Stop::BadLine);
         };
@@ -337,7 +346,9 @@ impl Opened {
     }
 
     // Gives all tickets up, and then the log, and answers what that ran on.
-    fn halt(self) -> RunningConfig<MemDevice, PlaceSum> {
+    fn halt(self) -> RunningConfig<MemDevice, PlaceSum>
+        ensures { result ≡ config_of self.log }
+    {
         let Opened {
             log,
             mut tickets,
@@ -378,7 +389,9 @@ fn pages_of(alloc: Global, snapshot: &Snapshot) -> Result<Pages, AllocError> {
 }
 
 // Where the last message of a page lies, if it has one.
-fn last_of(state: &PageState) -> Option<(Lsn, DiskPtr)> {
+fn last_of(state: &PageState) -> Option<(Lsn, DiskPtr)>
+    ensures { result ≡ last_of (page_of state.now) }
+{
     match state {
         PageState::Present { base, frags } => {
             let last = frags.last().unwrap_or(base);
