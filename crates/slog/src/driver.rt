@@ -4,10 +4,12 @@
 //! A command that breaks a condition of the log's calls is a bad line. Neither a log nor a ticket can
 //! be dropped, so a driver ends by `close`.
 
-ghost use Rattle.std.specs.Prelude.{◌≡◌, ◌<◌, Some, None, IfSome, vec_len, vec_capacity};
+ghost use Rattle.std.specs.Prelude.{◌≡◌, ◌<◌, ℕ, map, Some, None, IfOk, IfSome, vec_len, vec_capacity};
+ghost use Rattle.std.specs.BTreeMap.{get};
+ghost use Rattle.std.specs.Ordering.{nat_cmp};
 ghost use Rattle.sled_codec.specs.Snapshots.{page_of};
 ghost use Rattle.sled_core.specs.Fits.{AllEnded, config_of};
-ghost use Rattle.slog.specs.Pages.{last_of};
+ghost use Rattle.slog.specs.Pages.{last_of, spot_in};
 
 use crate::line::Command;
 use sled_log::config::{Config, RunningConfig};
@@ -378,7 +380,9 @@ impl Ticket {
 }
 
 // Where the pages of a snapshot lie, by their number.
-fn pages_of(alloc: Global, snapshot: &Snapshot) -> Result<Pages, AllocError> {
+fn pages_of(alloc: Global, snapshot: &Snapshot) -> Result<Pages, AllocError>
+    ensures { IfOk result (λ pages. (number : ℕ) → get nat_cmp pages number ≡ spot_in (map page_of snapshot.now.pt.items) number) }
+{
     let mut pages = BTreeMap::new(alloc);
     for (page, state) in snapshot.pt.iter().enumerate() {
         if let Some(at) = last_of(state) {
