@@ -4,7 +4,7 @@
 //! A command that breaks a condition of the log's calls is a bad line. Neither a log nor a ticket can
 //! be dropped, so a driver ends by `close`.
 
-ghost use Rattle.std.specs.Prelude.{◌≡◌, ◌<◌, ℕ, map, Some, None, IfOk, IfSome, vec_len, vec_capacity};
+ghost use Rattle.std.specs.Prelude.{◌≡◌, ◌<◌, ℕ, map, Some, None, IsSome, IfOk, IfSome, OnOk, MatchOption, vec_len, vec_capacity};
 ghost use Rattle.std.specs.BTreeMap.{get};
 ghost use Rattle.std.specs.Ordering.{nat_cmp};
 ghost use Rattle.sled_codec.specs.Snapshots.{page_of};
@@ -152,7 +152,9 @@ impl Driver {
 
     // Recovers what the device has, and opens a log on it, where none is open. After an error of the log
     // none is, and the device is kept.
-    fn open(&mut self) -> Result<Reply, Stop> {
+    fn open(&mut self) -> Result<Reply, Stop>
+        ensures kept { OnOk result (self.new.opened ≡ None → IsSome self.new.halted) }
+    {
         let Some(mut config) = self.halted.take() else {
             return Err(Stop::BadLine);
         };
@@ -167,7 +169,10 @@ impl Driver {
         &mut self,
         config: RunningConfig<MemDevice, PlaceSum>,
         snapshot: &Snapshot,
-    ) -> Result<Reply, Stop> {
+    ) -> Result<Reply, Stop>
+        ensures kept { OnOk result (self.new.opened ≡ None → IsSome self.new.halted) }
+        ensures pages { self.old.opened ≡ None → OnOk result (IfSome self.new.opened (λ opened. (number : ℕ) → get nat_cmp opened.pages number ≡ spot_in (map page_of snapshot.now.pt.items) number)) }
+    {
         let pages = pages_of(self.alloc, snapshot)?;
         match Log::start(config, snapshot) {
             Ok(log) => self.keep(log, pages),
@@ -181,7 +186,9 @@ impl Driver {
     }
 
     // Keeps a log that was opened, and where its pages lie.
-    fn keep(&mut self, log: Log<MemDevice, PlaceSum>, pages: Pages) {
+    fn keep(&mut self, log: Log<MemDevice, PlaceSum>, pages: Pages)
+        ensures { MatchOption self.new.opened ⊥ (λ opened. (opened.log ≡ log) × (opened.pages ≡ pages)) }
+    {
         let opened = Opened {
             log,
             tickets: Vec::new(self.alloc),
