@@ -4,8 +4,12 @@
 //! A command that breaks a condition of the log's calls is a bad line. Neither a log nor a ticket can
 //! be dropped, so a driver ends by `close`.
 
-ghost use Rattle.std.specs.Prelude.{◌<◌, vec_len, vec_capacity};
-ghost use Rattle.sled_core.specs.Fits.{AllEnded};
+ghost use Rattle.std.specs.Prelude.{◌≡◌, ◌<◌, ℕ, map, Some, None, IsSome, IfOk, IfSome, OnOk, MatchOption, vec_len, vec_capacity};
+ghost use Rattle.std.specs.BTreeMap.{get};
+ghost use Rattle.std.specs.Ordering.{nat_cmp};
+ghost use Rattle.sled_codec.specs.Snapshots.{page_of};
+ghost use Rattle.sled_core.specs.Fits.{AllEnded, config_of};
+ghost use Rattle.slog.specs.Pages.{last_of, spot_in};
 
 use crate::line::Command;
 use sled_log::config::{Config, RunningConfig};
@@ -148,7 +152,9 @@ impl Driver {
 
     // Recovers what the device has, and opens a log on it, where none is open. After an error of the log
     // none is, and the device is kept.
-    fn open(&mut self) -> Result<Reply, Stop> {
+    fn open(&mut self) -> Result<Reply, Stop>
+        ensures kept { OnOk result (self.new.opened ≡ None → IsSome self.new.halted) }
+    {
         let Some(mut config) = self.halted.take() else {
             return Err(Stop::BadLine);
         };
@@ -163,7 +169,10 @@ impl Driver {
         &mut self,
         config: RunningConfig<MemDevice, PlaceSum>,
         snapshot: &Snapshot,
-    ) -> Result<Reply, Stop> {
+    ) -> Result<Reply, Stop>
+        ensures kept { OnOk result (self.new.opened ≡ None → IsSome self.new.halted) }
+        ensures pages { self.old.opened ≡ None → OnOk result (IfSome self.new.opened (λ opened. (number : ℕ) → get nat_cmp opened.pages number ≡ spot_in (map page_of snapshot.now.pt.items) number)) }
+    {
         let pages = pages_of(self.alloc, snapshot)?;
         match Log::start(config, snapshot) {
             Ok(log) => self.keep(log, pages),
@@ -177,7 +186,9 @@ impl Driver {
     }
 
     // Keeps a log that was opened, and where its pages lie.
-    fn keep(&mut self, log: Log<MemDevice, PlaceSum>, pages: Pages) {
+    fn keep(&mut self, log: Log<MemDevice, PlaceSum>, pages: Pages)
+        ensures { MatchOption self.new.opened ⊥ (λ opened. (opened.log ≡ log) × (opened.pages ≡ pages)) }
+    {
         let opened = Opened {
             log,
             tickets: Vec::new(self.alloc),
@@ -189,13 +200,20 @@ impl Driver {
     }
 
     // Keeps the device of a log that could not be opened.
-    fn refuse(&mut self, config: RunningConfig<MemDevice, PlaceSum>, e: Error) -> Reply {
+    fn refuse(&mut self, config: RunningConfig<MemDevice, PlaceSum>, e: Error) -> Reply
+        ensures kept { self.new ≡ record self.old { halted = Some config } }
+        ensures reply { result ≡ Reply.Failed e }
+    {
         self.halted = Some(config);
         Reply::Failed(e)
     }
 
     // Closes the log that is open, and keeps its device. What was not flushed is lost.
-    fn halt(&mut self) -> Result<Reply, Stop> {
+    fn halt(&mut self) -> Result<Reply, Stop>
+        ensures kept { IfSome self.old.opened (λ opened. self.new.halted ≡ Some (config_of opened.log)) }
+        ensures closed { self.new.opened ≡ None }
+        ensures out_of_turn { self.old.opened ≡ None → self.new ≡ self.old }
+    {
         let Some(opened) = self.opened.take() else {
             return Err(Stop::BadLine);
         };
@@ -337,7 +355,9 @@ impl Opened {
     }
 
     // Gives all tickets up, and then the log, and answers what that ran on.
-    fn halt(self) -> RunningConfig<MemDevice, PlaceSum> {
+    fn halt(self) -> RunningConfig<MemDevice, PlaceSum>
+        ensures { result ≡ config_of self.log }
+    {
         let Opened {
             log,
             mut tickets,
@@ -367,7 +387,9 @@ impl Ticket {
 }
 
 // Where the pages of a snapshot lie, by their number.
-fn pages_of(alloc: Global, snapshot: &Snapshot) -> Result<Pages, AllocError> {
+fn pages_of(alloc: Global, snapshot: &Snapshot) -> Result<Pages, AllocError>
+    ensures { IfOk result (λ pages. (number : ℕ) → get nat_cmp pages number ≡ spot_in (map page_of snapshot.now.pt.items) number) }
+{
     let mut pages = BTreeMap::new(alloc);
     for (page, state) in snapshot.pt.iter().enumerate() {
         if let Some(at) = last_of(state) {
@@ -378,7 +400,9 @@ fn pages_of(alloc: Global, snapshot: &Snapshot) -> Result<Pages, AllocError> {
 }
 
 // Where the last message of a page lies, if it has one.
-fn last_of(state: &PageState) -> Option<(Lsn, DiskPtr)> {
+fn last_of(state: &PageState) -> Option<(Lsn, DiskPtr)>
+    ensures { result ≡ last_of (page_of state.now) }
+{
     match state {
         PageState::Present { base, frags } => {
             let last = frags.last().unwrap_or(base);
