@@ -1,6 +1,6 @@
 -- Where the pages of an opened log are read.
 use Rattle.std.proofs.Common.{◌≡◌, ℕ, map}
-use Rattle.std.specs.BTreeMap.{BTreeMap, get}
+use Rattle.std.specs.BTreeMap.{get}
 use Rattle.std.specs.Ordering.{nat_cmp}
 use Rattle.sled_codec.specs.Snapshots.{page_of}
 use Rattle.slog.specs.declared.driver.Opened.{Opened}
