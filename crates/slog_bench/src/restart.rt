@@ -7,6 +7,7 @@ use crate::support::{TestLog, flush, fresh, is_io, is_item, item, log_bytes, put
 use sled_log::config::RunningConfig;
 use sled_log::device::{Device, MemDevice, PlaceSum};
 use sled_log::logger::{DiskPtr, Log};
+use sled_log::restart::restart;
 use sled_log::result::Error;
 use sled_log::snapshot::{Entry, PageState, Snapshot, read_snapshot_or_default};
 use std::alloc::Global;
@@ -129,6 +130,36 @@ fn a_log_goes_on(rt: HostRuntime) {
     assert!(rt; bytes.starts_with(LOG.as_slice()));
     let snapshot = recovered(&rt, &mut config);
     assert!(rt; is_table(&snapshot, 44, Some(0), 2));
+}
+
+// What was completed is written before the log is given up.
+#[test]
+fn a_restart_in_order(rt: HostRuntime) {
+    let mut log = fresh(&rt, rt.alloc(), 0);
+    let sevens = item(&rt, rt.alloc(), &[7, 7, 7]);
+    put(&rt, &mut log, 0, &sevens);
+    put(&rt, &mut log, 1, &sevens);
+    assert!(rt; log.all_ended());
+    let (config, answer) = restart(log);
+    let snapshot = answer.expect(&rt, "it is recovered");
+    assert!(rt; is_table(&snapshot, 44, Some(0), 2));
+    let mut log = started(&rt, config, &snapshot);
+    let found = read(&rt, &mut log, 1, 32);
+    assert!(rt; is_item(found, &[3, 7, 7, 7], 12));
+    let _ = log.halt();
+}
+
+// The write of the flush fails: the configuration comes back, and nothing is recovered.
+#[test]
+fn a_restart_whose_flush_fails(rt: HostRuntime) {
+    let mut log = fresh(&rt, rt.alloc(), 1);
+    let sevens = item(&rt, rt.alloc(), &[7, 7, 7]);
+    put(&rt, &mut log, 0, &sevens);
+    assert!(rt; log.all_ended());
+    let (mut config, answer) = restart(log);
+    assert!(rt; is_io(answer));
+    let numbers = config.device.snapshots().expect(&rt, "the device stands");
+    assert!(rt; numbers.is_empty());
 }
 
 // The first entry is that of the record at 20. Each of the others is wrong in one part.
