@@ -1,5 +1,5 @@
 -- What a log has to do with the history of what was completed, and with its device. It has one current segment, whose buffer has all of what is not written.
-use Rattle.std.specs.Prelude.{◌≡◌, ◌+◌, ◌-◌, ◌*◌, ◌/◌, ◌%◌, ◌^◌, ◌≤◌, ◌<◌, ◌-ℤ◌, ℕ, ℤ, pos, max, true, List, [], ◌++◌, length, take, All, Option, None, Some, slice_get}
+use Rattle.std.specs.Prelude.{◌≡◌, ◌+◌, ◌-◌, ◌*◌, ◌/◌, ◌%◌, ◌^◌, ◌≤◌, ◌<◌, ◌-ℤ◌, ℕ, ℤ, pos, max, true, List, [], ◌++◌, ◌∷◌, length, take, drop, All, Option, None, Some, slice_get}
 use Rattle.std.specs.declared.io.Error.{Error as IoError}
 use Rattle.sled_codec.specs.declared.result.DiskPtr.TheVariants.{Inline}
 use Rattle.sled_codec.specs.declared.serialization.message.LogKind.{LogKind}
@@ -7,7 +7,7 @@ use Rattle.sled_codec.specs.Record.{short_header}
 use Rattle.sled_codec.specs.History.{Message, History, CutFits}
 use Rattle.sled_codec.specs.Snapshots.{Shot}
 use Rattle.sled_codec.specs.PageTables.{IsTable}
-use Rattle.sled_store.specs.Device.{Trace, LogState, State, state_of, at_rest}
+use Rattle.sled_store.specs.Device.{Event, Wrote, Synced, Trace, LogState, State, state_of, at_rest}
 use Rattle.sled_store.specs.SnapshotFiles.{BeginsFrom, stable_place}
 use Rattle.sled_core.specs.declared.iobuf.Reserved.{Reserved}
 use Rattle.sled_core.specs.declared.iobuf.Site.{Site}
@@ -135,6 +135,14 @@ pub record IsKept (sum : List ℕ → ℕ) (size : ℕ) (site : Site) (from : �
 -- all that a log holds is on its device, and settled
 abbrev pub IsWritten : {D C : Type 0} → (D → Trace) → (List ℕ → ℕ) → Log D C → History → Type 0
 IsWritten trace sum log H = IsKept sum log.config.config.segment_size log.site log.buffer.from (state_of (trace log.config.device)) H
+
+-- the calls that write what is not written yet and settle it; where nothing was reserved there are none
+abbrev pub flushing_of : ℕ → List ℕ → List Reserved → List Event
+flushing_of at bytes [] = []
+flushing_of at bytes (r ∷ rs) = Wrote at bytes bytes ∷ Synced ∷ []
+
+abbrev pub flushing : {D C : Type 0} → Log D C → List Event
+flushing log = flushing_of (log.site.slot + log.buffer.from) (drop log.buffer.from log.buffer.bytes.items) log.buffer.reserved.items
 
 -- nothing that a caller sees of the log is another
 pub record IsUnchanged {D C : Type 0} (old new : Log D C) : Type 0 where

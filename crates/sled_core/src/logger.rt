@@ -51,7 +51,7 @@ pub struct Log<D, C> {
 }
 
 impl<D: Device, C: Checksum> Log<D, C> {
-    ghost use Rattle.sled_core.specs.Fits.{Holds, AllEnded, Awaits, IsOpen, HasRoom, IsUnchanged, fault_of, next_place, synced_end, reserved_end, pins_of, config_of, device_of, site_of, IsWritten, manifest_page, segment_size_of, size_for, message_for, KeepsAll};
+    ghost use Rattle.sled_core.specs.Fits.{Holds, AllEnded, Awaits, IsOpen, HasRoom, IsUnchanged, fault_of, next_place, synced_end, reserved_end, pins_of, config_of, device_of, site_of, IsWritten, flushing, manifest_page, segment_size_of, size_for, message_for, KeepsAll};
 
     /// Begins a log on what a recovery left: it goes on at the snapshot's stable place. First it fills the
     /// slots of the file that the snapshot does not use with zeros, in ascending order, and syncs the file
@@ -205,6 +205,8 @@ impl<D: Device, C: Checksum> Log<D, C> {
         ensures answer { IfOk result (λ n. synced_end self.new ≡ synced_end self.old + n) }
         ensures whole { OnOk result (synced_end self.new ≡ reserved_end self.old) }
         ensures records { (H : History) → Holds D.trace C.sum_of self.old H → OnOk result (IsWritten D.trace C.sum_of self.new H) }
+        ensures calls { OnOk result (D.trace (device_of self.new) ≡ after_all (flushing self.old) (D.trace (device_of self.old))) }
+        ensures at_most { Performs (flushing self.old) (D.trace (device_of self.old)) (D.trace (device_of self.new)) }
         ensures history { (H : History) → Holds D.trace C.sum_of self.old H → Holds D.trace C.sum_of self.new H }
         ensures ended { AllEnded self.new }
         ensures next { next_place self.new ≡ next_place self.old }
@@ -240,6 +242,7 @@ impl<D: Device, C: Checksum> Log<D, C> {
         ensures message { (H : History) (m : Message) → Holds D.trace C.sum_of self.old H → Contains H.messages m → pos m.place ≡ lsn → m.pointer ≡ ptr → IfOk result (GivesMessage m) }
         ensures reading { IfOk result (IsReading C.sum_of (segment_size_of self.old) (state_of (D.trace (device_of self.new))).log.bytes (lid_of ptr) (unsigned_abs lsn / segment_size_of self.old)) }
         ensures corrupt { IsCorruption result → IsNoPlace (segment_size_of self.old) lsn (lid_of ptr) ⊎ IsMalformed C.sum_of (segment_size_of self.old) (state_of (D.trace (device_of self.new))).log.bytes (lid_of ptr) (unsigned_abs lsn / segment_size_of self.old) }
+        ensures calm { lsn <ℤ pos (synced_end self.old) → D.trace (device_of self.new) ≡ D.trace (device_of self.old) }
         ensures refused { fault_of self.old ≡ None → IsNoPlace (segment_size_of self.old) lsn (lid_of ptr) → IsCorruption result × (self.new ≡ self.old) }
         ensures history { (H : History) → Holds D.trace C.sum_of self.old H → Holds D.trace C.sum_of self.new H }
         ensures ended { AllEnded self.new }
@@ -269,6 +272,7 @@ impl<D: Device, C: Checksum> Log<D, C> {
         requires reserved { place < reserved_end self.old }
         requires fault { fault_of self.old ≡ None }
         ensures written { OnOk result (place < synced_end self.new) }
+        ensures calm { place < synced_end self.old → D.trace (device_of self.new) ≡ D.trace (device_of self.old) }
         ensures history { (H : History) → Holds D.trace C.sum_of self.old H → Holds D.trace C.sum_of self.new H }
         ensures ended { AllEnded self.new }
         ensures next { next_place self.new ≡ next_place self.old }
@@ -389,6 +393,7 @@ fn write_out<D: Device>(device: &mut D, slot: LogOffset, buffer: &Buffer) -> io:
     ensures faults { Counts result (D.faults device.old) (D.faults device.new) }
     ensures error { FailsOr OutOfMemory result }
     ensures names { (state_of (D.trace device.new)).snapshots ≡ (state_of (D.trace device.old)).snapshots }
+    ensures calls { Performs (Wrote (slot + buffer.now.from) (drop buffer.now.from buffer.now.bytes.items) (drop buffer.now.from buffer.now.bytes.items) ∷ Synced ∷ []) (D.trace device.old) (D.trace device.new) }
 {
     device.write_at(slot + buffer.from as u64, &buffer.bytes[buffer.from..])?;
     device.sync()

@@ -1,6 +1,7 @@
 use Rattle.std.proofs.Common.{◌≡◌, ◌∙◌, ◌<◌, ℕ, ap, sym, subst, refl, arith, [], length, rules, inl, inr}
 use Rattle.sled_store.specs.Device.{Trace, NamesState, state_of}
-use Rattle.sled_core.specs.Fits.{Holds, IsKept}
+use Rattle.sled_core.specs.Fits.{Holds, IsKept, flushing}
+use Rattle.sled_core.proofs.FillLemmas.{performs_nothing}
 use Rattle.sled_core.proofs.Parts.{none_there}
 use Rattle.sled_core.proofs.FlushLemmas.{holds-flush, holds-faulty, holds-moved, all_kept, memory_or_fault}
 use Rattle.sled_core.proofs.HoldsLemmas.{holds-same}
@@ -40,3 +41,9 @@ returns-in-Err-clause-history g c = λ H holds.
       | inl memory ↦ holds-moved g.C.Checksum.sum_of _ _ _ _ _ _ _ H holds _ c.keep_fault.new.fault (ap state_of (c.in-Err.ensures.refused memory)) (c.keep_fault.ensures.memory memory ∙ sym c.in_default.is)
       | inr fault ↦ holds-faulty g.C.Checksum.sum_of _ _ _ _ _ _ _ H holds _ c.in-Err.e c.keep_fault.new.fault (c.keep_fault.ensures.kept fault) (ap (λ (s : NamesState). s.file) c.write_out.ensures.names)
     ]
+
+pub returns-in-Some-clause-at_most : goal.returns-in-Some-clause-at_most
+returns-in-Some-clause-at_most g c = performs_nothing (flushing c.args.self.now) (g.D.Device.trace c.args.self.now.config.device)
+
+pub returns-then-is_empty-clause-at_most : goal.returns-then-is_empty-clause-at_most
+returns-then-is_empty-clause-at_most g c = performs_nothing (flushing c.args.self.now) (g.D.Device.trace c.args.self.now.config.device)
