@@ -10,7 +10,7 @@ use Rattle.sled_core.specs.declared.met.Segment.{Segment}
 use Rattle.sled_core.specs.Scan.{IsFoundSegment, IsMisplaced}
 use Rattle.sled_core.proofs.ScanLemmas.{aligned_offset}
 use Rattle.sled_log.specs.Recovery.{IsOrdering, IsUnordered}
-use Rattle.sled_log.specs.Plain.{Chain, AreFound, IsReady}
+use Rattle.sled_log.specs.Plain.{Chain, AreFound, CanBeRead}
 use Rattle.sled_log.proofs.PlainSegments.{chain_ascends}
 use Rattle.sled_codec.specs.declared.result.Error.{Error}
 use Rattle.sled_log.proofs.Ascending.{in_nothing}
@@ -45,7 +45,7 @@ module _ (sum : List ℕ → ℕ) (size : ℕ) (log : List ℕ) (least : ℕ) wh
       λ i. record { place = places i; slot = slots i; mark = same.1 i }
 
   -- it can be read
-  pub ready : (s : Segment) → length log + size < 2 ^ 63 → IsFoundSegment sum size log least s → (IsMisplaced size s → ⊥) → IsReady size log s
+  pub ready : (s : Segment) → length log + size < 2 ^ 63 → IsFoundSegment sum size log least s → (IsMisplaced size s → ⊥) → CanBeRead size log s
   ready s small found placed =
       let inside = found_inside s found in
       record {
@@ -55,7 +55,7 @@ module _ (sum : List ℕ → ℕ) (size : ℕ) (log : List ℕ) (least : ℕ) wh
         place = ⊎_elim (λ lt. lt) (λ le. absurd (placed (inr le))) (cases_lt (s.place + size) (2 ^ 63));
       }
 
-  pub all_ready : (ss : List Segment) → length log + size < 2 ^ 63 → IsOrdering sum size log least ss → (s : Segment) → Contains ss s → IsReady size log s
+  pub all_ready : (ss : List Segment) → length log + size < 2 ^ 63 → IsOrdering sum size log least ss → (s : Segment) → Contains ss s → CanBeRead size log s
   all_ready ss small ordering s there = ready s small ((ordering.found s).0 there) (ordering.placed s there)
 
   -- one slot more, in which none is found

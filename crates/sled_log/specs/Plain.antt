@@ -30,7 +30,7 @@ rank place [] = 0
 rank place (s ∷ ss) = if nat_lt s.place place then suc (rank place ss) else 0
 
 -- A segment can be read: its slot is one of the file, and its ends are places and offsets.
-pub record IsReady (size : ℕ) (log : List ℕ) (s : Segment) : Type 0 where
+pub record CanBeRead (size : ℕ) (log : List ℕ) (s : Segment) : Type 0 where
   pub aligned : s.slot % size ≡ 0
   pub inside : s.slot ≤ length log
   pub slot : s.slot + size < 2 ^ 63

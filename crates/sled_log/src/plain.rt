@@ -11,7 +11,7 @@ ghost use Rattle.sled_core.specs.Scan.{IsFoundSegment, IsMisplaced, IsDamagedIn}
 ghost use Rattle.sled_core.specs.declared.met.Segment.{Segment};
 ghost use Rattle.sled_log.specs.Recovery.{Scanned, IsScanned, IsUnordered, IsOrdering, IsTail, IsDamagedTail, AreScanned, begun_below, IsDamagedPass, tail_begins, tail_end, Recovered, Damaged, Conclusion, outcome_of, least_place, scanned_of, given, has_no_table, table_of, ContinuesFrom, Recovers};
 ghost use Rattle.sled_log.specs.WritesBack.{conclusion_of};
-ghost use Rattle.sled_log.specs.Plain.{log_alone, Chain, AreFound, rank, IsReady, IsPass, pass_of, passed_all, stop_of, IsHiddenPass, HidesFrom, Hides};
+ghost use Rattle.sled_log.specs.Plain.{log_alone, Chain, AreFound, rank, CanBeRead, IsPass, pass_of, passed_all, stop_of, IsHiddenPass, HidesFrom, Hides};
 
 use crate::conclusion::Recovery;
 use crate::snapshot::{conclude, cut_of, is_misplaced};
@@ -131,7 +131,7 @@ fn pass_over<D: Device, C: Checksum>(
     first: Snapshot,
     end: u64,
 ) -> Result<Recovery>
-    requires ready { (s : Segment) → Contains segments.now s → IsReady config.old.config.segment_size (state_of (D.trace config.old.device)).log.bytes s }
+    requires ready { (s : Segment) → Contains segments.now s → CanBeRead config.old.config.segment_size (state_of (D.trace config.old.device)).log.bytes s }
     requires end { end < 2 ^ 63 }
     ensures ok { IfOk result (λ x. (passes : List Scanned) × AreScanned C.sum_of config.old.config.segment_size (log_alone (state_of (D.trace config.old.device)).log.bytes) (begun_below end segments.now) passes × (outcome_of config.old.config.segment_size (shot_of first) end passes ≡ Recovered (conclusion_of x))) }
     ensures corrupt { IsCorruption result →
@@ -299,7 +299,7 @@ fn scan_of<D: Device, C: Checksum>(
     config: &mut RunningConfig<D, C>,
     segment: &Segment,
 ) -> Result<Scan>
-    requires { IsReady config.old.config.segment_size (state_of (D.trace config.old.device)).log.bytes segment.now }
+    requires { CanBeRead config.old.config.segment_size (state_of (D.trace config.old.device)).log.bytes segment.now }
     ensures scan { IfOk result (λ s. IsScanned C.sum_of config.old.config.segment_size (log_alone (state_of (D.trace config.old.device)).log.bytes) (scanned_of segment.now s)) }
     ensures stop { IfOk result (λ s. (20 ≤ s.stop) × (s.stop ≤ config.old.config.segment_size)) }
     ensures places { IfOk result (λ s. All (λ m. m.place < segment.now.place + config.old.config.segment_size) s.met.items) }
@@ -322,7 +322,7 @@ fn tail_end<D: Device, C: Checksum>(
     segments: &[Segment],
     begin: u64,
 ) -> Result<Option<u64>>
-    requires ready { (s : Segment) → Contains segments.now s → IsReady config.old.config.segment_size (state_of (D.trace config.old.device)).log.bytes s }
+    requires ready { (s : Segment) → Contains segments.now s → CanBeRead config.old.config.segment_size (state_of (D.trace config.old.device)).log.bytes s }
     ensures end { IfOk result (λ o. (scanned : List Scanned) × IsTail C.sum_of config.old.config.segment_size (log_alone (state_of (D.trace config.old.device)).log.bytes) segments.now begin scanned × (tail_end scanned ≡ o)) }
     ensures small { IfOk result (λ o. IfSome o (λ end. end < 2 ^ 63)) }
     ensures damaged { IsCorruption result → IsDamagedTail C.sum_of config.old.config.segment_size (log_alone (state_of (D.trace config.old.device)).log.bytes) segments.now begin }
@@ -367,7 +367,7 @@ fn passes_below<D: Device, C: Checksum>(
     segments: &[Segment],
     end: u64,
 ) -> Result<Vec<Pass>>
-    requires ready { (s : Segment) → Contains segments.now s → IsReady config.old.config.segment_size (state_of (D.trace config.old.device)).log.bytes s }
+    requires ready { (s : Segment) → Contains segments.now s → CanBeRead config.old.config.segment_size (state_of (D.trace config.old.device)).log.bytes s }
     ensures scanned { IfOk result (λ v. AreScanned C.sum_of config.old.config.segment_size (log_alone (state_of (D.trace config.old.device)).log.bytes) (begun_below end segments.now) (map pass_of v.items)) }
     ensures fits { IfOk result (λ v. All (IsPass config.old.config.segment_size) v.items) }
     ensures damaged { IsCorruption result →

@@ -9,7 +9,7 @@ use Rattle.sled_store.specs.declared.config.Config.{Config}
 use Rattle.sled_store.specs.Device.{Trace, state_of}
 use Rattle.sled_log.specs.declared.plain.Pass.{Pass}
 use Rattle.sled_log.specs.Recovery.{IsScanned, AreScanned, begun_below}
-use Rattle.sled_log.specs.Plain.{log_alone, IsReady, IsPass, pass_of}
+use Rattle.sled_log.specs.Plain.{log_alone, CanBeRead, IsPass, pass_of}
 use Rattle.sled_log.proofs.PlainSame.{was_so, still_so}
 use Rattle.sled_log.proofs.PlainTail.{begun_here, split_more, are_scanned, damaged_or_hidden}
 use Rattle.sled_log.proofs.plain.passes_below.Goals as goal
@@ -21,7 +21,7 @@ none = record { place = 0; slot = 0; mark = pos 0 }
 pub scan_of-requires : goal.scan_of-requires
 scan_of-requires g c =
     let i : ℕ = c.loop-segment.segment-index in
-    still_so (λ n l. IsReady n l (get_or c.args.segments.now i none)) c.args.config.now.config c.loop-segment.config.config (g.D.Device.trace c.args.config.now.device) (g.D.Device.trace c.loop-segment.config.device)
+    still_so (λ n l. CanBeRead n l (get_or c.args.segments.now i none)) c.args.config.now.config c.loop-segment.config.config (g.D.Device.trace c.args.config.now.device) (g.D.Device.trace c.loop-segment.config.device)
     c.loop-segment.invariant.config c.loop-segment.invariant.trace (c.requires.ready (get_or c.args.segments.now i none) (Contains-get_or c.args.segments.now i none c.loop-segment-test.true))
 
 pub returns-in-Err-clause-damaged : goal.returns-in-Err-clause-damaged

@@ -6,7 +6,7 @@ use Rattle.sled_codec.specs.Snapshots.{Shot, shot_of}
 use Rattle.sled_store.specs.declared.config.Config.{Config}
 use Rattle.sled_store.specs.Device.{Trace, state_of}
 use Rattle.sled_log.specs.Recovery.{Scanned, IsTail, IsDamagedTail, begun_below, AreScanned, IsDamagedPass, outcome_of, Recovered, Damaged, least_place}
-use Rattle.sled_log.specs.Plain.{log_alone, IsReady, IsHiddenPass}
+use Rattle.sled_log.specs.Plain.{log_alone, CanBeRead, IsHiddenPass}
 use Rattle.sled_log.specs.WritesBack.{conclusion_of}
 use Rattle.sled_log.proofs.PlainSame.{was_so, still_so}
 use Rattle.sled_log.proofs.PlainFound.{all_ready}
@@ -23,7 +23,7 @@ pub pass_over-requires-clause-ready : goal.pass_over-requires-clause-ready
 pass_over-requires-clause-ready g c =
     let cfg : Config = c.args.config.now.config in
     let before : Trace = g.D.Device.trace c.args.config.now.device in
-    still_so (λ n l. (s : Segment) → Contains c.args.segments.now s → IsReady n l s) cfg c.tail_end.new.config.config before (g.D.Device.trace c.tail_end.new.config.device) c.in-Ok-Some.ensures.config c.in-Ok-Some.ensures.trace
+    still_so (λ n l. (s : Segment) → Contains c.args.segments.now s → CanBeRead n l s) cfg c.tail_end.new.config.config before (g.D.Device.trace c.tail_end.new.config.device) c.in-Ok-Some.ensures.config c.in-Ok-Some.ensures.trace
     (all_ready g.C.Checksum.sum_of cfg.segment_size (state_of before).log.bytes (least_place cfg.segment_size (shot_of c.args.first)) c.args.segments.now c.requires.small c.requires.ordering)
 
 pub returns-in-Ok-Some-clause-ok : goal.returns-in-Ok-Some-clause-ok

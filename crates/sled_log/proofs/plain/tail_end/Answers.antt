@@ -4,21 +4,21 @@ use Rattle.sled_core.specs.declared.met.Ending.TheVariants.{Broken}
 use Rattle.sled_store.specs.declared.config.Config.{Config}
 use Rattle.sled_store.specs.Device.{state_of}
 use Rattle.sled_log.specs.Recovery.{Scanned, IsScanned, scanned_of}
-use Rattle.sled_log.specs.Plain.{log_alone, IsReady}
+use Rattle.sled_log.specs.Plain.{log_alone, CanBeRead}
 use Rattle.sled_log.proofs.PlainSame.{was_so, still_so}
 use Rattle.sled_log.proofs.PlainTail.{part_more, tail_ends, tail_breaks, end_of_last}
 use Rattle.sled_log.proofs.plain.tail_end.Goals as goal
 
 -- an end within a segment that can be read
-end_there : (size : ℕ) (log : List ℕ) (s : Segment) (place stop : ℕ) → IsReady size log s → s.place ≡ place → stop ≤ size → place + stop < 2 ^ 63
+end_there : (size : ℕ) (log : List ℕ) (s : Segment) (place stop : ℕ) → CanBeRead size log s → s.place ≡ place → stop ≤ size → place + stop < 2 ^ 63
 end_there size log s place stop is at within = let below = is.place in omega (arith, below, at, within)
 
-next_there : (size : ℕ) (log : List ℕ) (s : Segment) (place : ℕ) → IsReady size log s → s.place ≡ place → place + size < 2 ^ 63
+next_there : (size : ℕ) (log : List ℕ) (s : Segment) (place : ℕ) → CanBeRead size log s → s.place ≡ place → place + size < 2 ^ 63
 next_there size log s place is at = let below = is.place in omega (arith, below, at)
 
 pub scan_of-requires : goal.scan_of-requires
 scan_of-requires g c =
-    still_so (λ n l. IsReady n l c.in-Some.segment) c.args.config.now.config c.loop-segment.config.config (g.D.Device.trace c.args.config.now.device) (g.D.Device.trace c.loop-segment.config.device)
+    still_so (λ n l. CanBeRead n l c.in-Some.segment) c.args.config.now.config c.loop-segment.config.config (g.D.Device.trace c.args.config.now.device) (g.D.Device.trace c.loop-segment.config.device)
     c.loop-segment.invariant.config c.loop-segment.invariant.trace (c.loop-segment.invariant.ready c.in-Some.segment c.in-Some.ensures.some.0)
 
 pub overflow_add-end : goal.overflow_add-end
