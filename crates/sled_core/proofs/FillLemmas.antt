@@ -1,37 +1,13 @@
 -- Slots that are filled one after another: the calls so far, and where they stop.
-use Rattle.std.proofs.Common.{◌≡◌, ◌∙◌, ◌+◌, ◌*◌, ◌≤◌, ◌<◌, ◌⊎◌, inl, inr, ℕ, zero, suc, Bool, true, false, if◌then◌else◌, List, [], ◌∷◌, ◌++◌, map, reverse, replicate, Option, Some, None, IfSome, Result, Ok, Err, OnErr, refl, sym, ap, subst, arith, append_assoc, append-nil, add-one}
+use Rattle.std.proofs.Common.{◌≡◌, ◌∙◌, ◌+◌, ◌*◌, ◌≤◌, ◌<◌, ◌⊎◌, inl, inr, ℕ, zero, suc, Bool, true, false, if◌then◌else◌, List, [], ◌∷◌, ◌++◌, map, replicate, Option, Some, None, IfSome, Result, Ok, Err, OnErr, refl, sym, ap, subst, arith, append_assoc, append-nil, add-one}
 use Rattle.std.specs.Option.{option_or}
 use Rattle.std.proofs.lemmas.List.{map-append}
 use Rattle.std.proofs.Math.Nat.{eq-or-lt_of_le}
 use Rattle.sled_store.specs.Device.{Event, Trace, Wrote, Synced}
 use Rattle.sled_store.specs.Answers.{Tears}
 use Rattle.sled_store.specs.Script.{Performs, after_all}
-use Rattle.sled_store.proofs.ScriptLemmas.{performs_none, performs_more, performs_joined, performs_done, stop_call, done_none, done_all}
+use Rattle.sled_store.proofs.ScriptLemmas.{performs_more, performs_behind, after_joined, stop_call}
 use Rattle.sled_core.specs.Begin.{not_below, fill, filling, first_of}
-
--- Calls, one after another.
-
--- nothing was done of a list of calls
-pub performs_nothing : (es : List Event) (old : Trace) → Performs es old old
-performs_nothing es old = performs_more [] es old old (performs_none old)
-
--- the trace after all calls has them in front, the latest first
-pub after_is : (es : List Event) (old : Trace) → after_all es old ≡ reverse es ++ old
-after_is [] old = done_none old
-after_is (e ∷ es) old = done_all e es old (e ∷ old) (after_all es (e ∷ old)) refl (after_is es (e ∷ old))
-
--- the trace after two lists of calls
-pub after_joined : (es fs : List Event) (old : Trace) → after_all (es ++ fs) old ≡ after_all fs (after_all es old)
-after_joined [] fs old = refl
-after_joined (e ∷ es) fs old = after_joined es fs (e ∷ old)
-
--- all calls were made
-pub performs_after : (es : List Event) (old new : Trace) → new ≡ after_all es old → Performs es old new
-performs_after es old new is = performs_done es old new (is ∙ after_is es old)
-
--- all calls of one list were made, and some of another
-pub performs_then : (es fs : List Event) (old mid new : Trace) → mid ≡ after_all es old → Performs fs mid new → Performs (es ++ fs) old new
-performs_then es fs old mid new is = performs_joined es fs old mid new (is ∙ after_is es old)
 
 -- The numbers below another at which a test is false.
 
@@ -106,7 +82,7 @@ module _ (size : ℕ) where
   stopped_at test n k event old mid new lt is event_is before stop =
       let whole = split_at test n k lt is in
       let one = subst (λ (e : Event). Performs (e ∷ []) mid new) event_is (stop_call event [] mid new stop) in
-      let some = performs_then (map (fill size) (not_below test k)) (fill size k ∷ []) old mid new before one in
+      let some = performs_behind (map (fill size) (not_below test k)) (fill size k ∷ []) old mid new before one in
       let more = performs_more (map (fill size) (not_below test k) ++ fill size k ∷ []) (map (fill size) whole.0) old new some in
       subst (λ (es : List Event). Performs es old new)
       (ap (λ (es : List Event). es ++ map (fill size) whole.0) (sym (map-append (fill size) (not_below test k) (k ∷ []))) ∙ sym (map-append (fill size) (not_below test k ++ k ∷ []) whole.0) ∙ ap (map (fill size)) (sym whole.1)) more
@@ -131,7 +107,7 @@ module _ (size : ℕ) where
   pub sync_stopped : {fault : Type 0} (ks : List ℕ) (j : ℕ) (old mid new : Trace) → Some j ≡ first_of ks → mid ≡ after_all (map (fill size) ks) old
       → (new ≡ mid) ⊎ (fault × ((torn : Event) × Tears Synced torn × (new ≡ torn ∷ mid))) → Performs (filling size ks) old new
   sync_stopped [] j old mid new some is stop = absurd (let never : ⊥ = cc in never)
-  sync_stopped (k ∷ ks) j old mid new some is stop = performs_then (map (fill size) (k ∷ ks)) (Synced ∷ []) old mid new is (stop_call Synced [] mid new stop)
+  sync_stopped (k ∷ ks) j old mid new some is stop = performs_behind (map (fill size) (k ∷ ks)) (Synced ∷ []) old mid new is (stop_call Synced [] mid new stop)
 
   -- or what comes before it
   pub filling_stopped : (ks : List ℕ) (old new : Trace) → Performs (map (fill size) ks) old new → Performs (filling size ks) old new

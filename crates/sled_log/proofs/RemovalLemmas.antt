@@ -4,7 +4,8 @@ use Rattle.std.proofs.lemmas.List.Elements.{filter-append, filter_more}
 use Rattle.sled_store.specs.Device.{Event, Trace}
 use Rattle.sled_store.specs.Script.{Performs, after_all}
 use Rattle.sled_log.specs.WritesBack.{removing, others, is_other}
-use Rattle.sled_log.proofs.CallLemmas.{after_joined, performs_behind, performs_front, removing_both}
+use Rattle.sled_store.proofs.ScriptLemmas.{after_joined, performs_behind, performs_more}
+use Rattle.sled_log.proofs.CallLemmas.{removing_both}
 
 module _ (kept : ℤ) (ns : List ℤ) (i : ℕ) (d : ℤ) (below : i < length ns) where
   -- those up to a number are those before it, and it
@@ -31,7 +32,7 @@ module _ (kept : ℤ) (ns : List ℤ) (i : ℕ) (d : ℤ) (below : i < length ns
     removals_begun one =
         let upto : Performs (removing (others kept (take (i + 1) ns))) old new =
         subst (λ (es : List Event). Performs es old new) (sym more) (performs_behind (removing (others kept (take i ns))) (removing (others kept (get_or ns i d ∷ []))) old mid new came one) in
-        subst (λ (es : List Event). Performs es old new) (sym all) (performs_front (removing (others kept (take (i + 1) ns))) (removing (others kept (drop (i + 1) ns))) old new upto)
+        subst (λ (es : List Event). Performs es old new) (sym all) (performs_more (removing (others kept (take (i + 1) ns))) (removing (others kept (drop (i + 1) ns))) old new upto)
 
 -- what is so of a number, a list and a trace is so of those that they are
 pub of_same : (P : ℤ → List ℤ → Trace → Type 0) (kept kept_as : ℤ) (ns ns_as : List ℤ) (old old_as : Trace) → kept ≡ kept_as → ns ≡ ns_as → old ≡ old_as → P kept ns old → P kept_as ns_as old_as

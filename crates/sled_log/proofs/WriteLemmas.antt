@@ -5,7 +5,7 @@ use Rattle.sled_store.specs.Device.{Event, Trace, SnapshotFilled, SnapshotPublis
 use Rattle.sled_store.specs.Script.{Performs, after_all}
 use Rattle.sled_log.specs.Recovery.{Conclusion, Outcome, Recovers}
 use Rattle.sled_log.specs.WritesBack.{HasPublished, Publishes, HasWrittenBack, WritesBack, short_file, number_of, publishing_file, publishing, removing, shredding, writing_back, AreOthers, MayBeRemoved, IsOnlySnapshot, IsWrittenBack}
-use Rattle.sled_log.proofs.CallLemmas.{after_joined, performs_whole, performs_front, performs_behind}
+use Rattle.sled_store.proofs.ScriptLemmas.{after_joined, performs_whole, performs_more, performs_behind}
 use Rattle.sled_log.proofs.OtherLemmas.{file_at, same_name, other_name, same_others, missing_after, gone_after, kept_after, log_after, blobs_after}
 
 -- A file is published under a number.
@@ -68,7 +68,7 @@ module _ (sum : List ℕ → ℕ) (shot : Shot) (file : List ℕ) (number : ℤ)
   -- it was not published
   pub publishing_stops : (new : Trace) → Performs (publishing_file file number) old new → Publishes sum shot old new
   publishing_stops new came =
-      ([], inl refl, subst (λ (es : List Event). Performs es old new) (same_calls []) (performs_front (publishing_file file number) (removing []) old new came))
+      ([], inl refl, subst (λ (es : List Event). Performs es old new) (same_calls []) (performs_more (publishing_file file number) (removing []) old new came))
 
   module _ (mid new : Trace) (came : mid ≡ after_all (publishing_file file number) old) where
     others_before : (ns : List ℤ) → AreOthers (file_at mid) number ns → AreOthers (file_at old) (number_of shot) ns
@@ -97,7 +97,7 @@ shredded_files (Some tip) old = refl
 
 module _ (sum : List ℕ → ℕ) (x : Conclusion) (old : Trace) where
   pub writing_stops : (new : Trace) → Performs (shredding x.tip) old new → WritesBack sum x old new
-  writing_stops new came = ([], inl refl, performs_front (shredding x.tip) (if x.is_new then publishing sum x.shot [] else []) old new came)
+  writing_stops new came = ([], inl refl, performs_more (shredding x.tip) (if x.is_new then publishing sum x.shot [] else []) old new came)
 
   module _ (mid new : Trace) (came : mid ≡ after_all (shredding x.tip) old) where
     files : file_at mid ≡ file_at old

@@ -4,7 +4,7 @@ use Rattle.std.proofs.lemmas.List.{reverse-append}
 use Rattle.sled_store.specs.Device.{Event, Trace, State, state_of, step}
 use Rattle.sled_store.specs.Moments.{Throughout}
 use Rattle.sled_store.specs.Answers.{Tears}
-use Rattle.sled_store.specs.Script.{Stops, Performs, Along}
+use Rattle.sled_store.specs.Script.{Stops, Performs, Along, after_all}
 use Rattle.sled_store.proofs.MomentLemmas.{started, added, stays, joined}
 
 -- At an exit: no more calls were made.
@@ -70,3 +70,28 @@ pub performs_done : (es : List Event) (old new : Trace) → new ≡ reverse es +
 unfolding Performs
 performs_done [] old new came = came
 performs_done (e ∷ es) old new came = inr (performs_done es (e ∷ old) new (came ∙ reverse-onto e es old))
+
+-- The same, with the trace after a list of calls.
+
+-- one list of calls was made, and then another
+pub after_joined : (es fs : List Event) (old : Trace) → after_all (es ++ fs) old ≡ after_all fs (after_all es old)
+after_joined [] fs old = refl
+after_joined (e ∷ es) fs old = after_joined es fs (e ∷ old)
+
+-- no call was made
+pub performs_nothing : (es : List Event) (old new : Trace) → new ≡ old → Performs es old new
+unfolding Performs Stops
+performs_nothing [] old new same = same
+performs_nothing (e ∷ es) old new same = inl (inl same)
+
+-- all calls were made
+pub performs_whole : (es : List Event) (old new : Trace) → new ≡ after_all es old → Performs es old new
+unfolding Performs
+performs_whole [] old new same = same
+performs_whole (e ∷ es) old new same = inr (performs_whole es (e ∷ old) new same)
+
+-- behind a list of calls another one was begun
+pub performs_behind : (es fs : List Event) (old mid new : Trace) → mid ≡ after_all es old → Performs fs mid new → Performs (es ++ fs) old new
+unfolding Performs
+performs_behind [] fs old mid new came rest = subst (λ (h : Trace). Performs fs h new) came rest
+performs_behind (e ∷ es) fs old mid new came rest = inr (performs_behind es fs (e ∷ old) mid new came rest)

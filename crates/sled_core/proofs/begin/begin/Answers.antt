@@ -3,29 +3,26 @@ use Rattle.std.proofs.Common.{◌≡◌, ◌∙◌, ◌<◌, ℕ, Bool, List, le
 use Rattle.std.specs.Ordering.{nat_cmp}
 use Rattle.std.specs.BTreeMap.{get}
 use Rattle.sled_codec.specs.Snapshots.{Shot, shot_of}
-use Rattle.sled_store.specs.Device.{Event, Trace, state_of}
+use Rattle.sled_store.specs.Device.{Trace, state_of}
 use Rattle.sled_store.specs.SnapshotFiles.{stable_place}
 use Rattle.sled_store.specs.Script.{Performs, after_all}
 use Rattle.sled_core.specs.Begin.{slots_of, is_used, not_below, unused, filling, beginning_at}
-use Rattle.sled_core.proofs.FillLemmas.{performs_nothing, same_below, first_below}
+use Rattle.sled_store.proofs.ScriptLemmas.{performs_nothing}
+use Rattle.sled_core.proofs.FillLemmas.{same_below, first_below}
 use Rattle.sled_core.proofs.begin.begin.Goals as goal
-
--- a call that changed nothing made none of these calls
-none_made : (es : List Event) (old new : Trace) → new ≡ old → Performs es old new
-none_made es old new same = subst (Performs es old) (sym same) (performs_nothing es old)
 
 -- these calls, from another trace that is the same
 performs_as : (size : ℕ) (ks js : List ℕ) (mid old new : Trace) → ks ≡ js → mid ≡ old → Performs (filling size ks) mid new → Performs (filling size js) old new
 performs_as size ks js mid old new same is came = subst (λ (h : Trace). Performs (filling size js) h new) is (subst (λ (l : List ℕ). Performs (filling size l) mid new) same came)
 
 pub returns-in_err-len-clause-calls : goal.returns-in_err-len-clause-calls
-returns-in_err-len-clause-calls g c = none_made _ (g.D.Device.trace c.args.config.now.device) (g.D.Device.trace c.len.new.self) c.len.ensures.trace
+returns-in_err-len-clause-calls g c = performs_nothing _ (g.D.Device.trace c.args.config.now.device) (g.D.Device.trace c.len.new.self) c.len.ensures.trace
 
 pub returns-in-Err-clause-calls : goal.returns-in-Err-clause-calls
-returns-in-Err-clause-calls g c = none_made _ (g.D.Device.trace c.args.config.now.device) (g.D.Device.trace c.len.new.self) c.len.ensures.trace
+returns-in-Err-clause-calls g c = performs_nothing _ (g.D.Device.trace c.args.config.now.device) (g.D.Device.trace c.len.new.self) c.len.ensures.trace
 
 pub returns-in-Err-first_buffer-clause-calls : goal.returns-in-Err-first_buffer-clause-calls
-returns-in-Err-first_buffer-clause-calls g c = none_made _ (g.D.Device.trace c.args.config.now.device) (g.D.Device.trace c.len.new.self) c.len.ensures.trace
+returns-in-Err-first_buffer-clause-calls g c = performs_nothing _ (g.D.Device.trace c.args.config.now.device) (g.D.Device.trace c.len.new.self) c.len.ensures.trace
 
 pub beginning_at-requires-clause-first : goal.beginning_at-requires-clause-first
 beginning_at-requires-clause-first g c =

@@ -4,7 +4,7 @@ use Rattle.std.proofs.lemmas.Int.{to_z-of_z}
 use Rattle.sled_codec.specs.Snapshots.{shot_of}
 use Rattle.sled_log.specs.WritesBack.{publishing, number_of, short_file}
 use Rattle.sled_log.proofs.TableLemmas.{on_ok}
-use Rattle.sled_log.proofs.CallLemmas.{performs_nothing}
+use Rattle.sled_store.proofs.ScriptLemmas.{performs_nothing}
 use Rattle.sled_log.proofs.WriteLemmas.{has_published, publishes}
 use Rattle.sled_log.proofs.snapshot.publish_new.Given.{Over}
 use Rattle.sled_log.proofs.snapshot.publish_new.Goals as goal

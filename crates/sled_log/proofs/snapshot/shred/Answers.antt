@@ -1,9 +1,8 @@
 use Rattle.std.proofs.Common.{rules, ◌≡◌, ℕ, List, Option, [], ◌∷◌, replicate, ap, sym, subst}
 use Rattle.sled_store.specs.Device.{Trace, Wrote, Synced}
 use Rattle.sled_store.specs.Script.{Performs}
-use Rattle.sled_store.proofs.ScriptLemmas.{performs_all, stop_call, performs_none}
+use Rattle.sled_store.proofs.ScriptLemmas.{performs_all, stop_call, performs_none, performs_nothing}
 use Rattle.sled_log.specs.WritesBack.{shredding, range_of}
-use Rattle.sled_log.proofs.CallLemmas.{performs_nothing}
 use Rattle.sled_log.proofs.snapshot.shred.Goals as goal
 
 -- the calls on a range that is there

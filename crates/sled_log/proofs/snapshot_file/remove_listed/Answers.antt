@@ -5,7 +5,7 @@ use Rattle.std.proofs.lemmas.Int.{to_z-of_z}
 use Rattle.sled_store.specs.Device.{Trace}
 use Rattle.sled_store.specs.Script.{Performs, after_all}
 use Rattle.sled_log.specs.WritesBack.{removing, others}
-use Rattle.sled_log.proofs.CallLemmas.{performs_whole}
+use Rattle.sled_store.proofs.ScriptLemmas.{performs_whole}
 use Rattle.sled_log.proofs.RemovalLemmas.{removed_more, removals_begun}
 use Rattle.sled_log.proofs.snapshot_file.remove_listed.Goals as goal
 

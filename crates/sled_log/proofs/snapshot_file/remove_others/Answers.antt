@@ -4,7 +4,7 @@ use Rattle.std.proofs.lemmas.Int.{to_z-of_z}
 use Rattle.sled_store.specs.Device.{Trace, state_of}
 use Rattle.sled_store.specs.Script.{Performs, after_all}
 use Rattle.sled_log.specs.WritesBack.{removing, others}
-use Rattle.sled_log.proofs.CallLemmas.{performs_nothing}
+use Rattle.sled_store.proofs.ScriptLemmas.{performs_nothing}
 use Rattle.sled_log.proofs.OtherLemmas.{are_others}
 use Rattle.sled_log.proofs.RemovalLemmas.{of_same}
 use Rattle.sled_log.proofs.TableLemmas.{on_ok}

@@ -1,7 +1,7 @@
 use Rattle.std.proofs.Common.{◌≡◌, ◌∙◌, ◌<◌, ℕ, ap, sym, subst, refl, arith, [], length, rules, inl, inr}
 use Rattle.sled_store.specs.Device.{Trace, NamesState, state_of}
 use Rattle.sled_core.specs.Fits.{Holds, IsKept, flushing}
-use Rattle.sled_core.proofs.FillLemmas.{performs_nothing}
+use Rattle.sled_store.proofs.ScriptLemmas.{performs_nothing}
 use Rattle.sled_core.proofs.Parts.{none_there}
 use Rattle.sled_core.proofs.FlushLemmas.{holds-flush, holds-faulty, holds-moved, all_kept, memory_or_fault}
 use Rattle.sled_core.proofs.HoldsLemmas.{holds-same}
@@ -43,7 +43,7 @@ returns-in-Err-clause-history g c = λ H holds.
     ]
 
 pub returns-in-Some-clause-at_most : goal.returns-in-Some-clause-at_most
-returns-in-Some-clause-at_most g c = performs_nothing (flushing c.args.self.now) (g.D.Device.trace c.args.self.now.config.device)
+returns-in-Some-clause-at_most g c = performs_nothing (flushing c.args.self.now) (g.D.Device.trace c.args.self.now.config.device) _ refl
 
 pub returns-then-is_empty-clause-at_most : goal.returns-then-is_empty-clause-at_most
-returns-then-is_empty-clause-at_most g c = performs_nothing (flushing c.args.self.now) (g.D.Device.trace c.args.self.now.config.device)
+returns-then-is_empty-clause-at_most g c = performs_nothing (flushing c.args.self.now) (g.D.Device.trace c.args.self.now.config.device) _ refl
