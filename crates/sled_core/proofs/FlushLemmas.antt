@@ -71,6 +71,7 @@ record_laid sum size site log bytes r stands is there in_file in_slot small numb
         small = omega (arith, small);
       };
       known = stands.known;
+      short = there ∙ text_is sum number bytes r stands is;
       page = refl;
     }
 
@@ -156,7 +157,7 @@ module _ (sum : List ℕ → ℕ) (size : ℕ) (site : Site) (old bytes : List �
         let here : site.slot + 0 ≡ site.slot = omega arith in
         let at : part new site.slot 20 ≡ take 20 bytes = ap (λ i. part new i 20) (sym here) ∙ same 0 20 (omega (arith, first)) (omega (arith, begun)) in
         let mark = mark_before site.place (omega (arith, place_small)) in
-        record { mark = pos site.place -ℤ pos 1; header = record { is = at ∙ header first; place_fits = place_fits; mark_fits = mark.0 }; below = mark.1 })
+        record { mark = pos site.place -ℤ pos 1; header = record { is = at ∙ header first; place_fits = place_fits; mark_fits = mark.0 }; below = mark.1; before = refl })
   ]
 
   -- What was completed stands behind what stood there.

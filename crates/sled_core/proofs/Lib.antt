@@ -6,6 +6,7 @@ pub mod FillLemmas
 pub mod FilledLemmas
 pub mod FitLemmas
 pub mod FlushLemmas
+pub mod FreshLemmas
 pub mod GivesLemmas
 pub mod Heads
 pub mod HoldsLemmas

@@ -71,7 +71,7 @@ module _ (sum : List ℕ → ℕ) (size : ℕ) (old new : List ℕ) (at n : ℕ)
       let end = s.in_file in record_moved sum size old new lid number h body len (same lid len end apart) (omega (arith, end, grows)) s
 
   message_stays : (lid number : ℕ) (m : Message) → (lid + m.size ≤ at) ⊎ (at + n ≤ lid) → MessageStands sum size old lid number m → MessageStands sum size new lid number m
-  message_stays lid number m apart s = record { header = s.header; stands = record_stays lid number s.header m.bytes m.size apart s.stands; known = s.known; page = s.page }
+  message_stays lid number m apart s = record { header = s.header; stands = record_stays lid number s.header m.bytes m.size apart s.stands; known = s.known; short = (let end = s.stands.in_file in same lid m.size end apart) ∙ s.short; page = s.page }
 
   -- the records of a segment up to the beginning of the range
   pub stand_stays : (site : Site) (from : ℕ) (ms : List Message) (end : ℕ) → site.slot + end ≤ at → StandIn sum size old site from ms end → StandIn sum size new site from ms end
@@ -109,7 +109,7 @@ module _ (sum : List ℕ → ℕ) (size : ℕ) (old new : List ℕ) (at n : ℕ)
   pub header_stays : (site : Site) → site.slot + 20 ≤ at → HasHeader sum old site → HasHeader sum new site
   header_stays site before h =
       let there : site.slot + 20 ≤ length old = header_there sum old site h in
-      record { mark = h.mark; header = subst (λ (l : List ℕ). IsHeader sum l (pos site.place) h.mark) (sym (same site.slot 20 there (inl before))) h.header; below = h.below }
+      record { mark = h.mark; header = subst (λ (l : List ℕ). IsHeader sum l (pos site.place) h.mark) (sym (same site.slot 20 there (inl before))) h.header; below = h.below; before = h.before }
 
 module _ (sum : List ℕ → ℕ) (size : ℕ) (old : List ℕ) (at : ℕ) (xs : List ℕ) where
   abbrev new : List ℕ

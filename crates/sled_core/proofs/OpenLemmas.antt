@@ -1,5 +1,5 @@
 -- Where a log begins lies in reach, and its first buffer in a segment.
-use Rattle.std.proofs.Common.{◌≡◌, ◌≤◌, ◌<◌, ◌+◌, ◌*◌, ◌/◌, ◌^◌, ◌-ℤ◌, ℕ, pos, false, List, length, Option, Some, None, IfSome, refl, ap, arith, inl, inr}
+use Rattle.std.proofs.Common.{◌≡◌, ◌≤◌, ◌<◌, ◌+◌, ◌*◌, ◌/◌, ◌^◌, ◌∙◌, ◌-ℤ◌, ℕ, max, pos, false, List, length, Option, Some, None, IfSome, refl, ap, arith, inl, inr}
 use Rattle.std.proofs.Math.Nat.{mod-add-div', mod-lt}
 use Rattle.std.proofs.lemmas.Bool.{cases_lt}
 use Rattle.std.proofs.lemmas.List.Elements.{All-contains}
@@ -66,3 +66,10 @@ module _ (size len : ℕ) (s : Shot) (b : Beginning) (is : b ≡ beginning_of si
         omega (arith, resumed, below, ap (λ (x : Beginning). x.offset) is, begins_offset size (slots_of size len) (stable_place s.stable) free s.active))
     | inr none ↦ (let header = first.header (omega (arith, none)) in omega (arith, long, ap length header, length-short_header sum (pos b.place) (pos b.place -ℤ pos 1)))
   ]
+
+  -- the first record is laid behind the header, or behind what is there
+  pub first_next : (sum : List ℕ → ℕ) (buffer : Buffer) → IsFirstBuffer sum b.place b.offset buffer → length buffer.bytes.items ≡ max 20 (offset_at size (stable_place s.stable) s.active)
+  first_next sum buffer first = by s.active startable.active (ap (λ (x : Beginning). x.offset) is ∙ begins_offset size (slots_of size len) (stable_place s.stable) free s.active) where
+    by : (o : Option ℕ) → IfSome o (MayBeActive size (slots_of size len) (stable_place s.stable)) → b.offset ≡ offset_at size (stable_place s.stable) o → length buffer.bytes.items ≡ max 20 (offset_at size (stable_place s.stable) o)
+    by None may at = ap length (first.header at) ∙ length-short_header sum (pos b.place) (pos b.place -ℤ pos 1)
+    by (Some a) may at = let behind = may.offset.behind_header in let resumed = first.resumed (omega (arith, behind, at)) in omega (arith, behind, at, resumed)

@@ -170,7 +170,7 @@ module _ (sum : List ℕ → ℕ) (size : ℕ) (site : Site) (old asked now left
         elim (same_or_not (part left (site.slot + at) m.size) (part new (site.slot + at) m.size)) [
           | inl same ↦ elim (cases_lt (length left) (site.slot + at + m.size)) [
             | inl short ↦ inr (λ h body len s. let is = same_size h body len s in let there = s.in_file in absurd (omega (arith, is, there, short)))
-            | inr there ↦ inl (record { header = written.header; stands = record_moved sum size new left (site.slot + at) (site.place / size) written.header m.bytes m.size same there written.stands; known = written.known; page = written.page })
+            | inr there ↦ inl (record { header = written.header; stands = record_moved sum size new left (site.slot + at) (site.place / size) written.header m.bytes m.size same there written.stands; known = written.known; short = same ∙ written.short; page = written.page })
           ]
           | inr other ↦ inr (λ h body len s.
               let both = written_there header at later below reached h body len s in
@@ -245,7 +245,7 @@ module _ (sum : List ℕ → ℕ) (size : ℕ) (site : Site) (old asked now left
   pub torn_header : from ≡ 0 → 20 ≤ length asked → (written : HasHeader sum new site)
       → ((has : HasHeader sum left site) × (has.mark ≡ written.mark)) ⊎ ((y : Segment) → IsFoundSegment sum size left site.place y → IsMisplaced size y)
   torn_header first long written = elim (same_or_not (part left site.slot 20) (part new site.slot 20)) [
-    | inl same ↦ inl (record { mark = written.mark; header = subst (λ (l : List ℕ). IsHeader sum l (pos site.place) written.mark) (sym same) written.header; below = written.below }, refl)
+    | inl same ↦ inl (record { mark = written.mark; header = subst (λ (l : List ℕ). IsHeader sum l (pos site.place) written.mark) (sym same) written.header; below = written.below; before = written.before }, refl)
     | inr other ↦ inr (λ y found. elim (found_where y found) [
       | inl stood ↦ file.alone first y (record { slot = found.slot; header = subst (λ (l : List ℕ). IsHeader sum l (pos y.place) y.mark) (sym stood) found.header; not_below = found.not_below })
       | inr write ↦ (

@@ -118,6 +118,7 @@ module _ (sum : List ℕ → ℕ) (size : ℕ) (long : 256 ≤ size) (log : List
         small = r.stands.small;
       };
       known = r.known;
+      short = used_part m.size r.stands.in_slot ∙ r.short;
       page = r.page;
     }
 
@@ -150,7 +151,7 @@ module _ (sum : List ℕ → ℕ) (size : ℕ) (long : 256 ≤ size) (log : List
     header_used h =
         let used : is_used size s (site.slot / size) ≡ true = active_used size s site.slot active in
         let same : part new site.slot 20 ≡ part log site.slot 20 = used_part site.slot used 20 (omega (arith, aligned, long)) in
-        record { mark = h.mark; header = subst (λ (l : List ℕ). IsHeader sum l (pos site.place) h.mark) (sym same) h.header; below = h.below }
+        record { mark = h.mark; header = subst (λ (l : List ℕ). IsHeader sum l (pos site.place) h.mark) (sym same) h.header; below = h.below; before = h.before }
 
     elsewhere_used : (m : Message) → StandsElsewhere sum size log site m → StandsUsed sum size log s m → StandsElsewhere sum size new site m
     elsewhere_used m e u =

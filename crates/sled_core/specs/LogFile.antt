@@ -1,11 +1,11 @@
 -- What stands in a log file of the messages that were written: the segment that is being filled, and records in other slots.
-use Rattle.std.specs.Prelude.{◌≡◌, ◌⊎◌, ◌+◌, ◌/◌, ◌≤◌, ◌<◌, ℕ, ℤ, pos, max, false, List, [], ◌∷◌, ◌++◌, Some, get_or}
+use Rattle.std.specs.Prelude.{◌≡◌, ◌⊎◌, ◌+◌, ◌/◌, ◌≤◌, ◌<◌, ◌-ℤ◌, ℕ, ℤ, pos, max, false, List, [], ◌∷◌, ◌++◌, Some, get_or}
 use Rattle.std.specs.List.{All}
 use Rattle.sled_codec.specs.declared.result.DiskPtr.TheVariants.{Inline}
 use Rattle.sled_codec.specs.declared.serialization.message.MessageHeader.{MessageHeader}
 use Rattle.sled_codec.specs.Kinds.{kind_written}
 use Rattle.sled_codec.specs.Places.{part}
-use Rattle.sled_codec.specs.Record.{IsHeader}
+use Rattle.sled_codec.specs.Record.{IsHeader, short_record}
 use Rattle.sled_codec.specs.History.{Message}
 use Rattle.sled_core.specs.declared.met.Segment.{Segment}
 use Rattle.sled_core.specs.declared.iobuf.Site.{Site}
@@ -17,6 +17,8 @@ pub record MessageStands (sum : List ℕ → ℕ) (size : ℕ) (log : List ℕ) 
   pub header : MessageHeader
   pub stands : StandsAt sum size log lid number header m.bytes m.size
   pub known : kind_written m.kind m.page false ≡ Some header.kind
+  -- as it is written, in the shortest spelling
+  pub short : part log lid m.size ≡ short_record sum header.kind m.page number m.bytes
   pub page : header.pid ≡ m.page
 
 -- The records of messages stand in a segment one behind another, from an offset in it up to another. Where one begins there is room for the longest header.
@@ -33,11 +35,12 @@ pub record StandsElsewhere (sum : List ℕ → ℕ) (size : ℕ) (log : List ℕ
   pub apart : (lid + m.size ≤ site.slot) ⊎ (site.slot + size ≤ lid)
   pub below : m.place + m.size ≤ site.place
 
--- the header of a segment stands at the beginning of its slot, with a mark below its place
+-- the header of a segment stands at the beginning of its slot, with the mark of the place before it
 pub record HasHeader (sum : List ℕ → ℕ) (log : List ℕ) (site : Site) : Type 0 where
   pub mark : ℤ
   pub header : IsHeader sum (part log site.slot 20) (pos site.place) mark
   pub below : (n : ℕ) → mark ≡ pos n → n < site.place
+  pub before : mark ≡ pos site.place -ℤ pos 1
 
 -- What stands in the log file of messages: those of the current segment one behind another, behind its header and up to an offset, with nothing but zeros behind that; the others in other slots. Where the segment isn't begun, no segment is found that a reader could take for it.
 pub record IsLogFile (sum : List ℕ → ℕ) (size : ℕ) (log : List ℕ) (site : Site) (from : ℕ) (messages : List Message) : Type 0 where

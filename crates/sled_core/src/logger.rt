@@ -2,10 +2,10 @@
 //!
 //! A log keeps the bytes of its segment, the reservations in them, the count of pins, and the first
 //! failure of its device, which it answers from then on. `specs/Fits.antt` says which history it holds.
-ghost use Rattle.std.specs.Prelude.{◌≡◌, ◌≢◌, ◌↔◌, ◌+◌, ◌-◌, ◌<◌, ◌≤◌, ◌^◌, ◌∷◌, ◌-ℤ◌, ◌<ℤ◌, pos, [], ℕ, length, drop, true, false, IsTrue, IfOk, IfErr, OnOk, OnErr, IsErrOf, Contains, None, Some, ◌⊎◌, ◌/◌, unsigned_abs};
+ghost use Rattle.std.specs.Prelude.{◌≡◌, ◌≢◌, ◌↔◌, ◌+◌, ◌-◌, ◌<◌, ◌≤◌, ◌^◌, ◌∷◌, ◌-ℤ◌, ◌<ℤ◌, pos, [], ℕ, length, drop, true, false, IsTrue, IfOk, IfErr, OnOk, OnErr, IsErrOf, Contains, None, Some, ◌⊎◌, ◌/◌, unsigned_abs, max, ℤ};
 ghost use Rattle.std.specs.declared.io.Error.{Error as IoError};
 ghost use Rattle.sled_codec.specs.Kinds.{kind_written};
-ghost use Rattle.sled_codec.specs.History.{History, Message, Completed, Step};
+ghost use Rattle.sled_codec.specs.History.{History, Message, Completed, Step, no_history};
 ghost use Rattle.std.specs.IoError.{error_kind};
 ghost use Rattle.std.specs.declared.io.ErrorKind.TheVariants.{OutOfMemory};
 ghost use Rattle.sled_codec.specs.Errors.{IsErrorOf, IsCorruption};
@@ -18,7 +18,7 @@ ghost use Rattle.sled_codec.specs.Pointers.{lid_of};
 ghost use Rattle.sled_core.specs.Buffers.{record_size};
 ghost use Rattle.sled_codec.specs.Snapshots.{shot_of};
 ghost use Rattle.sled_store.specs.Script.{after_all, Performs};
-ghost use Rattle.sled_store.specs.SnapshotFiles.{stable_place};
+ghost use Rattle.sled_store.specs.SnapshotFiles.{stable_place, empty_shot};
 ghost use Rattle.sled_core.specs.Begin.{IsStartable, IsInReach, slots_of, unused, filling, place_at, offset_at};
 ghost use Rattle.sled_core.specs.Ready.{IsReady};
 ghost use Rattle.sled_core.specs.Causes.{StartRefuses, Answers, FaultAnswers, ReserveAnswers, ReadAnswers, failure_in};
@@ -66,8 +66,11 @@ impl<D: Device, C: Checksum> Log<D, C> {
         snapshot: &Snapshot,
     ) -> std::result::Result<Log<D, C>, (Error, RunningConfig<D, C>)>
         ensures history { (H : History) → IsReady C.sum_of config.config.segment_size (state_of (D.trace config.device)) (shot_of snapshot.now) H → IfOk result (λ log. Holds D.trace C.sum_of log H) }
+        ensures fresh { shot_of snapshot.now ≡ empty_shot → (state_of (D.trace config.device)).log ≡ at_rest [] → ((n : ℤ) → (state_of (D.trace config.device)).snapshots.file n ≡ None) → IfOk result (λ log. Holds D.trace C.sum_of log no_history) }
         ensures startable { OnOk result (IsStartable config.config.segment_size (length (state_of (D.trace config.device)).log.bytes) (shot_of snapshot.now)) }
         ensures synced { IfOk result (λ log. synced_end log ≡ place_at config.config.segment_size (stable_place snapshot.now.stable_lsn) snapshot.now.active_segment + offset_at config.config.segment_size (stable_place snapshot.now.stable_lsn) snapshot.now.active_segment) }
+        ensures next { IfOk result (λ log. next_place log ≡ place_at config.config.segment_size (stable_place snapshot.now.stable_lsn) snapshot.now.active_segment + max 20 (offset_at config.config.segment_size (stable_place snapshot.now.stable_lsn) snapshot.now.active_segment)) }
+        ensures config { IfOk result (λ log. ((config_of log).config ≡ config.config) × ((config_of log).checksum ≡ config.checksum)) }
         ensures filled { let size = config.config.segment_size in let s = shot_of snapshot.now in let old = D.trace config.device in
             IfOk result (λ log. D.trace (device_of log) ≡ after_all (filling size (unused size (slots_of size (length (state_of old).log.bytes)) s)) old) }
         ensures ended { IfOk result (λ log. AllEnded log) }
