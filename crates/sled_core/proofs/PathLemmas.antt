@@ -19,15 +19,12 @@ use Rattle.sled_core.specs.declared.met.Ending.TheVariants.{Full, Capped, Broken
 use Rattle.sled_core.specs.Reading.{StandsAt, is_inline}
 use Rattle.sled_core.specs.Scan.{Readable, Says, IsMet, IsPath, IsEnd, EndsThere, IsScan}
 use Rattle.sled_core.specs.LogFile.{MessageStands, StandIn}
+pub use Rattle.sled_core.specs.LogFile.{IsEmpty}
 use Rattle.sled_core.proofs.GivesLemmas.{one_header, one_len, kind_inline, blob_apart}
 
 -- a message as a reader meets it
 abbrev pub met_of : Message → Met
 met_of m = record { place = m.place; len = m.size; what = Gives m.kind m.page m.pointer }
-
--- no record stands at an offset
-abbrev pub IsEmpty : (List ℕ → ℕ) → ℕ → List ℕ → ℕ → ℕ → Type 0
-IsEmpty sum size log lid number = (h : MessageHeader) (body : List ℕ) (len : ℕ) → StandsAt sum size log lid number h body len → ⊥
 
 -- Where a zero is in place of the kind no record stands.
 pub zeros_empty : (sum : List ℕ → ℕ) (size : ℕ) (log : List ℕ) (lid number : ℕ) → get_or log (lid + 4) 0 ≡ 0 → IsEmpty sum size log lid number

@@ -3,8 +3,12 @@ pub mod Booked
 pub mod Buffers
 pub mod Causes
 pub mod Fits
+pub mod Good
 pub mod LogFile
 pub mod Reading
 pub mod Ready
+pub mod Recoverable
+pub mod Running
 pub mod Scan
+pub mod Tail
 pub mod Tickets

@@ -27,6 +27,10 @@ StandIn sum size log site at [] end = end ≡ at
 StandIn sum size log site at (m ∷ ms) end =
     (at + 32 ≤ size) × (m.place ≡ site.place + at) × (m.pointer ≡ Inline (site.slot + at)) × MessageStands sum size log (site.slot + at) (site.place / size) m × StandIn sum size log site (at + m.size) ms end
 
+-- no record stands at an offset
+abbrev pub IsEmpty : (List ℕ → ℕ) → ℕ → List ℕ → ℕ → ℕ → Type 0
+IsEmpty sum size log lid number = (h : MessageHeader) (body : List ℕ) (len : ℕ) → StandsAt sum size log lid number h body len → ⊥
+
 -- The record of a message of an earlier segment stands at its pointer, in a slot that isn't the one of this segment.
 pub record StandsElsewhere (sum : List ℕ → ℕ) (size : ℕ) (log : List ℕ) (site : Site) (m : Message) : Type 0 where
   pub lid : ℕ

@@ -14,102 +14,10 @@ use Rattle.sled_core.specs.declared.met.Ending.{Ending}
 use Rattle.sled_core.specs.declared.met.Ending.TheVariants.{Full, Capped, Broken}
 use Rattle.sled_core.specs.declared.met.Segment.{Segment}
 use Rattle.sled_core.specs.declared.met.Scan.{Scan}
-use Rattle.sled_core.specs.Scan.{Readable, IsFoundSegment, IsMisplaced, IsScan, IsDamagedIn, IsPath, IsDamagedAt}
-
--- The segments that it finds.
-
--- Segments are found that can't be of one log.
-abbrev pub IsUnordered : (List ℕ → ℕ) → ℕ → List ℕ → ℕ → Type 0
-IsUnordered sum size log least =
-    ((s : Segment) × IsFoundSegment sum size log least s × IsMisplaced size s)
-    ⊎ ((s : Segment) × (t : Segment) × IsFoundSegment sum size log least s × IsFoundSegment sum size log least t × (s.slot ≢ t.slot) × (s.place ≡ t.place))
-
--- by place, the lowest first
-abbrev pub is_ascending : List Segment → Bool
-is_ascending [] = true
-is_ascending (s ∷ []) = true
-is_ascending (s ∷ t ∷ ss) = nat_lt s.place t.place && is_ascending (t ∷ ss)
-
--- the segments that are found, by place
-pub record IsOrdering (sum : List ℕ → ℕ) (size : ℕ) (log : List ℕ) (least : ℕ) (ordering : List Segment) : Type 0 where
-  pub ascending : is_ascending ordering ≡ true
-  pub found : (s : Segment) → Contains ordering s ↔ IsFoundSegment sum size log least s
-  pub placed : (s : Segment) → Contains ordering s → IsMisplaced size s → ⊥
-
--- The tail.
-
--- a segment and all that is met in it, where the reading ends and why
-pub record Scanned : Type 0 where
-  pub segment : Segment
-  pub met : List Met
-  pub stop : ℕ
-  pub why : Ending
-
--- these are found in a segment
-abbrev pub IsScanned : (List ℕ → ℕ) → ℕ → Readable → Scanned → Type 0
-IsScanned sum size r s = IsScan sum size r s.segment.slot s.segment.place s.met s.stop s.why
-
--- the place of a mark; one that is negative says nothing
-abbrev pub place_of_mark : ℤ → ℕ
-place_of_mark (pos n) = n
-place_of_mark (negsuc n) = 0
-
--- the greatest of a place and all marks
-abbrev pub greatest_mark : ℕ → List Segment → ℕ
-greatest_mark least [] = least
-greatest_mark least (s ∷ ss) = max (place_of_mark s.mark) (greatest_mark least ss)
-
--- where the tail begins: the greatest mark, put down to the beginning of its segment
-abbrev pub tail_begins : ℕ → ℕ → List Segment → ℕ
-tail_begins size least ordering = greatest_mark least ordering / size * size
-
--- behind a broken segment nothing is read, and behind another one this
-abbrev pub GoesOn : Ending → List Scanned → Type 0 → Type 0
-GoesOn Broken rest on = rest ≡ []
-GoesOn Full rest on = on
-GoesOn Capped rest on = on
-
--- The segments of the tail, one behind another without a gap. One that is broken ends it.
-abbrev pub IsTail : (List ℕ → ℕ) → ℕ → Readable → List Segment → ℕ → List Scanned → Type 0
-IsTail sum size r ordering place [] = (s : Segment) → Contains ordering s → s.place ≡ place → ⊥
-IsTail sum size r ordering place (s ∷ ss) =
-    Contains ordering s.segment × (s.segment.place ≡ place) × IsScanned sum size r s × GoesOn s.why ss (IsTail sum size r ordering (place + size) ss)
-
--- where the reading of the tail ended, where a segment was read
-abbrev pub tail_end : List Scanned → Option ℕ
-tail_end [] = None
-tail_end (s ∷ []) = Some (s.segment.place + s.stop)
-tail_end (s ∷ t ∷ ss) = tail_end (t ∷ ss)
+use Rattle.sled_core.specs.Scan.{Readable, IsDamagedIn, IsPath, IsDamagedAt}
+pub use Rattle.sled_core.specs.Tail.{IsUnordered, is_ascending, IsOrdering, Scanned, IsScanned, place_of_mark, greatest_mark, tail_begins, GoesOn, IsTail, tail_end, begun_below, AreScanned, opens, before_open, open_at, stops_in, is_filled, cut_of, IsTailPart, least_place}
 
 -- The pass over the messages.
-
--- the segments that begin below a place
-abbrev pub begun_below : ℕ → List Segment → List Segment
-begun_below end [] = []
-begun_below end (s ∷ ss) = if nat_lt s.place end then s ∷ begun_below end ss else begun_below end ss
-
--- these segments, each with what is met in it
-abbrev pub AreScanned : (List ℕ → ℕ) → ℕ → Readable → List Segment → List Scanned → Type 0
-AreScanned sum size r [] [] = Unit {0}
-AreScanned sum size r [] (x ∷ xs) = ⊥
-AreScanned sum size r (s ∷ ss) [] = ⊥
-AreScanned sum size r (s ∷ ss) (x ∷ xs) = (x.segment ≡ s) × IsScanned sum size r x × AreScanned sum size r ss xs
-
--- the beginning of a batch that does not end below this place
-abbrev pub opens : ℕ → What → Bool
-opens end (Gives kind page pointer) = false
-opens end Passed = false
-opens end (Begins peg) = int_le (pos end) peg
-
--- what is met before the first such beginning
-abbrev pub before_open : ℕ → List Met → List Met
-before_open end [] = []
-before_open end (m ∷ ms) = if opens end m.what then [] else m ∷ before_open end ms
-
--- where that begins
-abbrev pub open_at : ℕ → List Met → Option ℕ
-open_at end [] = None
-open_at end (m ∷ ms) = if opens end m.what then Some m.place else open_at end ms
 
 -- A message that is applied: what it does, to which page, and its entry.
 pub record Applied : Type 0 where
@@ -181,25 +89,11 @@ are_whole (p ∷ ps) = is_whole_page p && are_whole ps
 
 -- The cut.
 
--- The segment in which the pass stopped, and the place: at the first batch that is open, else where the reading of the last segment ended.
-abbrev pub stops_in : ℕ → Scanned → Option ℕ → List Scanned → Segment × ℕ
-stops_in end s (Some place) rest = (s.segment, place)
-stops_in end s None [] = (s.segment, s.segment.place + s.stop)
-stops_in end s None (t ∷ ts) = stops_in end t (open_at end t.met) ts
-
 -- all that the pass meets up to there
 abbrev pub passed_in : ℕ → Scanned → Option ℕ → List Scanned → List Met
 passed_in end s (Some place) rest = before_open end s.met
 passed_in end s None [] = s.met
 passed_in end s None (t ∷ ts) = s.met ++ passed_in end t (open_at end t.met) ts
-
--- a segment in which fewer than 32 bytes are left behind a place
-abbrev pub is_filled : ℕ → Segment × ℕ → Bool
-is_filled size at = nat_lt (at.0.place + size) (at.1 + 32)
-
--- the cut, and the slot that is active: where the pass stopped, or the end of a segment that has no room left
-abbrev pub cut_of : ℕ → Segment × ℕ → ℕ × Option ℕ
-cut_of size at = if is_filled size at then (at.0.place + size, None) else (at.1, Some at.0.slot)
 
 -- What recovery concludes: the table, and what is left to be written.
 pub record Conclusion : Type 0 where
@@ -245,12 +139,6 @@ outcome_of size first end (s ∷ ss) = concluded size first (given (stable_place
 
 -- The whole.
 
--- Segments of the tail, one behind another, each of which leads to the next.
-abbrev pub IsTailPart : (List ℕ → ℕ) → ℕ → Readable → List Segment → ℕ → List Scanned → ℕ → Type 0
-IsTailPart sum size r ordering place [] next = next ≡ place
-IsTailPart sum size r ordering place (s ∷ ss) next =
-    Contains ordering s.segment × (s.segment.place ≡ place) × IsScanned sum size r s × (s.why ≢ Broken) × IsTailPart sum size r ordering (place + size) ss next
-
 -- A damaged record is met where the tail is read.
 pub record IsDamagedTail (sum : List ℕ → ℕ) (size : ℕ) (r : Readable) (ordering : List Segment) (place : ℕ) : Type 0 where
   pub before : List Scanned
@@ -294,10 +182,6 @@ abbrev pub Replays : (List ℕ → ℕ) → ℕ → Readable → Shot → List S
 Replays sum size r first ordering tail o =
     ((o ≡ Damaged) × IsDamagedTail sum size r ordering tail)
     ⊎ ((scanned : List Scanned) × IsTail sum size r ordering tail scanned × Passes sum size r first ordering (tail_end scanned) o)
-
--- the segment that holds the place with which a snapshot ends
-abbrev pub least_place : ℕ → Shot → ℕ
-least_place size s = stable_place s.stable / size * size
 
 -- What recovery makes of a log file from a snapshot on.
 unfoldable pub ContinuesFrom : (List ℕ → ℕ) → ℕ → Readable → Shot → Outcome → Type 0
