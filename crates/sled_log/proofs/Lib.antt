@@ -2,6 +2,7 @@ pub mod Ascending
 pub mod BeginLemmas
 pub mod CallLemmas
 mod FindLemmas
+pub mod FirstConclusion
 pub mod FoldLemmas
 pub mod KeptRecovers
 pub mod LineLemmas

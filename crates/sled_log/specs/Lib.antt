@@ -1,3 +1,4 @@
+pub mod Orderly
 pub mod Plain
 pub mod Recovery
 pub mod WritesBack
