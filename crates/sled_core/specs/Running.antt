@@ -60,7 +60,7 @@ Fits trace sum log H A f U = FitsIn sum log.config.config.segment_size log.site 
 pub record IsReadyFor (sum : List ℕ → ℕ) (size : ℕ) (device : State) (s : Shot) (H : History) (A f : ℕ) : Type 0 where
   pub ready : IsReady sum size device s H
   -- the log goes on in the first segment, or begins it
-  pub one_segment : (s.active ≡ Some 0) ⊎ ((s.active ≡ None) × (stable_place s.stable ≡ 0) × NoneBegun sum size device.log.bytes)
+  pub one_segment : ((s.active ≡ Some 0) × (stable_place s.stable < size)) ⊎ ((s.active ≡ None) × (stable_place s.stable ≡ 0) × NoneBegun sum size device.log.bytes)
   pub short : length device.log.bytes ≤ size
   pub blobs : NoBlobs device.blobs
   pub names : NamesFit sum size device.snapshots H f (stable_place s.stable)
