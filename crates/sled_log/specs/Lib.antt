@@ -1,4 +1,6 @@
 pub mod Orderly
 pub mod Plain
 pub mod Recovery
+pub mod RunPhases
+pub mod Runs
 pub mod WritesBack

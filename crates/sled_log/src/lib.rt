@@ -15,6 +15,7 @@ pub mod logger;
 pub mod plain;
 pub mod reservation;
 pub mod restart;
+pub mod run;
 pub mod snapshot;
 mod snapshot_file;
 mod table;

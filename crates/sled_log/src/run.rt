@@ -1,0 +1,293 @@
+//! Runs of commands over a log of one segment, with crashes: what a log's users rely on, said of whole runs
+//! (`specs/Runs.antt`).
+//!
+//! A run begins on an empty device with no log open. One reservation is open at a time, and all messages are
+//! Replaces. A command that is out of its turn is refused.
+
+use crate::snapshot::{Snapshot, read_snapshot_or_default};
+use sled_codec::result::{DiskPtr, Error, Lsn, PageId};
+use sled_codec::serialization::{Checksum, LogKind};
+use sled_core::logger::Log;
+use sled_core::reservation::{Guard, Reservation};
+use sled_store::snapshot::stable_place;
+use sled_store::{Choice, CrashDevice, RunningConfig};
+use std::alloc::AllocError;
+
+/// What a run is told to do.
+#[derive(Drop)]
+pub enum Command {
+    /// Recovers what the device has, and opens a log on it, where none is open.
+    Open,
+    /// Keeps a place for a Replace of this page with these bytes, where no other reservation is open. Pages are
+    /// begun in order: the page is one that has a Replace already, or the next one.
+    Replace(PageId, Vec<u8>),
+    /// Completes the message of the reservation that is open.
+    Complete,
+    /// Writes what was completed and settles it, where no reservation is open.
+    Flush,
+    /// Closes the log that is open. What was not flushed is lost.
+    Halt,
+    /// Has the device stop within a call, after so many more calls that change or sync; where no log is open.
+    Stop(u64),
+    /// Closes the log, if one is open, and has the device crash and leave this, where it may, and else what was
+    /// settled.
+    Crash(Choice),
+}
+
+/// What came of a command.
+#[derive(Drop)]
+pub enum Reply {
+    /// This was recovered, and a log is open on it.
+    Opened(Snapshot),
+    /// This was recovered, and no log is open: the segment is full, or the log could not be started for this
+    /// error.
+    Recovered(Snapshot, Option<Error>),
+    /// A place is kept for the message, with this pointer.
+    Reserved(Lsn, DiskPtr),
+    /// The message of this place was completed.
+    Done(Lsn, DiskPtr),
+    /// The stable end grew by so many bytes.
+    Flushed(usize),
+    /// The log is closed.
+    Halted,
+    /// The device will stop.
+    Armed,
+    /// The device crashed. It left what was chosen (`true`), or what was settled.
+    Crashed(bool),
+    /// The command failed with this error.
+    Failed(Error),
+    /// The command was out of its turn, and nothing was done.
+    Refused,
+}
+
+/// What a run is at: the device while no log is open, a log that is open, or one with an open reservation.
+enum Phase<D, C> {
+    Closed(RunningConfig<D, C>),
+    Open(Opened<D, C>),
+    Waiting(Opened<D, C>, Ticket),
+}
+
+/// A log that is open. A pin is out, since no message is marked yet.
+struct Opened<D, C> {
+    log: Log<D, C>,
+    guard: Guard,
+    /// How many pages have a Replace.
+    begun: u64,
+}
+
+/// The reservation that is open.
+struct Ticket {
+    page: PageId,
+    reservation: Reservation,
+}
+
+/// Runs these commands in order on a device that is empty, and answers what came of each. It ends with no log
+/// open, and gives back what it ran on; without replies where memory for them was refused, and then nothing was
+/// done.
+pub fn run<D: CrashDevice, C: Checksum>(
+    config: RunningConfig<D, C>,
+    commands: Vec<Command>,
+) -> (RunningConfig<D, C>, Result<Vec<Reply>, AllocError>) {
+    let mut replies = match Vec::with_capacity(config.alloc(), commands.len()) {
+        Ok(replies) => replies,
+        Err(e) => return (config, Err(e)),
+    };
+    let mut rest = commands;
+    rest.reverse();
+    let mut phase = Phase::Closed(config);
+    while let Some(command) = rest.pop() {
+        let (next, reply) = step(phase, command);
+        phase = next;
+        replies.push_reserved(reply);
+    }
+    (close(phase), Ok(replies))
+}
+
+/// Carries out a command.
+fn step<D: CrashDevice, C: Checksum>(phase: Phase<D, C>, command: Command) -> (Phase<D, C>, Reply) {
+    match phase {
+        Phase::Closed(config) => step_closed(config, command),
+        Phase::Open(opened) => step_open(opened, command),
+        Phase::Waiting(opened, ticket) => step_waiting(opened, ticket, command),
+    }
+}
+
+/// Carries out a command while no log is open.
+fn step_closed<D: CrashDevice, C: Checksum>(
+    config: RunningConfig<D, C>,
+    command: Command,
+) -> (Phase<D, C>, Reply) {
+    match command {
+        Command::Open => open(config),
+        Command::Stop(n) => stop(config, n),
+        Command::Crash(choice) => crash(config, choice),
+        Command::Replace(_, _) | Command::Complete | Command::Flush | Command::Halt => {
+            (Phase::Closed(config), Reply::Refused)
+        }
+    }
+}
+
+/// Carries out a command while a log is open and no reservation is.
+fn step_open<D: CrashDevice, C: Checksum>(
+    opened: Opened<D, C>,
+    command: Command,
+) -> (Phase<D, C>, Reply) {
+    match command {
+        Command::Replace(page, item) => replace(opened, page, &item),
+        Command::Flush => flush(opened),
+        Command::Halt => (Phase::Closed(halt(opened)), Reply::Halted),
+        Command::Crash(choice) => crash(halt(opened), choice),
+        Command::Open | Command::Complete | Command::Stop(_) => {
+            (Phase::Open(opened), Reply::Refused)
+        }
+    }
+}
+
+/// Carries out a command while a reservation is open.
+fn step_waiting<D: CrashDevice, C: Checksum>(
+    opened: Opened<D, C>,
+    ticket: Ticket,
+    command: Command,
+) -> (Phase<D, C>, Reply) {
+    match command {
+        Command::Complete => complete(opened, ticket),
+        Command::Halt => (Phase::Closed(give_up(opened, ticket)), Reply::Halted),
+        Command::Crash(choice) => crash(give_up(opened, ticket), choice),
+        Command::Open | Command::Replace(_, _) | Command::Flush | Command::Stop(_) => {
+            (Phase::Waiting(opened, ticket), Reply::Refused)
+        }
+    }
+}
+
+/// Recovers what the device has, and opens a log on it.
+fn open<D: CrashDevice, C: Checksum>(config: RunningConfig<D, C>) -> (Phase<D, C>, Reply) {
+    let mut config = config;
+    match read_snapshot_or_default(&mut config) {
+        Ok(snapshot) => start(config, snapshot),
+        Err(e) => (Phase::Closed(config), Reply::Failed(e)),
+    }
+}
+
+/// Opens a log on what was recovered, where that doesn't fill the segment.
+fn start<D: CrashDevice, C: Checksum>(
+    config: RunningConfig<D, C>,
+    snapshot: Snapshot,
+) -> (Phase<D, C>, Reply) {
+    if stable_place(&snapshot) >= config.config.segment_size {
+        return (Phase::Closed(config), Reply::Recovered(snapshot, None));
+    }
+    match Log::start(config, &snapshot) {
+        Ok(log) => (opened_on(log, &snapshot), Reply::Opened(snapshot)),
+        Err((e, config)) => (Phase::Closed(config), Reply::Recovered(snapshot, Some(e))),
+    }
+}
+
+/// A log that was started on a snapshot, with a pin out.
+fn opened_on<D: CrashDevice, C: Checksum>(log: Log<D, C>, snapshot: &Snapshot) -> Phase<D, C> {
+    let mut log = log;
+    let guard = log.pin();
+    Phase::Open(Opened {
+        log,
+        guard,
+        begun: snapshot.pt.len() as u64,
+    })
+}
+
+/// Has the device stop.
+fn stop<D: CrashDevice, C: Checksum>(config: RunningConfig<D, C>, n: u64) -> (Phase<D, C>, Reply) {
+    let mut config = config;
+    config.device.stop_after(n);
+    (Phase::Closed(config), Reply::Armed)
+}
+
+/// Has the device crash.
+fn crash<D: CrashDevice, C: Checksum>(
+    config: RunningConfig<D, C>,
+    choice: Choice,
+) -> (Phase<D, C>, Reply) {
+    let mut config = config;
+    let taken = config.device.crash(choice);
+    (Phase::Closed(config), Reply::Crashed(taken))
+}
+
+/// Keeps a place for a Replace of a page that is begun, or of the next one, where the message fits.
+fn replace<D: CrashDevice, C: Checksum>(
+    opened: Opened<D, C>,
+    page: PageId,
+    item: &Vec<u8>,
+) -> (Phase<D, C>, Reply) {
+    let mut opened = opened;
+    if page > opened.begun || page == u64::MAX || !opened.log.has_room(page, item) {
+        return (Phase::Open(opened), Reply::Refused);
+    }
+    match opened.log.reserve(LogKind::Replace, page, item, &opened.guard) {
+        Ok(reservation) => {
+            let reply = Reply::Reserved(reservation.lsn(), reservation.pointer());
+            (Phase::Waiting(opened, Ticket { page, reservation }), reply)
+        }
+        Err(e) => (Phase::Open(opened), Reply::Failed(e)),
+    }
+}
+
+/// Completes the message of the reservation that is open.
+fn complete<D: CrashDevice, C: Checksum>(
+    opened: Opened<D, C>,
+    ticket: Ticket,
+) -> (Phase<D, C>, Reply) {
+    let mut opened = opened;
+    let Ticket { page, reservation } = ticket;
+    match opened.log.complete(reservation) {
+        Ok((place, pointer)) => {
+            if page == opened.begun {
+                opened.begun += 1;
+            }
+            (Phase::Open(opened), Reply::Done(place, pointer))
+        }
+        Err(e) => (Phase::Open(opened), Reply::Failed(e)),
+    }
+}
+
+/// Writes what was completed, and settles it.
+fn flush<D: CrashDevice, C: Checksum>(opened: Opened<D, C>) -> (Phase<D, C>, Reply) {
+    let mut opened = opened;
+    if !opened.log.all_ended() {
+        return (Phase::Open(opened), Reply::Refused);
+    }
+    match opened.log.flush() {
+        Ok(grown) => (Phase::Open(opened), Reply::Flushed(grown)),
+        Err(e) => (Phase::Open(opened), Reply::Failed(e)),
+    }
+}
+
+/// Gives a log up, with its pin.
+fn halt<D: CrashDevice, C: Checksum>(opened: Opened<D, C>) -> RunningConfig<D, C> {
+    let Opened {
+        log,
+        guard,
+        begun: _,
+    } = opened;
+    guard.abandon();
+    log.halt()
+}
+
+/// Gives a log up, with the reservation that is open.
+fn give_up<D: CrashDevice, C: Checksum>(
+    opened: Opened<D, C>,
+    ticket: Ticket,
+) -> RunningConfig<D, C> {
+    let Ticket {
+        page: _,
+        reservation,
+    } = ticket;
+    reservation.abandon();
+    halt(opened)
+}
+
+/// What a run ran on.
+fn close<D: CrashDevice, C: Checksum>(phase: Phase<D, C>) -> RunningConfig<D, C> {
+    match phase {
+        Phase::Closed(config) => config,
+        Phase::Open(opened) => halt(opened),
+        Phase::Waiting(opened, ticket) => give_up(opened, ticket),
+    }
+}
