@@ -15,6 +15,7 @@ pub mod OpenLemmas
 pub mod Parts
 pub mod PathLemmas
 pub mod Ranges
+pub mod ReachLemmas
 pub mod ReadingLemmas
 pub mod ReadyLemmas
 pub mod ReserveLemmas

@@ -16,7 +16,7 @@ use Rattle.sled_core.specs.declared.met.What.{What}
 use Rattle.sled_core.specs.declared.met.What.TheVariants.{Gives, Passed, Begins}
 use Rattle.sled_core.specs.declared.met.Ending.{Ending}
 use Rattle.sled_core.specs.declared.met.Ending.TheVariants.{Full, Capped, Broken}
-use Rattle.sled_core.specs.Reading.{StandsAt, is_inline}
+use Rattle.sled_core.specs.Reading.{is_inline}
 use Rattle.sled_core.specs.Scan.{Readable, Says, IsMet, IsPath, IsEnd, EndsThere, IsScan}
 use Rattle.sled_core.specs.LogFile.{MessageStands, StandIn}
 pub use Rattle.sled_core.specs.LogFile.{IsEmpty}
