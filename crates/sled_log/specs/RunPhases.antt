@@ -1,19 +1,23 @@
 -- What stands in each phase of a run, for where the run stands.
-use Rattle.std.specs.Prelude.{◌≡◌, ◌^◌, ◌-◌, ◌<◌, ℕ, List, Option, None, Some, Contains}
+use Rattle.std.specs.Prelude.{◌≡◌, ◌^◌, ◌-◌, ◌<◌, ℕ, List, length, Option, None, Some, Contains}
 use Rattle.std.specs.List.{All}
 use Rattle.sled_codec.specs.declared.serialization.message.LogKind.TheVariants.{Replace}
 use Rattle.sled_codec.specs.History.{Message, History}
 use Rattle.sled_codec.specs.WellFormed.{LieApart}
+use Rattle.sled_codec.specs.Snapshots.{Shot, shot_of}
 use Rattle.sled_store.specs.Device.{Trace, state_of}
+use Rattle.sled_store.specs.SnapshotFiles.{stable_place}
+use Rattle.sled_store.specs.declared.config.RunningConfig.{RunningConfig}
 use Rattle.sled_core.specs.declared.logger.Log.{Log}
 use Rattle.sled_core.specs.Fits.{Awaits, IsOpen, pins_of, segment_size_of}
 use Rattle.sled_core.specs.Recoverable.{LeavesRecoverable}
-use Rattle.sled_core.specs.Running.{Fits}
+use Rattle.sled_core.specs.Running.{Fits, Ready}
 use Rattle.sled_log.specs.declared.run.Phase.{Phase}
 use Rattle.sled_log.specs.declared.run.Phase.TheVariants.{Closed, Open, Waiting}
 use Rattle.sled_log.specs.declared.run.Opened.{Opened}
 use Rattle.sled_log.specs.declared.run.Command.{Command}
 use Rattle.sled_log.specs.declared.run.Reply.{Reply}
+use Rattle.sled_log.specs.declared.run.Reply.TheVariants as reply
 use Rattle.sled_log.specs.Runs.{Standing, IsLater, OwnThroughout, IsStep}
 
 -- a message of a page lies below a place
@@ -92,3 +96,15 @@ pub record Continues {D C : Type 0} (trace : D → Trace) (phase next : Phase D 
   pub later : IsLater (trace_of trace phase) (trace_of trace next)
   pub size : size_of next ≡ size_of phase
   pub can_go_on : CanGoOn next
+
+-- A recovery has left this: a table that is good, whose cut is the floor now, and where it lies in the segment, a log can be started on it.
+pub record IsRecoveredAt {D C : Type 0} (trace : D → Trace) (sum : List ℕ → ℕ) (config : RunningConfig D C) (s : Shot) (a : Standing) : Type 0 where
+  pub closed : IsClosedAt sum config.config.segment_size (trace config.device) a
+  pub ready : stable_place s.stable < config.config.segment_size → Ready sum config.config.segment_size (state_of (trace config.device)) s a.history a.acknowledged a.floor
+  pub begun : (page : ℕ) → page < length s.pages → HasMessageOf a.history.messages page
+
+-- a reply that shows this recovered table
+abbrev pub IsRecovery : Shot → Reply → Type 0
+IsRecovery s (reply.Opened t) = shot_of t ≡ s
+IsRecovery s (reply.Recovered t e) = shot_of t ≡ s
+IsRecovery s _ = ⊥

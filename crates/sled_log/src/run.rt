@@ -3,6 +3,15 @@
 //!
 //! A run begins on an empty device with no log open. One reservation is open at a time, and all messages are
 //! Replaces. A command that is out of its turn is refused.
+ghost use Rattle.std.specs.Prelude.{◌≡◌, ◌^◌, ◌-◌, ◌<◌, ℕ, length, IfOk, None, []};
+ghost use Rattle.sled_codec.specs.History.{History};
+ghost use Rattle.sled_codec.specs.Snapshots.{shot_of};
+ghost use Rattle.sled_store.specs.Device.{state_of, fresh};
+ghost use Rattle.sled_store.specs.SnapshotFiles.{stable_place};
+ghost use Rattle.sled_core.specs.Fits.{IsOpen, pins_of, fault_of, config_of, device_of, segment_size_of};
+ghost use Rattle.sled_core.specs.Running.{Fits, Ready};
+ghost use Rattle.sled_log.specs.Runs.{OwnThroughout, Standing, nothing_yet, ended, HasRecovered, IsStep, Runs};
+ghost use Rattle.sled_log.specs.RunPhases.{IsOfReplaces, HasMessageOf, IsRecoveredAt, IsRecovery, IsAt, trace_of, size_of, CanGoOn, CarriesOut, Continues};
 
 use crate::snapshot::{Snapshot, read_snapshot_or_default};
 use sled_codec::result::{DiskPtr, Error, Lsn, PageId};
@@ -87,7 +96,10 @@ struct Ticket {
 pub fn run<D: CrashDevice, C: Checksum>(
     config: RunningConfig<D, C>,
     commands: Vec<Command>,
-) -> (RunningConfig<D, C>, Result<Vec<Reply>, AllocError>) {
+) -> (RunningConfig<D, C>, Result<Vec<Reply>, AllocError>)
+    ensures headline { state_of (D.trace config.device) ≡ fresh → IfOk result.1 (λ replies. OwnThroughout C.sum_of config.config.segment_size (D.trace config.device) (D.trace result.0.device)
+        → (end : Standing) × Runs C.sum_of config.config.segment_size (D.trace config.device) nothing_yet commands.items replies.items (D.trace result.0.device) end) }
+{
     let mut replies = match Vec::with_capacity(config.alloc(), commands.len()) {
         Ok(replies) => replies,
         Err(e) => return (config, Err(e)),
@@ -104,7 +116,11 @@ pub fn run<D: CrashDevice, C: Checksum>(
 }
 
 /// Carries out a command.
-fn step<D: CrashDevice, C: Checksum>(phase: Phase<D, C>, command: Command) -> (Phase<D, C>, Reply) {
+fn step<D: CrashDevice, C: Checksum>(phase: Phase<D, C>, command: Command) -> (Phase<D, C>, Reply)
+    requires can_go_on { CanGoOn phase }
+    ensures step { CarriesOut D.trace C.sum_of (phase) (command) result }
+    ensures on { Continues D.trace (phase) result.0 }
+{
     match phase {
         Phase::Closed(config) => step_closed(config, command),
         Phase::Open(opened) => step_open(opened, command),
@@ -116,7 +132,10 @@ fn step<D: CrashDevice, C: Checksum>(phase: Phase<D, C>, command: Command) -> (P
 fn step_closed<D: CrashDevice, C: Checksum>(
     config: RunningConfig<D, C>,
     command: Command,
-) -> (Phase<D, C>, Reply) {
+) -> (Phase<D, C>, Reply)
+    ensures step { CarriesOut D.trace C.sum_of (Phase.Closed config) (command) result }
+    ensures on { Continues D.trace (Phase.Closed config) result.0 }
+{
     match command {
         Command::Open => open(config),
         Command::Stop(n) => stop(config, n),
@@ -131,7 +150,10 @@ fn step_closed<D: CrashDevice, C: Checksum>(
 fn step_open<D: CrashDevice, C: Checksum>(
     opened: Opened<D, C>,
     command: Command,
-) -> (Phase<D, C>, Reply) {
+) -> (Phase<D, C>, Reply)
+    ensures step { CarriesOut D.trace C.sum_of (Phase.Open opened) (command) result }
+    ensures on { Continues D.trace (Phase.Open opened) result.0 }
+{
     match command {
         Command::Replace(page, item) => replace(opened, page, &item),
         Command::Flush => flush(opened),
@@ -148,7 +170,12 @@ fn step_waiting<D: CrashDevice, C: Checksum>(
     opened: Opened<D, C>,
     ticket: Ticket,
     command: Command,
-) -> (Phase<D, C>, Reply) {
+) -> (Phase<D, C>, Reply)
+    requires open { IsOpen opened.log ticket.reservation }
+    requires page { ticket.page < 2 ^ 64 - 1 }
+    ensures step { CarriesOut D.trace C.sum_of (Phase.Waiting opened ticket) (command) result }
+    ensures on { Continues D.trace (Phase.Waiting opened ticket) result.0 }
+{
     match command {
         Command::Complete => complete(opened, ticket),
         Command::Halt => (Phase::Closed(give_up(opened, ticket)), Reply::Halted),
@@ -160,7 +187,10 @@ fn step_waiting<D: CrashDevice, C: Checksum>(
 }
 
 /// Recovers what the device has, and opens a log on it.
-fn open<D: CrashDevice, C: Checksum>(config: RunningConfig<D, C>) -> (Phase<D, C>, Reply) {
+fn open<D: CrashDevice, C: Checksum>(config: RunningConfig<D, C>) -> (Phase<D, C>, Reply)
+    ensures step { CarriesOut D.trace C.sum_of (Phase.Closed config) (Command.Open) result }
+    ensures on { Continues D.trace (Phase.Closed config) result.0 }
+{
     let mut config = config;
     match read_snapshot_or_default(&mut config) {
         Ok(snapshot) => start(config, snapshot),
@@ -172,7 +202,11 @@ fn open<D: CrashDevice, C: Checksum>(config: RunningConfig<D, C>) -> (Phase<D, C
 fn start<D: CrashDevice, C: Checksum>(
     config: RunningConfig<D, C>,
     snapshot: Snapshot,
-) -> (Phase<D, C>, Reply) {
+) -> (Phase<D, C>, Reply)
+    ensures step { (a : Standing) → IsRecoveredAt D.trace C.sum_of config (shot_of snapshot) a → OwnThroughout C.sum_of config.config.segment_size (D.trace config.device) (trace_of D.trace result.0) → IsAt D.trace C.sum_of config.config.segment_size result.0 a }
+    ensures reply { IsRecovery (shot_of snapshot) result.1 }
+    ensures on { Continues D.trace (Phase.Closed config) result.0 }
+{
     if stable_place(&snapshot) >= config.config.segment_size {
         return (Phase::Closed(config), Reply::Recovered(snapshot, None));
     }
@@ -183,7 +217,14 @@ fn start<D: CrashDevice, C: Checksum>(
 }
 
 /// A log that was started on a snapshot, with a pin out.
-fn opened_on<D: CrashDevice, C: Checksum>(log: Log<D, C>, snapshot: &Snapshot) -> Phase<D, C> {
+fn opened_on<D: CrashDevice, C: Checksum>(log: Log<D, C>, snapshot: &Snapshot) -> Phase<D, C>
+    requires pins { pins_of log ≡ 0 }
+    ensures fits { (a : Standing) → IsOfReplaces a.history → ((page : ℕ) → page < length snapshot.now.pt.items → HasMessageOf a.history.messages page) → a.reserved ≡ None
+        → Fits D.trace C.sum_of log a.history a.acknowledged a.floor [] → IsAt D.trace C.sum_of (segment_size_of log) result a }
+    ensures trace { trace_of D.trace result ≡ D.trace (device_of log) }
+    ensures size { size_of result ≡ segment_size_of log }
+    ensures can_go_on { CanGoOn result }
+{
     let mut log = log;
     let guard = log.pin();
     Phase::Open(Opened {
@@ -194,7 +235,10 @@ fn opened_on<D: CrashDevice, C: Checksum>(log: Log<D, C>, snapshot: &Snapshot) -
 }
 
 /// Has the device stop.
-fn stop<D: CrashDevice, C: Checksum>(config: RunningConfig<D, C>, n: u64) -> (Phase<D, C>, Reply) {
+fn stop<D: CrashDevice, C: Checksum>(config: RunningConfig<D, C>, n: u64) -> (Phase<D, C>, Reply)
+    ensures step { CarriesOut D.trace C.sum_of (Phase.Closed config) (Command.Stop n) result }
+    ensures on { Continues D.trace (Phase.Closed config) result.0 }
+{
     let mut config = config;
     config.device.stop_after(n);
     (Phase::Closed(config), Reply::Armed)
@@ -204,7 +248,10 @@ fn stop<D: CrashDevice, C: Checksum>(config: RunningConfig<D, C>, n: u64) -> (Ph
 fn crash<D: CrashDevice, C: Checksum>(
     config: RunningConfig<D, C>,
     choice: Choice,
-) -> (Phase<D, C>, Reply) {
+) -> (Phase<D, C>, Reply)
+    ensures step { CarriesOut D.trace C.sum_of (Phase.Closed config) (Command.Crash choice) result }
+    ensures on { Continues D.trace (Phase.Closed config) result.0 }
+{
     let mut config = config;
     let taken = config.device.crash(choice);
     (Phase::Closed(config), Reply::Crashed(taken))
@@ -215,7 +262,10 @@ fn replace<D: CrashDevice, C: Checksum>(
     opened: Opened<D, C>,
     page: PageId,
     item: &Vec<u8>,
-) -> (Phase<D, C>, Reply) {
+) -> (Phase<D, C>, Reply)
+    ensures step { CarriesOut D.trace C.sum_of (Phase.Open opened) (Command.Replace page item.now) result }
+    ensures on { Continues D.trace (Phase.Open opened) result.0 }
+{
     let mut opened = opened;
     if page > opened.begun || page == u64::MAX || !opened.log.has_room(page, item) {
         return (Phase::Open(opened), Reply::Refused);
@@ -233,7 +283,12 @@ fn replace<D: CrashDevice, C: Checksum>(
 fn complete<D: CrashDevice, C: Checksum>(
     opened: Opened<D, C>,
     ticket: Ticket,
-) -> (Phase<D, C>, Reply) {
+) -> (Phase<D, C>, Reply)
+    requires open { IsOpen opened.log ticket.reservation }
+    requires page { ticket.page < 2 ^ 64 - 1 }
+    ensures step { CarriesOut D.trace C.sum_of (Phase.Waiting opened ticket) (Command.Complete) result }
+    ensures on { Continues D.trace (Phase.Waiting opened ticket) result.0 }
+{
     let mut opened = opened;
     let Ticket { page, reservation } = ticket;
     match opened.log.complete(reservation) {
@@ -248,7 +303,10 @@ fn complete<D: CrashDevice, C: Checksum>(
 }
 
 /// Writes what was completed, and settles it.
-fn flush<D: CrashDevice, C: Checksum>(opened: Opened<D, C>) -> (Phase<D, C>, Reply) {
+fn flush<D: CrashDevice, C: Checksum>(opened: Opened<D, C>) -> (Phase<D, C>, Reply)
+    ensures step { CarriesOut D.trace C.sum_of (Phase.Open opened) (Command.Flush) result }
+    ensures on { Continues D.trace (Phase.Open opened) result.0 }
+{
     let mut opened = opened;
     if !opened.log.all_ended() {
         return (Phase::Open(opened), Reply::Refused);
@@ -260,7 +318,9 @@ fn flush<D: CrashDevice, C: Checksum>(opened: Opened<D, C>) -> (Phase<D, C>, Rep
 }
 
 /// Gives a log up, with its pin.
-fn halt<D: CrashDevice, C: Checksum>(opened: Opened<D, C>) -> RunningConfig<D, C> {
+fn halt<D: CrashDevice, C: Checksum>(opened: Opened<D, C>) -> RunningConfig<D, C>
+    ensures { result ≡ config_of opened.log }
+{
     let Opened {
         log,
         guard,
@@ -274,7 +334,9 @@ fn halt<D: CrashDevice, C: Checksum>(opened: Opened<D, C>) -> RunningConfig<D, C
 fn give_up<D: CrashDevice, C: Checksum>(
     opened: Opened<D, C>,
     ticket: Ticket,
-) -> RunningConfig<D, C> {
+) -> RunningConfig<D, C>
+    ensures { result ≡ config_of opened.log }
+{
     let Ticket {
         page: _,
         reservation,
@@ -284,7 +346,9 @@ fn give_up<D: CrashDevice, C: Checksum>(
 }
 
 /// What a run ran on.
-fn close<D: CrashDevice, C: Checksum>(phase: Phase<D, C>) -> RunningConfig<D, C> {
+fn close<D: CrashDevice, C: Checksum>(phase: Phase<D, C>) -> RunningConfig<D, C>
+    ensures trace { D.trace result.device ≡ trace_of D.trace phase }
+{
     match phase {
         Phase::Closed(config) => config,
         Phase::Open(opened) => halt(opened),
