@@ -1,5 +1,5 @@
 -- A segment as the pass reads it, and one that is read to its end.
-use Rattle.std.proofs.Common.{◌≡◌, ℕ, List, Option, Some, None, IfNone, subst}
+use Rattle.std.proofs.Common.{◌≡◌, ℕ, false, List, Option, Some, None, IfNone, is_some, refl, subst}
 use Rattle.sled_core.specs.Scan.{Readable, IsEnd, IsScan}
 use Rattle.sled_log.specs.Recovery.{Scanned, IsScanned, IsPassed, open_at}
 
@@ -7,6 +7,11 @@ use Rattle.sled_log.specs.Recovery.{Scanned, IsScanned, IsPassed, open_at}
 pub asked : (o : Option ℕ) (P : Type 0) → P → IfNone o P
 asked None P is = is
 asked (Some place) P is = tt
+
+-- a test that there is no value
+pub no_value : (o : Option ℕ) → is_some o ≡ false → o ≡ None
+no_value None is = refl
+no_value (Some place) is = absurd (cc)
 
 module _ (sum : List ℕ → ℕ) (size : ℕ) (r : Readable) (end : ℕ) (s : Scanned) where
   abbrev IsAtEnd : Type 0

@@ -126,8 +126,3 @@ module _ (sum : List ℕ → ℕ) (size : ℕ) (r : Readable) (end : ℕ) where
     room = damaged.room;
     damaged = damaged.damaged;
   }
-
--- no batch is open
-pub none_open : (o : Option ℕ) → is_some o ≡ false → o ≡ None
-none_open None is = refl
-none_open (Some place) is = absurd (cc)

@@ -10,8 +10,8 @@ use Rattle.sled_log.specs.declared.plain.Pass.{Pass}
 use Rattle.sled_log.specs.Recovery.{Scanned, IsScanned, IsPassed, ArePassed, AreClosed, begun_below, open_at}
 use Rattle.sled_log.specs.Plain.{log_alone, CanBeRead, IsPass, IsDamagedBefore, pass_of}
 use Rattle.sled_log.proofs.PlainSame.{was_so, still_so}
-use Rattle.sled_log.proofs.PassedLemmas.{passed_whole}
-use Rattle.sled_log.proofs.PlainTail.{begun_here, split_more, are_scanned, closed_more, passed_behind, passed_open, damaged_behind, none_open}
+use Rattle.sled_log.proofs.PassedLemmas.{no_value, passed_whole}
+use Rattle.sled_log.proofs.PlainTail.{begun_here, split_more, are_scanned, closed_more, passed_behind, passed_open, damaged_behind}
 use Rattle.sled_log.proofs.plain.passes_below.Goals as goal
 
 -- what stands for a segment that isn't there
@@ -103,7 +103,7 @@ loop-segment-preserved g c =
     let new : List Pass = c.push.new.self.items in
     let is = c.in_ok-push-in-Ok.ensures.items in
     let passed = was_so (λ n l. IsPassed g.C.Checksum.sum_of n (log_alone l) end (pass_of p)) cfg c.loop-segment.config.config before (g.D.Device.trace c.loop-segment.config.device) c.loop-segment.invariant.config c.loop-segment.invariant.trace c.in-Ok.ensures.passed in
-    let closed : open_at end p.scan.met.items ≡ None = none_open (open_at end p.scan.met.items) (sym (rw c.deref.ensures.value at c.is_open-stops.ensures) ∙ c.if-stops.false) in
+    let closed : open_at end p.scan.met.items ≡ None = no_value (open_at end p.scan.met.items) (sym (rw c.deref.ensures.value at c.is_open-stops.ensures) ∙ c.if-stops.false) in
     let IsWhole : Pass → Type 0 = λ x. IsScanned g.C.Checksum.sum_of cfg.segment_size (log_alone log) (pass_of x) in
     let mapped : map pass_of new ≡ map pass_of ps ++ pass_of p ∷ [] = ap (map pass_of) is ∙ map-append pass_of ps (p ∷ []) in
     record {
