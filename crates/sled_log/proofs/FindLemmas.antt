@@ -1,5 +1,5 @@
 -- A log file of one segment: which segments are found in it, and what comes of them.
-use Rattle.std.proofs.Common.{◌≡◌, ◌≢◌, ◌∙◌, ◌+◌, ◌%◌, ◌<◌, ◌≤◌, ℕ, ℤ, pos, Bool, true, nat_lt, List, [], ◌∷◌, ◌++◌, length, take, drop, refl, sym, ap, subst, arith, inl, inr, length-take, length-drop, if◌then◌else◌, zero, suc, nat_abs, slice_index_or}
+use Rattle.std.proofs.Common.{◌≡◌, ◌≢◌, ◌∙◌, ◌+◌, ◌%◌, ◌<◌, ◌≤◌, ℕ, ℤ, pos, Bool, true, nat_lt, List, [], ◌∷◌, ◌++◌, length, take, drop, refl, sym, ap, subst, arith, inl, inr, length-take, length-drop, if◌then◌else◌, zero, suc, Option, Some, None, nat_abs, slice_index_or}
 use Rattle.std.specs.List.{Contains}
 use Rattle.std.proofs.Math.Nat.{mod-eq_of_lt}
 use Rattle.std.proofs.lemmas.Bool.Decides.{nat_tests}
@@ -17,7 +17,8 @@ use Rattle.sled_core.specs.declared.read_at.BasedBuf.{BasedBuf}
 use Rattle.sled_core.specs.Reading.{file_of}
 use Rattle.sled_core.specs.Scan.{Readable, IsScan, IsDamagedIn}
 use Rattle.sled_core.specs.Scan.{IsFoundSegment, IsMisplaced}
-use Rattle.sled_log.specs.Recovery.{IsOrdering, Scanned, IsTail, GoesOn, begun_below, AreScanned, ContinuesFrom, Outcome, Recovered, Damaged, unchanged, outcome_of, least_place, tail_begins}
+use Rattle.sled_log.specs.Recovery.{IsOrdering, Scanned, IsScanned, IsTail, GoesOn, begun_below, open_at, StopsOrGoesOn, ArePassed, ContinuesFrom, Outcome, Recovered, Damaged, unchanged, outcome_of, least_place, tail_begins}
+use Rattle.sled_log.proofs.PassedLemmas.{whole_passed}
 
 -- lists of no segment and of one
 pub not_in_none : {X : Type 0} (x : X) → Contains [] x → ⊥
@@ -83,6 +84,13 @@ module _ (sum : List ℕ → ℕ) (size : ℕ) (log : List ℕ) (least : ℕ) (s
       placed = λ s there. subst (λ (x : Segment). IsMisplaced size x → ⊥) (only_in segment s there) placed;
     }
 
+-- a segment that is read to its end, as the pass reads it where no other one is
+passed_alone : (sum : List ℕ → ℕ) (size : ℕ) (r : Readable) (end : ℕ) (s : Scanned) → IsScanned sum size r s → ArePassed sum size r end (s.segment ∷ []) (s ∷ [])
+passed_alone sum size r end s scan = (refl, whole_passed sum size r end s scan, no_more (open_at end s.met)) where
+  no_more : (o : Option ℕ) → StopsOrGoesOn o [] (Unit {0})
+  no_more None = tt
+  no_more (Some place) = refl
+
 -- What comes of one segment, or of none.
 module _ (sum : List ℕ → ℕ) (size : ℕ) (r : Readable) (first : Shot) (some : 0 < size) where
   -- no segment is found: the snapshot stays
@@ -145,7 +153,7 @@ module _ (sum : List ℕ → ℕ) (size : ℕ) (r : Readable) (first : Shot) (so
             inr (
               scanned ∷ [],
               (in_one s s refl, begins, scan, no_more why),
-              inr (scanned ∷ [], subst (λ (ss : List Segment). AreScanned sum size r ss (scanned ∷ [])) (sym (begun stop le)) (refl, scan, tt), sym is),
+              inr (scanned ∷ [], subst (λ (ss : List Segment). ArePassed sum size r (s.place + stop) ss (scanned ∷ [])) (sym (begun stop le)) (passed_alone sum size r (s.place + stop) scanned scan), sym is),
             ),
           )
 

@@ -1,5 +1,5 @@
 -- What recovery concludes where all of a history is on the device, in a log file of at most one segment.
-use Rattle.std.proofs.Common.{◌≡◌, ◌≢◌, ◌≤◌, ◌<◌, ◌+◌, ◌*◌, ◌/◌, ◌%◌, ◌∙◌, ℕ, ℤ, pos, negsuc, max, Bool, true, ◌&&◌, nat_lt, nat_le, if◌then◌else◌, List, [], ◌∷◌, ◌++◌, length, map, take, drop, Option, Some, refl, sym, ap, subst, arith, inl, inr, length-take, length-drop}
+use Rattle.std.proofs.Common.{◌≡◌, ◌≢◌, ◌≤◌, ◌<◌, ◌+◌, ◌*◌, ◌/◌, ◌%◌, ◌∙◌, ℕ, ℤ, pos, negsuc, max, Bool, true, ◌&&◌, nat_lt, nat_le, if◌then◌else◌, List, [], ◌∷◌, ◌++◌, length, map, take, drop, Option, Some, None, refl, sym, ap, subst, arith, inl, inr, length-take, length-drop}
 use Rattle.std.specs.List.{All, filter}
 use Rattle.std.specs.Option.{unwrap_or}
 use Rattle.std.proofs.Math.Nat.{mod-eq_of_lt, mod-add-div'}
@@ -15,17 +15,18 @@ use Rattle.sled_core.specs.declared.met.Met.{Met}
 use Rattle.sled_core.specs.declared.met.Segment.{Segment}
 use Rattle.sled_core.specs.declared.met.Ending.{Ending}
 use Rattle.sled_core.specs.declared.met.Ending.TheVariants.{Full, Capped, Broken}
-use Rattle.sled_core.specs.Scan.{Readable, IsFoundSegment, IsScan}
+use Rattle.sled_core.specs.Scan.{Readable, IsFoundSegment, IsPath, IsScan}
 use Rattle.sled_core.specs.LogFile.{StandIn, StandsElsewhere, HasHeader, IsLogFile}
 use Rattle.sled_core.specs.Fits.{IsBegunFrom}
 use Rattle.sled_core.proofs.Ranges.{with_first}
 use Rattle.sled_core.proofs.LogFileLemmas.{stands_some, stand_grows}
 use Rattle.sled_core.proofs.PathLemmas.{met_of, IsEmpty, zeros_empty, scan_is}
-use Rattle.sled_log.specs.Recovery.{Scanned, IsScanned, IsOrdering, IsTail, GoesOn, AreScanned, begun_below, Conclusion, Outcome, Recovered, Damaged, Applied, applied, given, open_at, tail_end, tail_begins, place_of_mark, least_place, outcome_of, concluded, unchanged, Passes, Replays, ContinuesFrom, Recovers, cut_of}
+use Rattle.sled_log.specs.Recovery.{Scanned, IsScanned, IsOrdering, IsTail, GoesOn, IsPassed, StopsOrGoesOn, ArePassed, begun_below, Conclusion, Outcome, Recovered, Damaged, Applied, applied, given, open_at, tail_end, tail_begins, place_of_mark, least_place, outcome_of, concluded, unchanged, Passes, Replays, ContinuesFrom, Recovers, cut_of}
 use Rattle.sled_log.proofs.BeginLemmas.{one_begin}
 use Rattle.sled_log.proofs.RecoveryLemmas.{one_outcome}
 use Rattle.sled_log.proofs.FindLemmas.{is_found, only_found, not_in_none, only_in}
-use Rattle.sled_log.proofs.OneSegment.{given_messages, none_open, all_before, only_one, no_element}
+use Rattle.sled_log.proofs.PassedLemmas.{passed_whole}
+use Rattle.sled_log.proofs.OneSegment.{path_closed, given_messages, none_open, all_before, only_one, no_element}
 
 abbrev conclusion_in : Outcome → Conclusion → Conclusion
 conclusion_in Damaged x = x
@@ -173,10 +174,24 @@ module _ (sum : List ℕ → ℕ) (size : ℕ) (r : Readable) (snapshots : ℤ �
         ∙ ap (λ (o : Option ℕ). concluded size first (given (stable_place first.stable) (map met_of file.own)) (cut_of size (segment, unwrap_or o end))) (none_open end file.own)
         ∙ ap (λ (l : List Applied). concluded size first l (cut_of size (segment, end))) given_is
 
-    passes_are : (passes : List Scanned) → AreScanned sum size r (segment ∷ []) passes → outcome_of size first end passes ≡ concluded size first messages (cut_of size (segment, end))
+    -- the pass reads all of it, since no batch is open
+    passed_is : (p : Scanned) → p.segment ≡ segment → IsPassed sum size r end p → (open_at end p.met ≡ None) × IsScanned sum size r p
+    passed_is p same passed =
+        let path = subst (λ (x : Segment). IsPath sum size r x.slot x.place 20 p.met p.stop) same passed.0 in
+        let closed = path_closed sum size r site from empty end 20 file.own p.met p.stop stand path in
+        (closed, passed_whole sum size r end p passed closed)
+
+    passes_are : (passes : List Scanned) → ArePassed sum size r end (segment ∷ []) passes → outcome_of size first end passes ≡ concluded size first messages (cut_of size (segment, end))
     passes_are [] are = absurd are
-    passes_are (p ∷ []) are = ap (λ (x : Scanned). outcome_of size first end (x ∷ [])) (scanned_is p are.0 are.1).0 ∙ pass_is p.why
-    passes_are (p ∷ q ∷ ps) are = absurd are.2
+    passes_are (p ∷ ps) are =
+        let whole = passed_is p are.0 are.1 in
+        let alone : ps ≡ [] = no_more ps (subst (λ o. StopsOrGoesOn o ps (ArePassed sum size r end [] ps)) whole.0 are.2) in
+        ap (λ (l : List Scanned). outcome_of size first end (p ∷ l)) alone
+        ∙ ap (λ (x : Scanned). outcome_of size first end (x ∷ [])) (scanned_is p are.0 whole.1).0 ∙ pass_is p.why
+      where
+        no_more : (xs : List Scanned) → ArePassed sum size r end [] xs → xs ≡ []
+        no_more [] on = refl
+        no_more (x ∷ xs) on = absurd on
 
     below_end : begun_below end (segment ∷ []) ≡ segment ∷ []
     below_end =
@@ -185,7 +200,7 @@ module _ (sum : List ℕ → ℕ) (size : ℕ) (r : Readable) (snapshots : ℤ �
 
     passed : (x : Conclusion) → Passes sum size r first (segment ∷ []) (Some end) (Recovered x) → concluded size first messages (cut_of size (segment, end)) ≡ Recovered x
     passed x (inl damaged) = let no : Recovered x ≡ Damaged = damaged.0 in cc
-    passed x (inr (passes, are, is)) = sym (is ∙ passes_are passes (subst (λ (l : List Segment). AreScanned sum size r l passes) below_end are))
+    passed x (inr (passes, are, is)) = sym (is ∙ passes_are passes (subst (λ (l : List Segment). ArePassed sum size r end l passes) below_end are))
 
     replayed : (tail : ℕ) (x : Conclusion) → tail ≡ site.place → Replays sum size r first (segment ∷ []) tail (Recovered x) → concluded size first messages (cut_of size (segment, end)) ≡ Recovered x
     replayed tail x at (inl damaged) = let no : Recovered x ≡ Damaged = damaged.0 in cc

@@ -13,8 +13,10 @@ pub mod OtherLemmas
 pub mod PageRuns
 pub mod PageStates
 pub mod PageWise
+mod PassedLemmas
 mod PlainFound
 mod PlainPasses
+mod PlainRecords
 mod PlainSame
 mod PlainSegments
 mod PlainSlots

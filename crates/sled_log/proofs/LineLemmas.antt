@@ -1,13 +1,13 @@
 -- Segments that are read one behind another: what a pass over them meets lies below the place where it stops.
-use Rattle.std.proofs.Common.{◌≡◌, ◌∙◌, ◌+◌, ◌*◌, ◌/◌, ◌%◌, ◌<◌, ◌≤◌, ◌&&◌, ℕ, suc, Bool, true, false, nat_lt, if◌then◌else◌, List, [], ◌∷◌, ◌++◌, Option, Some, None, refl, ap, arith}
+use Rattle.std.proofs.Common.{◌≡◌, ◌∙◌, ◌+◌, ◌*◌, ◌/◌, ◌%◌, ◌<◌, ◌≤◌, ◌&&◌, ℕ, suc, Bool, true, false, nat_lt, if◌then◌else◌, List, [], ◌∷◌, ◌++◌, Option, Some, None, refl, sym, ap, subst, arith}
 use Rattle.std.specs.List.{Contains}
 use Rattle.std.proofs.lemmas.Bool.Decides.{nat_tests}
 use Rattle.std.proofs.Math.Nat.{mod-add-div', mul-le-mul_right, suc-mul}
 use Rattle.sled_core.specs.declared.met.Met.{Met}
 use Rattle.sled_core.specs.declared.met.Segment.{Segment}
-use Rattle.sled_core.specs.Scan.{Readable, IsPath, IsScan}
+use Rattle.sled_core.specs.Scan.{Readable, IsPath}
 use Rattle.sled_core.proofs.ScanLemmas.{met_fits, aligned_offset}
-use Rattle.sled_log.specs.Recovery.{Scanned, IsScanned, AreScanned, is_ascending, begun_below, opens, before_open, open_at, passed_in, stops_in, given, applied_of, is_filled, cut_of}
+use Rattle.sled_log.specs.Recovery.{Scanned, StopsOrGoesOn, ArePassed, is_ascending, begun_below, opens, before_open, open_at, passed_in, stops_in, given, applied_of, is_filled, cut_of}
 
 -- all of these lie below a place
 abbrev pub LieBelow : ℕ → List Met → Type 0
@@ -69,9 +69,9 @@ module _ (sum : List ℕ → ℕ) (size : ℕ) (r : Readable) (slot place : ℕ)
 
 -- Segments that were read, one behind another.
 module _ (sum : List ℕ → ℕ) (size : ℕ) (r : Readable) (large : 20 ≤ size) where
-  -- it was read, in a slot of the file
+  -- it was read, as far as this goes, in a slot of the file
   abbrev pub IsRead : Scanned → Type 0
-  IsRead s = IsScanned sum size r s × (s.segment.slot % size ≡ 0)
+  IsRead s = IsPath sum size r s.segment.slot s.segment.place 20 s.met s.stop × (s.segment.slot % size ≡ 0)
 
   -- each was read, and begins no earlier than the one before it ends
   abbrev pub IsLine : List Scanned → Type 0
@@ -79,19 +79,15 @@ module _ (sum : List ℕ → ℕ) (size : ℕ) (r : Readable) (large : 20 ≤ si
   IsLine (s ∷ []) = IsRead s
   IsLine (s ∷ t ∷ ss) = IsRead s × (s.segment.place + size ≤ t.segment.place) × IsLine (t ∷ ss)
 
-  scanned_path : (s : Scanned) → IsScanned sum size r s → IsPath sum size r s.segment.slot s.segment.place 20 s.met s.stop
-  unfolding IsScan
-  scanned_path s scanned = scanned.0
-
   line_first : (s : Scanned) (ss : List Scanned) → IsLine (s ∷ ss) → IsRead s
   line_first s [] line = line
   line_first s (t ∷ ss) line = line.0
 
   stop_within : (s : Scanned) → IsRead s → s.stop ≤ size
-  stop_within s read = path_within sum size r s.segment.slot s.segment.place read.1 20 s.met s.stop large (scanned_path s read.0)
+  stop_within s read = path_within sum size r s.segment.slot s.segment.place read.1 20 s.met s.stop large read.0
 
   stops_open : (end : ℕ) (s : Scanned) → IsRead s → (p : ℕ) → open_at end s.met ≡ Some p → (s.segment.place + 20 ≤ p) × (p < s.segment.place + s.stop) × LieBelow p (before_open end s.met)
-  stops_open end s read p is = open_on sum size r s.segment.slot s.segment.place end 20 s.met s.stop (scanned_path s read.0) p is
+  stops_open end s read p is = open_on sum size r s.segment.slot s.segment.place end 20 s.met s.stop read.0 p is
 
   -- the pass stops in them
   stops_above : (end : ℕ) (s : Scanned) (ss : List Scanned) (o : Option ℕ) → IsLine (s ∷ ss) → open_at end s.met ≡ o → s.segment.place ≤ (stops_in end s o ss).1
@@ -111,11 +107,11 @@ module _ (sum : List ℕ → ℕ) (size : ℕ) (r : Readable) (large : 20 ≤ si
   -- what it meets lies below that
   passed_lie : (end : ℕ) (s : Scanned) (ss : List Scanned) (o : Option ℕ) → IsLine (s ∷ ss) → open_at end s.met ≡ o → LieBelow (stops_in end s o ss).1 (passed_in end s o ss)
   passed_lie end s ss (Some p) line is = (stops_open end s (line_first s ss line) p is).2
-  passed_lie end s [] None line is = path_below sum size r s.segment.slot s.segment.place 20 s.met s.stop (scanned_path s line.0)
+  passed_lie end s [] None line is = path_below sum size r s.segment.slot s.segment.place 20 s.met s.stop line.0
   passed_lie end s (t ∷ ts) None line is =
       let within = stop_within s line.0 in
       let above = stops_above end t ts (open_at end t.met) line.2 refl in
-      let own = path_below sum size r s.segment.slot s.segment.place 20 s.met s.stop (scanned_path s line.0.0) in
+      let own = path_below sum size r s.segment.slot s.segment.place 20 s.met s.stop line.0.0 in
       lie_both (stops_in end t (open_at end t.met) ts).1 s.met (passed_in end t (open_at end t.met) ts)
       (lie_further (s.segment.place + s.stop) (stops_in end t (open_at end t.met) ts).1 s.met (omega (arith, within, above, line.1)) own)
       (passed_lie end t ts (open_at end t.met) line.2 refl)
@@ -198,18 +194,27 @@ module _ (size : ℕ) (some : 0 < size) where
       let one_more : suc (a / size) ≤ b / size = omega (arith, fewer) in
       omega (arith, mul-le-mul_right size one_more, whole_a, whole_b, suc-mul (a / size) size)
 
-  -- and each was read
-  module _ (sum : List ℕ → ℕ) (r : Readable) (large : 20 ≤ size) where
-    pub line_of : (ss : List Segment) (xs : List Scanned) → IsChain ss → AreScanned sum size r ss xs → IsLine sum size r large xs
+  -- and each was read by the pass
+  module _ (sum : List ℕ → ℕ) (r : Readable) (large : 20 ≤ size) (end : ℕ) where
+    -- a segment before those
+    line_before : (s : Segment) (ss : List Segment) (x : Scanned) (xs : List Scanned) → IsChain (s ∷ ss) → x.segment ≡ s → IsRead sum size r large x → ArePassed sum size r end ss xs → IsLine sum size r large xs
+        → IsLine sum size r large (x ∷ xs)
+    line_before s ss x [] chain is read on line = read
+    line_before s [] x (y ∷ ys) chain is read on line = absurd on
+    line_before s (t ∷ ts) x (y ∷ ys) chain is read on line =
+        let far = apart s.place t.place chain.0.0 chain.2.0.0 chain.1.0 in
+        let at_s : x.segment.place ≡ s.place = ap (λ (z : Segment). z.place) is in
+        let at_t : y.segment.place ≡ t.place = ap (λ (z : Segment). z.place) on.0 in
+        (read, omega (arith, far, at_s, at_t), line)
+
+    pub line_of : (ss : List Segment) (xs : List Scanned) → IsChain ss → ArePassed sum size r end ss xs → IsLine sum size r large xs
     line_of [] [] chain are = tt
     line_of [] (x ∷ xs) chain are = absurd are
     line_of (s ∷ ss) [] chain are = absurd are
-    line_of (s ∷ []) (x ∷ []) chain are = (are.1, ap (λ (y : Segment). y.slot % size) are.0 ∙ chain.0.1)
-    line_of (s ∷ []) (x ∷ y ∷ ys) chain are = absurd are.2
-    line_of (s ∷ t ∷ ss) (x ∷ []) chain are = absurd are.2
-    line_of (s ∷ t ∷ ss) (x ∷ y ∷ ys) chain are =
-        let rest = line_of (t ∷ ss) (y ∷ ys) chain.2 are.2 in
-        let far = apart s.place t.place chain.0.0 chain.2.0.0 chain.1.0 in
-        let at_s : x.segment.place ≡ s.place = ap (λ (z : Segment). z.place) are.0 in
-        let at_t : y.segment.place ≡ t.place = ap (λ (z : Segment). z.place) are.2.0 in
-        ((are.1, ap (λ (z : Segment). z.slot % size) are.0 ∙ chain.0.1), omega (arith, far, at_s, at_t), rest)
+    line_of (s ∷ ss) (x ∷ xs) chain are =
+        let read : IsRead sum size r large x = (are.1.0, ap (λ (z : Segment). z.slot % size) are.0 ∙ chain.0.1) in
+        by_case (open_at end x.met) read are.2 (line_of ss xs chain.2)
+      where
+        by_case : (o : Option ℕ) → IsRead sum size r large x → StopsOrGoesOn o xs (ArePassed sum size r end ss xs) → (ArePassed sum size r end ss xs → IsLine sum size r large xs) → IsLine sum size r large (x ∷ xs)
+        by_case (Some place) read stops rest = subst (λ (l : List Scanned). IsLine sum size r large (x ∷ l)) (sym stops) read
+        by_case None read on rest = line_before s ss x xs chain are.0 read on (rest on)

@@ -12,7 +12,7 @@ use Rattle.sled_core.specs.declared.met.Segment.{Segment}
 use Rattle.sled_core.specs.Scan.{Readable}
 use Rattle.sled_store.specs.Device.{State}
 use Rattle.sled_store.specs.SnapshotFiles.{stable_place, is_sound, sound_parts, BeginsFrom}
-use Rattle.sled_log.specs.Recovery.{Conclusion, Scanned, Recovered, Damaged, unchanged, concluded, outcome_of, given, has_no_table, are_whole, table_of, is_beyond, cut_of, stops_in, passed_in, open_at, begun_below, AreScanned, IsOrdering, Passes, ContinuesFrom, Recovers}
+use Rattle.sled_log.specs.Recovery.{Conclusion, Scanned, Recovered, Damaged, unchanged, concluded, outcome_of, given, has_no_table, are_whole, table_of, is_beyond, cut_of, stops_in, passed_in, open_at, begun_below, ArePassed, IsOrdering, Passes, ContinuesFrom, Recovers}
 use Rattle.sled_log.specs.WritesBack.{short_file, number_of, IsOnlySnapshot, IsWrittenBack}
 use Rattle.sled_log.proofs.LineLemmas.{LieBelow, none_given, all_below, chain_of, chain_begun, line_of}
 
@@ -31,13 +31,13 @@ not_none (suc n) h = absurd (h (λ e. omega (arith, e)))
 
 module _ (sum : List ℕ → ℕ) (size : ℕ) (r : Readable) (large : 20 ≤ size) (first : Shot) (x : Conclusion) where
   -- of segments that are read
-  from_passes : (ordering : List Segment) (least end : ℕ) (passes : List Scanned) → IsOrdering sum size r.log least ordering → AreScanned sum size r (begun_below end ordering) passes
+  from_passes : (ordering : List Segment) (least end : ℕ) (passes : List Scanned) → IsOrdering sum size r.log least ordering → ArePassed sum size r end (begun_below end ordering) passes
       → Recovered x ≡ outcome_of size first end passes → Comes size first x
   from_passes ordering least end [] is are comes = inl (cc)
   from_passes ordering least end (s ∷ ss) is are comes =
       let some : 0 < size = omega (arith, large) in
       let chain = chain_begun size some end ordering (chain_of size some ordering is.ascending (λ t there. (not_none (t.place % size) (λ odd. is.placed t there (inl odd)), ((is.found t).0 there).slot))) in
-      let line = line_of size some sum r large (begun_below end ordering) (s ∷ ss) chain are in
+      let line = line_of size some sum r large end (begun_below end ordering) (s ∷ ss) chain are in
       inr (passed_in end s (open_at end s.met) ss, cut_of size (stops_in end s (open_at end s.met) ss), all_below sum size r large end s ss line, sym comes)
 
   by_end : (ordering : List Segment) (least : ℕ) → IsOrdering sum size r.log least ordering → (end : Option ℕ) → Passes sum size r first ordering end (Recovered x) → Comes size first x

@@ -1,12 +1,15 @@
 -- What recovery concludes where all of a history is on the device, in a log file of at most one segment.
-use Rattle.std.proofs.Common.{◌≡◌, ◌<◌, ◌∙◌, ℕ, suc, Bool, true, false, ◌&&◌, nat_lt, nat_le, if◌then◌else◌, List, [], ◌∷◌, map, None, refl, sym, ap, arith, inl, inr}
+use Rattle.std.proofs.Common.{◌≡◌, ◌≤◌, ◌<◌, ◌∙◌, ◌+◌, ◌/◌, ℕ, suc, Bool, true, false, ◌&&◌, nat_lt, nat_le, if◌then◌else◌, List, [], ◌∷◌, map, None, refl, sym, ap, subst, arith, inl, inr}
 use Rattle.std.specs.List.{All, Contains, filter}
 use Rattle.std.proofs.lemmas.Bool.{cases_lt}
 use Rattle.std.proofs.lemmas.Bool.Decides.{nat_tests}
 use Rattle.sled_codec.specs.History.{Message}
+use Rattle.sled_core.specs.declared.iobuf.Site.{Site}
 use Rattle.sled_core.specs.declared.met.Met.{Met}
 use Rattle.sled_core.specs.declared.met.Segment.{Segment}
-use Rattle.sled_core.proofs.PathLemmas.{met_of}
+use Rattle.sled_core.specs.Scan.{Readable, IsMet, IsPath}
+use Rattle.sled_core.specs.LogFile.{StandIn}
+use Rattle.sled_core.proofs.PathLemmas.{met_of, met_is, IsEmpty}
 use Rattle.sled_log.specs.Recovery.{is_ascending, Applied, applied, given, before_open, open_at}
 use Rattle.sled_log.proofs.FindLemmas.{not_in_none}
 
@@ -37,6 +40,23 @@ none_open end (m ∷ ms) = none_open end ms
 pub all_before : (end : ℕ) (ms : List Message) → before_open end (map met_of ms) ≡ map met_of ms
 all_before end [] = refl
 all_before end (m ∷ ms) = ap (λ (l : List Met). met_of m ∷ l) (all_before end ms)
+
+-- on a path of their records no batch begins
+module _ (sum : List ℕ → ℕ) (size : ℕ) (r : Readable) (site : Site) (end : ℕ) (empty : end + 32 ≤ size → IsEmpty sum size r.log (site.slot + end) (site.place / size)) where
+  none_met : (x : Met) → end + 32 ≤ size → IsMet sum size r (site.slot + end) (site.place / size) x → ⊥
+  unfolding IsMet
+  none_met x room met = empty room met.0 met.1 x.len met.2
+
+  pub path_closed : (tail at : ℕ) (ms : List Message) (met : List Met) (stop : ℕ) → StandIn sum size r.log site at ms end → IsPath sum size r site.slot site.place at met stop → open_at tail met ≡ None
+  path_closed tail at ms [] stop stand path = refl
+  path_closed tail at [] (x ∷ met) stop stand path =
+      let here : at ≡ end = sym stand in
+      absurd (none_met x (subst (λ n. n + 32 ≤ size) here path.0) (subst (λ n. IsMet sum size r (site.slot + n) (site.place / size) x) here path.2))
+  path_closed tail at (m ∷ ms) (x ∷ met) stop stand path =
+      let is : x ≡ met_of m = met_is sum size r (site.slot + at) (site.place / size) m stand.3 stand.2 x (path.1 ∙ sym stand.1) path.2 in
+      let len : at + x.len ≡ at + m.size = ap (λ (y : Met). at + y.len) is in
+      ap (λ (y : Met). open_at tail (y ∷ met)) is
+      ∙ path_closed tail (at + m.size) ms met stop stand.4 (subst (λ n. IsPath sum size r site.slot site.place n met stop) len path.3)
 
 -- an ordering that has one segment and no other is that one
 pub only_one : (s : Segment) (ordering : List Segment) → is_ascending ordering ≡ true → Contains ordering s → ((t : Segment) → Contains ordering t → s ≡ t) → ordering ≡ s ∷ []

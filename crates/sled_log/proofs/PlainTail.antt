@@ -1,5 +1,5 @@
 -- The tail and the pass in the plain recovery, segment by segment.
-use Rattle.std.proofs.Common.{◌≡◌, ◌≢◌, ◌∙◌, ◌⊎◌, ◌+◌, ◌<◌, ◌≤◌, ℕ, Bool, true, false, nat_lt, List, [], ◌∷◌, ◌++◌, length, map, drop, get_or, Option, Some, None, if◌then◌else◌, refl, sym, ap, subst, arith, inl, inr, append_assoc}
+use Rattle.std.proofs.Common.{◌≡◌, ◌≢◌, ◌∙◌, ◌+◌, ◌<◌, ◌≤◌, ℕ, Bool, true, false, nat_lt, List, [], ◌∷◌, ◌++◌, length, map, drop, get_or, Option, Some, None, is_some, if◌then◌else◌, refl, sym, ap, subst, arith, append_assoc}
 use Rattle.std.specs.List.{All, AllByRecursion, Contains}
 use Rattle.std.proofs.lemmas.Bool.Decides.{nat_tests}
 use Rattle.std.proofs.lemmas.List.{map-append}
@@ -7,10 +7,11 @@ use Rattle.std.proofs.lemmas.List.Elements.{recursion_from_All}
 use Rattle.sled_core.specs.declared.met.Segment.{Segment}
 use Rattle.sled_core.specs.declared.met.Ending.{Ending}
 use Rattle.sled_core.specs.declared.met.Ending.TheVariants.{Full, Capped, Broken}
-use Rattle.sled_core.specs.Scan.{Readable, IsDamagedIn}
+use Rattle.sled_core.specs.Scan.{Readable}
 use Rattle.sled_log.specs.declared.plain.Pass.{Pass}
-use Rattle.sled_log.specs.Recovery.{Scanned, IsScanned, GoesOn, IsTail, IsTailPart, tail_end, begun_below, AreScanned, AreClosed, IsDamagedPass, open_at}
-use Rattle.sled_log.specs.Plain.{pass_of, IsHiddenPass}
+use Rattle.sled_log.specs.Recovery.{Scanned, IsScanned, GoesOn, IsTail, IsTailPart, tail_end, begun_below, AreScanned, AreClosed, IsPassed, StopsOrGoesOn, ArePassed, IsDamagedPass, open_at}
+use Rattle.sled_log.specs.Plain.{pass_of, IsDamagedBefore}
+use Rattle.sled_log.proofs.PassedLemmas.{whole_passed}
 use Rattle.sled_log.proofs.PlainSegments.{behind}
 
 -- behind a segment that isn't broken more may come
@@ -82,25 +83,46 @@ scanned_each sum size r (p ∷ ps) all = (refl, all.0, scanned_each sum size r p
 pub are_scanned : (sum : List ℕ → ℕ) (size : ℕ) (r : Readable) (ps : List Pass) → All (λ p. IsScanned sum size r (pass_of p)) ps → AreScanned sum size r (map (λ p. p.segment) ps) (map pass_of ps)
 are_scanned sum size r ps all = scanned_each sum size r ps (recursion_from_All (λ p. IsScanned sum size r (pass_of p)) ps all)
 
--- a batch is open in some segment, or in none
-closed_or_not : (end : ℕ) (ss : List Scanned) → AreClosed end ss ⊎ (AreClosed end ss → ⊥)
-closed_or_not end [] = inl tt
-closed_or_not end (s ∷ ss) = by_cases (open_at end s.met) refl (closed_or_not end ss) where
-  by_cases : (o : Option ℕ) → open_at end s.met ≡ o → AreClosed end ss ⊎ (AreClosed end ss → ⊥) → AreClosed end (s ∷ ss) ⊎ (AreClosed end (s ∷ ss) → ⊥)
-  by_cases None is (inl rest) = inl (is, rest)
-  by_cases None is (inr rest) = inr (λ both. rest both.1)
-  by_cases (Some place) is rest = inr (λ both. let no = sym is ∙ both.0 in cc)
+-- no batch is open in those, and none in one more
+pub closed_more : (end : ℕ) (before : List Scanned) (x : Scanned) → AreClosed end before → open_at end x.met ≡ None → AreClosed end (before ++ x ∷ [])
+closed_more end [] x closed none = (none, tt)
+closed_more end (s ∷ ss) x closed none = (closed.0, closed_more end ss x closed.1 none)
 
--- A damaged record in a segment of the pass is met, or hidden behind a batch that is open.
-pub damaged_or_hidden : (sum : List ℕ → ℕ) (size : ℕ) (r : Readable) (end : ℕ) (segments first : List Segment) (s : Segment) (rest : List Segment) (before : List Scanned)
-    → segments ≡ first ++ s ∷ rest → AreScanned sum size r first before → IsDamagedIn sum size r s.slot s.place
-    → IsDamagedPass sum size r end segments ⊎ IsHiddenPass sum size r end segments
-unfolding IsDamagedIn
-damaged_or_hidden sum size r end segments first s rest before is scanned damaged = by_cases (closed_or_not end before) (open_at end damaged.0) refl where
-  hidden : (AreClosed end before → open_at end damaged.0 ≡ None → ⊥) → IsHiddenPass sum size r end segments
-  hidden opened = record { first = first; segment = s; rest = rest; is = is; before = before; scanned = scanned; met = damaged.0; next = damaged.1; path = damaged.2; room = damaged.3; damaged = damaged.4; opened = opened }
+-- The pass over segments in which no batch is open, and what it meets behind them.
+module _ (sum : List ℕ → ℕ) (size : ℕ) (r : Readable) (end : ℕ) where
+  -- more that it reads
+  pub passed_behind : (first rest : List Segment) (before xs : List Scanned) → AreScanned sum size r first before → AreClosed end before → ArePassed sum size r end rest xs → ArePassed sum size r end (first ++ rest) (before ++ xs)
+  passed_behind [] rest [] xs are closed on = on
+  passed_behind [] rest (x ∷ before) xs are closed on = absurd are
+  passed_behind (s ∷ first) rest [] xs are closed on = absurd are
+  passed_behind (s ∷ first) rest (x ∷ before) xs are closed on = (
+    are.0,
+    whole_passed sum size r end x are.1,
+    subst (λ o. StopsOrGoesOn o (before ++ xs) (ArePassed sum size r end (first ++ rest) (before ++ xs))) (sym closed.0) (passed_behind first rest before xs are.2 closed.1 on),
+  )
 
-  by_cases : AreClosed end before ⊎ (AreClosed end before → ⊥) → (o : Option ℕ) → open_at end damaged.0 ≡ o → IsDamagedPass sum size r end segments ⊎ IsHiddenPass sum size r end segments
-  by_cases (inl closed) None none = inl (record { first = first; segment = s; rest = rest; is = is; before = before; scanned = scanned; closed = closed; met = damaged.0; next = damaged.1; path = damaged.2; not_open = none; room = damaged.3; damaged = damaged.4 })
-  by_cases (inl closed) (Some place) some = inr (hidden (λ closed none. let no = sym some ∙ none in cc))
-  by_cases (inr opened) o at = inr (hidden (λ closed none. opened closed))
+  -- a batch is open in the next one
+  pub passed_open : (s : Segment) (rest : List Segment) (x : Scanned) → x.segment ≡ s → IsPassed sum size r end x → is_some (open_at end x.met) ≡ true → ArePassed sum size r end (s ∷ rest) (x ∷ [])
+  passed_open s rest x is passed some = (is, passed, by_case (open_at end x.met) some) where
+    by_case : (o : Option ℕ) → is_some o ≡ true → StopsOrGoesOn o [] (ArePassed sum size r end rest [])
+    by_case None some = absurd (cc)
+    by_case (Some place) some = refl
+
+  -- a damaged record is met in the next one
+  pub damaged_behind : (segments first rest : List Segment) (s : Segment) (before : List Scanned) → segments ≡ first ++ s ∷ rest → AreScanned sum size r first before → AreClosed end before → IsDamagedBefore sum size r end s
+      → IsDamagedPass sum size r end segments
+  damaged_behind segments first rest s before is scanned closed damaged = record {
+    first = first;
+    segment = s;
+    rest = rest;
+    is = is;
+    before = before;
+    scanned = scanned;
+    closed = closed;
+    met = damaged.met;
+    next = damaged.next;
+    path = damaged.path;
+    not_open = damaged.not_open;
+    room = damaged.room;
+    damaged = damaged.damaged;
+  }

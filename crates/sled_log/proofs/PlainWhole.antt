@@ -4,8 +4,7 @@ use Rattle.sled_codec.specs.Snapshots.{Shot}
 use Rattle.sled_store.specs.SnapshotFiles.{stable_place, BeginsFrom, IsDamagedSnapshot}
 use Rattle.sled_core.specs.declared.met.Segment.{Segment}
 use Rattle.sled_core.specs.Scan.{Readable}
-use Rattle.sled_log.specs.Recovery.{Scanned, IsOrdering, IsUnordered, IsTail, IsDamagedTail, tail_begins, tail_end, begun_below, AreScanned, IsDamagedPass, Passes, Outcome, Recovered, Damaged, unchanged, outcome_of, least_place, ContinuesFrom, Recovers}
-use Rattle.sled_log.specs.Plain.{IsHiddenPass, HidesFrom, Hides}
+use Rattle.sled_log.specs.Recovery.{Scanned, IsOrdering, IsUnordered, IsTail, IsDamagedTail, tail_begins, tail_end, begun_below, ArePassed, IsDamagedPass, Passes, Outcome, Recovered, Damaged, unchanged, outcome_of, least_place, ContinuesFrom, Recovers}
 
 -- where the tail begins, from the place that a snapshot ends with
 pub begins_there : (size stable begin : ℕ) (first : Shot) (ss : List Segment) → begin ≡ tail_begins size (stable / size * size) ss → stable ≡ stable_place first.stable → begin ≡ tail_begins size (least_place size first) ss
@@ -37,25 +36,18 @@ module _ (sum : List ℕ → ℕ) (size : ℕ) (r : Readable) (first : Shot) whe
         unfolding ContinuesFrom
         comes_passing o passes = inr (ordering, are, inr (scanned, tail, subst (λ e. Passes sum size r first ordering e o) (sym ends) passes))
 
-        -- a pass over segments that are whole
-        pub comes_passed : (o : Outcome) (passes : List Scanned) → AreScanned sum size r (begun_below end ordering) passes → outcome_of size first end passes ≡ o → ContinuesFrom sum size r first o
+        -- a pass that meets no damaged record
+        pub comes_passed : (o : Outcome) (passes : List Scanned) → ArePassed sum size r end (begun_below end ordering) passes → outcome_of size first end passes ≡ o → ContinuesFrom sum size r first o
         comes_passed o passes scans is = comes_passing o (inr (passes, scans, sym is))
 
         -- a damaged record in the pass
         pub comes_damaged_pass : IsDamagedPass sum size r end (begun_below end ordering) → ContinuesFrom sum size r first Damaged
         comes_damaged_pass damaged = comes_passing Damaged (inl (refl, damaged))
 
-        -- and one that is hidden
-        pub comes_hidden : IsHiddenPass sum size r end (begun_below end ordering) → HidesFrom sum size r first
-        unfolding HidesFrom
-        comes_hidden hidden = (ordering, are, scanned, tail, end, ends, hidden)
-
         -- what comes of a pass that gives no table
-        pub comes_corrupt : IsDamagedPass sum size r end (begun_below end ordering) ⊎ IsHiddenPass sum size r end (begun_below end ordering) ⊎ ((xs : List Scanned) × AreScanned sum size r (begun_below end ordering) xs × (outcome_of size first end xs ≡ Damaged))
-            → ContinuesFrom sum size r first Damaged ⊎ HidesFrom sum size r first
-        comes_corrupt (inl damaged) = inl (comes_damaged_pass damaged)
-        comes_corrupt (inr (inl hidden)) = inr (comes_hidden hidden)
-        comes_corrupt (inr (inr passed)) = inl (comes_passed Damaged passed.0 passed.1 passed.2)
+        pub comes_corrupt : IsDamagedPass sum size r end (begun_below end ordering) ⊎ ((xs : List Scanned) × ArePassed sum size r end (begun_below end ordering) xs × (outcome_of size first end xs ≡ Damaged)) → ContinuesFrom sum size r first Damaged
+        comes_corrupt (inl damaged) = comes_damaged_pass damaged
+        comes_corrupt (inr passed) = comes_passed Damaged passed.0 passed.1 passed.2
 
 -- From the newest snapshot on.
 module _ (sum : List ℕ → ℕ) (size : ℕ) (r : Readable) (snapshots : ℤ → Option (List ℕ)) where
@@ -66,12 +58,3 @@ module _ (sum : List ℕ → ℕ) (size : ℕ) (r : Readable) (snapshots : ℤ �
   pub recovers_damaged : IsDamagedSnapshot sum snapshots → Recovers sum size r snapshots Damaged
   unfolding Recovers
   recovers_damaged damaged = inl (refl, damaged)
-
-  pub hides_from : (first : Shot) → BeginsFrom sum snapshots first → HidesFrom sum size r first → Hides sum size r snapshots
-  unfolding Hides
-  hides_from first begins hides = (first, begins, hides)
-
-  -- where the content gives no table
-  pub damaged_or_hides : (first : Shot) → BeginsFrom sum snapshots first → ContinuesFrom sum size r first Damaged ⊎ HidesFrom sum size r first → Recovers sum size r snapshots Damaged ⊎ Hides sum size r snapshots
-  damaged_or_hides first begins (inl comes) = inl (recovers_from first Damaged begins comes)
-  damaged_or_hides first begins (inr hides) = inr (hides_from first begins hides)

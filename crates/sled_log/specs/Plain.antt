@@ -1,13 +1,11 @@
 -- What the plain recovery speaks of, beside what recovery makes of a log file.
-use Rattle.std.specs.Prelude.{◌≡◌, ◌↔◌, Contains, ◌+◌, ◌/◌, ◌%◌, ◌^◌, ◌≤◌, ◌<◌, ℕ, ℤ, nat_lt, suc, List, [], ◌∷◌, ◌++◌, length, Option, Some, None, if◌then◌else◌}
+use Rattle.std.specs.Prelude.{◌≡◌, ◌↔◌, Contains, ◌+◌, ◌/◌, ◌%◌, ◌^◌, ◌≤◌, ◌<◌, ℕ, nat_lt, suc, List, [], ◌∷◌, length, Option, Some, None, if◌then◌else◌}
 use Rattle.std.specs.List.{All}
-use Rattle.sled_codec.specs.Snapshots.{Shot}
-use Rattle.sled_store.specs.SnapshotFiles.{BeginsFrom}
 use Rattle.sled_core.specs.declared.met.Met.{Met}
 use Rattle.sled_core.specs.declared.met.Segment.{Segment}
 use Rattle.sled_core.specs.Scan.{Readable, IsFoundSegment, IsMisplaced, IsPath, IsDamagedAt}
 use Rattle.sled_log.specs.declared.plain.Pass.{Pass}
-use Rattle.sled_log.specs.Recovery.{Scanned, IsOrdering, IsTail, tail_begins, tail_end, begun_below, AreScanned, AreClosed, open_at, passed_in, stops_in, scanned_of, least_place}
+use Rattle.sled_log.specs.Recovery.{Scanned, open_at, passed_in, stops_in, scanned_of}
 
 -- a log file, where there are no blobs
 abbrev pub log_alone : List ℕ → Readable
@@ -57,28 +55,11 @@ abbrev pub stop_of : ℕ → Option (Segment × ℕ) → List Scanned → Option
 stop_of end last [] = last
 stop_of end last (s ∷ ss) = Some (stops_in end s (open_at end s.met) ss)
 
--- A damaged record stands in a segment of the pass, behind a batch that is open. What recovery makes of that isn't said.
-pub record IsHiddenPass (sum : List ℕ → ℕ) (size : ℕ) (r : Readable) (end : ℕ) (segments : List Segment) : Type 0 where
-  pub first : List Segment
-  pub segment : Segment
-  pub rest : List Segment
-  pub is : segments ≡ first ++ segment ∷ rest
-  pub before : List Scanned
-  pub scanned : AreScanned sum size r first before
+-- A damaged record is met in a segment of the pass, before a batch that is open.
+pub record IsDamagedBefore (sum : List ℕ → ℕ) (size : ℕ) (r : Readable) (end : ℕ) (segment : Segment) : Type 0 where
   pub met : List Met
   pub next : ℕ
   pub path : IsPath sum size r segment.slot segment.place 20 met next
+  pub not_open : open_at end met ≡ None
   pub room : next + 32 ≤ size
   pub damaged : IsDamagedAt sum size r (segment.slot + next) (segment.place / size)
-  pub opened : AreClosed end before → open_at end met ≡ None → ⊥
-
--- the pass meets that in what is found from a snapshot on
-unfoldable pub HidesFrom : (List ℕ → ℕ) → ℕ → Readable → Shot → Type 0
-HidesFrom sum size r first =
-    let least = least_place size first in
-    (ordering : List Segment) × IsOrdering sum size r.log least ordering × (scanned : List Scanned) × IsTail sum size r ordering (tail_begins size least ordering) scanned
-    × (end : ℕ) × (tail_end scanned ≡ Some end) × IsHiddenPass sum size r end (begun_below end ordering)
-
--- the pass meets that in what is read
-unfoldable pub Hides : (List ℕ → ℕ) → ℕ → Readable → (ℤ → Option (List ℕ)) → Type 0
-Hides sum size r snapshots = (first : Shot) × BeginsFrom sum snapshots first × HidesFrom sum size r first

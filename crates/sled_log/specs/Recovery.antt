@@ -1,6 +1,6 @@
 -- What recovery makes of a content: which snapshot it begins from, which segments it finds, where the tail of the log ends,
 -- which messages it applies, and the cut. Stated for any number of segments and for all kinds of messages.
-use Rattle.std.specs.Prelude.{◌≡◌, ◌≢◌, ◌⊎◌, ◌↔◌, ◌+◌, ◌-◌, ◌*◌, ◌/◌, ◌%◌, ◌^◌, ◌≤◌, ℕ, ℤ, pos, negsuc, max, nat_lt, int_le, int_lt, Bool, true, false, ◌&&◌, ◌||◌, not, ◌==◌, if◌then◌else◌, List, [], ◌∷◌, ◌++◌, length, set, get_or, replicate, Option, Some, None, Contains}
+use Rattle.std.specs.Prelude.{◌≡◌, ◌≢◌, ◌⊎◌, ◌↔◌, ◌+◌, ◌-◌, ◌*◌, ◌/◌, ◌%◌, ◌^◌, ◌≤◌, ℕ, ℤ, pos, negsuc, max, nat_lt, int_le, int_lt, Bool, true, false, ◌&&◌, ◌||◌, not, ◌==◌, if◌then◌else◌, List, [], ◌∷◌, ◌++◌, length, set, get_or, replicate, Option, Some, None, IfNone, Contains}
 use Rattle.sled_codec.specs.declared.serialization.message.LogKind.{LogKind}
 use Rattle.sled_codec.specs.declared.serialization.message.LogKind.TheVariants as does
 use Rattle.sled_codec.specs.History.{Message}
@@ -14,10 +14,27 @@ use Rattle.sled_core.specs.declared.met.Ending.{Ending}
 use Rattle.sled_core.specs.declared.met.Ending.TheVariants.{Full, Capped, Broken}
 use Rattle.sled_core.specs.declared.met.Segment.{Segment}
 use Rattle.sled_core.specs.declared.met.Scan.{Scan}
-use Rattle.sled_core.specs.Scan.{Readable, IsDamagedIn, IsPath, IsDamagedAt}
+use Rattle.sled_core.specs.Scan.{Readable, IsDamagedIn, IsPath, IsEnd, IsDamagedAt}
 pub use Rattle.sled_core.specs.Tail.{IsUnordered, is_ascending, IsOrdering, Scanned, IsScanned, place_of_mark, greatest_mark, tail_begins, GoesOn, IsTail, tail_end, begun_below, AreScanned, opens, before_open, open_at, stops_in, is_filled, cut_of, IsTailPart, least_place}
 
 -- The pass over the messages.
+
+-- A segment as the pass reads it: to its end, or to any place behind a batch that is open. What stands behind that batch is neither asked for nor looked at.
+abbrev pub IsPassed : (List ℕ → ℕ) → ℕ → Readable → ℕ → Scanned → Type 0
+IsPassed sum size r end s =
+    IsPath sum size r s.segment.slot s.segment.place 20 s.met s.stop × IfNone (open_at end s.met) (IsEnd sum size r s.segment.slot s.segment.place s.stop s.why)
+
+-- behind a segment with a batch that is open nothing is read, and behind another one this
+abbrev pub StopsOrGoesOn : Option ℕ → List Scanned → Type 0 → Type 0
+StopsOrGoesOn (Some place) rest on = rest ≡ []
+StopsOrGoesOn None rest on = on
+
+-- these segments as the pass reads them, up to the first one with a batch that is open
+abbrev pub ArePassed : (List ℕ → ℕ) → ℕ → Readable → ℕ → List Segment → List Scanned → Type 0
+ArePassed sum size r end [] [] = Unit {0}
+ArePassed sum size r end [] (x ∷ xs) = ⊥
+ArePassed sum size r end (s ∷ ss) [] = ⊥
+ArePassed sum size r end (s ∷ ss) (x ∷ xs) = (x.segment ≡ s) × IsPassed sum size r end x × StopsOrGoesOn (open_at end x.met) xs (ArePassed sum size r end ss xs)
 
 -- A message that is applied: what it does, to which page, and its entry.
 pub record Applied : Type 0 where
@@ -175,7 +192,7 @@ abbrev pub Passes : (List ℕ → ℕ) → ℕ → Readable → Shot → List Se
 Passes sum size r first ordering None o = o ≡ Recovered (unchanged first)
 Passes sum size r first ordering (Some end) o =
     ((o ≡ Damaged) × IsDamagedPass sum size r end (begun_below end ordering))
-    ⊎ ((passes : List Scanned) × AreScanned sum size r (begun_below end ordering) passes × (o ≡ outcome_of size first end passes))
+    ⊎ ((passes : List Scanned) × ArePassed sum size r end (begun_below end ordering) passes × (o ≡ outcome_of size first end passes))
 
 -- what comes of the segments that are found
 abbrev pub Replays : (List ℕ → ℕ) → ℕ → Readable → Shot → List Segment → ℕ → Outcome → Type 0

@@ -9,11 +9,14 @@ ghost use Rattle.sled_store.specs.SnapshotFiles.{stable_place};
 ghost use Rattle.sled_core.specs.Causes.{DeviceAnswers};
 ghost use Rattle.sled_core.specs.Scan.{IsFoundSegment, IsMisplaced, IsDamagedIn};
 ghost use Rattle.sled_core.specs.declared.met.Segment.{Segment};
-ghost use Rattle.sled_log.specs.Recovery.{Scanned, IsScanned, IsUnordered, IsOrdering, IsTail, IsDamagedTail, AreScanned, begun_below, IsDamagedPass, tail_begins, tail_end, Recovered, Damaged, Conclusion, outcome_of, least_place, scanned_of, given, has_no_table, table_of, ContinuesFrom, Recovers};
+ghost use Rattle.sled_log.specs.Recovery.{Scanned, IsScanned, IsUnordered, IsOrdering, IsTail, IsDamagedTail, ArePassed, begun_below, IsDamagedPass, tail_begins, tail_end, Recovered, Damaged, Conclusion, outcome_of, least_place, scanned_of, given, has_no_table, table_of, ContinuesFrom, Recovers};
 ghost use Rattle.sled_log.specs.WritesBack.{conclusion_of};
-ghost use Rattle.sled_log.specs.Plain.{log_alone, Chain, AreFound, rank, CanBeRead, IsPass, pass_of, passed_all, stop_of, IsHiddenPass, HidesFrom, Hides};
+ghost use Rattle.sled_log.specs.Plain.{log_alone, Chain, AreFound, rank, CanBeRead, IsPass, pass_of, passed_all, stop_of};
+
+mod records;
 
 use crate::conclusion::Recovery;
+use crate::plain::records::{is_open, scan_up_to};
 use crate::snapshot::{conclude, cut_of, is_misplaced};
 use crate::snapshot_file::read_newest;
 use crate::table::apply_all;
@@ -36,9 +39,6 @@ struct Pass {
 /// What recovery makes of what a device has, for any number of segments: the snapshot, or `None` where the
 /// content is damaged. It only reads, and is slow: it is for tests.
 ///
-/// `None` comes too where a damaged record stands in the pass behind a batch that is open. What recovery makes
-/// of that isn't said.
-///
 /// `Io` comes where the device failed, and `OutOfMemory` where memory was refused, or where the log file
 /// ends so near to 2^63 that a segment in it could end above that.
 pub fn recovered_plainly<D: Device, C: Checksum>(
@@ -47,7 +47,7 @@ pub fn recovered_plainly<D: Device, C: Checksum>(
     ensures some { let old = state_of (D.trace config.old.device) in
         IfOk result (λ o. IfSome o (λ s. (x : Conclusion) × Recovers C.sum_of config.old.config.segment_size (log_alone old.log.bytes) old.snapshots.file (Recovered x) × (shot_of s ≡ x.shot))) }
     ensures none { let old = state_of (D.trace config.old.device) in
-        IfOk result (λ o. IfNone o (Recovers C.sum_of config.old.config.segment_size (log_alone old.log.bytes) old.snapshots.file Damaged ⊎ Hides C.sum_of config.old.config.segment_size (log_alone old.log.bytes) old.snapshots.file)) }
+        IfOk result (λ o. IfNone o (Recovers C.sum_of config.old.config.segment_size (log_alone old.log.bytes) old.snapshots.file Damaged)) }
     ensures readable { IsCorruption result → ⊥ }
     ensures answers { DeviceAnswers result (D.faults config.old.device) (D.faults config.new.device) }
     ensures trace { D.trace config.new.device ≡ D.trace config.old.device }
@@ -64,7 +64,7 @@ pub fn recovered_plainly<D: Device, C: Checksum>(
 /// The same, with what is left to be written. `Corruption` comes where the content is damaged.
 fn recover_all<D: Device, C: Checksum>(config: &mut RunningConfig<D, C>) -> Result<Recovery>
     ensures ok { IfOk result (λ x. Recovers C.sum_of config.old.config.segment_size (log_alone (state_of (D.trace config.old.device)).log.bytes) (state_of (D.trace config.old.device)).snapshots.file (Recovered (conclusion_of x))) }
-    ensures corrupt { IsCorruption result → Recovers C.sum_of config.old.config.segment_size (log_alone (state_of (D.trace config.old.device)).log.bytes) (state_of (D.trace config.old.device)).snapshots.file Damaged ⊎ Hides C.sum_of config.old.config.segment_size (log_alone (state_of (D.trace config.old.device)).log.bytes) (state_of (D.trace config.old.device)).snapshots.file }
+    ensures corrupt { IsCorruption result → Recovers C.sum_of config.old.config.segment_size (log_alone (state_of (D.trace config.old.device)).log.bytes) (state_of (D.trace config.old.device)).snapshots.file Damaged }
     ensures answers { DeviceAnswers result (D.faults config.old.device) (D.faults config.new.device) }
     ensures trace { D.trace config.new.device ≡ D.trace config.old.device }
     ensures config { config.new.config ≡ config.old.config }
@@ -82,7 +82,7 @@ fn continue_all<D: Device, C: Checksum>(
     first: Snapshot,
 ) -> Result<Recovery>
     ensures ok { IfOk result (λ x. ContinuesFrom C.sum_of config.old.config.segment_size (log_alone (state_of (D.trace config.old.device)).log.bytes) (shot_of first) (Recovered (conclusion_of x))) }
-    ensures corrupt { IsCorruption result → ContinuesFrom C.sum_of config.old.config.segment_size (log_alone (state_of (D.trace config.old.device)).log.bytes) (shot_of first) Damaged ⊎ HidesFrom C.sum_of config.old.config.segment_size (log_alone (state_of (D.trace config.old.device)).log.bytes) (shot_of first) }
+    ensures corrupt { IsCorruption result → ContinuesFrom C.sum_of config.old.config.segment_size (log_alone (state_of (D.trace config.old.device)).log.bytes) (shot_of first) Damaged }
     ensures answers { DeviceAnswers result (D.faults config.old.device) (D.faults config.new.device) }
     ensures trace { D.trace config.new.device ≡ D.trace config.old.device }
     ensures config { config.new.config ≡ config.old.config }
@@ -105,7 +105,7 @@ fn replay_all<D: Device, C: Checksum>(
     requires ordering { IsOrdering C.sum_of config.old.config.segment_size (state_of (D.trace config.old.device)).log.bytes (least_place config.old.config.segment_size (shot_of first)) segments.now }
     requires small { length (state_of (D.trace config.old.device)).log.bytes + config.old.config.segment_size < 2 ^ 63 }
     ensures ok { IfOk result (λ x. ContinuesFrom C.sum_of config.old.config.segment_size (log_alone (state_of (D.trace config.old.device)).log.bytes) (shot_of first) (Recovered (conclusion_of x))) }
-    ensures corrupt { IsCorruption result → ContinuesFrom C.sum_of config.old.config.segment_size (log_alone (state_of (D.trace config.old.device)).log.bytes) (shot_of first) Damaged ⊎ HidesFrom C.sum_of config.old.config.segment_size (log_alone (state_of (D.trace config.old.device)).log.bytes) (shot_of first) }
+    ensures corrupt { IsCorruption result → ContinuesFrom C.sum_of config.old.config.segment_size (log_alone (state_of (D.trace config.old.device)).log.bytes) (shot_of first) Damaged }
     ensures answers { DeviceAnswers result (D.faults config.old.device) (D.faults config.new.device) }
     ensures trace { D.trace config.new.device ≡ D.trace config.old.device }
     ensures config { config.new.config ≡ config.old.config }
@@ -133,11 +133,10 @@ fn pass_over<D: Device, C: Checksum>(
 ) -> Result<Recovery>
     requires ready { (s : Segment) → Contains segments.now s → CanBeRead config.old.config.segment_size (state_of (D.trace config.old.device)).log.bytes s }
     requires end { end < 2 ^ 63 }
-    ensures ok { IfOk result (λ x. (passes : List Scanned) × AreScanned C.sum_of config.old.config.segment_size (log_alone (state_of (D.trace config.old.device)).log.bytes) (begun_below end segments.now) passes × (outcome_of config.old.config.segment_size (shot_of first) end passes ≡ Recovered (conclusion_of x))) }
+    ensures ok { IfOk result (λ x. (passes : List Scanned) × ArePassed C.sum_of config.old.config.segment_size (log_alone (state_of (D.trace config.old.device)).log.bytes) end (begun_below end segments.now) passes × (outcome_of config.old.config.segment_size (shot_of first) end passes ≡ Recovered (conclusion_of x))) }
     ensures corrupt { IsCorruption result →
         IsDamagedPass C.sum_of config.old.config.segment_size (log_alone (state_of (D.trace config.old.device)).log.bytes) end (begun_below end segments.now)
-        ⊎ IsHiddenPass C.sum_of config.old.config.segment_size (log_alone (state_of (D.trace config.old.device)).log.bytes) end (begun_below end segments.now)
-        ⊎ ((passes : List Scanned) × AreScanned C.sum_of config.old.config.segment_size (log_alone (state_of (D.trace config.old.device)).log.bytes) (begun_below end segments.now) passes × (outcome_of config.old.config.segment_size (shot_of first) end passes ≡ Damaged)) }
+        ⊎ ((passes : List Scanned) × ArePassed C.sum_of config.old.config.segment_size (log_alone (state_of (D.trace config.old.device)).log.bytes) end (begun_below end segments.now) passes × (outcome_of config.old.config.segment_size (shot_of first) end passes ≡ Damaged)) }
     ensures answers { DeviceAnswers result (D.faults config.old.device) (D.faults config.new.device) }
     ensures trace { D.trace config.new.device ≡ D.trace config.old.device }
     ensures config { config.new.config ≡ config.old.config }
@@ -361,18 +360,18 @@ fn is_broken(ending: Ending) -> bool
 
 // The pass.
 
-/// What is met in each segment that begins below a place. `Corruption` comes where a damaged record is met.
+/// What is met in each segment that begins below `end`, up to the first batch that does not end below it.
+/// `Corruption` comes where a damaged record is met before that.
 fn passes_below<D: Device, C: Checksum>(
     config: &mut RunningConfig<D, C>,
     segments: &[Segment],
     end: u64,
 ) -> Result<Vec<Pass>>
     requires ready { (s : Segment) → Contains segments.now s → CanBeRead config.old.config.segment_size (state_of (D.trace config.old.device)).log.bytes s }
-    ensures scanned { IfOk result (λ v. AreScanned C.sum_of config.old.config.segment_size (log_alone (state_of (D.trace config.old.device)).log.bytes) (begun_below end segments.now) (map pass_of v.items)) }
+    requires end { end < 2 ^ 63 }
+    ensures passed { IfOk result (λ v. ArePassed C.sum_of config.old.config.segment_size (log_alone (state_of (D.trace config.old.device)).log.bytes) end (begun_below end segments.now) (map pass_of v.items)) }
     ensures fits { IfOk result (λ v. All (IsPass config.old.config.segment_size) v.items) }
-    ensures damaged { IsCorruption result →
-        IsDamagedPass C.sum_of config.old.config.segment_size (log_alone (state_of (D.trace config.old.device)).log.bytes) end (begun_below end segments.now)
-        ⊎ IsHiddenPass C.sum_of config.old.config.segment_size (log_alone (state_of (D.trace config.old.device)).log.bytes) end (begun_below end segments.now) }
+    ensures damaged { IsCorruption result → IsDamagedPass C.sum_of config.old.config.segment_size (log_alone (state_of (D.trace config.old.device)).log.bytes) end (begun_below end segments.now) }
     ensures answers { DeviceAnswers result (D.faults config.old.device) (D.faults config.new.device) }
     ensures trace { D.trace config.new.device ≡ D.trace config.old.device }
     ensures config { config.new.config ≡ config.old.config }
@@ -383,11 +382,15 @@ fn passes_below<D: Device, C: Checksum>(
         if segment.place >= end {
             continue;
         }
-        match scan_of(config, segment) {
-            Ok(scan) => passes.push(Pass {
-                segment: *segment,
-                scan,
-            })?,
+        match scan_up_to(config, segment, end) {
+            Ok(scan) => {
+                let stops = is_open(&scan.met, end);
+                let segment = *segment;
+                passes.push(Pass { segment, scan })?;
+                if stops {
+                    return Ok(passes);
+                }
+            }
             Err(e) => return Err(e),
         }
     }

@@ -40,7 +40,7 @@ pub(crate) fn apply_all(
 }
 
 /// Whether it is the beginning of a batch that does not end below a place.
-fn opens(what: &What, end: u64) -> bool
+pub(crate) fn opens(what: &What, end: u64) -> bool
     requires { end < 2 ^ 63 }
     ensures { result ≡ opens end what.now }
 {

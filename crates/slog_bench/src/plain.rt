@@ -32,11 +32,20 @@ const SECOND_LATE: [u8; 20] = [
     127,
 ];
 
+// The header of a segment at place 512 with the mark 512. Its sum is 8152 + 23432 = 31584 = 123 * 256 + 96.
+const THIRD_LATE: [u8; 20] = [
+    159, 132, 255, 255, 255, 253, 255, 255, 255, 255, 255, 127, 255, 253, 255, 255, 255, 255, 255,
+    127,
+];
+
 // Page 0 replaced by three sevens: 3 + 14 + 21 + 28 over the body, 30 + 24 over the header.
 const META: [u8; 12] = [135, 255, 255, 255, 6, 4, 0, 0, 3, 7, 7, 7];
 
 // The same in segment 1, whose number adds 7.
 const META_OF_1: [u8; 12] = [128, 255, 255, 255, 6, 4, 1, 0, 3, 7, 7, 7];
+
+// The same in segment 2, whose number adds 14.
+const META_OF_2: [u8; 12] = [121, 255, 255, 255, 6, 4, 2, 0, 3, 7, 7, 7];
 
 // Page 0 replaced by 23 ones, 32 bytes in all: 322 over the body, 774 over the header, 1096 = 4 * 256 + 72.
 const WIDE: [u8; 32] = [
@@ -56,8 +65,17 @@ const MANIFEST: [u8; 24] = [
     0,
 ];
 
+// A batch up to place 83 + 512. Its sum is 34884 = 136 * 256 + 68.
+const LONG_MANIFEST: [u8; 24] = [
+    187, 119, 255, 255, 3, 8, 0, 255, 101, 253, 255, 255, 255, 255, 255, 255, 83, 2, 0, 0, 0, 0, 0,
+    0,
+];
+
 // Page 0 replaced by a blob whose place has four bytes in place of eight: 20 over the body, 59 over the header.
 const NO_PLACE: [u8; 12] = [176, 255, 255, 255, 7, 4, 0, 0, 20, 0, 0, 0];
+
+// The same in segment 1, whose number adds 7.
+const NO_PLACE_OF_1: [u8; 12] = [169, 255, 255, 255, 7, 4, 1, 0, 20, 0, 0, 0];
 
 // The snapshot of a log with the message of three sevens: its spelling, its length and its sum.
 const SNAPSHOT: [u8; 33] = [
@@ -203,7 +221,7 @@ fn a_longer_file_without_segments(rt: HostRuntime) {
 
 #[test]
 fn a_failing_recovery(rt: HostRuntime) {
-    for n in 1..7 {
+    for n in 1..9 {
         let mut config = with_snapshot(&rt, rt.alloc(), &SNAPSHOT);
         config.device.fail_at(n);
         match recovered_plainly(&mut config) {
@@ -321,11 +339,29 @@ fn a_damaged_record_in_the_pass(rt: HostRuntime) {
     assert!(rt; is_damaged(&recovered_plainly(&mut config)));
 }
 
-// What recovery makes of this isn't said: the damaged record stands behind a batch that is open.
+// The tail is the segment at 256 alone, and ends at 288. The batch at 20 ends at 339, so the pass stops there: what
+// stands behind it isn't read, and the cut is 20.
 #[test]
 fn a_damaged_record_behind_an_open_batch(rt: HostRuntime) {
     let mut config = empty(&rt, rt.alloc());
     lay(&rt, &mut config, 0, &FIRST, &[&MANIFEST, &NO_PLACE]);
     lay(&rt, &mut config, 256, &SECOND_LATE, &[&META_OF_1]);
+    assert!(rt; is_bare(&recovered_plainly(&mut config), Some(20), Some(0)));
+    lay(&rt, &mut config, 0, &FIRST, &[&META, &MANIFEST, &NO_PLACE]);
+    let answer = recovered_plainly(&mut config);
+    assert!(rt; has_page(&answer, 32, Some(0), (20, DiskPtr::Inline(20), 12)));
+}
+
+// The tail is the segment at 512 alone, and ends at 544. The batch at 32 ends at 595, so the segment at 256, whose
+// record is damaged, isn't read. Without the batch it is.
+#[test]
+fn a_damaged_segment_behind_an_open_batch(rt: HostRuntime) {
+    let mut config = empty(&rt, rt.alloc());
+    lay(&rt, &mut config, 0, &FIRST, &[&META, &LONG_MANIFEST]);
+    lay(&rt, &mut config, 256, &SECOND, &[&NO_PLACE_OF_1]);
+    lay(&rt, &mut config, 512, &THIRD_LATE, &[&META_OF_2]);
+    let answer = recovered_plainly(&mut config);
+    assert!(rt; has_page(&answer, 32, Some(0), (20, DiskPtr::Inline(20), 12)));
+    lay(&rt, &mut config, 0, &FIRST, &[&META]);
     assert!(rt; is_damaged(&recovered_plainly(&mut config)));
 }

@@ -1,13 +1,12 @@
-use Rattle.std.proofs.Common.{◌⊎◌, inl, inr, ⊎_elim}
 use Rattle.sled_core.proofs.ReadingLemmas.{if_ok}
 use Rattle.sled_codec.specs.Snapshots.{Shot, shot_of}
 use Rattle.sled_store.specs.declared.config.Config.{Config}
 use Rattle.sled_store.specs.Device.{Trace, state_of}
 use Rattle.sled_log.specs.Recovery.{Recovered, Damaged, ContinuesFrom}
-use Rattle.sled_log.specs.Plain.{log_alone, HidesFrom}
+use Rattle.sled_log.specs.Plain.{log_alone}
 use Rattle.sled_log.specs.WritesBack.{conclusion_of}
 use Rattle.sled_log.proofs.PlainSame.{was_so}
-use Rattle.sled_log.proofs.PlainWhole.{recovers_from, recovers_damaged, hides_from}
+use Rattle.sled_log.proofs.PlainWhole.{recovers_from, recovers_damaged}
 use Rattle.sled_log.proofs.plain.recover_all.Goals as goal
 
 pub returns-in-Ok-clause-ok : goal.returns-in-Ok-clause-ok
@@ -25,14 +24,10 @@ returns-in-Ok-clause-corrupt g c = λ corrupt.
     let cfg : Config = c.args.config.now.config in
     let before : Trace = g.D.Device.trace c.args.config.now.device in
     let first : Shot = shot_of c.in-Ok.first in
-    let comes = was_so (λ n l. ContinuesFrom g.C.Checksum.sum_of n (log_alone l) first Damaged ⊎ HidesFrom g.C.Checksum.sum_of n (log_alone l) first) cfg c.read_newest.new.config.config before (g.D.Device.trace c.read_newest.new.config.device)
-    c.in-Ok.ensures.config c.in-Ok.ensures.trace (c.continue_all.ensures.corrupt corrupt) in
-    ⊎_elim
-    (λ x. inl (recovers_from g.C.Checksum.sum_of cfg.segment_size (log_alone (state_of before).log.bytes) (state_of before).snapshots.file first Damaged c.in-Ok.ensures.ok x))
-    (λ x. inr (hides_from g.C.Checksum.sum_of cfg.segment_size (log_alone (state_of before).log.bytes) (state_of before).snapshots.file first c.in-Ok.ensures.ok x))
-    comes
+    recovers_from g.C.Checksum.sum_of cfg.segment_size (log_alone (state_of before).log.bytes) (state_of before).snapshots.file first Damaged c.in-Ok.ensures.ok
+    (was_so (λ n l. ContinuesFrom g.C.Checksum.sum_of n (log_alone l) first Damaged) cfg c.read_newest.new.config.config before (g.D.Device.trace c.read_newest.new.config.device) c.in-Ok.ensures.config c.in-Ok.ensures.trace (c.continue_all.ensures.corrupt corrupt))
 
 pub returns-in-Err-clause-corrupt : goal.returns-in-Err-clause-corrupt
 returns-in-Err-clause-corrupt g c = λ corrupt.
     let before : Trace = g.D.Device.trace c.args.config.now.device in
-    inl (recovers_damaged g.C.Checksum.sum_of c.args.config.now.config.segment_size (log_alone (state_of before).log.bytes) (state_of before).snapshots.file (c.in-Err.ensures.corrupt corrupt))
+    recovers_damaged g.C.Checksum.sum_of c.args.config.now.config.segment_size (log_alone (state_of before).log.bytes) (state_of before).snapshots.file (c.in-Err.ensures.corrupt corrupt)

@@ -1,12 +1,12 @@
-use Rattle.std.proofs.Common.{◌≡◌, ◌∙◌, ◌⊎◌, ℕ, List, subst, inl}
+use Rattle.std.proofs.Common.{◌≡◌, ◌∙◌, ◌⊎◌, ℕ, List, subst}
 use Rattle.std.specs.List.{Contains}
 use Rattle.sled_core.proofs.ReadingLemmas.{if_ok}
 use Rattle.sled_core.specs.declared.met.Segment.{Segment}
 use Rattle.sled_codec.specs.Snapshots.{Shot, shot_of}
 use Rattle.sled_store.specs.declared.config.Config.{Config}
 use Rattle.sled_store.specs.Device.{Trace, state_of}
-use Rattle.sled_log.specs.Recovery.{Scanned, IsTail, IsDamagedTail, begun_below, AreScanned, IsDamagedPass, outcome_of, Recovered, Damaged, least_place}
-use Rattle.sled_log.specs.Plain.{log_alone, CanBeRead, IsHiddenPass}
+use Rattle.sled_log.specs.Recovery.{Scanned, IsTail, IsDamagedTail, begun_below, ArePassed, IsDamagedPass, outcome_of, Recovered, Damaged, least_place}
+use Rattle.sled_log.specs.Plain.{log_alone, CanBeRead}
 use Rattle.sled_log.specs.WritesBack.{conclusion_of}
 use Rattle.sled_log.proofs.PlainSame.{was_so, still_so}
 use Rattle.sled_log.proofs.PlainFound.{all_ready}
@@ -38,7 +38,7 @@ returns-in-Ok-Some-clause-ok g c =
     let begins = begins_there size c.stable_place.result c.tail_begins.result first ss c.tail_begins.ensures c.stable_place.ensures.place in
     let tail = c.in-Ok-Some.ensures.end in
     if_ok c.pass_over.result _ _ (λ x passed.
-    let passes = was_so (λ n l. (xs : List Scanned) × AreScanned g.C.Checksum.sum_of n (log_alone l) (begun_below end ss) xs × (outcome_of n first end xs ≡ Recovered (conclusion_of x))) cfg c.tail_end.new.config.config before (g.D.Device.trace c.tail_end.new.config.device)
+    let passes = was_so (λ n l. (xs : List Scanned) × ArePassed g.C.Checksum.sum_of n (log_alone l) end (begun_below end ss) xs × (outcome_of n first end xs ≡ Recovered (conclusion_of x))) cfg c.tail_end.new.config.config before (g.D.Device.trace c.tail_end.new.config.device)
     c.in-Ok-Some.ensures.config c.in-Ok-Some.ensures.trace passed in
     comes_passed g.C.Checksum.sum_of size (log_alone log) first ss c.requires.ordering tail.0 (subst (λ n. IsTail g.C.Checksum.sum_of size (log_alone log) ss n tail.0) begins tail.1) end (tail.2 ∙ c.in-Ok-Some.field-0-is)
     (Recovered (conclusion_of x)) passes.0 passes.1 passes.2)
@@ -56,7 +56,7 @@ returns-in-Ok-Some-clause-corrupt g c = λ corrupt.
     let begins = begins_there size c.stable_place.result c.tail_begins.result first ss c.tail_begins.ensures c.stable_place.ensures.place in
     let tail = c.in-Ok-Some.ensures.end in
     comes_corrupt g.C.Checksum.sum_of size (log_alone log) first ss c.requires.ordering tail.0 (subst (λ n. IsTail g.C.Checksum.sum_of size (log_alone log) ss n tail.0) begins tail.1) end (tail.2 ∙ c.in-Ok-Some.field-0-is)
-    (was_so (λ n l. IsDamagedPass g.C.Checksum.sum_of n (log_alone l) end (begun_below end ss) ⊎ IsHiddenPass g.C.Checksum.sum_of n (log_alone l) end (begun_below end ss) ⊎ ((xs : List Scanned) × AreScanned g.C.Checksum.sum_of n (log_alone l) (begun_below end ss) xs × (outcome_of n first end xs ≡ Damaged))) cfg c.tail_end.new.config.config before (g.D.Device.trace c.tail_end.new.config.device)
+    (was_so (λ n l. IsDamagedPass g.C.Checksum.sum_of n (log_alone l) end (begun_below end ss) ⊎ ((xs : List Scanned) × ArePassed g.C.Checksum.sum_of n (log_alone l) end (begun_below end ss) xs × (outcome_of n first end xs ≡ Damaged))) cfg c.tail_end.new.config.config before (g.D.Device.trace c.tail_end.new.config.device)
     c.in-Ok-Some.ensures.config c.in-Ok-Some.ensures.trace (c.pass_over.ensures.corrupt corrupt))
 
 pub returns-in-Ok-None-clause-ok : goal.returns-in-Ok-None-clause-ok
@@ -78,4 +78,4 @@ returns-in-Err-clause-corrupt g c = λ corrupt.
     let ss : List Segment = c.args.segments.now in
     let first : Shot = shot_of c.args.first in
     let begins = begins_there size c.stable_place.result c.tail_begins.result first ss c.tail_begins.ensures c.stable_place.ensures.place in
-    inl (comes_damaged g.C.Checksum.sum_of size (log_alone log) first ss c.requires.ordering (subst (λ n. IsDamagedTail g.C.Checksum.sum_of size (log_alone log) ss n) begins (c.in-Err.ensures.damaged corrupt)))
+    comes_damaged g.C.Checksum.sum_of size (log_alone log) first ss c.requires.ordering (subst (λ n. IsDamagedTail g.C.Checksum.sum_of size (log_alone log) ss n) begins (c.in-Err.ensures.damaged corrupt))
