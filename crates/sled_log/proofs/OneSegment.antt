@@ -1,5 +1,5 @@
 -- What recovery concludes where all of a history is on the device, in a log file of at most one segment.
-use Rattle.std.proofs.Common.{◌≡◌, ◌<◌, ◌∙◌, ℕ, suc, Bool, true, false, ◌&&◌, nat_lt, nat_le, if◌then◌else◌, List, [], ◌∷◌, map, None, refl, sym, ap, arith, inl, inr}
+use Rattle.std.proofs.Common.{◌≡◌, ◌<◌, ◌∙◌, ℕ, suc, Bool, true, false, ◌&&◌, nat_lt, nat_le, if◌then◌else◌, List, [], ◌∷◌, map, refl, sym, ap, arith, inl, inr}
 use Rattle.std.specs.List.{All, Contains, filter}
 use Rattle.std.proofs.lemmas.Bool.{cases_lt}
 use Rattle.std.proofs.lemmas.Bool.Decides.{nat_tests}
@@ -7,8 +7,9 @@ use Rattle.sled_codec.specs.History.{Message}
 use Rattle.sled_core.specs.declared.met.Met.{Met}
 use Rattle.sled_core.specs.declared.met.Segment.{Segment}
 use Rattle.sled_core.proofs.PathLemmas.{met_of}
-use Rattle.sled_log.specs.Recovery.{is_ascending, Applied, applied, given, before_open, open_at}
+use Rattle.sled_log.specs.Recovery.{is_ascending, Applied, applied, given, before_open}
 use Rattle.sled_log.proofs.FindLemmas.{not_in_none}
+pub use Rattle.sled_core.proofs.StandLemmas.{none_open}
 
 -- what is met of messages
 pub given_messages : (low cut : ℕ) (ms : List Message) → All (λ m. m.place < cut) ms → given low (map met_of ms) ≡ map applied (filter (λ m. nat_le low m.place && nat_lt m.place cut) ms)
@@ -29,11 +30,7 @@ given_messages low cut (m ∷ ms) below =
           ∙ ap (map applied) (sym (ap (λ (b : Bool). if b then m ∷ filter (λ x. nat_le low x.place && nat_lt x.place cut) ms else filter (λ x. nat_le low x.place && nat_lt x.place cut) ms) test)))
     ]
 
--- among messages no batch begins
-pub none_open : (end : ℕ) (ms : List Message) → open_at end (map met_of ms) ≡ None
-none_open end [] = refl
-none_open end (m ∷ ms) = none_open end ms
-
+-- among messages no batch begins: all of them are met before one
 pub all_before : (end : ℕ) (ms : List Message) → before_open end (map met_of ms) ≡ map met_of ms
 all_before end [] = refl
 all_before end (m ∷ ms) = ap (λ (l : List Met). met_of m ∷ l) (all_before end ms)
