@@ -1,11 +1,15 @@
 pub mod BegunLemmas
 pub mod BookLemmas
 pub mod CompletesLemmas
+pub mod Elements
 pub mod EntryLemmas
 pub mod FillLemmas
 pub mod FilledLemmas
+pub mod FirstBegun
+pub mod FirstSegment
 pub mod FitLemmas
 pub mod FlushLemmas
+pub mod FoundLemmas
 pub mod FreshLemmas
 pub mod GivesLemmas
 pub mod Heads
@@ -20,7 +24,9 @@ pub mod ReadingLemmas
 pub mod ReadyLemmas
 pub mod ReserveLemmas
 pub mod ScanLemmas
+pub mod StandLemmas
 pub mod StartLemmas
+pub mod TableEntries
 pub mod TornFlush
 pub mod TornLemmas
 pub mod TornRecords

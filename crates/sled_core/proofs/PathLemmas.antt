@@ -83,7 +83,14 @@ module _ (sum : List ℕ → ℕ) (size : ℕ) (r : Readable) (lid number : ℕ)
   ]
   says h body (Begins peg) same said = absurd (not_inline stands.header.kind kind.BatchManifest inline refl (ap (λ (x : MessageHeader). x.kind) same ∙ said.0))
 
-  -- what is met there is the message
+  -- the message is met there
+  pub is_met : IsMet sum size r lid number (met_of m)
+  unfolding IsMet
+  is_met =
+      let kinds : m.kind ≡ log_kind_of stands.header.kind = sym (log_kind_back m.kind m.page stands.header.kind stands.known) in
+      (stands.header, m.bytes, stands.stands, (kinds, sym stands.page, inl (inline, pointer)))
+
+  -- and what is met there is the message
   pub met_is : (x : Met) → x.place ≡ m.place → IsMet sum size r lid number x → x ≡ met_of m
   unfolding IsMet
   met_is x place met =

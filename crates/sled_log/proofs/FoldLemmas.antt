@@ -12,7 +12,7 @@ use Rattle.sled_log.proofs.Ascending.{in_filter, from_filter, all_from_in, subli
 use Rattle.sled_log.proofs.PageStates.{none_begins, begins_false, IsLast, last_found, same_state}
 use Rattle.sled_log.proofs.PageRuns.{run, run-append, run_is}
 use Rattle.sled_log.proofs.PageWise.{at_page, Begins, table_keeps, table_begins, table_since}
-use Rattle.sled_log.proofs.TableParts.{in_page, from_page, page_ascends, state_from, last_in_state, split_at, has_page, page_stays, replaced_before}
+use Rattle.sled_log.proofs.TableParts.{in_page, from_page, page_ascends, state_from, from_table, last_in_state, split_at, has_page, page_stays, replaced_before}
 
 -- The messages L are a history's, lie at or above the place low and below cut, and have all entries of the table that lie there.
 module _ (H : History) (low cut : ℕ) (first : List Page) (L : List Message) (formed : IsWellFormed H) (le : low ≤ cut) (is : IsTable first H low) (sub : IsSublist L H.messages)
@@ -66,7 +66,7 @@ module _ (H : History) (low cut : ℕ) (first : List Page) (L : List Message) (f
     unfolding table
     state_in_both m there = ⊎_elim before after (cases_lt m.place low) where
       found : Contains H.messages m × (m.page ≡ page) × (m.place < cut)
-      found = from_page H.messages cut page m (state_from all all_ascends m there)
+      found = from_page H.messages cut page m (state_from all m there)
 
       before : m.place < low → Contains (old ++ new) m
       before lt = Contains-append_left old new m (in_page H.messages low page m found.0 found.1 lt)
@@ -146,5 +146,5 @@ fold_all H low cut first formed le is = fold H low cut first (filter between H.m
 
   entries : (page : ℕ) (m : Message) → Contains (table H cut page) m → low ≤ m.place → Contains (filter (λ x. nat_le low x.place && nat_lt x.place cut) H.messages) m
   entries page m there above =
-      let found = from_page H.messages cut page m (state_from (of_page H.messages cut page) (page_ascends H.messages cut page (apart_ascends H.messages formed.apart)) m there) in
+      let found = from_table H cut page m there in
       in_filter between H.messages m found.0 (and_from (nat_le low m.place) (nat_lt m.place cut) (le-leb low m.place above) (lt-ltb m.place cut found.2))

@@ -18,9 +18,9 @@ use Rattle.sled_core.specs.declared.met.Ending.TheVariants.{Full, Capped, Broken
 use Rattle.sled_core.specs.Scan.{Readable, IsFoundSegment, IsPath, IsScan}
 use Rattle.sled_core.specs.LogFile.{StandIn, StandsElsewhere, HasHeader, IsLogFile}
 use Rattle.sled_core.specs.Fits.{IsBegunFrom}
-use Rattle.sled_core.proofs.Ranges.{with_first}
-use Rattle.sled_core.proofs.LogFileLemmas.{stands_some, stand_grows}
+use Rattle.sled_core.proofs.LogFileLemmas.{stands_some}
 use Rattle.sled_core.proofs.PathLemmas.{met_of, IsEmpty, zeros_empty, scan_is}
+use Rattle.sled_core.proofs.StandLemmas.{stand_below}
 use Rattle.sled_log.specs.Recovery.{Scanned, IsScanned, IsOrdering, IsTail, GoesOn, IsPassed, StopsOrGoesOn, ArePassed, begun_below, Conclusion, Outcome, Recovered, Damaged, Applied, applied, given, open_at, tail_end, tail_begins, place_of_mark, least_place, outcome_of, concluded, unchanged, Passes, Replays, ContinuesFrom, Recovers, cut_of}
 use Rattle.sled_log.proofs.BeginLemmas.{one_begin}
 use Rattle.sled_log.proofs.RecoveryLemmas.{one_outcome}
@@ -36,17 +36,6 @@ conclusion_in (Recovered y) x = y
 low_mark : (mark : ℤ) (place : ℕ) → ((n : ℕ) → mark ≡ pos n → n < place) → max (place_of_mark mark) place ≡ place
 low_mark (pos n) place low = let b = low n refl in omega (arith, b)
 low_mark (negsuc n) place low = omega arith
-
--- records lie below where they end
-pub stand_below : (sum : List ℕ → ℕ) (size : ℕ) (log : List ℕ) (site : Site) (at : ℕ) (ms : List Message) (end : ℕ) → StandIn sum size log site at ms end
-    → All (λ m. (m.place < site.place + end) × (m.place + m.size ≤ site.place + end)) ms
-stand_below sum size log site at [] end stand = λ k d lt. absurd (omega arith)
-stand_below sum size log site at (m ∷ ms) end stand =
-    let Below : Message → Type 0 = λ x. (x.place < site.place + end) × (x.place + x.size ≤ site.place + end) in
-    let rest = stand_grows sum size log site (at + m.size) ms end stand.4 in
-    let some = stands_some sum size log (site.slot + at) (site.place / size) m stand.3 in
-    let place : m.place ≡ site.place + at = stand.1 in
-    with_first Below m ms (omega (arith, rest, some, place), omega (arith, rest, place)) (stand_below sum size log site (at + m.size) ms end stand.4)
 
 module _ (sum : List ℕ → ℕ) (size : ℕ) (r : Readable) (snapshots : ℤ → Option (List ℕ)) (site : Site) (from : ℕ) (H : History) (file : IsLogFile sum size r.log site from H.messages)
     (begun : IsBegunFrom sum size snapshots site from H) (some : 256 ≤ size) (short : length r.log ≤ size) (inside : from ≤ size) (place_begins : site.place % size ≡ 0) (slot_begins : site.slot % size ≡ 0) where

@@ -12,6 +12,7 @@ use Rattle.sled_core.specs.LogFile.{StandIn}
 use Rattle.sled_core.proofs.PathLemmas.{met_of, met_is, IsEmpty}
 use Rattle.sled_log.specs.Recovery.{is_ascending, Applied, applied, given, before_open, open_at}
 use Rattle.sled_log.proofs.FindLemmas.{not_in_none}
+pub use Rattle.sled_core.proofs.StandLemmas.{none_open}
 
 -- what is met of messages
 pub given_messages : (low cut : ℕ) (ms : List Message) → All (λ m. m.place < cut) ms → given low (map met_of ms) ≡ map applied (filter (λ m. nat_le low m.place && nat_lt m.place cut) ms)
@@ -32,11 +33,7 @@ given_messages low cut (m ∷ ms) below =
           ∙ ap (map applied) (sym (ap (λ (b : Bool). if b then m ∷ filter (λ x. nat_le low x.place && nat_lt x.place cut) ms else filter (λ x. nat_le low x.place && nat_lt x.place cut) ms) test)))
     ]
 
--- among messages no batch begins
-pub none_open : (end : ℕ) (ms : List Message) → open_at end (map met_of ms) ≡ None
-none_open end [] = refl
-none_open end (m ∷ ms) = none_open end ms
-
+-- among messages no batch begins: all of them are met before one
 pub all_before : (end : ℕ) (ms : List Message) → before_open end (map met_of ms) ≡ map met_of ms
 all_before end [] = refl
 all_before end (m ∷ ms) = ap (λ (l : List Met). met_of m ∷ l) (all_before end ms)

@@ -1,13 +1,13 @@
 -- What a table of a history has of its messages, and which pages.
-use Rattle.std.proofs.Common.{if◌then◌else◌, ⊎_elim, ◌≡◌, ◌⊎◌, ◌<◌, ◌≤◌, ℕ, Bool, true, false, ◌&&◌, ◌==◌, nat_lt, List, [], ◌∷◌, ◌++◌, Option, Some, None, refl, sym, ap, subst, arith, inl, inr, eqb-true, eq-eqb, ltb-true, lt-ltb}
+use Rattle.std.proofs.Common.{if◌then◌else◌, ◌≡◌, ◌⊎◌, ◌<◌, ◌≤◌, ℕ, ◌&&◌, ◌==◌, nat_lt, List, [], ◌∷◌, ◌++◌, Option, Some, sym, ap, subst, arith, inl, inr, eq-eqb, lt-ltb}
 use Rattle.std.specs.List.{Contains, filter}
-use Rattle.std.proofs.lemmas.Bool.{and_parts, and_from}
+use Rattle.std.proofs.lemmas.Bool.{and_from}
 use Rattle.std.proofs.lemmas.List.Elements.{Contains-append_left, Contains-append_right}
 use Rattle.sled_codec.specs.declared.serialization.message.LogKind.TheVariants as does
 use Rattle.sled_codec.specs.History.{Message, History, is_replace, is_link, last_beginning, entries_from, page_state, of_page, HasPage}
 use Rattle.sled_codec.specs.WellFormed.{HasReplace}
-use Rattle.sled_log.proofs.Ascending.{in_first, in_cases, in_nothing, in_filter, from_filter, Ascends, later_above, filter_ascends}
-use Rattle.sled_log.proofs.PageStates.{IsLast, last_found}
+pub use Rattle.sled_core.proofs.TableEntries.{from_page, state_from, from_table}
+use Rattle.sled_log.proofs.Ascending.{in_first, in_cases, in_nothing, in_filter, Ascends, later_above, filter_ascends}
 
 -- The messages of a page below a cut.
 
@@ -16,31 +16,9 @@ unfolding of_page
 in_page ms cut page m there of lt =
     in_filter (λ x. (x.page == page) && nat_lt x.place cut) ms m there (and_from (m.page == page) (nat_lt m.place cut) (eq-eqb m.page page of) (lt-ltb m.place cut lt))
 
-pub from_page : (ms : List Message) (cut page : ℕ) (m : Message) → Contains (of_page ms cut page) m → Contains ms m × (m.page ≡ page) × (m.place < cut)
-unfolding of_page
-from_page ms cut page m there =
-    let found = from_filter (λ x. (x.page == page) && nat_lt x.place cut) ms m there in
-    let passes = and_parts (m.page == page) (nat_lt m.place cut) found.1 in
-    (found.0, eqb-true m.page page passes.0, ltb-true m.place cut passes.1)
-
 pub page_ascends : (ms : List Message) (cut page : ℕ) → Ascends ms → Ascends (of_page ms cut page)
 unfolding of_page
 page_ascends ms cut page order = filter_ascends (λ x. (x.page == page) && nat_lt x.place cut) ms order
-
--- The state of a page is made of its messages.
-
-pub state_from : (ms : List Message) → Ascends ms → (m : Message) → Contains (page_state ms) m → Contains ms m
-unfolding page_state
-state_from ms order m there = by_cases (last_beginning ms) (λ b. last_found ms b order) there where
-  links : (b : Message) (t : Bool) → Contains ms b → Contains (b ∷ (if t then filter (λ x. is_link x.kind && nat_lt b.place x.place) ms else [])) m → Contains ms m
-  links b true base found =
-      ⊎_elim (λ is. subst (Contains ms) is base) (λ rest. (from_filter (λ x. is_link x.kind && nat_lt b.place x.place) ms m rest).0)
-      (in_cases b m (filter (λ x. is_link x.kind && nat_lt b.place x.place) ms) found)
-  links b false base found = ⊎_elim (λ is. subst (Contains ms) is base) (λ rest. absurd (in_nothing m rest)) (in_cases b m [] found)
-
-  by_cases : (o : Option Message) → ((b : Message) → o ≡ Some b → IsLast ms b) → Contains (entries_from o ms) m → Contains ms m
-  by_cases None found at = absurd (in_nothing m at)
-  by_cases (Some b) found at = links b (is_replace b.kind) (found b refl).there at
 
 -- the last message that begins the page is in its state
 pub last_in_state : (ms : List Message) (b : Message) → last_beginning ms ≡ Some b → Contains (page_state ms) b
