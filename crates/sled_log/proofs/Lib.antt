@@ -25,6 +25,7 @@ mod PlainWhole
 mod RecoveryLemmas
 pub mod RemovalLemmas
 pub mod RestartLemmas
+pub mod RunHistories
 pub mod TableCuts
 mod TableLemmas
 pub mod TableParts
