@@ -26,6 +26,7 @@ mod RecoveryLemmas
 pub mod RemovalLemmas
 pub mod RestartLemmas
 pub mod RunHistories
+pub mod RunLemmas
 pub mod TableCuts
 mod TableLemmas
 pub mod TableParts

@@ -1,0 +1,107 @@
+-- What holds at the joints of a run: the premise on what is read, at each of its parts; what a crash leaves; and one command more.
+use Rattle.std.proofs.Common.{◌≡◌, ◌⊎◌, ◌∙◌, ℕ, ℤ, Bool, true, false, if◌then◌else◌, IsTrue, List, [], ◌∷◌, ◌++◌, Option, None, Some, refl, sym, ap, subst, append_assoc, inl, inr}
+use Rattle.sled_codec.specs.History.{History}
+use Rattle.sled_store.specs.declared.device.choice.Choice.{Choice}
+use Rattle.sled_store.specs.Device.{Event, Left, Trace, State, Content, Crashed, Settled, state_of, step, content_of, content_left, Leaves, names_at_rest}
+use Rattle.sled_store.specs.Chosen.{MayBeChosen}
+use Rattle.sled_store.specs.Noted.{left_of}
+use Rattle.sled_store.proofs.LogLemmas.{at_rest_left}
+use Rattle.sled_store.proofs.SettledLemmas.{read_left, settled_left_too}
+use Rattle.sled_store.proofs.NamesLemmas.{settled_name_left, settled_name_at_rest}
+use Rattle.sled_core.specs.Recoverable.{NoForeign, Recoverable, LeavesRecoverable}
+use Rattle.sled_log.specs.declared.run.Command.{Command}
+use Rattle.sled_log.specs.declared.run.Reply.{Reply}
+use Rattle.sled_log.specs.Runs.{OwnLeft, OwnEach, OwnThroughout, Standing, IsLater, IsStep, Runs}
+
+-- One trace later than another.
+
+pub later_same : (old : Trace) → IsLater old old
+later_same old = ([], refl)
+
+pub later_is : (old new : Trace) → new ≡ old → IsLater old new
+later_is old new is = ([], is)
+
+pub later_one : (old new : Trace) (e : Event) → new ≡ e ∷ old → IsLater old new
+later_one old new e is = (e ∷ [], is)
+
+pub later_both : (old mid new : Trace) → IsLater old mid → IsLater mid new → IsLater old new
+later_both old mid new first second = (second.0 ++ first.0, second.1 ∙ ap (λ (t : Trace). second.0 ++ t) first.1 ∙ sym (append_assoc second.0 first.0 old))
+
+-- The premise, at parts of what it is said of.
+module _ (sum : List ℕ → ℕ) (size : ℕ) where
+  each_first : (es fs : List Event) (old : Trace) → OwnEach sum size (es ++ fs) old → OwnEach sum size fs old
+  each_first [] fs old own = own
+  each_first (e ∷ es) fs old own = each_first es fs old own.2
+
+  each_rest : (es fs : List Event) (old : Trace) → OwnEach sum size (es ++ fs) old → OwnEach sum size es (fs ++ old)
+  each_rest [] [] old own = own
+  each_rest [] (f ∷ fs) old own = own.0
+  each_rest (e ∷ es) fs old own =
+      let is : (es ++ fs) ++ old ≡ es ++ (fs ++ old) = append_assoc es fs old in
+      (
+        subst (λ (t : Trace). NoForeign sum size (state_of (e ∷ t)) (content_of (state_of (e ∷ t)))) is own.0,
+        subst (λ (t : Trace). OwnLeft sum size e (state_of t)) is own.1,
+        each_rest es fs old own.2
+      )
+
+  each_last : (es : List Event) (old : Trace) → OwnEach sum size es old → NoForeign sum size (state_of (es ++ old)) (content_of (state_of (es ++ old)))
+  each_last [] old own = own
+  each_last (e ∷ es) old own = own.0
+
+  pub own_first : (old mid new : Trace) → IsLater mid new → OwnThroughout sum size old new → OwnThroughout sum size old mid
+  unfolding OwnThroughout
+  own_first old mid new later own = λ fs is. each_first later.0 fs old (own (later.0 ++ fs) (later.1 ∙ ap (λ (t : Trace). later.0 ++ t) is ∙ sym (append_assoc later.0 fs old)))
+
+  pub own_rest : (old mid new : Trace) → IsLater old mid → OwnThroughout sum size old new → OwnThroughout sum size mid new
+  unfolding OwnThroughout
+  own_rest old mid new before own = λ es is.
+      subst (λ (t : Trace). OwnEach sum size es t) (sym before.1)
+      (each_rest es before.0 old (own (es ++ before.0) (is ∙ ap (λ (t : Trace). es ++ t) before.1 ∙ sym (append_assoc es before.0 old))))
+
+  -- at the end
+  pub own_last : (old new : Trace) → IsLater old new → OwnThroughout sum size old new → NoForeign sum size (state_of new) (content_of (state_of new))
+  unfolding OwnThroughout
+  own_last old new later own = subst (λ (t : Trace). NoForeign sum size (state_of t) (content_of (state_of t))) (sym later.1) (each_last later.0 old (own later.0 later.1))
+
+  -- at the beginning
+  pub own_here : (old new : Trace) → IsLater old new → OwnThroughout sum size old new → NoForeign sum size (state_of old) (content_of (state_of old))
+  own_here old new later own = own_last old old (later_same old) (own_first old old new later own)
+
+  -- of a crash
+  pub own_crash : (old new : Trace) (left : Left) → new ≡ Crashed left ∷ old → OwnThroughout sum size old new → NoForeign sum size (state_of old) (content_left left (state_of old))
+  unfolding OwnThroughout
+  own_crash old new left is own = (own (Crashed left ∷ []) is).1
+
+  -- What is read now can be recovered where whatever a crash leaves can.
+  pub reads_recoverable : (H : History) (A f : ℕ) (trace : Trace) → LeavesRecoverable sum size H A f (state_of trace) → NoForeign sum size (state_of trace) (content_of (state_of trace)) → Recoverable sum size (content_of (state_of trace)) H A f
+  reads_recoverable H A f trace leaves own = leaves (content_of (state_of trace)) (read_left trace) own
+
+  -- Behind a crash just what it left can be left by another one.
+  crashed_leaves : (H : History) (A f : ℕ) (left : Left) (s : State) → Recoverable sum size (content_left left s) H A f → LeavesRecoverable sum size H A f (step (Crashed left) s)
+  crashed_leaves H A f left s can content leaves own =
+      let now : Content = content_left left s in
+      let logs : content.log ≡ now.log = at_rest_left now.log content.log leaves.log in
+      let blobs : (n : ℤ) → content.blobs n ≡ now.blobs n = λ n. settled_name_left (names_at_rest now.blobs) n (content.blobs n) (settled_name_at_rest now.blobs n) (leaves.blobs n) in
+      let snapshots : (n : ℤ) → content.snapshots n ≡ now.snapshots n = λ n. settled_name_left (names_at_rest now.snapshots) n (content.snapshots n) (settled_name_at_rest now.snapshots n) (leaves.snapshots n) in
+      let same : now ≡ content = λ i. record { log = sym logs i; blobs = λ n. sym (blobs n) i; snapshots = λ n. sym (snapshots n) i } in
+      subst (λ (c : Content). Recoverable sum size c H A f) same can
+
+  pub crash_recoverable : (H : History) (A f : ℕ) (old new : Trace) (left : Left) → LeavesRecoverable sum size H A f (state_of old) → new ≡ Crashed left ∷ old → Leaves (state_of old) (content_left left (state_of old)) → OwnThroughout sum size old new
+      → LeavesRecoverable sum size H A f (state_of new)
+  crash_recoverable H A f old new left leaves is may own =
+      subst (λ (t : Trace). LeavesRecoverable sum size H A f (state_of t)) (sym is) (crashed_leaves H A f left (state_of old) (leaves (content_left left (state_of old)) may (own_crash old new left is own)))
+
+  -- One command more.
+  pub runs_more : (old : Trace) (a : Standing) (cs : List Command) (rs : List Reply) (mid : Trace) (m : Standing) (c : Command) (r : Reply) (new : Trace) (b : Standing)
+      → Runs sum size old a cs rs mid m → IsStep sum size mid new c r m b → Runs sum size old a (cs ++ c ∷ []) (rs ++ r ∷ []) new b
+  unfolding Runs
+  runs_more old a [] [] mid m c r new b so_far more =
+      (new, b, subst (λ (t : Trace). IsStep sum size t new c r a b) so_far.0 (subst (λ (x : Standing). IsStep sum size mid new c r x b) so_far.1 more), (refl, refl))
+  runs_more old a (x ∷ cs) (y ∷ rs) mid m c r new b so_far more = (so_far.0, so_far.1, so_far.2, runs_more so_far.0 so_far.1 cs rs mid m c r new b so_far.3 more)
+  runs_more old a [] (y ∷ rs) mid m c r new b so_far more = absurd so_far
+  runs_more old a (x ∷ cs) [] mid m c r new b so_far more = absurd so_far
+
+-- what was chosen of a crash, or what was settled, a crash may leave
+pub left_by : (old : Trace) (choice : Choice) (taken : Bool) → (IsTrue taken → MayBeChosen choice (state_of old)) → Leaves (state_of old) (content_left (if taken then left_of choice else Settled []) (state_of old))
+left_by old choice true may = (may refl).1
+left_by old choice false may = settled_left_too old
