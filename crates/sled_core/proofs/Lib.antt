@@ -11,6 +11,7 @@ pub mod GivesLemmas
 pub mod Heads
 pub mod HoldsLemmas
 pub mod LogFileLemmas
+pub mod MainLemmas
 pub mod OpenLemmas
 pub mod Parts
 pub mod PathLemmas
