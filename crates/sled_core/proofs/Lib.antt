@@ -19,6 +19,7 @@ pub mod Ranges
 pub mod ReadingLemmas
 pub mod ReadyLemmas
 pub mod ReserveLemmas
+pub mod RunningLemmas
 pub mod ScanLemmas
 pub mod StartLemmas
 pub mod TornFlush

@@ -26,6 +26,5 @@ pub mod RestartLemmas
 pub mod TableCuts
 mod TableLemmas
 pub mod TableParts
-pub mod Trailers
 pub mod UsedSlot
 pub mod WriteLemmas
