@@ -1,12 +1,11 @@
 -- A log whose device is at rest leaves only contents that can be recovered.
-use Rattle.std.proofs.Common.{◌≡◌, ◌⊎◌, ◌≤◌, ◌<◌, ◌+◌, ◌/◌, ◌^◌, ◌∙◌, ℕ, zero, suc, pos, max, nat_lt, List, [], ◌∷◌, ◌++◌, length, None, if◌then◌else◌, sym, ap, arith, refl, subst, inl, inr, false, true, Bool}
+use Rattle.std.proofs.Common.{◌≡◌, ◌≤◌, ◌<◌, ◌+◌, ◌/◌, ◌^◌, ◌∙◌, ℕ, pos, max, List, [], ◌∷◌, ◌++◌, length, None, sym, ap, arith, refl, subst, inl, inr}
 use Rattle.std.specs.List.{All}
 use Rattle.std.proofs.lemmas.Bool.{cases_lt}
 use Rattle.std.proofs.lemmas.Bool.Decides.{nat_tests}
-use Rattle.sled_codec.specs.Places.{part}
 use Rattle.sled_codec.specs.Record.{IsHeader}
 use Rattle.sled_codec.specs.History.{Message, History}
-use Rattle.sled_store.specs.Device.{Content, LogState, State, Leaves, LeavesLog, at_rest}
+use Rattle.sled_store.specs.Device.{Content, LogState, State, Leaves, LeavesLog}
 use Rattle.sled_store.specs.SnapshotFiles.{stable_place}
 use Rattle.sled_store.proofs.LogLemmas.{at_rest_left}
 use Rattle.sled_core.specs.declared.iobuf.Reserved.{Reserved}
