@@ -15,6 +15,7 @@ pub mod GivesLemmas
 pub mod Heads
 pub mod HoldsLemmas
 pub mod LogFileLemmas
+pub mod MainLemmas
 pub mod OpenLemmas
 pub mod Parts
 pub mod PathLemmas
@@ -23,6 +24,7 @@ pub mod ReachLemmas
 pub mod ReadingLemmas
 pub mod ReadyLemmas
 pub mod ReserveLemmas
+pub mod RunningLemmas
 pub mod ScanLemmas
 pub mod StandLemmas
 pub mod StartLemmas

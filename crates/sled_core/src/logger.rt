@@ -2,7 +2,7 @@
 //!
 //! A log keeps the bytes of its segment, the reservations in them, the count of pins, and the first
 //! failure of its device, which it answers from then on. `specs/Fits.antt` says which history it holds.
-ghost use Rattle.std.specs.Prelude.{◌≡◌, ◌≢◌, ◌↔◌, ◌+◌, ◌-◌, ◌<◌, ◌≤◌, ◌^◌, ◌∷◌, ◌-ℤ◌, ◌<ℤ◌, pos, [], ℕ, length, drop, true, false, IsTrue, IfOk, IfErr, OnOk, OnErr, IsErrOf, Contains, None, Some, ◌⊎◌, ◌/◌, unsigned_abs, max, ℤ};
+ghost use Rattle.std.specs.Prelude.{List, ◌≡◌, ◌≢◌, ◌↔◌, ◌+◌, ◌-◌, ◌<◌, ◌≤◌, ◌^◌, ◌∷◌, ◌-ℤ◌, ◌<ℤ◌, pos, [], ℕ, length, drop, true, false, IsTrue, IfOk, IfErr, OnOk, OnErr, IsErrOf, Contains, None, Some, ◌⊎◌, ◌/◌, unsigned_abs, max, ℤ};
 ghost use Rattle.std.specs.declared.io.Error.{Error as IoError};
 ghost use Rattle.sled_codec.specs.Kinds.{kind_written};
 ghost use Rattle.sled_codec.specs.History.{History, Message, Completed, Step, no_history};
@@ -18,9 +18,11 @@ ghost use Rattle.sled_codec.specs.Pointers.{lid_of};
 ghost use Rattle.sled_core.specs.Buffers.{record_size};
 ghost use Rattle.sled_codec.specs.Snapshots.{shot_of};
 ghost use Rattle.sled_store.specs.Script.{after_all, Performs};
+ghost use Rattle.sled_store.specs.Moments.{LeavesOnly};
 ghost use Rattle.sled_store.specs.SnapshotFiles.{stable_place, empty_shot};
 ghost use Rattle.sled_core.specs.Begin.{IsStartable, IsInReach, slots_of, unused, filling, place_at, offset_at};
 ghost use Rattle.sled_core.specs.Ready.{IsReady};
+ghost use Rattle.sled_core.specs.Recoverable.{LeavesRecoverable, RecoverableIfOwn};
 ghost use Rattle.sled_core.specs.Causes.{StartRefuses, Answers, FaultAnswers, ReserveAnswers, ReadAnswers, failure_in};
 
 use crate::begin::begin;
@@ -52,6 +54,7 @@ pub struct Log<D, C> {
 
 impl<D: Device, C: Checksum> Log<D, C> {
     ghost use Rattle.sled_core.specs.Fits.{Holds, AllEnded, Awaits, IsOpen, HasRoom, IsUnchanged, fault_of, next_place, synced_end, reserved_end, pins_of, config_of, device_of, site_of, IsWritten, flushing, manifest_page, segment_size_of, size_for, message_for, KeepsAll};
+    ghost use Rattle.sled_core.specs.Running.{Fits};
 
     /// Begins a log on what a recovery left: it goes on at the snapshot's stable place. First it fills the
     /// slots of the file that the snapshot does not use with zeros, in ascending order, and syncs the file
@@ -103,7 +106,8 @@ impl<D: Device, C: Checksum> Log<D, C> {
     /// Takes a pin. There may be fewer than 2^32 - 1.
     pub fn pin(&mut self) -> Guard
         requires { pins_of self.old < 2 ^ 32 - 1 }
-        ensures { self.new ≡ record self.old { pins = pins_of self.old + 1 } }
+        ensures taken { self.new ≡ record self.old { pins = pins_of self.old + 1 } }
+        ensures fits { (H : History) (A f : ℕ) (U : List Message) → Fits D.trace C.sum_of self.old H A f U → Fits D.trace C.sum_of self.new H A f U }
     {
         self.pins += 1;
         Guard::new()
@@ -112,7 +116,8 @@ impl<D: Device, C: Checksum> Log<D, C> {
     /// Gives a pin back.
     pub fn unpin(&mut self, guard: Guard)
         requires { 0 < pins_of self.old }
-        ensures { self.new ≡ record self.old { pins = pins_of self.old - 1 } }
+        ensures given { self.new ≡ record self.old { pins = pins_of self.old - 1 } }
+        ensures fits { (H : History) (A f : ℕ) (U : List Message) → Fits D.trace C.sum_of self.old H A f U → (U ≢ [] → 1 < pins_of self.old) → Fits D.trace C.sum_of self.new H A f U }
     {
         guard.abandon();
         self.pins -= 1;
@@ -150,6 +155,8 @@ impl<D: Device, C: Checksum> Log<D, C> {
         ensures others { (ticket : Reservation) (m : Message) → Awaits self.old ticket m → Awaits self.new ticket m }
         ensures history { (H : History) → Holds D.trace C.sum_of self.old H → Holds D.trace C.sum_of self.new H }
         ensures answers { ReserveAnswers result (fault_of self.old) (kind_written kind pid false) }
+        ensures fits { (H : History) (A f : ℕ) (U : List Message) → Fits D.trace C.sum_of self.old H A f U → Fits D.trace C.sum_of self.new H A f U }
+        ensures crash { (H : History) (A f : ℕ) (U : List Message) → Fits D.trace C.sum_of self.old H A f U → LeavesOnly (RecoverableIfOwn C.sum_of (segment_size_of self.old) H A f) (D.trace (device_of self.old)) (D.trace (device_of self.new)) }
         ensures same { KeepsAll self.old self.new }
         ensures err { OnErr result (IsUnchanged self.old self.new) }
     {
@@ -186,6 +193,9 @@ impl<D: Device, C: Checksum> Log<D, C> {
             → OnOk result ((H' : History) × Step H (Completed m) H' × Holds D.trace C.sum_of self.new H') }
         ensures others { (H : History) (other : Reservation) (m : Message) → Holds D.trace C.sum_of self.old H → Awaits self.old other m → place_of other ≢ place_of ticket → Awaits self.new other m }
         ensures answers { FaultAnswers result (fault_of self.old) }
+        ensures fits { (H : History) (A f : ℕ) (U : List Message) (m : Message) → Fits D.trace C.sum_of self.old H A f U → Awaits self.old ticket m → 0 < pins_of self.old
+            → OnOk result ((H' : History) × Step H (Completed m) H' × Fits D.trace C.sum_of self.new H' A f (m ∷ U)) }
+        ensures crash { (H : History) (A f : ℕ) (U : List Message) → Fits D.trace C.sum_of self.old H A f U → LeavesOnly (RecoverableIfOwn C.sum_of (segment_size_of self.old) H A f) (D.trace (device_of self.old)) (D.trace (device_of self.new)) }
         ensures same { KeepsAll self.old self.new }
         ensures next { next_place self.new ≡ next_place self.old }
         ensures err { OnErr result (self.new ≡ self.old) }
@@ -343,7 +353,8 @@ impl<D: Device, C: Checksum> Log<D, C> {
 
     /// Gives the log up, and writes nothing.
     pub fn halt(self) -> RunningConfig<D, C>
-        ensures { result ≡ config_of self }
+        ensures config { result ≡ config_of self }
+        ensures recoverable { (H : History) (A f : ℕ) (U : List Message) → Fits D.trace C.sum_of self H A f U → LeavesRecoverable C.sum_of (segment_size_of self) H A f (state_of (D.trace result.device)) }
     {
         let Log {
             config,

@@ -7,7 +7,7 @@ use Rattle.std.specs.declared.cmp.Ordering.TheVariants.{Less, Equal, Greater}
 use Rattle.std.proofs.lemmas.Cmp.{int_ranked}
 use Rattle.sled_codec.specs.Snapshots.{Shot}
 use Rattle.sled_store.specs.SnapshotFiles.{IsSnapshotFile, IsNewest, BeginsFrom}
-use Rattle.sled_log.proofs.Trailers.{one_snapshot}
+use Rattle.sled_store.proofs.Trailers.{one_snapshot}
 
 by_rank : (a b : ℤ) (r : Ordering) → MatchOrdering r (a <ℤ b) (a ≡ b) (b <ℤ a) → a ≤ℤ b → b ≤ℤ a → a ≡ b
 by_rank a b Less lt le ge = absurd (<ℤ_irrefl (<ℤ-≤ℤ_trans lt ge))

@@ -30,6 +30,5 @@ pub mod RunLemmas
 pub mod TableCuts
 mod TableLemmas
 pub mod TableParts
-pub mod Trailers
 pub mod UsedSlot
 pub mod WriteLemmas

@@ -14,4 +14,5 @@ pub mod SettledLemmas
 pub mod SyncedLemmas
 mod StandsLemmas
 mod TakenLemmas
+pub mod Trailers
 mod Walks

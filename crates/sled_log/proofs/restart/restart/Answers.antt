@@ -20,8 +20,8 @@ returns-in-Ok-clause-ready g c = λ H holds formed.
     let device : State = state_of (g.D.Device.trace c.halt-config.result.device) in
     let new : State = state_of (g.D.Device.trace c.read_snapshot_or_default-snapshot.new.config.device) in
     let kept : IsKept g.C.Checksum.sum_of size log.site log.buffer.from device H =
-    subst (λ (x : RunningConfig _ _). IsKept g.C.Checksum.sum_of x.config.segment_size log.site log.buffer.from (state_of (g.D.Device.trace x.device)) H) (sym c.halt-config.ensures) (c.in-Ok.ensures.records H holds) in
-    let sizes : size ≡ segment_size_of c.args.log = ap (λ (x : RunningConfig _ _). x.config.segment_size) c.halt-config.ensures ∙ c.in-Ok.ensures.size in
+    subst (λ (x : RunningConfig _ _). IsKept g.C.Checksum.sum_of x.config.segment_size log.site log.buffer.from (state_of (g.D.Device.trace x.device)) H) (sym c.halt-config.ensures.config) (c.in-Ok.ensures.records H holds) in
+    let sizes : size ≡ segment_size_of c.args.log = ap (λ (x : RunningConfig _ _). x.config.segment_size) c.halt-config.ensures.config ∙ c.in-Ok.ensures.size in
     let many = c.halt-config.result.config.least in
     subst (λ (n : ℕ). IfOk c.read_snapshot_or_default-snapshot.result (λ s. IsReady g.C.Checksum.sum_of n new (shot_of s) H)) sizes
     (if_all c.read_snapshot_or_default-snapshot.result _ _ _ (λ s. IsReady g.C.Checksum.sum_of size new (shot_of s) H)

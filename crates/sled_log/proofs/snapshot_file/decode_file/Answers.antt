@@ -1,6 +1,6 @@
 use Rattle.std.proofs.Common.{◌≡◌, ◌∙◌, ℕ, List, [], refl, sym, subst, append-nil}
 use Rattle.sled_codec.specs.Snapshots.{SpellsSnapshot}
-use Rattle.sled_log.proofs.Trailers.{one_file}
+use Rattle.sled_store.proofs.Trailers.{one_file}
 use Rattle.sled_log.proofs.snapshot_file.decode_file.Goals as goal
 
 pub returns-in-Some-clause-corrupt : goal.returns-in-Some-clause-corrupt

@@ -5,7 +5,7 @@ use Rattle.sled_codec.specs.Errors.{IsCorrupt}
 use Rattle.sled_codec.specs.Snapshots.{shot_of}
 use Rattle.sled_store.specs.Device.{state_of}
 use Rattle.sled_store.specs.SnapshotFiles.{IsSnapshotFile, is_sound}
-use Rattle.sled_log.proofs.Trailers.{one_snapshot}
+use Rattle.sled_store.proofs.Trailers.{one_snapshot}
 use Rattle.sled_log.proofs.snapshot_file.read_sound.Goals as goal
 
 pub returns-in_err-snapshot-clause-corrupt : goal.returns-in_err-snapshot-clause-corrupt

@@ -1,6 +1,6 @@
 use Rattle.std.proofs.Common.{◌≡◌, ◌∙◌, ◌-◌, ◌++◌, ℕ, List, length, take, drop, refl, sym, ap, arith, Bool, true, false, not, length-drop, take-append-drop}
 use Rattle.std.specs.Cmp.Lexicographic.{same_text, other_text}
-use Rattle.sled_log.proofs.Trailers.{trailer, with_trailer, split_file}
+use Rattle.sled_store.proofs.Trailers.{trailer, with_trailer, split_file}
 use Rattle.sled_log.proofs.snapshot_file.text_in.Goals as goal
 
 whole : (n : ℕ) (bytes front back : List ℕ) → front ≡ take n bytes → back ≡ drop n bytes → bytes ≡ front ++ back

@@ -1,6 +1,6 @@
 use Rattle.std.proofs.Common.{◌∙◌, arith}
 use Rattle.sled_codec.specs.Snapshots.{shot_of, short_snapshot}
-use Rattle.sled_log.proofs.Trailers.{laid_out}
+use Rattle.sled_store.proofs.Trailers.{laid_out}
 use Rattle.sled_log.proofs.snapshot_file.write_file.Goals as goal
 
 pub returns : goal.returns

@@ -1,4 +1,6 @@
-use Rattle.std.proofs.Common.{◌≡◌, ◌∙◌, ◌+◌, ap, sym, subst, List, ℕ, pos, Some}
+use Rattle.std.proofs.Common.{◌≡◌, ◌∙◌, ◌≤◌, ◌+◌, ap, sym, subst, arith, rules, length, max, List, ℕ, pos, Some}
+use Rattle.std.specs.Vec.{vec_len}
+use Rattle.std.proofs.lemmas.Option.{slice_get_within}
 use Rattle.std.specs.List.{slice_get}
 use Rattle.sled_codec.specs.History.{Message, AddsMessage, Step}
 use Rattle.sled_store.specs.Device.{state_of}
@@ -6,6 +8,10 @@ use Rattle.sled_core.specs.declared.iobuf.Reserved.{Reserved}
 use Rattle.sled_core.specs.Buffers.{message_in}
 use Rattle.sled_core.specs.Tickets.{index_of}
 use Rattle.sled_core.specs.Fits.{Holds}
+use Rattle.sled_core.specs.Running.{Fits}
+use Rattle.sled_store.proofs.MomentLemmas.{started}
+use Rattle.sled_core.proofs.Ranges.{at_there, chain_within}
+use Rattle.sled_core.proofs.RunningLemmas.{fits-completed}
 use Rattle.sled_core.proofs.HoldsLemmas.{holds-same}
 use Rattle.sled_core.proofs.CompletesLemmas.{holds-complete, others_stay}
 use Rattle.sled_core.proofs.logger.Log.complete.Goals as goal
@@ -38,3 +44,36 @@ returns-clause-others g c = λ H other m holds awaits apart.
       own = awaits.own;
       message = awaits.message ∙ sym stay.1 ∙ ap (λ (l : List ℕ). message_in c.args.self.now.site l x) (sym (c.complete.ensures.bytes r there));
     }
+
+pub complete-requires : goal.complete-requires
+complete-requires g c =
+    let old = c.args.self.now.buffer.reserved in
+    let own = c.requires.1 in
+    let within = slice_get_within old.items c.index-index.result own.reserved (ap (slice_get old.items) c.index-index.ensures ∙ own.there) in
+    let long : length old.items ≡ vec_len old = search rules in
+    omega (arith, within, long)
+
+-- It goes on fitting its history, with the message, and nothing is written.
+
+pub returns-in-Some-clause-crash : goal.returns-in-Some-clause-crash
+unfolding Fits
+returns-in-Some-clause-crash g c = λ H A f U fits. started _ _ fits.left
+
+pub returns-clause-crash : goal.returns-clause-crash
+unfolding Fits
+returns-clause-crash g c = λ H A f U fits. started _ _ fits.left
+
+pub returns-clause-fits : goal.returns-clause-fits
+unfolding Fits Holds Step
+returns-clause-fits g c = λ H A f U m fits awaits out.
+    let old = c.args.self.now in
+    let done = returns-clause-history g c H m fits.holds awaits in
+    let inside = at_there (λ x. (max 20 old.buffer.from ≤ x.from) × (x.from + x.len ≤ length old.buffer.bytes.items)) old.buffer.reserved.items (index_of c.args.ticket) awaits.reserved awaits.there
+    (chain_within (max 20 old.buffer.from) (length old.buffer.bytes.items) old.buffer.reserved.items fits.holds.chain) in
+    let place : m.place ≡ old.site.place + awaits.reserved.from = ap (λ (x : Message). x.place) awaits.message in (
+      done.0,
+      done.1,
+      fits-completed g.C.Checksum.sum_of old.config.config.segment_size old.site _ old.fault old.buffer.bytes.items old.buffer.from old.buffer.reserved.items old.pins H A f U fits _ _ _ done.0 m c.complete.ensures.from
+          old.config.config.least (let reach = old.place_in_reach in omega (arith, reach)) (omega (arith, c.complete.ensures.from, c.complete.ensures.len, old.buffer.behind)) (omega (arith, c.complete.ensures.len, old.in_segment)) c.in_default.is
+          done.2 done.1 (omega (arith, inside.0, place)) out,
+    )

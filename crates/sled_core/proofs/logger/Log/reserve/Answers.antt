@@ -9,6 +9,9 @@ use Rattle.sled_core.specs.declared.iobuf.Kept.{Kept}
 use Rattle.sled_core.specs.Buffers.{placeholder_head, reserved_for, message_in}
 use Rattle.sled_core.specs.Tickets.{place_of, index_of}
 use Rattle.sled_core.specs.Fits.{Holds}
+use Rattle.sled_core.specs.Running.{Fits}
+use Rattle.sled_store.proofs.MomentLemmas.{started}
+use Rattle.sled_core.proofs.RunningLemmas.{fits-moved}
 use Rattle.sled_core.proofs.HoldsLemmas.{holds-same, holds-append, body-append}
 use Rattle.sled_core.proofs.ReserveLemmas.{there_last, there_append, stands, message_is, more_long, head_whole}
 use Rattle.sled_core.proofs.Heads.{length-short_header_tail}
@@ -128,3 +131,31 @@ invariant_of-self-4 g c =
     let tail = length-short_header_tail c.in-Some-message_kind.message_kind c.serialized_size-item_len.result (c.args.self.now.site.place / c.args.self.now.config.config.segment_size) c.args.pid in
     let item_long = ap (λ n. length (short_number n)) c.serialized_size-item_len.ensures in
     record { in_segment = omega (arith, c.append.ensures.len, ap length c.make_room.ensures.bytes, c.head_of-head.ensures.len, tail, item_long, c.serialized_size-item_len.ensures, c.requires.room.record_fits); place_in_reach = c.args.self.now.place_in_reach; slot_in_reach = c.args.self.now.slot_in_reach }
+
+-- It goes on fitting its history, and nothing is written.
+
+pub returns-in-Some-clause-crash : goal.returns-in-Some-clause-crash
+unfolding Fits
+returns-in-Some-clause-crash g c = λ H A f U fits. started _ _ fits.left
+
+pub returns-in_default-message_kind-clause-crash : goal.returns-in_default-message_kind-clause-crash
+unfolding Fits
+returns-in_default-message_kind-clause-crash g c = λ H A f U fits. started _ _ fits.left
+
+pub returns-in_err-make_room-clause-crash : goal.returns-in_err-make_room-clause-crash
+unfolding Fits
+returns-in_err-make_room-clause-crash g c = λ H A f U fits. started _ _ fits.left
+
+pub returns-clause-crash : goal.returns-clause-crash
+unfolding Fits
+returns-clause-crash g c = λ H A f U fits. started _ _ fits.left
+
+pub returns-in_err-make_room-clause-fits : goal.returns-in_err-make_room-clause-fits
+unfolding Fits Holds
+returns-in_err-make_room-clause-fits g c = λ H A f U fits.
+    fits-moved _ _ _ _ _ _ _ _ _ H A f U fits _ _ _ c.make_room.ensures.from (returns-in_err-make_room-clause-history g c H fits.holds)
+
+pub returns-clause-fits : goal.returns-clause-fits
+unfolding Fits Holds
+returns-clause-fits g c = λ H A f U fits.
+    fits-moved _ _ _ _ _ _ _ _ _ H A f U fits _ _ _ (c.append.ensures.from ∙ c.make_room.ensures.from) (returns-clause-history g c H fits.holds)

@@ -1,0 +1,6 @@
+use Rattle.sled_core.specs.Running.{Fits}
+use Rattle.sled_core.proofs.logger.Log.halt.Goals as goal
+
+pub returns-clause-recoverable : goal.returns-clause-recoverable
+unfolding Fits
+returns-clause-recoverable g c = λ H A f U fits. fits.left
