@@ -1,6 +1,7 @@
 pub mod BegunLemmas
 pub mod BookLemmas
 pub mod CompletesLemmas
+pub mod CrashLemmas
 pub mod EntryLemmas
 pub mod FillLemmas
 pub mod FilledLemmas
