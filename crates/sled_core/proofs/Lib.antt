@@ -12,6 +12,7 @@ pub mod GivesLemmas
 pub mod Heads
 pub mod HoldsLemmas
 pub mod LogFileLemmas
+pub mod MainLemmas
 pub mod OpenLemmas
 pub mod Parts
 pub mod PathLemmas
