@@ -22,32 +22,12 @@ use Rattle.sled_core.specs.LogFile.{StandIn, StandsElsewhere, HasHeader, IsEmpty
 use Rattle.sled_core.specs.Fits.{HoldsIn}
 use Rattle.sled_core.specs.Recoverable.{NoForeign, IsUnbegun, IsBegun, IsInFirstSegment, IsRecoverableInFirst, first_site, first_cut}
 use Rattle.sled_core.specs.Running.{FitsIn, CanBegin}
-use Rattle.sled_core.proofs.LogFileLemmas.{stands_some, stand_rest, stand_above}
+use Rattle.sled_core.proofs.LogFileLemmas.{stand_rest, stand_above}
 use Rattle.sled_core.proofs.FlushLemmas.{all_stand, grown}
+use Rattle.sled_core.proofs.MainLemmas.{first_cut_least, first_cut_with_room, none_older}
 use Rattle.sled_core.proofs.TornLemmas.{after_write}
 use Rattle.sled_core.proofs.TornRecords.{StandsUpTo}
 use Rattle.sled_core.proofs.TornFlush.{flush_header, flush_stand}
-
--- reading ends no further than its cut
-pub stop-cut : (size stop : ℕ) → stop ≤ size → stop ≤ first_cut size stop
-stop-cut size stop inside = cut_by (nat_lt size (stop + 32))
-  where
-    cut_by : (b : Bool) → stop ≤ (if b then size else stop)
-    cut_by true = inside
-    cut_by false = omega arith
-
--- where there is room for a record, that is its cut
-pub cut-room : (size stop : ℕ) → stop + 32 ≤ size → first_cut size stop ≡ stop
-cut-room size stop room = let none : nat_lt size (stop + 32) ≡ false = grind (arith, nat_tests) in ap (λ (b : Bool). if b then size else stop) none
-
--- no segment is before the first one
-pub none_older : (sum : List ℕ → ℕ) (size : ℕ) (log : List ℕ) (ms : List Message) → All (StandsElsewhere sum size log first_site) ms → ms ≡ []
-none_older sum size log [] all = refl
-none_older sum size log (m ∷ ms) all =
-    let s : StandsElsewhere sum size log first_site m = all 0 m (omega arith) in
-    let some = stands_some sum size log s.lid (m.place / size) m s.stands in
-    let below = s.below in
-    absurd (omega (arith, some, below))
 
 -- A log in the first segment, with something to write.
 module _ (sum : List ℕ → ℕ) (size : ℕ) (device : State) (fault : Option IoError) (bytes : List ℕ) (from : ℕ) (rs : List Reserved) (pins : ℕ) (H : History) (A f : ℕ) (U : List Message)
@@ -116,7 +96,7 @@ module _ (sum : List ℕ → ℕ) (size : ℕ) (device : State) (fault : Option 
         let above = stand_above sum size (overwritten old (first_site.slot + from) asked) first_site up.end (drop up.count more) (max 20 (length bytes)) rest in
         let no_less = up.no_less in let no_further = up.no_further in
         let inside : up.end ≤ size = omega (arith, no_further, short) in
-        let cut = stop-cut size up.end inside in
+        let cut = first_cut_least size up.end inside in
         record {
           own = file.own ++ take up.count more;
           beyond = drop up.count more;
@@ -126,7 +106,7 @@ module _ (sum : List ℕ → ℕ) (size : ℕ) (device : State) (fault : Option 
           stand = up.stand;
           empty = λ room. empty_first up.end (up.empty room);
           inside = inside;
-          later = λ k d lt. let there = above k d lt in let is = cut-room size up.end there.1 in omega (arith, is, there.0);
+          later = λ k d lt. let there = above k d lt in let is = first_cut_with_room size up.end there.1 in omega (arith, is, there.0);
           not_below = let reached = can.not_above in omega (arith, reached, no_less, cut);
           passes = omega (arith, fits.passes, no_less, cut);
         }

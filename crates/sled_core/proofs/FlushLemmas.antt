@@ -195,7 +195,7 @@ begun-more sum size snapshots snapshots' site from from' H same more begun =
     subst (λ (f : ℤ → Option (List ℕ)). IsBegunFrom sum size f site from' H) (sym same) later
 
 -- there is a failure, or there is none
-fault_or_none : (o : Option IoError) → (o ≡ None) ⊎ ((e : IoError) × (o ≡ Some e))
+pub fault_or_none : (o : Option IoError) → (o ≡ None) ⊎ ((e : IoError) × (o ≡ Some e))
 fault_or_none None = inl refl
 fault_or_none (Some e) = inr (e, refl)
 

@@ -6,6 +6,7 @@ pub mod EntryLemmas
 pub mod FillLemmas
 pub mod FilledLemmas
 pub mod FitLemmas
+pub mod FlushFits
 pub mod FlushLemmas
 pub mod FreshLemmas
 pub mod GivesLemmas

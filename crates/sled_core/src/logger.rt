@@ -2,7 +2,7 @@
 //!
 //! A log keeps the bytes of its segment, the reservations in them, the count of pins, and the first
 //! failure of its device, which it answers from then on. `specs/Fits.antt` says which history it holds.
-ghost use Rattle.std.specs.Prelude.{◌≡◌, ◌≢◌, ◌↔◌, ◌+◌, ◌-◌, ◌<◌, ◌≤◌, ◌^◌, ◌∷◌, ◌-ℤ◌, ◌<ℤ◌, pos, [], ℕ, length, drop, true, false, IsTrue, IfOk, IfErr, OnOk, OnErr, IsErrOf, Contains, None, Some, ◌⊎◌, ◌/◌, unsigned_abs, max, ℤ};
+ghost use Rattle.std.specs.Prelude.{List, ◌≡◌, ◌≢◌, ◌↔◌, ◌+◌, ◌-◌, ◌<◌, ◌≤◌, ◌^◌, ◌∷◌, ◌-ℤ◌, ◌<ℤ◌, pos, [], ℕ, length, drop, true, false, IsTrue, IfOk, IfErr, OnOk, OnErr, IsErrOf, Contains, None, Some, ◌⊎◌, ◌/◌, unsigned_abs, max, ℤ};
 ghost use Rattle.std.specs.declared.io.Error.{Error as IoError};
 ghost use Rattle.sled_codec.specs.Kinds.{kind_written};
 ghost use Rattle.sled_codec.specs.History.{History, Message, Completed, Step, no_history};
@@ -18,9 +18,11 @@ ghost use Rattle.sled_codec.specs.Pointers.{lid_of};
 ghost use Rattle.sled_core.specs.Buffers.{record_size};
 ghost use Rattle.sled_codec.specs.Snapshots.{shot_of};
 ghost use Rattle.sled_store.specs.Script.{after_all, Performs};
+ghost use Rattle.sled_store.specs.Moments.{LeavesOnly};
 ghost use Rattle.sled_store.specs.SnapshotFiles.{stable_place, empty_shot};
 ghost use Rattle.sled_core.specs.Begin.{IsStartable, IsInReach, slots_of, unused, filling, place_at, offset_at};
 ghost use Rattle.sled_core.specs.Ready.{IsReady};
+ghost use Rattle.sled_core.specs.Recoverable.{RecoverableIfOwn};
 ghost use Rattle.sled_core.specs.Causes.{StartRefuses, Answers, FaultAnswers, ReserveAnswers, ReadAnswers, failure_in};
 
 use crate::begin::begin;
@@ -52,6 +54,7 @@ pub struct Log<D, C> {
 
 impl<D: Device, C: Checksum> Log<D, C> {
     ghost use Rattle.sled_core.specs.Fits.{Holds, AllEnded, Awaits, IsOpen, HasRoom, IsUnchanged, fault_of, next_place, synced_end, reserved_end, pins_of, config_of, device_of, site_of, IsWritten, flushing, manifest_page, segment_size_of, size_for, message_for, KeepsAll};
+    ghost use Rattle.sled_core.specs.Running.{Fits};
 
     /// Begins a log on what a recovery left: it goes on at the snapshot's stable place. First it fills the
     /// slots of the file that the snapshot does not use with zeros, in ascending order, and syncs the file
@@ -211,6 +214,9 @@ impl<D: Device, C: Checksum> Log<D, C> {
         ensures calls { OnOk result (D.trace (device_of self.new) ≡ after_all (flushing self.old) (D.trace (device_of self.old))) }
         ensures at_most { Performs (flushing self.old) (D.trace (device_of self.old)) (D.trace (device_of self.new)) }
         ensures history { (H : History) → Holds D.trace C.sum_of self.old H → Holds D.trace C.sum_of self.new H }
+        ensures fits { (H : History) (A f : ℕ) (U : List Message) → Fits D.trace C.sum_of self.old H A f U → Fits D.trace C.sum_of self.new H A f U }
+        ensures acknowledges { (H : History) (A f : ℕ) (U : List Message) → Fits D.trace C.sum_of self.old H A f U → OnOk result (Fits D.trace C.sum_of self.new H (synced_end self.new) f U) }
+        ensures crash { (H : History) (A f : ℕ) (U : List Message) → Fits D.trace C.sum_of self.old H A f U → LeavesOnly (RecoverableIfOwn C.sum_of (segment_size_of self.old) H A f) (D.trace (device_of self.old)) (D.trace (device_of self.new)) }
         ensures ended { AllEnded self.new }
         ensures next { next_place self.new ≡ next_place self.old }
         ensures pins { pins_of self.new ≡ pins_of self.old }
@@ -248,6 +254,8 @@ impl<D: Device, C: Checksum> Log<D, C> {
         ensures calm { lsn <ℤ pos (synced_end self.old) → D.trace (device_of self.new) ≡ D.trace (device_of self.old) }
         ensures refused { fault_of self.old ≡ None → IsNoPlace (segment_size_of self.old) lsn (lid_of ptr) → IsCorruption result × (self.new ≡ self.old) }
         ensures history { (H : History) → Holds D.trace C.sum_of self.old H → Holds D.trace C.sum_of self.new H }
+        ensures fits { (H : History) (A f : ℕ) (U : List Message) → Fits D.trace C.sum_of self.old H A f U → Fits D.trace C.sum_of self.new H A f U }
+        ensures crash { (H : History) (A f : ℕ) (U : List Message) → Fits D.trace C.sum_of self.old H A f U → LeavesOnly (RecoverableIfOwn C.sum_of (segment_size_of self.old) H A f) (D.trace (device_of self.old)) (D.trace (device_of self.new)) }
         ensures ended { AllEnded self.new }
         ensures next { next_place self.new ≡ next_place self.old }
         ensures pins { pins_of self.new ≡ pins_of self.old }
@@ -277,6 +285,8 @@ impl<D: Device, C: Checksum> Log<D, C> {
         ensures written { OnOk result (place < synced_end self.new) }
         ensures calm { place < synced_end self.old → D.trace (device_of self.new) ≡ D.trace (device_of self.old) }
         ensures history { (H : History) → Holds D.trace C.sum_of self.old H → Holds D.trace C.sum_of self.new H }
+        ensures fits { (H : History) (A f : ℕ) (U : List Message) → Fits D.trace C.sum_of self.old H A f U → Fits D.trace C.sum_of self.new H A f U }
+        ensures crash { (H : History) (A f : ℕ) (U : List Message) → Fits D.trace C.sum_of self.old H A f U → LeavesOnly (RecoverableIfOwn C.sum_of (segment_size_of self.old) H A f) (D.trace (device_of self.old)) (D.trace (device_of self.new)) }
         ensures ended { AllEnded self.new }
         ensures next { next_place self.new ≡ next_place self.old }
         ensures pins { pins_of self.new ≡ pins_of self.old }
@@ -297,6 +307,8 @@ impl<D: Device, C: Checksum> Log<D, C> {
         ensures reading { IfOk result (IsReading C.sum_of (segment_size_of self.old) (state_of (D.trace (device_of self.old))).log.bytes lid number.0) }
         ensures malformed { IsCorruption result → IsMalformed C.sum_of (segment_size_of self.old) (state_of (D.trace (device_of self.old))).log.bytes lid number.0 }
         ensures history { (H : History) → Holds D.trace C.sum_of self.old H → Holds D.trace C.sum_of self.new H }
+        ensures fits { (H : History) (A f : ℕ) (U : List Message) → Fits D.trace C.sum_of self.old H A f U → Fits D.trace C.sum_of self.new H A f U }
+        ensures crash { (H : History) (A f : ℕ) (U : List Message) → Fits D.trace C.sum_of self.old H A f U → LeavesOnly (RecoverableIfOwn C.sum_of (segment_size_of self.old) H A f) (D.trace (device_of self.old)) (D.trace (device_of self.new)) }
         ensures ended { AllEnded self.old → AllEnded self.new }
         ensures next { next_place self.new ≡ next_place self.old }
         ensures trace { D.trace (device_of self.new) ≡ D.trace (device_of self.old) }
