@@ -161,6 +161,9 @@ module _ (sum : List ℕ → ℕ) (size : ℕ) (site : Site) (old bytes : List �
   ]
 
   -- What was completed stands behind what stood there.
+  pub all_stand : StandIn sum size new site 20 (file.own ++ completed_in site bytes rs) (max 20 (length bytes))
+  all_stand = stand-append sum size new site 20 file.own (max 20 from) (completed_in site bytes rs) (max 20 (length bytes)) own_stand completed_stand
+
   pub file_written : IsLogFile sum size new site (length bytes) (earlier ++ completed_in site bytes rs)
   file_written = record {
     older = file.older;
@@ -169,7 +172,7 @@ module _ (sum : List ℕ → ℕ) (size : ℕ) (site : Site) (old bytes : List �
     elsewhere = λ k d lt. elsewhere_kept sum size old (site.slot + from) xs site (get_or file.older k d) (omega arith) (omega (arith, xs_long, behind, short)) (file.elsewhere k d lt);
     begun = λ some. begun;
     header = λ some. header_stands;
-    stand = stand-append sum size new site 20 file.own (max 20 from) (completed_in site bytes rs) (max 20 (length bytes)) own_stand completed_stand;
+    stand = all_stand;
     clean = λ i above below. behind_write sum size old (site.slot + from) xs i (omega (arith, xs_long, behind)) (omega (arith, xs_long, behind, above)) ∙ file.clean i (omega (arith, behind, above)) below;
     alone = λ none. absurd (omega (arith, begun, none));
   }
@@ -192,7 +195,7 @@ begun-more sum size snapshots snapshots' site from from' H same more begun =
     subst (λ (f : ℤ → Option (List ℕ)). IsBegunFrom sum size f site from' H) (sym same) later
 
 -- there is a failure, or there is none
-fault_or_none : (o : Option IoError) → (o ≡ None) ⊎ ((e : IoError) × (o ≡ Some e))
+pub fault_or_none : (o : Option IoError) → (o ≡ None) ⊎ ((e : IoError) × (o ≡ Some e))
 fault_or_none None = inl refl
 fault_or_none (Some e) = inr (e, refl)
 
@@ -210,7 +213,7 @@ module _ (sum : List ℕ → ℕ) (size : ℕ) (site : Site) (device : State) (f
   module _ (begun : 20 ≤ length bytes) (behind : from ≤ length bytes) (short : length bytes ≤ size) (place_small : site.place + size < 2 ^ 63) (slot_small : site.slot + size < 2 ^ 63)
       (ended : all_ended rs ≡ true) (some : 0 < length rs) (whole : fault ≡ None) where
     -- something was reserved, so there is something to write
-    grown : from < length bytes
+    pub grown : from < length bytes
     grown = chain_some sum (site.place / size) bytes from (length bytes) rs some holds.stand holds.chain
 
     settled_bytes : device.log.bytes ≡ (holds.written whole).log

@@ -1,6 +1,7 @@
 pub mod BegunLemmas
 pub mod BookLemmas
 pub mod CompletesLemmas
+pub mod CrashLemmas
 pub mod Elements
 pub mod EntryLemmas
 pub mod FillLemmas
@@ -8,6 +9,7 @@ pub mod FilledLemmas
 pub mod FirstBegun
 pub mod FirstSegment
 pub mod FitLemmas
+pub mod FlushFits
 pub mod FlushLemmas
 pub mod FoundLemmas
 pub mod FreshLemmas

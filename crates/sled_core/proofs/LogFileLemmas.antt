@@ -1,5 +1,6 @@
 -- What stands in a log file stays where it is when the rest of the current segment is written.
 use Rattle.std.proofs.Common.{◌≡◌, ◌⊎◌, ◌≤◌, ◌<◌, ◌+◌, ◌-◌, ◌/◌, ℕ, zero, suc, pos, max, List, [], ◌∷◌, ◌++◌, length, take, drop, sym, ◌∙◌, ap, arith, refl, subst, length-take, length-drop, inl, inr, get_or}
+use Rattle.std.specs.List.{All}
 use Rattle.std.proofs.lemmas.Bool.{cases_lt}
 use Rattle.std.proofs.lemmas.List.{drop-drop, drop-take, take-take}
 use Rattle.sled_codec.specs.declared.serialization.message.MessageHeader.{MessageHeader}
@@ -40,6 +41,20 @@ pub stand-append : (sum : List ℕ → ℕ) (size : ℕ) (log : List ℕ) (site 
 stand-append sum size log site at [] mid more end stand rest = subst (λ n. StandIn sum size log site n more end) stand rest
 stand-append sum size log site at (m ∷ ms) mid more end stand rest =
     (stand.0, stand.1, stand.2, stand.3, stand-append sum size log site (at + m.size) ms mid more end stand.4 rest)
+
+-- what is left of records that stand in one file, behind the first ones, which stand in another
+pub stand_rest : (sum : List ℕ → ℕ) (size : ℕ) (log log' : List ℕ) (site : Site) (at : ℕ) (ms : List Message) (mid : ℕ) (more : List Message) (end : ℕ)
+    → StandIn sum size log' site at ms mid → StandIn sum size log site at (ms ++ more) end → StandIn sum size log site mid more end
+stand_rest sum size log log' site at [] mid more end first whole = subst (λ n. StandIn sum size log site n more end) (sym first) whole
+stand_rest sum size log log' site at (m ∷ ms) mid more end first whole = stand_rest sum size log log' site (at + m.size) ms mid more end first.4 whole.4
+
+-- records from an offset on lie there or behind it, where there is room
+pub stand_above : (sum : List ℕ → ℕ) (size : ℕ) (log : List ℕ) (site : Site) (at : ℕ) (ms : List Message) (end : ℕ) → StandIn sum size log site at ms end → All (λ m. (site.place + at ≤ m.place) × (at + 32 ≤ size)) ms
+stand_above sum size log site at [] end stand k d lt = absurd (omega (arith, lt))
+stand_above sum size log site at (m ∷ ms) end stand zero d lt = (omega (arith, stand.1), stand.0)
+stand_above sum size log site at (m ∷ ms) end stand (suc k) d lt =
+    let rest = stand_above sum size log site (at + m.size) ms end stand.4 k d (omega (arith, lt)) in
+    (let above = rest.0 in omega (arith, above), stand.0)
 
 -- the header of a segment lies in the file
 pub header_there : (sum : List ℕ → ℕ) (log : List ℕ) (site : Site) → HasHeader sum log site → site.slot + 20 ≤ length log

@@ -2,6 +2,7 @@
 use Rattle.std.proofs.Common.{◌≡◌, ◌⊎◌, ◌≤◌, ◌<◌, ◌+◌, ◌/◌, ◌%◌, ◌^◌, ◌∙◌, ◌-ℤ◌, ℕ, pos, max, true, List, length, take, drop, get_or, arith, subst, inl, inr, length-drop}
 use Rattle.std.specs.List.{All}
 use Rattle.std.proofs.lemmas.Bool.{cases_lt}
+use Rattle.sled_codec.specs.Places.{part}
 use Rattle.sled_codec.specs.Record.{short_header}
 use Rattle.sled_codec.specs.History.{Message}
 use Rattle.sled_store.specs.Device.{LeavesLog, overwritten}
@@ -10,7 +11,7 @@ use Rattle.sled_core.specs.declared.iobuf.Reserved.{Reserved}
 use Rattle.sled_core.specs.declared.iobuf.Site.{Site}
 use Rattle.sled_core.specs.declared.met.Segment.{Segment}
 use Rattle.sled_core.specs.Buffers.{IsChain, completed_in, all_ended, Stands}
-use Rattle.sled_core.specs.Scan.{IsFoundSegment, IsMisplaced}
+use Rattle.sled_core.specs.Scan.{IsFoundSegment}
 use Rattle.sled_core.specs.LogFile.{StandIn, StandsElsewhere, HasHeader, IsLogFile}
 use Rattle.sled_core.proofs.LogFileLemmas.{elsewhere_stays}
 use Rattle.sled_core.proofs.FlushLemmas.{completed_stand, header_stands}
@@ -37,16 +38,16 @@ module _ (sum : List ℕ → ℕ) (size : ℕ) (site : Site) (old bytes : List �
       byte_left old (site.slot + from) (drop from bytes) now left no_more leaves i (omega (arith, last, above)) ∙ file.clean i (omega (arith, behind, above)) below
 
   module _ (only_own : NoForeignLog sum size (after_write old (site.slot + from) (drop from bytes) now) left) where
-    -- The header of the segment stands; or the segment begins with this write, and none is found that a reader could take for it.
-    pub flush_header : HasHeader sum left site ⊎ ((from ≡ 0) × ((y : Segment) → IsFoundSegment sum size left site.place y → IsMisplaced size y))
+    -- The header of the segment stands; or the segment begins with this write, and each segment that is found was found before, under the same header.
+    pub flush_header : HasHeader sum left site ⊎ ((from ≡ 0) × ((y : Segment) → IsFoundSegment sum size left site.place y → IsFoundSegment sum size old site.place y × (part old y.slot 20 ≡ part left y.slot 20)))
     flush_header = elim (cases_lt 0 from) [
       | inl some ↦ inl (header_left sum size site old (drop from bytes) now left from earlier file slot_begins no_more leaves only_own some)
       | inr none ↦ (
           let first : from ≡ 0 = omega (arith, none) in
           elim (torn_header sum size site old (drop from bytes) now left from earlier file slot_begins no_more leaves only_own first (omega (arith, last, first, begun))
           (header_stands sum size site old bytes from rs earlier file begun behind short slot_begins place_small slot_small header chain stand room ended)) [
-            | inl has ↦ inl has.0
-            | inr alone ↦ inr (first, alone)
+            | inl has ↦ inl has
+            | inr same ↦ inr (first, same)
           ])
     ]
 

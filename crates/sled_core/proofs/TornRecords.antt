@@ -18,7 +18,7 @@ use Rattle.sled_store.specs.Foreign.{IsReached, at_first, behind, LaidBy, Record
 use Rattle.sled_core.specs.declared.iobuf.Site.{Site}
 use Rattle.sled_core.specs.declared.met.Segment.{Segment}
 use Rattle.sled_core.specs.Reading.{StandsAt}
-use Rattle.sled_core.specs.Scan.{IsFoundSegment, IsMisplaced}
+use Rattle.sled_core.specs.Scan.{IsFoundSegment}
 use Rattle.sled_core.specs.LogFile.{MessageStands, StandIn, HasHeader, IsLogFile}
 use Rattle.sled_core.proofs.Ranges.{of_one, with_first}
 use Rattle.sled_core.proofs.ReadingLemmas.{header_some, laid_of}
@@ -241,13 +241,13 @@ module _ (sum : List ℕ → ℕ) (size : ℕ) (site : Site) (old asked now left
             inr (sym there ∙ sym write.2 ∙ ap (λ (w : ℕ × List ℕ). w.0) is, ap (λ (w : ℕ × List ℕ). take 20 w.1) (sym is) ∙ write.3 ∙ ap (λ n. part left n 20) there))
       ]
 
-  -- Where the segment begins with the write, its header stands, or no segment is found that a reader could take for it.
-  pub torn_header : from ≡ 0 → 20 ≤ length asked → (written : HasHeader sum new site)
-      → ((has : HasHeader sum left site) × (has.mark ≡ written.mark)) ⊎ ((y : Segment) → IsFoundSegment sum size left site.place y → IsMisplaced size y)
+  -- Where the segment begins with the write, its header stands, or each segment that is found was found before, under the same header.
+  pub torn_header : from ≡ 0 → 20 ≤ length asked → HasHeader sum new site
+      → HasHeader sum left site ⊎ ((y : Segment) → IsFoundSegment sum size left site.place y → IsFoundSegment sum size old site.place y × (part old y.slot 20 ≡ part left y.slot 20))
   torn_header first long written = elim (same_or_not (part left site.slot 20) (part new site.slot 20)) [
-    | inl same ↦ inl (record { mark = written.mark; header = subst (λ (l : List ℕ). IsHeader sum l (pos site.place) written.mark) (sym same) written.header; below = written.below; before = written.before }, refl)
+    | inl same ↦ inl (record { mark = written.mark; header = subst (λ (l : List ℕ). IsHeader sum l (pos site.place) written.mark) (sym same) written.header; below = written.below; before = written.before })
     | inr other ↦ inr (λ y found. elim (found_where y found) [
-      | inl stood ↦ file.alone first y (record { slot = found.slot; header = subst (λ (l : List ℕ). IsHeader sum l (pos y.place) y.mark) (sym stood) found.header; not_below = found.not_below })
+      | inl stood ↦ (record { slot = found.slot; header = subst (λ (l : List ℕ). IsHeader sum l (pos y.place) y.mark) (sym stood) found.header; not_below = found.not_below }, stood)
       | inr write ↦ (
           let here : site.slot + from + 0 ≡ site.slot = omega (arith, first) in
           let at : y.slot ≡ site.slot = write.0 ∙ omega (arith, first) in

@@ -221,6 +221,9 @@ impl<D: Device, C: Checksum> Log<D, C> {
         ensures calls { OnOk result (D.trace (device_of self.new) ≡ after_all (flushing self.old) (D.trace (device_of self.old))) }
         ensures at_most { Performs (flushing self.old) (D.trace (device_of self.old)) (D.trace (device_of self.new)) }
         ensures history { (H : History) → Holds D.trace C.sum_of self.old H → Holds D.trace C.sum_of self.new H }
+        ensures fits { (H : History) (A f : ℕ) (U : List Message) → Fits D.trace C.sum_of self.old H A f U → Fits D.trace C.sum_of self.new H A f U }
+        ensures acknowledges { (H : History) (A f : ℕ) (U : List Message) → Fits D.trace C.sum_of self.old H A f U → OnOk result (Fits D.trace C.sum_of self.new H (synced_end self.new) f U) }
+        ensures crash { (H : History) (A f : ℕ) (U : List Message) → Fits D.trace C.sum_of self.old H A f U → LeavesOnly (RecoverableIfOwn C.sum_of (segment_size_of self.old) H A f) (D.trace (device_of self.old)) (D.trace (device_of self.new)) }
         ensures ended { AllEnded self.new }
         ensures next { next_place self.new ≡ next_place self.old }
         ensures pins { pins_of self.new ≡ pins_of self.old }
@@ -258,6 +261,8 @@ impl<D: Device, C: Checksum> Log<D, C> {
         ensures calm { lsn <ℤ pos (synced_end self.old) → D.trace (device_of self.new) ≡ D.trace (device_of self.old) }
         ensures refused { fault_of self.old ≡ None → IsNoPlace (segment_size_of self.old) lsn (lid_of ptr) → IsCorruption result × (self.new ≡ self.old) }
         ensures history { (H : History) → Holds D.trace C.sum_of self.old H → Holds D.trace C.sum_of self.new H }
+        ensures fits { (H : History) (A f : ℕ) (U : List Message) → Fits D.trace C.sum_of self.old H A f U → Fits D.trace C.sum_of self.new H A f U }
+        ensures crash { (H : History) (A f : ℕ) (U : List Message) → Fits D.trace C.sum_of self.old H A f U → LeavesOnly (RecoverableIfOwn C.sum_of (segment_size_of self.old) H A f) (D.trace (device_of self.old)) (D.trace (device_of self.new)) }
         ensures ended { AllEnded self.new }
         ensures next { next_place self.new ≡ next_place self.old }
         ensures pins { pins_of self.new ≡ pins_of self.old }
@@ -287,6 +292,8 @@ impl<D: Device, C: Checksum> Log<D, C> {
         ensures written { OnOk result (place < synced_end self.new) }
         ensures calm { place < synced_end self.old → D.trace (device_of self.new) ≡ D.trace (device_of self.old) }
         ensures history { (H : History) → Holds D.trace C.sum_of self.old H → Holds D.trace C.sum_of self.new H }
+        ensures fits { (H : History) (A f : ℕ) (U : List Message) → Fits D.trace C.sum_of self.old H A f U → Fits D.trace C.sum_of self.new H A f U }
+        ensures crash { (H : History) (A f : ℕ) (U : List Message) → Fits D.trace C.sum_of self.old H A f U → LeavesOnly (RecoverableIfOwn C.sum_of (segment_size_of self.old) H A f) (D.trace (device_of self.old)) (D.trace (device_of self.new)) }
         ensures ended { AllEnded self.new }
         ensures next { next_place self.new ≡ next_place self.old }
         ensures pins { pins_of self.new ≡ pins_of self.old }
@@ -307,6 +314,8 @@ impl<D: Device, C: Checksum> Log<D, C> {
         ensures reading { IfOk result (IsReading C.sum_of (segment_size_of self.old) (state_of (D.trace (device_of self.old))).log.bytes lid number.0) }
         ensures malformed { IsCorruption result → IsMalformed C.sum_of (segment_size_of self.old) (state_of (D.trace (device_of self.old))).log.bytes lid number.0 }
         ensures history { (H : History) → Holds D.trace C.sum_of self.old H → Holds D.trace C.sum_of self.new H }
+        ensures fits { (H : History) (A f : ℕ) (U : List Message) → Fits D.trace C.sum_of self.old H A f U → Fits D.trace C.sum_of self.new H A f U }
+        ensures crash { (H : History) (A f : ℕ) (U : List Message) → Fits D.trace C.sum_of self.old H A f U → LeavesOnly (RecoverableIfOwn C.sum_of (segment_size_of self.old) H A f) (D.trace (device_of self.old)) (D.trace (device_of self.new)) }
         ensures ended { AllEnded self.old → AllEnded self.new }
         ensures next { next_place self.new ≡ next_place self.old }
         ensures trace { D.trace (device_of self.new) ≡ D.trace (device_of self.old) }

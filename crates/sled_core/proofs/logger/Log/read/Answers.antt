@@ -7,6 +7,8 @@ use Rattle.sled_codec.specs.Pointers.{lid_of}
 use Rattle.sled_store.specs.Device.{State, Trace, state_of}
 use Rattle.sled_core.specs.Reading.{IsReading, IsMalformed, GivesMessage}
 use Rattle.sled_core.specs.Fits.{Holds, HoldsIn}
+use Rattle.sled_store.proofs.MomentLemmas.{started}
+use Rattle.sled_core.specs.Running.{Fits}
 use Rattle.sled_core.specs.declared.reading.LogRead.{LogRead}
 use Rattle.sled_core.proofs.Parts.{moved}
 use Rattle.sled_core.proofs.ReadingLemmas.{if_ok}
@@ -41,3 +43,11 @@ returns-clause-message g c = λ H m holds there at pointer.
     gives g.C.Checksum.sum_of size device.log.bytes found.0 (m.place / size) m found.2.header r found.2.stands found.2.known found.2.page
     (moved (λ (s : ℕ) (l : List ℕ) (o n : ℕ). IsReading g.C.Checksum.sum_of s l o n r) _ _ _ device.log.bytes _ found.0 _ (m.place / size) refl refl lid number reads))
     c.read_settled.ensures.reading
+
+pub returns-in-Some-clause-crash : goal.returns-in-Some-clause-crash
+unfolding Fits
+returns-in-Some-clause-crash g c = λ H A f U fits. started _ _ fits.left
+
+pub returns-then-lsn-lt0-clause-crash : goal.returns-then-lsn-lt0-clause-crash
+unfolding Fits
+returns-then-lsn-lt0-clause-crash g c = λ H A f U fits. started _ _ fits.left
