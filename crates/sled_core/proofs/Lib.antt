@@ -4,6 +4,7 @@ pub mod CompletesLemmas
 pub mod EntryLemmas
 pub mod FillLemmas
 pub mod FilledLemmas
+pub mod FilledMoments
 pub mod FitLemmas
 pub mod FlushLemmas
 pub mod FreshLemmas
@@ -19,6 +20,7 @@ pub mod ReadingLemmas
 pub mod ReadyLemmas
 pub mod ReserveLemmas
 pub mod ScanLemmas
+pub mod StartFits
 pub mod StartLemmas
 pub mod TornFlush
 pub mod TornLemmas
