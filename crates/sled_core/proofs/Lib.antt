@@ -22,6 +22,8 @@ pub mod ReserveLemmas
 pub mod ScanLemmas
 pub mod StartFits
 pub mod StartLemmas
+pub mod TableEntries
+pub mod TableWeights
 pub mod TornFlush
 pub mod TornLemmas
 pub mod TornRecords
