@@ -18,6 +18,7 @@ pub mod PathLemmas
 pub mod Ranges
 pub mod ReadingLemmas
 pub mod ReadyLemmas
+pub mod ReadyStarts
 pub mod ReserveLemmas
 pub mod ScanLemmas
 pub mod StartFits
