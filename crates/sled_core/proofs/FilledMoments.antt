@@ -1,6 +1,6 @@
 -- While the slot of a log that was never begun is filled with zeros, each crash leaves a content in which no segment was begun.
-use Rattle.std.proofs.Common.{◌≡◌, ◌⊎◌, ◌≤◌, ◌<◌, ◌+◌, ◌-◌, ◌*◌, ◌/◌, ◌%◌, ◌^◌, ◌∙◌, ◌||◌, ℕ, zero, suc, ℤ, pos, max, Bool, true, false, if◌then◌else◌, List, [], ◌∷◌, ◌++◌, length, take, drop, replicate, get_or, Option, Some, None, refl, sym, ap, subst, arith, inl, inr}
-use Rattle.std.specs.List.{All, Contains}
+use Rattle.std.proofs.Common.{◌≡◌, ◌⊎◌, ◌≤◌, ◌<◌, ◌+◌, ◌*◌, ◌/◌, ◌^◌, ◌∙◌, ℕ, zero, suc, ℤ, pos, max, Bool, true, false, if◌then◌else◌, List, [], ◌∷◌, length, take, replicate, get_or, refl, sym, ap, subst, arith, inl, inr}
+use Rattle.std.specs.List.{All}
 use Rattle.std.proofs.Math.Nat.{mod-add-div', div-eq_of_lt}
 use Rattle.std.proofs.lemmas.Bool.{cases_lt}
 use Rattle.std.proofs.lemmas.List.{length-replicate, take-replicate, get_or_past}
@@ -11,7 +11,7 @@ use Rattle.sled_codec.specs.History.{History}
 use Rattle.sled_codec.specs.Snapshots.{Shot}
 use Rattle.sled_codec.proofs.Segments.{length-short_header}
 use Rattle.sled_store.specs.Answers.{Tears}
-use Rattle.sled_store.specs.Device.{Event, Wrote, Synced, Trace, LogState, State, state_of, step, at_rest, overwritten, end_of}
+use Rattle.sled_store.specs.Device.{Event, Wrote, Synced, Trace, LogState, State, state_of, step}
 use Rattle.sled_store.specs.Foreign.{HeaderWasLaid, NoForeignLog}
 use Rattle.sled_store.specs.Moments.{LeavesOnly}
 use Rattle.sled_store.specs.Script.{Performs, Along}
@@ -26,7 +26,7 @@ use Rattle.sled_core.specs.Running.{NoneBegun, NamesFit, NoBlobs, IsReadyFor, Re
 use Rattle.sled_core.specs.Scan.{IsFoundSegment}
 use Rattle.sled_core.proofs.FilledLemmas.{filled, begins_in, filled_ends, filled_zero}
 use Rattle.sled_core.proofs.FirstSegment.{recoverable_in_first}
-use Rattle.sled_core.proofs.Ranges.{of_one, with_first}
+use Rattle.sled_core.proofs.Ranges.{with_first}
 use Rattle.sled_core.proofs.UsedLemmas.{active_used, zero_part}
 
 module _ (sum : List ℕ → ℕ) (size : ℕ) where

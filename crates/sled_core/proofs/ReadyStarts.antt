@@ -1,5 +1,5 @@
 -- A log can begin on what a recovery left in the first segment.
-use Rattle.std.proofs.Common.{◌≡◌, ◌≢◌, ◌⊎◌, ◌↔◌, ◌≤◌, ◌<◌, ◌≤ℤ◌, ◌+◌, ◌-◌, ◌*◌, ◌/◌, ◌%◌, ◌^◌, ◌∙◌, ℕ, zero, suc, ℤ, pos, max, true, List, [], ◌∷◌, ◌++◌, length, Option, Some, None, IfSome, refl, sym, ap, subst, arith, inl, inr, unsigned_abs}
+use Rattle.std.proofs.Common.{◌≡◌, ◌↔◌, ◌≤◌, ◌<◌, ◌≤ℤ◌, ◌+◌, ◌-◌, ◌*◌, ◌/◌, ◌%◌, ◌^◌, ◌∙◌, ℕ, zero, suc, ℤ, pos, max, true, List, [], ◌∷◌, ◌++◌, length, Option, Some, None, IfSome, refl, sym, ap, subst, arith, inl, inr, unsigned_abs}
 use Rattle.std.specs.List.{All, Contains, sum_by}
 use Rattle.std.proofs.Math.Nat.{div-eq_of_lt, mod-eq_of_lt, div-mul-le_self}
 use Rattle.std.proofs.lemmas.Int.{ints}
@@ -7,13 +7,12 @@ use Rattle.std.proofs.lemmas.List.Elements.{All-contains, All-contains_itself, A
 use Rattle.std.proofs.lemmas.List.Sums.{sum_by-cons}
 use Rattle.sled_codec.specs.declared.result.DiskPtr.TheVariants.{Inline}
 use Rattle.sled_codec.specs.History.{Message, History}
-use Rattle.sled_codec.specs.Places.{MayBegin}
 use Rattle.sled_codec.specs.Pointers.{lid_of}
 use Rattle.sled_codec.specs.Snapshots.{Entry, Shot}
 use Rattle.sled_store.specs.Device.{LogState, State}
 use Rattle.sled_store.specs.SnapshotFiles.{is_sound, stable_place, BeginsFrom}
 use Rattle.sled_core.specs.declared.iobuf.Site.{Site}
-use Rattle.sled_core.specs.Begin.{slots_of, slot_of, number_of, sizes_in, entries_of, place_at, AreApart, IsPlacedIn, MayBeActive, IsStartable, IsInReach}
+use Rattle.sled_core.specs.Begin.{slots_of, slot_of, number_of, entries_of, place_at, IsPlacedIn, MayBeActive, IsStartable, IsInReach}
 use Rattle.sled_core.specs.LogFile.{StandIn, StandsElsewhere}
 use Rattle.sled_core.specs.Ready.{HasActive, HasFile, active_site}
 use Rattle.sled_core.specs.Recoverable.{ActiveFits}
@@ -61,9 +60,9 @@ module _ (sum : List ℕ → ℕ) (size : ℕ) (log : List ℕ) (site : Site) (p
   no_older : (older : List Message) → All (StandsElsewhere sum size log site) older → older ≡ []
   no_older [] stand = refl
   no_older (m ∷ ms) stand = absurd (
-    let s = stand 0 m (omega arith) in
-    let below = s.below in
-    omega (arith, below, place_first, stands_some sum size log s.lid (m.place / size) m s.stands))
+      let s = stand 0 m (omega arith) in
+      let below = s.below in
+      omega (arith, below, place_first, stands_some sum size log s.lid (m.place / size) m s.stands))
 
 -- The snapshot that recovery begins from is sound.
 begins_sound : (sum : List ℕ → ℕ) (snapshots : ℤ → Option (List ℕ)) (s : Shot) → BeginsFrom sum snapshots s → is_sound s ≡ true
@@ -169,10 +168,10 @@ module _ (sum : List ℕ → ℕ) (size : ℕ) (device : State) (s : Shot) (H : 
       let slot_0 : 0 / size ≡ 0 = div-eq_of_lt (omega (arith, long)) in
       startable_with all weights (λ _ _. some)
       (subst (λ (o : Option ℕ). IfSome o (MayBeActive size slots stable)) (sym active)
-        (record { aligned = mod-eq_of_lt (omega (arith, long)); slot = omega (arith, slot_0, some); offset = record { behind_header = behind; before_end = omega (arith, room) } }))
+      (record { aligned = mod-eq_of_lt (omega (arith, long)); slot = omega (arith, slot_0, some); offset = record { behind_header = behind; before_end = omega (arith, room) } }))
       (subst (λ (o : Option ℕ). IfSome o (λ a. All (λ e. (slot_of size e ≡ a / size) ↔ (number_of size e ≡ stable / size)) es)) (sym active)
-        (All-weaker (Contains es) (λ e. (slot_of size e ≡ 0 / size) ↔ (number_of size e ≡ stable / size))
-          (λ e has_e. (λ _. in_segment all weights (λ _ _. some) e has_e ∙ sym base, λ _. in_slot all weights (λ _ _. some) e has_e ∙ sym slot_0)) es (All-contains_itself es)))
+      (All-weaker (Contains es) (λ e. (slot_of size e ≡ 0 / size) ↔ (number_of size e ≡ stable / size))
+      (λ e has_e. (λ _. in_segment all weights (λ _ _. some) e has_e ∙ sym base, λ _. in_slot all weights (λ _ _. some) e has_e ∙ sym slot_0)) es (All-contains_itself es)))
     where
       some_slot : 0 < length log → 0 < slots
       some_slot there = by slots (slots_cover size (length log) (omega (arith, long)))

@@ -1,5 +1,5 @@
 -- A log that begins on what a recovery left in the first segment fits the history.
-use Rattle.std.proofs.Common.{◌≡◌, ◌⊎◌, ◌≤◌, ◌<◌, ◌+◌, ◌-◌, ◌*◌, ◌/◌, ◌%◌, ◌^◌, ◌∙◌, ℕ, zero, suc, List, [], ◌∷◌, length, Option, Some, None, refl, sym, ap, subst, arith, inl, inr, unsigned_abs}
+use Rattle.std.proofs.Common.{◌≡◌, ◌≤◌, ◌<◌, ◌+◌, ◌-◌, ◌*◌, ◌/◌, ◌^◌, ◌∙◌, ℕ, List, [], ◌∷◌, length, Option, None, refl, sym, ap, subst, arith, inl, inr}
 use Rattle.std.specs.List.{All}
 use Rattle.std.proofs.Math.Nat.{div-eq_of_lt, mod-eq_of_lt}
 use Rattle.sled_codec.specs.History.{History}
@@ -8,11 +8,10 @@ use Rattle.sled_store.specs.Device.{LogState, NamesState, State, at_rest}
 use Rattle.sled_store.specs.SnapshotFiles.{stable_place}
 use Rattle.sled_core.specs.declared.begin.Beginning.{Beginning}
 use Rattle.sled_core.specs.declared.iobuf.Reserved.{Reserved}
-use Rattle.sled_core.specs.declared.iobuf.Site.{Site}
-use Rattle.sled_core.specs.Begin.{slots_of, is_used, unused, entries_of, first_or, beginning_at, beginning_of, IsPlacedIn, IsStartable}
+use Rattle.sled_core.specs.Begin.{slots_of, unused, entries_of, first_or, beginning_at, beginning_of, IsPlacedIn, IsStartable}
 use Rattle.sled_core.specs.Fits.{HoldsIn}
 use Rattle.sled_core.specs.Ready.{HasActive, HasFile}
-use Rattle.sled_core.specs.Recoverable.{LeavesRecoverable, first_site}
+use Rattle.sled_core.specs.Recoverable.{LeavesRecoverable}
 use Rattle.sled_core.specs.Running.{NoneBegun, NoBlobs, NamesFit, FitsIn, IsReadyFor}
 use Rattle.sled_core.proofs.FilledLemmas.{filled}
 use Rattle.sled_core.proofs.FilledMoments.{free_of_one, filled_short, filled_unbegun}

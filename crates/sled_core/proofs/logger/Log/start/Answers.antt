@@ -1,4 +1,7 @@
-use Rattle.std.proofs.Common.{◌≡◌, ◌∙◌, ◌+◌, ◌≤◌, ◌<◌, ◌^◌, ℕ, List, [], None, length, refl, ap, sym, subst, arith}
+use Rattle.std.proofs.Common.{◌≡◌, ◌≢◌, Err, ◌∙◌, ◌+◌, ◌≤◌, ◌<◌, ◌^◌, ℕ, List, [], None, length, refl, ap, sym, subst, arith}
+use Rattle.sled_codec.specs.declared.result.Error.{Error}
+use Rattle.sled_codec.specs.declared.result.Error.TheVariants.{PlacesUsedUp}
+use Rattle.sled_codec.specs.Errors.{IsCorrupt, IsCorruption}
 use Rattle.sled_codec.specs.Snapshots.{Shot, shot_of}
 use Rattle.sled_store.specs.declared.config.Config.{Config}
 use Rattle.sled_store.specs.Device.{State, LogState, NamesState, Trace, state_of, at_rest}
@@ -6,7 +9,9 @@ use Rattle.sled_store.specs.SnapshotFiles.{stable_place}
 use Rattle.sled_core.specs.declared.begin.Beginning.{Beginning}
 use Rattle.sled_store.specs.Script.{after_all}
 use Rattle.sled_store.proofs.MomentLemmas.{at_last}
-use Rattle.sled_core.specs.Begin.{unused, slots_of, place_at, filling}
+use Rattle.sled_core.specs.Begin.{unused, slots_of, place_at, filling, IsStartable, IsInReach}
+use Rattle.sled_core.specs.declared.iobuf.Buffer.{Buffer}
+use Rattle.sled_core.specs.Causes.{StartAnswers}
 use Rattle.sled_core.specs.Fits.{Holds, HoldsIn}
 use Rattle.sled_core.specs.declared.iobuf.Site.{Site}
 use Rattle.sled_core.specs.Recoverable.{LeavesRecoverable}
@@ -14,6 +19,7 @@ use Rattle.sled_core.specs.Running.{Ready, Fits, FitsIn}
 use Rattle.sled_core.proofs.HoldsLemmas.{holds-same}
 use Rattle.sled_core.proofs.FilledLemmas.{filled, filling-log, filling-snapshots, filling-blobs}
 use Rattle.sled_core.proofs.FilledMoments.{filled_throughout}
+use Rattle.sled_core.proofs.ReadyStarts.{ready_starts, ready_in_reach}
 use Rattle.sled_core.proofs.StartFits.{start_fits}
 use Rattle.sled_core.proofs.OpenLemmas.{in_segment, place_in_reach, slot_in_reach, first_next, begins_place}
 use Rattle.sled_codec.specs.History.{no_history}
@@ -100,3 +106,22 @@ returns-in-Ok-clause-fits g c = λ H A f ready.
     c.in-Ok.buffer.bytes.items c.in-Ok.buffer.from c.in-Ok.buffer.reserved.items first.from holds
     (filled_log size ks old (g.D.Device.trace c.begin.new.config.device) c.in-Ok.ensures.done ready.ready.log ready.ready.settled) (ap (λ (t : Trace). (state_of t).blobs) c.in-Ok.ensures.done ∙ filling-blobs size ks old) (ap (λ (t : Trace). (state_of t).snapshots) c.in-Ok.ensures.done ∙ filling-snapshots size ks old)
     (at_last (LeavesRecoverable g.C.Checksum.sum_of size H A f) old (g.D.Device.trace c.begin.new.config.device) (returns-in-Ok-clause-crash g c H A f ready)))
+
+-- a log that can begin is refused for no damage, and not where a further segment is in reach
+not_refused : (startable in_reach : Type 0) (e : Error) (before after : ℕ) → startable → in_reach → (IsCorruption {T = Beginning × Buffer} (Err e) → startable → ⊥) → StartAnswers {T = Beginning × Buffer} (Err e) in_reach before after
+    → (IsCorrupt e → ⊥) × (e ≢ PlacesUsedUp)
+not_refused startable in_reach e before after can reach corrupt answers = (
+  λ damaged. corrupt damaged can,
+  λ used_up. (subst (λ (x : Error). StartAnswers {T = Beginning × Buffer} (Err x) in_reach before after) used_up answers).1 reach,
+)
+
+pub returns-in-Err-clause-starts : goal.returns-in-Err-clause-starts
+unfolding Ready
+returns-in-Err-clause-starts g c = λ H A f ready room.
+    let size : ℕ = c.args.config.config.segment_size in
+    let old : State = state_of (g.D.Device.trace c.args.config.device) in
+    let s : Shot = shot_of c.args.snapshot.now in
+    let long = c.args.config.config.least in
+    let most = c.args.config.config.most in
+    not_refused (IsStartable size (length old.log.bytes) s) (IsInReach size (length old.log.bytes) s) c.in-Err.e (g.D.Device.faults c.args.config.device) (g.D.Device.faults c.begin.new.config.device)
+    (ready_starts g.C.Checksum.sum_of size old s H A f long most ready room) (ready_in_reach g.C.Checksum.sum_of size old s H A f long most ready) c.in-Err.ensures.corrupt c.in-Err.ensures.answers
