@@ -3,9 +3,11 @@ pub mod BookLemmas
 pub mod CompletesLemmas
 pub mod CrashLemmas
 pub mod Elements
+pub mod EntriesOfTable
 pub mod EntryLemmas
 pub mod FillLemmas
 pub mod FilledLemmas
+pub mod FilledMoments
 pub mod FirstBegun
 pub mod FirstSegment
 pub mod FitLemmas
@@ -25,12 +27,15 @@ pub mod Ranges
 pub mod ReachLemmas
 pub mod ReadingLemmas
 pub mod ReadyLemmas
+pub mod ReadyStarts
 pub mod ReserveLemmas
 pub mod RunningLemmas
 pub mod ScanLemmas
 pub mod StandLemmas
+pub mod StartFits
 pub mod StartLemmas
 pub mod TableEntries
+pub mod TableWeights
 pub mod TornFlush
 pub mod TornLemmas
 pub mod TornRecords

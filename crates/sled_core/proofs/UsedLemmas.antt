@@ -46,20 +46,22 @@ zero_header sum place mark bytes zeros h =
     let is : u ≡ place = omega (arith, ints, fits) in
     sym is ∙ back
 
+-- bytes that are all there, and each of which is 0
+pub zero_part : (log : List ℕ) (at n : ℕ) → length (part log at n) ≡ n → ((i : ℕ) → at ≤ i → i < at + n → get_or log i 0 ≡ 0) → part log at n ≡ replicate n 0
+zero_part log at n long zeros = same_number_lists (part log at n) (replicate n 0) (long ∙ sym (length-replicate {A = ℕ} n 0)) (λ k low.
+    let short : k < n = omega (arith, long, low) in
+    get_or-take n (drop at log) k 0 short ∙ get_or-drop at log k 0 ∙ zeros (at + k) (omega arith) (omega (arith, short)) ∙ sym (get_or-replicate {A = ℕ} n k 0 0 short))
+
 -- so no segment begins with it
 pub zero_misplaced : (sum : List ℕ → ℕ) (size : ℕ) (log : List ℕ) (x : Segment) → 0 < size → IsHeader sum (part log x.slot 20) (pos x.place) x.mark
     → ((i : ℕ) → x.slot ≤ i → i < x.slot + 20 → get_or log i 0 ≡ 0) → IsMisplaced size x
 zero_misplaced sum size log x some header zeros =
-    let bytes : List ℕ = part log x.slot 20 in
-    let long : length bytes ≡ 20 = ap length header.is ∙ length-short_header sum (pos x.place) x.mark in
-    let all : bytes ≡ replicate 20 0 = same_number_lists bytes (replicate 20 0) (long ∙ sym (length-replicate {A = ℕ} 20 0)) (λ k low.
-    let short : k < 20 = omega (arith, long, low) in
-    get_or-take 20 (drop x.slot log) k 0 short ∙ get_or-drop x.slot log k 0 ∙ zeros (x.slot + k) (omega arith) (omega (arith, short)) ∙ sym (get_or-replicate {A = ℕ} 20 k 0 0 short)) in
-    let place = zero_header sum x.place x.mark bytes all header in
+    let all = zero_part log x.slot 20 (ap length header.is ∙ length-short_header sum (pos x.place) x.mark) zeros in
+    let place = zero_header sum x.place x.mark (part log x.slot 20) all header in
     inr (omega (arith, place, some))
 
 -- an active slot is used
-active_used : (size : ℕ) (s : Shot) (a : ℕ) → s.active ≡ Some a → is_used size s (a / size) ≡ true
+pub active_used : (size : ℕ) (s : Shot) (a : ℕ) → s.active ≡ Some a → is_used size s (a / size) ≡ true
 active_used size s a is =
     let here : is_active size s.active (a / size) ≡ true = ap (λ (o : Option ℕ). is_active size o (a / size)) is ∙ elim (eqb_tells (a / size) (a / size)) [ inl same ↦ same.0 | inr other ↦ absurd (other.1 refl) ] in
     cc

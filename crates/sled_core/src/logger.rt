@@ -8,7 +8,7 @@ ghost use Rattle.sled_codec.specs.Kinds.{kind_written};
 ghost use Rattle.sled_codec.specs.History.{History, Message, Completed, Step, no_history};
 ghost use Rattle.std.specs.IoError.{error_kind};
 ghost use Rattle.std.specs.declared.io.ErrorKind.TheVariants.{OutOfMemory};
-ghost use Rattle.sled_codec.specs.Errors.{IsErrorOf, IsCorruption};
+ghost use Rattle.sled_codec.specs.Errors.{IsErrorOf, IsCorrupt, IsCorruption};
 ghost use Rattle.sled_store.specs.Device.{state_of, at_rest, Wrote, Synced};
 ghost use Rattle.sled_store.specs.Answers.{Counts, FailsOr};
 ghost use Rattle.sled_core.specs.Tickets.{place_of, pointer_of, IsFor};
@@ -22,7 +22,8 @@ ghost use Rattle.sled_store.specs.Moments.{LeavesOnly};
 ghost use Rattle.sled_store.specs.SnapshotFiles.{stable_place, empty_shot};
 ghost use Rattle.sled_core.specs.Begin.{IsStartable, IsInReach, slots_of, unused, filling, place_at, offset_at};
 ghost use Rattle.sled_core.specs.Ready.{IsReady};
-ghost use Rattle.sled_core.specs.Recoverable.{LeavesRecoverable, RecoverableIfOwn};
+ghost use Rattle.sled_core.specs.Recoverable.{LeavesRecoverable, RecoverableIfOwn, ActiveFits};
+ghost use Rattle.sled_store.specs.Moments.{LeavesOnly};
 ghost use Rattle.sled_core.specs.Causes.{StartRefuses, Answers, FaultAnswers, ReserveAnswers, ReadAnswers, failure_in};
 
 use crate::begin::begin;
@@ -54,7 +55,7 @@ pub struct Log<D, C> {
 
 impl<D: Device, C: Checksum> Log<D, C> {
     ghost use Rattle.sled_core.specs.Fits.{Holds, AllEnded, Awaits, IsOpen, HasRoom, IsUnchanged, fault_of, next_place, synced_end, reserved_end, pins_of, config_of, device_of, site_of, IsWritten, flushing, manifest_page, segment_size_of, size_for, message_for, KeepsAll};
-    ghost use Rattle.sled_core.specs.Running.{Fits};
+    ghost use Rattle.sled_core.specs.Running.{Fits, Ready};
 
     /// Begins a log on what a recovery left: it goes on at the snapshot's stable place. First it fills the
     /// slots of the file that the snapshot does not use with zeros, in ascending order, and syncs the file
@@ -69,6 +70,13 @@ impl<D: Device, C: Checksum> Log<D, C> {
         snapshot: &Snapshot,
     ) -> std::result::Result<Log<D, C>, (Error, RunningConfig<D, C>)>
         ensures history { (H : History) → IsReady C.sum_of config.config.segment_size (state_of (D.trace config.device)) (shot_of snapshot.now) H → IfOk result (λ log. Holds D.trace C.sum_of log H) }
+        ensures fits { (H : History) (A f : ℕ) → Ready C.sum_of config.config.segment_size (state_of (D.trace config.device)) (shot_of snapshot.now) H A f → IfOk result (λ log. Fits D.trace C.sum_of log H A f []) }
+        ensures crash { (H : History) (A f : ℕ) → Ready C.sum_of config.config.segment_size (state_of (D.trace config.device)) (shot_of snapshot.now) H A f
+            → IfOk result (λ log. LeavesOnly (RecoverableIfOwn C.sum_of config.config.segment_size H A f) (D.trace config.device) (D.trace (device_of log))) }
+        ensures crash_err { (H : History) (A f : ℕ) → Ready C.sum_of config.config.segment_size (state_of (D.trace config.device)) (shot_of snapshot.now) H A f
+            → IfErr result (λ e. LeavesOnly (RecoverableIfOwn C.sum_of config.config.segment_size H A f) (D.trace config.device) (D.trace e.1.device)) }
+        ensures starts { (H : History) (A f : ℕ) → Ready C.sum_of config.config.segment_size (state_of (D.trace config.device)) (shot_of snapshot.now) H A f
+            → ActiveFits config.config.segment_size (stable_place snapshot.now.stable_lsn) snapshot.now.active_segment → IfErr result (λ e. (IsCorrupt e.0 → ⊥) × (e.0 ≢ Error.PlacesUsedUp)) }
         ensures fresh { shot_of snapshot.now ≡ empty_shot → (state_of (D.trace config.device)).log ≡ at_rest [] → ((n : ℤ) → (state_of (D.trace config.device)).snapshots.file n ≡ None) → IfOk result (λ log. Holds D.trace C.sum_of log no_history) }
         ensures startable { OnOk result (IsStartable config.config.segment_size (length (state_of (D.trace config.device)).log.bytes) (shot_of snapshot.now)) }
         ensures synced { IfOk result (λ log. synced_end log ≡ place_at config.config.segment_size (stable_place snapshot.now.stable_lsn) snapshot.now.active_segment + offset_at config.config.segment_size (stable_place snapshot.now.stable_lsn) snapshot.now.active_segment) }

@@ -1,13 +1,26 @@
-use Rattle.std.proofs.Common.{◌≡◌, ◌∙◌, ◌+◌, ℕ, List, [], None, length, refl, ap, sym, subst, arith}
+use Rattle.std.proofs.Common.{◌≡◌, ◌≢◌, Err, ◌∙◌, ◌+◌, ◌≤◌, ◌<◌, ◌^◌, ℕ, List, [], None, length, refl, ap, sym, subst, arith}
+use Rattle.sled_codec.specs.declared.result.Error.{Error}
+use Rattle.sled_codec.specs.declared.result.Error.TheVariants.{PlacesUsedUp}
+use Rattle.sled_codec.specs.Errors.{IsCorrupt, IsCorruption}
 use Rattle.sled_codec.specs.Snapshots.{Shot, shot_of}
 use Rattle.sled_store.specs.declared.config.Config.{Config}
 use Rattle.sled_store.specs.Device.{State, LogState, NamesState, Trace, state_of, at_rest}
 use Rattle.sled_store.specs.SnapshotFiles.{stable_place}
 use Rattle.sled_core.specs.declared.begin.Beginning.{Beginning}
-use Rattle.sled_core.specs.Begin.{unused, slots_of, place_at}
+use Rattle.sled_store.specs.Script.{after_all}
+use Rattle.sled_store.proofs.MomentLemmas.{at_last}
+use Rattle.sled_core.specs.Begin.{unused, slots_of, place_at, filling, IsStartable, IsInReach}
+use Rattle.sled_core.specs.declared.iobuf.Buffer.{Buffer}
+use Rattle.sled_core.specs.Causes.{StartAnswers}
 use Rattle.sled_core.specs.Fits.{Holds, HoldsIn}
+use Rattle.sled_core.specs.declared.iobuf.Site.{Site}
+use Rattle.sled_core.specs.Recoverable.{LeavesRecoverable}
+use Rattle.sled_core.specs.Running.{Ready, Fits, FitsIn}
 use Rattle.sled_core.proofs.HoldsLemmas.{holds-same}
-use Rattle.sled_core.proofs.FilledLemmas.{filled, filling-log, filling-snapshots}
+use Rattle.sled_core.proofs.FilledLemmas.{filled, filling-log, filling-snapshots, filling-blobs}
+use Rattle.sled_core.proofs.FilledMoments.{filled_throughout}
+use Rattle.sled_core.proofs.ReadyStarts.{ready_starts, ready_in_reach}
+use Rattle.sled_core.proofs.StartFits.{start_fits}
 use Rattle.sled_core.proofs.OpenLemmas.{in_segment, place_in_reach, slot_in_reach, first_next, begins_place}
 use Rattle.sled_codec.specs.History.{no_history}
 use Rattle.sled_core.specs.Ready.{IsReady}
@@ -26,6 +39,15 @@ invariant_of-result g c =
     let slot = slot_in_reach c.args.config.config.segment_size len s c.in-Ok.beginning c.in-Ok.ensures.beginning c.in-Ok.ensures.startable c.in-Ok.ensures.answers.1 in
     record { in_segment = omega (arith, same, inside); place_in_reach = omega (arith, same, place); slot_in_reach = omega (arith, same, slot) }
 
+-- the log file, once it was filled
+filled_log : (size : ℕ) (ks : List ℕ) (old new : Trace) → new ≡ after_all (filling size ks) old → (log : List ℕ) → (state_of old).log ≡ at_rest log → (state_of new).log ≡ at_rest (filled size (state_of old).log.bytes ks)
+filled_log size ks old new done log settled =
+    ap (λ (t : Trace). (state_of t).log) done ∙ filling-log size ks old log settled ∙ ap (λ (l : List ℕ). at_rest (filled size l ks)) (sym (ap (λ (x : LogState). x.bytes) settled))
+
+-- a segment is short enough for its offsets to be in reach
+in_reach : (size : ℕ) → size ≤ 8388608 → size < 2 ^ 63
+in_reach size most = omega (arith, most)
+
 pub returns-in-Ok-clause-history : goal.returns-in-Ok-clause-history
 unfolding Holds
 returns-in-Ok-clause-history g c = λ H ready.
@@ -34,8 +56,7 @@ returns-in-Ok-clause-history g c = λ H ready.
     let old : State = state_of (g.D.Device.trace c.args.config.device) in
     let ks : List ℕ = unused size (slots_of size (length old.log.bytes)) s in
     let now : State = state_of (g.D.Device.trace c.begin.new.config.device) in
-    let log_now = ap (λ (t : Trace). (state_of t).log) c.in-Ok.ensures.done ∙ filling-log size ks (g.D.Device.trace c.args.config.device) ready.log ready.settled
-    ∙ ap (λ (l : List ℕ). at_rest (filled size l ks)) (sym (ap (λ (x : LogState). x.bytes) ready.settled)) in
+    let log_now = filled_log size ks (g.D.Device.trace c.args.config.device) (g.D.Device.trace c.begin.new.config.device) c.in-Ok.ensures.done ready.log ready.settled in
     let names_now = ap (λ (t : Trace). (state_of t).snapshots.file) c.in-Ok.ensures.done ∙ ap (λ (n : NamesState). n.file) (filling-snapshots size ks (g.D.Device.trace c.args.config.device)) in
     let first = c.in-Ok.ensures.buffer in
     let holds = begins_ready g.C.Checksum.sum_of size old now s H c.in-Ok.buffer.bytes.items c.args.config.config.least ready c.in-Ok.ensures.startable log_now names_now c.in-Ok.beginning c.in-Ok.ensures.beginning first.header first.resumed in
@@ -58,3 +79,49 @@ returns-in-Ok-clause-fresh g c = λ same empty none.
     let size : ℕ = c.args.config.config.segment_size in
     let device : State = state_of (g.D.Device.trace c.args.config.device) in
     returns-in-Ok-clause-history g c no_history (subst (λ (s : Shot). IsReady g.C.Checksum.sum_of size device s no_history) (sym same) (ready_fresh g.C.Checksum.sum_of size device empty none))
+
+pub returns-in-Ok-clause-crash : goal.returns-in-Ok-clause-crash
+returns-in-Ok-clause-crash g c = λ H A f ready. filled_throughout g.C.Checksum.sum_of c.args.config.config.segment_size (shot_of c.args.snapshot.now) H A f c.args.config.config.least (in_reach c.args.config.config.segment_size c.args.config.config.most)
+    (g.D.Device.trace c.args.config.device) (g.D.Device.trace c.begin.new.config.device) ready c.begin.ensures.calls
+
+pub returns-in-Err-clause-crash_err : goal.returns-in-Err-clause-crash_err
+returns-in-Err-clause-crash_err g c = λ H A f ready. filled_throughout g.C.Checksum.sum_of c.args.config.config.segment_size (shot_of c.args.snapshot.now) H A f c.args.config.config.least (in_reach c.args.config.config.segment_size c.args.config.config.most)
+    (g.D.Device.trace c.args.config.device) (g.D.Device.trace c.begin.new.config.device) ready c.begin.ensures.calls
+
+pub returns-in-Ok-clause-fits : goal.returns-in-Ok-clause-fits
+unfolding Ready Fits Holds
+returns-in-Ok-clause-fits g c = λ H A f ready.
+    let size : ℕ = c.args.config.config.segment_size in
+    let old : Trace = g.D.Device.trace c.args.config.device in
+    let s : Shot = shot_of c.args.snapshot.now in
+    let ks : List ℕ = unused size (slots_of size (length (state_of old).log.bytes)) s in
+    let now : State = state_of (g.D.Device.trace c.begin.new.config.device) in
+    let same : c.begin.new.config.config.segment_size ≡ size = ap (λ (x : Config). x.segment_size) c.begin.ensures.config in
+    let site : Site = record { place = c.in-Ok.beginning.place; slot = c.in-Ok.beginning.slot } in
+    let first = c.in-Ok.ensures.buffer in
+    let holds : HoldsIn g.C.Checksum.sum_of size site now None c.in-Ok.buffer.bytes.items c.in-Ok.buffer.from c.in-Ok.buffer.reserved.items H =
+    subst (λ n. HoldsIn g.C.Checksum.sum_of n site now None c.in-Ok.buffer.bytes.items c.in-Ok.buffer.from c.in-Ok.buffer.reserved.items H) same (returns-in-Ok-clause-history g c H ready.ready) in
+    subst (λ n. FitsIn g.C.Checksum.sum_of n site now None c.in-Ok.buffer.bytes.items c.in-Ok.buffer.from c.in-Ok.buffer.reserved.items 0 H A f []) (sym same)
+    (start_fits g.C.Checksum.sum_of size (state_of old) now s H A f c.args.config.config.least (in_reach size c.args.config.config.most) ready c.in-Ok.ensures.startable c.in-Ok.beginning c.in-Ok.ensures.beginning
+    c.in-Ok.buffer.bytes.items c.in-Ok.buffer.from c.in-Ok.buffer.reserved.items first.from holds
+    (filled_log size ks old (g.D.Device.trace c.begin.new.config.device) c.in-Ok.ensures.done ready.ready.log ready.ready.settled) (ap (λ (t : Trace). (state_of t).blobs) c.in-Ok.ensures.done ∙ filling-blobs size ks old) (ap (λ (t : Trace). (state_of t).snapshots) c.in-Ok.ensures.done ∙ filling-snapshots size ks old)
+    (at_last (LeavesRecoverable g.C.Checksum.sum_of size H A f) old (g.D.Device.trace c.begin.new.config.device) (returns-in-Ok-clause-crash g c H A f ready)))
+
+-- a log that can begin is refused for no damage, and not where a further segment is in reach
+not_refused : (startable in_reach : Type 0) (e : Error) (before after : ℕ) → startable → in_reach → (IsCorruption {T = Beginning × Buffer} (Err e) → startable → ⊥) → StartAnswers {T = Beginning × Buffer} (Err e) in_reach before after
+    → (IsCorrupt e → ⊥) × (e ≢ PlacesUsedUp)
+not_refused startable in_reach e before after can reach corrupt answers = (
+  λ damaged. corrupt damaged can,
+  λ used_up. (subst (λ (x : Error). StartAnswers {T = Beginning × Buffer} (Err x) in_reach before after) used_up answers).1 reach,
+)
+
+pub returns-in-Err-clause-starts : goal.returns-in-Err-clause-starts
+unfolding Ready
+returns-in-Err-clause-starts g c = λ H A f ready room.
+    let size : ℕ = c.args.config.config.segment_size in
+    let old : State = state_of (g.D.Device.trace c.args.config.device) in
+    let s : Shot = shot_of c.args.snapshot.now in
+    let long = c.args.config.config.least in
+    let most = c.args.config.config.most in
+    not_refused (IsStartable size (length old.log.bytes) s) (IsInReach size (length old.log.bytes) s) c.in-Err.e (g.D.Device.faults c.args.config.device) (g.D.Device.faults c.begin.new.config.device)
+    (ready_starts g.C.Checksum.sum_of size old s H A f long most ready room) (ready_in_reach g.C.Checksum.sum_of size old s H A f long most ready) c.in-Err.ensures.corrupt c.in-Err.ensures.answers
