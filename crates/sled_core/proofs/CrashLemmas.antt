@@ -1,26 +1,22 @@
 -- What a crash leaves while the write of a flush is not settled yet can be recovered: of its records the first ones came, or the segment was not begun.
-use Rattle.std.proofs.Common.{◌≡◌, ◌⊎◌, ◌≤◌, ◌<◌, ◌+◌, ◌/◌, ◌^◌, ◌∙◌, ℕ, max, Bool, true, false, pos, nat_lt, if◌then◌else◌, List, [], ◌∷◌, ◌++◌, length, take, drop, replicate, Option, None, get_or, zero, suc, ap, sym, refl, subst, arith, inl, inr, append_assoc, length-drop}
-use Rattle.std.specs.List.{All}
+use Rattle.std.proofs.Common.{◌≡◌, ◌≤◌, ◌<◌, ◌+◌, ◌/◌, ◌^◌, ◌∙◌, ℕ, max, true, pos, List, ◌++◌, length, take, drop, replicate, Option, None, ap, sym, subst, arith, inl, inr, append_assoc, length-drop}
 use Rattle.std.specs.declared.io.Error.{Error as IoError}
 use Rattle.std.proofs.Math.Nat.{zero-div}
-use Rattle.std.proofs.lemmas.Bool.{cases_lt}
-use Rattle.std.proofs.lemmas.Bool.Decides.{nat_tests}
 use Rattle.std.proofs.lemmas.List.{take-append-drop}
 use Rattle.sled_codec.specs.Places.{part}
 use Rattle.sled_codec.specs.Record.{IsHeader}
 use Rattle.sled_codec.specs.History.{Message, History}
-use Rattle.sled_store.specs.Device.{State, LogState, Content, Leaves, LeavesLog, Wrote, step, log_step, overwritten, at_rest, end_of}
+use Rattle.sled_store.specs.Device.{State, LogState, Content, Leaves, LeavesLog, Wrote, step, log_step, overwritten, at_rest}
 use Rattle.sled_store.specs.Foreign.{NoForeignLog}
 use Rattle.sled_store.specs.SnapshotFiles.{stable_place}
 use Rattle.sled_store.proofs.LooseLemmas.{end_of-le}
 use Rattle.sled_core.specs.declared.iobuf.Reserved.{Reserved}
-use Rattle.sled_core.specs.declared.iobuf.Site.{Site}
 use Rattle.sled_core.specs.declared.met.Segment.{Segment}
 use Rattle.sled_core.specs.Buffers.{completed_in, all_ended}
 use Rattle.sled_core.specs.Scan.{IsFoundSegment}
-use Rattle.sled_core.specs.LogFile.{StandIn, StandsElsewhere, HasHeader, IsEmpty, IsLogFile}
+use Rattle.sled_core.specs.LogFile.{StandIn, HasHeader, IsEmpty, IsLogFile}
 use Rattle.sled_core.specs.Fits.{HoldsIn}
-use Rattle.sled_core.specs.Recoverable.{NoForeign, IsUnbegun, IsBegun, IsInFirstSegment, IsRecoverableInFirst, first_site, first_cut}
+use Rattle.sled_core.specs.Recoverable.{NoForeign, IsUnbegun, IsBegun, IsInFirstSegment, IsRecoverableInFirst, first_site}
 use Rattle.sled_core.specs.Running.{FitsIn, CanBegin}
 use Rattle.sled_core.proofs.LogFileLemmas.{stand_rest, stand_above}
 use Rattle.sled_core.proofs.FlushLemmas.{all_stand, grown}

@@ -20,7 +20,7 @@ use Rattle.sled_store.proofs.LooseLemmas.{end_of-le}
 use Rattle.sled_store.proofs.OverwrittenLemmas.{length-overwritten}
 use Rattle.sled_store.proofs.ScriptLemmas.{performs_throughout}
 use Rattle.sled_core.specs.declared.met.Segment.{Segment}
-use Rattle.sled_core.specs.Begin.{slots_of, is_used, unused, not_below, fill, filling}
+use Rattle.sled_core.specs.Begin.{slots_of, is_used, unused, fill, filling}
 use Rattle.sled_core.specs.Recoverable.{RecoverableIfOwn, LeavesRecoverable}
 use Rattle.sled_core.specs.Running.{NoneBegun, NamesFit, NoBlobs, IsReadyFor, Ready}
 use Rattle.sled_core.specs.Scan.{IsFoundSegment}

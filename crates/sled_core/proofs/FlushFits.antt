@@ -1,13 +1,12 @@
 -- A log fits its history at each moment of a flush, and behind it with all that was written for what was acknowledged.
-use Rattle.std.proofs.Common.{◌≡◌, ◌≤◌, ◌<◌, ◌+◌, ◌^◌, ◌∙◌, ℕ, max, true, List, [], ◌∷◌, length, drop, Option, None, Some, ap, sym, refl, subst, arith, length-drop, inl, inr}
+use Rattle.std.proofs.Common.{◌≡◌, ◌≤◌, ◌<◌, ◌+◌, ◌^◌, ◌∙◌, ℕ, true, List, [], ◌∷◌, length, drop, Option, None, Some, ap, sym, refl, subst, arith, length-drop, inl, inr}
 use Rattle.std.specs.declared.io.Error.{Error as IoError}
 use Rattle.sled_codec.specs.History.{Message, History}
-use Rattle.sled_store.specs.Device.{Event, Trace, NamesState, State, Content, Wrote, Synced, Leaves, LeavesName, state_of, step, overwritten}
-use Rattle.sled_store.specs.Answers.{Tears}
+use Rattle.sled_store.specs.Device.{Event, Trace, NamesState, State, Wrote, Synced, LeavesName, state_of, step, overwritten}
 use Rattle.sled_store.specs.Moments.{Throughout}
 use Rattle.sled_store.specs.Script.{Performs, Along, after_all}
 use Rattle.sled_store.proofs.LooseLemmas.{end_of-le}
-use Rattle.sled_store.proofs.MomentLemmas.{at_last}
+use Rattle.sled_store.proofs.MomentLemmas.{at_last, weaker}
 use Rattle.sled_store.proofs.OverwrittenLemmas.{length-overwritten}
 use Rattle.sled_store.proofs.ScriptLemmas.{performs_throughout}
 use Rattle.sled_core.specs.declared.iobuf.Reserved.{Reserved}
@@ -15,12 +14,13 @@ use Rattle.sled_core.specs.declared.iobuf.Site.{Site}
 use Rattle.sled_core.specs.declared.logger.Log.{Log}
 use Rattle.sled_core.specs.Buffers.{all_ended}
 use Rattle.sled_core.specs.Fits.{HoldsIn, AllEnded, fault_of, device_of, segment_size_of}
-use Rattle.sled_core.specs.Recoverable.{NoForeign, LeavesRecoverable, first_site}
+use Rattle.sled_core.specs.Recoverable.{LeavesRecoverable, first_site}
 use Rattle.sled_core.specs.Running.{FitsIn, Fits, NamesFit}
 use Rattle.sled_core.proofs.CrashLemmas.{write_recoverable}
 use Rattle.sled_core.proofs.FirstSegment.{recoverable_in_first}
 use Rattle.sled_core.proofs.FlushLemmas.{holds-flush, holds-faulty, fault_or_none}
-use Rattle.sled_core.proofs.MainLemmas.{settled_recoverable}
+use Rattle.sled_core.proofs.MainLemmas.{settled_recoverable, leaves_less}
+use Rattle.sled_core.proofs.RunningLemmas.{fits-synced}
 
 -- a place behind one that was reached was reached too
 pub names_reached : (sum : List ℕ → ℕ) (size : ℕ) (names : NamesState) (H : History) (f from to : ℕ) → from ≤ to → NamesFit sum size names H f from → NamesFit sum size names H f to
@@ -30,23 +30,8 @@ names_reached sum size names H f from to more fit left leaves only_own =
 
 module _ (sum : List ℕ → ℕ) (size : ℕ) (site : Site) (device : State) (fault : Option IoError) (bytes : List ℕ) (from : ℕ) (rs : List Reserved) (pins : ℕ) (H : History) (A f : ℕ) (U : List Message)
     (fits : FitsIn sum size site device fault bytes from rs pins H A f U) where
-  -- Where the device has not failed, all that was written may count as acknowledged.
-  pub fits_synced : 256 ≤ size → size < 2 ^ 63 → from ≤ length bytes → length bytes ≤ size → fault ≡ None → (A' : ℕ) → A' ≤ from → FitsIn sum size site device fault bytes from rs pins H A' f U
-  fits_synced big small behind short whole A' passes = record {
-    holds = fits.holds;
-    one_segment = fits.one_segment;
-    short = fits.short;
-    unbegun = fits.unbegun;
-    blobs = fits.blobs;
-    names = fits.names;
-    passes = passes;
-    pinned = fits.pinned;
-    left = settled_recoverable sum size site device bytes from rs H A' f big small behind short (subst (λ (o : Option IoError). HoldsIn sum size site device o bytes from rs H) whole fits.holds)
-        fits.one_segment (fits.short whole) (fits.unbegun whole) fits.blobs fits.names passes;
-  }
-
   -- A log that keeps a failure of its device fits what it fitted, where a crash leaves what can be recovered.
-  pub fits_faulty : (new : State) (e : IoError) (now : Option IoError) → now ≡ Some e → new.blobs ≡ device.blobs → new.snapshots ≡ device.snapshots → LeavesRecoverable sum size H A f new
+  pub fits_faulty : (new : State) (e : IoError) (now : Option IoError) → now ≡ Some e → new.blobs ≡ device.blobs → new.snapshots ≡ device.snapshots → LeavesRecoverable sum size H from f new
       → FitsIn sum size site new now bytes from rs pins H A f U
   fits_faulty new e now is blobs snapshots left = record {
     holds = holds-faulty sum size site device fault bytes from rs H fits.holds new e now is (ap (λ (s : NamesState). s.file) snapshots);
@@ -69,7 +54,7 @@ module _ (sum : List ℕ → ℕ) (size : ℕ) (site : Site) (device : State) (f
   fits_answered size' after now sizes same none =
       let here : FitsIn sum size site after now bytes from rs pins H A f U = elim (fault_or_none now) [
         | inl is ↦ fits_moved after now same (is ∙ sym none)
-        | inr is ↦ fits_faulty after is.0 now is.1 (ap (λ (s : State). s.blobs) same) (ap (λ (s : State). s.snapshots) same) (subst (λ (s : State). LeavesRecoverable sum size H A f s) (sym same) fits.left)
+        | inr is ↦ fits_faulty after is.0 now is.1 (ap (λ (s : State). s.blobs) same) (ap (λ (s : State). s.snapshots) same) (subst (λ (s : State). LeavesRecoverable sum size H from f s) (sym same) fits.left)
       ] in
       subst (λ n. FitsIn sum n site after now bytes from rs pins H A f U) (sym sizes) here
 
@@ -97,9 +82,10 @@ module _ (sum : List ℕ → ℕ) (size : ℕ) (device : State) (fault : Option 
   after_sync = step Synced (after_write asked)
 
   -- within the write, and behind it
-  write_leaves : (now : List ℕ) → length now ≤ length asked → LeavesRecoverable sum size H A f (after_write now)
+  write_leaves : (now : List ℕ) → length now ≤ length asked → LeavesRecoverable sum size H from f (after_write now)
   write_leaves now no_more = λ left leaves only_own.
-      recoverable_in_first sum size left H A f big small (write_recoverable sum size device fault bytes from rs pins H A f U fits begun behind short small ended some whole now no_more left leaves only_own)
+      let synced : FitsIn sum size first_site device fault bytes from rs pins H from f U = fits-synced sum size first_site device fault bytes from rs pins H A f U fits from (omega arith) in
+      recoverable_in_first sum size left H from f big small (write_recoverable sum size device fault bytes from rs pins H from f U synced begun behind short small ended some whole now no_more left leaves only_own)
 
   in_reach : first_site.place + size < 2 ^ 63
   in_reach = omega (arith, small)
@@ -124,15 +110,15 @@ module _ (sum : List ℕ → ℕ) (size : ℕ) (device : State) (fault : Option 
         names = names;
         passes = passes;
         pinned = fits.pinned;
-        left = settled_recoverable sum size first_site after_sync bytes (length bytes) [] H A' f big small (omega arith) short held refl short_after (λ first. absurd (omega (arith, begun, first))) fits.blobs names passes;
+        left = settled_recoverable sum size first_site after_sync bytes (length bytes) [] H (length bytes) f big small (omega arith) short held refl short_after (λ first. absurd (omega (arith, begun, first))) fits.blobs names (omega arith);
       }
 
   -- each content that a crash leaves on the way can be recovered
-  pub flush_along : Along (LeavesRecoverable sum size H A f) (Wrote (first_site.slot + from) asked asked ∷ Synced ∷ []) device
+  pub flush_along : Along (LeavesRecoverable sum size H from f) (Wrote (first_site.slot + from) asked asked ∷ Synced ∷ []) device
   flush_along = (
     fits.left,
-    λ torn tears. subst (λ (e : Event). LeavesRecoverable sum size H A f (step e device)) (sym tears.2) (write_leaves tears.0 tears.1),
-    (write_leaves asked (omega arith), λ torn tears. absurd tears, (fits_flushed A (omega (arith, fits.passes, behind))).left),
+    λ torn tears. subst (λ (e : Event). LeavesRecoverable sum size H from f (step e device)) (sym tears.2) (write_leaves tears.0 tears.1),
+    (write_leaves asked (omega arith), λ torn tears. absurd tears, leaves_less sum size H from (length bytes) f after_sync big small behind (fits_flushed from behind).left),
   )
 
 -- A log whose device has not failed, with something to write.
@@ -162,11 +148,15 @@ module _ {D C : Type 0} (trace : D → Trace) (sum : List ℕ → ℕ) (log : Lo
   unfolding Fits
   in_first = subst (λ (x : Site). FitsIn sum size x (state_of old) log.fault bytes log.buffer.from log.buffer.reserved.items log.pins H A f U) fits.one_segment fits
 
-  -- at each moment of the calls
+  -- at each moment of the calls, with all that was written before counted as acknowledged
+  pub flush_left : (new : Trace) → Performs (calls_at log.site) old new → Throughout (LeavesRecoverable sum size H log.buffer.from f) old new
+  flush_left new came =
+      performs_throughout (LeavesRecoverable sum size H log.buffer.from f) (calls_at first_site) old new (subst (λ (x : Site). Performs (calls_at x) old new) is_first came)
+      (flush_along sum size (state_of old) log.fault bytes log.buffer.from log.buffer.reserved.items log.pins H A f U in_first log.buffer.begun log.buffer.behind log.in_segment log.config.config.least small ended some whole)
+
   pub flush_crash : (new : Trace) → Performs (calls_at log.site) old new → Throughout (LeavesRecoverable sum size H A f) old new
   flush_crash new came =
-      performs_throughout (LeavesRecoverable sum size H A f) (calls_at first_site) old new (subst (λ (x : Site). Performs (calls_at x) old new) is_first came)
-      (flush_along sum size (state_of old) log.fault bytes log.buffer.from log.buffer.reserved.items log.pins H A f U in_first log.buffer.begun log.buffer.behind log.in_segment log.config.config.least small ended some whole)
+      weaker (LeavesRecoverable sum size H log.buffer.from f) (LeavesRecoverable sum size H A f) (λ s. leaves_less sum size H A log.buffer.from f s log.config.config.least small in_first.passes) old new (flush_left new came)
 
   -- behind both, with all that was written for what was acknowledged
   pub fits_written : (new : Trace) → new ≡ after_all (calls_at log.site) old → (bytes' : List ℕ) (from' : ℕ) (rs' : List Reserved) → bytes' ≡ bytes → from' ≡ length bytes → rs' ≡ [] → (A' : ℕ) → A' ≤ log.site.place + from'

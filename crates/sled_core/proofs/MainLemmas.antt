@@ -13,10 +13,10 @@ use Rattle.sled_core.specs.declared.iobuf.Site.{Site}
 use Rattle.sled_core.specs.Buffers.{IsChain, Stands, completed_in}
 use Rattle.sled_core.specs.LogFile.{IsLogFile, StandIn, StandsElsewhere}
 use Rattle.sled_core.specs.Fits.{HoldsIn}
-use Rattle.sled_core.specs.Recoverable.{NoForeign, IsRecoverableInFirst, IsUnbegun, IsBegun, LeavesRecoverable, first_site, first_cut}
+use Rattle.sled_core.specs.Recoverable.{Recoverable, NoForeign, IsRecoverableInFirst, IsUnbegun, IsBegun, LeavesRecoverable, first_site, first_cut}
 use Rattle.sled_core.specs.Running.{NoneBegun, CanBegin, NoBlobs, NamesFit}
 use Rattle.sled_core.proofs.CompletesLemmas.{some_long}
-use Rattle.sled_core.proofs.FirstSegment.{recoverable_in_first}
+use Rattle.sled_core.proofs.FirstSegment.{recoverable_in_first, first_part}
 use Rattle.sled_core.proofs.LogFileLemmas.{stands_some}
 use Rattle.sled_core.proofs.PathLemmas.{zeros_empty}
 use Rattle.sled_core.proofs.Ranges.{completed_between}
@@ -103,6 +103,29 @@ module _ (sum : List ℕ → ℕ) (size : ℕ) (device : State) (bytes : List �
           ];
         };
       }
+
+-- What can be recovered can be with less counted as acknowledged.
+recoverable_less : (sum : List ℕ → ℕ) (size : ℕ) (content : Content) (H : History) (A B f : ℕ) → 256 ≤ size → size < 2 ^ 63 → A ≤ B → Recoverable sum size content H B f → Recoverable sum size content H A f
+recoverable_less sum size content H A B f least most le is =
+    let part = first_part sum size content H B f is in
+    let segment = part.segment in
+    recoverable_in_first sum size content H A f least most (record {
+      first = part.first;
+      snapshots = part.snapshots;
+      segment = record {
+        batches = segment.batches;
+        blobs = segment.blobs;
+        short = segment.short;
+        slot = segment.slot;
+        log = elim segment.log [
+          | inl u ↦ (let zero_end = u.nothing in inl (record { none = u.none; nothing = omega (arith, zero_end, le); at_first = u.at_first }))
+          | inr b ↦ (let passed = b.passes in inr (record { own = b.own; beyond = b.beyond; stop = b.stop; messages = b.messages; header = b.header; stand = b.stand; empty = b.empty; inside = b.inside; later = b.later; not_below = b.not_below; passes = omega (arith, passed, le) }))
+        ];
+      };
+    })
+
+pub leaves_less : (sum : List ℕ → ℕ) (size : ℕ) (H : History) (A B f : ℕ) (device : State) → 256 ≤ size → size < 2 ^ 63 → A ≤ B → LeavesRecoverable sum size H B f device → LeavesRecoverable sum size H A f device
+leaves_less sum size H A B f device least most le leaves = λ left may only_own. recoverable_less sum size left H A B f least most le (leaves left may only_own)
 
 -- Each content that a crash leaves can be recovered: it has just what was written, and what was completed since comes later.
 pub settled_recoverable : (sum : List ℕ → ℕ) (size : ℕ) (site : Site) (device : State) (bytes : List ℕ) (from : ℕ) (reserved : List Reserved) (H : History) (A f : ℕ) → 256 ≤ size → size < 2 ^ 63 → from ≤ length bytes → length bytes ≤ size

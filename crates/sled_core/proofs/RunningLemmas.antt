@@ -1,14 +1,15 @@
 -- How a running log goes on fitting its history at the calls that write nothing.
-use Rattle.std.proofs.Common.{◌≡◌, ◌≢◌, ◌≤◌, ◌<◌, ◌^◌, ◌∙◌, ℕ, List, [], ◌∷◌, length, Option, None, sym, arith, subst}
+use Rattle.std.proofs.Common.{◌≡◌, ◌≢◌, ◌≤◌, ◌<◌, ◌+◌, ◌^◌, ◌∙◌, ℕ, List, [], ◌∷◌, length, Option, None, sym, ap, arith, subst}
 use Rattle.std.specs.declared.io.Error.{Error as IoError}
 use Rattle.sled_codec.specs.History.{Message, History, AddsMessage}
 use Rattle.sled_store.specs.Device.{State}
 use Rattle.sled_core.specs.declared.iobuf.Reserved.{Reserved}
 use Rattle.sled_core.specs.declared.iobuf.Site.{Site}
 use Rattle.sled_core.specs.Fits.{HoldsIn}
+use Rattle.sled_core.specs.Recoverable.{LeavesRecoverable}
 use Rattle.sled_core.specs.Running.{NamesFit, FitsIn}
 use Rattle.sled_core.proofs.BegunLemmas.{names-adds}
-use Rattle.sled_core.proofs.MainLemmas.{settled_recoverable}
+use Rattle.sled_core.proofs.MainLemmas.{settled_recoverable, leaves_less}
 
 module _ (sum : List ℕ → ℕ) (size : ℕ) (site : Site) (device : State) (fault : Option IoError) (bytes : List ℕ) (from : ℕ) (rs : List Reserved) (pins : ℕ) (H : History) (A f : ℕ) (U : List Message)
     (fits : FitsIn sum size site device fault bytes from rs pins H A f U) where
@@ -22,6 +23,24 @@ module _ (sum : List ℕ → ℕ) (size : ℕ) (site : Site) (device : State) (f
     blobs = fits.blobs;
     names = subst (λ n. NamesFit sum size device.snapshots H f n) (sym is) fits.names;
     passes = let le = fits.passes in omega (arith, le, is);
+    pinned = fits.pinned;
+    left = subst (λ n. LeavesRecoverable sum size H n f device) (sym is) fits.left;
+  }
+
+  -- A crash leaves what can be recovered with no more counted as acknowledged than was.
+  pub fits-leaves : 256 ≤ size → size < 2 ^ 63 → LeavesRecoverable sum size H A f device
+  fits-leaves least most = leaves_less sum size H A from f device least most fits.passes fits.left
+
+  -- All that is written may count as acknowledged.
+  pub fits-synced : (end : ℕ) → end ≡ site.place + from → FitsIn sum size site device fault bytes from rs pins H end f U
+  fits-synced end is = record {
+    holds = fits.holds;
+    one_segment = fits.one_segment;
+    short = fits.short;
+    unbegun = fits.unbegun;
+    blobs = fits.blobs;
+    names = fits.names;
+    passes = let first : site.place ≡ 0 = ap (λ (s : Site). s.place) fits.one_segment in omega (arith, is, first);
     pinned = fits.pinned;
     left = fits.left;
   }
@@ -55,6 +74,6 @@ module _ (sum : List ℕ → ℕ) (size : ℕ) (site : Site) (device : State) (f
         names = names;
         passes = passes;
         pinned = λ some. out;
-        left = settled_recoverable sum size site device bytes' from' rs' H' A f least most behind in_segment (subst (λ (e : Option IoError). HoldsIn sum size site device e bytes' from' rs' H') ok holds)
-            fits.one_segment (fits.short ok) (λ none. fits.unbegun ok (sym is ∙ none)) fits.blobs names passes;
+        left = settled_recoverable sum size site device bytes' from' rs' H' from' f least most behind in_segment (subst (λ (e : Option IoError). HoldsIn sum size site device e bytes' from' rs' H') ok holds)
+            fits.one_segment (fits.short ok) (λ none. fits.unbegun ok (sym is ∙ none)) fits.blobs names (omega arith);
       }

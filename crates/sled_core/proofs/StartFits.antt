@@ -11,9 +11,10 @@ use Rattle.sled_core.specs.declared.iobuf.Reserved.{Reserved}
 use Rattle.sled_core.specs.Begin.{slots_of, unused, entries_of, first_or, beginning_at, beginning_of, IsPlacedIn, IsStartable}
 use Rattle.sled_core.specs.Fits.{HoldsIn}
 use Rattle.sled_core.specs.Ready.{HasActive, HasFile}
-use Rattle.sled_core.specs.Recoverable.{LeavesRecoverable}
+use Rattle.sled_core.specs.Recoverable.{first_site}
 use Rattle.sled_core.specs.Running.{NoneBegun, NoBlobs, NamesFit, FitsIn, IsReadyFor}
 use Rattle.sled_core.proofs.FilledLemmas.{filled}
+use Rattle.sled_core.proofs.MainLemmas.{settled_recoverable}
 use Rattle.sled_core.proofs.FilledMoments.{free_of_one, filled_short, filled_unbegun}
 
 -- below the first place there are no entries
@@ -76,21 +77,26 @@ module _ (sum : List ℕ → ℕ) (size : ℕ) (device now : State) (s : Shot) (
   -- The log fits the history that it holds.
   pub start_fits : (b : Beginning) → b ≡ beginning_of size (length log) s → (bytes : List ℕ) (from : ℕ) (reserved : List Reserved) → from ≡ b.offset
       → HoldsIn sum size (record { place = b.place; slot = b.slot }) now None bytes from reserved H
-      → now.log ≡ at_rest (filled size log free) → now.blobs ≡ device.blobs → now.snapshots ≡ device.snapshots → LeavesRecoverable sum size H A f now
+      → from ≤ length bytes → length bytes ≤ size → now.log ≡ at_rest (filled size log free) → now.blobs ≡ device.blobs → now.snapshots ≡ device.snapshots
       → FitsIn sum size (record { place = b.place; slot = b.slot }) now None bytes from reserved 0 H A f []
   unfolding AtFirst
-  start_fits b is bytes from reserved offset holds log_is same_blobs same_names left =
+  start_fits b is bytes from reserved offset holds behind in_segment log_is same_blobs same_names =
       let first : AtFirst b = subst AtFirst (sym is) begins_first in
       let reached : from ≡ stable = offset ∙ first.2 in
       let bytes_now : now.log.bytes ≡ filled size log free = ap (λ (l : LogState). l.bytes) log_is in
+      let in_first : record { place = b.place; slot = b.slot } ≡ first_site = ap (λ n. record { place = n; slot = b.slot }) first.0 ∙ ap (λ n. record { place = 0; slot = n }) first.1 in
+      let short : length now.log.bytes ≤ size = subst (λ (l : List ℕ). length l ≤ size) (sym bytes_now) (filled_short sum size device s H A f long small ready) in
+      let unbegun : from ≡ 0 → NoneBegun sum size now.log.bytes = λ none. subst (NoneBegun sum size) (sym bytes_now) (filled_unbegun sum size device s H A f long small ready (none_begun (sym reached ∙ none))) in
+      let blobs : NoBlobs now.blobs = subst NoBlobs (sym same_blobs) ready.blobs in
+      let names : NamesFit sum size now.snapshots H f from = subst (λ (n : NamesState). NamesFit sum size n H f from) (sym same_names) (subst (λ n. NamesFit sum size device.snapshots H f n) (sym reached) ready.names) in
       record {
         holds = holds;
-        one_segment = ap (λ n. record { place = n; slot = b.slot }) first.0 ∙ ap (λ n. record { place = 0; slot = n }) first.1;
-        short = λ _. subst (λ (l : List ℕ). length l ≤ size) (sym bytes_now) (filled_short sum size device s H A f long small ready);
-        unbegun = λ _ none. subst (NoneBegun sum size) (sym bytes_now) (filled_unbegun sum size device s H A f long small ready (none_begun (sym reached ∙ none)));
-        blobs = subst NoBlobs (sym same_blobs) ready.blobs;
-        names = subst (λ (n : NamesState). NamesFit sum size n H f from) (sym same_names) (subst (λ n. NamesFit sum size device.snapshots H f n) (sym reached) ready.names);
+        one_segment = in_first;
+        short = λ _. short;
+        unbegun = λ _. unbegun;
+        blobs = blobs;
+        names = names;
         passes = let passes = ready.passes in omega (arith, passes, reached);
         pinned = λ some. absurd (some refl);
-        left = left;
+        left = settled_recoverable sum size (record { place = b.place; slot = b.slot }) now bytes from reserved H from f long small behind in_segment holds in_first short unbegun blobs names (omega arith);
       }

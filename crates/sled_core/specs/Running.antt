@@ -49,8 +49,8 @@ pub record FitsIn (sum : List ℕ → ℕ) (size : ℕ) (site : Site) (device : 
   pub passes : A ≤ from
   -- a pin is out while a completed message is not marked
   pub pinned : U ≢ [] → 0 < pins
-  -- what a crash leaves now can be recovered
-  pub left : LeavesRecoverable sum size H A f device
+  -- what a crash leaves now can be recovered, with all that is written counted as acknowledged
+  pub left : LeavesRecoverable sum size H from f device
 
 -- The log fits this history, the end of what was acknowledged, the floor and the messages that were not marked yet.
 unfoldable pub Fits : {D C : Type 0} → (D → Trace) → (List ℕ → ℕ) → Log D C → History → ℕ → ℕ → List Message → Type 0

@@ -140,7 +140,8 @@ impl<D: Device, C: Checksum> Log<D, C> {
 
     /// The last place of which all up to it is settled on the device; -1 before the first one.
     pub fn stable_offset(&self) -> Lsn
-        ensures { result ≡ pos (synced_end self.now) -ℤ pos 1 }
+        ensures place { result ≡ pos (synced_end self.now) -ℤ pos 1 }
+        ensures acknowledges { (H : History) (A f : ℕ) (U : List Message) → Fits D.trace C.sum_of self.now H A f U → Fits D.trace C.sum_of self.now H (synced_end self.now) f U }
     {
         (self.site.place + self.buffer.from as u64) as i64 - 1
     }

@@ -11,7 +11,7 @@ use Rattle.sled_core.specs.Fits.{Holds}
 use Rattle.sled_core.specs.Running.{Fits}
 use Rattle.sled_store.proofs.MomentLemmas.{started}
 use Rattle.sled_core.proofs.Ranges.{at_there, chain_within}
-use Rattle.sled_core.proofs.RunningLemmas.{fits-completed}
+use Rattle.sled_core.proofs.RunningLemmas.{fits-completed, fits-leaves}
 use Rattle.sled_core.proofs.HoldsLemmas.{holds-same}
 use Rattle.sled_core.proofs.CompletesLemmas.{holds-complete, others_stay}
 use Rattle.sled_core.proofs.logger.Log.complete.Goals as goal
@@ -57,11 +57,11 @@ complete-requires g c =
 
 pub returns-in-Some-clause-crash : goal.returns-in-Some-clause-crash
 unfolding Fits
-returns-in-Some-clause-crash g c = λ H A f U fits. started _ _ fits.left
+returns-in-Some-clause-crash g c = λ H A f U fits. started _ _ (fits-leaves _ _ _ _ _ _ _ _ _ H A f U fits c.args.self.now.config.config.least (let reach = c.args.self.now.place_in_reach in omega (arith, reach)))
 
 pub returns-clause-crash : goal.returns-clause-crash
 unfolding Fits
-returns-clause-crash g c = λ H A f U fits. started _ _ fits.left
+returns-clause-crash g c = λ H A f U fits. started _ _ (fits-leaves _ _ _ _ _ _ _ _ _ H A f U fits c.args.self.now.config.config.least (let reach = c.args.self.now.place_in_reach in omega (arith, reach)))
 
 pub returns-clause-fits : goal.returns-clause-fits
 unfolding Fits Holds Step

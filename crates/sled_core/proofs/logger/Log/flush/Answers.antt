@@ -1,14 +1,14 @@
 use Rattle.std.proofs.Common.{◌≡◌, ◌∙◌, ◌<◌, ◌+◌, ℕ, ap, sym, subst, refl, arith, [], length, rules, inl, inr}
 use Rattle.sled_store.specs.Device.{Trace, NamesState, state_of}
 use Rattle.sled_store.proofs.MomentLemmas.{started, at_last}
-use Rattle.sled_core.specs.declared.iobuf.Site.{Site}
 use Rattle.sled_core.specs.Running.{Fits}
-use Rattle.sled_core.proofs.FlushFits.{fits_synced, fits_faulty, fits_moved, flush_crash, fits_written, flush_names}
+use Rattle.sled_core.proofs.FlushFits.{fits_faulty, fits_moved, flush_crash, flush_left, fits_written, flush_names}
 use Rattle.sled_core.specs.Fits.{Holds, IsKept, flushing, synced_end}
 use Rattle.sled_store.proofs.ScriptLemmas.{performs_nothing}
 use Rattle.sled_core.proofs.Parts.{none_there}
 use Rattle.sled_core.proofs.FlushLemmas.{holds-flush, holds-faulty, holds-moved, all_kept, memory_or_fault}
 use Rattle.sled_core.proofs.HoldsLemmas.{holds-same}
+use Rattle.sled_core.proofs.RunningLemmas.{fits-leaves, fits-synced}
 use Rattle.sled_core.proofs.logger.Log.flush.Goals as goal
 
 pub returns-then-is_empty-clause-records : goal.returns-then-is_empty-clause-records
@@ -56,17 +56,17 @@ returns-then-is_empty-clause-at_most g c = performs_nothing (flushing c.args.sel
 
 pub returns-in-Some-clause-crash : goal.returns-in-Some-clause-crash
 unfolding Fits
-returns-in-Some-clause-crash g c = λ H A f U fits. started _ _ fits.left
+returns-in-Some-clause-crash g c = λ H A f U fits. started _ _ (fits-leaves _ _ _ _ _ _ _ _ _ H A f U fits c.args.self.now.config.config.least (let reach = c.args.self.now.place_in_reach in omega (arith, reach)))
 
 pub returns-then-is_empty-clause-crash : goal.returns-then-is_empty-clause-crash
 unfolding Fits
-returns-then-is_empty-clause-crash g c = λ H A f U fits. started _ _ fits.left
+returns-then-is_empty-clause-crash g c = λ H A f U fits. started _ _ (fits-leaves _ _ _ _ _ _ _ _ _ H A f U fits c.args.self.now.config.config.least (let reach = c.args.self.now.place_in_reach in omega (arith, reach)))
 
 pub returns-then-is_empty-clause-acknowledges : goal.returns-then-is_empty-clause-acknowledges
 unfolding Fits
 returns-then-is_empty-clause-acknowledges g c = λ H A f U fits.
     let old = c.args.self.now in
-    fits_synced g.C.Checksum.sum_of _ _ _ _ _ _ _ _ H A f U fits old.config.config.least (omega (arith, old.place_in_reach)) old.buffer.behind old.in_segment c.in_default.is (synced_end old) (omega (arith, ap (λ (x : Site). x.place) fits.one_segment))
+    fits-synced g.C.Checksum.sum_of _ _ _ _ _ _ _ _ H A f U fits (synced_end old) refl
 
 -- Something was reserved: the calls of the flush were made, all of them or up to one that failed.
 
@@ -80,7 +80,7 @@ returns-in-Err-clause-fits g c = λ H A f U fits.
     elim (memory_or_fault c.in-Err.e c.in-Err.ensures.error) [
       | inl memory ↦ fits_moved g.C.Checksum.sum_of _ _ _ _ _ _ _ _ H A f U fits _ c.keep_fault.new.fault (ap state_of (c.in-Err.ensures.refused memory)) (c.keep_fault.ensures.memory memory ∙ sym c.in_default.is)
       | inr fault ↦ fits_faulty g.C.Checksum.sum_of _ _ _ _ _ _ _ _ H A f U fits _ c.in-Err.e c.keep_fault.new.fault (c.keep_fault.ensures.kept fault) names.0 names.1
-          (at_last _ _ _ (flush_crash g.D.Device.trace g.C.Checksum.sum_of c.args.self.now H A f U fits c.requires (search rules) c.in_default.is _ c.write_out.ensures.calls))
+          (at_last _ _ _ (flush_left g.D.Device.trace g.C.Checksum.sum_of c.args.self.now H A f U fits c.requires (search rules) c.in_default.is _ c.write_out.ensures.calls))
     ]
 
 pub returns-clause-crash : goal.returns-clause-crash

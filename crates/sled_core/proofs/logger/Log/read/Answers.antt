@@ -13,6 +13,7 @@ use Rattle.sled_core.specs.declared.reading.LogRead.{LogRead}
 use Rattle.sled_core.proofs.Parts.{moved}
 use Rattle.sled_core.proofs.ReadingLemmas.{if_ok}
 use Rattle.sled_core.proofs.GivesLemmas.{gives, message_found}
+use Rattle.sled_core.proofs.RunningLemmas.{fits-leaves}
 use Rattle.sled_core.proofs.logger.Log.read.Given as given
 use Rattle.sled_core.proofs.logger.Log.read.Goals as goal
 
@@ -46,8 +47,8 @@ returns-clause-message g c = λ H m holds there at pointer.
 
 pub returns-in-Some-clause-crash : goal.returns-in-Some-clause-crash
 unfolding Fits
-returns-in-Some-clause-crash g c = λ H A f U fits. started _ _ fits.left
+returns-in-Some-clause-crash g c = λ H A f U fits. started _ _ (fits-leaves _ _ _ _ _ _ _ _ _ H A f U fits c.args.self.now.config.config.least (let reach = c.args.self.now.place_in_reach in omega (arith, reach)))
 
 pub returns-then-lsn-lt0-clause-crash : goal.returns-then-lsn-lt0-clause-crash
 unfolding Fits
-returns-then-lsn-lt0-clause-crash g c = λ H A f U fits. started _ _ fits.left
+returns-then-lsn-lt0-clause-crash g c = λ H A f U fits. started _ _ (fits-leaves _ _ _ _ _ _ _ _ _ H A f U fits c.args.self.now.config.config.least (let reach = c.args.self.now.place_in_reach in omega (arith, reach)))

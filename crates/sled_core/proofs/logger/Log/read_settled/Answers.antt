@@ -1,4 +1,4 @@
-use Rattle.std.proofs.Common.{ap}
+use Rattle.std.proofs.Common.{ap, arith}
 use Rattle.sled_store.specs.Device.{state_of}
 use Rattle.sled_store.specs.declared.config.Config.{Config}
 use Rattle.sled_core.specs.Fits.{Holds}
@@ -6,6 +6,7 @@ use Rattle.sled_core.proofs.FlushLemmas.{holds-answered}
 use Rattle.sled_store.proofs.MomentLemmas.{started, stays}
 use Rattle.sled_core.specs.Running.{Fits}
 use Rattle.sled_core.proofs.FlushFits.{fits_answered}
+use Rattle.sled_core.proofs.RunningLemmas.{fits-leaves}
 use Rattle.sled_core.proofs.logger.Log.read_settled.Goals as goal
 
 pub returns-clause-history : goal.returns-clause-history
@@ -22,4 +23,4 @@ returns-clause-fits g c = λ H A f U fits.
 
 pub returns-clause-crash : goal.returns-clause-crash
 unfolding Fits
-returns-clause-crash g c = λ H A f U fits. stays _ _ _ _ (started _ _ fits.left) c.read_message-answer.ensures.trace
+returns-clause-crash g c = λ H A f U fits. stays _ _ _ _ (started _ _ (fits-leaves _ _ _ _ _ _ _ _ _ H A f U fits c.args.self.now.config.config.least (let reach = c.args.self.now.place_in_reach in omega (arith, reach)))) c.read_message-answer.ensures.trace

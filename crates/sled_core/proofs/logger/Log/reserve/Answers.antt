@@ -11,7 +11,7 @@ use Rattle.sled_core.specs.Tickets.{place_of, index_of}
 use Rattle.sled_core.specs.Fits.{Holds}
 use Rattle.sled_core.specs.Running.{Fits}
 use Rattle.sled_store.proofs.MomentLemmas.{started}
-use Rattle.sled_core.proofs.RunningLemmas.{fits-moved}
+use Rattle.sled_core.proofs.RunningLemmas.{fits-moved, fits-leaves}
 use Rattle.sled_core.proofs.HoldsLemmas.{holds-same, holds-append, body-append}
 use Rattle.sled_core.proofs.ReserveLemmas.{there_last, there_append, stands, message_is, more_long, head_whole}
 use Rattle.sled_core.proofs.Heads.{length-short_header_tail}
@@ -136,19 +136,19 @@ invariant_of-self-4 g c =
 
 pub returns-in-Some-clause-crash : goal.returns-in-Some-clause-crash
 unfolding Fits
-returns-in-Some-clause-crash g c = λ H A f U fits. started _ _ fits.left
+returns-in-Some-clause-crash g c = λ H A f U fits. started _ _ (fits-leaves _ _ _ _ _ _ _ _ _ H A f U fits c.args.self.now.config.config.least (let reach = c.args.self.now.place_in_reach in omega (arith, reach)))
 
 pub returns-in_default-message_kind-clause-crash : goal.returns-in_default-message_kind-clause-crash
 unfolding Fits
-returns-in_default-message_kind-clause-crash g c = λ H A f U fits. started _ _ fits.left
+returns-in_default-message_kind-clause-crash g c = λ H A f U fits. started _ _ (fits-leaves _ _ _ _ _ _ _ _ _ H A f U fits c.args.self.now.config.config.least (let reach = c.args.self.now.place_in_reach in omega (arith, reach)))
 
 pub returns-in_err-make_room-clause-crash : goal.returns-in_err-make_room-clause-crash
 unfolding Fits
-returns-in_err-make_room-clause-crash g c = λ H A f U fits. started _ _ fits.left
+returns-in_err-make_room-clause-crash g c = λ H A f U fits. started _ _ (fits-leaves _ _ _ _ _ _ _ _ _ H A f U fits c.args.self.now.config.config.least (let reach = c.args.self.now.place_in_reach in omega (arith, reach)))
 
 pub returns-clause-crash : goal.returns-clause-crash
 unfolding Fits
-returns-clause-crash g c = λ H A f U fits. started _ _ fits.left
+returns-clause-crash g c = λ H A f U fits. started _ _ (fits-leaves _ _ _ _ _ _ _ _ _ H A f U fits c.args.self.now.config.config.least (let reach = c.args.self.now.place_in_reach in omega (arith, reach)))
 
 pub returns-in_err-make_room-clause-fits : goal.returns-in_err-make_room-clause-fits
 unfolding Fits Holds

@@ -8,13 +8,11 @@ use Rattle.sled_store.specs.Device.{State, LogState, NamesState, Trace, state_of
 use Rattle.sled_store.specs.SnapshotFiles.{stable_place}
 use Rattle.sled_core.specs.declared.begin.Beginning.{Beginning}
 use Rattle.sled_store.specs.Script.{after_all}
-use Rattle.sled_store.proofs.MomentLemmas.{at_last}
 use Rattle.sled_core.specs.Begin.{unused, slots_of, place_at, filling, IsStartable, IsInReach}
 use Rattle.sled_core.specs.declared.iobuf.Buffer.{Buffer}
 use Rattle.sled_core.specs.Causes.{StartAnswers}
 use Rattle.sled_core.specs.Fits.{Holds, HoldsIn}
 use Rattle.sled_core.specs.declared.iobuf.Site.{Site}
-use Rattle.sled_core.specs.Recoverable.{LeavesRecoverable}
 use Rattle.sled_core.specs.Running.{Ready, Fits, FitsIn}
 use Rattle.sled_core.proofs.HoldsLemmas.{holds-same}
 use Rattle.sled_core.proofs.FilledLemmas.{filled, filling-log, filling-snapshots, filling-blobs}
@@ -103,9 +101,9 @@ returns-in-Ok-clause-fits g c = λ H A f ready.
     subst (λ n. HoldsIn g.C.Checksum.sum_of n site now None c.in-Ok.buffer.bytes.items c.in-Ok.buffer.from c.in-Ok.buffer.reserved.items H) same (returns-in-Ok-clause-history g c H ready.ready) in
     subst (λ n. FitsIn g.C.Checksum.sum_of n site now None c.in-Ok.buffer.bytes.items c.in-Ok.buffer.from c.in-Ok.buffer.reserved.items 0 H A f []) (sym same)
     (start_fits g.C.Checksum.sum_of size (state_of old) now s H A f c.args.config.config.least (in_reach size c.args.config.config.most) ready c.in-Ok.ensures.startable c.in-Ok.beginning c.in-Ok.ensures.beginning
-    c.in-Ok.buffer.bytes.items c.in-Ok.buffer.from c.in-Ok.buffer.reserved.items first.from holds
-    (filled_log size ks old (g.D.Device.trace c.begin.new.config.device) c.in-Ok.ensures.done ready.ready.log ready.ready.settled) (ap (λ (t : Trace). (state_of t).blobs) c.in-Ok.ensures.done ∙ filling-blobs size ks old) (ap (λ (t : Trace). (state_of t).snapshots) c.in-Ok.ensures.done ∙ filling-snapshots size ks old)
-    (at_last (LeavesRecoverable g.C.Checksum.sum_of size H A f) old (g.D.Device.trace c.begin.new.config.device) (returns-in-Ok-clause-crash g c H A f ready)))
+    c.in-Ok.buffer.bytes.items c.in-Ok.buffer.from c.in-Ok.buffer.reserved.items first.from holds c.in-Ok.buffer.behind
+    (in_segment size (length (state_of old).log.bytes) s c.in-Ok.beginning c.in-Ok.ensures.beginning c.in-Ok.ensures.startable c.in-Ok.ensures.answers.1 g.C.Checksum.sum_of c.in-Ok.buffer c.args.config.config.least first)
+    (filled_log size ks old (g.D.Device.trace c.begin.new.config.device) c.in-Ok.ensures.done ready.ready.log ready.ready.settled) (ap (λ (t : Trace). (state_of t).blobs) c.in-Ok.ensures.done ∙ filling-blobs size ks old) (ap (λ (t : Trace). (state_of t).snapshots) c.in-Ok.ensures.done ∙ filling-snapshots size ks old))
 
 -- a log that can begin is refused for no damage, and not where a further segment is in reach
 not_refused : (startable in_reach : Type 0) (e : Error) (before after : ℕ) → startable → in_reach → (IsCorruption {T = Beginning × Buffer} (Err e) → startable → ⊥) → StartAnswers {T = Beginning × Buffer} (Err e) in_reach before after
