@@ -9,6 +9,7 @@ pub mod LineLemmas
 pub mod NewestLemmas
 pub mod Numbers
 pub mod OneSegment
+mod OnlySegment
 pub mod OtherLemmas
 pub mod PageRuns
 pub mod PageStates
@@ -23,6 +24,7 @@ mod PlainWhole
 mod RecoveryLemmas
 pub mod RemovalLemmas
 pub mod RestartLemmas
+mod SegmentRecovers
 pub mod TableCuts
 mod TableLemmas
 pub mod TableParts
