@@ -43,6 +43,11 @@ from_filter p xs y there = (
   All-contains (λ z. p z ≡ true) (filter p xs) y (filter_passes p xs) there,
 )
 
+-- where no element passes, none is kept
+pub none_kept : {X : Type 0} (p : X → Bool) (xs : List X) → All (λ x. p x ≡ false) xs → filter p xs ≡ []
+none_kept p [] fail = refl
+none_kept p (x ∷ xs) fail = ap (λ (b : Bool). cond b (x ∷ filter p xs) (filter p xs)) (fail 0 x (omega arith)) ∙ none_kept p xs (All-tail (λ y. p y ≡ false) x xs fail)
+
 -- what is so of each element
 pub all_from_in : {X : Type 0} (P : X → Type 0) (xs : List X) → ((x : X) → Contains xs x → P x) → All P xs
 all_from_in P xs each = All-weaker (Contains xs) P each xs (All-contains_itself xs)

@@ -1,10 +1,8 @@
 -- Where all of a history is on the device, in a log file of at most one segment, recovery finds that segment alone, or stays with the snapshot.
-use Rattle.std.proofs.Common.{◌≡◌, ◌≤◌, ◌<◌, ◌+◌, ◌/◌, ◌%◌, ◌∙◌, ℕ, max, List, [], ◌∷◌, ◌++◌, length, refl, sym, ap, subst, arith, inl, inr}
+use Rattle.std.proofs.Common.{◌≡◌, ◌≤◌, ◌+◌, ◌/◌, ◌%◌, ◌∙◌, ℕ, List, [], ◌∷◌, ◌++◌, length, refl, ap, subst, arith, inl, inr}
 use Rattle.std.specs.List.{All}
-use Rattle.sled_codec.specs.History.{Message, History}
+use Rattle.sled_codec.specs.History.{Message}
 use Rattle.sled_core.specs.declared.iobuf.Site.{Site}
-use Rattle.sled_core.specs.declared.met.Segment.{Segment}
-use Rattle.sled_core.specs.Scan.{Readable, IsFoundSegment, IsMisplaced}
 use Rattle.sled_core.specs.LogFile.{StandIn, StandsElsewhere, IsLogFile}
 use Rattle.sled_core.proofs.LogFileLemmas.{stands_some}
 use Rattle.sled_core.proofs.PathLemmas.{zeros_empty}

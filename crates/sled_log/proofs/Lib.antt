@@ -3,6 +3,8 @@ pub mod BeginLemmas
 pub mod CallLemmas
 mod FindLemmas
 pub mod FirstConclusion
+pub mod FirstRecovers
+mod FirstSnapshot
 pub mod FoldLemmas
 pub mod KeptRecovers
 pub mod LineLemmas
