@@ -12,7 +12,7 @@ use Rattle.sled_log.proofs.Ascending.{in_filter, from_filter, all_from_in, subli
 use Rattle.sled_log.proofs.PageStates.{none_begins, begins_false, IsLast, last_found, same_state}
 use Rattle.sled_log.proofs.PageRuns.{run, run-append, run_is}
 use Rattle.sled_log.proofs.PageWise.{at_page, Begins, table_keeps, table_begins, table_since}
-use Rattle.sled_log.proofs.TableParts.{in_page, from_page, page_ascends, state_from, last_in_state, split_at, has_page, page_stays, replaced_before}
+use Rattle.sled_log.proofs.TableParts.{in_page, from_page, from_table, page_ascends, state_from, last_in_state, split_at, has_page, page_stays, replaced_before}
 
 -- The messages L are a history's, lie at or above the place low and below cut, and have all entries of the table that lie there.
 module _ (H : History) (low cut : ℕ) (first : List Page) (L : List Message) (formed : IsWellFormed H) (le : low ≤ cut) (is : IsTable first H low) (sub : IsSublist L H.messages)
@@ -134,7 +134,6 @@ module _ (H : History) (low cut : ℕ) (first : List Page) (L : List Message) (f
 -- All messages of the history from one cut to another make the table of the second.
 pub fold_all : (H : History) (low cut : ℕ) (first : List Page) → IsWellFormed H → low ≤ cut → IsTable first H low
     → IsTable (table_of first (map applied (filter (λ m. nat_le low m.place && nat_lt m.place cut) H.messages))) H cut
-unfolding table
 fold_all H low cut first formed le is = fold H low cut first (filter between H.messages) formed le is (filter_sublist between H.messages) within entries where
   between : Message → Bool
   between = λ m. nat_le low m.place && nat_lt m.place cut
@@ -146,5 +145,5 @@ fold_all H low cut first formed le is = fold H low cut first (filter between H.m
 
   entries : (page : ℕ) (m : Message) → Contains (table H cut page) m → low ≤ m.place → Contains (filter (λ x. nat_le low x.place && nat_lt x.place cut) H.messages) m
   entries page m there above =
-      let found = from_page H.messages cut page m (state_from (of_page H.messages cut page) (page_ascends H.messages cut page (apart_ascends H.messages formed.apart)) m there) in
+      let found = from_table H cut page m (apart_ascends H.messages formed.apart) there in
       in_filter between H.messages m found.0 (and_from (nat_le low m.place) (nat_lt m.place cut) (le-leb low m.place above) (lt-ltb m.place cut found.2))

@@ -6,6 +6,7 @@ pub mod FirstConclusion
 pub mod FirstRecovers
 mod FirstSnapshot
 pub mod FoldLemmas
+pub mod GoodLemmas
 pub mod KeptRecovers
 pub mod LineLemmas
 pub mod NewestLemmas
