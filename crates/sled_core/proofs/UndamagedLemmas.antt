@@ -20,9 +20,9 @@ inline_whole sum size r lid number m stands pointer damaged =
     let holds : is_inline damaged.0.kind ≡ true = ap (λ (x : MessageHeader). is_inline x.kind) (sym same) ∙ inline sum size r lid number m stands pointer in
     elim damaged.4 [
       | inl short ↦ elim short.0 [
-          | inl blob ↦ blob_apart damaged.0.kind blob holds
-          | inr manifest ↦ not_inline damaged.0.kind kind.BatchManifest holds refl manifest
-        ]
+        | inl blob ↦ blob_apart damaged.0.kind blob holds
+        | inr manifest ↦ not_inline damaged.0.kind kind.BatchManifest holds refl manifest
+      ]
       | inr broken ↦ blob_apart damaged.0.kind broken.2 holds
     ]
 

@@ -94,7 +94,7 @@ module _ (sum : List ℕ → ℕ) (size : ℕ) (content : Content) (H : History)
   }
 
   -- those from a place up to the cut stand there
-  abbrev between : ℕ → Message → Bool
+  abbrev pub between : ℕ → Message → Bool
   between low m = nat_le low m.place && nat_lt m.place cut
 
   kept_own : (low : ℕ) → filter (between low) begun.own ≡ filter (between low) H.messages
@@ -105,10 +105,10 @@ module _ (sum : List ℕ → ℕ) (size : ℕ) (content : Content) (H : History)
 
   -- Recovery begins in it.
   module _ (least : least_place size first ≡ 0) where
-    abbrev applied_all : List Applied
+    abbrev pub applied_all : List Applied
     applied_all = messages sum size (log_read content) first_site begun.stop begun.own begun_only first least
 
-    applied_is : applied_all ≡ map applied (filter (between (stable_place first.stable)) H.messages)
+    pub applied_is : applied_all ≡ map applied (filter (between (stable_place first.stable)) H.messages)
     applied_is =
         sym (given_is sum size (log_read content) first_site begun.stop begun.own begun_only first least)
         ∙ given_messages (stable_place first.stable) cut begun.own (All-weaker (λ m. (m.place < cut) × (m.place + m.size ≤ cut)) (λ m. m.place < cut) (λ m b. b.0) begun.own under_cut)
@@ -119,7 +119,7 @@ module _ (sum : List ℕ → ℕ) (size : ℕ) (content : Content) (H : History)
         subst (λ (l : List Applied). IsTable (table_of first.pages l) H cut) (sym applied_is) (fold_all H (stable_place first.stable) cut first.pages formed begun.not_below table)
 
     -- what is concluded there
-    abbrev made : Conclusion
+    abbrev pub made : Conclusion
     made = record {
       shot = record { stable = Some (pos cut); active = first_active size begun.stop; pages = table_of first.pages applied_all };
       tip = tip_of size cut (first_active size begun.stop);

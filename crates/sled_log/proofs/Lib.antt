@@ -5,6 +5,7 @@ mod FindLemmas
 pub mod FirstConclusion
 pub mod FirstRecovers
 mod FirstSnapshot
+pub mod FirstUndamaged
 pub mod FoldLemmas
 pub mod GoodLemmas
 pub mod KeptRecovers
@@ -28,9 +29,11 @@ mod RecoveryLemmas
 pub mod RemovalLemmas
 pub mod RestartLemmas
 mod SegmentRecovers
+mod SegmentUndamaged
 pub mod TableCuts
 mod TableLemmas
 pub mod TableParts
 pub mod Trailers
 pub mod UsedSlot
+mod WholeTables
 pub mod WriteLemmas
