@@ -81,6 +81,7 @@ module _ (sum : List ℕ → ℕ) (size : ℕ) (content : Content) (H : History)
     by (inl own) = own
     by (inr later) = absurd (let le = All-contains (λ x. cut ≤ x.place) begun.beyond m begun.later later in omega (arith, le, lt))
 
+  -- those that stand there lie below the cut, and the cut splits none
   bounds : (begun.stop ≤ cut) × (cut ≤ size)
   bounds = cut_bounds size begun.stop begun.inside
 
@@ -93,10 +94,11 @@ module _ (sum : List ℕ → ℕ) (size : ℕ) (content : Content) (H : History)
     messages = λ m there lt. (All-contains (λ x. (x.place < cut) × (x.place + x.size ≤ cut)) begun.own m under_cut (own_or_later m there lt)).1;
   }
 
-  -- those from a place up to the cut stand there
+  -- the messages from a place up to the cut
   abbrev pub between : ℕ → Message → Bool
   between low m = nat_le low m.place && nat_lt m.place cut
 
+  -- all of them stand there
   kept_own : (low : ℕ) → filter (between low) begun.own ≡ filter (between low) H.messages
   kept_own low =
       let none : filter (between low) begun.beyond ≡ [] = none_kept (between low) begun.beyond (All-weaker (λ m. cut ≤ m.place) (λ m. between low m ≡ false) (λ m le. and_right (nat_le low m.place) (nat_lt m.place cut) (le-ltb m.place cut le)) begun.beyond begun.later) in
@@ -143,20 +145,23 @@ module _ (sum : List ℕ → ℕ) (size : ℕ) (content : Content) (H : History)
           fits = fits_cut;
         }
 
--- Where no segment is found from the snapshot's on, or the first one is.
+-- What is found from the place of the snapshot on.
 module _ (sum : List ℕ → ℕ) (size : ℕ) (content : Content) (H : History) (A : ℕ) (first : Shot) (some : 256 ≤ size) (in_first : IsInFirstSegment sum size content H A first) where
+  -- no segment is found there
   abbrev pub NoneFrom : Type 0
   NoneFrom = (s : Segment) → IsFoundSegment sum size content.log (least_place size first) s → ⊥
 
-  -- the snapshot lies at the end of the first segment, behind it, or in it
+  -- none is where none was begun
   pub unbegun_none : IsUnbegun sum size content.log A (stable_place first.stable) → NoneFrom
   unbegun_none unbegun s found = unbegun.none s (record { slot = found.slot; header = found.header; not_below = omega arith })
 
+  -- nor where the snapshot ends with the first segment
   pub behind_none : (begun : IsBegun sum size content.log H A (stable_place first.stable)) → stable_place first.stable ≡ size → NoneFrom
   behind_none begun at =
       let whole : least_place size first ≡ size = ap (λ n. n / size * size) at ∙ ap (λ n. n * size) (div_self (omega (arith, some))) ∙ omega arith in
       none_above sum size content.log first_site begun.stop begun.own (begun_only sum size content H A first some in_first begun) (least_place size first) (omega (arith, whole, some))
 
+  -- where it ends within the first segment, recovery begins there
   pub least_first : stable_place first.stable < size → least_place size first ≡ 0
   least_first lt = ap (λ n. n * size) (div-eq_of_lt lt) ∙ omega arith
 
