@@ -39,4 +39,5 @@ pub mod TableWeights
 pub mod TornFlush
 pub mod TornLemmas
 pub mod TornRecords
+pub mod UndamagedLemmas
 pub mod UsedLemmas

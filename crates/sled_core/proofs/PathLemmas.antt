@@ -59,11 +59,11 @@ log_kind_back does.Skip page k is = cc
 log_kind_back does.Corrupted page k is = cc
 
 -- where a kind holds its item, it is none of these
-not_inline : (k other : MessageKind) → is_inline k ≡ true → is_inline other ≡ false → k ≡ other → ⊥
+pub not_inline : (k other : MessageKind) → is_inline k ≡ true → is_inline other ≡ false → k ≡ other → ⊥
 not_inline k other is not_so same = let both : true ≡ false = sym is ∙ ap is_inline same ∙ not_so in cc
 
 module _ (sum : List ℕ → ℕ) (size : ℕ) (r : Readable) (lid number : ℕ) (m : Message) (stands : MessageStands sum size r.log lid number m) (pointer : m.pointer ≡ ptr.Inline lid) where
-  inline : is_inline stands.header.kind ≡ true
+  pub inline : is_inline stands.header.kind ≡ true
   inline = kind_inline m.kind m.page stands.header.kind stands.known
 
   -- what its record says is what the message does
@@ -109,7 +109,7 @@ module _ (sum : List ℕ → ℕ) (size : ℕ) (r : Readable) (lid number : ℕ)
   no_end Broken ends = ends stands.header m.bytes m.size stands.stands
 
 module _ (sum : List ℕ → ℕ) (size : ℕ) (r : Readable) (site : Site) (end : ℕ) (empty : end + 32 ≤ size → IsEmpty sum size r.log (site.slot + end) (site.place / size)) where
-  none_met : (x : Met) → end + 32 ≤ size → IsMet sum size r (site.slot + end) (site.place / size) x → ⊥
+  pub none_met : (x : Met) → end + 32 ≤ size → IsMet sum size r (site.slot + end) (site.place / size) x → ⊥
   unfolding IsMet
   none_met x room met = empty room met.0 met.1 x.len met.2
 

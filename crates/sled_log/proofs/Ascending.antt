@@ -7,6 +7,11 @@ use Rattle.sled_codec.specs.WellFormed.{LieApart}
 use Rattle.sled_log.specs.Recovery.{IsSublist}
 pub use Rattle.sled_core.proofs.Elements.{in_first, in_rest, in_cases, in_nothing, in_filter, from_filter, all_from_in}
 
+-- where no element passes, none is kept
+pub none_kept : {X : Type 0} (p : X → Bool) (xs : List X) → All (λ x. p x ≡ false) xs → filter p xs ≡ []
+none_kept p [] fail = refl
+none_kept p (x ∷ xs) fail = ap (λ (b : Bool). cond b (x ∷ filter p xs) (filter p xs)) (fail 0 x (omega arith)) ∙ none_kept p xs (All-tail (λ y. p y ≡ false) x xs fail)
+
 -- Sublists.
 
 pub sublist_in : {X : Type 0} (xs ys : List X) (z : X) → IsSublist xs ys → Contains xs z → Contains ys z

@@ -3,12 +3,17 @@ pub mod BeginLemmas
 pub mod CallLemmas
 mod FindLemmas
 pub mod FirstConclusion
+pub mod FirstRecovers
+mod FirstSnapshot
+pub mod FirstUndamaged
 pub mod FoldLemmas
+pub mod GoodLemmas
 pub mod KeptRecovers
 pub mod LineLemmas
 pub mod NewestLemmas
 pub mod Numbers
 pub mod OneSegment
+mod OnlySegment
 pub mod OtherLemmas
 pub mod PageRuns
 pub mod PageStates
@@ -27,8 +32,11 @@ pub mod RemovalLemmas
 pub mod RestartLemmas
 pub mod RunHistories
 pub mod RunLemmas
+mod SegmentRecovers
+mod SegmentUndamaged
 pub mod TableCuts
 mod TableLemmas
 pub mod TableParts
 pub mod UsedSlot
+mod WholeTables
 pub mod WriteLemmas

@@ -35,8 +35,9 @@ use Rattle.sled_log.proofs.NewestLemmas.{chosen_well}
 use Rattle.sled_log.proofs.BeginLemmas.{one_begin}
 use Rattle.sled_log.proofs.OneSegment.{given_messages}
 use Rattle.sled_log.proofs.UsedSlot.{uses_slot}
-use Rattle.sled_log.proofs.FindLemmas.{only_found}
-use Rattle.sled_log.proofs.KeptRecovers.{stays, continues, concludes, slot_first, own_all, own_below, given_is, all_below, segment, messages, header_at_first, not_below}
+use Rattle.sled_log.proofs.OnlySegment.{IsOnlySegment, segment, slot_first, own_below, none_above}
+use Rattle.sled_log.proofs.KeptRecovers.{only_segment, own_all}
+use Rattle.sled_log.proofs.SegmentRecovers.{continues_from, stays_at, messages, given_is, concludes}
 
 -- a segment that is found where recovery succeeds is not misplaced
 none_misplaced : (sum : List ℕ → ℕ) (size : ℕ) (r : Readable) (first : Shot) (x : Conclusion) → ContinuesFrom sum size r first (Recovered x) → (y : Segment) → IsFoundSegment sum size r.log (least_place size first) y → IsMisplaced size y → ⊥
@@ -136,23 +137,26 @@ module _ (sum : List ℕ → ℕ) (size : ℕ) (r : Readable) (snapshots : ℤ �
     abbrev end : ℕ
     end = site.place + from
 
+    only : IsOnlySegment sum size r.log site from file.own
+    only = only_segment sum size r.log site from H.messages file some short place_begins slot_begins long
+
     abbrev found : Segment
-    found = segment sum size r snapshots site from H file begun some short inside place_begins slot_begins long
+    found = segment sum size r.log site from file.own only
 
     abbrev given_all : List Applied
-    given_all = messages sum size r snapshots site from H file begun some short inside place_begins slot_begins long
+    given_all = messages sum size r site from file.own only first begun.least
 
     at_first : site.slot ≡ 0
-    at_first = slot_first sum size r snapshots site from H file begun some short inside place_begins slot_begins long
+    at_first = slot_first sum size r.log site from file.own only
 
     all_own : H.messages ≡ file.own
-    all_own = own_all sum size r snapshots site from H file begun some short inside place_begins slot_begins long
+    all_own = own_all sum size r.log site from H.messages file some short place_begins slot_begins long
 
     within : All (λ m. (m.place < end) × (m.place + m.size ≤ end)) H.messages
-    within = all_below sum size r snapshots site from H file begun some short inside place_begins slot_begins long
+    within = subst (λ (l : List Message). All (λ m. (m.place < end) × (m.place + m.size ≤ end)) l) (sym all_own) (own_below sum size r.log site from file.own only)
 
     stand_own : StandIn sum size r.log site 20 file.own from
-    stand_own = subst (λ n. StandIn sum size r.log site 20 file.own n) (omega (arith, long)) file.stand
+    stand_own = only.stand
 
     whole : (m : Message) → Contains H.messages m → StandsWhole sum size r.log m
     whole m there = All-contains (StandsWhole sum size r.log) file.own m (own_stands sum size r.log site 20 file.own from place_begins stand_own) (subst (λ (l : List Message). Contains l m) all_own there)
@@ -173,9 +177,9 @@ module _ (sum : List ℕ → ℕ) (size : ℕ) (r : Readable) (snapshots : ℤ �
     -- what was applied makes the table below each cut past the last message
     table_there : (cut : ℕ) → end ≤ cut → IsTable (table_of first.pages given_all) H cut
     table_there cut le =
-        let under : All (λ m. m.place < cut) file.own = λ k d lt. let b = own_below sum size r snapshots site from H file begun some short inside place_begins slot_begins long k d lt in omega (arith, b, le) in
+        let under : All (λ m. m.place < cut) file.own = λ k d lt. let b = own_below sum size r.log site from file.own only k d lt in omega (arith, b.0, le) in
         let same : given_all ≡ map applied (filter (λ m. nat_le c0 m.place && nat_lt m.place cut) H.messages) =
-        sym (given_is sum size r snapshots site from H file begun some short inside place_begins slot_begins long)
+        sym (given_is sum size r site from file.own only first begun.least)
         ∙ given_messages c0 cut file.own under
         ∙ ap (λ (l : List Message). map applied (filter (λ m. nat_le c0 m.place && nat_lt m.place cut) l)) (sym all_own) in
         subst (λ (l : List Applied). IsTable (table_of first.pages l) H cut) (sym same) (fold_all H c0 cut first.pages formed (omega (arith, reached, le)) begun.table)
@@ -183,15 +187,6 @@ module _ (sum : List ℕ → ℕ) (size : ℕ) (r : Readable) (snapshots : ℤ �
     -- The segment is filled: the cut is its end, and none is active.
     abbrev full_shot : Shot
     full_shot = record { stable = Some (pos (site.place + size)); active = None; pages = table_of first.pages given_all }
-
-    none_above : (y : Segment) → IsFoundSegment sum size r.log (site.place + size) y → ⊥
-    none_above y is =
-        let low : least_place size first ≤ y.place = let nb = is.not_below in omega (arith, nb, begun.least) in
-        let again : IsFoundSegment sum size r.log (least_place size first) y = record { slot = is.slot; header = is.header; not_below = low } in
-        let same : found ≡ y = only_found sum size r.log (least_place size first) short found at_first
-        (not_below sum size r snapshots site from H file begun some short inside place_begins slot_begins long) (header_at_first sum size r snapshots site from H file begun some short inside place_begins slot_begins long) y again in
-        let nb = is.not_below in
-        omega (arith, nb, ap (λ (z : Segment). z.place) same, some)
 
     ready_full : new.log ≡ at_rest r.log → BeginsFrom sum new.snapshots.file full_shot → IsReady sum size new full_shot H
     ready_full log_is begins =
@@ -207,7 +202,7 @@ module _ (sum : List ℕ → ℕ) (size : ℕ) (r : Readable) (snapshots : ℤ �
           file = record {
             begins = add-mod_right site.place size ∙ place_begins;
             used = all_from_in (StandsUsed sum size r.log full_shot) H.messages (λ m there. stands_used full_shot (site.place + size) table (λ k d lt. (under k d lt).0) m there slots (whole m there));
-            none = λ y is. absurd (none_above y is);
+            none = λ y is. absurd (none_above sum size r.log site from file.own only (site.place + size) (omega (arith, some)) y is);
           };
         }
 
@@ -333,14 +328,14 @@ module _ (sum : List ℕ → ℕ) (size : ℕ) (r : Readable) (snapshots : ℤ �
   pub ready_after : (x : Conclusion) → Recovers sum size r snapshots (Recovered x) → MatchOption x.tip (new.log ≡ at_rest r.log) (λ tip. new.log ≡ at_rest (overwritten r.log tip.0 (replicate tip.1 0)))
       → BeginsAgain sum snapshots new x.shot → IsReady sum size new x.shot H
   ready_after x recovers log_is again =
-      let on = continues sum size r snapshots site from H file begun some short inside place_begins slot_begins x recovers in
+      let on = continues_from sum size r snapshots first x begun.begins recovers in
       elim (cases_lt 0 from) [
         | inl begun_at ↦ (
             let long = file.begun begun_at in
-            ready_begun long x (concludes sum size r snapshots site from H file begun some short inside place_begins slot_begins long x on) log_is again)
+            ready_begun long x (concludes sum size r site from file.own (only long) first begun.least x on) log_is again)
         | inr none ↦ (
             let unbegun : from ≡ 0 = omega (arith, none) in
-            let same : x ≡ unchanged first = stays sum size r snapshots site from H file begun some short inside place_begins slot_begins unbegun x on in
+            let same : x ≡ unchanged first = stays_at sum size r first (λ s is. file.alone unbegun s (subst (λ n. IsFoundSegment sum size r.log n s) begun.least is)) x on in
             let logs : new.log ≡ at_rest r.log = subst (λ (t : Option (ℕ × ℕ)). MatchOption t (new.log ≡ at_rest r.log) (λ tip. new.log ≡ at_rest (overwritten r.log tip.0 (replicate tip.1 0)))) (ap (λ (y : Conclusion). y.tip) same) log_is in
             let begins : BeginsFrom sum new.snapshots.file first = elim again.4 [
               | inl own ↦ subst (λ (w : Shot). BeginsFrom sum new.snapshots.file w) (own ∙ ap (λ (y : Conclusion). y.shot) same) again.1

@@ -6,7 +6,7 @@ use Rattle.std.proofs.lemmas.List.Elements.{filter-append}
 use Rattle.sled_codec.specs.History.{Message, History, no_history, page_state, of_page, table, HasPage, below, AddsMessage}
 use Rattle.sled_codec.specs.PageTables.{page_with, IsTable}
 use Rattle.sled_codec.specs.Snapshots.{Page}
-use Rattle.sled_log.proofs.Ascending.{in_nothing}
+use Rattle.sled_log.proofs.Ascending.{in_nothing, none_kept, all_from_in}
 
 -- before any message the table is empty
 pub no_pages : (cut : ℕ) → IsTable [] no_history cut
@@ -27,6 +27,12 @@ module _ (H K : History) (cut : ℕ) (same : (page : ℕ) → of_page H.messages
     states = λ page. is.states page ∙ ap (λ (ms : List Message). page_with (page_state ms)) (same page);
     begun = λ page. (λ lt. has_too page ((is.begun page).0 lt), λ has. (is.begun page).1 (had_too page has));
   }
+
+-- below place 0 there is no message, so that the table is empty
+pub no_pages_at_first : (H : History) → IsTable [] H 0
+unfolding of_page
+no_pages_at_first H =
+    same_table no_history H 0 (λ page. sym (none_kept (λ m. (m.page == page) && nat_lt m.place 0) H.messages (all_from_in (λ m. ((m.page == page) && nat_lt m.place 0) ≡ false) H.messages (λ m there. and_right (m.page == page) (nat_lt m.place 0) (le-ltb m.place 0 (omega arith)))))) [] (no_pages 0)
 
 -- A message at or above the cut.
 
