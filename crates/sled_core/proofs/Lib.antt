@@ -21,9 +21,9 @@ pub mod ReadyLemmas
 pub mod ReadyStarts
 pub mod ReserveLemmas
 pub mod ScanLemmas
+pub mod SnapshotEntries
 pub mod StartFits
 pub mod StartLemmas
-pub mod TableEntries
 pub mod TableWeights
 pub mod TornFlush
 pub mod TornLemmas
