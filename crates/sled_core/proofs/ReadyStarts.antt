@@ -184,7 +184,7 @@ module _ (sum : List ℕ → ℕ) (size : ℕ) (device : State) (s : Shot) (H : 
   -- A log can begin on it, where a record can begin at the stable place of the active segment.
   pub ready_starts : ActiveFits size stable s.active → IsStartable size (length log) s
   ready_starts room = elim ready.one_segment [
-    | inl active ↦ (let at = subst (ActiveFits size stable) active.0 room in starts_active active.0 active.1 at.1)
+    | inl active ↦ (let at = subst (ActiveFits size stable) active.0 room in let inside = active.1 in starts_active active.0 (omega (arith, inside)) at.1)
     | inr none ↦ starts_new none.0 none.1
   ]
 
