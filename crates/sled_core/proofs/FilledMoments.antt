@@ -87,21 +87,23 @@ first_filled size log some there short i =
 abbrev first_unless : Bool → List ℕ
 first_unless used = if used then [] else 0 ∷ []
 
--- All slots of a file of at most one are in use, or the first one is free.
-abbrev pub NoneFree : ℕ → ℕ → Shot → ℕ → Type 0
-NoneFree size len s slots = (unused size slots s ≡ []) × ((slots ≡ 0) ⊎ (is_used size s 0 ≡ true))
+-- no slot is free: the file has none, or the first one is used
+abbrev pub NoneFree : ℕ → ℕ → Shot → Type 0
+NoneFree size slots s = (unused size slots s ≡ []) × ((slots ≡ 0) ⊎ (is_used size s 0 ≡ true))
 
-abbrev pub FirstFree : ℕ → ℕ → Shot → ℕ → Type 0
-FirstFree size len s slots = (unused size slots s ≡ 0 ∷ []) × (0 < len) × (is_used size s 0 ≡ false)
+-- the first slot is free, and it is the only one
+abbrev pub FirstFree : ℕ → ℕ → ℕ → Shot → Type 0
+FirstFree size len slots s = (unused size slots s ≡ 0 ∷ []) × (0 < len) × (is_used size s 0 ≡ false)
 
-pub free_of_one : (size len : ℕ) (s : Shot) → 0 < size → len ≤ size → NoneFree size len s (slots_of size len) ⊎ FirstFree size len s (slots_of size len)
+-- of the slots of a file that is no longer than one
+pub free_of_one : (size len : ℕ) (s : Shot) → 0 < size → len ≤ size → NoneFree size (slots_of size len) s ⊎ FirstFree size len (slots_of size len) s
 free_of_one size len s some short = by (slots_of size len) (λ k less. begins_in size len k some less)
   where
-    first : (b : Bool) → is_used size s 0 ≡ b → 0 < len → NoneFree size len s 1 ⊎ FirstFree size len s 1
+    first : (b : Bool) → is_used size s 0 ≡ b → 0 < len → NoneFree size 1 s ⊎ FirstFree size len 1 s
     first true used there = inl (ap first_unless used, inr used)
     first false free there = inr (ap first_unless free, there, free)
 
-    by : (slots : ℕ) → ((k : ℕ) → k < slots → k * size < len) → NoneFree size len s slots ⊎ FirstFree size len s slots
+    by : (slots : ℕ) → ((k : ℕ) → k < slots → k * size < len) → NoneFree size slots s ⊎ FirstFree size len slots s
     by zero begin = inl (refl, inl refl)
     by (suc zero) begin = first (is_used size s 0) refl (let b = begin 0 (omega arith) in omega (arith, b))
     by (suc (suc n)) begin = absurd (let b = begin 1 (omega arith) in omega (arith, b, short))

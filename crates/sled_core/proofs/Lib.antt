@@ -3,7 +3,6 @@ pub mod BookLemmas
 pub mod CompletesLemmas
 pub mod CrashLemmas
 pub mod Elements
-pub mod EntriesOfTable
 pub mod EntryLemmas
 pub mod FillLemmas
 pub mod FilledLemmas
@@ -31,6 +30,7 @@ pub mod ReadyStarts
 pub mod ReserveLemmas
 pub mod RunningLemmas
 pub mod ScanLemmas
+pub mod SnapshotEntries
 pub mod StandLemmas
 pub mod StartFits
 pub mod StartLemmas

@@ -3,7 +3,7 @@ use Rattle.std.proofs.Common.{◌≡◌, ◌↔◌, ◌≤◌, ◌<◌, ◌≤�
 use Rattle.std.specs.List.{All, Contains, sum_by}
 use Rattle.std.proofs.Math.Nat.{div-eq_of_lt, mod-eq_of_lt, div-mul-le_self}
 use Rattle.std.proofs.lemmas.Int.{ints}
-use Rattle.std.proofs.lemmas.List.Elements.{All-contains, All-contains_itself, All-weaker}
+use Rattle.std.proofs.lemmas.List.Elements.{All-contains}
 use Rattle.std.proofs.lemmas.List.Sums.{sum_by-cons}
 use Rattle.sled_codec.specs.declared.result.DiskPtr.TheVariants.{Inline}
 use Rattle.sled_codec.specs.History.{Message, History}
@@ -17,10 +17,11 @@ use Rattle.sled_core.specs.LogFile.{StandIn, StandsElsewhere}
 use Rattle.sled_core.specs.Ready.{HasActive, HasFile, active_site}
 use Rattle.sled_core.specs.Recoverable.{ActiveFits}
 use Rattle.sled_core.specs.Running.{IsReadyFor}
+use Rattle.sled_core.proofs.Elements.{in_nothing, all_from_in}
 use Rattle.sled_core.proofs.FilledLemmas.{slots_cover}
 use Rattle.sled_core.proofs.LogFileLemmas.{stands_some, header_there}
 use Rattle.sled_core.proofs.Ranges.{with_first}
-use Rattle.sled_core.proofs.EntriesOfTable.{IsEntryOf, entry_from, all_seen, no_element}
+use Rattle.sled_core.proofs.SnapshotEntries.{IsEntryOf, entry_from, all_seen}
 use Rattle.sled_core.proofs.TableWeights.{weight, table_sizes, slot_sizes}
 
 -- a message stands in the first slot as in the first segment, with room for the longest header
@@ -135,7 +136,7 @@ module _ (sum : List ℕ → ℕ) (size : ℕ) (device : State) (s : Shot) (H : 
       sound = begins_sound sum device.snapshots.file s ready.ready.begins;
       seen = all_seen s.pages H stable ready.ready.table;
       active = active;
-      placed = All-weaker (Contains es) (IsPlacedIn size slots stable) placed es (All-contains_itself es);
+      placed = all_from_in (IsPlacedIn size slots stable) es placed;
       apart = λ d e has_d has_e. (λ _. in_segment d has_d ∙ sym (in_segment e has_e), λ _. in_slot d has_d ∙ sym (in_slot e has_e));
       of_active = of_active;
       counted = λ k. omega (arith, slot_sizes size k es, table_sizes s.pages H stable ready.ready.table, weights, most);
@@ -146,7 +147,7 @@ module _ (sum : List ℕ → ℕ) (size : ℕ) (device : State) (s : Shot) (H : 
   starts_new none first =
       let empty : H.messages ≡ [] = none_below (λ (m : Message). m.place) stable H.messages first (λ k d lt. (ready.ready.below k d lt).0) in
       startable_with (subst (All (InFirst size)) (sym empty) (λ k d lt. absurd (omega (arith, lt)))) (omega (arith, ap (sum_by weight) empty))
-      (λ m there. absurd (no_element m (subst (λ (ms : List Message). Contains ms m) empty there)))
+      (λ m there. absurd (in_nothing m (subst (λ (ms : List Message). Contains ms m) empty there)))
       (subst (λ (o : Option ℕ). IfSome o (MayBeActive size slots stable)) (sym none) tt)
       (subst (λ (o : Option ℕ). IfSome o (λ a. All (λ e. (slot_of size e ≡ a / size) ↔ (number_of size e ≡ stable / size)) es)) (sym none) tt)
 
@@ -170,8 +171,8 @@ module _ (sum : List ℕ → ℕ) (size : ℕ) (device : State) (s : Shot) (H : 
       (subst (λ (o : Option ℕ). IfSome o (MayBeActive size slots stable)) (sym active)
       (record { aligned = mod-eq_of_lt (omega (arith, long)); slot = omega (arith, slot_0, some); offset = record { behind_header = behind; before_end = omega (arith, room) } }))
       (subst (λ (o : Option ℕ). IfSome o (λ a. All (λ e. (slot_of size e ≡ a / size) ↔ (number_of size e ≡ stable / size)) es)) (sym active)
-      (All-weaker (Contains es) (λ e. (slot_of size e ≡ 0 / size) ↔ (number_of size e ≡ stable / size))
-      (λ e has_e. (λ _. in_segment all weights (λ _ _. some) e has_e ∙ sym base, λ _. in_slot all weights (λ _ _. some) e has_e ∙ sym slot_0)) es (All-contains_itself es)))
+      (all_from_in (λ e. (slot_of size e ≡ 0 / size) ↔ (number_of size e ≡ stable / size)) es
+      (λ e has_e. (λ _. in_segment all weights (λ _ _. some) e has_e ∙ sym base, λ _. in_slot all weights (λ _ _. some) e has_e ∙ sym slot_0))))
     where
       some_slot : 0 < length log → 0 < slots
       some_slot there = by slots (slots_cover size (length log) (omega (arith, long)))
@@ -183,7 +184,7 @@ module _ (sum : List ℕ → ℕ) (size : ℕ) (device : State) (s : Shot) (H : 
   -- A log can begin on it, where a record can begin at the stable place of the active segment.
   pub ready_starts : ActiveFits size stable s.active → IsStartable size (length log) s
   ready_starts room = elim ready.one_segment [
-    | inl active ↦ (let at = subst (ActiveFits size stable) active.0 room in starts_active active.0 active.1 at.1)
+    | inl active ↦ (let at = subst (ActiveFits size stable) active.0 room in let inside = active.1 in starts_active active.0 (omega (arith, inside)) at.1)
     | inr none ↦ starts_new none.0 none.1
   ]
 

@@ -1,5 +1,5 @@
 -- A log that begins on what a recovery left in the first segment fits the history.
-use Rattle.std.proofs.Common.{◌≡◌, ◌≤◌, ◌<◌, ◌+◌, ◌-◌, ◌*◌, ◌/◌, ◌^◌, ◌∙◌, ℕ, List, [], ◌∷◌, length, Option, None, refl, sym, ap, subst, arith, inl, inr}
+use Rattle.std.proofs.Common.{◌≡◌, ◌≤◌, ◌<◌, ◌+◌, ◌-◌, ◌*◌, ◌/◌, ◌%◌, ◌^◌, ◌∙◌, ℕ, List, [], ◌∷◌, length, Option, None, refl, sym, ap, subst, arith, inl, inr}
 use Rattle.std.specs.List.{All}
 use Rattle.std.proofs.Math.Nat.{div-eq_of_lt, mod-eq_of_lt}
 use Rattle.sled_codec.specs.History.{History}
@@ -57,8 +57,10 @@ module _ (sum : List ℕ → ℕ) (size : ℕ) (device now : State) (s : Shot) (
   begins_first : AtFirst (beginning_of size (length log) s)
   unfolding AtFirst
   begins_first = elim ready.one_segment [
-    | inl active ↦ subst (λ (o : Option ℕ). AtFirst (beginning_at size slots stable free o)) (sym active.0)
-        (no_slots (stable / size) size (div-eq_of_lt active.1), refl, mod-eq_of_lt active.1)
+    | inl active ↦ (
+        let room = active.1 in
+        let below : stable < size = omega (arith, room) in
+        subst (λ (o : Option ℕ). AtFirst (beginning_at size slots stable free o)) (sym active.0) (no_slots (stable / size) size (div-eq_of_lt below), refl, mod-eq_of_lt below))
     | inr none ↦ subst (λ (o : Option ℕ). AtFirst (beginning_at size slots stable free o)) (sym none.0)
         (no_slots ((stable + (size - 1)) / size) size (div-eq_of_lt (let first = none.1 in omega (arith, first, long))), no_slots (first_or slots free) size (lowest_first none.0 none.1), sym none.1)
   ]
@@ -70,7 +72,8 @@ module _ (sum : List ℕ → ℕ) (size : ℕ) (device now : State) (s : Shot) (
         let same : log ≡ ready.ready.log = ap (λ (l : LogState). l.bytes) ready.ready.settled in
         let file : HasActive sum size ready.ready.log s 0 H.messages = subst (λ (o : Option ℕ). HasFile sum size ready.ready.log s o H.messages) active.0 ready.ready.file in
         let inside = file.inside in
-        absurd (omega (arith, inside, mod-eq_of_lt active.1, first)))
+        let below : stable % size ≡ 0 = ap (λ n. n % size) first ∙ mod-eq_of_lt (omega (arith, long)) in
+        absurd (omega (arith, inside, below)))
     | inr none ↦ none.2
   ]
 

@@ -1,4 +1,4 @@
--- What the entries of a table sum up to is no more than the sizes of the history's messages, and 32 bytes for each of them.
+-- What the entries of a snapshot sum up to is no more than the sizes of the history's messages, and 32 bytes for each of them.
 use Rattle.std.proofs.Common.{◌≡◌, ◌≤◌, ◌<◌, ◌+◌, ◌∙◌, ◌&&◌, ◌==◌, ℕ, suc, pos, Bool, true, false, cond, if◌then◌else◌, nat_lt, nat_le, List, [], ◌∷◌, length, map, get_or, Option, Some, None, refl, sym, ap, subst, arith, inl, inr}
 use Rattle.std.specs.List.{Contains, filter, sum_by}
 use Rattle.std.proofs.lemmas.Bool.Decides.{nat_tests}
@@ -10,8 +10,8 @@ use Rattle.sled_codec.specs.History.{Message, History, is_replace, is_link, last
 use Rattle.sled_codec.specs.PageTables.{entry_of, page_with, IsTable}
 use Rattle.sled_codec.specs.Snapshots.{Entry, Page, Present, Free as FreePage, Uninitialized}
 use Rattle.sled_core.specs.Begin.{entries_in, entries_of, slot_of, sizes_in}
-use Rattle.sled_core.proofs.EntryLemmas.{head_or_tail}
-use Rattle.sled_core.proofs.EntriesOfTable.{links_on, last_there, no_element}
+use Rattle.sled_core.proofs.Elements.{in_cases, in_nothing}
+use Rattle.sled_core.proofs.TableEntries.{beginning_there}
 
 -- what an entry of a message may count as
 abbrev pub weight : Message → ℕ
@@ -34,8 +34,8 @@ module _ {X : Type 0} (w : X → ℕ) where
 
   -- one that isn't kept, and those that are
   left_and_kept : (p : X → Bool) (xs : List X) (y : X) → Contains xs y → p y ≡ false → w y + sum_by w (filter p xs) ≤ sum_by w xs
-  left_and_kept p [] y there left = absurd (no_element y there)
-  left_and_kept p (x ∷ xs) y there left = elim (head_or_tail x y xs there) [
+  left_and_kept p [] y there left = absurd (in_nothing y there)
+  left_and_kept p (x ∷ xs) y there left = elim (in_cases x y xs there) [
     | inl same ↦ (
         let dropped : filter p (x ∷ xs) ≡ filter p xs = ap (λ (b : Bool). cond b (x ∷ filter p xs) (filter p xs)) (ap p same ∙ left) in
         omega (arith, ap (sum_by w) dropped, ap w same, kept_less p xs, sum_by-cons w x xs))
@@ -64,6 +64,18 @@ map_sizes : (ms : List Message) → sizes_of (map entry_of ms) ≤ sum_by weight
 map_sizes [] = omega arith
 map_sizes (m ∷ ms) = omega (arith, map_sizes ms, sum_by-cons (λ (e : Entry). e.2) (entry_of m) (map entry_of ms), sum_by-cons weight m ms)
 
+page_sizes : (ms : List Message) → sizes_of (entries_in (page_with ms)) ≤ sum_by weight ms
+page_sizes [] = omega arith
+page_sizes (b ∷ ms) = by (is_replace b.kind)
+  where
+    by : (t : Bool) → sizes_of (entries_in (if t then Present (entry_of b) (map entry_of ms) else FreePage (pos b.place) b.pointer)) ≤ sum_by weight (b ∷ ms)
+    by true = map_sizes (b ∷ ms)
+    by false = omega (arith, sum_by-cons weight b ms, sum_by-cons (λ (e : Entry). e.2) (pos b.place, b.pointer, 32) [])
+
+-- the messages behind a beginning that are links on it
+abbrev links_on : Message → Message → Bool
+links_on b m = is_link m.kind && nat_lt b.place m.place
+
 -- a message that replaces its page is no link on it
 not_link : (b : Message) → is_replace b.kind ≡ true → links_on b b ≡ false
 not_link b replaces = by b.kind replaces
@@ -75,20 +87,23 @@ not_link b replaces = by b.kind replaces
     by Skip is = refl
     by Corrupted is = refl
 
-state_sizes : (ms : List Message) → sizes_of (entries_in (page_with (page_state ms))) ≤ sum_by weight ms
+-- the state of a page is some of its messages
+state_less : (ms : List Message) → sum_by weight (page_state ms) ≤ sum_by weight ms
 unfolding page_state
-state_sizes ms = by (last_beginning ms) refl
+state_less ms = by (last_beginning ms) refl
   where
-    some : (b : Message) → Contains ms b → (t : Bool) → is_replace b.kind ≡ t → let l : List Message = (if t then filter (links_on b) ms else []) in
-        sizes_of (entries_in (if t then Present (entry_of b) (map entry_of l) else FreePage (pos b.place) b.pointer)) ≤ sum_by weight ms
-    some b here true is = omega (arith, map_sizes (b ∷ filter (links_on b) ms), sum_by-cons weight b (filter (links_on b) ms), left_and_kept weight (links_on b) ms b here (not_link b is))
-    some b here false is = omega (arith, left_and_kept weight (λ _. false) ms b here refl, sum_by-cons (λ (e : Entry). e.2) (pos b.place, b.pointer, 32) [])
+    some : (b : Message) → Contains ms b → (t : Bool) → is_replace b.kind ≡ t → sum_by weight (b ∷ (if t then filter (links_on b) ms else [])) ≤ sum_by weight ms
+    some b here true is = omega (arith, sum_by-cons weight b (filter (links_on b) ms), left_and_kept weight (links_on b) ms b here (not_link b is))
+    some b here false is = omega (arith, sum_by-cons weight b [], left_and_kept weight (λ _. false) ms b here refl)
 
-    by : (o : Option Message) → last_beginning ms ≡ o → sizes_of (entries_in (page_with (entries_from o ms))) ≤ sum_by weight ms
+    by : (o : Option Message) → last_beginning ms ≡ o → sum_by weight (entries_from o ms) ≤ sum_by weight ms
     by None none = omega arith
-    by (Some b) is = some b (last_there ms b is) (is_replace b.kind) refl
+    by (Some b) is = some b (beginning_there ms b is) (is_replace b.kind) refl
 
 -- The entries of all pages.
+
+page_within : (ms : List Message) → sizes_of (entries_in (page_with (page_state ms))) ≤ sum_by weight ms
+page_within ms = omega (arith, page_sizes (page_state ms), state_less ms)
 
 -- the messages of the pages from one on
 abbrev from_page : ℕ → Message → Bool
@@ -101,7 +116,7 @@ pages_sizes H cut [] first states = omega arith
 pages_sizes H cut (p ∷ ps) first states =
     let here : p ≡ page_with (table H cut first) = states 0 (omega arith) ∙ ap (λ n. page_with (table H cut n)) (omega arith) in
     let rest = pages_sizes H cut ps (suc first) (λ k lt. states (suc k) (omega (arith, lt)) ∙ ap (λ n. page_with (table H cut n)) (omega arith)) in
-    let one : sizes_of (entries_in p) ≤ sum_by weight (of_page H.messages cut first) = subst (λ (x : Page). sizes_of (entries_in x) ≤ sum_by weight (of_page H.messages cut first)) (sym here) (state_sizes (of_page H.messages cut first)) in
+    let one : sizes_of (entries_in p) ≤ sum_by weight (of_page H.messages cut first) = subst (λ (x : Page). sizes_of (entries_in x) ≤ sum_by weight (of_page H.messages cut first)) (sym here) (page_within (of_page H.messages cut first)) in
     let all = ap sizes_of (flat_map-cons entries_in p ps) ∙ sum_by-append (λ (e : Entry). e.2) (entries_in p) (entries_of ps) in
     let apart = kept_apart weight (λ m. (m.page == first) && nat_lt m.place cut) (from_page (suc first)) (from_page first)
     (λ m of. grind (arith, nat_tests)) (λ m later. (grind (arith, nat_tests), grind (arith, nat_tests))) H.messages in
