@@ -1,7 +1,7 @@
 -- What is an element of a list.
 use Rattle.std.proofs.Common.{⊎_elim, ◌≡◌, ◌∙◌, ◌⊎◌, ◌<◌, ℕ, zero, suc, Bool, true, false, cond, List, [], ◌∷◌, length, slice_index_or, refl, sym, ap, subst, arith, inl, inr}
 use Rattle.std.specs.List.{All, Contains, filter}
-use Rattle.std.proofs.lemmas.List.Elements.{All-weaker, All-filter, All-contains, All-contains_itself, filter_passes}
+use Rattle.std.proofs.lemmas.List.Elements.{All-tail, All-weaker, All-filter, All-contains, All-contains_itself, filter_passes}
 
 pub in_first : {X : Type 0} (x : X) (xs : List X) → Contains (x ∷ xs) x
 in_first x xs = (0, omega arith, refl)
@@ -44,6 +44,11 @@ from_filter p xs y there = (
   All-contains (Contains xs) (filter p xs) y (All-filter p (Contains xs) xs (All-contains_itself xs)) there,
   All-contains (λ z. p z ≡ true) (filter p xs) y (filter_passes p xs) there,
 )
+
+-- where no element passes, none is kept
+pub none_kept : {X : Type 0} (p : X → Bool) (xs : List X) → All (λ x. p x ≡ false) xs → filter p xs ≡ []
+none_kept p [] fail = refl
+none_kept p (x ∷ xs) fail = ap (λ (b : Bool). cond b (x ∷ filter p xs) (filter p xs)) (fail 0 x (omega arith)) ∙ none_kept p xs (All-tail (λ y. p y ≡ false) x xs fail)
 
 -- what is so of each element
 pub all_from_in : {X : Type 0} (P : X → Type 0) (xs : List X) → ((x : X) → Contains xs x → P x) → All P xs

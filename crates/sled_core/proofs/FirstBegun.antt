@@ -92,7 +92,7 @@ module _ (sum : List ℕ → ℕ) (size : ℕ) (content : Content) (H : History)
   cases m there = ⊎_elim inl (λ later. inr (of_one (λ x. first_cut size stop ≤ x.place) begun.beyond m begun.later later))
       (Contains-append_cases begun.own begun.beyond m (subst (λ (l : List Message). Contains l m) begun.messages there))
 
-  own_of : (m : Message) → Contains H.messages m → m.place < first_cut size stop → Contains begun.own m
+  pub own_of : (m : Message) → Contains H.messages m → m.place < first_cut size stop → Contains begun.own m
   own_of m there below = ⊎_elim (λ own. own) (λ above. absurd (omega (arith, above, below))) (cases m there)
 
   stands : (m : Message) → Contains begun.own m → StandsWhole sum size content.log m

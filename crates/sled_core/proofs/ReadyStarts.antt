@@ -15,7 +15,6 @@ use Rattle.sled_core.specs.declared.iobuf.Site.{Site}
 use Rattle.sled_core.specs.Begin.{slots_of, slot_of, number_of, entries_of, place_at, IsPlacedIn, MayBeActive, IsStartable, IsInReach}
 use Rattle.sled_core.specs.LogFile.{StandIn, StandsElsewhere}
 use Rattle.sled_core.specs.Ready.{HasActive, HasFile, active_site}
-use Rattle.sled_core.specs.Recoverable.{ActiveFits}
 use Rattle.sled_core.specs.Running.{IsReadyFor}
 use Rattle.sled_core.proofs.Elements.{in_nothing, all_from_in}
 use Rattle.sled_core.proofs.FilledLemmas.{slots_cover}
@@ -181,10 +180,10 @@ module _ (sum : List ℕ → ℕ) (size : ℕ) (device : State) (s : Shot) (H : 
           by zero covered = absurd (omega (arith, covered, there))
           by (suc n) covered = omega arith
 
-  -- A log can begin on it, where a record can begin at the stable place of the active segment.
-  pub ready_starts : ActiveFits size stable s.active → IsStartable size (length log) s
-  ready_starts room = elim ready.one_segment [
-    | inl active ↦ (let at = subst (ActiveFits size stable) active.0 room in let inside = active.1 in starts_active active.0 (omega (arith, inside)) at.1)
+  -- A log can begin on it.
+  pub ready_starts : IsStartable size (length log) s
+  ready_starts = elim ready.one_segment [
+    | inl active ↦ (let room = active.1 in let below : stable < size = omega (arith, room) in starts_active active.0 below (omega (arith, room, mod-eq_of_lt below)))
     | inr none ↦ starts_new none.0 none.1
   ]
 

@@ -1,6 +1,6 @@
 -- The invariant of a running log, and what a recovery leaves for it: over a history, the end of what was acknowledged, the floor, and the completed messages that were not marked yet.
 -- The log has one segment, the first one.
-use Rattle.std.specs.Prelude.{◌≡◌, ◌≢◌, ◌⊎◌, ◌≤◌, ◌<◌, ℕ, ℤ, List, [], length, replicate, Option, Some, None}
+use Rattle.std.specs.Prelude.{◌≡◌, ◌≢◌, ◌⊎◌, ◌≤◌, ◌<◌, ◌+◌, ℕ, ℤ, List, [], length, replicate, Option, Some, None}
 use Rattle.std.specs.declared.io.Error.{Error as IoError}
 use Rattle.sled_codec.specs.Places.{part}
 use Rattle.sled_codec.specs.History.{Message, History}
@@ -59,8 +59,8 @@ Fits trace sum log H A f U = FitsIn sum log.config.config.segment_size log.site 
 -- Snapshot and device are ready for a log that fits this history, the end of what was acknowledged and the floor.
 pub record IsReadyFor (sum : List ℕ → ℕ) (size : ℕ) (device : State) (s : Shot) (H : History) (A f : ℕ) : Type 0 where
   pub ready : IsReady sum size device s H
-  -- the log goes on in the first segment, or begins it
-  pub one_segment : ((s.active ≡ Some 0) × (stable_place s.stable < size)) ⊎ ((s.active ≡ None) × (stable_place s.stable ≡ 0) × NoneBegun sum size device.log.bytes)
+  -- the log goes on in the first segment, where one more record has room, or begins it
+  pub one_segment : ((s.active ≡ Some 0) × (stable_place s.stable + 32 ≤ size)) ⊎ ((s.active ≡ None) × (stable_place s.stable ≡ 0) × NoneBegun sum size device.log.bytes)
   pub short : length device.log.bytes ≤ size
   pub blobs : NoBlobs device.blobs
   pub names : NamesFit sum size device.snapshots H f (stable_place s.stable)

@@ -22,8 +22,7 @@ ghost use Rattle.sled_store.specs.Moments.{LeavesOnly};
 ghost use Rattle.sled_store.specs.SnapshotFiles.{stable_place, empty_shot};
 ghost use Rattle.sled_core.specs.Begin.{IsStartable, IsInReach, slots_of, unused, filling, place_at, offset_at};
 ghost use Rattle.sled_core.specs.Ready.{IsReady};
-ghost use Rattle.sled_core.specs.Recoverable.{LeavesRecoverable, RecoverableIfOwn, ActiveFits};
-ghost use Rattle.sled_store.specs.Moments.{LeavesOnly};
+ghost use Rattle.sled_core.specs.Recoverable.{LeavesRecoverable, RecoverableIfOwn};
 ghost use Rattle.sled_core.specs.Causes.{StartRefuses, Answers, FaultAnswers, ReserveAnswers, ReadAnswers, failure_in};
 
 use crate::begin::begin;
@@ -75,8 +74,7 @@ impl<D: Device, C: Checksum> Log<D, C> {
             → IfOk result (λ log. LeavesOnly (RecoverableIfOwn C.sum_of config.config.segment_size H A f) (D.trace config.device) (D.trace (device_of log))) }
         ensures crash_err { (H : History) (A f : ℕ) → Ready C.sum_of config.config.segment_size (state_of (D.trace config.device)) (shot_of snapshot.now) H A f
             → IfErr result (λ e. LeavesOnly (RecoverableIfOwn C.sum_of config.config.segment_size H A f) (D.trace config.device) (D.trace e.1.device)) }
-        ensures starts { (H : History) (A f : ℕ) → Ready C.sum_of config.config.segment_size (state_of (D.trace config.device)) (shot_of snapshot.now) H A f
-            → ActiveFits config.config.segment_size (stable_place snapshot.now.stable_lsn) snapshot.now.active_segment → IfErr result (λ e. (IsCorrupt e.0 → ⊥) × (e.0 ≢ Error.PlacesUsedUp)) }
+        ensures starts { (H : History) (A f : ℕ) → Ready C.sum_of config.config.segment_size (state_of (D.trace config.device)) (shot_of snapshot.now) H A f → IfErr result (λ e. (IsCorrupt e.0 → ⊥) × (e.0 ≢ Error.PlacesUsedUp)) }
         ensures fresh { shot_of snapshot.now ≡ empty_shot → (state_of (D.trace config.device)).log ≡ at_rest [] → ((n : ℤ) → (state_of (D.trace config.device)).snapshots.file n ≡ None) → IfOk result (λ log. Holds D.trace C.sum_of log no_history) }
         ensures startable { OnOk result (IsStartable config.config.segment_size (length (state_of (D.trace config.device)).log.bytes) (shot_of snapshot.now)) }
         ensures synced { IfOk result (λ log. synced_end log ≡ place_at config.config.segment_size (stable_place snapshot.now.stable_lsn) snapshot.now.active_segment + offset_at config.config.segment_size (stable_place snapshot.now.stable_lsn) snapshot.now.active_segment) }

@@ -5,12 +5,7 @@ use Rattle.std.proofs.lemmas.List.Elements.{All-tail, All-weaker, All-append, Al
 use Rattle.sled_codec.specs.History.{Message}
 use Rattle.sled_codec.specs.WellFormed.{LieApart}
 use Rattle.sled_log.specs.Recovery.{IsSublist}
-pub use Rattle.sled_core.proofs.Elements.{in_first, in_rest, in_cases, in_nothing, in_filter, from_filter, all_from_in}
-
--- where no element passes, none is kept
-pub none_kept : {X : Type 0} (p : X → Bool) (xs : List X) → All (λ x. p x ≡ false) xs → filter p xs ≡ []
-none_kept p [] fail = refl
-none_kept p (x ∷ xs) fail = ap (λ (b : Bool). cond b (x ∷ filter p xs) (filter p xs)) (fail 0 x (omega arith)) ∙ none_kept p xs (All-tail (λ y. p y ≡ false) x xs fail)
+pub use Rattle.sled_core.proofs.Elements.{in_first, in_rest, in_cases, in_nothing, in_filter, from_filter, none_kept, all_from_in}
 
 -- Sublists.
 

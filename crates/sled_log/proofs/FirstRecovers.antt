@@ -15,6 +15,7 @@ use Rattle.sled_core.specs.declared.met.Segment.{Segment}
 use Rattle.sled_core.specs.Scan.{Readable, IsFoundSegment}
 use Rattle.sled_core.specs.LogFile.{IsEmpty}
 use Rattle.sled_core.specs.Recoverable.{IsUnbegun, IsBegun, IsInFirstSegment, IsRecoverableInFirst, first_site, first_cut}
+use Rattle.sled_core.proofs.FirstBegun.{first_cut_within, own_of}
 use Rattle.sled_log.specs.Orderly.{IsOrderly}
 use Rattle.sled_log.specs.Recovery.{Conclusion, Recovered, Applied, applied, table_of, unchanged, concluded, cut_of, tip_of, is_beyond, has_no_table, are_whole, least_place, ContinuesFrom, Recovers}
 use Rattle.sled_log.proofs.FirstConclusion.{first_active, GoesOnIn, ConcludesIn}
@@ -29,13 +30,6 @@ use Rattle.sled_log.proofs.Ascending.{in_nothing, none_kept}
 -- what recovery reads of a content: the log file, and no blobs
 abbrev pub log_read : Content → Readable
 log_read content = record { log = content.log; blobs = λ _. None }
-
--- the cut lies at the offset or behind it, and in the segment
-pub cut_bounds : (size stop : ℕ) → stop ≤ size → (stop ≤ first_cut size stop) × (first_cut size stop ≤ size)
-cut_bounds size stop inside = by (nat_lt size (stop + 32)) where
-  by : (b : Bool) → (stop ≤ (if b then size else stop)) × ((if b then size else stop) ≤ size)
-  by true = (inside, omega arith)
-  by false = (omega arith, inside)
 
 -- the cut and the active slot, by whether the segment is filled
 abbrev cut_by : ℕ → ℕ → Bool → ℕ × Option ℕ
@@ -55,7 +49,7 @@ cut_is size stop s place slot = test ∙ cut_parts size stop (nat_lt size (stop 
       λ i. if nat_lt (full i) (at i + 32) then (full i, None) else (at i, Some (slot i))
 
 -- The first segment stands.
-module _ (sum : List ℕ → ℕ) (size : ℕ) (content : Content) (H : History) (A : ℕ) (first : Shot) (some : 256 ≤ size) (in_first : IsInFirstSegment sum size content H A first)
+module _ (sum : List ℕ → ℕ) (size : ℕ) (content : Content) (H : History) (A : ℕ) (first : Shot) (some : 256 ≤ size) (small : size < 2 ^ 63) (in_first : IsInFirstSegment sum size content H A first)
     (begun : IsBegun sum size content.log H A (stable_place first.stable)) where
   pub begun_only : IsOnlySegment sum size content.log first_site begun.stop begun.own
   begun_only = record {
@@ -74,16 +68,9 @@ module _ (sum : List ℕ → ℕ) (size : ℕ) (content : Content) (H : History)
   abbrev cut : ℕ
   cut = first_cut size begun.stop
 
-  -- a message is one that stands there, or comes later
-  pub own_or_later : (m : Message) → Contains H.messages m → m.place < cut → Contains begun.own m
-  own_or_later m there lt = by (Contains-append_cases begun.own begun.beyond m (subst (λ (l : List Message). Contains l m) begun.messages there)) where
-    by : Contains begun.own m ⊎ Contains begun.beyond m → Contains begun.own m
-    by (inl own) = own
-    by (inr later) = absurd (let le = All-contains (λ x. cut ≤ x.place) begun.beyond m begun.later later in omega (arith, le, lt))
-
   -- those that stand there lie below the cut, and the cut splits none
   bounds : (begun.stop ≤ cut) × (cut ≤ size)
-  bounds = cut_bounds size begun.stop begun.inside
+  bounds = first_cut_within size begun.stop begun.inside
 
   under_cut : All (λ m. (m.place < cut) × (m.place + m.size ≤ cut)) begun.own
   under_cut = All-weaker (λ m. (m.place < 0 + begun.stop) × (m.place + m.size ≤ 0 + begun.stop)) (λ m. (m.place < cut) × (m.place + m.size ≤ cut)) (λ m b. (omega (arith, b.0, bounds), omega (arith, b.1, bounds))) begun.own (own_below sum size content.log first_site begun.stop begun.own begun_only)
@@ -91,7 +78,7 @@ module _ (sum : List ℕ → ℕ) (size : ℕ) (content : Content) (H : History)
   pub fits_cut : CutFits H cut
   fits_cut = record {
     batches = λ b there lt. absurd (in_nothing b (subst (λ (l : List Batch). Contains l b) in_first.batches there));
-    messages = λ m there lt. (All-contains (λ x. (x.place < cut) × (x.place + x.size ≤ cut)) begun.own m under_cut (own_or_later m there lt)).1;
+    messages = λ m there lt. (All-contains (λ x. (x.place < cut) × (x.place + x.size ≤ cut)) begun.own m under_cut (own_of sum size content H A first small in_first.batches in_first.short begun m there lt)).1;
   }
 
   -- the messages from a place up to the cut
@@ -146,7 +133,7 @@ module _ (sum : List ℕ → ℕ) (size : ℕ) (content : Content) (H : History)
         }
 
 -- What is found from the place of the snapshot on.
-module _ (sum : List ℕ → ℕ) (size : ℕ) (content : Content) (H : History) (A : ℕ) (first : Shot) (some : 256 ≤ size) (in_first : IsInFirstSegment sum size content H A first) where
+module _ (sum : List ℕ → ℕ) (size : ℕ) (content : Content) (H : History) (A : ℕ) (first : Shot) (some : 256 ≤ size) (small : size < 2 ^ 63) (in_first : IsInFirstSegment sum size content H A first) where
   -- no segment is found there
   abbrev pub NoneFrom : Type 0
   NoneFrom = (s : Segment) → IsFoundSegment sum size content.log (least_place size first) s → ⊥
@@ -159,7 +146,7 @@ module _ (sum : List ℕ → ℕ) (size : ℕ) (content : Content) (H : History)
   pub behind_none : (begun : IsBegun sum size content.log H A (stable_place first.stable)) → stable_place first.stable ≡ size → NoneFrom
   behind_none begun at =
       let whole : least_place size first ≡ size = ap (λ n. n / size * size) at ∙ ap (λ n. n * size) (div_self (omega (arith, some))) ∙ omega arith in
-      none_above sum size content.log first_site begun.stop begun.own (begun_only sum size content H A first some in_first begun) (least_place size first) (omega (arith, whole, some))
+      none_above sum size content.log first_site begun.stop begun.own (begun_only sum size content H A first some small in_first begun) (least_place size first) (omega (arith, whole, some))
 
   -- where it ends within the first segment, recovery begins there
   pub least_first : stable_place first.stable < size → least_place size first ≡ 0
@@ -175,16 +162,16 @@ concludes_in sum size content H A f some small orderly in_first x recovers = by 
   table : IsTable in_first.first.pages H (stable_place in_first.first.stable)
   table = (first_is_table sum size content.snapshots H f in_first.first in_first.snapshots).0
 
-  stays : NoneFrom sum size content H A in_first.first some in_first.segment → x ≡ unchanged in_first.first
+  stays : NoneFrom sum size content H A in_first.first some small in_first.segment → x ≡ unchanged in_first.first
   stays none = stays_at sum size (log_read content) in_first.first (λ s found. absurd (none s found)) x on
 
   by : IsUnbegun sum size content.log A (stable_place in_first.first.stable) ⊎ IsBegun sum size content.log H A (stable_place in_first.first.stable) → ConcludesIn sum size content H A in_first.first x
-  by (inl unbegun) = inl (record { is = stays (unbegun_none sum size content H A in_first.first some in_first.segment unbegun); why = inl unbegun })
+  by (inl unbegun) = inl (record { is = stays (unbegun_none sum size content H A in_first.first some small in_first.segment unbegun); why = inl unbegun })
   by (inr begun) = elim (cases_lt (stable_place in_first.first.stable) size) [
-    | inl within ↦ inr (goes_on sum size content H A in_first.first some in_first.segment begun (least_first sum size content H A in_first.first some in_first.segment within) orderly.formed table x on)
+    | inl within ↦ inr (goes_on sum size content H A in_first.first some small in_first.segment begun (least_first sum size content H A in_first.first some small in_first.segment within) orderly.formed table x on)
     | inr above ↦ (
-        let bounds = cut_bounds size begun.stop begun.inside in
+        let bounds = first_cut_within size begun.stop begun.inside in
         let low = begun.not_below in
         let at : stable_place in_first.first.stable ≡ size = omega (arith, above, low, bounds) in
-        inl (record { is = stays (behind_none sum size content H A in_first.first some in_first.segment begun at); why = inr (begun, at) }))
+        inl (record { is = stays (behind_none sum size content H A in_first.first some small in_first.segment begun at); why = inr (begun, at) }))
   ]

@@ -4,9 +4,9 @@ use Rattle.sled_codec.specs.History.{History, CutFits}
 use Rattle.sled_codec.specs.PageTables.{IsTable}
 use Rattle.sled_codec.specs.Snapshots.{Shot}
 use Rattle.sled_store.specs.SnapshotFiles.{stable_place, empty_shot, BeginsFrom, IsDamagedSnapshot}
+use Rattle.sled_store.proofs.Trailers.{one_snapshot}
 use Rattle.sled_core.specs.Recoverable.{AreRecoverableSnapshots}
 use Rattle.sled_log.proofs.TableCuts.{no_pages_at_first}
-use Rattle.sled_store.proofs.Trailers.{one_snapshot}
 
 -- the table below the place of a snapshot, and that place is a cut
 abbrev pub IsTableShot : History → Shot → Type 0

@@ -13,15 +13,14 @@ use Rattle.sled_store.specs.SnapshotFiles.{stable_place}
 use Rattle.sled_core.specs.Good.{ReadsAt, Reads, IsGood}
 use Rattle.sled_core.specs.LogFile.{StandIn}
 use Rattle.sled_core.specs.Recoverable.{IsUnbegun, IsBegun, IsRecoverableInFirst, first_site, first_cut}
+use Rattle.sled_core.proofs.FirstBegun.{first_cut_within, own_of}
 use Rattle.sled_core.proofs.GivesLemmas.{StandsWhole, own_stands}
 use Rattle.sled_core.proofs.LogFileLemmas.{stand_kept}
+use Rattle.sled_core.proofs.TableEntries.{from_table}
 use Rattle.sled_log.specs.Orderly.{IsOrderly}
 use Rattle.sled_log.specs.Recovery.{Conclusion, tip_of}
-use Rattle.sled_log.proofs.Ascending.{Ascends, apart_ascends}
 use Rattle.sled_log.proofs.FirstConclusion.{first_active, ConcludesIn}
-use Rattle.sled_log.proofs.FirstRecovers.{cut_bounds, own_or_later}
 use Rattle.sled_log.proofs.FirstSnapshot.{first_is_table}
-use Rattle.sled_log.proofs.TableParts.{from_table}
 
 -- the table below a cut, where that is the place of the snapshot
 good_at : (sum : List ℕ → ℕ) (size : ℕ) (content : Content) (H : History) (A f : ℕ) (s : Shot) (cut : ℕ) → stable_place s.stable ≡ cut → CutFits H cut → A ≤ cut → f ≤ cut
@@ -92,25 +91,22 @@ module _ (sum : List ℕ → ℕ) (size : ℕ) (old : Content) (H : History) (A 
   stand_left log x (inr on) left = stand_zeros log on.begun (subst (IsLeftBy old.log log) on.tip left)
 
 -- What was concluded is good for each content in whose log they stand.
-module _ (sum : List ℕ → ℕ) (size : ℕ) (old content : Content) (H : History) (A f : ℕ) (some : 256 ≤ size) (orderly : IsOrderly H) (in_first : IsRecoverableInFirst sum size old H A f) where
+module _ (sum : List ℕ → ℕ) (size : ℕ) (old content : Content) (H : History) (A f : ℕ) (small : size < 2 ^ 63) (in_first : IsRecoverableInFirst sum size old H A f) where
   abbrev first : Shot
   first = in_first.first
-
-  ordered : Ascends H.messages
-  ordered = apart_ascends H.messages orderly.formed.apart
 
   -- each entry of a table up to the cut reads its own bytes
   reads_below : (begun : Begun sum size old H A first) → Stand sum size old H A first content.log begun → (cut : ℕ) → cut ≤ first_cut size begun.stop → (page : ℕ) (m : Message) → Contains (table H cut page) m → Reads sum size content m
   reads_below begun stand cut le page m there =
-      let found = from_table H cut page m ordered there in
+      let found = from_table H cut page m there in
       let below = found.2 in
-      let own : Contains begun.own m = own_or_later sum size old H A first some in_first.segment begun m found.0 (omega (arith, below, le)) in
+      let own : Contains begun.own m = own_of sum size old H A first small in_first.segment.batches in_first.segment.short begun m found.0 (omega (arith, below, le)) in
       reads_own sum size content m (All-contains (StandsWhole sum size content.log) begun.own m (own_stands sum size content.log first_site 20 begun.own begun.stop (omega arith) stand) own)
 
   -- the snapshot itself, where it stays
   reads_first : (why : Why sum size old H A first) → StandWhere sum size old H A first content.log why → (page : ℕ) (m : Message) → Contains (table H (stable_place first.stable) page) m → Reads sum size content m
   reads_first (inl unbegun) stand page m there =
-      let below = (from_table H (stable_place first.stable) page m ordered there).2 in
+      let below = (from_table H (stable_place first.stable) page m there).2 in
       absurd (omega (arith, below, unbegun.at_first))
   reads_first (inr (begun, at)) stand page m there = reads_below begun stand (stable_place first.stable) begun.not_below page m there
 
@@ -118,7 +114,7 @@ module _ (sum : List ℕ → ℕ) (size : ℕ) (old content : Content) (H : Hist
   passes_first (inl unbegun) = omega (arith, unbegun.nothing)
   passes_first (inr (begun, at)) =
       let le = begun.passes in
-      let bounds = cut_bounds size begun.stop begun.inside in
+      let bounds = first_cut_within size begun.stop begun.inside in
       omega (arith, at, le, bounds)
 
   pub good_after : (x : Conclusion) (is : ConcludesIn sum size old H A first x) → StandAfter sum size old H A first content.log x is → IsGood sum size content H A f x.shot
@@ -137,9 +133,9 @@ module _ (sum : List ℕ → ℕ) (size : ℕ) (old content : Content) (H : Hist
 -- It is good for the content that recovery read.
 pub good_in : (sum : List ℕ → ℕ) (size : ℕ) (content : Content) (H : History) (A f : ℕ) → 256 ≤ size → size < 2 ^ 63 → IsOrderly H → (in_first : IsRecoverableInFirst sum size content H A f)
     → (x : Conclusion) → ConcludesIn sum size content H A in_first.first x → IsGood sum size content H A f x.shot
-good_in sum size content H A f some small orderly in_first x is = good_after sum size content content H A f some orderly in_first x is (stand_read sum size content H A in_first.first x is)
+good_in sum size content H A f some small orderly in_first x is = good_after sum size content content H A f small in_first x is (stand_read sum size content H A in_first.first x is)
 
 -- And for the one that is left once it is written back.
 pub good_written : (sum : List ℕ → ℕ) (size : ℕ) (old content : Content) (H : History) (A f : ℕ) → 256 ≤ size → size < 2 ^ 63 → IsOrderly H → (in_first : IsRecoverableInFirst sum size old H A f)
     → (x : Conclusion) → ConcludesIn sum size old H A in_first.first x → IsLeftBy old.log content.log x.tip → IsGood sum size content H A f x.shot
-good_written sum size old content H A f some small orderly in_first x is left = good_after sum size old content H A f some orderly in_first x is (stand_left sum size old H A in_first.first content.log x is left)
+good_written sum size old content H A f some small orderly in_first x is left = good_after sum size old content H A f small in_first x is (stand_left sum size old H A in_first.first content.log x is left)

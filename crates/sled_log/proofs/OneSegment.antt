@@ -9,7 +9,7 @@ use Rattle.sled_core.specs.declared.met.Met.{Met}
 use Rattle.sled_core.specs.declared.met.Segment.{Segment}
 use Rattle.sled_core.specs.Scan.{Readable, IsMet, IsPath}
 use Rattle.sled_core.specs.LogFile.{StandIn}
-use Rattle.sled_core.proofs.PathLemmas.{met_of, met_is, IsEmpty}
+use Rattle.sled_core.proofs.PathLemmas.{met_of, met_is, none_met, IsEmpty}
 use Rattle.sled_log.specs.Recovery.{is_ascending, Applied, applied, given, before_open, open_at}
 use Rattle.sled_log.proofs.FindLemmas.{not_in_none}
 pub use Rattle.sled_core.proofs.StandLemmas.{none_open}
@@ -40,15 +40,11 @@ all_before end (m ∷ ms) = ap (λ (l : List Met). met_of m ∷ l) (all_before e
 
 -- on a path of their records no batch begins
 module _ (sum : List ℕ → ℕ) (size : ℕ) (r : Readable) (site : Site) (end : ℕ) (empty : end + 32 ≤ size → IsEmpty sum size r.log (site.slot + end) (site.place / size)) where
-  none_met : (x : Met) → end + 32 ≤ size → IsMet sum size r (site.slot + end) (site.place / size) x → ⊥
-  unfolding IsMet
-  none_met x room met = empty room met.0 met.1 x.len met.2
-
   pub path_closed : (tail at : ℕ) (ms : List Message) (met : List Met) (stop : ℕ) → StandIn sum size r.log site at ms end → IsPath sum size r site.slot site.place at met stop → open_at tail met ≡ None
   path_closed tail at ms [] stop stand path = refl
   path_closed tail at [] (x ∷ met) stop stand path =
       let here : at ≡ end = sym stand in
-      absurd (none_met x (subst (λ n. n + 32 ≤ size) here path.0) (subst (λ n. IsMet sum size r (site.slot + n) (site.place / size) x) here path.2))
+      absurd (none_met sum size r site end empty x (subst (λ n. n + 32 ≤ size) here path.0) (subst (λ n. IsMet sum size r (site.slot + n) (site.place / size) x) here path.2))
   path_closed tail at (m ∷ ms) (x ∷ met) stop stand path =
       let is : x ≡ met_of m = met_is sum size r (site.slot + at) (site.place / size) m stand.3 stand.2 x (path.1 ∙ sym stand.1) path.2 in
       let len : at + x.len ≡ at + m.size = ap (λ (y : Met). at + y.len) is in

@@ -18,8 +18,8 @@ use Rattle.sled_log.specs.Recovery.{Scanned, IsScanned, IsOrdering, IsTail, Goes
 use Rattle.sled_log.proofs.BeginLemmas.{one_begin}
 use Rattle.sled_log.proofs.RecoveryLemmas.{one_outcome}
 use Rattle.sled_log.proofs.FindLemmas.{not_in_none, only_in}
-use Rattle.sled_log.proofs.PassedLemmas.{passed_whole}
 use Rattle.sled_log.proofs.OneSegment.{path_closed, given_messages, none_open, all_before, only_one, no_element}
+use Rattle.sled_log.proofs.PassedLemmas.{passed_whole}
 use Rattle.sled_log.proofs.OnlySegment.{IsOnlySegment, segment, long, own_below, found_from, found_is}
 
 abbrev conclusion_in : Outcome → Conclusion → Conclusion
@@ -122,6 +122,10 @@ module _ (sum : List ℕ → ℕ) (size : ℕ) (r : Readable) (site : Site) (end
       let closed = path_closed sum size r site end only.empty (site.place + end) 20 own p.met p.stop only.stand path in
       (closed, passed_whole sum size r (site.place + end) p passed closed)
 
+  no_more : (ps : List Scanned) → ArePassed sum size r (site.place + end) [] ps → ps ≡ []
+  no_more [] on = refl
+  no_more (p ∷ ps) on = absurd on
+
   pub passes_are : (passes : List Scanned) → ArePassed sum size r (site.place + end) (found ∷ []) passes → outcome_of size first (site.place + end) passes ≡ comes
   passes_are [] are = absurd are
   passes_are (p ∷ ps) are =
@@ -129,10 +133,6 @@ module _ (sum : List ℕ → ℕ) (size : ℕ) (r : Readable) (site : Site) (end
       let alone : ps ≡ [] = no_more ps (subst (λ o. StopsOrGoesOn o ps (ArePassed sum size r (site.place + end) [] ps)) whole.0 are.2) in
       ap (λ (l : List Scanned). outcome_of size first (site.place + end) (p ∷ l)) alone
       ∙ ap (λ (x : Scanned). outcome_of size first (site.place + end) (x ∷ [])) (scanned_is p are.0 whole.1).0 ∙ pass_is p.why
-    where
-      no_more : (xs : List Scanned) → ArePassed sum size r (site.place + end) [] xs → xs ≡ []
-      no_more [] on = refl
-      no_more (x ∷ xs) on = absurd on
 
   pub below_end : begun_below (site.place + end) (found ∷ []) ≡ found ∷ []
   below_end =

@@ -4,7 +4,7 @@ use Rattle.std.specs.List.{Contains, filter}
 use Rattle.std.proofs.lemmas.Bool.{and_from}
 use Rattle.std.proofs.lemmas.List.Elements.{Contains-append_left, Contains-append_right}
 use Rattle.sled_codec.specs.declared.serialization.message.LogKind.TheVariants as does
-use Rattle.sled_codec.specs.History.{Message, History, is_replace, is_link, last_beginning, entries_from, page_state, of_page, table, HasPage}
+use Rattle.sled_codec.specs.History.{Message, History, is_replace, is_link, last_beginning, entries_from, page_state, of_page, HasPage}
 use Rattle.sled_codec.specs.WellFormed.{HasReplace}
 pub use Rattle.sled_core.proofs.TableEntries.{from_page, state_from, from_table}
 use Rattle.sled_log.proofs.Ascending.{in_first, in_cases, in_nothing, in_filter, Ascends, later_above, filter_ascends}
@@ -24,11 +24,6 @@ page_ascends ms cut page order = filter_ascends (λ x. (x.page == page) && nat_l
 pub last_in_state : (ms : List Message) (b : Message) → last_beginning ms ≡ Some b → Contains (page_state ms) b
 unfolding page_state
 last_in_state ms b is = subst (λ (o : Option Message). Contains (entries_from o ms) b) (sym is) (in_first b (if is_replace b.kind then filter (λ x. is_link x.kind && nat_lt b.place x.place) ms else []))
-
--- a message of a table is one of the history, of that page and below the cut
-pub from_table : (H : History) (cut page : ℕ) (m : Message) → Ascends H.messages → Contains (table H cut page) m → Contains H.messages m × (m.page ≡ page) × (m.place < cut)
-unfolding table
-from_table H cut page m order there = from_page H.messages cut page m (state_from (of_page H.messages cut page) (page_ascends H.messages cut page order) m there)
 
 -- Pages.
 

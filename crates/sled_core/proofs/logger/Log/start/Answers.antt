@@ -115,11 +115,11 @@ not_refused startable in_reach e before after can reach corrupt answers = (
 
 pub returns-in-Err-clause-starts : goal.returns-in-Err-clause-starts
 unfolding Ready
-returns-in-Err-clause-starts g c = λ H A f ready room.
+returns-in-Err-clause-starts g c = λ H A f ready.
     let size : ℕ = c.args.config.config.segment_size in
     let old : State = state_of (g.D.Device.trace c.args.config.device) in
     let s : Shot = shot_of c.args.snapshot.now in
     let long = c.args.config.config.least in
     let most = c.args.config.config.most in
     not_refused (IsStartable size (length old.log.bytes) s) (IsInReach size (length old.log.bytes) s) c.in-Err.e (g.D.Device.faults c.args.config.device) (g.D.Device.faults c.begin.new.config.device)
-    (ready_starts g.C.Checksum.sum_of size old s H A f long most ready room) (ready_in_reach g.C.Checksum.sum_of size old s H A f long most ready) c.in-Err.ensures.corrupt c.in-Err.ensures.answers
+    (ready_starts g.C.Checksum.sum_of size old s H A f long most ready) (ready_in_reach g.C.Checksum.sum_of size old s H A f long most ready) c.in-Err.ensures.corrupt c.in-Err.ensures.answers
