@@ -1,9 +1,8 @@
 -- A log fits its history at each moment of a flush, and behind it with all that was written for what was acknowledged.
-use Rattle.std.proofs.Common.{◌≡◌, ◌≤◌, ◌<◌, ◌+◌, ◌^◌, ◌∙◌, ℕ, max, true, List, [], ◌∷◌, length, drop, Option, None, Some, ap, sym, refl, subst, arith, length-drop, inl, inr}
+use Rattle.std.proofs.Common.{◌≡◌, ◌≤◌, ◌<◌, ◌+◌, ◌^◌, ◌∙◌, ℕ, true, List, [], ◌∷◌, length, drop, Option, None, Some, ap, sym, refl, subst, arith, length-drop, inl, inr}
 use Rattle.std.specs.declared.io.Error.{Error as IoError}
 use Rattle.sled_codec.specs.History.{Message, History}
-use Rattle.sled_store.specs.Device.{Event, Trace, NamesState, State, Content, Wrote, Synced, Leaves, LeavesName, state_of, step, overwritten}
-use Rattle.sled_store.specs.Answers.{Tears}
+use Rattle.sled_store.specs.Device.{Event, Trace, NamesState, State, Wrote, Synced, LeavesName, state_of, step, overwritten}
 use Rattle.sled_store.specs.Moments.{Throughout}
 use Rattle.sled_store.specs.Script.{Performs, Along, after_all}
 use Rattle.sled_store.proofs.LooseLemmas.{end_of-le}
@@ -15,7 +14,7 @@ use Rattle.sled_core.specs.declared.iobuf.Site.{Site}
 use Rattle.sled_core.specs.declared.logger.Log.{Log}
 use Rattle.sled_core.specs.Buffers.{all_ended}
 use Rattle.sled_core.specs.Fits.{HoldsIn, AllEnded, fault_of, device_of, segment_size_of}
-use Rattle.sled_core.specs.Recoverable.{NoForeign, LeavesRecoverable, first_site}
+use Rattle.sled_core.specs.Recoverable.{LeavesRecoverable, first_site}
 use Rattle.sled_core.specs.Running.{FitsIn, Fits, NamesFit}
 use Rattle.sled_core.proofs.CrashLemmas.{write_recoverable}
 use Rattle.sled_core.proofs.FirstSegment.{recoverable_in_first}
