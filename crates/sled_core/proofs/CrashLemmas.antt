@@ -1,5 +1,6 @@
 -- What a crash leaves while the write of a flush is not settled yet can be recovered: of its records the first ones came, or the segment was not begun.
 use Rattle.std.proofs.Common.{◌≡◌, ◌≤◌, ◌<◌, ◌+◌, ◌/◌, ◌^◌, ◌∙◌, ℕ, max, true, pos, List, ◌++◌, length, take, drop, replicate, Option, None, ap, sym, subst, arith, inl, inr, append_assoc, length-drop}
+use Rattle.std.specs.List.{All}
 use Rattle.std.specs.declared.io.Error.{Error as IoError}
 use Rattle.std.proofs.Math.Nat.{zero-div}
 use Rattle.std.proofs.lemmas.List.{take-append-drop}
@@ -16,7 +17,7 @@ use Rattle.sled_core.specs.Buffers.{completed_in, all_ended}
 use Rattle.sled_core.specs.Scan.{IsFoundSegment}
 use Rattle.sled_core.specs.LogFile.{StandIn, HasHeader, IsEmpty, IsLogFile}
 use Rattle.sled_core.specs.Fits.{HoldsIn}
-use Rattle.sled_core.specs.Recoverable.{NoForeign, IsUnbegun, IsBegun, IsInFirstSegment, IsRecoverableInFirst, first_site}
+use Rattle.sled_core.specs.Recoverable.{NoForeign, IsUnbegun, IsBegun, IsInFirstSegment, IsRecoverableInFirst, first_site, first_cut}
 use Rattle.sled_core.specs.Running.{FitsIn, CanBegin}
 use Rattle.sled_core.proofs.LogFileLemmas.{stand_rest, stand_above}
 use Rattle.sled_core.proofs.FlushLemmas.{all_stand, grown}
@@ -79,33 +80,53 @@ module _ (sum : List ℕ → ℕ) (size : ℕ) (device : State) (fault : Option 
         let at : first_site.slot + end ≡ end = omega arith in
         subst (λ n. IsEmpty sum size left.log n 0) at (subst (λ n. IsEmpty sum size left.log (first_site.slot + end) n) (zero-div size) none)
 
-    -- Its header came: the messages that stood, and the first of those that were written, and none behind them.
-    begun_left : HasHeader sum left.log first_site → IsBegun sum size left.log H A (stable_place can.first.stable)
-    begun_left has =
-        let up : StandsUpTo sum size left.log first_site 20 file.own (max 20 from) more (length bytes) =
-        flush_stand sum size first_site old bytes from rs holds.earlier file begun some_written short holds.slot_begins in_reach in_reach holds.header holds.chain holds.stand holds.room ended now left.log no_more log_leaves log_own has in
-        let parts : file.own ++ more ≡ (file.own ++ take up.count more) ++ drop up.count more =
-        ap (λ (ms : List Message). file.own ++ ms) (sym (take-append-drop up.count more)) ∙ sym (append_assoc file.own (take up.count more) (drop up.count more)) in
-        let rest : StandIn sum size (overwritten old (first_site.slot + from) asked) first_site up.end (drop up.count more) (max 20 (length bytes)) =
-        stand_rest sum size (overwritten old (first_site.slot + from) asked) left.log first_site 20 (file.own ++ take up.count more) up.end (drop up.count more) (max 20 (length bytes)) up.stand
-        (subst (λ (ms : List Message). StandIn sum size (overwritten old (first_site.slot + from) asked) first_site 20 ms (max 20 (length bytes))) parts whole_stand) in
-        let above = stand_above sum size (overwritten old (first_site.slot + from) asked) first_site up.end (drop up.count more) (max 20 (length bytes)) rest in
-        let no_less = up.no_less in let no_further = up.no_further in
-        let inside : up.end ≤ size = omega (arith, no_further, short) in
-        let cut = first_cut_least size up.end inside in
-        record {
-          own = file.own ++ take up.count more;
-          beyond = drop up.count more;
-          stop = up.end;
-          messages = messages_are ∙ parts;
-          header = has;
-          stand = up.stand;
-          empty = λ room. empty_first up.end (up.empty room);
-          inside = inside;
-          later = λ k d lt. let there = above k d lt in let is = first_cut_with_room size up.end there.1 in omega (arith, is, there.0);
-          not_below = let reached = can.not_above in omega (arith, reached, no_less, cut);
-          passes = omega (arith, fits.passes, no_less, cut);
-        }
+    -- Its header came.
+    module _ (has : HasHeader sum left.log first_site) where
+      up : StandsUpTo sum size left.log first_site 20 file.own (max 20 from) more (length bytes)
+      up = flush_stand sum size first_site old bytes from rs holds.earlier file begun some_written short holds.slot_begins in_reach in_reach holds.header holds.chain holds.stand holds.room ended now left.log no_more log_leaves log_own has
+
+      -- the messages that stand, and those that did not come
+      abbrev came : List Message
+      came = file.own ++ take up.count more
+
+      abbrev beyond : List Message
+      beyond = drop up.count more
+
+      parts : file.own ++ more ≡ came ++ beyond
+      parts = ap (λ (ms : List Message). file.own ++ ms) (sym (take-append-drop up.count more)) ∙ sym (append_assoc file.own (take up.count more) beyond)
+
+      -- these would stand behind those
+      beyond_stand : StandIn sum size (overwritten old (first_site.slot + from) asked) first_site up.end beyond (max 20 (length bytes))
+      beyond_stand =
+          stand_rest sum size (overwritten old (first_site.slot + from) asked) left.log first_site 20 came up.end beyond (max 20 (length bytes)) up.stand
+          (subst (λ (ms : List Message). StandIn sum size (overwritten old (first_site.slot + from) asked) first_site 20 ms (max 20 (length bytes))) parts whole_stand)
+
+      inside : up.end ≤ size
+      inside = let no_further = up.no_further in omega (arith, no_further, short)
+
+      -- what was written before lies below the cut
+      from_cut : from ≤ first_cut size up.end
+      from_cut = let no_less = up.no_less in omega (arith, no_less, first_cut_least size up.end inside)
+
+      beyond_later : All (λ m. first_cut size up.end ≤ m.place) beyond
+      beyond_later k d lt =
+          let above = stand_above sum size (overwritten old (first_site.slot + from) asked) first_site up.end beyond (max 20 (length bytes)) beyond_stand k d lt in
+          omega (arith, first_cut_with_room size up.end above.1, above.0)
+
+      begun_left : IsBegun sum size left.log H A (stable_place can.first.stable)
+      begun_left = record {
+        own = came;
+        beyond = beyond;
+        stop = up.end;
+        messages = messages_are ∙ parts;
+        header = has;
+        stand = up.stand;
+        empty = λ room. empty_first up.end (up.empty room);
+        inside = inside;
+        later = beyond_later;
+        not_below = let reached = can.not_above in omega (arith, reached, from_cut);
+        passes = omega (arith, fits.passes, from_cut);
+      }
 
     -- The segment begins with this write, and its header did not come.
     unbegun_left : from ≡ 0 → ((y : Segment) → IsFoundSegment sum size left.log 0 y → IsFoundSegment sum size old 0 y × (part old y.slot 20 ≡ part left.log y.slot 20)) → IsUnbegun sum size left.log A (stable_place can.first.stable)
@@ -122,8 +143,17 @@ module _ (sum : List ℕ → ℕ) (size : ℕ) (device : State) (fault : Option 
 
     short_left : length left.log ≤ size
     short_left =
-        omega (arith, log_leaves.no_longer, ap (λ (l : LogState). length l.bytes) settled, fits.short whole, length-drop from bytes, short, no_more, some_written,
-          end_of-le (first_site.slot + from) (max (length asked) (length now)) (length asked) (omega (arith, no_more)))
+        omega (
+          arith,
+          log_leaves.no_longer,
+          ap (λ (l : LogState). length l.bytes) settled,
+          fits.short whole,
+          length-drop from bytes,
+          short,
+          no_more,
+          some_written,
+          end_of-le (first_site.slot + from) (max (length asked) (length now)) (length asked) (omega (arith, no_more)),
+        )
 
     in_first : IsInFirstSegment sum size left H A can.first
     in_first = record {

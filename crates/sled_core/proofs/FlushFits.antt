@@ -46,22 +46,22 @@ module _ (sum : List ℕ → ℕ) (size : ℕ) (site : Site) (device : State) (f
   }
 
   -- The same device and the same failure fit the same.
-  pub fits_moved : (after : State) (now : Option IoError) → after ≡ device → now ≡ fault → FitsIn sum size site after now bytes from rs pins H A f U
-  fits_moved after now d o = subst (λ (s : State). FitsIn sum size site s now bytes from rs pins H A f U) (sym d) (subst (λ (x : Option IoError). FitsIn sum size site device x bytes from rs pins H A f U) (sym o) fits)
+  pub fits_same_device : (after : State) (now : Option IoError) → after ≡ device → now ≡ fault → FitsIn sum size site after now bytes from rs pins H A f U
+  fits_same_device after now d o = subst (λ (s : State). FitsIn sum size site s now bytes from rs pins H A f U) (sym d) (subst (λ (x : Option IoError). FitsIn sum size site device x bytes from rs pins H A f U) (sym o) fits)
 
   -- A call that changed nothing of the device fits the same, whether or not the device failed in it.
   pub fits_answered : (size' : ℕ) (after : State) (now : Option IoError) → size' ≡ size → after ≡ device → fault ≡ None → FitsIn sum size' site after now bytes from rs pins H A f U
   fits_answered size' after now sizes same none =
       let here : FitsIn sum size site after now bytes from rs pins H A f U = elim (fault_or_none now) [
-        | inl is ↦ fits_moved after now same (is ∙ sym none)
+        | inl is ↦ fits_same_device after now same (is ∙ sym none)
         | inr is ↦ fits_faulty after is.0 now is.1 (ap (λ (s : State). s.blobs) same) (ap (λ (s : State). s.snapshots) same) (subst (λ (s : State). LeavesRecoverable sum size H from f s) (sym same) fits.left)
       ] in
       subst (λ n. FitsIn sum n site after now bytes from rs pins H A f U) (sym sizes) here
 
 -- The same bytes, from the same offset, and the same reservations fit the same.
-pub fits_same : (sum : List ℕ → ℕ) (size : ℕ) (site : Site) (device : State) (fault : Option IoError) (bytes bytes' : List ℕ) (from from' : ℕ) (rs rs' : List Reserved) (pins : ℕ) (H : History) (A f : ℕ) (U : List Message)
+pub fits_same_buffer : (sum : List ℕ → ℕ) (size : ℕ) (site : Site) (device : State) (fault : Option IoError) (bytes bytes' : List ℕ) (from from' : ℕ) (rs rs' : List Reserved) (pins : ℕ) (H : History) (A f : ℕ) (U : List Message)
     → bytes' ≡ bytes → from' ≡ from → rs' ≡ rs → FitsIn sum size site device fault bytes from rs pins H A f U → FitsIn sum size site device fault bytes' from' rs' pins H A f U
-fits_same sum size site device fault bytes bytes' from from' rs rs' pins H A f U b n r fits =
+fits_same_buffer sum size site device fault bytes bytes' from from' rs rs' pins H A f U b n r fits =
     subst (λ (l : List ℕ). FitsIn sum size site device fault l from' rs' pins H A f U) (sym b)
     (subst (λ k. FitsIn sum size site device fault bytes k rs' pins H A f U) (sym n)
     (subst (λ (l : List Reserved). FitsIn sum size site device fault bytes from l pins H A f U) (sym r) fits))
@@ -166,7 +166,7 @@ module _ {D C : Type 0} (trace : D → Trace) (sum : List ℕ → ℕ) (log : Lo
       let after : FitsIn sum size first_site (state_of (after_all (calls_at first_site) old)) None bytes (length bytes) [] log.pins H A' f U =
       fits_flushed sum size (state_of old) log.fault bytes log.buffer.from log.buffer.reserved.items log.pins H A f U in_first log.buffer.begun log.buffer.behind log.in_segment log.config.config.least small ended some whole A'
       (omega (arith, here, is_from)) in
-      fits_same sum size log.site (state_of new) log.fault bytes bytes' (length bytes) from' [] rs' log.pins H A' f U is_bytes is_from is_rs
+      fits_same_buffer sum size log.site (state_of new) log.fault bytes bytes' (length bytes) from' [] rs' log.pins H A' f U is_bytes is_from is_rs
       (subst (λ (o : Option IoError). FitsIn sum size log.site (state_of new) o bytes (length bytes) [] log.pins H A' f U) (sym whole)
       (subst (λ (t : Trace). FitsIn sum size log.site (state_of t) None bytes (length bytes) [] log.pins H A' f U) (sym came)
       (subst (λ (x : Site). FitsIn sum size x (state_of (after_all (calls_at x) old)) None bytes (length bytes) [] log.pins H A' f U) (sym is_first) after)))

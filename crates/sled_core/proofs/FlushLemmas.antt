@@ -161,9 +161,12 @@ module _ (sum : List ℕ → ℕ) (size : ℕ) (site : Site) (old bytes : List �
   ]
 
   -- What was completed stands behind what stood there.
+
+  -- the records of the segment
   pub all_stand : StandIn sum size new site 20 (file.own ++ completed_in site bytes rs) (max 20 (length bytes))
   all_stand = stand-append sum size new site 20 file.own (max 20 from) (completed_in site bytes rs) (max 20 (length bytes)) own_stand completed_stand
 
+  -- the log file
   pub file_written : IsLogFile sum size new site (length bytes) (earlier ++ completed_in site bytes rs)
   file_written = record {
     older = file.older;

@@ -219,7 +219,8 @@ impl<D: Device, C: Checksum> Log<D, C> {
     }
 
     /// Writes what was completed and settles it on the device, and answers by how much the stable end
-    /// grew. Where nothing was reserved since the last write it does nothing.
+    /// grew. Where nothing was reserved since the last write it does nothing. What a crash leaves at any
+    /// moment of it can be recovered.
     pub fn flush(&mut self) -> Result<usize>
         requires { AllEnded self.old }
         ensures answer { IfOk result (λ n. synced_end self.new ≡ synced_end self.old + n) }

@@ -2,7 +2,7 @@ use Rattle.std.proofs.Common.{◌≡◌, ◌∙◌, ◌<◌, ◌+◌, ℕ, ap, s
 use Rattle.sled_store.specs.Device.{Trace, NamesState, state_of}
 use Rattle.sled_store.proofs.MomentLemmas.{started, at_last}
 use Rattle.sled_core.specs.Running.{Fits}
-use Rattle.sled_core.proofs.FlushFits.{fits_faulty, fits_moved, flush_crash, flush_left, fits_written, flush_names}
+use Rattle.sled_core.proofs.FlushFits.{fits_faulty, fits_same_device, flush_crash, flush_left, fits_written, flush_names}
 use Rattle.sled_core.specs.Fits.{Holds, IsKept, flushing, synced_end}
 use Rattle.sled_store.proofs.ScriptLemmas.{performs_nothing}
 use Rattle.sled_core.proofs.Parts.{none_there}
@@ -78,7 +78,7 @@ unfolding Fits
 returns-in-Err-clause-fits g c = λ H A f U fits.
     let names = flush_names _ _ _ _ c.write_out.ensures.calls in
     elim (memory_or_fault c.in-Err.e c.in-Err.ensures.error) [
-      | inl memory ↦ fits_moved g.C.Checksum.sum_of _ _ _ _ _ _ _ _ H A f U fits _ c.keep_fault.new.fault (ap state_of (c.in-Err.ensures.refused memory)) (c.keep_fault.ensures.memory memory ∙ sym c.in_default.is)
+      | inl memory ↦ fits_same_device g.C.Checksum.sum_of _ _ _ _ _ _ _ _ H A f U fits _ c.keep_fault.new.fault (ap state_of (c.in-Err.ensures.refused memory)) (c.keep_fault.ensures.memory memory ∙ sym c.in_default.is)
       | inr fault ↦ fits_faulty g.C.Checksum.sum_of _ _ _ _ _ _ _ _ H A f U fits _ c.in-Err.e c.keep_fault.new.fault (c.keep_fault.ensures.kept fault) names.0 names.1
           (at_last _ _ _ (flush_left g.D.Device.trace g.C.Checksum.sum_of c.args.self.now H A f U fits c.requires (search rules) c.in_default.is _ c.write_out.ensures.calls))
     ]
