@@ -1,5 +1,5 @@
 -- Where the messages of a log lie that fits its history: one behind another, below the next place, and, where nothing is left to be written, below the stable end.
-use Rattle.std.proofs.Common.{◌≡◌, ◌∙◌, ◌≤◌, ◌<◌, ◌+◌, ◌/◌, ℕ, zero, suc, max, true, false, if◌then◌else◌, List, [], ◌∷◌, ◌++◌, length, None, Option, refl, sym, ap, subst, arith}
+use Rattle.std.proofs.Common.{◌^◌, ◌≡◌, ◌∙◌, ◌≤◌, ◌<◌, ◌+◌, ◌/◌, ℕ, zero, suc, max, true, false, if◌then◌else◌, List, [], ◌∷◌, ◌++◌, length, None, Option, refl, sym, ap, subst, arith, pos}
 use Rattle.std.specs.List.{All}
 use Rattle.std.specs.declared.io.Error.{Error as IoError}
 use Rattle.sled_codec.specs.History.{Message, History}
@@ -8,9 +8,11 @@ use Rattle.sled_store.specs.Device.{Trace, State}
 use Rattle.sled_core.specs.declared.iobuf.Reserved.{Reserved}
 use Rattle.sled_core.specs.declared.iobuf.Site.{Site}
 use Rattle.sled_core.specs.declared.logger.Log.{Log}
+use Rattle.sled_core.specs.declared.reservation.Reservation.{Reservation}
+use Rattle.sled_core.specs.Tickets.{place_of, pointer_of}
 use Rattle.sled_core.specs.Buffers.{IsChain, completed_in, message_in}
 use Rattle.sled_core.specs.LogFile.{StandIn, StandsElsewhere}
-use Rattle.sled_core.specs.Fits.{HoldsIn, IsKept, next_place, fault_of}
+use Rattle.sled_core.specs.Fits.{HoldsIn, Holds, IsKept, Awaits, next_place, synced_end, fault_of}
 use Rattle.sled_core.specs.Recoverable.{first_site}
 use Rattle.sled_core.specs.Running.{Fits}
 use Rattle.sled_core.proofs.Ranges.{with_first, others, completed_between, chain_grows}
@@ -127,3 +129,22 @@ fits_reach trace sum log H A f U fits = reach_in sum log.config.config.segment_s
 pub fits_apart : {D C : Type 0} (trace : D → Trace) (sum : List ℕ → ℕ) (log : Log D C) (H : History) (A f : ℕ) (U : List Message) → Fits trace sum log H A f U → fault_of log ≡ None → LieApart H.messages
 unfolding Fits
 fits_apart trace sum log H A f U fits none = apart_in sum log.config.config.segment_size log.site _ log.fault log.buffer.bytes.items log.buffer.from log.buffer.reserved.items H fits.holds none fits.one_segment
+
+-- it holds the history
+pub fits_holds : {D C : Type 0} (trace : D → Trace) (sum : List ℕ → ℕ) (log : Log D C) (H : History) (A f : ℕ) (U : List Message) → Fits trace sum log H A f U → Holds trace sum log H
+unfolding Fits Holds
+fits_holds trace sum log H A f U fits = fits.holds
+
+-- what was acknowledged is written
+pub fits_acknowledged : {D C : Type 0} (trace : D → Trace) (sum : List ℕ → ℕ) (log : Log D C) (H : History) (A f : ℕ) (U : List Message) → Fits trace sum log H A f U → A ≤ synced_end log
+unfolding Fits
+fits_acknowledged trace sum log H A f U fits = let passes = fits.passes in omega (arith, passes)
+
+-- the place and the pointer of a ticket are those of its message
+pub awaited : {D C : Type 0} (log : Log D C) (ticket : Reservation) (m : Message) → Awaits log ticket m → (pos m.place ≡ place_of ticket) × (m.pointer ≡ pointer_of ticket)
+awaited log ticket m awaits =
+    (ap (λ (x : Message). pos x.place) awaits.message ∙ sym awaits.own.place, ap (λ (x : Message). x.pointer) awaits.message ∙ sym awaits.own.pointer)
+
+-- the next place is a place
+pub next_small : {D C : Type 0} (log : Log D C) → next_place log < 2 ^ 63
+next_small log = let inside = log.in_segment in let reach = log.place_in_reach in omega (arith, inside, reach)

@@ -1,8 +1,13 @@
 -- What holds at the joints of a run: the premise on what is read, at each of its parts; what a crash leaves; and one command more.
-use Rattle.std.proofs.Common.{◌≡◌, ◌⊎◌, ◌∙◌, ℕ, ℤ, Bool, true, false, if◌then◌else◌, IsTrue, List, [], ◌∷◌, ◌++◌, Option, None, Some, refl, sym, ap, subst, append_assoc, inl, inr}
+use Rattle.std.proofs.Common.{rules, ◌≡◌, ◌⊎◌, ◌∙◌, ◌<◌, ◌^◌, ℕ, ℤ, pos, Bool, true, false, if◌then◌else◌, IsTrue, List, [], ◌∷◌, ◌++◌, Option, None, Some, refl, sym, ap, subst, append_assoc, inl, inr}
+use Rattle.std.specs.Prelude.{FitsSigned}
+use Rattle.std.specs.Int.{w64, cast_signed, cast_unsigned}
+use Rattle.std.proofs.lemmas.Int.{to_z-of_z}
 use Rattle.sled_codec.specs.History.{History}
 use Rattle.sled_store.specs.declared.device.choice.Choice.{Choice}
 use Rattle.sled_store.specs.Device.{Event, Left, Trace, State, Content, Crashed, Settled, state_of, step, content_of, content_left, Leaves, names_at_rest}
+use Rattle.sled_store.specs.Script.{Performs, Along}
+use Rattle.sled_store.proofs.ScriptLemmas.{performs_throughout}
 use Rattle.sled_store.specs.Chosen.{MayBeChosen}
 use Rattle.sled_store.specs.Noted.{left_of}
 use Rattle.sled_store.proofs.LogLemmas.{at_rest_left}
@@ -12,6 +17,10 @@ use Rattle.sled_core.specs.Recoverable.{NoForeign, Recoverable, LeavesRecoverabl
 use Rattle.sled_log.specs.declared.run.Command.{Command}
 use Rattle.sled_log.specs.declared.run.Reply.{Reply}
 use Rattle.sled_log.specs.Runs.{OwnLeft, OwnEach, OwnThroughout, Standing, IsLater, IsStep, Runs}
+
+-- a place as code holds it
+pub place_back : (z : ℤ) (n : ℕ) → z ≡ pos n → n < 2 ^ 63 → pos n ≡ cast_signed w64 (cast_unsigned w64 z)
+place_back z n is small = let fits : FitsSigned w64 (pos n) = search rules in sym (ap (λ (x : ℤ). cast_signed w64 (cast_unsigned w64 x)) is ∙ to_z-of_z w64 (pos n) fits)
 
 -- One trace later than another.
 
@@ -26,6 +35,14 @@ later_one old new e is = (e ∷ [], is)
 
 pub later_both : (old mid new : Trace) → IsLater old mid → IsLater mid new → IsLater old new
 later_both old mid new first second = (second.0 ++ first.0, second.1 ∙ ap (λ (t : Trace). second.0 ++ t) first.1 ∙ sym (append_assoc second.0 first.0 old))
+
+-- what calls made is later
+pub later_performed : (es : List Event) (old new : Trace) → Performs es old new → IsLater old new
+later_performed es old new came = let run = performs_throughout (λ s. Unit {0}) es old new came (all_along es (state_of old)) in (run.events, run.follows)
+  where
+    all_along : (fs : List Event) (s : State) → Along (λ x. Unit {0}) fs s
+    all_along [] s = tt
+    all_along (f ∷ fs) s = (tt, λ torn tears. tt, all_along fs (step f s))
 
 -- The premise, at parts of what it is said of.
 module _ (sum : List ℕ → ℕ) (size : ℕ) where
