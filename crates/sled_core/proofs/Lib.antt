@@ -23,4 +23,5 @@ pub mod StartLemmas
 pub mod TornFlush
 pub mod TornLemmas
 pub mod TornRecords
+pub mod TornZeros
 pub mod UsedLemmas
