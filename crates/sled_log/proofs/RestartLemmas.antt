@@ -28,6 +28,7 @@ use Rattle.sled_core.proofs.Ranges.{with_first}
 use Rattle.sled_core.proofs.ScanLemmas.{aligned_offset}
 use Rattle.sled_core.proofs.LogFileLemmas.{stands_some, stand_none, stand_kept, header_kept}
 use Rattle.sled_core.proofs.GivesLemmas.{StandsWhole, own_stands}
+use Rattle.sled_core.proofs.TornZeros.{zeros_read}
 use Rattle.sled_log.specs.Recovery.{Conclusion, Recovered, Damaged, Applied, applied, has_no_table, are_whole, table_of, unchanged, concluded, cut_of, is_filled, tip_of, is_beyond, least_place, ContinuesFrom, Recovers}
 use Rattle.sled_log.specs.WritesBack.{IsWrittenBack}
 use Rattle.sled_log.proofs.FoldLemmas.{fold_all}
@@ -43,20 +44,6 @@ none_misplaced : (sum : List ℕ → ℕ) (size : ℕ) (r : Readable) (first : S
 unfolding ContinuesFrom
 none_misplaced sum size r first x (inl damaged) y found bad = let no : Recovered x ≡ Damaged = damaged.0 in cc
 none_misplaced sum size r first x (inr (ordering, is, replays)) y found bad = is.placed y ((is.found y).1 found) bad
-
--- zeros that were written are read
-zeros_read : (bytes : List ℕ) (at n i : ℕ) → at ≤ i → i < at + n → get_or (overwritten bytes at (replicate n 0)) i 0 ≡ 0
-zeros_read bytes at n i from to =
-    let new : List ℕ = overwritten bytes at (replicate n 0) in
-    let here : at + (i - at) ≡ i = omega (arith, from) in
-    let within : i - at < n = omega (arith, from, to) in
-    let long : length (replicate {A = ℕ} n 0) ≡ n = length-replicate n 0 in
-    ap (λ k. get_or new k 0) (sym here)
-    ∙ sym (get_or-drop at new (i - at) 0)
-    ∙ sym (get_or-take n (drop at new) (i - at) 0 within)
-    ∙ ap (λ k. get_or (take k (drop at new)) (i - at) 0) (sym long)
-    ∙ ap (λ (l : List ℕ). get_or l (i - at) 0) (overwritten-part bytes at (replicate n 0))
-    ∙ get_or-replicate n (i - at) 0 0 within
 
 -- a recovery would begin from this snapshot or one of the same place and pages: from itself, or from the one that was there
 abbrev pub BeginsAgain : (List ℕ → ℕ) → (ℤ → Option (List ℕ)) → State → Shot → Type 0

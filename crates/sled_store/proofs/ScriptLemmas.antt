@@ -29,7 +29,7 @@ module _ (P : State → Type 0) where
   stops_throughout e old new (inl same) here torn = stays P old old new (started P old here) same
   stops_throughout e old new (inr left) here torn = added P left.0 old new left.2 here (torn left.0 left.1)
 
-  along_first : (es : List Event) (s : State) → Along P es s → P s
+  pub along_first : (es : List Event) (s : State) → Along P es s → P s
   along_first [] s along = along
   along_first (e ∷ es) s along = along.0
 
