@@ -1,5 +1,6 @@
 pub mod BegunLemmas
 pub mod BookLemmas
+pub mod CallMoments
 pub mod CompletesLemmas
 pub mod EntryLemmas
 pub mod FillLemmas

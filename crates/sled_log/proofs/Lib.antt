@@ -21,6 +21,7 @@ mod PlainSlots
 mod PlainTail
 mod PlainWhole
 mod RecoveryLemmas
+pub mod PublishLemmas
 pub mod RemovalLemmas
 pub mod RestartLemmas
 pub mod TableCuts
