@@ -7,6 +7,7 @@ pub mod FoldLemmas
 pub mod KeptRecovers
 pub mod LineLemmas
 pub mod NewestLemmas
+pub mod MomentsLemmas
 pub mod Numbers
 pub mod OneSegment
 pub mod OtherLemmas
@@ -21,6 +22,7 @@ mod PlainSlots
 mod PlainTail
 mod PlainWhole
 mod RecoveryLemmas
+pub mod RecoveryMoments
 pub mod PublishLemmas
 pub mod RemovalLemmas
 pub mod RestartLemmas

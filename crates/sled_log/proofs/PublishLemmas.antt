@@ -44,6 +44,11 @@ listed_below sum size file H f first tables cut le n bytes is = elim tables.begi
       ≤ℤ_trans n newest.0 (pos cut) (newest.2.greatest n some) low)
 ]
 
+-- Where all names are settled a crash leaves just those files.
+pub settled_fit : (sum : List ℕ → ℕ) (size : ℕ) (H : History) (f reached : ℕ) (names : NamesState) → ((n : ℤ) → IsSettledName names n) → CanBegin sum size names.file H f reached → NamesFit sum size names H f reached
+settled_fit sum size H f reached names settled can left leaves own =
+    subst (λ (file : ℤ → Option (List ℕ)). CanBegin sum size file H f reached) (λ i n. sym (settled_name_left names n (left n) (settled n) (leaves n)) i) can
+
 -- A table with a spelling, for a cut of the first segment.
 pub record IsNewTable (size : ℕ) (H : History) (cut : ℕ) (s : Shot) : Type 0 where
   pub stable : s.stable ≡ Some (pos cut)
