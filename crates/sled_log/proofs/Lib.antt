@@ -1,5 +1,6 @@
 pub mod Ascending
 pub mod BeginLemmas
+pub mod BelowLemmas
 pub mod CallLemmas
 mod FindLemmas
 pub mod FirstConclusion
