@@ -1,3 +1,4 @@
+pub mod AfterRecovery
 pub mod Ascending
 pub mod BeginLemmas
 pub mod BelowLemmas

@@ -92,18 +92,18 @@ module _ (sum : List ℕ → ℕ) (size : ℕ) (H : History) (A f : ℕ) (large 
       (record { log = before_sync old left.log leaves.log; blobs = leaves.blobs; snapshots = leaves.snapshots })
       (record { log = subst (λ (l : List ℕ). NoForeignLog sum size (state_of old).log l) (sym same) own; blobs = own_left.blobs; snapshots = own_left.snapshots; zeros = own_left.zeros })
 
-  settled_names : (n : ℤ) → IsSettledName (names_synced (state_of old).snapshots) n
+  pub settled_names : (n : ℤ) → IsSettledName (names_synced (state_of old).snapshots) n
   settled_names n = settled_name_synced (state_of old).snapshots n (snapshots_firm old n)
 
   -- What was read is recoverable.
   module _ (is : IsRecoverableInFirst sum size (content_of (state_of old)) H A f) where
-    can_begin : (reached : ℕ) → stable_place is.first.stable ≤ reached → CanBegin sum size (state_of old).snapshots.file H f reached
+    abbrev pub can_begin : (reached : ℕ) → stable_place is.first.stable ≤ reached → CanBegin sum size (state_of old).snapshots.file H f reached
     can_begin reached le = record { first = is.first; tables = is.snapshots; slot = is.segment.slot; not_above = le }
 
     names_fit : (reached : ℕ) → stable_place is.first.stable ≤ reached → NamesFit sum size (names_synced (state_of old).snapshots) H f reached
     names_fit reached le = settled_fit sum size H f reached (names_synced (state_of old).snapshots) settled_names (can_begin reached le)
 
-    no_blobs : NoBlobs (names_synced (state_of old).blobs)
+    pub no_blobs : NoBlobs (names_synced (state_of old).blobs)
     no_blobs = none_synced (state_of old).blobs is.segment.blobs
 
     reaches_first : Reaches sum size (state_of old).log.bytes H A (stable_place is.first.stable)
