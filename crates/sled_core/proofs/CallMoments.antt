@@ -1,5 +1,5 @@
 -- What a crash leaves stays recoverable over a call, also where that is torn, if it is recoverable behind the whole call.
-use Rattle.std.proofs.Common.{◌≡◌, ◌⊎◌, ◌≤◌, ◌<◌, ◌^◌, ℕ, ℤ, List, [], ◌∷◌, length}
+use Rattle.std.proofs.Common.{◌≡◌, ◌⊎◌, ◌≤◌, ◌<◌, ◌^◌, ℕ, List, [], ◌∷◌, length}
 use Rattle.sled_codec.specs.History.{History}
 use Rattle.sled_store.specs.Device.{Event, State, Content, step, Synced, NamesSynced, LeavesLog}
 use Rattle.sled_store.specs.Answers.{Tears}

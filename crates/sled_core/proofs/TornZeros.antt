@@ -1,13 +1,13 @@
 -- What a crash leaves of a log file whose first segment is filled with zeros behind its last record: the same messages stand in it, and nothing behind them.
-use Rattle.std.proofs.Common.{◌≡◌, ◌⊎◌, ◌≤◌, ◌<◌, ◌+◌, ◌-◌, ◌*◌, ◌/◌, ◌%◌, ◌∙◌, ℕ, zero, suc, pos, max, List, [], ◌∷◌, length, take, drop, replicate, get_or, sym, ap, arith, refl, subst, inl, inr, length-take, length-drop}
+use Rattle.std.proofs.Common.{◌≡◌, ◌⊎◌, ◌≤◌, ◌<◌, ◌+◌, ◌-◌, ◌*◌, ◌/◌, ◌%◌, ◌∙◌, ℕ, pos, max, List, length, take, drop, replicate, get_or, sym, ap, arith, subst, inl, inr, length-take, length-drop}
 use Rattle.std.proofs.Math.Nat.{div-eq_of_lt, mod-eq_of_lt}
 use Rattle.std.proofs.lemmas.List.{get_or-take, get_or-drop, get_or-replicate, length-replicate}
 use Rattle.sled_codec.specs.declared.serialization.message.MessageHeader.{MessageHeader}
 use Rattle.sled_codec.specs.Places.{part}
 use Rattle.sled_codec.specs.Record.{IsRecord, IsHeader}
-use Rattle.sled_codec.specs.History.{Message, History}
-use Rattle.sled_store.specs.Device.{LogState, LeavesLog, overwritten}
-use Rattle.sled_store.specs.Foreign.{IsReached, at_first, LaidBy, StoodThere, RecordWasLaid, NoForeignLog}
+use Rattle.sled_codec.specs.History.{History}
+use Rattle.sled_store.specs.Device.{LeavesLog, overwritten}
+use Rattle.sled_store.specs.Foreign.{IsReached, at_first, LaidBy, RecordWasLaid, NoForeignLog}
 use Rattle.sled_store.proofs.LooseLemmas.{end_of-le}
 use Rattle.sled_store.proofs.OverwrittenLemmas.{length-overwritten, overwritten-part}
 use Rattle.sled_core.specs.Reading.{StandsAt}

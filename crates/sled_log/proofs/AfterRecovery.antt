@@ -1,11 +1,10 @@
 -- Behind a recovery a crash leaves what is recoverable for what lies below the cut, with the cut for the floor.
-use Rattle.std.proofs.Common.{◌≡◌, ◌≢◌, ◌⊎◌, ◌∙◌, ◌≤◌, ◌<◌, ◌≤ℤ◌, ◌+◌, ◌-◌, ◌%◌, ◌^◌, ℕ, ℤ, zero, suc, pos, negsuc, Bool, true, false, nat_lt, if◌then◌else◌, List, [], ◌∷◌, ◌++◌, length, replicate, Option, Some, None, refl, sym, ap, subst, arith, inl, inr}
+use Rattle.std.proofs.Common.{◌≡◌, ◌≢◌, ◌∙◌, ◌≤◌, ◌<◌, ◌≤ℤ◌, ◌^◌, ℕ, ℤ, suc, pos, negsuc, Bool, true, false, if◌then◌else◌, List, [], ◌∷◌, ◌++◌, length, Option, Some, None, refl, sym, ap, subst, arith, inl, inr}
 use Rattle.std.specs.List.{Contains}
-use Rattle.std.proofs.Math.Nat.{mod-eq_of_lt}
 use Rattle.std.proofs.lemmas.Bool.Decides.{nat_tests}
 use Rattle.sled_codec.specs.History.{History, below}
 use Rattle.sled_codec.specs.Snapshots.{Shot, FitsSnapshot}
-use Rattle.sled_store.specs.Device.{Event, Synced, NamesSynced, Trace, NamesState, Temporary, State, state_of, content_of, step, unnamed, renamed, names_synced}
+use Rattle.sled_store.specs.Device.{Event, Synced, NamesSynced, Trace, NamesState, Temporary, State, state_of, content_of, unnamed, renamed, names_synced}
 use Rattle.sled_store.specs.SnapshotFiles.{stable_place}
 use Rattle.sled_store.proofs.ScriptLemmas.{EndsIn, ends_in}
 use Rattle.sled_core.specs.Recoverable.{IsBegun, IsRecoverableInFirst, LeavesRecoverable, first_cut}
@@ -15,7 +14,7 @@ use Rattle.sled_log.specs.Recovery.{Conclusion, tip_of, is_beyond}
 use Rattle.sled_log.specs.WritesBack.{shredding, removing, publishing_file, publishing, writing_back, number_of, short_file, AreOthers, HasWrittenBack}
 use Rattle.sled_log.proofs.FirstConclusion.{first_active, GoesOnIn, StaysIn, ConcludesIn}
 use Rattle.sled_log.proofs.BelowLemmas.{no_batches_below, cut_within, begun_below, file_below, new_below, can_below}
-use Rattle.sled_log.proofs.MomentsLemmas.{at_place, reaches_cut, reaches_shredded, blobs_synced, resting, resting_kept}
+use Rattle.sled_log.proofs.MomentsLemmas.{tip_cases, reaches_cut, reaches_shredded, blobs_synced, resting, resting_kept}
 use Rattle.sled_log.proofs.PublishLemmas.{listed_below, IsNewTable, IsPublished, published_synced, published_removed, published_fit, settled_fit}
 use Rattle.sled_log.proofs.RecoveryMoments.{can_begin, settled_names, no_blobs, new_table, number_is}
 
@@ -58,17 +57,14 @@ module _ (sum : List ℕ → ℕ) (size : ℕ) (H : History) (A : ℕ) (large : 
   module _ (log : List ℕ) (was : ℕ) (begun : IsBegun sum size log H A was) (short : length log ≤ size) (blobs names : NamesState) (temporary : Temporary) (P : State → Type 0)
       (es : List Event) (rest : (new : List ℕ) → Reaches sum size new (below H (first_cut size begun.stop)) A (first_cut size begun.stop) → EndsIn P es (resting new blobs names temporary)) where
     filled_end : EndsIn P (shredding (tip_of size (first_cut size begun.stop) (first_active size begun.stop)) ++ es) (resting log blobs names temporary)
-    filled_end = by (nat_lt size (begun.stop + 32)) refl
-      where
-        by : (b : Bool) → nat_lt size (begun.stop + 32) ≡ b → EndsIn P (shredding (tip_of size (if b then size else begun.stop) (if b then None else Some 0)) ++ es) (resting log blobs names temporary)
-        by true is = rest log (reaches_cut sum size log (below H (first_cut size begun.stop)) A was (begun_below begun) short)
-        by false is =
-            let room : begun.stop + 32 ≤ size = grind (arith, nat_tests, is) in
-            let offset : begun.stop % size ≡ begun.stop = mod-eq_of_lt (omega (arith, room)) in
-            let at : 0 + begun.stop % size ≡ begun.stop = omega (arith, offset) in
-            let tip : (0 + begun.stop % size, size - begun.stop % size) ≡ (begun.stop, size - begun.stop) = λ i. (at i, size - offset i) in
-            subst (λ (t : ℕ × ℕ). EndsIn P (shredding (Some t) ++ es) (resting log blobs names temporary)) (sym tip)
-            (rest _ (reaches_shredded sum size log (below H (first_cut size begun.stop)) A was (begun_below begun) short room))
+    filled_end = elim (tip_cases size begun.stop) [
+      | inl none ↦
+          subst (λ (tip : Option (ℕ × ℕ)). EndsIn P (shredding tip ++ es) (resting log blobs names temporary)) (sym none)
+          (rest log (reaches_cut sum size log (below H (first_cut size begun.stop)) A was (begun_below begun) short))
+      | inr (room, is) ↦
+          subst (λ (tip : Option (ℕ × ℕ)). EndsIn P (shredding tip ++ es) (resting log blobs names temporary)) (sym is)
+          (rest _ (reaches_shredded sum size log (below H (first_cut size begun.stop)) A was (begun_below begun) short room))
+    ]
 
 -- All calls of a recovery were made.
 module _ (sum : List ℕ → ℕ) (size : ℕ) (H : History) (A f : ℕ) (large : 256 ≤ size) (small : size < 2 ^ 63) (old : Trace) (is : IsRecoverableInFirst sum size (content_of (state_of old)) H A f) where

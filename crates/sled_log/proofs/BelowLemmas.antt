@@ -1,10 +1,9 @@
 -- What lies below a cut, where the first segment, the tables and the snapshots were those of a whole history.
-use Rattle.std.proofs.Common.{◌≡◌, ◌⊎◌, ◌∙◌, ◌≤◌, ◌<◌, ◌≤ℤ◌, ◌+◌, ℕ, ℤ, pos, negsuc, Bool, true, false, cond, nat_lt, if◌then◌else◌, List, [], ◌∷◌, ◌++◌, Option, Some, None, refl, sym, ap, subst, arith, lt-ltb, leb→le}
-use Rattle.std.specs.List.{All, Contains, filter}
+use Rattle.std.proofs.Common.{◌≡◌, ◌∙◌, ◌≤◌, ◌<◌, ◌≤ℤ◌, ◌+◌, ℕ, ℤ, pos, negsuc, Bool, true, false, cond, nat_lt, if◌then◌else◌, List, [], ◌∷◌, ◌++◌, Option, Some, refl, ap, arith, lt-ltb, leb→le}
+use Rattle.std.specs.List.{All, filter}
 use Rattle.std.proofs.lemmas.Bool.{le-ltb}
-use Rattle.std.proofs.lemmas.List.{append-nil}
-use Rattle.std.proofs.lemmas.List.Elements.{filter-append, All-tail, All-weaker}
-use Rattle.sled_codec.specs.History.{Message, History, Batch, CutFits, below}
+use Rattle.std.proofs.lemmas.List.Elements.{filter-append, All-tail}
+use Rattle.sled_codec.specs.History.{Message, History, CutFits, below}
 use Rattle.sled_codec.specs.Snapshots.{Shot}
 use Rattle.sled_store.specs.SnapshotFiles.{stable_place}
 use Rattle.sled_core.specs.Recoverable.{IsBegun, IsTableFile, first_cut, first_site}

@@ -1,31 +1,23 @@
 -- A recovery keeps what a crash leaves recoverable at each moment.
-use Rattle.std.proofs.Common.{◌≡◌, ◌≢◌, ◌⊎◌, ◌∙◌, ◌≤◌, ◌<◌, ◌+◌, ◌-◌, ◌%◌, ◌^◌, ℕ, ℤ, zero, suc, pos, Bool, true, false, nat_lt, if◌then◌else◌, List, [], ◌∷◌, ◌++◌, length, replicate, Option, Some, None, refl, sym, ap, subst, arith, inl, inr}
+use Rattle.std.proofs.Common.{◌≡◌, ◌≢◌, ◌⊎◌, ◌≤◌, ◌<◌, ◌+◌, ◌-◌, ◌%◌, ◌^◌, ℕ, ℤ, suc, pos, Bool, true, false, nat_lt, if◌then◌else◌, List, [], ◌∷◌, ◌++◌, length, replicate, Option, Some, None, refl, sym, subst, arith, inl, inr}
 use Rattle.std.specs.List.{Contains}
-use Rattle.std.specs.Option.{unwrap_or}
-use Rattle.std.proofs.Math.Nat.{mod-eq_of_lt, mod_self}
+use Rattle.std.proofs.Math.Nat.{mod-eq_of_lt}
 use Rattle.std.proofs.lemmas.Bool.Decides.{nat_tests}
-use Rattle.std.proofs.lemmas.List.{append-nil}
 use Rattle.sled_codec.specs.History.{History}
-use Rattle.sled_codec.specs.Snapshots.{Shot, FitsSnapshot}
-use Rattle.sled_store.specs.Device.{Event, Wrote, Synced, SnapshotFilled, SnapshotPublished, SnapshotRemoved, NamesSynced, Trace, NamesState, Temporary, State, Content, state_of, content_of, step, at_rest, overwritten, unnamed, renamed, names_synced, LeavesName, LeavesFile}
+use Rattle.sled_codec.specs.Snapshots.{Shot}
+use Rattle.sled_store.specs.Device.{Event, Wrote, Synced, SnapshotFilled, SnapshotPublished, SnapshotRemoved, NamesSynced, NamesState, Temporary, State, step, at_rest, overwritten, unnamed, renamed, names_synced, LeavesFile}
 use Rattle.sled_store.specs.Durable.{IsSettledName}
-use Rattle.sled_store.specs.Foreign.{NoForeignLog}
 use Rattle.sled_store.specs.Script.{Along}
-use Rattle.sled_store.specs.SnapshotFiles.{stable_place}
 use Rattle.sled_store.proofs.LeavesLemmas.{write, fill, publish, remove_snapshot}
 use Rattle.sled_store.proofs.LogLemmas.{at_rest_left}
-use Rattle.sled_store.proofs.NamesLemmas.{settled_name_synced}
-use Rattle.sled_store.proofs.SettledLemmas.{before_sync}
-use Rattle.sled_store.proofs.SyncedLemmas.{snapshots_firm}
-use Rattle.sled_core.specs.Recoverable.{IsBegun, IsInFirstSegment, IsRecoverableInFirst, ActiveFits, LeavesRecoverable, first_cut}
+use Rattle.sled_core.specs.Recoverable.{IsBegun, LeavesRecoverable, first_cut}
 use Rattle.sled_core.specs.Running.{CanBegin, NamesFit, NoBlobs}
 use Rattle.sled_core.proofs.CallMoments.{Reaches, parts_recoverable, along_call, along_synced, along_names_synced}
-use Rattle.sled_core.proofs.LogFileLemmas.{stand_grows}
 use Rattle.sled_core.proofs.TornZeros.{zeros_begun, zeros_short, torn_zeros, left_short}
-use Rattle.sled_log.specs.Recovery.{Conclusion, tip_of, unchanged}
-use Rattle.sled_log.specs.WritesBack.{shredding, removing, publishing_file, publishing, writing_back, number_of, short_file, MayBeRemoved}
-use Rattle.sled_log.proofs.FirstConclusion.{first_active, GoesOnIn, StaysIn, ConcludesIn}
-use Rattle.sled_log.proofs.PublishLemmas.{listed_below, IsNewTable, IsPublished, published_synced, published_removed, put_fit, published_fit, settled_fit}
+use Rattle.sled_log.specs.Recovery.{tip_of}
+use Rattle.sled_log.specs.WritesBack.{shredding, removing, publishing_file, short_file}
+use Rattle.sled_log.proofs.FirstConclusion.{first_active}
+use Rattle.sled_log.proofs.PublishLemmas.{listed_below, IsNewTable, IsPublished, published_synced, published_removed, put_fit, published_fit}
 
 -- The log file.
 
@@ -48,15 +40,20 @@ at_place begun place le = record {
 pub reaches_cut : (sum : List ℕ → ℕ) (size : ℕ) (log : List ℕ) (H : History) (A was : ℕ) (begun : IsBegun sum size log H A was) → length log ≤ size → Reaches sum size log H A (first_cut size begun.stop)
 reaches_cut sum size log H A was begun short = record { short = short; parts = λ place le. inr (at_place begun place le) }
 
--- a segment that has room for a record ends where its records do
-cut_inside : (size stop : ℕ) → stop + 32 ≤ size → first_cut size stop ≡ stop
-cut_inside size stop room = by (nat_lt size (stop + 32)) refl
+-- the range that is filled: none where no record would have room behind the others, else the rest of the segment
+pub tip_cases : (size stop : ℕ) → (tip_of size (first_cut size stop) (first_active size stop) ≡ None) ⊎ ((stop + 32 ≤ size) × (tip_of size (first_cut size stop) (first_active size stop) ≡ Some (stop, size - stop)))
+tip_cases size stop = by (nat_lt size (stop + 32)) refl
   where
-    by : (b : Bool) → nat_lt size (stop + 32) ≡ b → (if b then size else stop) ≡ stop
-    by true is = absurd (grind (arith, nat_tests, is, room))
-    by false is = refl
+    by : (b : Bool) → nat_lt size (stop + 32) ≡ b
+        → (tip_of size (if b then size else stop) (if b then None else Some 0) ≡ None) ⊎ ((stop + 32 ≤ size) × (tip_of size (if b then size else stop) (if b then None else Some 0) ≡ Some (stop, size - stop)))
+    by true is = inl refl
+    by false is =
+        let room : stop + 32 ≤ size = grind (arith, nat_tests, is) in
+        let offset : stop % size ≡ stop = mod-eq_of_lt (omega (arith, room)) in
+        let at : 0 + stop % size ≡ stop = omega (arith, offset) in
+        inr (room, λ i. Some (at i, size - offset i))
 
--- the rest of such a segment was filled with zeros
+-- the rest of a segment that has room for a record was filled with zeros
 pub reaches_shredded : (sum : List ℕ → ℕ) (size : ℕ) (log : List ℕ) (H : History) (A was : ℕ) (begun : IsBegun sum size log H A was) → length log ≤ size → begun.stop + 32 ≤ size
     → Reaches sum size (overwritten log begun.stop (replicate (size - begun.stop) 0)) H A (first_cut size begun.stop)
 reaches_shredded sum size log H A was begun short room = record {
@@ -118,7 +115,7 @@ module _ (sum : List ℕ → ℕ) (size : ℕ) (H : History) (A f : ℕ) (large 
   -- The rest of the first segment is filled with zeros, where a record would have room there, and then other calls are made.
   module _ (log : List ℕ) (was : ℕ) (begun : IsBegun sum size log H A was) (short : length log ≤ size) (blobs names : NamesState) (temporary : Temporary) (none : NoBlobs blobs) (fit : NamesFit sum size names H f (first_cut size begun.stop))
       (es : List Event) (rest : (new : List ℕ) → Reaches sum size new H A (first_cut size begun.stop) → Along (LeavesRecoverable sum size H A f) es (resting new blobs names temporary)) where
-    -- the state in which they were written
+    -- what is written behind the records
     abbrev zeros : List ℕ
     zeros = replicate (size - begun.stop) 0
 
@@ -134,14 +131,7 @@ module _ (sum : List ℕ → ℕ) (size : ℕ) (H : History) (A f : ℕ) (large 
         (rest (overwritten log begun.stop zeros) (reaches_shredded sum size log H A was begun short room)))
 
     pub shredding_along : Along (LeavesRecoverable sum size H A f) (shredding (tip_of size (first_cut size begun.stop) (first_active size begun.stop)) ++ es) (resting log blobs names temporary)
-    shredding_along = by (nat_lt size (begun.stop + 32)) refl
-      where
-        by : (b : Bool) → nat_lt size (begun.stop + 32) ≡ b
-            → Along (LeavesRecoverable sum size H A f) (shredding (tip_of size (if b then size else begun.stop) (if b then None else Some 0)) ++ es) (resting log blobs names temporary)
-        by true is = rest log (reaches_cut sum size log H A was begun short)
-        by false is =
-            let room : begun.stop + 32 ≤ size = grind (arith, nat_tests, is) in
-            let offset : begun.stop % size ≡ begun.stop = mod-eq_of_lt (omega (arith, room)) in
-            let at : 0 + begun.stop % size ≡ begun.stop = omega (arith, offset) in
-            let tip : (0 + begun.stop % size, size - begun.stop % size) ≡ (begun.stop, size - begun.stop) = λ i. (at i, size - offset i) in
-            subst (λ (t : ℕ × ℕ). Along (LeavesRecoverable sum size H A f) (shredding (Some t) ++ es) (resting log blobs names temporary)) (sym tip) (zeros_along room)
+    shredding_along = elim (tip_cases size begun.stop) [
+      | inl none ↦ subst (λ (tip : Option (ℕ × ℕ)). Along (LeavesRecoverable sum size H A f) (shredding tip ++ es) (resting log blobs names temporary)) (sym none) (rest log (reaches_cut sum size log H A was begun short))
+      | inr (room, is) ↦ subst (λ (tip : Option (ℕ × ℕ)). Along (LeavesRecoverable sum size H A f) (shredding tip ++ es) (resting log blobs names temporary)) (sym is) (zeros_along room)
+    ]

@@ -1,10 +1,9 @@
 -- What a crash leaves of the snapshots while a new table is published and the others are removed: recovery can begin from them at each moment.
-use Rattle.std.proofs.Common.{◌≡◌, ◌≢◌, ◌⊎◌, ◌∙◌, ◌≤◌, ◌≤ℤ◌, ◌%◌, if◌then◌else◌, ℕ, ℤ, pos, negsuc, Bool, true, false, List, [], ◌∷◌, length, Option, Some, None, IsSome, refl, sym, ap, subst, arith, inl, inr, le→leb}
+use Rattle.std.proofs.Common.{◌≡◌, ◌≢◌, ◌⊎◌, ◌∙◌, ◌≤◌, ◌≤ℤ◌, if◌then◌else◌, ℕ, ℤ, pos, negsuc, Bool, true, false, List, [], ◌∷◌, Option, Some, None, IsSome, refl, sym, ap, subst, arith, inl, inr, le→leb}
 use Rattle.std.specs.Int.Signed.{≤ℤ_refl, <ℤ-≤ℤ_trans, <ℤ_irrefl}
 use Rattle.std.proofs.lemmas.Int.{by_lt_z}
 use Rattle.std.specs.Ordering.{int_eq}
 use Rattle.std.specs.Cmp.{signed_Decides}
-use Rattle.std.specs.List.{Contains}
 use Rattle.sled_codec.specs.History.{History, CutFits}
 use Rattle.sled_codec.specs.PageTables.{IsTable}
 use Rattle.sled_codec.specs.Snapshots.{Shot, FitsSnapshot, short_snapshot}
@@ -138,6 +137,7 @@ module _ (sum : List ℕ → ℕ) (size : ℕ) (H : History) (cut : ℕ) (s : Sh
         not_above : (n : ℤ) (o : Option (List ℕ)) → left n ≡ o → IsSome (left n) → n ≤ℤ pos cut
         not_above n None is some = absurd (cc)
         not_above n (Some b) is some = elim (same_or_other n (pos cut)) [ inl same ↦ subst (λ (m : ℤ). m ≤ℤ pos cut) (sym same) (≤ℤ_refl (pos cut)) | inr other ↦ below n b (others n b other is) ]
+
         table_there : (n : ℤ) (b : List ℕ) → n ≡ pos cut → left n ≡ Some b → IsTableFile sum H n b
         table_there n b same is =
             let is_new : bytes ≡ b = cc in

@@ -7,7 +7,7 @@ use Rattle.std.proofs.lemmas.Bool.Decides.{nat_tests}
 use Rattle.std.proofs.lemmas.List.{append-nil}
 use Rattle.sled_codec.specs.History.{History}
 use Rattle.sled_codec.specs.Snapshots.{Shot, FitsSnapshot}
-use Rattle.sled_store.specs.Device.{Event, Synced, NamesSynced, Trace, NamesState, State, state_of, content_of, step, names_synced}
+use Rattle.sled_store.specs.Device.{Event, Synced, NamesSynced, Trace, State, state_of, content_of, step, names_synced}
 use Rattle.sled_store.specs.Durable.{IsSettledName}
 use Rattle.sled_store.specs.Foreign.{NoForeignLog}
 use Rattle.sled_store.specs.Moments.{LeavesOnly}
@@ -24,10 +24,10 @@ use Rattle.sled_core.proofs.CallMoments.{Reaches, along_synced, along_names_sync
 use Rattle.sled_core.proofs.FirstSegment.{first_part}
 use Rattle.sled_core.proofs.LogFileLemmas.{stand_grows}
 use Rattle.sled_core.specs.Recoverable.{first_site}
-use Rattle.sled_log.specs.Recovery.{Conclusion, Recovered, Recovers, tip_of}
+use Rattle.sled_log.specs.Recovery.{Conclusion, Recovered, Recovers}
 use Rattle.sled_log.specs.WritesBack.{shredding, removing, publishing_file, publishing, writing_back, number_of, short_file, MayBeRemoved, WritesBehind}
-use Rattle.sled_log.proofs.FirstConclusion.{first_active, GoesOnIn, StaysIn, ConcludesIn}
-use Rattle.sled_log.proofs.MomentsLemmas.{at_place, reaches_cut, resting, resting_kept, none_synced, publishing_along, shredding_along}
+use Rattle.sled_log.proofs.FirstConclusion.{first_active, GoesOnIn, ConcludesIn}
+use Rattle.sled_log.proofs.MomentsLemmas.{at_place, resting, resting_kept, none_synced, publishing_along, shredding_along}
 use Rattle.sled_log.proofs.PublishLemmas.{IsNewTable, settled_fit}
 
 -- The table that is concluded.

@@ -1,11 +1,11 @@
 -- Where all of a history is on the device, recovery leaves snapshot and device ready for a log that holds it.
-use Rattle.std.proofs.Common.{◌≡◌, ◌⊎◌, ◌∙◌, ◌≤◌, ◌<◌, ◌+◌, ◌-◌, ◌*◌, ◌/◌, ◌%◌, ◌||◌, ◌&&◌, ℕ, ℤ, pos, max, Bool, true, false, nat_lt, nat_le, if◌then◌else◌, List, [], ◌∷◌, ◌++◌, length, map, take, drop, replicate, get_or, Option, Some, None, MatchOption, refl, sym, ap, subst, arith, inl, inr}
+use Rattle.std.proofs.Common.{◌≡◌, ◌⊎◌, ◌∙◌, ◌≤◌, ◌<◌, ◌+◌, ◌-◌, ◌*◌, ◌/◌, ◌%◌, ◌||◌, ◌&&◌, ℕ, ℤ, pos, max, Bool, true, false, nat_lt, nat_le, if◌then◌else◌, List, [], ◌∷◌, ◌++◌, length, map, replicate, Option, Some, None, MatchOption, refl, sym, ap, subst, arith, inl, inr}
 use Rattle.std.specs.List.{All, Contains, filter}
 use Rattle.std.proofs.Math.Nat.{mod-add-div', div-eq_of_lt, add-mod_right}
 use Rattle.std.proofs.Math.Bool.{or-true}
 use Rattle.std.proofs.lemmas.Bool.{cases_lt}
 use Rattle.std.proofs.lemmas.Bool.Decides.{nat_tests}
-use Rattle.std.proofs.lemmas.List.{get_or-drop, get_or-take, length-replicate, append-nil, get_or-replicate}
+use Rattle.std.proofs.lemmas.List.{length-replicate, append-nil}
 use Rattle.sled_log.proofs.Ascending.{all_from_in}
 use Rattle.std.proofs.lemmas.List.Elements.{All-contains}
 use Rattle.sled_codec.specs.Pointers.{lid_of}
@@ -16,7 +16,6 @@ use Rattle.sled_codec.specs.Snapshots.{Shot}
 use Rattle.std.specs.Prelude.{Result, Ok, Err, IfOk, OnOk}
 use Rattle.sled_store.specs.Device.{State, LogState, Synced, NamesSynced, step, at_rest, overwritten}
 use Rattle.sled_store.specs.SnapshotFiles.{BeginsFrom, stable_place}
-use Rattle.sled_store.proofs.OverwrittenLemmas.{overwritten-part}
 use Rattle.sled_core.specs.declared.iobuf.Site.{Site}
 use Rattle.sled_core.specs.declared.met.Segment.{Segment}
 use Rattle.sled_core.specs.Scan.{Readable, IsFoundSegment, IsMisplaced}

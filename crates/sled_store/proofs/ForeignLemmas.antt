@@ -1,10 +1,10 @@
 -- What passes as the log's own by what was settled and asked for before a call, or when it was torn, does so after the whole call.
-use Rattle.std.proofs.Common.{◌≡◌, ◌⊎◌, ◌∙◌, ◌&&◌, ◌*◌, ◌+◌, ◌/◌, ℕ, ℤ, pos, zero, length, suc, Bool, true, false, is_some, if◌then◌else◌, List, [], ◌∷◌, ◌++◌, Option, Some, None, refl, sym, ap, subst, inl, inr, arith}
+use Rattle.std.proofs.Common.{◌≡◌, ◌∙◌, ◌&&◌, ◌*◌, ◌+◌, ◌/◌, ℕ, ℤ, pos, zero, length, take, drop, suc, Bool, true, false, is_some, if◌then◌else◌, List, [], ◌∷◌, ◌++◌, Option, Some, None, refl, sym, ap, subst, inl, inr, arith}
 use Rattle.std.specs.Ordering.{int_eq}
 use Rattle.std.specs.List.{Contains}
 use Rattle.std.proofs.lemmas.List.Elements.{Contains-append_right}
 use Rattle.sled_codec.specs.Places.{part}
-use Rattle.sled_store.specs.Device.{Event, NameState, LogState, NamesState, State, step, renamed, unnamed, settled_file, settled_files, Wrote, Cut, BlobMade, BlobRemoved, SnapshotFilled, SnapshotPublished, SnapshotRemoved}
+use Rattle.sled_store.specs.Device.{Event, NameState, LogState, NamesState, State, step, renamed, unnamed, settled_file, settled_files, at_rest, names_at_rest}
 use Rattle.sled_store.specs.Answers.{Tears}
 use Rattle.sled_codec.specs.Record.{IsHeader}
 use Rattle.sled_store.specs.Foreign.{HeaderWasLaid, IsReached, RecordWasLaid, NoForeignLog, NoForeignNames}
@@ -137,3 +137,24 @@ torn_knows e torn s (publish number) tears =
     subst (λ (x : Event). Knows (step x s) (step e s)) (sym tears.1) (record { log = log_same s.log; blobs = names_same s.blobs; snapshots = torn_change s.snapshots number tears.0 top top (s.temporary.asked ∷ []) })
 torn_knows e torn s (remove_snapshot number) tears =
     subst (λ (x : Event). Knows (step x s) (step e s)) (sym tears.1) (record { log = log_same s.log; blobs = names_same s.blobs; snapshots = torn_removal s.snapshots number tears.0 })
+
+-- What is read of a device at rest was settled, so all of it is the log's own.
+
+take_again : (n : ℕ) (xs : List ℕ) → take (length (take n xs)) xs ≡ take n xs
+take_again zero xs = refl
+take_again (suc n) [] = refl
+take_again (suc n) (x ∷ xs) = ap (λ (l : List ℕ). x ∷ l) (take_again n xs)
+
+pub own_log_at_rest : (sum : List ℕ → ℕ) (size : ℕ) (log : List ℕ) → NoForeignLog sum size (at_rest log) log
+unfolding HeaderWasLaid RecordWasLaid
+own_log_at_rest sum size log = record {
+  headers = λ slot lsn mark is. inl refl;
+  records = λ slot lsn mark at len kind page body is reached fits rec. inl (record { lsn = lsn; mark = mark; header = is; reached = reached; same = take_again len (drop (slot * size + at) log) });
+}
+
+pub own_names_at_rest : (passes : List ℕ → Type 0) (file : ℤ → Option (List ℕ)) → NoForeignNames passes (names_at_rest file) file
+own_names_at_rest passes file = record { own = λ n bytes there is. inl (settled_alone (file n) ∙ there) }
+  where
+    settled_alone : (o : Option (List ℕ)) → settled_file o false [] ≡ o
+    settled_alone None = refl
+    settled_alone (Some bytes) = refl

@@ -1,10 +1,9 @@
-use Rattle.std.proofs.Common.{rules, ◌≡◌, ◌∙◌, ℤ, [], inl, refl, FitsSigned}
+use Rattle.std.proofs.Common.{rules, ◌≡◌, ◌∙◌, ℤ, inl, refl, FitsSigned}
 use Rattle.std.specs.Int.{w64, cast_signed, cast_unsigned}
 use Rattle.std.proofs.lemmas.Int.{to_z-of_z}
 use Rattle.sled_codec.specs.Snapshots.{shot_of}
-use Rattle.sled_log.specs.WritesBack.{publishing, number_of, short_file}
+use Rattle.sled_log.specs.WritesBack.{number_of, short_file}
 use Rattle.sled_log.proofs.TableLemmas.{on_ok}
-use Rattle.sled_store.proofs.ScriptLemmas.{performs_nothing}
 use Rattle.sled_log.proofs.WriteLemmas.{has_published, publishes}
 use Rattle.sled_log.proofs.snapshot.publish_new.Given.{Over}
 use Rattle.sled_log.proofs.snapshot.publish_new.Goals as goal
