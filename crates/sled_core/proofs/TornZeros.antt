@@ -64,6 +64,7 @@ module _ (sum : List ℕ → ℕ) (size : ℕ) (log : List ℕ) (H : History) (A
 
   -- All of them were written.
 
+  -- the messages that stood there still do
   pub zeros_begun : IsBegun sum size (overwritten log begun.stop zeros) H A place
   zeros_begun =
       begun_still (overwritten log begun.stop zeros)
@@ -71,11 +72,13 @@ module _ (sum : List ℕ → ℕ) (size : ℕ) (log : List ℕ) (H : History) (A
       (stand_kept sum size log begun.stop zeros first_site 20 begun.own begun.stop (omega arith) begun.stand)
       (zeros_empty sum size (overwritten log begun.stop zeros) begun.stop 0 (zeros_read log begun.stop (size - begun.stop) (begun.stop + 4) (omega arith) (omega (arith, room))))
 
+  -- and the file is no longer than the segment
   pub zeros_short : length log ≤ size → length (overwritten log begun.stop zeros) ≤ size
   zeros_short short = omega (arith, short, room, count, length-overwritten log begun.stop zeros, end_of-le begun.stop (length zeros) (length zeros) (omega arith))
 
   -- The write was torn, or not synced yet.
   module _ (now left : List ℕ) (no_more : length now ≤ length zeros) (leaves : LeavesLog (after_write log begun.stop zeros now) left) where
+    -- the file is no longer than the segment
     pub left_short : length log ≤ size → length left ≤ size
     left_short short =
         omega (arith, short, room, count, no_more, leaves.no_longer, end_of-le begun.stop (max (length zeros) (length now)) (max (length zeros) (length now)) (omega arith))
@@ -147,5 +150,6 @@ module _ (sum : List ℕ → ℕ) (size : ℕ) (log : List ℕ) (H : History) (A
       none_behind : IsEmpty sum size left begun.stop 0
       none_behind h body len s = elim (laid_where h body len s) [ inl stood ↦ stood_before h body len s stood | inr written ↦ by_zeros h body len s written ]
 
+      -- So the same messages stand there.
       pub torn_zeros : IsBegun sum size left H A place
       torn_zeros = begun_still left header_left own_left none_behind

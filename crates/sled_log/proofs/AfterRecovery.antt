@@ -46,6 +46,7 @@ module _ (sum : List ℕ → ℕ) (size : ℕ) (H : History) (A : ℕ) (large : 
     fit names is =
         published_fit sum size (below H cut) cut s (new_below size H cut s new) file (λ n bytes there. file_below sum H cut n bytes (low n bytes there) (can.tables.listed n bytes there)) low cut (omega arith) names is
 
+    -- whichever they are
     removals_end : (ns : List ℤ) (blobs names : NamesState) (temporary : Temporary) → ((n : ℤ) → Contains ns n → n ≢ pos cut) → NoBlobs blobs → IsPublished names file (pos cut) (short_file sum s)
         → EndsIn (IsCutOff sum size H A cut) (removing ns) (resting log blobs names temporary)
     removals_end [] blobs names temporary apart none is = cut_off cut log blobs names temporary reaches none (fit names is)
@@ -56,6 +57,7 @@ module _ (sum : List ℕ → ℕ) (size : ℕ) (H : History) (A : ℕ) (large : 
   -- The rest of the first segment was filled with zeros, where a record would have had room there.
   module _ (log : List ℕ) (was : ℕ) (begun : IsBegun sum size log H A was) (short : length log ≤ size) (blobs names : NamesState) (temporary : Temporary) (P : State → Type 0)
       (es : List Event) (rest : (new : List ℕ) → Reaches sum size new (below H (first_cut size begun.stop)) A (first_cut size begun.stop) → EndsIn P es (resting new blobs names temporary)) where
+    -- and then other calls were made
     filled_end : EndsIn P (shredding (tip_of size (first_cut size begun.stop) (first_active size begun.stop)) ++ es) (resting log blobs names temporary)
     filled_end = elim (tip_cases size begun.stop) [
       | inl none ↦

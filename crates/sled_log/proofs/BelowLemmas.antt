@@ -34,10 +34,12 @@ low_messages H cut own beyond is low high =
     ap (filter (λ m. nat_lt m.place cut)) is ∙ filter-append (λ m. nat_lt m.place cut) own beyond
     ∙ ap (λ l. l ++ filter (λ m. nat_lt m.place cut) beyond) (keeps_low cut own low) ∙ ap (λ l. own ++ l) (drops_high cut beyond high)
 
+-- where there are no batches
 pub no_batches_below : (H : History) (cut : ℕ) → H.batches ≡ [] → (below H cut).batches ≡ []
 unfolding below
 no_batches_below H cut none = ap (filter (λ b. nat_lt b.low cut)) none
 
+-- a cut that splits nothing of all splits nothing of what lies below a place
 pub fits_below : (H : History) (bound cut : ℕ) → CutFits H cut → CutFits (below H bound) cut
 unfolding below
 fits_below H bound cut fits = record {
@@ -68,6 +70,7 @@ own_low sum size log H A place begun k d lt =
     let low = (stand_below sum size log first_site 20 begun.own begun.stop begun.stand k d lt).0 in
     omega (arith, low, stop_below size begun.stop begun.inside)
 
+-- what lies below the cut are the messages that stand there
 pub messages_below : (sum : List ℕ → ℕ) (size : ℕ) (log : List ℕ) (H : History) (A place : ℕ) (begun : IsBegun sum size log H A place) → (below H (first_cut size begun.stop)).messages ≡ begun.own ++ []
 messages_below sum size log H A place begun = low_messages H (first_cut size begun.stop) begun.own begun.beyond begun.messages (own_low sum size log H A place begun) begun.later
 
@@ -104,6 +107,7 @@ file_below sum H cut number bytes le t = record {
   fits = fits_below H cut (stable_place t.shot.stable) t.fits;
 }
 
+-- the table that ends at the cut
 pub new_below : (size : ℕ) (H : History) (cut : ℕ) (s : Shot) → IsNewTable size H cut s → IsNewTable size (below H cut) cut s
 new_below size H cut s new = record {
   stable = new.stable;

@@ -37,6 +37,7 @@ at_place begun place le = record {
   passes = begun.passes;
 }
 
+-- it reaches to where its records end
 pub reaches_cut : (sum : List ℕ → ℕ) (size : ℕ) (log : List ℕ) (H : History) (A was : ℕ) (begun : IsBegun sum size log H A was) → length log ≤ size → Reaches sum size log H A (first_cut size begun.stop)
 reaches_cut sum size log H A was begun short = record { short = short; parts = λ place le. inr (at_place begun place le) }
 
@@ -67,6 +68,7 @@ blobs_synced blobs none n left (inl now) = none n left (inl now)
 blobs_synced blobs none n left (inr (inl earlier)) = absurd earlier
 blobs_synced blobs none n left (inr (inr half)) = absurd half
 
+-- and where none is there, none is left
 pub none_synced : (blobs : NamesState) → ((n : ℤ) → blobs.file n ≡ None) → NoBlobs (names_synced blobs)
 none_synced blobs none n left (inl now) = subst (λ (o : Option (List ℕ)). LeavesFile o (blobs.is_loose n) left) (none n) now
 none_synced blobs none n left (inr (inl earlier)) = absurd earlier
@@ -77,6 +79,7 @@ abbrev pub resting : List ℕ → NamesState → NamesState → Temporary → St
 resting log blobs names temporary = record { log = at_rest log; blobs = blobs; snapshots = names; temporary = temporary }
 
 module _ (sum : List ℕ → ℕ) (size : ℕ) (H : History) (A f : ℕ) (large : 256 ≤ size) (small : size < 2 ^ 63) (batches : H.batches ≡ []) where
+  -- What a crash leaves of it is recoverable, where its parts are.
   pub resting_kept : (log : List ℕ) (blobs names : NamesState) (temporary : Temporary) (reached : ℕ) → Reaches sum size log H A reached → NoBlobs blobs → NamesFit sum size names H f reached
       → LeavesRecoverable sum size H A f (resting log blobs names temporary)
   resting_kept log blobs names temporary reached reaches none fit =
@@ -91,6 +94,7 @@ module _ (sum : List ℕ → ℕ) (size : ℕ) (H : History) (A f : ℕ) (large 
     fit : (names : NamesState) → IsPublished names file (pos cut) (short_file sum s) → NamesFit sum size names H f cut
     fit names is = published_fit sum size H cut s new file can.tables.listed (listed_below sum size file H f can.first can.tables cut can.not_above) f floor names is
 
+    -- the others are removed
     removals_along : (ns : List ℤ) (blobs names : NamesState) (temporary : Temporary) → ((n : ℤ) → Contains ns n → n ≢ pos cut) → NoBlobs blobs → IsPublished names file (pos cut) (short_file sum s)
         → Along (LeavesRecoverable sum size H A f) (removing ns) (resting log blobs names temporary)
     removals_along [] blobs names temporary apart none is = resting_kept log blobs names temporary cut reaches none (fit names is)
@@ -99,6 +103,7 @@ module _ (sum : List ℕ → ℕ) (size : ℕ) (H : History) (A f : ℕ) (large 
         (removals_along ns blobs (unnamed names m true) temporary (λ n there. apart n (suc there.0, omega (arith, there.1), there.2)) none
         (published_removed names (pos cut) (short_file sum s) file m (apart m (0, omega arith, refl)) is))
 
+    -- all calls that publish it
     pub publishing_along : (ns : List ℤ) (blobs names : NamesState) (temporary : Temporary) → names.file ≡ file → ((n : ℤ) → IsSettledName names n) → ((n : ℤ) → Contains ns n → n ≢ pos cut) → NoBlobs blobs
         → Along (LeavesRecoverable sum size H A f) (publishing_file (short_file sum s) (pos cut) ++ removing ns) (resting log blobs names temporary)
     publishing_along ns blobs names temporary is_file settled apart none =
@@ -119,6 +124,7 @@ module _ (sum : List ℕ → ℕ) (size : ℕ) (H : History) (A f : ℕ) (large 
     abbrev zeros : List ℕ
     zeros = replicate (size - begun.stop) 0
 
+    -- where there is room
     zeros_along : begun.stop + 32 ≤ size → Along (LeavesRecoverable sum size H A f) (Wrote begun.stop zeros zeros ∷ Synced ∷ es) (resting log blobs names temporary)
     zeros_along room =
         along_call sum size H A f (Wrote begun.stop zeros zeros) (Synced ∷ es) (resting log blobs names temporary) (write begun.stop zeros)
@@ -130,6 +136,7 @@ module _ (sum : List ℕ → ℕ) (size : ℕ) (H : History) (A f : ℕ) (large 
         }) none fit)
         (rest (overwritten log begun.stop zeros) (reaches_shredded sum size log H A was begun short room)))
 
+    -- whether there is room or not
     pub shredding_along : Along (LeavesRecoverable sum size H A f) (shredding (tip_of size (first_cut size begun.stop) (first_active size begun.stop)) ++ es) (resting log blobs names temporary)
     shredding_along = elim (tip_cases size begun.stop) [
       | inl none ↦ subst (λ (tip : Option (ℕ × ℕ)). Along (LeavesRecoverable sum size H A f) (shredding tip ++ es) (resting log blobs names temporary)) (sym none) (rest log (reaches_cut sum size log H A was begun short))

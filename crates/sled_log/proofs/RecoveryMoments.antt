@@ -18,12 +18,11 @@ use Rattle.sled_store.proofs.NamesLemmas.{settled_name_synced}
 use Rattle.sled_store.proofs.ScriptLemmas.{performs_throughout}
 use Rattle.sled_store.proofs.SettledLemmas.{before_sync, read_left}
 use Rattle.sled_store.proofs.SyncedLemmas.{snapshots_firm}
-use Rattle.sled_core.specs.Recoverable.{IsRecoverableInFirst, ActiveFits, RecoverableIfOwn, NoForeign, LeavesRecoverable, first_cut}
+use Rattle.sled_core.specs.Recoverable.{IsRecoverableInFirst, ActiveFits, RecoverableIfOwn, NoForeign, LeavesRecoverable, first_cut, first_site}
 use Rattle.sled_core.specs.Running.{CanBegin, NamesFit, NoBlobs}
 use Rattle.sled_core.proofs.CallMoments.{Reaches, along_synced, along_names_synced}
 use Rattle.sled_core.proofs.FirstSegment.{first_part}
 use Rattle.sled_core.proofs.LogFileLemmas.{stand_grows}
-use Rattle.sled_core.specs.Recoverable.{first_site}
 use Rattle.sled_log.specs.Recovery.{Conclusion, Recovered, Recovers}
 use Rattle.sled_log.specs.WritesBack.{shredding, removing, publishing_file, publishing, writing_back, number_of, short_file, MayBeRemoved, WritesBehind}
 use Rattle.sled_log.proofs.FirstConclusion.{first_active, GoesOnIn, ConcludesIn}
@@ -54,6 +53,7 @@ module _ (sum : List ℕ → ℕ) (size : ℕ) (log : List ℕ) (H : History) (A
   abbrev pub cut_of : ℕ
   cut_of = first_cut size goes.begun.stop
 
+  -- it may be published
   pub new_table : FitsSnapshot x.shot → IsNewTable size H cut_of x.shot
   new_table fits = record {
     stable = goes.stable;
@@ -64,6 +64,7 @@ module _ (sum : List ℕ → ℕ) (size : ℕ) (log : List ℕ) (H : History) (A
     spelled = fits;
   }
 
+  -- under the place where it ends
   pub number_is : number_of x.shot ≡ pos cut_of
   number_is = ap (λ (o : Option ℤ). unwrap_or o (pos 0)) goes.stable
 
@@ -73,6 +74,7 @@ removed_apart file kept ns (inl none) n there = let short : length ns ≡ 0 = ap
 removed_apart file kept ns (inr are) n there = ((are.each n).0 there).1
 
 module _ (sum : List ℕ → ℕ) (size : ℕ) (H : History) (A f : ℕ) (large : 256 ≤ size) (small : size < 2 ^ 63) (old : Trace) where
+  -- what a crash leaves is recoverable
   abbrev Kept : State → Type 0
   Kept = LeavesRecoverable sum size H A f
 
@@ -92,17 +94,21 @@ module _ (sum : List ℕ → ℕ) (size : ℕ) (H : History) (A f : ℕ) (large 
       (record { log = before_sync old left.log leaves.log; blobs = leaves.blobs; snapshots = leaves.snapshots })
       (record { log = subst (λ (l : List ℕ). NoForeignLog sum size (state_of old).log l) (sym same) own; blobs = own_left.blobs; snapshots = own_left.snapshots; zeros = own_left.zeros })
 
+  -- Names are settled by their own sync.
   pub settled_names : (n : ℤ) → IsSettledName (names_synced (state_of old).snapshots) n
   settled_names n = settled_name_synced (state_of old).snapshots n (snapshots_firm old n)
 
   -- What was read is recoverable.
   module _ (is : IsRecoverableInFirst sum size (content_of (state_of old)) H A f) where
+    -- recovery can begin from the snapshots that were read
     abbrev pub can_begin : (reached : ℕ) → stable_place is.first.stable ≤ reached → CanBegin sum size (state_of old).snapshots.file H f reached
     can_begin reached le = record { first = is.first; tables = is.snapshots; slot = is.segment.slot; not_above = le }
 
+    -- and a crash leaves no others behind the sync of names
     names_fit : (reached : ℕ) → stable_place is.first.stable ≤ reached → NamesFit sum size (names_synced (state_of old).snapshots) H f reached
     names_fit reached le = settled_fit sum size H f reached (names_synced (state_of old).snapshots) settled_names (can_begin reached le)
 
+    -- nor a blob
     pub no_blobs : NoBlobs (names_synced (state_of old).blobs)
     no_blobs = none_synced (state_of old).blobs is.segment.blobs
 
@@ -115,6 +121,7 @@ module _ (sum : List ℕ → ℕ) (size : ℕ) (H : History) (A f : ℕ) (large 
       ];
     }
 
+    -- so what a crash leaves of the settled device is recoverable
     settled_kept : Kept settled
     settled_kept =
         resting_kept sum size H A f large small is.segment.batches (state_of old).log.bytes (names_synced (state_of old).blobs) (names_synced (state_of old).snapshots) (state_of old).temporary
@@ -123,6 +130,7 @@ module _ (sum : List ℕ → ℕ) (size : ℕ) (H : History) (A f : ℕ) (large 
     module _ (x : Conclusion) (ns : List ℤ) (may : MayBeRemoved (state_of old).snapshots.file (number_of x.shot) ns) where
       -- Where it goes on, the calls that fill the rest of the segment come first.
       module _ (goes : GoesOnIn sum size (state_of old).log.bytes H A is.first x) where
+        -- where the new table ends
         abbrev cut : ℕ
         cut = first_cut size goes.begun.stop
 
@@ -140,6 +148,7 @@ module _ (sum : List ℕ → ℕ) (size : ℕ) (H : History) (A f : ℕ) (large 
         kept_there new reaches =
             resting_kept sum size H A f large small is.segment.batches new (names_synced (state_of old).blobs) (names_synced (state_of old).snapshots) (state_of old).temporary cut reaches no_blobs (names_fit cut goes.begun.not_below)
 
+        -- then a new table is published
         published_along : FitsSnapshot x.shot → (new : List ℕ) → Reaches sum size new H A cut → Along Kept (publishing sum x.shot ns) (settled_with new)
         published_along fits new reaches =
             let number : number_of x.shot ≡ pos cut = number_is sum size (state_of old).log.bytes H A is.first x some goes in
@@ -167,21 +176,26 @@ module _ (sum : List ℕ → ℕ) (size : ℕ) (H : History) (A f : ℕ) (large 
 
   -- All of a recovery, from the first sync on.
   module _ (kept : Kept (state_of old)) (own : NoForeignLog sum size (state_of old).log (state_of old).log.bytes) where
+    -- both syncs, and then other calls
     settling_then : (es : List Event) → Kept settled → Along Kept es settled → Along Kept (Synced ∷ NamesSynced ∷ es) (state_of old)
     settling_then es there rest =
         along_synced sum size H A f (NamesSynced ∷ es) (state_of old) kept (along_names_synced sum size H A f es (step Synced (state_of old)) (synced_kept kept own) rest)
 
     module _ (is : IsRecoverableInFirst sum size (content_of (state_of old)) H A f) where
+      -- nothing was concluded yet
       pub settling_along : Along Kept (Synced ∷ NamesSynced ∷ []) (state_of old)
       settling_along = settling_then [] (settled_kept is) (settled_kept is)
 
       module _ (x : Conclusion) (concludes : ConcludesIn sum size (content_of (state_of old)) H A is.first x) (ns : List ℤ) (may : MayBeRemoved (state_of old).snapshots.file (number_of x.shot) ns) where
+        -- all calls
         pub recovery_along : (x.is_new ≡ true → FitsSnapshot x.shot) → Along Kept (Synced ∷ NamesSynced ∷ writing_back sum x ns) (state_of old)
         recovery_along fits = settling_then (writing_back sum x ns) (settled_kept is) (writing_along is x ns may concludes fits)
 
+        -- those up to the end of the filling, for a table that has no spelling
         pub begun_along : Along Kept (Synced ∷ NamesSynced ∷ shredding x.tip) (state_of old)
         begun_along = settling_then (shredding x.tip) (settled_kept is) (filling_along is x ns may concludes)
 
+        -- as many of them as were made
         pub behind_throughout : (new : Trace) → WritesBehind (Synced ∷ NamesSynced ∷ []) sum x ns old new → LeavesOnly (RecoverableIfOwn sum size H A f) old new
         behind_throughout new (inl calls) = performs_throughout Kept (Synced ∷ NamesSynced ∷ shredding x.tip) old new calls begun_along
         behind_throughout new (inr calls) = performs_throughout Kept (Synced ∷ NamesSynced ∷ writing_back sum x ns) old new calls.1 (recovery_along calls.0)

@@ -12,14 +12,17 @@ use Rattle.sled_store.proofs.LeavesLemmas.{Asked, write, cut, make_blob, remove_
 
 -- Two states of a part have the same settled content, and what was asked of the first was asked of the second.
 
+-- the log file
 pub record LogKnows (s t : LogState) : Type 0 where
   pub settled : s.settled ≡ t.settled
   pub asked : (w : ℕ × List ℕ) → Contains s.asked w → Contains t.asked w
 
+-- files under names
 pub record NamesKnow (s t : NamesState) : Type 0 where
   pub settled : (n : ℤ) → settled_files s n ≡ settled_files t n
   pub asked : (n : ℤ) (bytes : List ℕ) → Contains (s.asked n) bytes → Contains (t.asked n) bytes
 
+-- a whole state
 pub record Knows (s t : State) : Type 0 where
   pub log : LogKnows s.log t.log
   pub blobs : NamesKnow s.blobs t.blobs
@@ -44,12 +47,14 @@ module _ (sum : List ℕ → ℕ) (size : ℕ) (s t : LogState) (knows : LogKnow
   })
   record_laid slot at text (inr laid) = inr (laid.0, knows.asked laid.0 laid.1, laid.2)
 
+  -- of the log file
   pub own_log : (left : List ℕ) → NoForeignLog sum size s left → NoForeignLog sum size t left
   own_log left own = record {
     headers = λ slot lsn mark is. header_laid slot _ (own.headers slot lsn mark is);
     records = λ slot lsn mark at len kind page body is reached fits rec. record_laid slot at _ (own.records slot lsn mark at len kind page body is reached fits rec);
   }
 
+-- of files under names
 pub own_names : (passes : List ℕ → Type 0) (s t : NamesState) (files : ℤ → Option (List ℕ)) → NamesKnow s t → NoForeignNames passes s files → NoForeignNames passes t files
 own_names passes s t files knows own = record {
   own = λ n bytes there is. elim (own.own n bytes there is) [ inl settled ↦ inl (sym (knows.settled n) ∙ settled) | inr asked ↦ inr (knows.asked n bytes asked) ];
@@ -110,6 +115,7 @@ torn_removal s name done = by (is_some (s.file name))
 later : (w : ℕ × List ℕ) (ws : List (ℕ × List ℕ)) (x : ℕ × List ℕ) → Contains ws x → Contains (w ∷ ws) x
 later w ws x (k, below, is) = (suc k, omega (arith, below), is)
 
+-- The state after a call knows all that the one before it does.
 pub before_knows : (e : Event) (s : State) → Asked e → Knows s (step e s)
 before_knows e s (write at bytes) = record { log = record { settled = refl; asked = later (at, bytes) s.log.asked }; blobs = names_same s.blobs; snapshots = names_same s.snapshots }
 before_knows e s (cut len) = record { log = record { settled = refl; asked = λ w is. is }; blobs = names_same s.blobs; snapshots = names_same s.snapshots }
@@ -119,7 +125,7 @@ before_knows e s (fill bytes) = record { log = log_same s.log; blobs = names_sam
 before_knows e s (publish number) = record { log = log_same s.log; blobs = names_same s.blobs; snapshots = before_change s.snapshots number true (record { file = Some s.temporary.bytes; is_loose = false }) (s.temporary.asked ∷ []) }
 before_knows e s (remove_snapshot number) = record { log = log_same s.log; blobs = names_same s.blobs; snapshots = before_removal s.snapshots number true }
 
--- The call was torn.
+-- So does the state after the whole call, where the other one is after a torn one.
 pub torn_knows : (e torn : Event) (s : State) → Asked e → Tears e torn → Knows (step torn s) (step e s)
 torn_knows e torn s (write at bytes) tears =
     subst (λ (x : Event). Knows (step x s) (step e s)) (sym tears.2) (record { log = record { settled = refl; asked = λ w is. is }; blobs = names_same s.blobs; snapshots = names_same s.snapshots })
@@ -145,6 +151,7 @@ take_again zero xs = refl
 take_again (suc n) [] = refl
 take_again (suc n) (x ∷ xs) = ap (λ (l : List ℕ). x ∷ l) (take_again n xs)
 
+-- the log file
 pub own_log_at_rest : (sum : List ℕ → ℕ) (size : ℕ) (log : List ℕ) → NoForeignLog sum size (at_rest log) log
 unfolding HeaderWasLaid RecordWasLaid
 own_log_at_rest sum size log = record {
@@ -152,6 +159,7 @@ own_log_at_rest sum size log = record {
   records = λ slot lsn mark at len kind page body is reached fits rec. inl (record { lsn = lsn; mark = mark; header = is; reached = reached; same = take_again len (drop (slot * size + at) log) });
 }
 
+-- files under names
 pub own_names_at_rest : (passes : List ℕ → Type 0) (file : ℤ → Option (List ℕ)) → NoForeignNames passes (names_at_rest file) file
 own_names_at_rest passes file = record { own = λ n bytes there is. inl (settled_alone (file n) ∙ there) }
   where
