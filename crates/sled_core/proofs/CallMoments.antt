@@ -1,12 +1,13 @@
 -- What a crash leaves stays recoverable over a call, also where that is torn, if it is recoverable behind the whole call.
-use Rattle.std.proofs.Common.{◌≡◌, ◌⊎◌, ◌≤◌, ◌<◌, ◌^◌, ℕ, List, [], ◌∷◌, length}
+use Rattle.std.proofs.Common.{◌≡◌, ◌⊎◌, ◌≤◌, ◌<◌, ◌^◌, ℕ, ℤ, List, [], ◌∷◌, length, replicate}
+use Rattle.sled_codec.specs.Record.{IsHeader}
 use Rattle.sled_codec.specs.History.{History}
-use Rattle.sled_store.specs.Device.{Event, State, Content, step, Synced, NamesSynced, LeavesLog}
+use Rattle.sled_store.specs.Device.{Event, State, Content, step, Synced, NamesSynced, Crashed, LeavesLog, Left, content_of, log_left, blobs_left, snapshots_left}
 use Rattle.sled_store.specs.Answers.{Tears}
 use Rattle.sled_store.specs.Foreign.{NoForeignLog}
 use Rattle.sled_store.specs.Script.{Along}
 use Rattle.sled_store.proofs.LeavesLemmas.{Asked, before_leaves, torn_leaves}
-use Rattle.sled_store.proofs.ForeignLemmas.{Knows, own_log, own_names, before_knows, torn_knows}
+use Rattle.sled_store.proofs.ForeignLemmas.{Knows, own_log, own_names, before_knows, torn_knows, own_log_at_rest, own_names_at_rest}
 use Rattle.sled_store.proofs.ScriptLemmas.{along_first}
 use Rattle.sled_core.specs.Recoverable.{NoForeign, IsUnbegun, IsBegun, LeavesRecoverable}
 use Rattle.sled_core.specs.Running.{NoBlobs, NamesFit}
@@ -21,7 +22,17 @@ own_still sum size s t left knows own = record {
   zeros = own.zeros;
 }
 
+-- What is read behind a crash was settled by it, so all of it is the log's own, but that zeros might pass as a header.
+pub own_after_crash : (sum : List ℕ → ℕ) (size : ℕ) (left : Left) (s : State) → ((lsn mark : ℤ) → IsHeader sum (replicate 20 0) lsn mark → ⊥) → NoForeign sum size (step (Crashed left) s) (content_of (step (Crashed left) s))
+own_after_crash sum size left s zeros = record {
+  log = own_log_at_rest sum size (log_left left s.log);
+  blobs = own_names_at_rest _ (blobs_left left s.blobs);
+  snapshots = own_names_at_rest _ (snapshots_left left s.snapshots);
+  zeros = zeros;
+}
+
 module _ (sum : List ℕ → ℕ) (size : ℕ) (H : History) (A f : ℕ) where
+  -- what a crash leaves is recoverable
   abbrev P : State → Type 0
   P = LeavesRecoverable sum size H A f
 

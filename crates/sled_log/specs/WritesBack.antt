@@ -89,6 +89,7 @@ abbrev pub WritesBehind : List Event → (List ℕ → ℕ) → Conclusion → L
 WritesBehind first sum x numbers old new =
     Performs (first ++ shredding x.tip) old new ⊎ ((x.is_new ≡ true → FitsSnapshot x.shot) × Performs (first ++ writing_back sum x numbers) old new)
 
+-- so it is with no calls before them
 abbrev pub WritesBack : (List ℕ → ℕ) → Conclusion → Trace → Trace → Type 0
 WritesBack sum x old new = (numbers : List ℤ) × MayBeRemoved (state_of old).snapshots.file (number_of x.shot) numbers × WritesBehind [] sum x numbers old new
 
