@@ -1,5 +1,6 @@
 pub mod BegunLemmas
 pub mod BookLemmas
+pub mod CallMoments
 pub mod CompletesLemmas
 pub mod CrashLemmas
 pub mod Elements
@@ -39,5 +40,6 @@ pub mod TableWeights
 pub mod TornFlush
 pub mod TornLemmas
 pub mod TornRecords
+pub mod TornZeros
 pub mod UndamagedLemmas
 pub mod UsedLemmas

@@ -36,7 +36,7 @@ same_or_not xs ys = elim (cases_Bool (bytes_eq xs ys)) [
 ]
 
 -- what is in a list of one is that one
-the_only : {X : Type 0} (x y : X) → Contains (x ∷ []) y → y ≡ x
+pub the_only : {X : Type 0} (x y : X) → Contains (x ∷ []) y → y ≡ x
 the_only x y there = of_one (λ z. z ≡ x) (x ∷ []) y (with_first (λ z. z ≡ x) x [] refl (λ k d lt. absurd (omega arith))) there
 
 -- What stands at an offset is a record there.
@@ -52,7 +52,7 @@ record_of_stands sum size log lid number h body len s =
     }
 
 -- a record that stands somewhere is no shorter than a header
-long_enough : (sum : List ℕ → ℕ) (size : ℕ) (log : List ℕ) (lid number : ℕ) (h : MessageHeader) (body : List ℕ) (len : ℕ) → StandsAt sum size log lid number h body len → 8 ≤ len
+pub long_enough : (sum : List ℕ → ℕ) (size : ℕ) (log : List ℕ) (lid number : ℕ) (h : MessageHeader) (body : List ℕ) (len : ℕ) → StandsAt sum size log lid number h body len → 8 ≤ len
 long_enough sum size log lid number h body len s =
     let some = header_some s.header h s.spelled in
     omega (arith, some, (laid_of sum size log lid number h body len s).1)

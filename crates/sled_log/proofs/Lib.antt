@@ -1,5 +1,7 @@
+pub mod AfterRecovery
 pub mod Ascending
 pub mod BeginLemmas
+pub mod BelowLemmas
 pub mod CallLemmas
 mod FindLemmas
 pub mod FirstConclusion
@@ -11,6 +13,7 @@ pub mod GoodLemmas
 pub mod KeptRecovers
 pub mod LineLemmas
 pub mod NewestLemmas
+pub mod MomentsLemmas
 pub mod Numbers
 pub mod OneSegment
 mod OnlySegment
@@ -28,6 +31,8 @@ mod PlainSlots
 mod PlainTail
 mod PlainWhole
 mod RecoveryLemmas
+pub mod RecoveryMoments
+pub mod PublishLemmas
 pub mod RemovalLemmas
 pub mod RestartLemmas
 pub mod RunHistories

@@ -89,7 +89,7 @@ module _ (size : ℕ) (first : Shot) (x : Conclusion) where
       (cut.0, sym (ap (λ (y : Conclusion). y.shot.stable) parts.1))
 
 -- A recovery begins from the one snapshot that there is.
-sound_at : (s : Shot) (cut : ℕ) → s.stable ≡ Some (pos cut) → is_sound s ≡ true
+pub sound_at : (s : Shot) (cut : ℕ) → s.stable ≡ Some (pos cut) → is_sound s ≡ true
 sound_at s cut is = subst (λ (o : Option ℤ). sound_parts o s.active s.pages ≡ true) (sym is) refl
 
 begins_from_only : (sum : List ℕ → ℕ) (file : ℤ → Option (List ℕ)) (s : Shot) (cut : ℕ) → s.stable ≡ Some (pos cut) → FitsSnapshot s → IsOnlySnapshot file (number_of s) (short_file sum s) → BeginsFrom sum file s

@@ -1,11 +1,11 @@
 -- Where all of a history is on the device, recovery leaves snapshot and device ready for a log that holds it.
-use Rattle.std.proofs.Common.{◌≡◌, ◌⊎◌, ◌∙◌, ◌≤◌, ◌<◌, ◌+◌, ◌-◌, ◌*◌, ◌/◌, ◌%◌, ◌||◌, ◌&&◌, ℕ, ℤ, pos, max, Bool, true, false, nat_lt, nat_le, if◌then◌else◌, List, [], ◌∷◌, ◌++◌, length, map, take, drop, replicate, get_or, Option, Some, None, MatchOption, refl, sym, ap, subst, arith, inl, inr}
+use Rattle.std.proofs.Common.{◌≡◌, ◌⊎◌, ◌∙◌, ◌≤◌, ◌<◌, ◌+◌, ◌-◌, ◌*◌, ◌/◌, ◌%◌, ◌||◌, ◌&&◌, ℕ, ℤ, pos, max, Bool, true, false, nat_lt, nat_le, if◌then◌else◌, List, [], ◌∷◌, ◌++◌, length, map, replicate, Option, Some, None, MatchOption, refl, sym, ap, subst, arith, inl, inr}
 use Rattle.std.specs.List.{All, Contains, filter}
 use Rattle.std.proofs.Math.Nat.{mod-add-div', div-eq_of_lt, add-mod_right}
 use Rattle.std.proofs.Math.Bool.{or-true}
 use Rattle.std.proofs.lemmas.Bool.{cases_lt}
 use Rattle.std.proofs.lemmas.Bool.Decides.{nat_tests}
-use Rattle.std.proofs.lemmas.List.{get_or-drop, get_or-take, length-replicate, append-nil, get_or-replicate}
+use Rattle.std.proofs.lemmas.List.{length-replicate, append-nil}
 use Rattle.sled_log.proofs.Ascending.{all_from_in}
 use Rattle.std.proofs.lemmas.List.Elements.{All-contains}
 use Rattle.sled_codec.specs.Pointers.{lid_of}
@@ -16,7 +16,6 @@ use Rattle.sled_codec.specs.Snapshots.{Shot}
 use Rattle.std.specs.Prelude.{Result, Ok, Err, IfOk, OnOk}
 use Rattle.sled_store.specs.Device.{State, LogState, Synced, NamesSynced, step, at_rest, overwritten}
 use Rattle.sled_store.specs.SnapshotFiles.{BeginsFrom, stable_place}
-use Rattle.sled_store.proofs.OverwrittenLemmas.{overwritten-part}
 use Rattle.sled_core.specs.declared.iobuf.Site.{Site}
 use Rattle.sled_core.specs.declared.met.Segment.{Segment}
 use Rattle.sled_core.specs.Scan.{Readable, IsFoundSegment, IsMisplaced}
@@ -28,6 +27,7 @@ use Rattle.sled_core.proofs.Ranges.{with_first}
 use Rattle.sled_core.proofs.ScanLemmas.{aligned_offset}
 use Rattle.sled_core.proofs.LogFileLemmas.{stands_some, stand_none, stand_kept, header_kept}
 use Rattle.sled_core.proofs.GivesLemmas.{StandsWhole, own_stands}
+use Rattle.sled_core.proofs.TornZeros.{zeros_read}
 use Rattle.sled_log.specs.Recovery.{Conclusion, Recovered, Damaged, Applied, applied, has_no_table, are_whole, table_of, unchanged, concluded, cut_of, is_filled, tip_of, is_beyond, least_place, ContinuesFrom, Recovers}
 use Rattle.sled_log.specs.WritesBack.{IsWrittenBack}
 use Rattle.sled_log.proofs.FoldLemmas.{fold_all}
@@ -44,20 +44,6 @@ none_misplaced : (sum : List ℕ → ℕ) (size : ℕ) (r : Readable) (first : S
 unfolding ContinuesFrom
 none_misplaced sum size r first x (inl damaged) y found bad = let no : Recovered x ≡ Damaged = damaged.0 in cc
 none_misplaced sum size r first x (inr (ordering, is, replays)) y found bad = is.placed y ((is.found y).1 found) bad
-
--- zeros that were written are read
-zeros_read : (bytes : List ℕ) (at n i : ℕ) → at ≤ i → i < at + n → get_or (overwritten bytes at (replicate n 0)) i 0 ≡ 0
-zeros_read bytes at n i from to =
-    let new : List ℕ = overwritten bytes at (replicate n 0) in
-    let here : at + (i - at) ≡ i = omega (arith, from) in
-    let within : i - at < n = omega (arith, from, to) in
-    let long : length (replicate {A = ℕ} n 0) ≡ n = length-replicate n 0 in
-    ap (λ k. get_or new k 0) (sym here)
-    ∙ sym (get_or-drop at new (i - at) 0)
-    ∙ sym (get_or-take n (drop at new) (i - at) 0 within)
-    ∙ ap (λ k. get_or (take k (drop at new)) (i - at) 0) (sym long)
-    ∙ ap (λ (l : List ℕ). get_or l (i - at) 0) (overwritten-part bytes at (replicate n 0))
-    ∙ get_or-replicate n (i - at) 0 0 within
 
 -- a recovery would begin from this snapshot or one of the same place and pages: from itself, or from the one that was there
 abbrev pub BeginsAgain : (List ℕ → ℕ) → (ℤ → Option (List ℕ)) → State → Shot → Type 0

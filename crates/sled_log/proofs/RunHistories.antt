@@ -145,9 +145,13 @@ unfolding Step
 still_has H H' m page step has = record { message = has.message; there = stays H H' m step has.message has.there; of = has.of }
 
 -- and the page of the new message has one
+pub new_there : (H H' : History) (m : Message) → Step H (Completed m) H' → Contains H'.messages m
+unfolding Step
+new_there H H' m step = comes H H' m step
+
 pub has_new : (H H' : History) (m : Message) → Step H (Completed m) H' → HasMessageOf H'.messages m.page
 unfolding Step
-has_new H H' m step = record { message = m; there = comes H H' m step; of = refl }
+has_new H H' m step = record { message = m; there = new_there H H' m step; of = refl }
 
 -- What lies below a cut.
 

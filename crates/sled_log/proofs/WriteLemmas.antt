@@ -1,10 +1,10 @@
 -- What is read where recovery wrote back what it concludes.
 use Rattle.std.proofs.Common.{◌≡◌, ◌≢◌, ◌∙◌, ℕ, ℤ, Bool, true, false, is_some, if◌then◌else◌, List, [], ◌∷◌, ◌++◌, Option, Some, None, refl, sym, ap, subst, inl, inr}
-use Rattle.sled_codec.specs.Snapshots.{Shot}
+use Rattle.sled_codec.specs.Snapshots.{Shot, FitsSnapshot}
 use Rattle.sled_store.specs.Device.{Event, Trace, SnapshotFilled, SnapshotPublished, Synced, NamesSynced, state_of}
 use Rattle.sled_store.specs.Script.{Performs, after_all}
 use Rattle.sled_log.specs.Recovery.{Conclusion, Outcome, Recovers}
-use Rattle.sled_log.specs.WritesBack.{HasPublished, Publishes, HasWrittenBack, WritesBack, short_file, number_of, publishing_file, publishing, removing, shredding, writing_back, AreOthers, MayBeRemoved, IsOnlySnapshot, IsWrittenBack}
+use Rattle.sled_log.specs.WritesBack.{HasPublished, Publishes, HasWrittenBack, WritesBack, WritesBehind, short_file, number_of, publishing_file, publishing, removing, shredding, writing_back, AreOthers, MayBeRemoved, IsOnlySnapshot, IsWrittenBack}
 use Rattle.sled_store.proofs.ScriptLemmas.{after_joined, performs_whole, performs_more, performs_behind}
 use Rattle.sled_log.proofs.OtherLemmas.{file_at, same_name, other_name, same_others, missing_after, gone_after, kept_after, log_after, blobs_after}
 
@@ -66,9 +66,9 @@ module _ (sum : List ℕ → ℕ) (shot : Shot) (file : List ℕ) (number : ℤ)
       ap (λ (b : List ℕ). publishing_file b number ++ removing ns) is_file ∙ ap (λ (n : ℤ). publishing_file (short_file sum shot) n ++ removing ns) is_number
 
   -- it was not published
-  pub publishing_stops : (new : Trace) → Performs (publishing_file file number) old new → Publishes sum shot old new
-  publishing_stops new came =
-      ([], inl refl, subst (λ (es : List Event). Performs es old new) (same_calls []) (performs_more (publishing_file file number) (removing []) old new came))
+  pub publishing_stops : (new : Trace) → FitsSnapshot shot → Performs (publishing_file file number) old new → Publishes sum shot old new
+  publishing_stops new fits came =
+      inr (fits, [], inl refl, subst (λ (es : List Event). Performs es old new) (same_calls []) (performs_more (publishing_file file number) (removing []) old new came))
 
   module _ (mid new : Trace) (came : mid ≡ after_all (publishing_file file number) old) where
     others_before : (ns : List ℤ) → AreOthers (file_at mid) number ns → AreOthers (file_at old) (number_of shot) ns
@@ -82,9 +82,9 @@ module _ (sum : List ℕ → ℕ) (shot : Shot) (file : List ℕ) (number : ℤ)
         (ns, others_before ns are, is ∙ ap (after_all (removing ns)) came ∙ ap (λ (es : List Event). after_all es old) (same_calls ns))
 
     -- as far as that came
-    pub publishes : (numbers : List ℤ) × MayBeRemoved (file_at mid) number numbers × Performs (removing numbers) mid new → Publishes sum shot old new
-    publishes (ns, may, calls) =
-        (ns, before may, subst (λ (es : List Event). Performs es old new) (same_calls ns) (performs_behind (publishing_file file number) (removing ns) old mid new came calls))
+    pub publishes : FitsSnapshot shot → (numbers : List ℤ) × MayBeRemoved (file_at mid) number numbers × Performs (removing numbers) mid new → Publishes sum shot old new
+    publishes fits (ns, may, calls) =
+        inr (fits, ns, before may, subst (λ (es : List Event). Performs es old new) (same_calls ns) (performs_behind (publishing_file file number) (removing ns) old mid new came calls))
       where
         before : MayBeRemoved (file_at mid) number ns → MayBeRemoved (file_at old) (number_of shot) ns
         before (inl none) = inl none
@@ -97,7 +97,7 @@ shredded_files (Some tip) old = refl
 
 module _ (sum : List ℕ → ℕ) (x : Conclusion) (old : Trace) where
   pub writing_stops : (new : Trace) → Performs (shredding x.tip) old new → WritesBack sum x old new
-  writing_stops new came = ([], inl refl, performs_more (shredding x.tip) (if x.is_new then publishing sum x.shot [] else []) old new came)
+  writing_stops new came = ([], inl refl, inl came)
 
   module _ (mid new : Trace) (came : mid ≡ after_all (shredding x.tip) old) where
     files : file_at mid ≡ file_at old
@@ -112,10 +112,14 @@ module _ (sum : List ℕ → ℕ) (x : Conclusion) (old : Trace) where
     )
 
     pub writes_new : x.is_new ≡ true → Publishes sum x.shot mid new → WritesBack sum x old new
-    writes_new is_new (ns, may, calls) = (
+    writes_new is_new (inl same) = writing_stops new (performs_whole (shredding x.tip) old new (same ∙ came))
+    writes_new is_new (inr (fits, ns, may, calls)) = (
       ns,
       subst (λ (f : ℤ → Option (List ℕ)). MayBeRemoved f (number_of x.shot) ns) files may,
-      subst (λ (b : Bool). Performs (shredding x.tip ++ (if b then publishing sum x.shot ns else [])) old new) (sym is_new) (performs_behind (shredding x.tip) (publishing sum x.shot ns) old mid new came calls),
+      inr (
+        λ _. fits,
+        subst (λ (b : Bool). Performs (shredding x.tip ++ (if b then publishing sum x.shot ns else [])) old new) (sym is_new) (performs_behind (shredding x.tip) (publishing sum x.shot ns) old mid new came calls),
+      ),
     )
 
     -- nothing more is to be written where it is not new
@@ -133,7 +137,7 @@ pub writes_whole : (sum : List ℕ → ℕ) (x : Conclusion) (old new : Trace) �
 writes_whole sum x old new is_old (ns, are, is) = (
   [],
   inl refl,
-  performs_whole (writing_back sum x []) old new (is ∙ ap (λ (b : Bool). after_all (shredding x.tip ++ (if b then publishing sum x.shot ns else [])) old) is_old ∙ ap (λ (b : Bool). after_all (shredding x.tip ++ (if b then publishing sum x.shot [] else [])) old) (sym is_old)),
+  inr (λ is_new. let no = is_old in cc, performs_whole (writing_back sum x []) old new (is ∙ ap (λ (b : Bool). after_all (shredding x.tip ++ (if b then publishing sum x.shot ns else [])) old) is_old ∙ ap (λ (b : Bool). after_all (shredding x.tip ++ (if b then publishing sum x.shot [] else [])) old) (sym is_old))),
 )
 
 -- The device was settled before.
@@ -144,9 +148,13 @@ module _ (sum : List ℕ → ℕ) (old mid : Trace) (settled : mid ≡ NamesSync
       subst (λ (h : Trace). Recovers sum size (record { log = (state_of h).log.bytes; blobs = λ _. None }) (state_of h).snapshots.file o) settled is
 
   pub writes_settled : (x : Conclusion) (new : Trace) → WritesBack sum x mid new
-      → (numbers : List ℤ) × MayBeRemoved (file_at old) (number_of x.shot) numbers × Performs (Synced ∷ NamesSynced ∷ writing_back sum x numbers) old new
+      → (numbers : List ℤ) × MayBeRemoved (file_at old) (number_of x.shot) numbers × WritesBehind (Synced ∷ NamesSynced ∷ []) sum x numbers old new
   writes_settled x new (ns, may, calls) = (
     ns,
     subst (λ (h : Trace). MayBeRemoved (file_at h) (number_of x.shot) ns) settled may,
-    performs_behind (Synced ∷ NamesSynced ∷ []) (writing_back sum x ns) old mid new settled calls,
+    behind calls,
   )
+    where
+      behind : WritesBehind [] sum x ns mid new → WritesBehind (Synced ∷ NamesSynced ∷ []) sum x ns old new
+      behind (inl stopped) = inl (performs_behind (Synced ∷ NamesSynced ∷ []) (shredding x.tip) old mid new settled stopped)
+      behind (inr (fits, calls)) = inr (fits, performs_behind (Synced ∷ NamesSynced ∷ []) (writing_back sum x ns) old mid new settled calls)

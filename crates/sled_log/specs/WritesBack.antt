@@ -5,7 +5,7 @@ use Rattle.std.specs.List.{filter}
 use Rattle.std.specs.Ordering.{int_cmp, int_eq}
 use Rattle.std.specs.Option.{unwrap_or}
 use Rattle.std.specs.List.Sorted.{IsStrictlySortedBy}
-use Rattle.sled_codec.specs.Snapshots.{Shot, shot_of, short_snapshot}
+use Rattle.sled_codec.specs.Snapshots.{Shot, shot_of, short_snapshot, FitsSnapshot}
 use Rattle.sled_codec.specs.Spelling.{low_bytes}
 use Rattle.sled_store.specs.Device.{Event, Wrote, Synced, SnapshotFilled, SnapshotPublished, SnapshotRemoved, NamesSynced, Trace, State, state_of, at_rest, overwritten}
 use Rattle.sled_store.specs.Script.{Performs, after_all}
@@ -76,17 +76,22 @@ writing_back sum x numbers = shredding x.tip ++ (if x.is_new then publishing sum
 abbrev pub HasPublished : (List ℕ → ℕ) → Shot → Trace → Trace → Type 0
 HasPublished sum s old new = (numbers : List ℤ) × AreOthers (state_of old).snapshots.file (number_of s) numbers × (new ≡ after_all (publishing sum s numbers) old)
 
--- the same calls, all of them or up to one that failed
+-- the same calls, all of them or up to one that failed; none of them where the table has no spelling
 abbrev pub Publishes : (List ℕ → ℕ) → Shot → Trace → Trace → Type 0
-Publishes sum s old new = (numbers : List ℤ) × MayBeRemoved (state_of old).snapshots.file (number_of s) numbers × Performs (publishing sum s numbers) old new
+Publishes sum s old new = (new ≡ old) ⊎ (FitsSnapshot s × (numbers : List ℤ) × MayBeRemoved (state_of old).snapshots.file (number_of s) numbers × Performs (publishing sum s numbers) old new)
 
 -- all calls were made that write back what recovery concludes
 abbrev pub HasWrittenBack : (List ℕ → ℕ) → Conclusion → Trace → Trace → Type 0
 HasWrittenBack sum x old new = (numbers : List ℤ) × (x.is_new ≡ true → AreOthers (state_of old).snapshots.file (number_of x.shot) numbers) × (new ≡ after_all (writing_back sum x numbers) old)
 
--- the same calls, all of them or up to one that failed
+-- The same calls behind these ones, all of them or up to one that failed. Nothing is published where a table that is new has no spelling.
+abbrev pub WritesBehind : List Event → (List ℕ → ℕ) → Conclusion → List ℤ → Trace → Trace → Type 0
+WritesBehind first sum x numbers old new =
+    Performs (first ++ shredding x.tip) old new ⊎ ((x.is_new ≡ true → FitsSnapshot x.shot) × Performs (first ++ writing_back sum x numbers) old new)
+
+-- so it is with no calls before them
 abbrev pub WritesBack : (List ℕ → ℕ) → Conclusion → Trace → Trace → Type 0
-WritesBack sum x old new = (numbers : List ℤ) × MayBeRemoved (state_of old).snapshots.file (number_of x.shot) numbers × Performs (writing_back sum x numbers) old new
+WritesBack sum x old new = (numbers : List ℤ) × MayBeRemoved (state_of old).snapshots.file (number_of x.shot) numbers × WritesBehind [] sum x numbers old new
 
 -- What is read afterwards.
 

@@ -11,7 +11,7 @@ ghost use Rattle.sled_core.specs.Scan.{read_of};
 ghost use Rattle.sled_store.specs.SnapshotFiles.{stable_place, BeginsFrom};
 ghost use Rattle.sled_core.specs.Scan.{IsFoundSegment, IsMisplaced};
 ghost use Rattle.sled_log.specs.Recovery.{least_place, tail_begins, IsOrdering, Recovered, Damaged, Conclusion, outcome_of, are_whole, scanned_of, cut_of, tip_of, is_beyond, ContinuesFrom, Recovers};
-ghost use Rattle.sled_log.specs.WritesBack.{conclusion_of, range_of, number_of, shredding, writing_back, MayBeRemoved, HasPublished, Publishes, HasWrittenBack, WritesBack, IsWrittenBack};
+ghost use Rattle.sled_log.specs.WritesBack.{conclusion_of, range_of, number_of, shredding, MayBeRemoved, HasPublished, Publishes, HasWrittenBack, WritesBack, WritesBehind, IsWrittenBack};
 
 use crate::conclusion::{Recovery, Tip};
 use crate::snapshot_file::{encode_file, publish, read_newest, remove_others};
@@ -44,7 +44,7 @@ pub fn read_snapshot_or_default<D: Device, C: Checksum>(
     ensures short { OnOk result (length (state_of (D.trace config.old.device)).log.bytes ≤ config.old.config.segment_size) }
     ensures calls { let old = state_of (D.trace config.old.device) in
         Performs (Synced ∷ NamesSynced ∷ []) (D.trace config.old.device) (D.trace config.new.device)
-        ⊎ ((x : Conclusion) × Recovers C.sum_of config.old.config.segment_size (record { log = old.log.bytes; blobs = λ _. None }) old.snapshots.file (Recovered x) × (numbers : List ℤ) × MayBeRemoved old.snapshots.file (number_of x.shot) numbers × Performs (Synced ∷ NamesSynced ∷ writing_back C.sum_of x numbers) (D.trace config.old.device) (D.trace config.new.device)) }
+        ⊎ ((x : Conclusion) × Recovers C.sum_of config.old.config.segment_size (record { log = old.log.bytes; blobs = λ _. None }) old.snapshots.file (Recovered x) × (numbers : List ℤ) × MayBeRemoved old.snapshots.file (number_of x.shot) numbers × WritesBehind (Synced ∷ NamesSynced ∷ []) C.sum_of x numbers (D.trace config.old.device) (D.trace config.new.device)) }
     ensures corrupt { IsCorruption result → (config.old.config.segment_size < length (state_of (D.trace config.old.device)).log.bytes) ⊎ Recovers C.sum_of config.old.config.segment_size (record { log = (state_of (D.trace config.old.device)).log.bytes; blobs = λ _. None }) (state_of (D.trace config.old.device)).snapshots.file Damaged }
     ensures unwritten { IsCorruption result → D.trace config.new.device ≡ NamesSynced ∷ Synced ∷ D.trace config.old.device }
     ensures answers { DeviceAnswers result (D.faults config.old.device) (D.faults config.new.device) }

@@ -1,5 +1,6 @@
 mod CrashLemmas
 mod CrashLogLemmas
+pub mod ForeignLemmas
 mod KeepsLemmas
 mod KeptLemmas
 pub mod LeavesLemmas

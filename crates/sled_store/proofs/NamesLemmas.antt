@@ -65,6 +65,23 @@ before_change s top n left false false was = was
 pub before_renamed : (s : NamesState) (name : ℤ) (done : Bool) (top : NameState) (asked : List (List ℕ)) (n : ℤ) (left : Option (List ℕ)) → LeavesName s n left → LeavesName (renamed s name done top asked) n left
 before_renamed s name done top asked n left was = before_change s top n left done (int_eq name n) was
 
+after_change : (s : NamesState) (top : NameState) (n : ℤ) (left : Option (List ℕ)) (done here : Bool) → AfterChange s top n left done here → LeavesName s n left ⊎ ((here ≡ true) × LeavesFile top.file top.is_loose left)
+after_change s top n left true true (inl now) = inr (refl, now)
+after_change s top n left true true (inr (inl (inl was))) = inl (inl was)
+after_change s top n left true true (inr (inl (inr earlier))) = inl (inr (inl earlier))
+after_change s top n left true true (inr (inr half)) = inl (inr (inr half))
+after_change s top n left false true (inl now) = inl (inl now)
+after_change s top n left false true (inr (inl earlier)) = inl (inr (inl earlier))
+after_change s top n left false true (inr (inr (inl new))) = inr (refl, new)
+after_change s top n left false true (inr (inr (inr half))) = inl (inr (inr half))
+after_change s top n left true false was = inl was
+after_change s top n left false false was = inl was
+
+-- What a crash leaves of a name after a change it left before, or it is the new file of the name that changed.
+pub after_renamed : (s : NamesState) (name : ℤ) (done : Bool) (top : NameState) (asked : List (List ℕ)) (n : ℤ) (left : Option (List ℕ)) → LeavesName (renamed s name done top asked) n left
+    → LeavesName s n left ⊎ ((int_eq name n ≡ true) × LeavesFile top.file top.is_loose left)
+after_renamed s name done top asked n left is = after_change s top n left done (int_eq name n) is
+
 torn_change : (s : NamesState) (torn top : NameState) (n : ℤ) (left : Option (List ℕ)) (done here : Bool) → (LeavesFile torn.file torn.is_loose left → LeavesFile top.file top.is_loose left)
     → AfterChange s torn n left done here → AfterChange s top n left true here
 torn_change s torn top n left true true may (inl now) = inl (may now)
@@ -95,3 +112,10 @@ torn_unnamed s name done n left was = by (is_some (s.file name)) was
     by : (b : Bool) → LeavesName (if b then renamed s name done (record { file = None; is_loose = false }) [] else s) n left → LeavesName (if b then renamed s name true (record { file = None; is_loose = false }) [] else s) n left
     by true was = torn_renamed s name done (record { file = None; is_loose = false }) (record { file = None; is_loose = false }) [] n left (λ is. is) was
     by false was = was
+
+pub after_unnamed : (s : NamesState) (name : ℤ) (done : Bool) (n : ℤ) (left : Option (List ℕ)) → LeavesName (unnamed s name done) n left → LeavesName s n left ⊎ ((int_eq name n ≡ true) × (left ≡ None))
+after_unnamed s name done n left is = by (is_some (s.file name)) is
+  where
+    by : (b : Bool) → LeavesName (if b then renamed s name done (record { file = None; is_loose = false }) [] else s) n left → LeavesName s n left ⊎ ((int_eq name n ≡ true) × (left ≡ None))
+    by true is = after_renamed s name done (record { file = None; is_loose = false }) [] n left is
+    by false is = inl is

@@ -29,7 +29,7 @@ module _ (P : State → Type 0) where
   stops_throughout e old new (inl same) here torn = stays P old old new (started P old here) same
   stops_throughout e old new (inr left) here torn = added P left.0 old new left.2 here (torn left.0 left.1)
 
-  along_first : (es : List Event) (s : State) → Along P es s → P s
+  pub along_first : (es : List Event) (s : State) → Along P es s → P s
   along_first [] s along = along
   along_first (e ∷ es) s along = along.0
 
@@ -95,3 +95,12 @@ pub performs_behind : (es fs : List Event) (old mid new : Trace) → mid ≡ aft
 unfolding Performs
 performs_behind [] fs old mid new came rest = subst (λ (h : Trace). Performs fs h new) came rest
 performs_behind (e ∷ es) fs old mid new came rest = inr (performs_behind es fs (e ∷ old) mid new came rest)
+
+-- it holds in the state after these calls
+abbrev pub EndsIn : (State → Type 0) → List Event → State → Type 0
+EndsIn P [] s = P s
+EndsIn P (e ∷ es) s = EndsIn P es (step e s)
+
+pub ends_in : (P : State → Type 0) (es : List Event) (old : Trace) → EndsIn P es (state_of old) → P (state_of (after_all es old))
+ends_in P [] old ends = ends
+ends_in P (e ∷ es) old ends = ends_in P es (e ∷ old) ends

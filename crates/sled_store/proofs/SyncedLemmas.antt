@@ -7,7 +7,7 @@ use Rattle.sled_store.proofs.LogLemmas.{at_rest_left}
 use Rattle.sled_store.proofs.NamesLemmas.{settled_name_left, settled_name_synced}
 
 -- a change to a file whose bytes are synced leaves the bytes of all files synced
-firm_renamed : (s : NamesState) (name : ℤ) (done : Bool) (top : NameState) (asked : List (List ℕ)) (n : ℤ) → top.is_loose ≡ false → s.is_loose n ≡ false → (renamed s name done top asked).is_loose n ≡ false
+pub firm_renamed : (s : NamesState) (name : ℤ) (done : Bool) (top : NameState) (asked : List (List ℕ)) (n : ℤ) → top.is_loose ≡ false → s.is_loose n ≡ false → (renamed s name done top asked).is_loose n ≡ false
 firm_renamed s name done top asked n firm was = elim (done && int_eq name n) as (λ b. (if b then top.is_loose else s.is_loose n) ≡ false) [ true ↦ firm | false ↦ was ]
 
 firm_unnamed : (s : NamesState) (name : ℤ) (done there : Bool) (n : ℤ) → s.is_loose n ≡ false → (if there then renamed s name done (record { file = None; is_loose = false }) [] else s).is_loose n ≡ false

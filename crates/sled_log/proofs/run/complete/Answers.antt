@@ -11,7 +11,7 @@ use Rattle.std.specs.Int.{w64, cast_signed, cast_unsigned}
 use Rattle.sled_log.specs.Runs.{Standing, HasCompleted}
 use Rattle.sled_log.specs.RunPhases.{HasMessageOf, IsOpenAt}
 use Rattle.sled_log.proofs.RunLemmas.{place_back}
-use Rattle.sled_log.proofs.RunHistories.{completed, still_has, has_new}
+use Rattle.sled_log.proofs.RunHistories.{completed, still_has, has_new, new_there}
 use Rattle.sled_log.proofs.run.complete.Goals as goal
 use Rattle.sled_log.proofs.run.complete.Goals.{then-page-opened, else-page-opened}
 
@@ -31,7 +31,7 @@ returns-after-page-opened-clause-step g c = λ a at own.
     let formed = completed a.history H' m opened.formed at.5 done.1 (fits_apart trace sum new H' a.acknowledged a.floor (m ∷ opened.unmarked) done.2 whole) in
     let both = awaited old c.args.ticket.reservation m awaits in
     let b : Standing = record { history = H'; acknowledged = a.acknowledged; floor = a.floor; reserved = None } in
-    let small = All-contains (λ x. x.place < next_place new) H'.messages m (fits_reach trace sum new H' a.acknowledged a.floor (m ∷ opened.unmarked) done.2) ((has_new a.history H' m done.1).there) in
+    let small = All-contains (λ x. x.place < next_place new) H'.messages m (fits_reach trace sum new H' a.acknowledged a.floor (m ∷ opened.unmarked) done.2) (new_there a.history H' m done.1) in
     let lies : pos m.place ≡ cast_signed w64 (cast_unsigned w64 c.in-Ok.place) = place_back c.in-Ok.place m.place (c.in-Ok.ensures.place.0 ∙ sym both.0) (let far = next_small new in omega (arith, small, far)) in
     let same : trace new.config.device ≡ trace old.config.device = ap (λ x. trace x.device) c.complete.ensures.same.config in
     let completes : HasCompleted a b (cast_signed w64 (cast_unsigned w64 c.in-Ok.place)) c.in-Ok.pointer =

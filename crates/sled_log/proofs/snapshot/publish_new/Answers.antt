@@ -1,21 +1,20 @@
-use Rattle.std.proofs.Common.{rules, ◌≡◌, ◌∙◌, ℤ, [], inl, refl, FitsSigned}
+use Rattle.std.proofs.Common.{rules, ◌≡◌, ◌∙◌, ℤ, inl, refl, FitsSigned}
 use Rattle.std.specs.Int.{w64, cast_signed, cast_unsigned}
 use Rattle.std.proofs.lemmas.Int.{to_z-of_z}
 use Rattle.sled_codec.specs.Snapshots.{shot_of}
-use Rattle.sled_log.specs.WritesBack.{publishing, number_of, short_file}
+use Rattle.sled_log.specs.WritesBack.{number_of, short_file}
 use Rattle.sled_log.proofs.TableLemmas.{on_ok}
-use Rattle.sled_store.proofs.ScriptLemmas.{performs_nothing}
 use Rattle.sled_log.proofs.WriteLemmas.{has_published, publishes}
 use Rattle.sled_log.proofs.snapshot.publish_new.Given.{Over}
 use Rattle.sled_log.proofs.snapshot.publish_new.Goals as goal
 
 pub returns-then-not-can_serialize-clause-calls : goal.returns-then-not-can_serialize-clause-calls
 returns-then-not-can_serialize-clause-calls g c =
-    ([], inl refl, performs_nothing (publishing g.C.Checksum.sum_of (shot_of c.args.snapshot.now) []) _ _ refl)
+    inl refl
 
 pub returns-in_err-bytes-clause-calls : goal.returns-in_err-bytes-clause-calls
 returns-in_err-bytes-clause-calls g c =
-    ([], inl refl, performs_nothing (publishing g.C.Checksum.sum_of (shot_of c.args.snapshot.now) []) _ _ refl)
+    inl refl
 
 -- what is published is the file of the snapshot, under its number
 module _ (g : Over) (c : goal.After-drop-bytes-2 g) where
@@ -39,4 +38,4 @@ returns-clause-done g c =
 pub returns-clause-calls : goal.returns-clause-calls
 returns-clause-calls g c =
     publishes g.C.Checksum.sum_of (shot_of c.args.snapshot.now) c.deref.result.now (number g c) (is_file g c) (is_number g c) (g.D.Device.trace c.args.config.now.device) (g.D.Device.trace c.publish.new.device) (g.D.Device.trace c.remove_others.new.device) c.in_ok-publish.ensures.done
-    c.remove_others.ensures.calls
+    (c.can_serialize.ensures.0 c.if-not-can_serialize.false) c.remove_others.ensures.calls
