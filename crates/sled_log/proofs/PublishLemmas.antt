@@ -18,7 +18,7 @@ use Rattle.sled_core.specs.Running.{CanBegin, NamesFit}
 use Rattle.sled_log.specs.WritesBack.{short_file}
 use Rattle.sled_log.proofs.NewestLemmas.{sound_at}
 use Rattle.sled_log.proofs.OtherLemmas.{same_name, other_name}
-use Rattle.sled_log.proofs.Trailers.{one_snapshot}
+use Rattle.sled_store.proofs.Trailers.{one_snapshot}
 
 -- The tables that are listed.
 
