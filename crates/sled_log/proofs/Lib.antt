@@ -12,8 +12,8 @@ pub mod FoldLemmas
 pub mod GoodLemmas
 pub mod KeptRecovers
 pub mod LineLemmas
-pub mod NewestLemmas
 pub mod MomentsLemmas
+pub mod NewestLemmas
 pub mod Numbers
 pub mod OneSegment
 mod OnlySegment
@@ -30,9 +30,10 @@ mod PlainSegments
 mod PlainSlots
 mod PlainTail
 mod PlainWhole
+pub mod PublishLemmas
+pub mod RecoveryHolds
 mod RecoveryLemmas
 pub mod RecoveryMoments
-pub mod PublishLemmas
 pub mod RemovalLemmas
 pub mod RestartLemmas
 pub mod RunHistories

@@ -1,9 +1,17 @@
--- What recovery asks of the history that a log's users make.
-use Rattle.std.specs.Prelude.{◌≤◌, ℕ, length}
+-- What recovery asks of a history that a log's users make, and of the device.
+use Rattle.std.specs.Prelude.{◌≤◌, ℕ, List, length}
 use Rattle.sled_codec.specs.History.{History, table}
 use Rattle.sled_codec.specs.WellFormed.{IsWellFormed}
+use Rattle.sled_store.specs.Device.{State, content_of}
+use Rattle.sled_core.specs.Recoverable.{NoForeign, LeavesRecoverable}
 
 -- It is one that a log's users make, and no page has more than 254 Links on its Replace.
 pub record IsOrderly (H : History) : Type 0 where
   pub formed : IsWellFormed H
   pub few : (cut page : ℕ) → length (table H cut page) ≤ 255
+
+-- Each content that a crash leaves of the device can be recovered for an orderly history, and in what is read only what the log itself wrote passes as its own.
+pub record CanRecover (sum : List ℕ → ℕ) (size : ℕ) (device : State) (H : History) (A f : ℕ) : Type 0 where
+  pub orderly : IsOrderly H
+  pub left : LeavesRecoverable sum size H A f device
+  pub own : NoForeign sum size device (content_of device)

@@ -2,14 +2,20 @@
 ghost use Rattle.std.specs.Prelude.{IfSome, List, ℤ, ◌↔◌, ◌≢◌, IsTrue, ◌≡◌, ◌⊎◌, ◌+◌, ◌-◌, ◌^◌, ◌*◌, ◌/◌, ◌%◌, ◌≤◌, ◌<◌, ℕ, map, pos, true, false, Some, [], ◌∷◌, length, None, IfOk, IfErr, OnOk};
 ghost use Rattle.std.specs.List.{All};
 ghost use Rattle.sled_codec.specs.Errors.{IsCorruption, IsDecodeError};
+ghost use Rattle.sled_codec.specs.History.{History, below};
 ghost use Rattle.sled_codec.specs.Snapshots.{Shot, shot_of, page_of, FitsSnapshot};
-ghost use Rattle.sled_store.specs.Device.{state_of, Synced, NamesSynced};
+ghost use Rattle.sled_store.specs.Device.{state_of, content_of, Synced, NamesSynced};
+ghost use Rattle.sled_store.specs.Moments.{LeavesOnly};
 ghost use Rattle.sled_store.specs.Script.{Performs, after_all};
 ghost use Rattle.sled_core.specs.Causes.{DeviceAnswers};
 ghost use Rattle.sled_core.specs.Reading.{file_of};
 ghost use Rattle.sled_core.specs.Scan.{read_of};
 ghost use Rattle.sled_store.specs.SnapshotFiles.{stable_place, BeginsFrom};
 ghost use Rattle.sled_core.specs.Scan.{IsFoundSegment, IsMisplaced};
+ghost use Rattle.sled_core.specs.Good.{IsGood};
+ghost use Rattle.sled_core.specs.Recoverable.{RecoverableIfOwn, LeavesRecoverable};
+ghost use Rattle.sled_core.specs.Running.{Ready};
+ghost use Rattle.sled_log.specs.Orderly.{CanRecover};
 ghost use Rattle.sled_log.specs.Recovery.{least_place, tail_begins, IsOrdering, Recovered, Damaged, Conclusion, outcome_of, are_whole, scanned_of, cut_of, tip_of, is_beyond, ContinuesFrom, Recovers};
 ghost use Rattle.sled_log.specs.WritesBack.{conclusion_of, range_of, number_of, shredding, MayBeRemoved, HasPublished, Publishes, HasWrittenBack, WritesBack, WritesBehind, IsWrittenBack};
 
@@ -35,11 +41,40 @@ use std::alloc::Global;
 /// log, where a damaged record is met, where the table can't be one, and where the file is longer than a
 /// segment; nothing was written then. `Io` comes where the device failed, and `OutOfMemory` where memory was
 /// refused.
+///
+/// Where each content that a crash leaves can be recovered, for a history, the end of what was acknowledged and
+/// a floor, that stays so at each moment, the content is no damage, and the snapshot is good for them; then all
+/// of this holds of what lies below its place, with that for the floor.
 pub fn read_snapshot_or_default<D: Device, C: Checksum>(
     config: &mut RunningConfig<D, C>,
 ) -> Result<Snapshot>
     ensures ok { let old = state_of (D.trace config.old.device) in
-        IfOk result (λ s. (x : Conclusion) × Recovers C.sum_of config.old.config.segment_size (record { log = old.log.bytes; blobs = λ _. None }) old.snapshots.file (Recovered x) × (shot_of s ≡ x.shot) × IsWrittenBack C.sum_of x (state_of (NamesSynced ∷ Synced ∷ D.trace config.old.device)) (state_of (D.trace config.new.device)) × HasWrittenBack C.sum_of x (NamesSynced ∷ Synced ∷ D.trace config.old.device) (D.trace config.new.device)) }
+        IfOk result (λ s. (x : Conclusion) × Recovers C.sum_of config.old.config.segment_size (record { log = old.log.bytes; blobs = λ _. None }) old.snapshots.file (Recovered x) × (shot_of s ≡ x.shot) × IsWrittenBack C.sum_of x (state_of (NamesSynced ∷ Synced ∷ D.trace config.old.device)) (state_of (D.trace config.new.device)) × HasWrittenBack C.sum_of x (NamesSynced ∷ Synced ∷ D.trace config.old.device) (D.trace config.new.device) × (x.is_new ≡ true → FitsSnapshot x.shot)) }
+    ensures newest { IfOk result (λ s. (first : Shot) × BeginsFrom C.sum_of (state_of (D.trace config.new.device)).snapshots.file first × (first.stable ≡ s.stable_lsn) × (first.pages ≡ (shot_of s).pages) × ((first ≡ shot_of s) ⊎ BeginsFrom C.sum_of (state_of (D.trace config.old.device)).snapshots.file first)) }
+    ensures short { OnOk result (length (state_of (D.trace config.old.device)).log.bytes ≤ config.old.config.segment_size) }
+    ensures calls { let old = state_of (D.trace config.old.device) in
+        Performs (Synced ∷ NamesSynced ∷ []) (D.trace config.old.device) (D.trace config.new.device)
+        ⊎ ((x : Conclusion) × Recovers C.sum_of config.old.config.segment_size (record { log = old.log.bytes; blobs = λ _. None }) old.snapshots.file (Recovered x) × (numbers : List ℤ) × MayBeRemoved old.snapshots.file (number_of x.shot) numbers × WritesBehind (Synced ∷ NamesSynced ∷ []) C.sum_of x numbers (D.trace config.old.device) (D.trace config.new.device)) }
+    ensures corrupt { IsCorruption result → (config.old.config.segment_size < length (state_of (D.trace config.old.device)).log.bytes) ⊎ Recovers C.sum_of config.old.config.segment_size (record { log = (state_of (D.trace config.old.device)).log.bytes; blobs = λ _. None }) (state_of (D.trace config.old.device)).snapshots.file Damaged }
+    ensures unwritten { IsCorruption result → D.trace config.new.device ≡ NamesSynced ∷ Synced ∷ D.trace config.old.device }
+    ensures answers { DeviceAnswers result (D.faults config.old.device) (D.faults config.new.device) }
+    ensures config { config.new.config ≡ config.old.config }
+    ensures checksum { config.new.checksum ≡ config.old.checksum }
+    ensures recoverable { (H : History) (A f : ℕ) → CanRecover C.sum_of config.old.config.segment_size (state_of (D.trace config.old.device)) H A f → LeavesOnly (RecoverableIfOwn C.sum_of config.old.config.segment_size H A f) (D.trace config.old.device) (D.trace config.new.device) }
+    ensures undamaged { (H : History) (A f : ℕ) → CanRecover C.sum_of config.old.config.segment_size (state_of (D.trace config.old.device)) H A f → IsCorruption result → ⊥ }
+    ensures good { (H : History) (A f : ℕ) → CanRecover C.sum_of config.old.config.segment_size (state_of (D.trace config.old.device)) H A f → IfOk result (λ s. IsGood C.sum_of config.old.config.segment_size (content_of (state_of (D.trace config.new.device))) H A f (shot_of s)) }
+    ensures kept { (H : History) (A f : ℕ) → CanRecover C.sum_of config.old.config.segment_size (state_of (D.trace config.old.device)) H A f → IfOk result (λ s. LeavesRecoverable C.sum_of config.old.config.segment_size (below H (stable_place s.stable_lsn)) A (stable_place s.stable_lsn) (state_of (D.trace config.new.device))) }
+    ensures ready { (H : History) (A f : ℕ) → CanRecover C.sum_of config.old.config.segment_size (state_of (D.trace config.old.device)) H A f → IfOk result (λ s. stable_place s.stable_lsn < config.old.config.segment_size → Ready C.sum_of config.old.config.segment_size (state_of (D.trace config.new.device)) (shot_of s) (below H (stable_place s.stable_lsn)) A (stable_place s.stable_lsn)) }
+{
+    read_and_write_back(config)
+}
+
+/// Recovers what the device has, and writes back what is left to be written.
+fn read_and_write_back<D: Device, C: Checksum>(
+    config: &mut RunningConfig<D, C>,
+) -> Result<Snapshot>
+    ensures ok { let old = state_of (D.trace config.old.device) in
+        IfOk result (λ s. (x : Conclusion) × Recovers C.sum_of config.old.config.segment_size (record { log = old.log.bytes; blobs = λ _. None }) old.snapshots.file (Recovered x) × (shot_of s ≡ x.shot) × IsWrittenBack C.sum_of x (state_of (NamesSynced ∷ Synced ∷ D.trace config.old.device)) (state_of (D.trace config.new.device)) × HasWrittenBack C.sum_of x (NamesSynced ∷ Synced ∷ D.trace config.old.device) (D.trace config.new.device) × (x.is_new ≡ true → FitsSnapshot x.shot)) }
     ensures newest { IfOk result (λ s. (first : Shot) × BeginsFrom C.sum_of (state_of (D.trace config.new.device)).snapshots.file first × (first.stable ≡ s.stable_lsn) × (first.pages ≡ (shot_of s).pages) × ((first ≡ shot_of s) ⊎ BeginsFrom C.sum_of (state_of (D.trace config.old.device)).snapshots.file first)) }
     ensures short { OnOk result (length (state_of (D.trace config.old.device)).log.bytes ≤ config.old.config.segment_size) }
     ensures calls { let old = state_of (D.trace config.old.device) in

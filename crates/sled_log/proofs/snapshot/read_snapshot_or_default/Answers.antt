@@ -1,42 +1,46 @@
-use Rattle.std.proofs.Common.{◌≡◌, ◌⊎◌, ◌∙◌, ℕ, None, inr, sym, subst, arith}
-use Rattle.sled_core.specs.Scan.{Readable}
-use Rattle.sled_store.specs.Device.{Trace, state_of}
-use Rattle.sled_store.specs.SnapshotFiles.{BeginsFrom}
-use Rattle.sled_log.specs.Recovery.{Conclusion, Recovered, Recovers}
-use Rattle.sled_log.specs.WritesBack.{conclusion_of}
-use Rattle.sled_log.proofs.NewestLemmas.{begins_again}
-use Rattle.sled_log.proofs.WriteLemmas.{recovers_settled, writes_settled}
+use Rattle.std.proofs.Common.{◌≡◌, ◌<◌, ◌≤◌, ◌^◌, ℕ, ap, sym, subst, arith}
+use Rattle.sled_codec.specs.History.{below}
+use Rattle.sled_codec.specs.Snapshots.{Shot, shot_of}
+use Rattle.sled_store.specs.Device.{Trace, state_of, content_of}
+use Rattle.sled_store.specs.SnapshotFiles.{stable_place}
+use Rattle.sled_core.specs.Good.{IsGood}
+use Rattle.sled_core.specs.Recoverable.{LeavesRecoverable}
+use Rattle.sled_core.proofs.ReadingLemmas.{if_ok}
+use Rattle.sled_log.proofs.RecoveryHolds.{holds_throughout, meets_no_damage, is_good, is_cut_off}
+use Rattle.sled_log.proofs.snapshot.read_snapshot_or_default.Given as given
 use Rattle.sled_log.proofs.snapshot.read_snapshot_or_default.Goals as goal
 
-pub returns-in-Ok-write_back-clause-calls : goal.returns-in-Ok-write_back-clause-calls
-returns-in-Ok-write_back-clause-calls g c =
-    let old : Trace = g.D.Device.trace c.args.config.now.device in
-    let settled : Trace = g.D.Device.trace c.settle.new.device in
-    let mid : Trace = g.D.Device.trace c.recover.new.config.device in
-    let x : Conclusion = conclusion_of c.in-Ok.recovery in
-    let recovers = recovers_settled g.C.Checksum.sum_of old settled c.in_ok-settle.ensures.done c.args.config.now.config.segment_size (Recovered x) c.in-Ok.ensures.ok in
-    let writes = writes_settled g.C.Checksum.sum_of old mid (c.in-Ok.ensures.trace ∙ c.in_ok-settle.ensures.done) x (g.D.Device.trace c.write_back.new.config.device) c.write_back.ensures.calls in
-    inr (x, recovers, writes.0, writes.1, writes.2)
+-- the size of a segment is no longer than offsets in a file
+small : (size : ℕ) → size ≤ 8388608 → size < 2 ^ 63
+small size most = omega (arith, most)
 
-pub returns-in-Err-write_back-clause-calls : goal.returns-in-Err-write_back-clause-calls
-returns-in-Err-write_back-clause-calls g c =
-    let old : Trace = g.D.Device.trace c.args.config.now.device in
-    let settled : Trace = g.D.Device.trace c.settle.new.device in
-    let mid : Trace = g.D.Device.trace c.recover.new.config.device in
-    let x : Conclusion = conclusion_of c.in-Ok.recovery in
-    let recovers = recovers_settled g.C.Checksum.sum_of old settled c.in_ok-settle.ensures.done c.args.config.now.config.segment_size (Recovered x) c.in-Ok.ensures.ok in
-    let writes = writes_settled g.C.Checksum.sum_of old mid (c.in-Ok.ensures.trace ∙ c.in_ok-settle.ensures.done) x (g.D.Device.trace c.write_back.new.config.device) c.write_back.ensures.calls in
-    inr (x, recovers, writes.0, writes.1, writes.2)
+pub returns-clause-recoverable : goal.returns-clause-recoverable
+returns-clause-recoverable g c = λ H A f can.
+    let config = c.args.config.now.config in
+    holds_throughout g.C.Checksum.sum_of config.segment_size config.least (small config.segment_size config.most) (g.D.Device.trace c.args.config.now.device) H A f can _ c.read_and_write_back.ensures.calls
 
-pub returns-in-Ok-write_back-clause-newest : goal.returns-in-Ok-write_back-clause-newest
-returns-in-Ok-write_back-clause-newest g c =
-    let settled : Trace = g.D.Device.trace c.settle.new.device in
-    let mid : Trace = g.D.Device.trace c.recover.new.config.device in
-    let new : Trace = g.D.Device.trace c.write_back.new.config.device in
-    let x : Conclusion = conclusion_of c.in-Ok.recovery in
-    let size : ℕ = c.args.config.now.config.segment_size in
-    let r : Readable = record { log = (state_of settled).log.bytes; blobs = λ _. None } in
-    let recovers = subst (λ (h : Trace). Recovers g.C.Checksum.sum_of size r (state_of h).snapshots.file (Recovered x)) (sym c.in-Ok.ensures.trace) c.in-Ok.ensures.ok in
-    let again = begins_again g.C.Checksum.sum_of size r (omega (arith, c.args.config.now.config.least)) x (state_of mid) (state_of new) c.in-Ok-write_back.ensures.written recovers c.in-Ok-write_back.ensures.fits in
-    let as_before = subst (λ (h : Trace). (again.0 ≡ x.shot) ⊎ BeginsFrom g.C.Checksum.sum_of (state_of h).snapshots.file again.0) (c.in-Ok.ensures.trace ∙ c.in_ok-settle.ensures.done) again.4 in
-    (again.0, again.1, again.2, again.3, as_before)
+pub returns-clause-undamaged : goal.returns-clause-undamaged
+returns-clause-undamaged g c = λ H A f can corrupt.
+    let config = c.args.config.now.config in
+    meets_no_damage g.C.Checksum.sum_of config.segment_size config.least (small config.segment_size config.most) (g.D.Device.trace c.args.config.now.device) H A f can (c.read_and_write_back.ensures.corrupt corrupt)
+
+pub returns-clause-good : goal.returns-clause-good
+returns-clause-good g c = λ H A f can.
+    let config = c.args.config.now.config in
+    let sum = g.C.Checksum.sum_of in
+    let new : Trace = g.D.Device.trace c.read_and_write_back.new.config.device in
+    if_ok c.read_and_write_back.result _ (λ s. IsGood sum config.segment_size (content_of (state_of new)) H A f (shot_of s)) (λ s ok.
+        subst (λ (x : Shot). IsGood sum config.segment_size (content_of (state_of new)) H A f x) (sym ok.2)
+        (is_good sum config.segment_size config.least (small config.segment_size config.most) (g.D.Device.trace c.args.config.now.device) H A f can new ok.0 ok.1 ok.3 ok.4 ok.5))
+    c.read_and_write_back.ensures.ok
+
+pub returns-clause-kept : goal.returns-clause-kept
+returns-clause-kept g c = λ H A f can.
+    let config = c.args.config.now.config in
+    let sum = g.C.Checksum.sum_of in
+    let new : Trace = g.D.Device.trace c.read_and_write_back.new.config.device in
+    let Kept : Shot → Type 0 = λ x. LeavesRecoverable sum config.segment_size (below H (stable_place x.stable)) A (stable_place x.stable) (state_of new) in
+    if_ok c.read_and_write_back.result _ (λ s. Kept (shot_of s)) (λ s ok.
+        subst Kept (sym ok.2)
+        (is_cut_off sum config.segment_size config.least (small config.segment_size config.most) (g.D.Device.trace c.args.config.now.device) H A f can new ok.0 ok.1 ok.3 ok.4 ok.5).left)
+    c.read_and_write_back.ensures.ok
