@@ -4,7 +4,7 @@ use Rattle.std.specs.List.{All}
 use Rattle.std.specs.declared.io.Error.{Error as IoError}
 use Rattle.sled_codec.specs.History.{Message, History}
 use Rattle.sled_codec.specs.WellFormed.{LieApart}
-use Rattle.sled_store.specs.Device.{Trace, State}
+use Rattle.sled_store.specs.Device.{Trace, State, state_of}
 use Rattle.sled_core.specs.declared.iobuf.Reserved.{Reserved}
 use Rattle.sled_core.specs.declared.iobuf.Site.{Site}
 use Rattle.sled_core.specs.declared.logger.Log.{Log}
@@ -12,11 +12,12 @@ use Rattle.sled_core.specs.declared.reservation.Reservation.{Reservation}
 use Rattle.sled_core.specs.Tickets.{place_of, pointer_of}
 use Rattle.sled_core.specs.Buffers.{IsChain, completed_in, message_in}
 use Rattle.sled_core.specs.LogFile.{StandIn, StandsElsewhere}
-use Rattle.sled_core.specs.Fits.{HoldsIn, Holds, IsKept, Awaits, next_place, synced_end, fault_of}
-use Rattle.sled_core.specs.Recoverable.{first_site}
+use Rattle.sled_core.specs.Fits.{HoldsIn, Holds, IsKept, Awaits, next_place, synced_end, fault_of, device_of, segment_size_of}
+use Rattle.sled_core.specs.Recoverable.{LeavesRecoverable, first_site}
 use Rattle.sled_core.specs.Running.{Fits}
 use Rattle.sled_core.proofs.Ranges.{with_first, others, completed_between, chain_grows}
 use Rattle.sled_core.proofs.CompletesLemmas.{some_long}
+use Rattle.sled_core.proofs.RunningLemmas.{fits-leaves}
 use Rattle.sled_core.proofs.LogFileLemmas.{stands_some, stand_grows, stand_none}
 
 -- what holds of the elements of two lists holds of those of both together
@@ -148,3 +149,10 @@ awaited log ticket m awaits =
 -- the next place is a place
 pub next_small : {D C : Type 0} (log : Log D C) → next_place log < 2 ^ 63
 next_small log = let inside = log.in_segment in let reach = log.place_in_reach in omega (arith, inside, reach)
+
+-- what a crash leaves of its device can be recovered
+pub fits_leaves : {D C : Type 0} (trace : D → Trace) (sum : List ℕ → ℕ) (log : Log D C) (H : History) (A f : ℕ) (U : List Message) → Fits trace sum log H A f U → LeavesRecoverable sum (segment_size_of log) H A f (state_of (trace (device_of log)))
+unfolding Fits
+fits_leaves trace sum log H A f U fits =
+    let reach = log.place_in_reach in
+    fits-leaves sum log.config.config.segment_size log.site _ log.fault log.buffer.bytes.items log.buffer.from log.buffer.reserved.items log.pins H A f U fits log.config.config.least (omega (arith, reach))

@@ -5,9 +5,11 @@ use Rattle.std.specs.Int.{w64, cast_signed, cast_unsigned}
 use Rattle.std.proofs.lemmas.Int.{to_z-of_z}
 use Rattle.sled_codec.specs.History.{History}
 use Rattle.sled_store.specs.declared.device.choice.Choice.{Choice}
-use Rattle.sled_store.specs.Device.{Event, Left, Trace, State, Content, Crashed, Settled, state_of, step, content_of, content_left, Leaves, names_at_rest}
-use Rattle.sled_store.specs.Script.{Performs, Along}
-use Rattle.sled_store.proofs.ScriptLemmas.{performs_throughout}
+use Rattle.sled_log.specs.WritesBack.{shredding, writing_back}
+use Rattle.sled_log.proofs.RecoveryMoments.{RecoveryCalls}
+use Rattle.sled_store.specs.Device.{Event, Left, Trace, State, Content, Synced, NamesSynced, Crashed, Settled, state_of, step, content_of, content_left, Leaves, names_at_rest}
+use Rattle.sled_store.specs.Script.{Performs, Along, after_all}
+use Rattle.sled_store.proofs.ScriptLemmas.{performs_throughout, performs_whole}
 use Rattle.sled_store.specs.Chosen.{MayBeChosen}
 use Rattle.sled_store.specs.Noted.{left_of}
 use Rattle.sled_store.proofs.LogLemmas.{at_rest_left}
@@ -16,7 +18,22 @@ use Rattle.sled_store.proofs.NamesLemmas.{settled_name_left, settled_name_at_res
 use Rattle.sled_core.specs.Recoverable.{NoForeign, Recoverable, LeavesRecoverable}
 use Rattle.sled_log.specs.declared.run.Command.{Command}
 use Rattle.sled_log.specs.declared.run.Reply.{Reply}
-use Rattle.sled_log.specs.Runs.{OwnLeft, OwnEach, OwnThroughout, Standing, IsLater, IsStep, Runs}
+use Rattle.std.specs.Prelude.{Err}
+use Rattle.sled_codec.specs.declared.result.Error.{Error}
+use Rattle.sled_codec.specs.declared.result.Error.TheVariants as error
+use Rattle.sled_codec.specs.Errors.{IsCorruption}
+use Rattle.sled_codec.specs.Snapshots.{Shot}
+use Rattle.sled_store.specs.declared.config.RunningConfig.{RunningConfig}
+use Rattle.sled_core.specs.Causes.{DeviceAnswers}
+use Rattle.sled_core.specs.Fits.{config_of, device_of, segment_size_of}
+use Rattle.sled_core.proofs.ReachLemmas.{fits_leaves}
+use Rattle.sled_log.specs.declared.run.Opened.{Opened}
+use Rattle.sled_log.specs.declared.run.Command.TheVariants as command
+use Rattle.sled_log.specs.declared.run.Reply.TheVariants as reply
+use Rattle.sled_log.specs.declared.run.Phase.{Phase}
+use Rattle.sled_log.specs.declared.run.Phase.TheVariants as phase
+use Rattle.sled_log.specs.RunPhases.{IsOpenAt, IsClosedAt, IsAt, IsRecovery, trace_of, CarriesOut, CrashesInto}
+use Rattle.sled_log.specs.Runs.{ended, HasRecovered, IsOfDevice, OwnLeft, OwnEach, OwnThroughout, Standing, IsLater, IsStep, Runs}
 
 -- a place as code holds it
 pub place_back : (z : ℤ) (n : ℕ) → z ≡ pos n → n < 2 ^ 63 → pos n ≡ cast_signed w64 (cast_unsigned w64 z)
@@ -122,3 +139,73 @@ module _ (sum : List ℕ → ℕ) (size : ℕ) where
 pub left_by : (old : Trace) (choice : Choice) (taken : Bool) → (IsTrue taken → MayBeChosen choice (state_of old)) → Leaves (state_of old) (content_left (if taken then left_of choice else Settled []) (state_of old))
 left_by old choice true may = (may refl).1
 left_by old choice false may = settled_left_too old
+
+-- Phases.
+
+-- Once a log is given up, a recovery can go on from its device.
+pub closed_at : {D C : Type 0} (trace : D → Trace) (sum : List ℕ → ℕ) (opened : Opened D C) (config : RunningConfig D C) (a : Standing) → config ≡ config_of opened.log → IsOpenAt trace sum opened a
+    → IsClosedAt sum (segment_size_of opened.log) (trace config.device) (ended a)
+closed_at trace sum opened config a is at = record {
+  formed = at.formed;
+  left = subst (λ (x : RunningConfig _ _). LeavesRecoverable sum (segment_size_of opened.log) a.history a.acknowledged a.floor (state_of (trace x.device))) (sym is)
+      (fits_leaves trace sum opened.log a.history a.acknowledged a.floor at.unmarked at.fits);
+  none = refl;
+}
+
+-- no log is open, nor a reservation
+pub ended_at : (sum : List ℕ → ℕ) (size : ℕ) (trace : Trace) (a : Standing) → IsClosedAt sum size trace a → IsClosedAt sum size trace (ended a)
+ended_at sum size trace a at = record { formed = at.formed; left = at.left; none = refl }
+
+-- what is made by a list of calls is later
+pub later_all : (es : List Event) (old new : Trace) → new ≡ after_all es old → IsLater old new
+later_all es old new is = later_performed es old new (performs_whole es old new is)
+
+-- and by those of a recovery
+pub later_recovered : (sum : List ℕ → ℕ) (size : ℕ) (old new : Trace) → RecoveryCalls sum size old new → IsLater old new
+later_recovered sum size old new (inl settling) = later_performed (Synced ∷ NamesSynced ∷ []) old new settling
+later_recovered sum size old new (inr (x, recovers, ns, may, inl begun)) = later_performed (Synced ∷ NamesSynced ∷ shredding x.tip) old new begun
+later_recovered sum size old new (inr (x, recovers, ns, may, inr made)) = later_performed (Synced ∷ NamesSynced ∷ writing_back sum x ns) old new made.1
+
+-- a reply that shows what was recovered
+pub recovered_step : (sum : List ℕ → ℕ) (size : ℕ) (old new : Trace) (a b : Standing) (s : Shot) (r : Reply) → IsRecovery s r → HasRecovered sum size old new a b s → IsStep sum size old new command.Open r a b
+recovered_step sum size old new a b s (reply.Opened t) shows has = (refl, subst (λ (x : Shot). HasRecovered sum size old new a b x) (sym shows) has)
+recovered_step sum size old new a b s (reply.Recovered t e) shows has = (refl, subst (λ (x : Shot). HasRecovered sum size old new a b x) (sym shows) has)
+recovered_step sum size old new a b s (reply.Reserved place pointer) shows has = absurd shows
+recovered_step sum size old new a b s (reply.Done place pointer) shows has = absurd shows
+recovered_step sum size old new a b s (reply.Flushed n) shows has = absurd shows
+recovered_step sum size old new a b s reply.Halted shows has = absurd shows
+recovered_step sum size old new a b s reply.Armed shows has = absurd shows
+recovered_step sum size old new a b s (reply.Crashed taken) shows has = absurd shows
+recovered_step sum size old new a b s (reply.Failed e) shows has = absurd shows
+recovered_step sum size old new a b s reply.Refused shows has = absurd shows
+
+-- an answer of a recovery that is no damage is the device's, or want of memory
+pub of_device : (T : Type 0) (e : Error) (before after : ℕ) → DeviceAnswers {T = T} (Err e) before after → (IsCorruption {T = T} (Err e) → ⊥) → IsOfDevice e
+of_device T (error.Io e) before after answers whole = tt
+of_device T error.OutOfMemory before after answers whole = tt
+of_device T (error.Corruption at) before after answers whole = absurd (whole tt)
+of_device T _ before after answers whole = absurd answers
+
+-- the same command under another name
+pub carried : {D C : Type 0} (trace : D → Trace) (sum : List ℕ → ℕ) (phase : Phase D C) (c d : Command) (result : Phase D C × Reply) → d ≡ c → CarriesOut trace sum phase c result → CarriesOut trace sum phase d result
+carried trace sum phase c d result is carries = subst (λ (x : Command). CarriesOut trace sum phase x result) (sym is) carries
+
+-- a crash while no log is open
+pub crash_closed : {D C : Type 0} (trace : D → Trace) (sum : List ℕ → ℕ) (config : RunningConfig D C) (c : Command) (choice : Choice) (result : Phase D C × Reply) → c ≡ command.Crash choice → CrashesInto trace sum config choice result
+    → CarriesOut trace sum (phase.Closed config) c result
+crash_closed trace sum config c choice result is crashes =
+    carried trace sum (phase.Closed config) (command.Crash choice) c result is (λ a at own. let made = crashes a (ended_at sum config.config.segment_size (trace config.device) a at) own in (ended a, made.0, made.1))
+
+-- and while one is, once it is given up
+pub crash_open : {D C : Type 0} (trace : D → Trace) (sum : List ℕ → ℕ) (opened : Opened D C) (config : RunningConfig D C) (c : Command) (choice : Choice) (result : Phase D C × Reply) → config ≡ config_of opened.log → c ≡ command.Crash choice → CrashesInto trace sum config choice result
+    → (a : Standing) → IsOpenAt trace sum opened a → OwnThroughout sum (segment_size_of opened.log) (trace (device_of opened.log)) (trace_of trace result.0)
+    → (b : Standing) × IsStep sum (segment_size_of opened.log) (trace (device_of opened.log)) (trace_of trace result.0) c result.1 a b × IsAt trace sum (segment_size_of opened.log) result.0 b
+crash_open trace sum opened config c choice result is_config is crashes a at own =
+    let from : CrashesInto trace sum (config_of opened.log) choice result = subst (λ (x : RunningConfig _ _). CrashesInto trace sum x choice result) is_config crashes in
+    let made = from a (closed_at trace sum opened (config_of opened.log) a refl at) own in
+    (ended a, subst (λ (x : Command). IsStep sum (segment_size_of opened.log) (trace (device_of opened.log)) (trace_of trace result.0) x result.1 a (ended a)) (sym is) made.0, made.1)
+
+-- a log that is given up
+pub halt_open : {D C : Type 0} (trace : D → Trace) (sum : List ℕ → ℕ) (opened : Opened D C) (config : RunningConfig D C) (c : Command) → config ≡ config_of opened.log → c ≡ command.Halt → (a : Standing) → IsOpenAt trace sum opened a
+    → (b : Standing) × IsStep sum (segment_size_of opened.log) (trace (device_of opened.log)) (trace config.device) c reply.Halted a b × IsClosedAt sum (segment_size_of opened.log) (trace config.device) b
+halt_open trace sum opened config c is_config is a at = (ended a, (ap (λ (x : RunningConfig _ _). trace x.device) is_config, is, refl), closed_at trace sum opened config a is_config at)

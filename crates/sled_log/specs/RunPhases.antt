@@ -18,7 +18,9 @@ use Rattle.sled_log.specs.declared.run.Opened.{Opened}
 use Rattle.sled_log.specs.declared.run.Command.{Command}
 use Rattle.sled_log.specs.declared.run.Reply.{Reply}
 use Rattle.sled_log.specs.declared.run.Reply.TheVariants as reply
-use Rattle.sled_log.specs.Runs.{Standing, IsLater, OwnThroughout, IsStep}
+use Rattle.sled_store.specs.declared.device.choice.Choice.{Choice}
+use Rattle.sled_log.specs.declared.run.Command.TheVariants as command
+use Rattle.sled_log.specs.Runs.{Standing, ended, IsLater, OwnThroughout, IsStep}
 
 -- a message of a page lies below a place
 pub record HasBelow (messages : List Message) (page place : ℕ) : Type 0 where
@@ -90,6 +92,13 @@ CarriesOut trace sum phase command result =
     let size = size_of phase in
     (a : Standing) → IsAt trace sum size phase a → OwnThroughout sum size (trace_of trace phase) (trace_of trace result.0)
     → (b : Standing) × IsStep sum size (trace_of trace phase) (trace_of trace result.0) command result.1 a b × IsAt trace sum size result.0 b
+
+-- A crash of the device of these leads to a phase in which no reservation is open.
+abbrev pub CrashesInto : {D C : Type 0} → (D → Trace) → (List ℕ → ℕ) → RunningConfig D C → Choice → Phase D C × Reply → Type 0
+CrashesInto trace sum config choice result =
+    let size = config.config.segment_size in
+    (a : Standing) → IsClosedAt sum size (trace config.device) (ended a) → OwnThroughout sum size (trace config.device) (trace_of trace result.0)
+    → IsStep sum size (trace config.device) (trace_of trace result.0) (command.Crash choice) result.1 a (ended a) × IsAt trace sum size result.0 (ended a)
 
 -- whatever happened, the next phase goes on from the one before
 pub record Continues {D C : Type 0} (trace : D → Trace) (phase next : Phase D C) : Type 0 where

@@ -10,8 +10,8 @@ ghost use Rattle.sled_store.specs.Device.{state_of, fresh};
 ghost use Rattle.sled_store.specs.SnapshotFiles.{stable_place};
 ghost use Rattle.sled_core.specs.Fits.{IsOpen, pins_of, fault_of, config_of, device_of, segment_size_of};
 ghost use Rattle.sled_core.specs.Running.{Fits, Ready};
-ghost use Rattle.sled_log.specs.Runs.{OwnThroughout, Standing, nothing_yet, ended, HasRecovered, IsStep, Runs};
-ghost use Rattle.sled_log.specs.RunPhases.{IsOfReplaces, HasMessageOf, IsRecoveredAt, IsRecovery, IsAt, trace_of, size_of, CanGoOn, CarriesOut, Continues};
+ghost use Rattle.sled_log.specs.Runs.{OwnThroughout, Standing, nothing_yet, Runs};
+ghost use Rattle.sled_log.specs.RunPhases.{IsOfReplaces, HasMessageOf, IsRecoveredAt, IsRecovery, IsAt, trace_of, size_of, CanGoOn, CarriesOut, CrashesInto, Continues};
 
 use crate::snapshot::{Snapshot, read_snapshot_or_default};
 use sled_codec::result::{DiskPtr, Error, Lsn, PageId};
@@ -249,7 +249,7 @@ fn crash<D: CrashDevice, C: Checksum>(
     config: RunningConfig<D, C>,
     choice: Choice,
 ) -> (Phase<D, C>, Reply)
-    ensures step { CarriesOut D.trace C.sum_of (Phase.Closed config) (Command.Crash choice) result }
+    ensures step { CrashesInto D.trace C.sum_of config choice result }
     ensures on { Continues D.trace (Phase.Closed config) result.0 }
 {
     let mut config = config;

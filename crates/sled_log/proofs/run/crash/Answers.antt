@@ -1,7 +1,6 @@
 use Rattle.std.proofs.Common.{refl, if◌then◌else◌, []}
 use Rattle.sled_store.specs.Device.{Settled}
 use Rattle.sled_store.specs.Noted.{left_of}
-use Rattle.sled_log.specs.Runs.{ended}
 use Rattle.sled_log.proofs.RunLemmas.{later_one, crash_recoverable, left_by}
 use Rattle.sled_log.proofs.run.crash.Goals as goal
 
@@ -13,14 +12,13 @@ returns-clause-step g c = λ a at own.
     let new = g.D.Device.trace c.crash-taken.new.self in
     let taken = c.crash-taken.result in
     (
-      ended a,
       (c.args.choice, refl, c.crash-taken.ensures.left, c.crash-taken.ensures.taken.0, refl),
       record {
         formed = at.formed;
         left = crash_recoverable sum c.args.config.config.segment_size a.history a.acknowledged a.floor old new (if taken then left_of c.args.choice else Settled []) at.left c.crash-taken.ensures.left
             (left_by old c.args.choice taken c.crash-taken.ensures.taken.0) own;
         none = refl;
-      }
+      },
     )
 
 pub returns-clause-on : goal.returns-clause-on

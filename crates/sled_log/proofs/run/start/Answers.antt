@@ -1,0 +1,30 @@
+use Rattle.std.proofs.Common.{◌≡◌, ◌<◌, ◌∙◌, refl, sym, ap, subst, arith, rules, length}
+use Rattle.sled_core.specs.Recoverable.{LeavesRecoverable}
+use Rattle.sled_codec.specs.Snapshots.{shot_of}
+use Rattle.sled_store.specs.SnapshotFiles.{stable_place}
+use Rattle.sled_store.proofs.MomentLemmas.{at_last}
+use Rattle.sled_store.specs.Device.{state_of}
+use Rattle.sled_core.specs.Begin.{slots_of, unused, filling}
+use Rattle.sled_log.proofs.RunLemmas.{later_is, later_all, later_performed}
+use Rattle.sled_log.proofs.run.start.Goals as goal
+
+pub returns-in-Ok-clause-on : goal.returns-in-Ok-clause-on
+returns-in-Ok-clause-on g c = let size = c.args.config.config.segment_size in record {
+  later = later_all (filling size (unused size (slots_of size (length (state_of (g.D.Device.trace c.args.config.device)).log.bytes)) (shot_of c.args.snapshot))) _ _ (c.opened_on.ensures.trace ∙ c.in-Ok.ensures.filled);
+  size = c.opened_on.ensures.size ∙ c.in-Ok.ensures.size;
+  can_go_on = c.opened_on.ensures.can_go_on;
+}
+
+-- a start that was refused left what can be recovered
+pub returns-in-Err-clause-step : goal.returns-in-Err-clause-step
+returns-in-Err-clause-step g c = λ a at own.
+    let size = c.args.config.config.segment_size in
+    let below : stable_place c.args.snapshot.stable_lsn < size = search rules in
+    record {
+      formed = at.closed.formed;
+      left = at_last (LeavesRecoverable g.C.Checksum.sum_of size a.history a.acknowledged a.floor) _ _ (c.in-Err.ensures.crash_err a.history a.acknowledged a.floor (at.ready below));
+      none = at.closed.none;
+    }
+
+pub returns-in-Err-clause-on : goal.returns-in-Err-clause-on
+returns-in-Err-clause-on g c = record { later = later_performed _ _ _ c.in-Err.ensures.calls; size = ap (λ x. x.segment_size) c.in-Err.ensures.back.0; can_go_on = tt }
