@@ -37,6 +37,7 @@ pub mod RemovalLemmas
 pub mod RestartLemmas
 pub mod RunHistories
 pub mod RunLemmas
+pub mod SegmentReady
 mod SegmentRecovers
 mod SegmentUndamaged
 pub mod TableCuts
