@@ -30,6 +30,7 @@ mod PlainSegments
 mod PlainSlots
 mod PlainTail
 mod PlainWhole
+pub mod ReadyAfter
 mod RecoveryLemmas
 pub mod RecoveryMoments
 pub mod PublishLemmas
