@@ -1,5 +1,5 @@
 -- Behind a recovery of a content all of whose log is in its first segment, snapshot and device are ready for a log that holds what lies below the cut.
-use Rattle.std.proofs.Common.{◌≡◌, ◌∙◌, ◌≤◌, ◌<◌, ◌+◌, ◌-◌, ◌%◌, ◌^◌, ℕ, pos, Bool, true, false, nat_lt, if◌then◌else◌, List, [], ◌++◌, length, replicate, Option, Some, None, MatchOption, refl, sym, ap, subst, arith, inl, inr}
+use Rattle.std.proofs.Common.{◌≡◌, ◌∙◌, ◌≤◌, ◌<◌, ◌+◌, ◌-◌, ◌%◌, ◌^◌, ℕ, pos, Bool, true, false, nat_lt, if◌then◌else◌, List, [], length, replicate, Option, Some, None, MatchOption, refl, sym, ap, subst, arith, inl, inr}
 use Rattle.std.specs.List.{All}
 use Rattle.std.proofs.Math.Nat.{mod-eq_of_lt}
 use Rattle.std.proofs.lemmas.Bool.Decides.{nat_tests}
@@ -200,7 +200,7 @@ module _ (sum : List ℕ → ℕ) (size : ℕ) (old new : State) (H : History) (
     | inr (begun, at) ↦ absurd (omega (arith, less, at, ap (λ (y : Conclusion). stable_place y.shot.stable) stays.is))
   ]
 
--- The whole.
+-- All was written back, and the cut lies within the first segment: snapshot and device are ready for what lies below it, with it for the floor.
 pub ready_after : (sum : List ℕ → ℕ) (size : ℕ) (old new : State) (H : History) (A f : ℕ) → 256 ≤ size → size < 2 ^ 63 → IsOrderly H → (is : IsRecoverableInFirst sum size (content_of old) H A f)
     → (x : Conclusion) → ConcludesIn sum size (content_of old) H A is.first x → IsWrittenBack sum x (step NamesSynced (step Synced old)) new → BeginsAgain sum old.snapshots.file new x.shot
     → IsCutOff sum size H A (stable_place x.shot.stable) new → stable_place x.shot.stable < size → Ready sum size new x.shot (below H (stable_place x.shot.stable)) A (stable_place x.shot.stable)

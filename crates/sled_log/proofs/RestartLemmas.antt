@@ -1,11 +1,11 @@
 -- Where all of a history is on the device, recovery leaves snapshot and device ready for a log that holds it.
-use Rattle.std.proofs.Common.{◌≡◌, ◌⊎◌, ◌∙◌, ◌≤◌, ◌<◌, ◌+◌, ◌-◌, ◌*◌, ◌/◌, ◌%◌, ◌||◌, ◌&&◌, ℕ, ℤ, pos, max, Bool, true, false, nat_lt, nat_le, if◌then◌else◌, List, [], ◌∷◌, ◌++◌, length, map, replicate, Option, Some, None, MatchOption, refl, sym, ap, subst, arith, inl, inr}
+use Rattle.std.proofs.Common.{◌≡◌, ◌⊎◌, ◌∙◌, ◌≤◌, ◌<◌, ◌+◌, ◌-◌, ◌*◌, ◌/◌, ◌%◌, ◌||◌, ◌&&◌, ℕ, ℤ, pos, Bool, true, false, nat_lt, nat_le, if◌then◌else◌, List, [], ◌∷◌, ◌++◌, length, map, replicate, Option, Some, None, MatchOption, refl, sym, ap, subst, arith, inl, inr}
 use Rattle.std.specs.List.{All, Contains, filter}
 use Rattle.std.proofs.Math.Nat.{mod-add-div', div-eq_of_lt, add-mod_right}
 use Rattle.std.proofs.Math.Bool.{or-true}
 use Rattle.std.proofs.lemmas.Bool.{cases_lt}
 use Rattle.std.proofs.lemmas.Bool.Decides.{nat_tests}
-use Rattle.std.proofs.lemmas.List.{length-replicate, append-nil}
+use Rattle.std.proofs.lemmas.List.{append-nil}
 use Rattle.sled_log.proofs.Ascending.{all_from_in}
 use Rattle.std.proofs.lemmas.List.Elements.{All-contains}
 use Rattle.sled_codec.specs.Pointers.{lid_of}
@@ -22,12 +22,11 @@ use Rattle.sled_core.specs.Scan.{Readable, IsFoundSegment, IsMisplaced}
 use Rattle.sled_core.specs.Begin.{is_used, is_active}
 use Rattle.sled_core.specs.LogFile.{StandIn, StandsElsewhere, IsLogFile}
 use Rattle.sled_core.specs.Fits.{IsBegunFrom, IsKept}
-use Rattle.sled_core.specs.Ready.{StandsUsed, HasFile, IsReady, active_site}
+use Rattle.sled_core.specs.Ready.{StandsUsed, HasFile, IsReady}
 use Rattle.sled_core.proofs.Ranges.{with_first}
 use Rattle.sled_core.proofs.ScanLemmas.{aligned_offset}
-use Rattle.sled_core.proofs.LogFileLemmas.{stands_some, stand_none, stand_kept, header_kept}
+use Rattle.sled_core.proofs.LogFileLemmas.{stands_some, stand_none}
 use Rattle.sled_core.proofs.GivesLemmas.{StandsWhole, own_stands}
-use Rattle.sled_core.proofs.TornZeros.{zeros_read}
 use Rattle.sled_log.specs.Recovery.{Conclusion, Recovered, Damaged, Applied, applied, has_no_table, are_whole, table_of, unchanged, concluded, cut_of, is_filled, tip_of, is_beyond, least_place, ContinuesFrom, Recovers}
 use Rattle.sled_log.specs.WritesBack.{IsWrittenBack}
 use Rattle.sled_log.proofs.FoldLemmas.{fold_all}
@@ -50,7 +49,7 @@ none_misplaced sum size r first x (inr (ordering, is, replays)) y found bad = is
 abbrev pub BeginsAgain : (List ℕ → ℕ) → (ℤ → Option (List ℕ)) → State → Shot → Type 0
 BeginsAgain sum snapshots new s = (w : Shot) × BeginsFrom sum new.snapshots.file w × (w.stable ≡ s.stable) × (w.pages ≡ s.pages) × ((w ≡ s) ⊎ BeginsFrom sum snapshots w)
 
--- It begins from the first of these, where the snapshot that was there is the same once its place and its pages are.
+-- then it would begin from the snapshot itself, where the one that was there is the same as soon as its place and pages are
 pub begins_with : (sum : List ℕ → ℕ) (snapshots : ℤ → Option (List ℕ)) (new : State) (s first : Shot) → BeginsFrom sum snapshots first → BeginsAgain sum snapshots new s
     → (first.stable ≡ s.stable → first.pages ≡ s.pages → first ≡ s) → BeginsFrom sum new.snapshots.file s
 begins_with sum snapshots new s first was again same = elim again.4 [

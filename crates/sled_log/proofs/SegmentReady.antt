@@ -1,9 +1,9 @@
 -- Where all messages of a history stand one behind another in one segment, and the rest of it was filled with zeros, snapshot and device are ready for a log that goes on behind them.
-use Rattle.std.proofs.Common.{◌≡◌, ◌∙◌, ◌≤◌, ◌<◌, ◌+◌, ◌-◌, ◌*◌, ◌/◌, ◌%◌, ℕ, pos, max, List, [], length, replicate, Option, Some, refl, sym, subst, arith, ap}
+use Rattle.std.proofs.Common.{◌≡◌, ◌≤◌, ◌<◌, ◌+◌, ◌-◌, ◌*◌, ◌/◌, ◌%◌, ℕ, pos, List, [], length, replicate, Some, refl, sym, subst, arith, ap}
 use Rattle.std.proofs.Math.Nat.{mod-add-div'}
 use Rattle.sled_codec.specs.History.{Message, History}
 use Rattle.sled_codec.specs.PageTables.{IsTable}
-use Rattle.sled_codec.specs.Snapshots.{Page, Shot}
+use Rattle.sled_codec.specs.Snapshots.{Page}
 use Rattle.sled_store.specs.Device.{State, at_rest, overwritten}
 use Rattle.sled_store.specs.SnapshotFiles.{BeginsFrom}
 use Rattle.sled_core.specs.declared.iobuf.Site.{Site}
