@@ -21,7 +21,7 @@ keeps_low cut (m ∷ ms) all =
     ap (λ (b : Bool). cond b (m ∷ filter (λ n. nat_lt n.place cut) ms) (filter (λ n. nat_lt n.place cut) ms)) (lt-ltb m.place cut (all 0 m (omega arith)))
     ∙ ap (λ l. m ∷ l) (keeps_low cut ms (All-tail (λ n. n.place < cut) m ms all))
 
-drops_high : (cut : ℕ) (ms : List Message) → All (λ m. cut ≤ m.place) ms → filter (λ m. nat_lt m.place cut) ms ≡ []
+pub drops_high : (cut : ℕ) (ms : List Message) → All (λ m. cut ≤ m.place) ms → filter (λ m. nat_lt m.place cut) ms ≡ []
 drops_high cut [] all = refl
 drops_high cut (m ∷ ms) all =
     ap (λ (b : Bool). cond b (m ∷ filter (λ n. nat_lt n.place cut) ms) (filter (λ n. nat_lt n.place cut) ms)) (le-ltb m.place cut (all 0 m (omega arith)))

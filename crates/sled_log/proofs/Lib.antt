@@ -31,6 +31,7 @@ mod PlainSlots
 mod PlainTail
 mod PlainWhole
 pub mod PublishLemmas
+pub mod ReadyAfter
 pub mod RecoveryHolds
 mod RecoveryLemmas
 pub mod RecoveryMoments
@@ -38,6 +39,7 @@ pub mod RemovalLemmas
 pub mod RestartLemmas
 pub mod RunHistories
 pub mod RunLemmas
+pub mod SegmentReady
 mod SegmentRecovers
 mod SegmentUndamaged
 pub mod TableCuts

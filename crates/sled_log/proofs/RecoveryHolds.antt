@@ -19,6 +19,8 @@ use Rattle.sled_log.proofs.FirstUndamaged.{not_damaged}
 use Rattle.sled_log.proofs.GoodLemmas.{IsLeftBy, good_written}
 use Rattle.sled_log.proofs.RecoveryMoments.{RecoveryCalls, recovery_throughout}
 use Rattle.sled_log.proofs.AfterRecovery.{IsCutOff, cut_off_after}
+use Rattle.sled_log.proofs.ReadyAfter.{ready_after}
+use Rattle.sled_log.proofs.RestartLemmas.{BeginsAgain}
 
 -- the bytes of a log file that was written back
 left_by : (old new : LogState) (tip : Option (ℕ × ℕ)) → MatchOption tip (new ≡ at_rest old.bytes) (λ t. new ≡ at_rest (overwritten old.bytes t.0 (replicate t.1 0))) → IsLeftBy old.bytes new.bytes tip
@@ -52,3 +54,7 @@ module _ (sum : List ℕ → ℕ) (size : ℕ) (large : 256 ≤ size) (small : s
     -- what lies past its place is forgotten
     pub is_cut_off : IsCutOff sum size H A (stable_place x.shot.stable) (state_of new)
     is_cut_off = cut_off_after sum size H A f large small old in_first x concludes fits new made
+
+    -- and it is ready for a log that goes on, where it lies in the segment
+    pub is_ready : BeginsAgain sum (state_of old).snapshots.file (state_of new) x.shot → stable_place x.shot.stable < size → Ready sum size (state_of new) x.shot (below H (stable_place x.shot.stable)) A (stable_place x.shot.stable)
+    is_ready again = ready_after sum size (state_of old) (state_of new) H A f large small can.orderly in_first x concludes written again is_cut_off

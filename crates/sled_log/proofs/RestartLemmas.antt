@@ -1,11 +1,11 @@
 -- Where all of a history is on the device, recovery leaves snapshot and device ready for a log that holds it.
-use Rattle.std.proofs.Common.{◌≡◌, ◌⊎◌, ◌∙◌, ◌≤◌, ◌<◌, ◌+◌, ◌-◌, ◌*◌, ◌/◌, ◌%◌, ◌||◌, ◌&&◌, ℕ, ℤ, pos, max, Bool, true, false, nat_lt, nat_le, if◌then◌else◌, List, [], ◌∷◌, ◌++◌, length, map, replicate, Option, Some, None, MatchOption, refl, sym, ap, subst, arith, inl, inr}
+use Rattle.std.proofs.Common.{◌≡◌, ◌⊎◌, ◌∙◌, ◌≤◌, ◌<◌, ◌+◌, ◌-◌, ◌*◌, ◌/◌, ◌%◌, ◌||◌, ◌&&◌, ℕ, ℤ, pos, Bool, true, false, nat_lt, nat_le, if◌then◌else◌, List, [], ◌∷◌, ◌++◌, length, map, replicate, Option, Some, None, MatchOption, refl, sym, ap, subst, arith, inl, inr}
 use Rattle.std.specs.List.{All, Contains, filter}
 use Rattle.std.proofs.Math.Nat.{mod-add-div', div-eq_of_lt, add-mod_right}
 use Rattle.std.proofs.Math.Bool.{or-true}
 use Rattle.std.proofs.lemmas.Bool.{cases_lt}
 use Rattle.std.proofs.lemmas.Bool.Decides.{nat_tests}
-use Rattle.std.proofs.lemmas.List.{length-replicate, append-nil}
+use Rattle.std.proofs.lemmas.List.{append-nil}
 use Rattle.sled_log.proofs.Ascending.{all_from_in}
 use Rattle.std.proofs.lemmas.List.Elements.{All-contains}
 use Rattle.sled_codec.specs.Pointers.{lid_of}
@@ -22,12 +22,11 @@ use Rattle.sled_core.specs.Scan.{Readable, IsFoundSegment, IsMisplaced}
 use Rattle.sled_core.specs.Begin.{is_used, is_active}
 use Rattle.sled_core.specs.LogFile.{StandIn, StandsElsewhere, IsLogFile}
 use Rattle.sled_core.specs.Fits.{IsBegunFrom, IsKept}
-use Rattle.sled_core.specs.Ready.{StandsUsed, HasFile, IsReady, active_site}
+use Rattle.sled_core.specs.Ready.{StandsUsed, HasFile, IsReady}
 use Rattle.sled_core.proofs.Ranges.{with_first}
 use Rattle.sled_core.proofs.ScanLemmas.{aligned_offset}
-use Rattle.sled_core.proofs.LogFileLemmas.{stands_some, stand_none, stand_kept, header_kept}
+use Rattle.sled_core.proofs.LogFileLemmas.{stands_some, stand_none}
 use Rattle.sled_core.proofs.GivesLemmas.{StandsWhole, own_stands}
-use Rattle.sled_core.proofs.TornZeros.{zeros_read}
 use Rattle.sled_log.specs.Recovery.{Conclusion, Recovered, Damaged, Applied, applied, has_no_table, are_whole, table_of, unchanged, concluded, cut_of, is_filled, tip_of, is_beyond, least_place, ContinuesFrom, Recovers}
 use Rattle.sled_log.specs.WritesBack.{IsWrittenBack}
 use Rattle.sled_log.proofs.FoldLemmas.{fold_all}
@@ -35,6 +34,7 @@ use Rattle.sled_log.proofs.NewestLemmas.{chosen_well}
 use Rattle.sled_log.proofs.BeginLemmas.{one_begin}
 use Rattle.sled_log.proofs.OneSegment.{given_messages}
 use Rattle.sled_log.proofs.UsedSlot.{uses_slot}
+use Rattle.sled_log.proofs.SegmentReady.{shredded, segment_ready}
 use Rattle.sled_log.proofs.OnlySegment.{IsOnlySegment, segment, slot_first, own_below, none_above}
 use Rattle.sled_log.proofs.KeptRecovers.{only_segment, own_all}
 use Rattle.sled_log.proofs.SegmentRecovers.{continues_from, stays_at, messages, given_is, concludes}
@@ -48,6 +48,18 @@ none_misplaced sum size r first x (inr (ordering, is, replays)) y found bad = is
 -- a recovery would begin from this snapshot or one of the same place and pages: from itself, or from the one that was there
 abbrev pub BeginsAgain : (List ℕ → ℕ) → (ℤ → Option (List ℕ)) → State → Shot → Type 0
 BeginsAgain sum snapshots new s = (w : Shot) × BeginsFrom sum new.snapshots.file w × (w.stable ≡ s.stable) × (w.pages ≡ s.pages) × ((w ≡ s) ⊎ BeginsFrom sum snapshots w)
+
+-- then it would begin from the snapshot itself, where the one that was there is the same as soon as its place and pages are
+pub begins_with : (sum : List ℕ → ℕ) (snapshots : ℤ → Option (List ℕ)) (new : State) (s first : Shot) → BeginsFrom sum snapshots first → BeginsAgain sum snapshots new s
+    → (first.stable ≡ s.stable → first.pages ≡ s.pages → first ≡ s) → BeginsFrom sum new.snapshots.file s
+begins_with sum snapshots new s first was again same = elim again.4 [
+  | inl own ↦ subst (λ (w : Shot). BeginsFrom sum new.snapshots.file w) own again.1
+  | inr old ↦ (
+      let one : again.0 ≡ first = one_begin sum snapshots again.0 first old was in
+      let stable : first.stable ≡ s.stable = ap (λ (w : Shot). w.stable) (sym one) ∙ again.2 in
+      let pages : first.pages ≡ s.pages = ap (λ (w : Shot). w.pages) (sym one) ∙ again.3 in
+      subst (λ (w : Shot). BeginsFrom sum new.snapshots.file w) (one ∙ same stable pages) again.1)
+]
 
 module _ (sum : List ℕ → ℕ) (size : ℕ) (r : Readable) (snapshots : ℤ → Option (List ℕ)) (site : Site) (from : ℕ) (H : History) (file : IsLogFile sum size r.log site from H.messages)
     (begun : IsBegunFrom sum size snapshots site from H) (some : 256 ≤ size) (short : length r.log ≤ size) (inside : from ≤ size) (place_begins : site.place % size ≡ 0) (slot_begins : site.slot % size ≡ 0)
@@ -196,70 +208,17 @@ module _ (sum : List ℕ → ℕ) (size : ℕ) (r : Readable) (snapshots : ℤ �
     abbrev tip_shot : Shot
     tip_shot = record { stable = Some (pos end); active = Some site.slot; pages = table_of first.pages given_all }
 
-    abbrev shredded : List ℕ
-    shredded = overwritten r.log (site.slot + from) (replicate (size - from) 0)
-
-    offset : from < size → end % size ≡ from
-    offset less = aligned_offset site.place from size place_begins less
-
-    base : from < size → end / size * size ≡ site.place
-    base less = let off = offset less in omega (arith, off, mod-add-div' end size)
-
-    -- the file holds the messages, and none of them in another slot
-    abbrev ShreddedFile : Site → ℕ → Type 0
-    ShreddedFile at n = (f : IsLogFile sum size shredded at n H.messages) × (f.older ≡ [])
-
-    shredded_file : from < size → ShreddedFile site from
-    shredded_file less =
-        let zeros : List ℕ = replicate (size - from) 0 in
-        let count : length zeros ≡ size - from = length-replicate (size - from) 0 in (
-          record {
-            older = [];
-            own = file.own;
-            parts = all_own;
-            elsewhere = λ k d lt. absurd (omega (arith, lt));
-            begun = λ _. long;
-            header = λ _. header_kept sum size r.log (site.slot + from) zeros site (omega (arith, long)) (file.header (omega (arith, long)));
-            stand = stand_kept sum size r.log (site.slot + from) zeros site 20 file.own (max 20 from) (omega (arith, long)) file.stand;
-            clean = λ i above below. zeros_read r.log (site.slot + from) (size - from) i above (omega (arith, below, less));
-            alone = λ none. absurd (omega (arith, long, none));
-          },
-          refl,
-        )
-
-    ready_tip : from < size → new.log ≡ at_rest shredded → BeginsFrom sum new.snapshots.file tip_shot → IsReady sum size new tip_shot H
+    ready_tip : from < size → new.log ≡ at_rest (shredded size r.log site from) → BeginsFrom sum new.snapshots.file tip_shot → IsReady sum size new tip_shot H
     ready_tip less log_is begins =
-        let off = offset less in
-        let at : site ≡ active_site size end site.slot = λ i. record { place = sym (base less) i; slot = site.slot } in
-        let there : ShreddedFile (active_site size end site.slot) (end % size) =
-        subst (λ (n : ℕ). ShreddedFile (active_site size end site.slot) n) (sym off) (subst (λ (x : Site). ShreddedFile x from) at (shredded_file less)) in
-        record {
-          log = shredded;
-          settled = log_is;
-          begins = begins;
-          table = table_there end (omega arith);
-          batches = batches;
-          below = within;
-          file = record {
-            inside = omega (arith, off, long);
-            file = there.0;
-            used = λ k d lt. absurd (omega (arith, lt, ap length there.1));
-          };
-        }
+        segment_ready sum size r.log site from H long less place_begins (file.header (omega (arith, long))) (subst (λ (l : List Message). StandIn sum size r.log site 20 l from) (sym all_own) stand_own) batches
+        (table_of first.pages given_all) (table_there end (omega arith)) new log_is begins
 
     -- The snapshot is that of the filled segment or of the one that goes on.
     module _ (x : Conclusion) (is : concluded size first given_all (cut_of size (found, end)) ≡ Recovered x)
         (log_is : MatchOption x.tip (new.log ≡ at_rest r.log) (λ tip. new.log ≡ at_rest (overwritten r.log tip.0 (replicate tip.1 0)))) (again : BeginsAgain sum snapshots new x.shot) where
       -- where recovery would begin from the first snapshot again, its place is the cut
       from_first : (s : Shot) → x.shot ≡ s → (first.stable ≡ s.stable → first.pages ≡ s.pages → first ≡ s) → BeginsFrom sum new.snapshots.file s
-      from_first s same grown = elim again.4 [
-        | inl own ↦ subst (λ (w : Shot). BeginsFrom sum new.snapshots.file w) (own ∙ same) again.1
-        | inr old ↦ (
-            let one : again.0 ≡ first = one_begin sum snapshots again.0 first old begun.begins in
-            let stable : first.stable ≡ s.stable = ap (λ (w : Shot). w.stable) (sym one) ∙ again.2 ∙ ap (λ (w : Shot). w.stable) same in
-            let pages : first.pages ≡ s.pages = ap (λ (w : Shot). w.pages) (sym one) ∙ again.3 ∙ ap (λ (w : Shot). w.pages) same in
-            subst (λ (w : Shot). BeginsFrom sum new.snapshots.file w) (one ∙ grown stable pages) again.1)
-      ]
+      from_first s same grown = begins_with sum snapshots new s first begun.begins (subst (λ (w : Shot). BeginsAgain sum snapshots new w) same again) grown
 
       abbrev made_at : ℕ × Option ℕ → Conclusion
       made_at cut = record {
@@ -290,7 +249,7 @@ module _ (sum : List ℕ → ℕ) (size : ℕ) (r : Readable) (snapshots : ℤ �
       ready_going : from + 32 ≤ size → cut_of size (found, end) ≡ (end, Some site.slot) → IsReady sum size new x.shot H
       ready_going room at =
           let less : from < size = omega (arith, room) in
-          let off = offset less in
+          let off = aligned_offset site.place from size place_begins less in
           let made = made_is (end, Some site.slot) at in
           let shot : x.shot ≡ tip_shot = ap (λ (y : Conclusion). y.shot) (sym made) in
           let logs : new.log ≡ at_rest (overwritten r.log (site.slot + end % size) (replicate (size - end % size) 0)) =
@@ -323,10 +282,7 @@ module _ (sum : List ℕ → ℕ) (size : ℕ) (r : Readable) (snapshots : ℤ �
             let unbegun : from ≡ 0 = omega (arith, none) in
             let same : x ≡ unchanged first = stays_at sum size r first (λ s is. file.alone unbegun s (subst (λ n. IsFoundSegment sum size r.log n s) begun.least is)) x on in
             let logs : new.log ≡ at_rest r.log = subst (λ (t : Option (ℕ × ℕ)). MatchOption t (new.log ≡ at_rest r.log) (λ tip. new.log ≡ at_rest (overwritten r.log tip.0 (replicate tip.1 0)))) (ap (λ (y : Conclusion). y.tip) same) log_is in
-            let begins : BeginsFrom sum new.snapshots.file first = elim again.4 [
-              | inl own ↦ subst (λ (w : Shot). BeginsFrom sum new.snapshots.file w) (own ∙ ap (λ (y : Conclusion). y.shot) same) again.1
-              | inr old ↦ subst (λ (w : Shot). BeginsFrom sum new.snapshots.file w) (one_begin sum snapshots again.0 first old begun.begins) again.1
-            ] in
+            let begins : BeginsFrom sum new.snapshots.file first = begins_with sum snapshots new first first begun.begins (subst (λ (w : Shot). BeginsAgain sum snapshots new w) (ap (λ (y : Conclusion). y.shot) same) again) (λ stable pages. refl) in
             subst (λ (w : Shot). IsReady sum size new w H) (sym (ap (λ (y : Conclusion). y.shot) same)) (ready_first unbegun x on logs begins))
       ]
 

@@ -4,6 +4,7 @@ use Rattle.sled_codec.specs.Snapshots.{Shot, shot_of}
 use Rattle.sled_store.specs.declared.config.Config.{Config}
 use Rattle.sled_store.specs.Device.{Trace, state_of}
 use Rattle.sled_store.specs.SnapshotFiles.{stable_place}
+use Rattle.sled_codec.specs.declared.serialization.snapshot.Snapshot.{Snapshot}
 use Rattle.sled_log.specs.Orderly.{CanRecover}
 use Rattle.sled_log.specs.Runs.{Standing, IsLater, OwnThroughout}
 use Rattle.sled_store.proofs.MomentLemmas.{at_last}
@@ -63,7 +64,7 @@ returns-in-Err-clause-step g c = λ a at own.
     let whole = c.in-Err.ensures.undamaged a.history a.acknowledged a.floor can in
     (
       a,
-      (first, of_device _ c.in-Err.e _ _ c.in-Err.ensures.answers whole, refl),
+      (first, of_device Snapshot c.in-Err.e _ _ c.in-Err.ensures.answers whole, refl),
       record {
         formed = at.formed;
         left = at_last (LeavesRecoverable sum size a.history a.acknowledged a.floor) old mid (c.read_snapshot_or_default.ensures.recoverable a.history a.acknowledged a.floor can);
