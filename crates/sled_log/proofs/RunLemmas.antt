@@ -1,13 +1,13 @@
 -- What holds at the joints of a run: the premise on what is read, at each of its parts; what a crash leaves; and one command more.
-use Rattle.std.proofs.Common.{rules, ◌≡◌, ◌⊎◌, ◌∙◌, ◌<◌, ◌^◌, ℕ, ℤ, pos, Bool, true, false, if◌then◌else◌, IsTrue, List, [], ◌∷◌, ◌++◌, Option, None, Some, refl, sym, ap, subst, append_assoc, inl, inr}
+use Rattle.std.proofs.Common.{rules, reverse, ◌≤◌, ◌≡◌, ◌⊎◌, ◌∙◌, ◌<◌, ◌^◌, ℕ, ℤ, pos, Bool, true, false, if◌then◌else◌, IsTrue, List, [], ◌∷◌, ◌++◌, Option, None, Some, refl, sym, ap, subst, append_assoc, inl, inr}
 use Rattle.std.specs.Prelude.{FitsSigned}
 use Rattle.std.specs.Int.{w64, cast_signed, cast_unsigned}
 use Rattle.std.proofs.lemmas.Int.{to_z-of_z}
-use Rattle.sled_codec.specs.History.{History}
+use Rattle.sled_codec.specs.History.{History, no_history}
 use Rattle.sled_store.specs.declared.device.choice.Choice.{Choice}
 use Rattle.sled_log.specs.WritesBack.{shredding, writing_back}
 use Rattle.sled_log.proofs.RecoveryMoments.{RecoveryCalls}
-use Rattle.sled_store.specs.Device.{Event, Left, Trace, State, Content, Synced, NamesSynced, Crashed, Settled, state_of, step, content_of, content_left, Leaves, names_at_rest}
+use Rattle.sled_store.specs.Device.{Event, Left, Trace, State, Content, Synced, NamesSynced, Crashed, Settled, state_of, fresh, step, content_of, content_left, Leaves, names_at_rest}
 use Rattle.sled_store.specs.Script.{Performs, Along, after_all}
 use Rattle.sled_store.proofs.ScriptLemmas.{performs_throughout, performs_whole}
 use Rattle.sled_store.specs.Chosen.{MayBeChosen}
@@ -33,7 +33,10 @@ use Rattle.sled_log.specs.declared.run.Reply.TheVariants as reply
 use Rattle.sled_log.specs.declared.run.Phase.{Phase}
 use Rattle.sled_log.specs.declared.run.Phase.TheVariants as phase
 use Rattle.sled_log.specs.RunPhases.{IsOpenAt, IsClosedAt, IsAt, IsRecovery, trace_of, CarriesOut, CrashesInto}
-use Rattle.sled_log.specs.Runs.{ended, HasRecovered, IsOfDevice, OwnLeft, OwnEach, OwnThroughout, Standing, IsLater, IsStep, Runs}
+use Rattle.std.proofs.lemmas.List.{reverse-append}
+use Rattle.sled_core.proofs.FirstSegment.{nothing_recoverable}
+use Rattle.sled_log.proofs.RunHistories.{none_orderly}
+use Rattle.sled_log.specs.Runs.{nothing_yet, ended, HasRecovered, IsOfDevice, OwnLeft, OwnEach, OwnThroughout, Standing, IsLater, IsStep, Runs}
 
 -- a place as code holds it
 pub place_back : (z : ℤ) (n : ℕ) → z ≡ pos n → n < 2 ^ 63 → pos n ≡ cast_signed w64 (cast_unsigned w64 z)
@@ -125,6 +128,21 @@ module _ (sum : List ℕ → ℕ) (size : ℕ) where
   crash_recoverable H A f old new left leaves is may own =
       subst (λ (t : Trace). LeavesRecoverable sum size H A f (state_of t)) (sym is) (crashed_leaves H A f left (state_of old) (leaves (content_left left (state_of old)) may (own_crash old new left is own)))
 
+  -- No command yet.
+  pub runs_none : (old : Trace) (a : Standing) → Runs sum size old a [] [] old a
+  unfolding Runs
+  runs_none old a = (refl, refl)
+
+  -- An empty device, no log on it.
+  pub fresh_closed : 256 ≤ size → size < 2 ^ 63 → (trace : Trace) → state_of trace ≡ fresh → IsClosedAt sum size trace nothing_yet
+  fresh_closed large small trace is = record { formed = none_orderly; left = subst (LeavesRecoverable sum size no_history 0 0) (sym is) nothing_left; none = refl }
+    where
+      nothing_left : LeavesRecoverable sum size no_history 0 0 fresh
+      nothing_left left leaves own =
+          nothing_recoverable sum size left large small (at_rest_left [] left.log leaves.log)
+          (λ n. settled_name_left (names_at_rest (λ _. None)) n (left.blobs n) (settled_name_at_rest (λ _. None) n) (leaves.blobs n))
+          (λ n. settled_name_left (names_at_rest (λ _. None)) n (left.snapshots n) (settled_name_at_rest (λ _. None) n) (leaves.snapshots n))
+
   -- One command more.
   pub runs_more : (old : Trace) (a : Standing) (cs : List Command) (rs : List Reply) (mid : Trace) (m : Standing) (c : Command) (r : Reply) (new : Trace) (b : Standing)
       → Runs sum size old a cs rs mid m → IsStep sum size mid new c r m b → Runs sum size old a (cs ++ c ∷ []) (rs ++ r ∷ []) new b
@@ -134,6 +152,11 @@ module _ (sum : List ℕ → ℕ) (size : ℕ) where
   runs_more old a (x ∷ cs) (y ∷ rs) mid m c r new b so_far more = (so_far.0, so_far.1, so_far.2, runs_more so_far.0 so_far.1 cs rs mid m c r new b so_far.3 more)
   runs_more old a [] (y ∷ rs) mid m c r new b so_far more = absurd so_far
   runs_more old a (x ∷ cs) [] mid m c r new b so_far more = absurd so_far
+
+-- the next one of the commands that are left
+pub next_of : {X : Type 0} (all done old new : List X) (c : X) → old ≡ new ++ c ∷ [] → all ≡ done ++ reverse old → all ≡ (done ++ c ∷ []) ++ reverse new
+next_of all done old new c is left =
+    left ∙ ap (λ (l : List _). done ++ reverse l) is ∙ ap (λ (l : List _). done ++ l) (reverse-append new (c ∷ [])) ∙ sym (append_assoc done (c ∷ []) (reverse new))
 
 -- what was chosen of a crash, or what was settled, a crash may leave
 pub left_by : (old : Trace) (choice : Choice) (taken : Bool) → (IsTrue taken → MayBeChosen choice (state_of old)) → Leaves (state_of old) (content_left (if taken then left_of choice else Settled []) (state_of old))
