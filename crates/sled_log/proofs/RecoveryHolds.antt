@@ -1,8 +1,8 @@
 -- What a recovery does for a history, where it can go on from each content that a crash leaves: it keeps that at each moment, meets no damage, and gives a good snapshot.
-use Rattle.std.proofs.Common.{◌≡◌, ◌⊎◌, ◌∷◌, ◌≤◌, ◌<◌, ◌^◌, ℕ, true, List, Option, Some, None, MatchOption, length, replicate, sym, ap, subst, arith, inl, inr}
+use Rattle.std.proofs.Common.{◌≡◌, ◌⊎◌, ◌∷◌, ◌≤◌, ◌<◌, ◌^◌, ℕ, true, List, Option, Some, None, MatchOption, length, replicate, ap, arith, inl, inr}
 use Rattle.sled_codec.specs.History.{History, below}
-use Rattle.sled_codec.specs.Snapshots.{Shot, FitsSnapshot}
-use Rattle.sled_store.specs.Device.{Trace, LogState, State, state_of, content_of, step, Synced, NamesSynced, at_rest, overwritten}
+use Rattle.sled_codec.specs.Snapshots.{FitsSnapshot}
+use Rattle.sled_store.specs.Device.{Trace, LogState, state_of, content_of, Synced, NamesSynced, at_rest, overwritten}
 use Rattle.sled_store.specs.Moments.{LeavesOnly}
 use Rattle.sled_store.specs.SnapshotFiles.{stable_place}
 use Rattle.sled_store.proofs.SettledLemmas.{read_left}

@@ -1,5 +1,5 @@
 -- What holds at the joints of a run: the premise on what is read, at each of its parts; what a crash leaves; and one command more.
-use Rattle.std.proofs.Common.{rules, reverse, ◌≤◌, ◌≡◌, ◌⊎◌, ◌∙◌, ◌<◌, ◌^◌, ℕ, ℤ, pos, Bool, true, false, if◌then◌else◌, IsTrue, List, [], ◌∷◌, ◌++◌, Option, None, Some, refl, sym, ap, subst, append_assoc, inl, inr}
+use Rattle.std.proofs.Common.{rules, reverse, ◌≤◌, ◌≡◌, ◌∙◌, ◌<◌, ◌^◌, ℕ, ℤ, pos, Bool, true, false, if◌then◌else◌, IsTrue, List, [], ◌∷◌, ◌++◌, None, refl, sym, ap, subst, append_assoc, inl, inr}
 use Rattle.std.specs.Prelude.{FitsSigned}
 use Rattle.std.specs.Int.{w64, cast_signed, cast_unsigned}
 use Rattle.std.proofs.lemmas.Int.{to_z-of_z}
@@ -74,11 +74,10 @@ module _ (sum : List ℕ → ℕ) (size : ℕ) where
   each_rest [] [] old own = own
   each_rest [] (f ∷ fs) old own = own.0
   each_rest (e ∷ es) fs old own =
-      let is : (es ++ fs) ++ old ≡ es ++ (fs ++ old) = append_assoc es fs old in
-      (
+      let is : (es ++ fs) ++ old ≡ es ++ (fs ++ old) = append_assoc es fs old in (
         subst (λ (t : Trace). NoForeign sum size (state_of (e ∷ t)) (content_of (state_of (e ∷ t)))) is own.0,
         subst (λ (t : Trace). OwnLeft sum size e (state_of t)) is own.1,
-        each_rest es fs old own.2
+        each_rest es fs old own.2,
       )
 
   each_last : (es : List Event) (old : Trace) → OwnEach sum size es old → NoForeign sum size (state_of (es ++ old)) (content_of (state_of (es ++ old)))

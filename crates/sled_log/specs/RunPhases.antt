@@ -1,5 +1,5 @@
 -- What stands in each phase of a run, for where the run stands.
-use Rattle.std.specs.Prelude.{◌≡◌, ◌^◌, ◌-◌, ◌<◌, ℕ, List, length, Option, None, Some, Contains}
+use Rattle.std.specs.Prelude.{◌≡◌, ◌^◌, ◌-◌, ◌<◌, ℕ, List, length, None, Some, Contains}
 use Rattle.std.specs.List.{All}
 use Rattle.sled_codec.specs.declared.serialization.message.LogKind.TheVariants.{Replace}
 use Rattle.sled_codec.specs.History.{Message, History}
@@ -8,7 +8,6 @@ use Rattle.sled_codec.specs.Snapshots.{Shot, shot_of}
 use Rattle.sled_store.specs.Device.{Trace, state_of}
 use Rattle.sled_store.specs.SnapshotFiles.{stable_place}
 use Rattle.sled_store.specs.declared.config.RunningConfig.{RunningConfig}
-use Rattle.sled_core.specs.declared.logger.Log.{Log}
 use Rattle.sled_core.specs.Fits.{Awaits, IsOpen, pins_of, segment_size_of}
 use Rattle.sled_core.specs.Recoverable.{LeavesRecoverable}
 use Rattle.sled_core.specs.Running.{Fits, Ready}

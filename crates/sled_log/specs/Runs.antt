@@ -1,5 +1,5 @@
 -- What runs of commands over a log of one segment come to.
-use Rattle.std.specs.Prelude.{◌≡◌, ◌+◌, ◌≤◌, ◌∷◌, ◌++◌, ℕ, ℤ, pos, true, if◌then◌else◌, Bool, IsTrue, List, [], Option, None, Some}
+use Rattle.std.specs.Prelude.{◌≡◌, ◌+◌, ◌≤◌, ◌∷◌, ◌++◌, ℕ, ℤ, pos, if◌then◌else◌, IsTrue, List, [], Option, None, Some}
 use Rattle.std.specs.List.{All}
 use Rattle.sled_codec.specs.declared.result.DiskPtr.{DiskPtr}
 use Rattle.sled_codec.specs.declared.result.Error.{Error}
@@ -9,7 +9,7 @@ use Rattle.sled_codec.specs.Spelling.{short_bytes}
 use Rattle.sled_codec.specs.Snapshots.{Shot, shot_of}
 use Rattle.sled_codec.specs.History.{Message, History, no_history, Step, Completed, below}
 use Rattle.sled_store.specs.declared.device.choice.Choice.{Choice}
-use Rattle.sled_store.specs.Device.{Event, Left, Trace, State, Crashed as TheCrash, Settled, state_of, content_of, content_left}
+use Rattle.sled_store.specs.Device.{Event, Trace, State, Crashed as TheCrash, Settled, state_of, content_of, content_left}
 use Rattle.sled_store.specs.Chosen.{MayBeChosen}
 use Rattle.sled_store.specs.Noted.{left_of}
 use Rattle.sled_store.specs.SnapshotFiles.{stable_place}

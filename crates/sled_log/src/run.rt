@@ -270,7 +270,10 @@ fn replace<D: CrashDevice, C: Checksum>(
     if page > opened.begun || page == u64::MAX || !opened.log.has_room(page, item) {
         return (Phase::Open(opened), Reply::Refused);
     }
-    match opened.log.reserve(LogKind::Replace, page, item, &opened.guard) {
+    match opened
+        .log
+        .reserve(LogKind::Replace, page, item, &opened.guard)
+    {
         Ok(reservation) => {
             let reply = Reply::Reserved(reservation.lsn(), reservation.pointer());
             (Phase::Waiting(opened, Ticket { page, reservation }), reply)
@@ -331,10 +334,7 @@ fn halt<D: CrashDevice, C: Checksum>(opened: Opened<D, C>) -> RunningConfig<D, C
 }
 
 /// Gives a log up, with the reservation that is open.
-fn give_up<D: CrashDevice, C: Checksum>(
-    opened: Opened<D, C>,
-    ticket: Ticket,
-) -> RunningConfig<D, C>
+fn give_up<D: CrashDevice, C: Checksum>(opened: Opened<D, C>, ticket: Ticket) -> RunningConfig<D, C>
     ensures { result ≡ config_of opened.log }
 {
     let Ticket {

@@ -70,9 +70,7 @@ pub fn read_snapshot_or_default<D: Device, C: Checksum>(
 }
 
 /// Recovers what the device has, and writes back what is left to be written.
-fn read_and_write_back<D: Device, C: Checksum>(
-    config: &mut RunningConfig<D, C>,
-) -> Result<Snapshot>
+fn read_and_write_back<D: Device, C: Checksum>(config: &mut RunningConfig<D, C>) -> Result<Snapshot>
     ensures ok { let old = state_of (D.trace config.old.device) in
         IfOk result (λ s. (x : Conclusion) × Recovers C.sum_of config.old.config.segment_size (record { log = old.log.bytes; blobs = λ _. None }) old.snapshots.file (Recovered x) × (shot_of s ≡ x.shot) × IsWrittenBack C.sum_of x (state_of (NamesSynced ∷ Synced ∷ D.trace config.old.device)) (state_of (D.trace config.new.device)) × HasWrittenBack C.sum_of x (NamesSynced ∷ Synced ∷ D.trace config.old.device) (D.trace config.new.device) × (x.is_new ≡ true → FitsSnapshot x.shot)) }
     ensures newest { IfOk result (λ s. (first : Shot) × BeginsFrom C.sum_of (state_of (D.trace config.new.device)).snapshots.file first × (first.stable ≡ s.stable_lsn) × (first.pages ≡ (shot_of s).pages) × ((first ≡ shot_of s) ⊎ BeginsFrom C.sum_of (state_of (D.trace config.old.device)).snapshots.file first)) }

@@ -1,8 +1,7 @@
-use Rattle.std.proofs.Common.{rules, pos, ◌≡◌, ◌≤◌, ◌<◌, ◌+◌, ◌∙◌, ◌∷◌, ℕ, None, refl, sym, ap, subst, arith, inl, inr}
+use Rattle.std.proofs.Common.{rules, pos, ◌≡◌, ◌<◌, ◌+◌, ◌∙◌, ◌∷◌, ℕ, None, refl, sym, ap, subst, arith, inl, inr}
 use Rattle.std.proofs.lemmas.Bool.{cases_lt}
-use Rattle.sled_codec.specs.History.{Message, History, Step, Completed}
-use Rattle.sled_core.specs.Fits.{pins_of, fault_of, next_place}
-use Rattle.sled_core.specs.Running.{Fits}
+use Rattle.sled_codec.specs.History.{Message, History}
+use Rattle.sled_core.specs.Fits.{pins_of, next_place}
 use Rattle.sled_core.proofs.ReachLemmas.{fits_apart, fits_reach, awaited, next_small}
 use Rattle.std.proofs.lemmas.List.Elements.{All-contains}
 use Rattle.sled_log.specs.declared.run.Opened.{Opened}
@@ -42,9 +41,16 @@ returns-after-page-opened-clause-step g c = λ a at own.
     let still : (page : ℕ) → page < c.args.opened.begun → HasMessageOf H'.messages page = λ page less. still_has a.history H' m page done.1 (opened.begun page less) in
     let Comes : Opened _ _ → Type 0 = λ x. (y : Standing) × ((trace x.log.config.device ≡ trace old.config.device) × (command.Complete ≡ command.Complete) × HasCompleted a y (cast_signed w64 (cast_unsigned w64 c.in-Ok.place)) c.in-Ok.pointer) × (IsOpenAt trace sum x y × (y.reserved ≡ None)) in
     elim c.if-page-opened.branch [
-      | then-page-opened w ↦ subst Comes (sym w.opened-is) (b, (same, refl, completes), (opens (c.args.opened.begun + 1) (λ page less. elim (cases_lt page c.args.opened.begun) [
-          | inl before ↦ still page before
-          | inr last ↦ subst (HasMessageOf H'.messages) (at.4 ∙ search rules) (has_new a.history H' m done.1)
-        ]), refl))
+      | then-page-opened w ↦ subst Comes (sym w.opened-is) (
+        b,
+        (same, refl, completes),
+        (
+          opens (c.args.opened.begun + 1) (λ page less. elim (cases_lt page c.args.opened.begun) [
+            | inl before ↦ still page before
+            | inr last ↦ subst (HasMessageOf H'.messages) (at.4 ∙ search rules) (has_new a.history H' m done.1)
+          ]),
+          refl,
+        ),
+      )
       | else-page-opened w ↦ subst Comes (sym w.opened-is) (b, (same, refl, completes), (opens c.args.opened.begun still, refl))
     ]

@@ -10,8 +10,7 @@ returns-clause-step g c = λ a at own.
     let sum = g.C.Checksum.sum_of in
     let old = g.D.Device.trace c.args.config.device in
     let new = g.D.Device.trace c.crash-taken.new.self in
-    let taken = c.crash-taken.result in
-    (
+    let taken = c.crash-taken.result in (
       (c.args.choice, refl, c.crash-taken.ensures.left, c.crash-taken.ensures.taken.0, refl),
       record {
         formed = at.formed;

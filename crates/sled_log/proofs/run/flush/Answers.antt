@@ -1,7 +1,6 @@
-use Rattle.std.proofs.Common.{refl, ap, ◌≤◌, ◌<◌, arith, subst, sym, ◌≡◌, None}
-use Rattle.sled_core.specs.Fits.{synced_end, pins_of, segment_size_of, device_of}
+use Rattle.std.proofs.Common.{refl, ◌≤◌, ◌<◌, arith, subst, sym, None}
+use Rattle.sled_core.specs.Fits.{synced_end, segment_size_of}
 use Rattle.sled_core.proofs.ReachLemmas.{kept_past, fits_holds, fits_acknowledged}
-use Rattle.sled_log.specs.Runs.{Standing}
 use Rattle.sled_log.proofs.RunLemmas.{later_performed}
 use Rattle.sled_log.proofs.run.flush.Goals as goal
 
@@ -16,8 +15,7 @@ returns-in-Ok-clause-step g c = λ a at own.
     let H = a.history in
     let holds = fits_holds trace sum old H a.acknowledged a.floor opened.unmarked opened.fits in
     let past = fits_acknowledged trace sum old H a.acknowledged a.floor opened.unmarked opened.fits in
-    let grown : synced_end old ≤ synced_end new = omega (arith, c.in-Ok.ensures.answer) in
-    (
+    let grown : synced_end old ≤ synced_end new = omega (arith, c.in-Ok.ensures.answer) in (
       record { history = H; acknowledged = synced_end new; floor = a.floor; reserved = None },
       (
         later_performed _ _ _ c.flush.ensures.at_most,
@@ -28,15 +26,18 @@ returns-in-Ok-clause-step g c = λ a at own.
           more = omega (arith, past, grown);
           floor = refl;
           reserved = sym at.1;
-        }
+        },
       ),
-      (record {
-        formed = opened.formed;
-        unmarked = opened.unmarked;
-        fits = c.in-Ok.ensures.acknowledges H a.acknowledged a.floor opened.unmarked opened.fits;
-        pinned = subst (λ n. 0 < n) (sym c.flush.ensures.pins) opened.pinned;
-        begun = opened.begun;
-      }, refl),
+      (
+        record {
+          formed = opened.formed;
+          unmarked = opened.unmarked;
+          fits = c.in-Ok.ensures.acknowledges H a.acknowledged a.floor opened.unmarked opened.fits;
+          pinned = subst (λ n. 0 < n) (sym c.flush.ensures.pins) opened.pinned;
+          begun = opened.begun;
+        },
+        refl,
+      ),
     )
 
 pub returns-in-Ok-clause-on : goal.returns-in-Ok-clause-on
@@ -48,15 +49,17 @@ returns-in-Err-clause-on g c = record { later = later_performed _ _ _ c.flush.en
 -- a flush that failed changes nothing of the history
 pub returns-in-Err-clause-step : goal.returns-in-Err-clause-step
 returns-in-Err-clause-step g c = λ a at own.
-    let opened = at.0 in
-    (
+    let opened = at.0 in (
       a,
       (later_performed _ _ _ c.flush.ensures.at_most, refl),
-      (record {
-        formed = opened.formed;
-        unmarked = opened.unmarked;
-        fits = c.flush.ensures.fits a.history a.acknowledged a.floor opened.unmarked opened.fits;
-        pinned = subst (λ n. 0 < n) (sym c.flush.ensures.pins) opened.pinned;
-        begun = opened.begun;
-      }, at.1),
+      (
+        record {
+          formed = opened.formed;
+          unmarked = opened.unmarked;
+          fits = c.flush.ensures.fits a.history a.acknowledged a.floor opened.unmarked opened.fits;
+          pinned = subst (λ n. 0 < n) (sym c.flush.ensures.pins) opened.pinned;
+          begun = opened.begun;
+        },
+        at.1,
+      ),
     )

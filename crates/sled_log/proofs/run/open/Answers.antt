@@ -1,4 +1,4 @@
-use Rattle.std.proofs.Common.{◌≡◌, ◌∙◌, ◌<◌, ◌≤◌, ℕ, List, Result, refl, sym, ap, subst, arith, None}
+use Rattle.std.proofs.Common.{◌≡◌, ◌∙◌, ◌<◌, ℕ, refl, sym, ap, subst, None}
 use Rattle.sled_codec.specs.History.{below}
 use Rattle.sled_codec.specs.Snapshots.{Shot, shot_of}
 use Rattle.sled_store.specs.declared.config.Config.{Config}
@@ -13,7 +13,6 @@ use Rattle.sled_core.specs.Running.{Ready}
 use Rattle.sled_log.specs.RunPhases.{IsAt, IsClosedAt, IsRecoveredAt, trace_of}
 use Rattle.sled_log.proofs.RunHistories.{orderly, forgotten, has_of_table}
 use Rattle.sled_log.proofs.RunLemmas.{later_both, later_recovered, own_here, own_rest, recovered_step, of_device}
-use Rattle.sled_log.proofs.run.open.Given as given
 use Rattle.sled_log.proofs.run.open.Goals as goal
 
 pub returns-in-Ok-clause-step : goal.returns-in-Ok-clause-step
@@ -37,11 +36,10 @@ returns-in-Ok-clause-step g c = λ a at own.
       begun = has_of_table a.history (stable_place s.stable) s.pages good.table;
     } in
     let rest : OwnThroughout sum size mid new = own_rest sum size old mid new first own in
-    let there = c.start.ensures.step b recovered (subst (λ n. OwnThroughout sum n mid new) (sym sizes) rest) in
-    (
+    let there = c.start.ensures.step b recovered (subst (λ n. OwnThroughout sum n mid new) (sym sizes) rest) in (
       b,
       recovered_step sum size old new a b s c.start.result.1 c.start.ensures.reply (record { at = mid; from = first; to = second; good = good; history = refl; acknowledged = refl; floor = refl; reserved = refl }),
-      subst (λ n. IsAt trace sum n c.start.result.0 b) sizes there
+      subst (λ n. IsAt trace sum n c.start.result.0 b) sizes there,
     )
 
 pub returns-in-Ok-clause-on : goal.returns-in-Ok-clause-on
@@ -61,15 +59,14 @@ returns-in-Err-clause-step g c = λ a at own.
     let mid : Trace = trace c.read_snapshot_or_default.new.config.device in
     let first : IsLater old mid = later_recovered sum size old mid c.read_snapshot_or_default.ensures.calls in
     let can : CanRecover sum size (state_of old) a.history a.acknowledged a.floor = record { orderly = orderly a.history at.formed; left = at.left; own = own_here sum size old mid first own } in
-    let whole = c.in-Err.ensures.undamaged a.history a.acknowledged a.floor can in
-    (
+    let whole = c.in-Err.ensures.undamaged a.history a.acknowledged a.floor can in (
       a,
       (first, of_device Snapshot c.in-Err.e _ _ c.in-Err.ensures.answers whole, refl),
       record {
         formed = at.formed;
         left = at_last (LeavesRecoverable sum size a.history a.acknowledged a.floor) old mid (c.read_snapshot_or_default.ensures.recoverable a.history a.acknowledged a.floor can);
         none = at.none;
-      }
+      },
     )
 
 pub returns-in-Err-clause-on : goal.returns-in-Err-clause-on

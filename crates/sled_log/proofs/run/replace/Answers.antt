@@ -1,5 +1,4 @@
-use Rattle.std.proofs.Common.{rules, ◌≡◌, ◌≤◌, ◌<◌, ◌∙◌, ℕ, pos, refl, sym, ap, subst, arith, Some}
-use Rattle.std.specs.List.{All}
+use Rattle.std.proofs.Common.{rules, ◌≤◌, ◌<◌, ◌∙◌, refl, sym, ap, subst, arith}
 use Rattle.std.proofs.lemmas.List.Elements.{All-contains}
 use Rattle.sled_codec.specs.declared.serialization.message.LogKind.TheVariants.{Replace}
 use Rattle.sled_codec.specs.Spelling.{short_bytes}
@@ -20,11 +19,14 @@ returns-in-Ok-clause-step g c = λ a at own.
     let m : Message = message_for old Replace c.args.page (short_bytes c.args.item.now.items) in
     let awaits = c.in-Ok.ensures.ticket in
     let both = awaited c.reserve.new.self c.in-Ok.reservation m awaits in
-    let reach = fits_reach trace sum old a.history a.acknowledged a.floor opened.unmarked opened.fits in
-    (
+    let reach = fits_reach trace sum old a.history a.acknowledged a.floor opened.unmarked opened.fits in (
       waiting a m,
       (
-        ap (λ x. trace x.device) c.reserve.ensures.same.config, c.args.page, c.args.item.now, refl, m,
+        ap (λ x. trace x.device) c.reserve.ensures.same.config,
+        c.args.page,
+        c.args.item.now,
+        refl,
+        m,
         record { kind = refl; of = refl; bytes = refl; lies = place_back c.lsn.result m.place (c.lsn.ensures ∙ sym both.0) (next_small old); points = both.1 ∙ sym c.pointer.ensures },
         refl,
       ),
@@ -36,7 +38,10 @@ returns-in-Ok-clause-step g c = λ a at own.
           pinned = subst (λ n. 0 < n) (sym c.reserve.ensures.same.pins) opened.pinned;
           begun = opened.begun;
         },
-        m, refl, awaits, refl,
+        m,
+        refl,
+        awaits,
+        refl,
         record {
           replaces = refl;
           small = search rules;

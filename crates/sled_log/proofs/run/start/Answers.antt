@@ -1,11 +1,11 @@
-use Rattle.std.proofs.Common.{◌≡◌, ◌<◌, ◌∙◌, refl, sym, ap, subst, arith, rules, length}
+use Rattle.std.proofs.Common.{◌<◌, ◌∙◌, ap, rules, length}
 use Rattle.sled_core.specs.Recoverable.{LeavesRecoverable}
 use Rattle.sled_codec.specs.Snapshots.{shot_of}
 use Rattle.sled_store.specs.SnapshotFiles.{stable_place}
 use Rattle.sled_store.proofs.MomentLemmas.{at_last}
 use Rattle.sled_store.specs.Device.{state_of}
 use Rattle.sled_core.specs.Begin.{slots_of, unused, filling}
-use Rattle.sled_log.proofs.RunLemmas.{later_is, later_all, later_performed}
+use Rattle.sled_log.proofs.RunLemmas.{later_all, later_performed}
 use Rattle.sled_log.proofs.run.start.Goals as goal
 
 pub returns-in-Ok-clause-on : goal.returns-in-Ok-clause-on

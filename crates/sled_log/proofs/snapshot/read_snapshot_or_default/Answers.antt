@@ -1,4 +1,4 @@
-use Rattle.std.proofs.Common.{◌≡◌, ◌<◌, ◌≤◌, ◌^◌, ℕ, ap, sym, subst, arith}
+use Rattle.std.proofs.Common.{◌<◌, ◌≤◌, ◌^◌, ℕ, sym, subst, arith}
 use Rattle.sled_codec.specs.History.{below}
 use Rattle.sled_codec.specs.Snapshots.{Shot, shot_of}
 use Rattle.sled_store.specs.Device.{Trace, state_of, content_of}
@@ -10,7 +10,6 @@ use Rattle.sled_log.proofs.RecoveryHolds.{holds_throughout, meets_no_damage, is_
 use Rattle.sled_log.proofs.RestartLemmas.{BeginsAgain}
 use Rattle.sled_core.specs.Running.{Ready}
 use Rattle.std.specs.Prelude.{Result, Ok, Err, IfOk}
-use Rattle.sled_log.proofs.snapshot.read_snapshot_or_default.Given as given
 use Rattle.sled_log.proofs.snapshot.read_snapshot_or_default.Goals as goal
 
 -- the size of a segment is no longer than offsets in a file
@@ -38,8 +37,8 @@ returns-clause-good g c = λ H A f can.
     let sum = g.C.Checksum.sum_of in
     let new : Trace = g.D.Device.trace c.read_and_write_back.new.config.device in
     if_ok c.read_and_write_back.result _ (λ s. IsGood sum config.segment_size (content_of (state_of new)) H A f (shot_of s)) (λ s ok.
-        subst (λ (x : Shot). IsGood sum config.segment_size (content_of (state_of new)) H A f x) (sym ok.2)
-        (is_good sum config.segment_size config.least (small config.segment_size config.most) (g.D.Device.trace c.args.config.now.device) H A f can new ok.0 ok.1 ok.3 ok.4 ok.5))
+    subst (λ (x : Shot). IsGood sum config.segment_size (content_of (state_of new)) H A f x) (sym ok.2)
+    (is_good sum config.segment_size config.least (small config.segment_size config.most) (g.D.Device.trace c.args.config.now.device) H A f can new ok.0 ok.1 ok.3 ok.4 ok.5))
     c.read_and_write_back.ensures.ok
 
 pub returns-clause-kept : goal.returns-clause-kept
@@ -49,8 +48,8 @@ returns-clause-kept g c = λ H A f can.
     let new : Trace = g.D.Device.trace c.read_and_write_back.new.config.device in
     let Kept : Shot → Type 0 = λ x. LeavesRecoverable sum config.segment_size (below H (stable_place x.stable)) A (stable_place x.stable) (state_of new) in
     if_ok c.read_and_write_back.result _ (λ s. Kept (shot_of s)) (λ s ok.
-        subst Kept (sym ok.2)
-        (is_cut_off sum config.segment_size config.least (small config.segment_size config.most) (g.D.Device.trace c.args.config.now.device) H A f can new ok.0 ok.1 ok.3 ok.4 ok.5).left)
+    subst Kept (sym ok.2)
+    (is_cut_off sum config.segment_size config.least (small config.segment_size config.most) (g.D.Device.trace c.args.config.now.device) H A f can new ok.0 ok.1 ok.3 ok.4 ok.5).left)
     c.read_and_write_back.ensures.ok
 
 pub returns-clause-ready : goal.returns-clause-ready
@@ -62,7 +61,7 @@ returns-clause-ready g c = λ H A f can.
     let new : Trace = g.D.Device.trace c.read_and_write_back.new.config.device in
     let Is : Shot → Type 0 = λ x. stable_place x.stable < size → Ready sum size (state_of new) x (below H (stable_place x.stable)) A (stable_place x.stable) in
     if_both c.read_and_write_back.result _ _ (λ s. Is (shot_of s)) (λ s ok newest.
-        subst Is (sym ok.2)
-        (is_ready sum size config.least (small size config.most) old H A f can new ok.0 ok.1 ok.3 ok.4 ok.5
-        (subst (λ (x : Shot). BeginsAgain sum (state_of old).snapshots.file (state_of new) x) ok.2 newest)))
+    subst Is (sym ok.2)
+    (is_ready sum size config.least (small size config.most) old H A f can new ok.0 ok.1 ok.3 ok.4 ok.5
+    (subst (λ (x : Shot). BeginsAgain sum (state_of old).snapshots.file (state_of new) x) ok.2 newest)))
     c.read_and_write_back.ensures.ok c.read_and_write_back.ensures.newest
