@@ -24,6 +24,8 @@ mod faults;
 #[cfg(test)]
 mod headers;
 #[cfg(test)]
+mod headline;
+#[cfg(test)]
 mod log;
 #[cfg(test)]
 mod metas;
