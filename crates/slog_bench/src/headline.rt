@@ -289,7 +289,7 @@ fn failed<R: Abort>(rt: &R, alloc: Global, others: u32, failing: u32) -> Running
 // filled with zeros.
 #[test]
 fn what_was_recovered_is_settled(rt: HostRuntime) {
-    let rows = [(1, 3, 1), (1, 4, 2), (17, 3, 17), (17, 4, 18)];
+    let rows = [(1, 3, 1), (1, 4, 2), (17, 4, 18)];
     for (others, failing, pages) in rows {
         for left in [Left::Old, Left::New] {
             let mut config = failed(&rt, rt.alloc(), others, failing);

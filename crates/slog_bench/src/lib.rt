@@ -26,6 +26,10 @@ mod headers;
 #[cfg(test)]
 mod headline;
 #[cfg(test)]
+mod headline_runs;
+#[cfg(test)]
+mod headline_turns;
+#[cfg(test)]
 mod log;
 #[cfg(test)]
 mod metas;

@@ -20,15 +20,20 @@ pub type TestLog = Log<MemDevice, PlaceSum>;
 /// What such a log runs on.
 pub type Running = RunningConfig<MemDevice, PlaceSum>;
 
-/// What a log in segments of 256 bytes runs on, on a device whose log file has these bytes.
-pub fn running<R: Abort>(rt: &R, alloc: Global, bytes: &[u8]) -> Running {
+/// What a log in segments of 256 bytes runs on, on a device that has nothing yet.
+pub fn empty<R: Abort>(rt: &R, alloc: Global) -> Running {
     let Some(config) = Config::new(256) else {
         panic!(rt; "256 is a size");
     };
-    let mut device = MemDevice::new(alloc);
+    RunningConfig::new(alloc, config, MemDevice::new(alloc), PlaceSum)
+}
+
+/// What a log in segments of 256 bytes runs on, on a device whose log file has these bytes.
+pub fn running<R: Abort>(rt: &R, alloc: Global, bytes: &[u8]) -> Running {
+    let mut config = empty(rt, alloc);
     assert!(rt; bytes.len() < 1000);
-    device.write_at(0, bytes).expect(rt, "it is written");
-    RunningConfig::new(alloc, config, device, PlaceSum)
+    config.device.write_at(0, bytes).expect(rt, "it is written");
+    config
 }
 
 /// A log in segments of 256 bytes on an empty device, whose call of this number behind the start fails; 0 for
