@@ -12,15 +12,15 @@ use sled_log::snapshot::{PageState, Snapshot, read_snapshot_or_default};
 use std::alloc::Global;
 use std::process::Abort;
 
-// The header of the segment, the record of page 0 by three sevens, and that of page 1 by three eights. The sum of
-// the last is 3 + 16 + 24 + 32 over the body and 25 + 24 + 8 over the header, 132.
-const LOG: [u8; 44] = [
+/// The header of the segment, the record of page 0 by three sevens, and that of page 1 by three eights. The sum of
+/// the last is 3 + 16 + 24 + 32 over the body and 25 + 24 + 8 over the header, 132.
+pub const LOG: [u8; 44] = [
     35, 216, 255, 255, 255, 255, 255, 255, 255, 255, 255, 127, 0, 0, 0, 0, 0, 0, 0, 128, 135, 255,
     255, 255, 6, 4, 0, 0, 3, 7, 7, 7, 123, 255, 255, 255, 5, 4, 0, 1, 3, 8, 8, 8,
 ];
 
-// What a recovery fills with.
-const ZEROS: [u8; 256] = [0; 256];
+/// What a recovery fills with.
+pub const ZEROS: [u8; 256] = [0; 256];
 
 /// What a crash leaves: what was settled, what was last written, or the latter with the byte at this offset of the
 /// log above one greater.
@@ -62,8 +62,8 @@ pub fn item_of<R: Abort>(rt: &R, alloc: Global, page: u32) -> Vec<u8> {
     item(rt, alloc, &[byte, byte, byte])
 }
 
-// Replaces a page.
-fn put_page<R: Abort>(rt: &R, alloc: Global, log: &mut TestLog, page: u32) {
+/// Replaces a page.
+pub fn put_page<R: Abort>(rt: &R, alloc: Global, log: &mut TestLog, page: u32) {
     let place = place_of(rt, page);
     let at = put(rt, log, u64::from(page), &item_of(rt, alloc, page));
     assert_eq!(rt; at, (i64::from(place), DiskPtr::Inline(u64::from(place))));
@@ -99,17 +99,22 @@ fn table<R: Abort>(rt: &R, alloc: Global, pages: u32) -> Snapshot {
     }
 }
 
-// Recovers what the device has.
-fn recovered<R: Abort>(rt: &R, config: &mut Running) -> Snapshot {
+/// Recovers what the device has.
+pub fn recovered<R: Abort>(rt: &R, config: &mut Running) -> Snapshot {
     read_snapshot_or_default(config).expect(rt, "it is recovered")
 }
 
-// Whether the log file has the first records, one or two, and zeros behind them.
+// Whether the log file has the first records, one or two, and zeros behind them, and the newest snapshot is that of
+// their end.
 fn is_filled<R: Abort>(rt: &R, alloc: Global, config: &mut Running, pages: u32) -> bool {
     let kept = place_of(rt, pages) as usize;
     assert!(rt; kept <= 44);
     let bytes = log_bytes(rt, alloc, &mut config.device);
-    bytes.len() == 256 && bytes.starts_with(&LOG[..kept]) && bytes.ends_with(&ZEROS[kept..])
+    let numbers = config.device.snapshots().expect(rt, "the device stands");
+    numbers.last() == Some(&(kept as i64))
+        && bytes.len() == 256
+        && bytes.starts_with(&LOG[..kept])
+        && bytes.ends_with(&ZEROS[kept..])
 }
 
 // Whether each of the first pages reads as what it was replaced by.
@@ -140,8 +145,8 @@ pub fn comes_back<R: Abort>(rt: &R, alloc: Global, config: Running, pages: u32) 
     own
 }
 
-// What a log ran on whose first message was flushed. The flush of the second one was stopped in its write (0) or in
-// its sync (1), or was not (2).
+// What a log ran on whose first message was flushed, before a crash. The flush of the second one was stopped in its
+// write (0) or in its sync (1), or was not (2).
 fn stopped<R: Abort>(rt: &R, alloc: Global, n: u64) -> Running {
     let mut config = running(rt, alloc, &[]);
     assert!(rt; n < 3);
@@ -156,8 +161,9 @@ fn stopped<R: Abort>(rt: &R, alloc: Global, n: u64) -> Running {
     config
 }
 
-// What a crash left of that.
-fn crashed<R: Abort>(rt: &R, alloc: Global, n: u64, left: Left) -> Running {
+/// What a log ran on whose first message was flushed, behind a crash. The flush of the second one was stopped in its
+/// write (0) or in its sync (1), or was not (2).
+pub fn crashed<R: Abort>(rt: &R, alloc: Global, n: u64, left: Left) -> Running {
     let mut config = stopped(rt, alloc, n);
     assert!(rt;
         config.device.crash(choice(rt, alloc, left)),
@@ -205,69 +211,6 @@ fn what_was_acknowledged_is_not_torn(rt: HostRuntime) {
             );
             assert!(rt; comes_back(&rt, rt.alloc(), config, pages), "{n} {at}");
         }
-    }
-}
-
-// Whether a recovery fails on a device that stops after so many calls just where it would make more of them.
-fn interrupted(config: &mut Running, n: u64, calls: u64) -> bool {
-    config.device.stop_after(n);
-    let is_stopped = is_io(read_snapshot_or_default(config));
-    is_stopped == config.device.stopped() && is_stopped == (n < calls)
-}
-
-// A recovery makes seven calls: two syncs, a write of zeros and its sync, and three that publish the snapshot. It
-// makes the first four where the snapshot is there already.
-fn calls_after(n: u64, left: Left) -> u64 {
-    match left {
-        Left::Old if n < 7 => 7,
-        _ if n < 5 => 7,
-        _ => 4,
-    }
-}
-
-// Has a recovery stopped, and then another, each with a crash; whether each made the calls that it should, and the
-// pages come back.
-fn comes_back_at_last<R: Abort>(
-    rt: &R,
-    alloc: Global,
-    config: Running,
-    (n, left): (u64, Left),
-    (m, again): (u64, Left),
-    pages: u32,
-) -> bool {
-    let mut config = config;
-    let first = interrupted(&mut config, n, 7);
-    assert!(rt; config.device.crash(choice(rt, alloc, left)));
-    let second = interrupted(&mut config, m, calls_after(n, left));
-    assert!(rt; config.device.crash(choice(rt, alloc, again)));
-    first && second && comes_back(rt, alloc, config, pages)
-}
-
-// Whether the pages come back however two recoveries are stopped, after the flush of the second message was stopped
-// and the crash left this.
-fn comes_back_each_time<R: Abort>(rt: &R, alloc: Global, first: Left, pages: u32) -> bool {
-    for n in 0..8 {
-        for left in [Left::Old, Left::New] {
-            for m in 0..8 {
-                for again in [Left::Old, Left::New] {
-                    let config = crashed(rt, alloc, 0, first);
-                    if !comes_back_at_last(rt, alloc, config, (n, left), (m, again), pages) {
-                        return false;
-                    }
-                }
-            }
-        }
-    }
-    true
-}
-
-#[test]
-fn recoveries_are_stopped_twice(rt: HostRuntime) {
-    for (first, pages) in [(Left::Old, 1), (Left::New, 2), (Left::Torn(43), 1)] {
-        assert!(rt;
-            comes_back_each_time(&rt, rt.alloc(), first, pages),
-            "{first:?}"
-        );
     }
 }
 

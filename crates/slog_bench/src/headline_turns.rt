@@ -85,7 +85,7 @@ fn replaces_that_are_refused(rt: HostRuntime) {
     assert!(rt; comes_back(&rt, rt.alloc(), config, 2));
 }
 
-// The table has the last message of a page, and it reads as its own bytes.
+// A message of a page that was begun begins no other. The table has the last one, and it reads as its own bytes.
 #[test]
 fn a_page_is_replaced_again(rt: HostRuntime) {
     for left in [Left::Old, Left::New] {
@@ -96,6 +96,7 @@ fn a_page_is_replaced_again(rt: HostRuntime) {
             (Do::Flush, Said::Flushed(32)),
             (Do::Replace(0, &[9, 9, 9]), Said::Reserved(32)),
             (Do::Complete, Said::Done(32)),
+            (Do::Page(2), Said::Refused),
             (Do::Flush, Said::Flushed(12)),
             (Do::Crash(left), Said::Crashed(true)),
         ];

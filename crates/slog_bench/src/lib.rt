@@ -26,6 +26,8 @@ mod headers;
 #[cfg(test)]
 mod headline;
 #[cfg(test)]
+mod headline_recoveries;
+#[cfg(test)]
 mod headline_runs;
 #[cfg(test)]
 mod headline_turns;
