@@ -24,6 +24,14 @@ mod faults;
 #[cfg(test)]
 mod headers;
 #[cfg(test)]
+mod headline;
+#[cfg(test)]
+mod headline_recoveries;
+#[cfg(test)]
+mod headline_runs;
+#[cfg(test)]
+mod headline_turns;
+#[cfg(test)]
 mod log;
 #[cfg(test)]
 mod metas;

@@ -3,17 +3,14 @@
 //! Segments have 256 bytes, and the sum is the one for tests. Beside each record stands its sum, which is
 //! stored flipped.
 
-use sled_log::config::{Config, RunningConfig};
-use sled_log::device::{Device, MemDevice, PlaceSum};
+use crate::support::{Running, empty};
+use sled_log::device::Device;
 use sled_log::logger::DiskPtr;
 use sled_log::plain::recovered_plainly;
 use sled_log::result::{Error, Result};
 use sled_log::snapshot::{PageState, Snapshot, read_snapshot_or_default};
 use std::alloc::Global;
 use std::process::Abort;
-
-// What a log runs on.
-type Running = RunningConfig<MemDevice, PlaceSum>;
 
 // The header of the first segment, whose mark is the place before the log.
 const FIRST: [u8; 20] = [
@@ -82,14 +79,6 @@ const SNAPSHOT: [u8; 33] = [
     33, 0, 0, 0, 0, 0, 0, 0, 1, 1, 20, 0, 0, 0, 0, 0, 0, 0, 0, 20, 12, 21, 0, 0, 0, 0, 0, 0, 0,
     156, 3, 0, 0,
 ];
-
-// What a log runs on that has no bytes yet.
-fn empty<R: Abort>(rt: &R, alloc: Global) -> Running {
-    let Some(config) = Config::new(256) else {
-        panic!(rt; "256 is a size");
-    };
-    RunningConfig::new(alloc, config, MemDevice::new(alloc), PlaceSum)
-}
 
 // Writes a segment into its slot: a header, and records one behind another.
 fn lay<R: Abort>(rt: &R, config: &mut Running, slot: u32, header: &[u8; 20], records: &[&[u8]]) {

@@ -3,17 +3,16 @@
 //!
 //! Segments have 256 bytes, and the sum is the one for tests.
 
-use crate::support::{TestLog, flush, fresh, is_io, is_item, item, log_bytes, put, read, running};
-use sled_log::config::RunningConfig;
-use sled_log::device::{Device, MemDevice, PlaceSum};
+use crate::support::{
+    Running, TestLog, flush, fresh, is_io, is_item, item, log_bytes, put, read, running, started,
+};
+use sled_log::device::{Device, MemDevice};
 use sled_log::logger::{DiskPtr, Log};
 use sled_log::restart::restart;
 use sled_log::result::Error;
 use sled_log::snapshot::{Entry, PageState, Snapshot, read_snapshot_or_default};
 use std::alloc::Global;
 use std::process::Abort;
-
-type Running = RunningConfig<MemDevice, PlaceSum>;
 
 // The header of the first segment, and the records of page 0 and page 1 replaced by three sevens.
 const LOG: [u8; 44] = [
@@ -52,14 +51,6 @@ fn present(alloc: Global, base: Entry) -> PageState {
     PageState::Present {
         base,
         frags: Vec::new(alloc),
-    }
-}
-
-// A log that is started on what a recovery left.
-fn started<R: Abort>(rt: &R, config: Running, snapshot: &Snapshot) -> TestLog {
-    match Log::start(config, snapshot) {
-        Ok(log) => log,
-        Err(_) => panic!(rt; "the log can begin"),
     }
 }
 

@@ -17,19 +17,23 @@ use std::process::Abort;
 /// A log on a device in memory, with the sum for tests.
 pub type TestLog = Log<MemDevice, PlaceSum>;
 
-/// What a log in segments of 256 bytes runs on, on a device whose log file has these bytes.
-pub fn running<R: Abort>(
-    rt: &R,
-    alloc: Global,
-    bytes: &[u8],
-) -> RunningConfig<MemDevice, PlaceSum> {
+/// What such a log runs on.
+pub type Running = RunningConfig<MemDevice, PlaceSum>;
+
+/// What a log in segments of 256 bytes runs on, on a device that has nothing yet.
+pub fn empty<R: Abort>(rt: &R, alloc: Global) -> Running {
     let Some(config) = Config::new(256) else {
         panic!(rt; "256 is a size");
     };
-    let mut device = MemDevice::new(alloc);
+    RunningConfig::new(alloc, config, MemDevice::new(alloc), PlaceSum)
+}
+
+/// What a log in segments of 256 bytes runs on, on a device whose log file has these bytes.
+pub fn running<R: Abort>(rt: &R, alloc: Global, bytes: &[u8]) -> Running {
+    let mut config = empty(rt, alloc);
     assert!(rt; bytes.len() < 1000);
-    device.write_at(0, bytes).expect(rt, "it is written");
-    RunningConfig::new(alloc, config, device, PlaceSum)
+    config.device.write_at(0, bytes).expect(rt, "it is written");
+    config
 }
 
 /// A log in segments of 256 bytes on an empty device, whose call of this number behind the start fails; 0 for
@@ -43,6 +47,14 @@ pub fn fresh<R: Abort>(rt: &R, alloc: Global, failing: u32) -> TestLog {
     match Log::start(config, &Snapshot::empty(alloc)) {
         Ok(log) => log,
         Err(_) => panic!(rt; "there is memory"),
+    }
+}
+
+/// A log that is started on what a recovery left.
+pub fn started<R: Abort>(rt: &R, config: Running, snapshot: &Snapshot) -> TestLog {
+    match Log::start(config, snapshot) {
+        Ok(log) => log,
+        Err(_) => panic!(rt; "the log can begin"),
     }
 }
 
