@@ -1,5 +1,5 @@
 -- What holds at the joints of a run: the premise on what is read, at each of its parts; what a crash leaves; and one command more.
-use Rattle.std.proofs.Common.{rules, reverse, ◌≤◌, ◌≡◌, ◌∙◌, ◌<◌, ◌^◌, ℕ, ℤ, pos, Bool, true, false, if◌then◌else◌, IsTrue, List, [], ◌∷◌, ◌++◌, None, refl, sym, ap, subst, append_assoc, inl, inr}
+use Rattle.std.proofs.Common.{◌≢◌, rules, reverse, ◌≤◌, ◌≡◌, ◌∙◌, ◌<◌, ◌^◌, ℕ, ℤ, pos, Bool, true, false, if◌then◌else◌, IsTrue, List, [], ◌∷◌, ◌++◌, None, refl, sym, ap, subst, append_assoc, inl, inr}
 use Rattle.std.specs.Prelude.{FitsSigned}
 use Rattle.std.specs.Int.{w64, cast_signed, cast_unsigned}
 use Rattle.std.proofs.lemmas.Int.{to_z-of_z}
@@ -21,10 +21,10 @@ use Rattle.sled_log.specs.declared.run.Reply.{Reply}
 use Rattle.std.specs.Prelude.{Err}
 use Rattle.sled_codec.specs.declared.result.Error.{Error}
 use Rattle.sled_codec.specs.declared.result.Error.TheVariants as error
-use Rattle.sled_codec.specs.Errors.{IsCorruption}
+use Rattle.sled_codec.specs.Errors.{IsCorruption, IsCorrupt}
 use Rattle.sled_codec.specs.Snapshots.{Shot}
 use Rattle.sled_store.specs.declared.config.RunningConfig.{RunningConfig}
-use Rattle.sled_core.specs.Causes.{DeviceAnswers}
+use Rattle.sled_core.specs.Causes.{DeviceAnswers, StartRefuses}
 use Rattle.sled_core.specs.Fits.{config_of, device_of, segment_size_of}
 use Rattle.sled_core.proofs.ReachLemmas.{fits_leaves}
 use Rattle.sled_log.specs.declared.run.Opened.{Opened}
@@ -32,11 +32,11 @@ use Rattle.sled_log.specs.declared.run.Command.TheVariants as command
 use Rattle.sled_log.specs.declared.run.Reply.TheVariants as reply
 use Rattle.sled_log.specs.declared.run.Phase.{Phase}
 use Rattle.sled_log.specs.declared.run.Phase.TheVariants as phase
-use Rattle.sled_log.specs.RunPhases.{IsOpenAt, IsClosedAt, IsAt, IsRecovery, trace_of, CarriesOut, CrashesInto}
+use Rattle.sled_log.specs.RunPhases.{IsOpenAt, IsClosedAt, IsAt, IsRecovery, SaysWhy, trace_of, CarriesOut, CrashesInto}
 use Rattle.std.proofs.lemmas.List.{reverse-append}
 use Rattle.sled_core.proofs.FirstSegment.{nothing_recoverable}
 use Rattle.sled_log.proofs.RunHistories.{none_orderly}
-use Rattle.sled_log.specs.Runs.{nothing_yet, ended, HasRecovered, IsOfDevice, OwnLeft, OwnEach, OwnThroughout, Standing, IsLater, IsStep, Runs}
+use Rattle.sled_log.specs.Runs.{nothing_yet, ended, HasRecovered, IsOfDevice, NotOpened, OwnLeft, OwnEach, OwnThroughout, Standing, IsLater, IsStep, Runs}
 
 -- a place as code holds it
 pub place_back : (z : ℤ) (n : ℕ) → z ≡ pos n → n < 2 ^ 63 → pos n ≡ cast_signed w64 (cast_unsigned w64 z)
@@ -189,17 +189,17 @@ later_recovered sum size old new (inr (x, recovers, ns, may, inl begun)) = later
 later_recovered sum size old new (inr (x, recovers, ns, may, inr made)) = later_performed (Synced ∷ NamesSynced ∷ writing_back sum x ns) old new made.1
 
 -- a reply that shows what was recovered
-pub recovered_step : (sum : List ℕ → ℕ) (size : ℕ) (old new : Trace) (a b : Standing) (s : Shot) (r : Reply) → IsRecovery s r → HasRecovered sum size old new a b s → IsStep sum size old new command.Open r a b
-recovered_step sum size old new a b s (reply.Opened t) shows has = (refl, subst (λ (x : Shot). HasRecovered sum size old new a b x) (sym shows) has)
-recovered_step sum size old new a b s (reply.Recovered t e) shows has = (refl, subst (λ (x : Shot). HasRecovered sum size old new a b x) (sym shows) has)
-recovered_step sum size old new a b s (reply.Reserved place pointer) shows has = absurd shows
-recovered_step sum size old new a b s (reply.Done place pointer) shows has = absurd shows
-recovered_step sum size old new a b s (reply.Flushed n) shows has = absurd shows
-recovered_step sum size old new a b s reply.Halted shows has = absurd shows
-recovered_step sum size old new a b s reply.Armed shows has = absurd shows
-recovered_step sum size old new a b s (reply.Crashed taken) shows has = absurd shows
-recovered_step sum size old new a b s (reply.Failed e) shows has = absurd shows
-recovered_step sum size old new a b s reply.Refused shows has = absurd shows
+pub recovered_step : (sum : List ℕ → ℕ) (size : ℕ) (old new : Trace) (a b : Standing) (s : Shot) (r : Reply) → IsRecovery s r → SaysWhy size s r → HasRecovered sum size old new a b s → IsStep sum size old new command.Open r a b
+recovered_step sum size old new a b s (reply.Opened t) shows why has = (refl, subst (λ (x : Shot). HasRecovered sum size old new a b x) (sym shows) has)
+recovered_step sum size old new a b s (reply.Recovered t e) shows why has = (refl, subst (λ (x : Shot). HasRecovered sum size old new a b x) (sym shows) has, subst (λ (x : Shot). NotOpened size x e) (sym shows) why)
+recovered_step sum size old new a b s (reply.Reserved place pointer) shows why has = absurd shows
+recovered_step sum size old new a b s (reply.Done place pointer) shows why has = absurd shows
+recovered_step sum size old new a b s (reply.Flushed n) shows why has = absurd shows
+recovered_step sum size old new a b s reply.Halted shows why has = absurd shows
+recovered_step sum size old new a b s reply.Armed shows why has = absurd shows
+recovered_step sum size old new a b s (reply.Crashed taken) shows why has = absurd shows
+recovered_step sum size old new a b s (reply.Failed e) shows why has = absurd shows
+recovered_step sum size old new a b s reply.Refused shows why has = absurd shows
 
 -- an answer of a recovery that is no damage is the device's, or want of memory
 pub of_device : (T : Type 0) (e : Error) (before after : ℕ) → DeviceAnswers {T = T} (Err e) before after → (IsCorruption {T = T} (Err e) → ⊥) → IsOfDevice e
@@ -231,3 +231,11 @@ crash_open trace sum opened config c choice result is_config is crashes a at own
 pub halt_open : {D C : Type 0} (trace : D → Trace) (sum : List ℕ → ℕ) (opened : Opened D C) (config : RunningConfig D C) (c : Command) → config ≡ config_of opened.log → c ≡ command.Halt → (a : Standing) → IsOpenAt trace sum opened a
     → (b : Standing) × IsStep sum (segment_size_of opened.log) (trace (device_of opened.log)) (trace config.device) c reply.Halted a b × IsClosedAt sum (segment_size_of opened.log) (trace config.device) b
 halt_open trace sum opened config c is_config is a at = (ended a, (ap (λ (x : RunningConfig _ _). trace x.device) is_config, is, refl), closed_at trace sum opened config a is_config at)
+
+-- so is the error of a start that is refused neither for damage nor for want of places
+pub start_of_device : (e : Error) (startable in_reach unwritten : Type 0) (before after : ℕ) → StartRefuses e startable in_reach unwritten before after → (IsCorrupt e → ⊥) → (e ≢ error.PlacesUsedUp) → IsOfDevice e
+start_of_device (error.Io e) startable in_reach unwritten before after refuses whole apart = tt
+start_of_device error.OutOfMemory startable in_reach unwritten before after refuses whole apart = tt
+start_of_device (error.Corruption at) startable in_reach unwritten before after refuses whole apart = absurd (whole tt)
+start_of_device error.PlacesUsedUp startable in_reach unwritten before after refuses whole apart = absurd (apart refl)
+start_of_device _ startable in_reach unwritten before after refuses whole apart = absurd refuses

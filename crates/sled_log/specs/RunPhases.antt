@@ -19,7 +19,7 @@ use Rattle.sled_log.specs.declared.run.Reply.{Reply}
 use Rattle.sled_log.specs.declared.run.Reply.TheVariants as reply
 use Rattle.sled_store.specs.declared.device.choice.Choice.{Choice}
 use Rattle.sled_log.specs.declared.run.Command.TheVariants as command
-use Rattle.sled_log.specs.Runs.{Standing, ended, IsLater, OwnThroughout, IsStep}
+use Rattle.sled_log.specs.Runs.{Standing, ended, NotOpened, IsLater, OwnThroughout, IsStep}
 
 -- a message of a page lies below a place
 pub record HasBelow (messages : List Message) (page place : ℕ) : Type 0 where
@@ -116,3 +116,8 @@ abbrev pub IsRecovery : Shot → Reply → Type 0
 IsRecovery s (reply.Opened t) = shot_of t ≡ s
 IsRecovery s (reply.Recovered t e) = shot_of t ≡ s
 IsRecovery s _ = ⊥
+
+-- where it says that no log is open, it says why
+abbrev pub SaysWhy : ℕ → Shot → Reply → Type 0
+SaysWhy size s (reply.Recovered t e) = NotOpened size s e
+SaysWhy size s _ = Unit {0}

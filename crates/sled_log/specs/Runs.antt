@@ -102,6 +102,11 @@ IsOfDevice (Io e) = Unit {0}
 IsOfDevice OutOfMemory = Unit {0}
 IsOfDevice _ = ⊥
 
+-- Why no log is open behind a recovery: the segment is full, or a start failed for this error of the device, or for want of memory.
+abbrev pub NotOpened : ℕ → Shot → Option Error → Type 0
+NotOpened size s None = size ≤ stable_place s.stable
+NotOpened size s (Some e) = IsOfDevice e
+
 -- A command failed. A recovery fails only where the device does, or where memory is refused.
 abbrev pub FailsWith : Command → Error → Trace → Trace → Standing → Standing → Type 0
 FailsWith command.Open e old new a b = IsLater old new × IsOfDevice e × (b ≡ a)
@@ -113,7 +118,7 @@ FailsWith _ e old new a b = ⊥
 -- What a command with this reply makes of where a run stands.
 abbrev pub IsStep : (List ℕ → ℕ) → ℕ → Trace → Trace → Command → Reply → Standing → Standing → Type 0
 IsStep sum size old new c (reply.Opened s) a b = (c ≡ command.Open) × HasRecovered sum size old new a b (shot_of s)
-IsStep sum size old new c (reply.Recovered s e) a b = (c ≡ command.Open) × HasRecovered sum size old new a b (shot_of s)
+IsStep sum size old new c (reply.Recovered s e) a b = (c ≡ command.Open) × HasRecovered sum size old new a b (shot_of s) × NotOpened size (shot_of s) e
 IsStep sum size old new c (reply.Reserved place pointer) a b =
     (new ≡ old) × (page : ℕ) × (item : _) × (c ≡ command.Replace page item) × (m : Message) × IsReplaceOf page item.items place pointer m × (b ≡ waiting a m)
 IsStep sum size old new c (reply.Done place pointer) a b = (new ≡ old) × (c ≡ command.Complete) × HasCompleted a b place pointer

@@ -11,7 +11,7 @@ ghost use Rattle.sled_store.specs.SnapshotFiles.{stable_place};
 ghost use Rattle.sled_core.specs.Fits.{IsOpen, pins_of, fault_of, config_of, device_of, segment_size_of};
 ghost use Rattle.sled_core.specs.Running.{Fits, Ready};
 ghost use Rattle.sled_log.specs.Runs.{OwnThroughout, Standing, nothing_yet, Runs};
-ghost use Rattle.sled_log.specs.RunPhases.{IsOfReplaces, HasMessageOf, IsRecoveredAt, IsRecovery, IsAt, trace_of, size_of, CanGoOn, CarriesOut, CrashesInto, Continues};
+ghost use Rattle.sled_log.specs.RunPhases.{IsOfReplaces, HasMessageOf, IsRecoveredAt, IsRecovery, SaysWhy, IsAt, trace_of, size_of, CanGoOn, CarriesOut, CrashesInto, Continues};
 
 use crate::snapshot::{Snapshot, read_snapshot_or_default};
 use sled_codec::result::{DiskPtr, Error, Lsn, PageId};
@@ -203,7 +203,7 @@ fn start<D: CrashDevice, C: Checksum>(
     config: RunningConfig<D, C>,
     snapshot: Snapshot,
 ) -> (Phase<D, C>, Reply)
-    ensures step { (a : Standing) → IsRecoveredAt D.trace C.sum_of config (shot_of snapshot) a → OwnThroughout C.sum_of config.config.segment_size (D.trace config.device) (trace_of D.trace result.0) → IsAt D.trace C.sum_of config.config.segment_size result.0 a }
+    ensures step { (a : Standing) → IsRecoveredAt D.trace C.sum_of config (shot_of snapshot) a → OwnThroughout C.sum_of config.config.segment_size (D.trace config.device) (trace_of D.trace result.0) → IsAt D.trace C.sum_of config.config.segment_size result.0 a × SaysWhy config.config.segment_size (shot_of snapshot) result.1 }
     ensures reply { IsRecovery (shot_of snapshot) result.1 }
     ensures on { Continues D.trace (Phase.Closed config) result.0 }
 {

@@ -10,7 +10,7 @@ use Rattle.sled_log.specs.Runs.{Standing, IsLater, OwnThroughout}
 use Rattle.sled_store.proofs.MomentLemmas.{at_last}
 use Rattle.sled_core.specs.Recoverable.{LeavesRecoverable}
 use Rattle.sled_core.specs.Running.{Ready}
-use Rattle.sled_log.specs.RunPhases.{IsAt, IsClosedAt, IsRecoveredAt, trace_of}
+use Rattle.sled_log.specs.RunPhases.{IsAt, IsClosedAt, IsRecoveredAt, SaysWhy, trace_of}
 use Rattle.sled_log.proofs.RunHistories.{orderly, forgotten, has_of_table}
 use Rattle.sled_log.proofs.RunLemmas.{later_both, later_recovered, own_here, own_rest, recovered_step, of_device}
 use Rattle.sled_log.proofs.run.open.Goals as goal
@@ -38,8 +38,8 @@ returns-in-Ok-clause-step g c = λ a at own.
     let rest : OwnThroughout sum size mid new = own_rest sum size old mid new first own in
     let there = c.start.ensures.step b recovered (subst (λ n. OwnThroughout sum n mid new) (sym sizes) rest) in (
       b,
-      recovered_step sum size old new a b s c.start.result.1 c.start.ensures.reply (record { at = mid; from = first; to = second; good = good; history = refl; acknowledged = refl; floor = refl; reserved = refl }),
-      subst (λ n. IsAt trace sum n c.start.result.0 b) sizes there,
+      recovered_step sum size old new a b s c.start.result.1 c.start.ensures.reply (subst (λ n. SaysWhy n s c.start.result.1) sizes there.1) (record { at = mid; from = first; to = second; good = good; history = refl; acknowledged = refl; floor = refl; reserved = refl }),
+      subst (λ n. IsAt trace sum n c.start.result.0 b) sizes there.0,
     )
 
 pub returns-in-Ok-clause-on : goal.returns-in-Ok-clause-on

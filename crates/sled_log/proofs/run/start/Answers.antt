@@ -5,7 +5,7 @@ use Rattle.sled_store.specs.SnapshotFiles.{stable_place}
 use Rattle.sled_store.proofs.MomentLemmas.{at_last}
 use Rattle.sled_store.specs.Device.{state_of}
 use Rattle.sled_core.specs.Begin.{slots_of, unused, filling}
-use Rattle.sled_log.proofs.RunLemmas.{later_all, later_performed}
+use Rattle.sled_log.proofs.RunLemmas.{later_all, later_performed, start_of_device}
 use Rattle.sled_log.proofs.run.start.Goals as goal
 
 pub returns-in-Ok-clause-on : goal.returns-in-Ok-clause-on
@@ -20,11 +20,14 @@ pub returns-in-Err-clause-step : goal.returns-in-Err-clause-step
 returns-in-Err-clause-step g c = λ a at own.
     let size = c.args.config.config.segment_size in
     let below : stable_place c.args.snapshot.stable_lsn < size = search rules in
-    record {
-      formed = at.closed.formed;
-      left = at_last (LeavesRecoverable g.C.Checksum.sum_of size a.history a.acknowledged a.floor) _ _ (c.in-Err.ensures.crash_err a.history a.acknowledged a.floor (at.ready below));
-      none = at.closed.none;
-    }
+    let starts = c.in-Err.ensures.starts a.history a.acknowledged a.floor (at.ready below) in (
+      record {
+        formed = at.closed.formed;
+        left = at_last (LeavesRecoverable g.C.Checksum.sum_of size a.history a.acknowledged a.floor) _ _ (c.in-Err.ensures.crash_err a.history a.acknowledged a.floor (at.ready below));
+        none = at.closed.none;
+      },
+      start_of_device c.in-Err.e _ _ _ _ _ c.in-Err.ensures.refused starts.0 starts.1,
+    )
 
 pub returns-in-Err-clause-on : goal.returns-in-Err-clause-on
 returns-in-Err-clause-on g c = record { later = later_performed _ _ _ c.in-Err.ensures.calls; size = ap (λ x. x.segment_size) c.in-Err.ensures.back.0; can_go_on = tt }
