@@ -4,7 +4,7 @@ use Rattle.std.specs.List.{All, Contains, slice_get}
 use Rattle.std.specs.declared.io.Error.{Error as IoError}
 use Rattle.std.proofs.lemmas.List.{set_split}
 use Rattle.std.proofs.lemmas.Option.{slice_get_within}
-use Rattle.std.proofs.lemmas.List.Elements.{Contains-append_cases}
+use Rattle.std.proofs.lemmas.List.Elements.{Contains-append_cases, All-contains}
 use Rattle.sled_codec.specs.Written.{written}
 use Rattle.sled_codec.specs.Spelling.{short_header_tail}
 use Rattle.sled_codec.specs.Record.{record_sum, short_record}
@@ -15,7 +15,7 @@ use Rattle.sled_core.specs.declared.iobuf.Reserved.{Reserved}
 use Rattle.sled_core.specs.declared.iobuf.Site.{Site}
 use Rattle.sled_core.specs.Buffers.{text_in, body_in, message_in, placeholder, IsChain, completed_in, completing, closed, StandsAs, Stands}
 use Rattle.sled_core.specs.Fits.{HoldsIn}
-use Rattle.sled_core.proofs.Ranges.{part-written_before, part-written_behind, part-written_at, length-written, completed-same, completed-append, completed_between, chain-split, chain-joined, chain_grows, chain_within, there_split, all_split, all_joined, of_one, at_there, there-set_other, chain_apart}
+use Rattle.sled_core.proofs.Ranges.{part-written_before, part-written_behind, part-written_at, length-written, completed-same, completed-append, completed_between, chain-split, chain-joined, chain_grows, chain_within, there_split, all_split, all_joined, at_there, there-set_other, chain_apart}
 use Rattle.sled_core.proofs.HoldsLemmas.{stands-same, completed_open}
 use Rattle.sled_core.proofs.BegunLemmas.{begun-adds}
 
@@ -121,13 +121,13 @@ module _ (sum : List ℕ → ℕ) (size : ℕ) (site : Site) (device : State) (f
 
   lower : (x : Message) → Contains (holds.earlier ++ completed_in site bytes xs) x → x.place < site.place + r.from
   lower x there = elim (Contains-append_cases holds.earlier (completed_in site bytes xs) x there) [
-    | inl early ↦ (let b = of_one (λ m. (m.place < site.place + from) × (m.place + m.size ≤ site.place + from)) holds.earlier x holds.below early in omega (arith, b.0, begins))
-    | inr late ↦ (of_one (λ m. (site.place + max 20 from ≤ m.place) × (m.place < site.place + r.from) × (m.place + m.size ≤ site.place + r.from)) (completed_in site bytes xs) x (completed_between site bytes (max 20 from) r.from xs chains.0 (some_long sum number bytes xs stand_all.0)) late).1
+    | inl early ↦ (let b = All-contains (λ m. (m.place < site.place + from) × (m.place + m.size ≤ site.place + from)) holds.earlier x holds.below early in omega (arith, b.0, begins))
+    | inr late ↦ (All-contains (λ m. (site.place + max 20 from ≤ m.place) × (m.place < site.place + r.from) × (m.place + m.size ≤ site.place + r.from)) (completed_in site bytes xs) x (completed_between site bytes (max 20 from) r.from xs chains.0 (some_long sum number bytes xs stand_all.0)) late).1
   ]
 
   higher : (x : Message) → Contains (completed_in site bytes ys) x → site.place + r.from < x.place
   higher x there =
-      let b = of_one (λ m. (site.place + (r.from + r.len) ≤ m.place) × (m.place < site.place + length bytes) × (m.place + m.size ≤ site.place + length bytes)) (completed_in site bytes ys) x (completed_between site bytes (r.from + r.len) (length bytes) ys chains.1 (some_long sum number bytes ys stand_all.2)) there in
+      let b = All-contains (λ m. (site.place + (r.from + r.len) ≤ m.place) × (m.place < site.place + length bytes) × (m.place + m.size ≤ site.place + length bytes)) (completed_in site bytes ys) x (completed_between site bytes (r.from + r.len) (length bytes) ys chains.1 (some_long sum number bytes ys stand_all.2)) there in
       let at_r = stand_all.1 in let h = at_r.headed in let l = at_r.long in
       omega (arith, b.0, h, l)
 

@@ -19,12 +19,13 @@ use Rattle.sled_core.specs.LogFile.{StandIn, HasHeader, IsEmpty, IsLogFile}
 use Rattle.sled_core.specs.Fits.{HoldsIn}
 use Rattle.sled_core.specs.Recoverable.{NoForeign, IsUnbegun, IsBegun, IsInFirstSegment, IsRecoverableInFirst, first_site, first_cut}
 use Rattle.sled_core.specs.Running.{FitsIn, CanBegin}
-use Rattle.sled_core.proofs.LogFileLemmas.{stand_rest, stand_above}
+use Rattle.sled_core.proofs.LogFileLemmas.{stand_rest, stand_above, none_older}
 use Rattle.sled_core.proofs.FlushLemmas.{all_stand, grown}
-use Rattle.sled_core.proofs.MainLemmas.{first_cut_least, first_cut_with_room, none_older}
+use Rattle.sled_core.proofs.MainLemmas.{first_cut_with_room}
 use Rattle.sled_core.proofs.TornLemmas.{after_write}
 use Rattle.sled_core.proofs.TornRecords.{StandsUpTo}
 use Rattle.sled_core.proofs.TornFlush.{flush_header, flush_stand}
+use Rattle.sled_core.proofs.FirstBegun.{first_cut_within}
 
 -- A log in the first segment, with something to write.
 module _ (sum : List ℕ → ℕ) (size : ℕ) (device : State) (fault : Option IoError) (bytes : List ℕ) (from : ℕ) (rs : List Reserved) (pins : ℕ) (H : History) (A f : ℕ) (U : List Message)
@@ -106,7 +107,7 @@ module _ (sum : List ℕ → ℕ) (size : ℕ) (device : State) (fault : Option 
 
       -- what was written before lies below the cut
       from_cut : from ≤ first_cut size up.end
-      from_cut = let no_less = up.no_less in omega (arith, no_less, first_cut_least size up.end inside)
+      from_cut = let no_less = up.no_less in let cut = (first_cut_within size up.end inside).0 in omega (arith, no_less, cut)
 
       beyond_later : All (λ m. first_cut size up.end ≤ m.place) beyond
       beyond_later k d lt =

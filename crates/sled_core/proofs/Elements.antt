@@ -20,6 +20,11 @@ in_cases x y xs there = at_cases x y xs there.0 there.1 there.2
 pub in_nothing : {X : Type 0} (x : X) → Contains [] x → ⊥
 in_nothing x there = omega (arith, there.1)
 
+-- a list with no element is empty
+pub no_element : {X : Type 0} (xs : List X) → ((x : X) → Contains xs x → ⊥) → xs ≡ []
+no_element [] none = refl
+no_element (x ∷ xs) none = absurd (none x (in_first x xs))
+
 -- a list of one has that one alone
 pub only_in : {X : Type 0} (x y : X) → Contains (x ∷ []) y → x ≡ y
 only_in x y there = ⊎_elim (λ is. is) (λ rest. absurd (in_nothing y rest)) (in_cases x y [] there)

@@ -7,17 +7,11 @@ use Rattle.std.proofs.lemmas.List.Sums.{sum_by-append, sum_by-cons}
 use Rattle.sled_codec.specs.Snapshots.{Entry}
 use Rattle.sled_core.specs.Begin.{slot_of, number_of, sizes_in}
 use Rattle.sled_core.specs.Booked.{number_in}
+use Rattle.sled_core.proofs.Elements.{in_cases}
 
 -- a number is itself
 pub same_number : (n : ℕ) → (n == n) ≡ true
 same_number n = elim (eqb_tells n n) [ inl same_n ↦ same_n.0 | inr other_n ↦ absurd (other_n.1 refl) ]
-
--- an element of a list is its first, or one of the others
-pub head_or_tail : {X : Type 0} (x y : X) (xs : List X) → Contains (x ∷ xs) y → (x ≡ y) ⊎ Contains xs y
-head_or_tail x y xs has = elim (Contains-append_cases (x ∷ []) xs y has) [
-  | inl first ↦ inl (elim (Contains-push_cases [] x y first) [ inl none ↦ absurd (let lt = none.1 in omega arith) | inr is ↦ is ])
-  | inr rest ↦ inr rest
-]
 
 -- the first of two, or the other where there is none
 abbrev pub or_else : Option ℕ → Option ℕ → Option ℕ
@@ -46,7 +40,7 @@ module _ (size : ℕ) where
     where
       by : (number_in size k es ≡ None → (c : Entry) → Contains es c → slot_of size c ≡ k → ⊥) → (b : Bool) → (slot_of size e == k) ≡ b → (if b then Some (number_of size e) else number_in size k es) ≡ None → ⊥
       by others true test none = cc
-      by others false test none = elim (head_or_tail e d es has) [
+      by others false test none = elim (in_cases e d es has) [
         | inl same ↦ elim (eqb_tells (slot_of size e) k) [ inl same_k ↦ (let p = same_k.0 in cc) | inr other_k ↦ other_k.1 (ap (slot_of size) same ∙ at) ]
         | inr rest ↦ others none d rest at
       ]
@@ -70,7 +64,7 @@ module _ (size : ℕ) where
     where
       by : (list_any (λ c. number_of size c == n) es ≡ false → (c : Entry) → Contains es c → number_of size c ≡ n → ⊥) → (b : Bool) → (number_of size e == n) ≡ b → (b || list_any (λ c. number_of size c == n) es) ≡ false → ⊥
       by others true test none = cc
-      by others false test none = elim (head_or_tail e d es has) [
+      by others false test none = elim (in_cases e d es has) [
         | inl same ↦ elim (eqb_tells (number_of size e) n) [ inl same_k ↦ (let p = same_k.0 in cc) | inr other_k ↦ other_k.1 (ap (number_of size) same ∙ at) ]
         | inr rest ↦ others none d rest at
       ]

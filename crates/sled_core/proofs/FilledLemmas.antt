@@ -1,7 +1,7 @@
 -- A log file whose slots are filled with zeros, one after another: how long it gets, which bytes stay, and which are zeros.
 use Rattle.std.proofs.Common.{◌≡◌, ◌≢◌, ◌⊎◌, ◌≤◌, ◌<◌, ◌+◌, ◌-◌, ◌*◌, ◌∙◌, ℕ, zero, suc, max, List, [], ◌∷◌, ◌++◌, length, take, drop, replicate, map, get_or, refl, sym, ap, subst, arith, inl, inr, length-append, length-take, Bool, true, false, if◌then◌else◌}
 use Rattle.std.specs.List.{All, Contains}
-use Rattle.std.proofs.lemmas.List.Elements.{All-push, Contains-push, Contains-append_left}
+use Rattle.std.proofs.lemmas.List.Elements.{All-push, Contains-push, Contains-append_left, All-tail}
 use Rattle.std.proofs.Math.Nat.{mul-le-mul_right, div-mul-le_self, lt-div-mul-add}
 use Rattle.std.proofs.lemmas.Bool.{cases_lt}
 use Rattle.std.proofs.lemmas.Bool.Decides.{eqb_tells}
@@ -12,8 +12,9 @@ use Rattle.sled_store.specs.Device.{Trace, LogState, state_of, at_rest, overwrit
 use Rattle.sled_store.specs.Script.{after_all}
 use Rattle.sled_store.proofs.OverwrittenLemmas.{length-overwritten, overwritten-part, overwritten-below, overwritten-above}
 use Rattle.sled_store.proofs.LogLemmas.{part_written}
+use Rattle.sled_store.proofs.LooseLemmas.{end_of-some}
 use Rattle.sled_core.specs.Begin.{slots_of, fill, filling, not_below, first_or}
-use Rattle.sled_core.proofs.Ranges.{others}
+use Rattle.sled_core.proofs.Elements.{in_cases}
 
 -- the bytes of a file, with these slots filled with zeros
 abbrev pub filled : ℕ → List ℕ → List ℕ → List ℕ
@@ -75,10 +76,6 @@ slots_cover size len some =
     let past : len + (size - 1) < slots_of size len * size + size = lt-div-mul-add some in
     omega (arith, some, past)
 
-end_some : (at n : ℕ) → 0 < n → end_of at n ≡ at + n
-end_some at zero some = absurd (omega (arith, some))
-end_some at (suc n) some = refl
-
 -- what lies behind a write stays, and so does the end
 overwritten-drop : (bytes : List ℕ) (at : ℕ) (xs : List ℕ) (lid : ℕ) → at + length xs ≤ lid → drop lid (overwritten bytes at xs) ≡ drop lid bytes
 overwritten-drop bytes at [] lid behind = refl
@@ -86,14 +83,6 @@ overwritten-drop bytes at (x ∷ xs) lid behind =
     let front : List ℕ = take at (bytes ++ replicate (at - length bytes) 0) in
     let long : length (front ++ (x ∷ xs)) ≡ at + length (x ∷ xs) = simp (length-append, length-take, length-replicate) (omega arith) in
     drop-append-drop (at + length (x ∷ xs)) bytes (front ++ (x ∷ xs)) lid behind long
-
--- an element of a list is its first, or one of the others
-first_or_other : {X : Type 0} (x y : X) (xs : List X) → Contains (x ∷ xs) y → (x ≡ y) ⊎ Contains xs y
-first_or_other x y xs has = by has.0 has.1 has.2
-  where
-    by : (k : ℕ) → k < length (x ∷ xs) → get_or (x ∷ xs) k y ≡ y → (x ≡ y) ⊎ Contains xs y
-    by zero lt is = inl is
-    by (suc k) lt is = inr (k, omega (arith, lt), is)
 
 module _ (size : ℕ) (some : 0 < size) where
   -- One slot is filled.
@@ -109,7 +98,7 @@ module _ (size : ℕ) (some : 0 < size) where
     zeros_long = length-replicate size 0
 
     end_is : end_of (k * size) (length zeros) ≡ k * size + size
-    end_is = ap (end_of (k * size)) zeros_long ∙ end_some (k * size) size some
+    end_is = ap (end_of (k * size)) zeros_long ∙ end_of-some (k * size) size some
 
     one_long : length new ≡ max (length log) (k * size + size)
     one_long = omega (arith, length-overwritten log (k * size) zeros, end_is)
@@ -160,23 +149,23 @@ module _ (size : ℕ) (some : 0 < size) where
   filled_ends end [] log short all = short
   filled_ends end (k ∷ ks) log short all =
       let here : k * size + size ≤ end = all 0 k (omega arith) in
-      filled_ends end ks (new log k) (omega (arith, one_long log k, here, short)) (others (λ x. x * size + size ≤ end) k ks all)
+      filled_ends end ks (new log k) (omega (arith, one_long log k, here, short)) (All-tail (λ x. x * size + size ≤ end) k ks all)
 
   later_within : (k : ℕ) (ks log : List ℕ) → All (λ x. x * size < length log) (k ∷ ks) → All (λ x. x * size < length (new log k)) ks
-  later_within k ks log all = within_more log (new log k) ks (omega (arith, one_long log k)) (others (λ x. x * size < length log) k ks all)
+  later_within k ks log all = within_more log (new log k) ks (omega (arith, one_long log k)) (All-tail (λ x. x * size < length log) k ks all)
 
   -- a byte of another slot stays
   pub filled_byte : (ks log : List ℕ) (j i : ℕ) → All (λ k. k * size < length log) ks → All (λ k. k ≢ j) ks → j * size ≤ i → i < j * size + size → get_or (filled size log ks) i 0 ≡ get_or log i 0
   filled_byte [] log j i within other low high = refl
   filled_byte (k ∷ ks) log j i within other low high =
-      filled_byte ks (new log k) j i (later_within k ks log within) (others (λ x. x ≢ j) k ks other) low high
+      filled_byte ks (new log k) j i (later_within k ks log within) (All-tail (λ x. x ≢ j) k ks other) low high
       ∙ one_byte log k j i (other 0 k (omega arith)) (within 0 k (omega arith)) low high
 
   -- and so does a part of it, as far as the file goes
   pub filled_part : (ks log : List ℕ) (j lid n : ℕ) → All (λ k. k * size < length log) ks → All (λ k. k ≢ j) ks → j * size ≤ lid → lid + n ≤ j * size + size → part (filled size log ks) lid n ≡ part log lid n
   filled_part [] log j lid n within other low high = refl
   filled_part (k ∷ ks) log j lid n within other low high =
-      filled_part ks (new log k) j lid n (later_within k ks log within) (others (λ x. x ≢ j) k ks other) low high
+      filled_part ks (new log k) j lid n (later_within k ks log within) (All-tail (λ x. x ≢ j) k ks other) low high
       ∙ one_part log k j lid n (other 0 k (omega arith)) (within 0 k (omega arith)) low high
 
   -- a zero of a slot stays one
@@ -191,7 +180,7 @@ module _ (size : ℕ) (some : 0 < size) where
   -- each byte of a slot that is filled is a zero
   pub filled_zero : (ks log : List ℕ) (j i : ℕ) → All (λ k. k * size < length log) ks → Contains ks j → j * size ≤ i → i < j * size + size → get_or (filled size log ks) i 0 ≡ 0
   filled_zero [] log j i within has low high = absurd (let lt = has.1 in omega (arith, lt))
-  filled_zero (k ∷ ks) log j i within has low high = elim (first_or_other k j ks has) [
+  filled_zero (k ∷ ks) log j i within has low high = elim (in_cases k j ks has) [
     | inl same ↦ zero_stays ks (new log k) j i (later_within k ks log within) low high (one_zero log k i (subst (λ x. x * size ≤ i) (sym same) low) (subst (λ x. i < x * size + size) (sym same) high))
     | inr rest ↦ filled_zero ks (new log k) j i (later_within k ks log within) rest low high
   ]

@@ -4,7 +4,7 @@ use Rattle.std.specs.List.{All}
 use Rattle.std.proofs.Math.Nat.{mod-add-div', div-eq_of_lt}
 use Rattle.std.proofs.lemmas.Bool.{cases_lt}
 use Rattle.std.proofs.lemmas.List.{length-replicate, take-replicate, get_or_past}
-use Rattle.std.proofs.lemmas.List.Elements.{All-contains}
+use Rattle.std.proofs.lemmas.List.Elements.{All-contains, All-cons}
 use Rattle.sled_codec.specs.Places.{part}
 use Rattle.sled_codec.specs.Record.{IsHeader}
 use Rattle.sled_codec.specs.History.{History}
@@ -26,7 +26,6 @@ use Rattle.sled_core.specs.Running.{NoneBegun, NamesFit, NoBlobs, IsReadyFor, Re
 use Rattle.sled_core.specs.Scan.{IsFoundSegment}
 use Rattle.sled_core.proofs.FilledLemmas.{filled, begins_in, filled_ends, filled_zero}
 use Rattle.sled_core.proofs.FirstSegment.{recoverable_in_first}
-use Rattle.sled_core.proofs.Ranges.{with_first}
 use Rattle.sled_core.proofs.UsedLemmas.{active_used, zero_part}
 
 module _ (sum : List ℕ → ℕ) (size : ℕ) where
@@ -76,8 +75,8 @@ module _ (sum : List ℕ → ℕ) (size : ℕ) where
 -- A file of one slot is zeros once that is filled.
 first_filled : (size : ℕ) (log : List ℕ) → 0 < size → 0 < length log → length log ≤ size → (i : ℕ) → get_or (filled size log (0 ∷ [])) i 0 ≡ 0
 first_filled size log some there short i =
-    let one : All (λ (k : ℕ). k * size < length log) (0 ∷ []) = with_first (λ (k : ℕ). k * size < length log) 0 [] (omega (arith, there)) (λ k d lt. absurd (omega (arith, lt))) in
-    let ends : All (λ (k : ℕ). k * size + size ≤ size) (0 ∷ []) = with_first (λ (k : ℕ). k * size + size ≤ size) 0 [] (omega arith) (λ k d lt. absurd (omega (arith, lt))) in
+    let one : All (λ (k : ℕ). k * size < length log) (0 ∷ []) = All-cons (λ (k : ℕ). k * size < length log) 0 [] (omega (arith, there)) (λ k d lt. absurd (omega (arith, lt))) in
+    let ends : All (λ (k : ℕ). k * size + size ≤ size) (0 ∷ []) = All-cons (λ (k : ℕ). k * size + size ≤ size) 0 [] (omega arith) (λ k d lt. absurd (omega (arith, lt))) in
     elim (cases_lt i size) [
       | inl inside ↦ filled_zero size some (0 ∷ []) log 0 i one (0, omega arith, refl) (omega arith) (omega (arith, inside))
       | inr past ↦ get_or_past (filled size log (0 ∷ [])) i 0 (omega (arith, past, filled_ends size some size (0 ∷ []) log short ends))
@@ -143,7 +142,7 @@ module _ (sum : List ℕ → ℕ) (size : ℕ) (device : State) (s : Shot) (H : 
         let short = ready.short in
         unbegun_recoverable sum size H A f past long small ready.ready.batches nothing
         (subst (NoneBegun sum size) (sym settled_same) unbegun.1)
-        (with_first (λ (w : ℕ × List ℕ). take 20 w.1 ≡ replicate 20 0) (0 * size, zeros) device.log.asked (take-replicate {X = ℕ} 20 size 0 (omega (arith, long)))
+        (All-cons (λ (w : ℕ × List ℕ). take 20 w.1 ≡ replicate 20 0) (0 * size, zeros) device.log.asked (take-replicate {X = ℕ} 20 size 0 (omega (arith, long)))
         (subst (AreZeros sum size) (sym asked) (λ k d lt. absurd (omega (arith, lt)))))
         (omega (arith, most, short, no_more, length-replicate {A = ℕ} size 0, end_of-le (0 * size) (max (length zeros) (length t)) size (omega (arith, no_more, length-replicate {A = ℕ} size 0))))
         ready.blobs names_fit

@@ -2,7 +2,7 @@
 use Rattle.std.proofs.Common.{⊎_elim, ◌≡◌, ◌⊎◌, ◌≤◌, ◌<◌, ◌+◌, ◌*◌, ◌/◌, ◌^◌, ◌-ℤ◌, ◌∙◌, ℕ, ℤ, pos, Bool, true, false, nat_lt, if◌then◌else◌, List, [], ◌∷◌, length, take, Option, Some, None, sym, ap, arith, refl, subst, inl, inr}
 use Rattle.std.specs.List.{Contains}
 use Rattle.std.proofs.Math.Nat.{div-eq_of_lt}
-use Rattle.std.proofs.lemmas.List.Elements.{Contains-append_cases, Contains-append_left}
+use Rattle.std.proofs.lemmas.List.Elements.{Contains-append_cases, Contains-append_left, All-contains}
 use Rattle.sled_codec.specs.Record.{IsHeader}
 use Rattle.sled_codec.specs.History.{Message, Batch, History, table}
 use Rattle.sled_codec.specs.Snapshots.{Shot}
@@ -16,10 +16,10 @@ use Rattle.sled_core.specs.Recoverable.{readable, NoMessageBegins, NoBatchBegins
 use Rattle.sled_core.proofs.Elements.{in_nothing}
 use Rattle.sled_core.proofs.TableEntries.{from_table}
 use Rattle.sled_core.proofs.FoundLemmas.{is_found, only_found, one_found}
-use Rattle.sled_core.proofs.Ranges.{of_one}
 use Rattle.sled_core.proofs.GivesLemmas.{StandsWhole, own_stands}
 use Rattle.sled_core.proofs.PathLemmas.{met_of}
-use Rattle.sled_core.proofs.StandLemmas.{stand_below, stand_apart, all_reached}
+use Rattle.sled_core.proofs.StandLemmas.{apart_of_two, all_reached}
+use Rattle.sled_core.proofs.LogFileLemmas.{stand_below, stand_apart}
 
 -- the first segment, with its mark
 abbrev pub first_segment : Segment
@@ -89,24 +89,24 @@ module _ (sum : List ℕ → ℕ) (size : ℕ) (content : Content) (H : History)
   own_there m there = subst (λ (l : List Message). Contains l m) (sym begun.messages) (Contains-append_left begun.own begun.beyond m there)
 
   cases : (m : Message) → Contains H.messages m → Contains begun.own m ⊎ (first_cut size stop ≤ m.place)
-  cases m there = ⊎_elim inl (λ later. inr (of_one (λ x. first_cut size stop ≤ x.place) begun.beyond m begun.later later))
+  cases m there = ⊎_elim inl (λ later. inr (All-contains (λ x. first_cut size stop ≤ x.place) begun.beyond m begun.later later))
       (Contains-append_cases begun.own begun.beyond m (subst (λ (l : List Message). Contains l m) begun.messages there))
 
   pub own_of : (m : Message) → Contains H.messages m → m.place < first_cut size stop → Contains begun.own m
   own_of m there below = ⊎_elim (λ own. own) (λ above. absurd (omega (arith, above, below))) (cases m there)
 
   stands : (m : Message) → Contains begun.own m → StandsWhole sum size content.log m
-  stands m there = of_one (StandsWhole sum size content.log) begun.own m (own_stands sum size content.log first_site 20 begun.own stop (omega arith) begun.stand) there
+  stands m there = All-contains (StandsWhole sum size content.log) begun.own m (own_stands sum size content.log first_site 20 begun.own stop (omega arith) begun.stand) there
 
   reached : (m : Message) → Contains begun.own m → IsReachedIn sum size r first_segment m
-  reached m there = of_one (IsReachedIn sum size r first_segment) begun.own m (all_reached sum size r first_site stop (pos 0 -ℤ pos 1) begun.own begun.stand) there
+  reached m there = All-contains (IsReachedIn sum size r first_segment) begun.own m (all_reached sum size r first_site stop (pos 0 -ℤ pos 1) begun.own begun.stand) there
 
   -- nothing of the history begins within one of them
   none_within : (m : Message) → Contains begun.own m → NoMessageBegins H (m.place + 1) (m.place + m.size)
-  none_within m there n also = ⊎_elim (λ own. stand_apart sum size content.log first_site 20 begun.own stop begun.stand m n there own) (λ above.
+  none_within m there n also = ⊎_elim (λ own. apart_of_two begun.own (stand_apart sum size content.log first_site 20 begun.own stop begun.stand) m n there own) (λ above.
       let inside = begun.inside in
       let cut = (first_cut_within size stop inside).0 in
-      let below = (of_one (λ x. (x.place < first_site.place + stop) × (x.place + x.size ≤ first_site.place + stop)) begun.own m (stand_below sum size content.log first_site 20 begun.own stop begun.stand) there).1 in
+      let below = (All-contains (λ x. (x.place < first_site.place + stop) × (x.place + x.size ≤ first_site.place + stop)) begun.own m (stand_below sum size content.log first_site 20 begun.own stop begun.stand) there).1 in
       inr (omega (arith, above, cut, below))) (cases n also)
 
   reads : (m : Message) → Contains begun.own m → Reads sum size content m

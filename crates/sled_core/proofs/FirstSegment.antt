@@ -4,7 +4,7 @@ use Rattle.std.specs.List.{Contains}
 use Rattle.std.proofs.Math.Nat.{div-eq_of_lt, mod-add-div', mod_self}
 use Rattle.std.proofs.lemmas.Bool.{cases_lt}
 use Rattle.std.proofs.lemmas.Bool.Decides.{nat_tests}
-use Rattle.std.proofs.lemmas.List.Elements.{All-map}
+use Rattle.std.proofs.lemmas.List.Elements.{All-map, All-contains}
 use Rattle.sled_codec.specs.History.{Message, History, table, no_history}
 use Rattle.sled_codec.specs.Snapshots.{Shot}
 use Rattle.sled_store.specs.Device.{Content}
@@ -20,7 +20,6 @@ use Rattle.sled_core.specs.Recoverable.{readable, IsOfHistory, IsSegmentOf, IsMa
 use Rattle.sled_core.proofs.Elements.{in_nothing, only_in, in_one, all_from_in}
 use Rattle.sled_core.proofs.TableEntries.{from_table}
 use Rattle.sled_core.proofs.FoundLemmas.{zero_mod, found_there, none_ordered}
-use Rattle.sled_core.proofs.Ranges.{of_one}
 use Rattle.sled_core.proofs.LogFileLemmas.{stand_grows}
 use Rattle.sled_core.proofs.PathLemmas.{met_of}
 use Rattle.sled_core.proofs.StandLemmas.{ending_at, none_open, scan_of}
@@ -118,7 +117,7 @@ module _ (sum : List ℕ → ℕ) (size : ℕ) (content : Content) (H : History)
         by_test true is = cc
 
       truth : (x : Met) → Contains (map met_of begun.own) x → IsOfHistory sum size content H x
-      truth x there = of_one (IsOfHistory sum size content H) (map met_of begun.own) x
+      truth x there = All-contains (IsOfHistory sum size content H) (map met_of begun.own) x
           (All-map (IsOfHistory sum size content H) met_of begun.own (all_from_in (λ m. IsOfHistory sum size content H (met_of m)) begun.own (of_history sum size content H A first in_reach no_batches short begun))) there
 
       abbrev end : ℕ

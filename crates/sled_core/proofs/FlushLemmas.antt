@@ -9,7 +9,7 @@ use Rattle.std.specs.declared.io.Error.{Error as IoError}
 use Rattle.std.specs.declared.io.ErrorKind.{ErrorKind}
 use Rattle.std.specs.declared.io.ErrorKind.TheVariants.{OutOfMemory}
 use Rattle.std.proofs.lemmas.List.{append-nil, drop-drop}
-use Rattle.std.proofs.lemmas.List.Elements.{All-append}
+use Rattle.std.proofs.lemmas.List.Elements.{All-append, All-tail}
 use Rattle.std.proofs.lemmas.Bool.{cases_lt}
 use Rattle.std.proofs.Math.Nat.{div-le_self}
 use Rattle.sled_codec.specs.declared.result.DiskPtr.TheVariants.{Inline}
@@ -26,7 +26,7 @@ use Rattle.sled_core.specs.declared.iobuf.Site.{Site}
 use Rattle.sled_core.specs.Buffers.{text_in, body_in, message_in, placeholder, IsChain, completed_in, all_ended, Stands}
 use Rattle.sled_core.specs.LogFile.{MessageStands, StandIn, HasHeader, IsLogFile}
 use Rattle.sled_core.specs.Fits.{HoldsIn, IsOnDevice, IsBegunFrom, IsKept}
-use Rattle.sled_core.proofs.Ranges.{chain_grows, others, completed_between}
+use Rattle.sled_core.proofs.Ranges.{chain_grows, completed_between}
 use Rattle.sled_core.proofs.CompletesLemmas.{some_long}
 use Rattle.sled_core.proofs.ScanLemmas.{aligned_offset}
 use Rattle.sled_core.proofs.LogFileLemmas.{stand-append, first_kept, elsewhere_kept, header_kept, part_laid, laid_within, behind_write}
@@ -91,8 +91,8 @@ records_laid sum size site log bytes from at (r ∷ rs) same in_file aligned sho
     let laid : MessageStands sum size log (site.slot + r.from) (site.place / size) (message_in site bytes r) =
     record_laid sum size site log bytes r here split.0 (same r.from r.len (omega (arith, place, behind)) (omega (arith, place, grows))) (omega (arith, place, grows, in_file)) (omega (arith, offset, place, grows, short))
     (omega (arith, place, grows, short, small)) number_small in
-    let rest = records_laid sum size site log bytes from (at + r.len) rs same in_file aligned short small number_small (omega (arith, behind)) chain.1 (others (Stands sum (site.place / size) bytes) r rs stand)
-    (others (λ (x : Reserved). x.from + 32 ≤ size) r rs room) split.1 in
+    let rest = records_laid sum size site log bytes from (at + r.len) rs same in_file aligned short small number_small (omega (arith, behind)) chain.1 (All-tail (Stands sum (site.place / size) bytes) r rs stand)
+    (All-tail (λ (x : Reserved). x.from + 32 ≤ size) r rs room) split.1 in
     let has_room : r.from + 32 ≤ size = room 0 r (omega arith) in
     subst (λ (ms : List Message). StandIn sum size log site at ms (length bytes)) (sym (completed_closed site bytes r rs split.0)) (
       omega (arith, place, has_room),

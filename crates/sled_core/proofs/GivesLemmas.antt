@@ -1,7 +1,7 @@
 -- Where the record of a message stands, what is read is that message.
 use Rattle.std.proofs.Common.{◌≡◌, ◌≤◌, ◌<◌, ◌+◌, ◌/◌, ◌%◌, ℕ, List, [], ◌∷◌, length, sym, ◌∙◌, ap, arith, refl, subst, true, false, Bool, if◌then◌else◌, ◌==◌, None, Some, max, inl, inr}
 use Rattle.std.specs.List.{All, Contains}
-use Rattle.std.proofs.lemmas.List.Elements.{Contains-append_cases}
+use Rattle.std.proofs.lemmas.List.Elements.{Contains-append_cases, All-contains, All-cons}
 use Rattle.sled_codec.specs.declared.result.DiskPtr.TheVariants as ptr
 use Rattle.sled_codec.specs.declared.serialization.message.LogKind.{LogKind}
 use Rattle.sled_codec.specs.declared.serialization.message.LogKind.TheVariants as does
@@ -16,7 +16,7 @@ use Rattle.sled_core.specs.declared.iobuf.Site.{Site}
 use Rattle.sled_core.specs.Buffers.{completed_in}
 use Rattle.sled_core.specs.LogFile.{MessageStands, StandIn, StandsElsewhere, IsLogFile}
 use Rattle.sled_core.specs.Fits.{HoldsIn, IsOnDevice}
-use Rattle.sled_core.proofs.Ranges.{of_one, completed_between, with_first}
+use Rattle.sled_core.proofs.Ranges.{completed_between}
 use Rattle.sled_core.proofs.CompletesLemmas.{some_long}
 use Rattle.sled_core.proofs.ReadingLemmas.{laid_of, one_head, one_laid, one_text}
 use Rattle.sled_core.proofs.ScanLemmas.{aligned_number}
@@ -97,7 +97,7 @@ own_stands sum size log site at [] end aligned stand = λ k d lt. absurd (omega 
 own_stands sum size log site at (m ∷ ms) end aligned stand =
     let below : at < size = omega (arith, stand.0) in
     let number : site.place / size ≡ m.place / size = sym (ap (λ n. n / size) stand.1 ∙ aligned_number site.place at size aligned below) in
-    with_first (StandsWhole sum size log) m ms (site.slot + at, stand.2, subst (λ n. MessageStands sum size log (site.slot + at) n m) number stand.3) (own_stands sum size log site (at + m.size) ms end aligned stand.4)
+    All-cons (StandsWhole sum size log) m ms (site.slot + at, stand.2, subst (λ n. MessageStands sum size log (site.slot + at) n m) number stand.3) (own_stands sum size log site (at + m.size) ms end aligned stand.4)
 
 -- A message that was written stands where it lies, in the segment of its place.
 pub message_found : (sum : List ℕ → ℕ) (size : ℕ) (site : Site) (device : State) (bytes : List ℕ) (from : ℕ) (rs : List Reserved) (H : History) (m : Message)
@@ -108,11 +108,11 @@ message_found sum size site device bytes from rs H m holds there written =
     let early : Contains holds.earlier m = elim (Contains-append_cases holds.earlier (completed_in site bytes rs) m (subst (λ (ms : List Message). Contains ms m) holds.messages there)) [
       | inl first ↦ first
       | inr later ↦ (
-          let between = of_one (λ x. (site.place + max 20 from ≤ x.place) × (x.place < site.place + length bytes) × (x.place + x.size ≤ site.place + length bytes)) (completed_in site bytes rs) m (completed_between site bytes (max 20 from) (length bytes) rs holds.chain (some_long sum (site.place / size) bytes rs holds.stand)) later in
+          let between = All-contains (λ x. (site.place + max 20 from ≤ x.place) × (x.place < site.place + length bytes) × (x.place + x.size ≤ site.place + length bytes)) (completed_in site bytes rs) m (completed_between site bytes (max 20 from) (length bytes) rs holds.chain (some_long sum (site.place / size) bytes rs holds.stand)) later in
           absurd (omega (arith, between.0, written)))
     ] in
     let stands : StandsWhole sum size on.log m = elim (Contains-append_cases file.older file.own m (subst (λ (ms : List Message). Contains ms m) file.parts early)) [
-      | inl older ↦ (let s = of_one (StandsElsewhere sum size on.log site) file.older m file.elsewhere older in (s.lid, s.pointer, s.stands))
-      | inr own ↦ of_one (StandsWhole sum size on.log) file.own m (own_stands sum size on.log site 20 file.own (max 20 from) holds.place_begins file.stand) own
+      | inl older ↦ (let s = All-contains (StandsElsewhere sum size on.log site) file.older m file.elsewhere older in (s.lid, s.pointer, s.stands))
+      | inr own ↦ All-contains (StandsWhole sum size on.log) file.own m (own_stands sum size on.log site 20 file.own (max 20 from) holds.place_begins file.stand) own
     ] in
     subst (λ (l : List ℕ). StandsWhole sum size l m) (sym (ap (λ (s : LogState). s.bytes) on.settled)) stands

@@ -3,18 +3,23 @@ use Rattle.std.proofs.Common.{◌≡◌, ◌⊎◌, ◌≤◌, ◌<◌, ◌+◌,
 use Rattle.std.specs.List.{All}
 use Rattle.std.proofs.lemmas.Bool.{cases_lt}
 use Rattle.std.proofs.lemmas.List.{drop-drop, drop-take, take-take}
+use Rattle.std.proofs.lemmas.List.Elements.{All-cons, All-contains}
 use Rattle.sled_codec.specs.declared.serialization.message.MessageHeader.{MessageHeader}
 use Rattle.sled_codec.specs.Places.{part}
 use Rattle.sled_codec.specs.Record.{IsHeader}
 use Rattle.sled_codec.specs.History.{Message}
+use Rattle.sled_codec.specs.WellFormed.{LieApart}
 use Rattle.sled_codec.proofs.Segments.{length-short_header}
 use Rattle.sled_store.specs.Device.{overwritten, end_of}
 use Rattle.sled_store.proofs.OverwrittenLemmas.{length-overwritten, overwritten-part, overwritten-above}
 use Rattle.sled_store.proofs.LogLemmas.{part_written}
+use Rattle.sled_store.proofs.LooseLemmas.{end_of-some}
 use Rattle.sled_core.specs.declared.iobuf.Site.{Site}
 use Rattle.sled_core.specs.Reading.{StandsAt}
 use Rattle.sled_core.specs.LogFile.{MessageStands, StandIn, StandsElsewhere, HasHeader}
+use Rattle.sled_core.specs.Recoverable.{first_site}
 use Rattle.sled_core.proofs.ReadingLemmas.{header_some, laid_of}
+use Rattle.sled_core.proofs.Elements.{no_element}
 
 -- a record that stands somewhere is not shorter than a header
 pub stands_some : (sum : List ℕ → ℕ) (size : ℕ) (log : List ℕ) (lid number : ℕ) (m : Message) → MessageStands sum size log lid number m → 8 ≤ m.size
@@ -55,6 +60,34 @@ stand_above sum size log site at (m ∷ ms) end stand zero d lt = (omega (arith,
 stand_above sum size log site at (m ∷ ms) end stand (suc k) d lt =
     let rest = stand_above sum size log site (at + m.size) ms end stand.4 k d (omega (arith, lt)) in
     (let above = rest.0 in omega (arith, above), stand.0)
+
+-- and below where they end
+pub stand_below : (sum : List ℕ → ℕ) (size : ℕ) (log : List ℕ) (site : Site) (at : ℕ) (ms : List Message) (end : ℕ) → StandIn sum size log site at ms end
+    → All (λ m. (m.place < site.place + end) × (m.place + m.size ≤ site.place + end)) ms
+stand_below sum size log site at [] end stand = λ k d lt. absurd (omega arith)
+stand_below sum size log site at (m ∷ ms) end stand =
+    let Below : Message → Type 0 = λ x. (x.place < site.place + end) × (x.place + x.size ≤ site.place + end) in
+    let rest = stand_grows sum size log site (at + m.size) ms end stand.4 in
+    let some = stands_some sum size log (site.slot + at) (site.place / size) m stand.3 in
+    let place : m.place ≡ site.place + at = stand.1 in
+    All-cons Below m ms (omega (arith, rest, some, place), omega (arith, rest, place)) (stand_below sum size log site (at + m.size) ms end stand.4)
+
+-- so that their messages lie apart
+pub stand_apart : (sum : List ℕ → ℕ) (size : ℕ) (log : List ℕ) (site : Site) (at : ℕ) (ms : List Message) (end : ℕ) → StandIn sum size log site at ms end → LieApart ms
+stand_apart sum size log site at [] end stand = tt
+stand_apart sum size log site at (m ∷ ms) end stand =
+    let place : m.place ≡ site.place + at = stand.1 in
+    let some = stands_some sum size log (site.slot + at) (site.place / size) m stand.3 in
+    let rest = stand_above sum size log site (at + m.size) ms end stand.4 in
+    (omega (arith, some), (λ k d lt. let b = rest k d lt in omega (arith, b.0, place)), stand_apart sum size log site (at + m.size) ms end stand.4)
+
+-- nothing lies before the first segment
+pub none_older : (sum : List ℕ → ℕ) (size : ℕ) (log : List ℕ) (older : List Message) → All (StandsElsewhere sum size log first_site) older → older ≡ []
+none_older sum size log older all = no_element older (λ m there.
+    let s = All-contains (StandsElsewhere sum size log first_site) older m all there in
+    let some = stands_some sum size log s.lid (m.place / size) m s.stands in
+    let below = s.below in
+    omega (arith, some, below))
 
 -- the header of a segment lies in the file
 pub header_there : (sum : List ℕ → ℕ) (log : List ℕ) (site : Site) → HasHeader sum log site → site.slot + 20 ≤ length log
@@ -168,13 +201,9 @@ module _ (sum : List ℕ → ℕ) (size : ℕ) (old : List ℕ) (at : ℕ) (xs :
       ∙ ap (drop k) fronts
       ∙ drop-take k n xs
 
-  end_there : (n : ℕ) → 0 < n → end_of at n ≡ at + n
-  end_there zero some = absurd (omega (arith, some))
-  end_there (suc n) some = refl
-
   pub laid_within : 0 < length xs → at + length xs ≤ length new
-  laid_within some = omega (arith, length-overwritten old at xs, end_there (length xs) some)
+  laid_within some = omega (arith, length-overwritten old at xs, end_of-some at (length xs) some)
 
   -- and what comes behind it is as it was
   pub behind_write : (i : ℕ) → 0 < length xs → at + length xs ≤ i → get_or new i 0 ≡ get_or old i 0
-  behind_write i some behind = overwritten-above old at xs i (omega (arith, behind, end_there (length xs) some))
+  behind_write i some behind = overwritten-above old at xs i (omega (arith, behind, end_of-some at (length xs) some))

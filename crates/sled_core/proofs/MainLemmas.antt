@@ -17,26 +17,14 @@ use Rattle.sled_core.specs.Recoverable.{Recoverable, NoForeign, IsRecoverableInF
 use Rattle.sled_core.specs.Running.{NoneBegun, CanBegin, NoBlobs, NamesFit}
 use Rattle.sled_core.proofs.CompletesLemmas.{some_long}
 use Rattle.sled_core.proofs.FirstSegment.{recoverable_in_first, first_part}
-use Rattle.sled_core.proofs.LogFileLemmas.{stands_some}
+use Rattle.sled_core.proofs.LogFileLemmas.{none_older}
 use Rattle.sled_core.proofs.PathLemmas.{zeros_empty}
 use Rattle.sled_core.proofs.Ranges.{completed_between}
+use Rattle.sled_core.proofs.FirstBegun.{first_cut_within}
 
--- The cut of the first segment, where reading ends at an offset of it.
-
-pub first_cut_least : (size stop : ℕ) → stop ≤ size → stop ≤ first_cut size stop
-first_cut_least size stop inside = grind (arith, nat_tests, inside)
-
+-- where a record has room behind an offset of the first segment, reading that ends there cuts there
 pub first_cut_with_room : (size stop : ℕ) → stop + 32 ≤ size → first_cut size stop ≡ stop
 first_cut_with_room size stop room = grind (arith, nat_tests, room)
-
--- no message of an earlier segment lies before the first one
-pub none_older : (sum : List ℕ → ℕ) (size : ℕ) (log : List ℕ) (older : List Message) → All (StandsElsewhere sum size log first_site) older → older ≡ []
-none_older sum size log [] all = refl
-none_older sum size log (m ∷ older) all =
-    let first = all 0 m (omega arith) in
-    let some = stands_some sum size log first.lid (m.place / size) m first.stands in
-    let below = first.below in
-    absurd (omega (arith, some, below))
 
 -- What was completed since the last write lies behind all that was written, at a place where a record has room.
 pub completed_later : (sum : List ℕ → ℕ) (size from : ℕ) (bytes : List ℕ) (rs : List Reserved) → IsChain (max 20 from) rs (length bytes) → All (Stands sum (0 / size) bytes) rs → All (λ r. r.from + 32 ≤ size) rs
@@ -64,7 +52,7 @@ module _ (sum : List ℕ → ℕ) (size : ℕ) (device : State) (bytes : List �
       let least : 20 ≤ from = file.begun some in
       let none : file.older ≡ [] = none_older sum size log file.older file.elsewhere in
       let end : max 20 from ≡ from = omega (arith, least) in
-      let cut : from ≤ first_cut size from = first_cut_least size from inside in
+      let cut : from ≤ first_cut size from = (first_cut_within size from inside).0 in
       record {
         own = file.own;
         beyond = completed_in first_site bytes reserved;

@@ -3,6 +3,7 @@ use Rattle.std.proofs.Common.{◌≡◌, ◌≤◌, ◌<◌, ◌+◌, ℕ, zero,
 use Rattle.std.specs.List.{All, Contains, slice_get}
 use Rattle.std.proofs.lemmas.List.{drop-append-le, take-append-le, same_lists, places}
 use Rattle.std.proofs.lemmas.Option.{slice_get_within}
+use Rattle.std.proofs.lemmas.List.Elements.{All-cons, All-tail}
 use Rattle.sled_codec.specs.Places.{part}
 use Rattle.sled_codec.specs.Written.{written}
 use Rattle.sled_codec.specs.History.{Message}
@@ -32,15 +33,11 @@ pub part-written_at : (buf xs : List ℕ) (k n : ℕ) → length xs ≤ n → k 
 part-written_at buf xs k n within fits =
     same_lists _ _ (search (rules, places)) (λ j d h. grind (arith, places))
 
--- what holds of each holds of each of the others
-pub others : {X : Type 0} (P : X → Type 0) (x : X) (xs : List X) → All P (x ∷ xs) → All P xs
-others P x xs all = λ k d lt. all (suc k) d (omega arith)
-
 -- Messages that stand in the same bytes are the same.
 pub completed-same : (site : Site) (old new : List ℕ) (rs : List Reserved) → All (λ r. body_in new r ≡ body_in old r) rs → completed_in site new rs ≡ completed_in site old rs
 completed-same site old new [] all = refl
 completed-same site old new (r ∷ rs) all =
-    let rest : completed_in site new rs ≡ completed_in site old rs = completed-same site old new rs (others (λ x. body_in new x ≡ body_in old x) r rs all) in
+    let rest : completed_in site new rs ≡ completed_in site old rs = completed-same site old new rs (All-tail (λ x. body_in new x ≡ body_in old x) r rs all) in
     let here : body_in new r ≡ body_in old r = all 0 r (omega arith) in
     let message : message_in site new r ≡ message_in site old r = ap (λ (l : List ℕ). record (message_in site old r) { bytes = l }) here in
     elim r.is_open as (λ o. (if o then completed_in site new rs else message_in site new r ∷ completed_in site new rs) ≡ (if o then completed_in site old rs else message_in site old r ∷ completed_in site old rs)) [ true ↦ rest | false ↦ (cc) ]
@@ -95,11 +92,6 @@ there_split [] (suc i) x there = cc
 there_split (y ∷ ys) zero x there = let same : y ≡ x = cc in ap (λ z. z ∷ ys) same
 there_split (y ∷ ys) (suc i) x there = ap (λ zs. y ∷ zs) (there_split ys i x there)
 
--- what holds of the first and of the others
-pub with_first : {X : Type 0} (P : X → Type 0) (x : X) (xs : List X) → P x → All P xs → All P (x ∷ xs)
-with_first P x xs here all zero d lt = here
-with_first P x xs here all (suc k) d lt = all k d (omega arith)
-
 -- The messages of a chain lie between its ends.
 pub completed_between : (site : Site) (bytes : List ℕ) (from end : ℕ) (rs : List Reserved) → IsChain from rs end → All (λ r. 0 < r.len) rs
     → All (λ m. (site.place + from ≤ m.place) × (m.place < site.place + end) × (m.place + m.size ≤ site.place + end)) (completed_in site bytes rs)
@@ -109,25 +101,21 @@ completed_between site bytes from end (r ∷ rs) is some =
     let long : 0 < r.len = some 0 r (omega arith) in
     let grows : from + r.len ≤ end = chain_grows (from + r.len) end rs is.1 in
     let Between : ℕ → Message → Type 0 = λ n m. (site.place + n ≤ m.place) × (m.place < site.place + end) × (m.place + m.size ≤ site.place + end) in
-    let rest : All (Between (from + r.len)) (completed_in site bytes rs) = completed_between site bytes (from + r.len) end rs is.1 (others (λ x. 0 < x.len) r rs some) in
+    let rest : All (Between (from + r.len)) (completed_in site bytes rs) = completed_between site bytes (from + r.len) end rs is.1 (All-tail (λ x. 0 < x.len) r rs some) in
     let later : All (Between from) (completed_in site bytes rs) = λ k d lt. let b = rest k d lt in (omega (arith, b.0), b.1, b.2) in
     elim r.is_open as (λ o. All (Between from) (if o then completed_in site bytes rs else message_in site bytes r ∷ completed_in site bytes rs))
-    [ true ↦ later | false ↦ with_first (Between from) (message_in site bytes r) (completed_in site bytes rs) (omega arith, omega arith, omega arith) later ]
+    [ true ↦ later | false ↦ All-cons (Between from) (message_in site bytes r) (completed_in site bytes rs) (omega arith, omega arith, omega arith) later ]
 
 -- what holds of each holds of those in front, of the one between and of those behind
 pub all_split : {X : Type 0} (P : X → Type 0) (xs ys : List X) (x : X) → All P (xs ++ x ∷ ys) → All P xs × P x × All P ys
-all_split P [] ys x all = (λ k d lt. absurd (omega arith), all 0 x (omega arith), others P x ys all)
+all_split P [] ys x all = (λ k d lt. absurd (omega arith), all 0 x (omega arith), All-tail P x ys all)
 all_split P (z ∷ xs) ys x all =
-    let rest = all_split P xs ys x (others P z (xs ++ x ∷ ys) all) in
-    (with_first P z xs (all 0 z (omega arith)) rest.0, rest.1, rest.2)
+    let rest = all_split P xs ys x (All-tail P z (xs ++ x ∷ ys) all) in
+    (All-cons P z xs (all 0 z (omega arith)) rest.0, rest.1, rest.2)
 
 pub all_joined : {X : Type 0} (P : X → Type 0) (xs ys : List X) (x : X) → All P xs → P x → All P ys → All P (xs ++ x ∷ ys)
-all_joined P [] ys x before here after = with_first P x ys here after
-all_joined P (z ∷ xs) ys x before here after = with_first P z (xs ++ x ∷ ys) (before 0 z (omega arith)) (all_joined P xs ys x (others P z xs before) here after)
-
--- what holds of each holds of one of them
-pub of_one : {X : Type 0} (P : X → Type 0) (xs : List X) (x : X) → All P xs → Contains xs x → P x
-of_one P xs x all there = subst P there.2 (all there.0 x there.1)
+all_joined P [] ys x before here after = All-cons P x ys here after
+all_joined P (z ∷ xs) ys x before here after = All-cons P z (xs ++ x ∷ ys) (before 0 z (omega arith)) (all_joined P xs ys x (All-tail P z xs before) here after)
 
 -- an element that isn't the one that is set stays
 pub there-set_other : {X : Type 0} (xs : List X) (i j : ℕ) (x y z : X) → slice_get xs i ≡ Some x → slice_get xs j ≡ Some y → (x ≡ y → ⊥) → slice_get (set xs i z) j ≡ Some y

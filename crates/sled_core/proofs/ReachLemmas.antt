@@ -2,6 +2,7 @@
 use Rattle.std.proofs.Common.{◌^◌, ◌≡◌, ◌∙◌, ◌≤◌, ◌<◌, ◌+◌, ◌/◌, ℕ, zero, suc, max, true, false, if◌then◌else◌, List, [], ◌∷◌, ◌++◌, length, None, Option, refl, sym, ap, subst, arith, pos}
 use Rattle.std.specs.List.{All}
 use Rattle.std.specs.declared.io.Error.{Error as IoError}
+use Rattle.std.proofs.lemmas.List.Elements.{All-cons, All-tail, All-append}
 use Rattle.sled_codec.specs.History.{Message, History}
 use Rattle.sled_codec.specs.WellFormed.{LieApart}
 use Rattle.sled_store.specs.Device.{Trace, State, state_of}
@@ -15,15 +16,10 @@ use Rattle.sled_core.specs.LogFile.{StandIn, StandsElsewhere}
 use Rattle.sled_core.specs.Fits.{HoldsIn, Holds, IsKept, Awaits, next_place, synced_end, fault_of, device_of, segment_size_of}
 use Rattle.sled_core.specs.Recoverable.{LeavesRecoverable, first_site}
 use Rattle.sled_core.specs.Running.{Fits}
-use Rattle.sled_core.proofs.Ranges.{with_first, others, completed_between, chain_grows}
+use Rattle.sled_core.proofs.Ranges.{completed_between, chain_grows}
 use Rattle.sled_core.proofs.CompletesLemmas.{some_long}
 use Rattle.sled_core.proofs.RunningLemmas.{fits-leaves}
-use Rattle.sled_core.proofs.LogFileLemmas.{stands_some, stand_grows, stand_none}
-
--- what holds of the elements of two lists holds of those of both together
-all_both : {X : Type 0} (P : X → Type 0) (xs ys : List X) → All P xs → All P ys → All P (xs ++ ys)
-all_both P [] ys first second = second
-all_both P (x ∷ xs) ys first second = with_first P x (xs ++ ys) (first 0 x (omega arith)) (all_both P xs ys (others P x xs first) second)
+use Rattle.sled_core.proofs.LogFileLemmas.{stand_none, stand_below, stand_apart, none_older}
 
 -- messages that lie apart, and below others that do
 apart_both : (place : ℕ) (xs ys : List Message) → LieApart xs → LieApart ys → All (λ m. m.place + m.size ≤ place) xs → All (λ m. place ≤ m.place) ys → LieApart (xs ++ ys)
@@ -31,44 +27,19 @@ apart_both place [] ys first second below above = second
 apart_both place (x ∷ xs) ys first second below above =
     let here : x.place + x.size ≤ place = below 0 x (omega arith) in
     let over : All (λ n. x.place + x.size ≤ n.place) ys = λ k d lt. let b = above k d lt in omega (arith, b, here) in
-    (first.0, all_both (λ n. x.place + x.size ≤ n.place) xs ys first.1 over, apart_both place xs ys first.2 second (others (λ m. m.place + m.size ≤ place) x xs below) above)
-
--- records that stand one behind another
-stand_from : (sum : List ℕ → ℕ) (size : ℕ) (log : List ℕ) (site : Site) (at : ℕ) (ms : List Message) (end : ℕ) → StandIn sum size log site at ms end → All (λ m. site.place + at ≤ m.place) ms
-stand_from sum size log site at [] end stand = λ k d lt. absurd (omega arith)
-stand_from sum size log site at (m ∷ ms) end stand =
-    let place : m.place ≡ site.place + at = stand.1 in
-    let rest = stand_from sum size log site (at + m.size) ms end stand.4 in
-    with_first (λ (x : Message). site.place + at ≤ x.place) m ms (omega (arith, place)) (λ k d lt. let b = rest k d lt in omega (arith, b))
-
-stand_apart : (sum : List ℕ → ℕ) (size : ℕ) (log : List ℕ) (site : Site) (at : ℕ) (ms : List Message) (end : ℕ) → StandIn sum size log site at ms end → LieApart ms
-stand_apart sum size log site at [] end stand = tt
-stand_apart sum size log site at (m ∷ ms) end stand =
-    let place : m.place ≡ site.place + at = stand.1 in
-    let some = stands_some sum size log (site.slot + at) (site.place / size) m stand.3 in
-    let rest = stand_from sum size log site (at + m.size) ms end stand.4 in
-    (omega (arith, some), (λ k d lt. let b = rest k d lt in omega (arith, b, place)), stand_apart sum size log site (at + m.size) ms end stand.4)
+    (first.0, All-append (λ n. x.place + x.size ≤ n.place) xs ys first.1 over, apart_both place xs ys first.2 second (All-tail (λ m. m.place + m.size ≤ place) x xs below) above)
 
 -- what is completed in a chain of reservations
-chain_apart : (site : Site) (bytes : List ℕ) (from end : ℕ) (rs : List Reserved) → IsChain from rs end → All (λ r. 0 < r.len) rs → LieApart (completed_in site bytes rs)
-chain_apart site bytes from end [] is some = tt
-chain_apart site bytes from end (r ∷ rs) is some =
+completed_apart : (site : Site) (bytes : List ℕ) (from end : ℕ) (rs : List Reserved) → IsChain from rs end → All (λ r. 0 < r.len) rs → LieApart (completed_in site bytes rs)
+completed_apart site bytes from end [] is some = tt
+completed_apart site bytes from end (r ∷ rs) is some =
     let here : r.from ≡ from = is.0 in
     let long : 0 < r.len = some 0 r (omega arith) in
-    let later = completed_between site bytes (from + r.len) end rs is.1 (others (λ x. 0 < x.len) r rs some) in
-    let rest : LieApart (completed_in site bytes rs) = chain_apart site bytes (from + r.len) end rs is.1 (others (λ x. 0 < x.len) r rs some) in
+    let later = completed_between site bytes (from + r.len) end rs is.1 (All-tail (λ x. 0 < x.len) r rs some) in
+    let rest : LieApart (completed_in site bytes rs) = completed_apart site bytes (from + r.len) end rs is.1 (All-tail (λ x. 0 < x.len) r rs some) in
     let over : All (λ n. site.place + r.from + r.len ≤ n.place) (completed_in site bytes rs) = λ k d lt. let b = later k d lt in omega (arith, b.0, here) in
     elim r.is_open as (λ o. LieApart (if o then completed_in site bytes rs else message_in site bytes r ∷ completed_in site bytes rs))
     [ true ↦ rest | false ↦ (long, over, rest) ]
-
--- nothing lies before the first segment
-none_older : (sum : List ℕ → ℕ) (size : ℕ) (log : List ℕ) (older : List Message) → All (StandsElsewhere sum size log first_site) older → older ≡ []
-none_older sum size log [] all = refl
-none_older sum size log (m ∷ ms) all =
-    let s = all 0 m (omega arith) in
-    let some = stands_some sum size log s.lid (m.place / size) m s.stands in
-    let below = s.below in
-    absurd (omega (arith, some, below))
 
 module _ (sum : List ℕ → ℕ) (size : ℕ) (site : Site) (device : State) (fault : Option IoError) (bytes : List ℕ) (from : ℕ) (rs : List Reserved) (H : History) (holds : HoldsIn sum size site device fault bytes from rs H) where
   abbrev done : List Message
@@ -86,7 +57,7 @@ module _ (sum : List ℕ → ℕ) (size : ℕ) (site : Site) (device : State) (f
   pub reach_in : All (λ m. m.place < site.place + length bytes) H.messages
   reach_in =
       subst (λ (l : List Message). All (λ m. m.place < site.place + length bytes) l) (sym holds.messages)
-      (all_both (λ m. m.place < site.place + length bytes) holds.earlier done (λ k d lt. let b = holds.below k d lt in omega (arith, b.0, grows)) (λ k d lt. (between k d lt).1))
+      (All-append (λ m. m.place < site.place + length bytes) holds.earlier done (λ k d lt. let b = holds.below k d lt in omega (arith, b.0, grows)) (λ k d lt. (between k d lt).1))
 
   pub apart_in : fault ≡ None → site ≡ first_site → LieApart H.messages
   apart_in none is =
@@ -96,28 +67,21 @@ module _ (sum : List ℕ → ℕ) (size : ℕ) (site : Site) (device : State) (f
       let own : holds.earlier ≡ file.own = file.parts ∙ ap (λ (l : List Message). l ++ file.own) older in
       let first : LieApart holds.earlier = subst LieApart (sym own) (stand_apart sum size on.log site 20 file.own (max 20 from) file.stand) in
       subst LieApart (sym holds.messages)
-      (apart_both (site.place + from) holds.earlier done first (chain_apart site bytes (max 20 from) (length bytes) rs holds.chain long) (λ k d lt. (holds.below k d lt).1) (λ k d lt. let b = between k d lt in omega (arith, b.0)))
+      (apart_both (site.place + from) holds.earlier done first (completed_apart site bytes (max 20 from) (length bytes) rs holds.chain long) (λ k d lt. (holds.below k d lt).1) (λ k d lt. let b = between k d lt in omega (arith, b.0)))
 
 -- Where all of a history is on the device, it ends at the stable end.
-
-stand_to : (sum : List ℕ → ℕ) (size : ℕ) (log : List ℕ) (site : Site) (at : ℕ) (ms : List Message) (end : ℕ) → StandIn sum size log site at ms end → All (λ m. m.place + m.size ≤ site.place + end) ms
-stand_to sum size log site at [] end stand = λ k d lt. absurd (omega arith)
-stand_to sum size log site at (m ∷ ms) end stand =
-    let place : m.place ≡ site.place + at = stand.1 in
-    let grows = stand_grows sum size log site (at + m.size) ms end stand.4 in
-    with_first (λ (x : Message). x.place + x.size ≤ site.place + end) m ms (omega (arith, place, grows)) (stand_to sum size log site (at + m.size) ms end stand.4)
 
 own_to : (sum : List ℕ → ℕ) (size : ℕ) (log : List ℕ) (site : Site) (from : ℕ) (ms : List Message) → (0 < from → 20 ≤ from) → StandIn sum size log site 20 ms (max 20 from) → All (λ m. m.place + m.size ≤ site.place + from) ms
 own_to sum size log site zero ms begun stand = subst (λ (l : List Message). All (λ m. m.place + m.size ≤ site.place + 0) l) (sym (stand_none sum size log site 20 ms stand)) (λ k d lt. absurd (omega arith))
 own_to sum size log site (suc n) ms begun stand =
     let some = begun (omega arith) in
-    stand_to sum size log site 20 ms (suc n) (subst (λ k. StandIn sum size log site 20 ms k) (omega (arith, some)) stand)
+    λ k d lt. (stand_below sum size log site 20 ms (suc n) (subst (λ k. StandIn sum size log site 20 ms k) (omega (arith, some)) stand) k d lt).1
 
 pub kept_past : (sum : List ℕ → ℕ) (size : ℕ) (site : Site) (from : ℕ) (device : State) (H : History) → IsKept sum size site from device H → All (λ m. m.place + m.size ≤ site.place + from) H.messages
 kept_past sum size site from device H kept =
     let file = kept.on_device.file in
     subst (λ (l : List Message). All (λ m. m.place + m.size ≤ site.place + from) l) (sym file.parts)
-    (all_both (λ m. m.place + m.size ≤ site.place + from) file.older file.own (λ k d lt. let below = (file.elsewhere k d lt).below in omega (arith, below)) (own_to sum size kept.on_device.log site from file.own file.begun file.stand))
+    (All-append (λ m. m.place + m.size ≤ site.place + from) file.older file.own (λ k d lt. let below = (file.elsewhere k d lt).below in omega (arith, below)) (own_to sum size kept.on_device.log site from file.own file.begun file.stand))
 
 -- Of a log that fits a history.
 

@@ -3,7 +3,7 @@ use Rattle.std.proofs.Common.{◌≡◌, ◌↔◌, ◌≤◌, ◌<◌, ◌≤�
 use Rattle.std.specs.List.{All, Contains, sum_by}
 use Rattle.std.proofs.Math.Nat.{div-eq_of_lt, mod-eq_of_lt, div-mul-le_self}
 use Rattle.std.proofs.lemmas.Int.{ints}
-use Rattle.std.proofs.lemmas.List.Elements.{All-contains}
+use Rattle.std.proofs.lemmas.List.Elements.{All-contains, All-cons}
 use Rattle.std.proofs.lemmas.List.Sums.{sum_by-cons}
 use Rattle.sled_codec.specs.declared.result.DiskPtr.TheVariants.{Inline}
 use Rattle.sled_codec.specs.History.{Message, History}
@@ -16,10 +16,9 @@ use Rattle.sled_core.specs.Begin.{slots_of, slot_of, number_of, entries_of, plac
 use Rattle.sled_core.specs.LogFile.{StandIn, StandsElsewhere}
 use Rattle.sled_core.specs.Ready.{HasActive, HasFile, active_site}
 use Rattle.sled_core.specs.Running.{IsReadyFor}
-use Rattle.sled_core.proofs.Elements.{in_nothing, all_from_in}
+use Rattle.sled_core.proofs.Elements.{in_nothing, all_from_in, no_element}
 use Rattle.sled_core.proofs.FilledLemmas.{slots_cover}
 use Rattle.sled_core.proofs.LogFileLemmas.{stands_some, header_there}
-use Rattle.sled_core.proofs.Ranges.{with_first}
 use Rattle.sled_core.proofs.SnapshotEntries.{IsEntryOf, entry_from, all_seen}
 use Rattle.sled_core.proofs.TableWeights.{weight, table_sizes, slot_sizes}
 
@@ -45,7 +44,7 @@ module _ (sum : List ℕ → ℕ) (size : ℕ) (log : List ℕ) (site : Site) (p
       let lid : site.slot + at ≡ m.place = omega (arith, slot_first, place) in
       let in_slot = stand.3.stands.in_slot in
       let offset : (site.slot + at) % size ≡ m.place = ap (λ n. n % size) lid ∙ mod-eq_of_lt (omega (arith, place, room)) in
-      with_first (InFirst size) m ms
+      All-cons (InFirst size) m ms
       (record { pointer = stand.2 ∙ ap Inline lid; begins = omega (arith, place, behind); room = omega (arith, place, room); ends = omega (arith, in_slot, offset) })
       (stand_first (at + m.size) ms end (omega (arith, behind)) stand.4)
 
@@ -58,9 +57,8 @@ module _ (sum : List ℕ → ℕ) (size : ℕ) (log : List ℕ) (site : Site) (p
 
   -- before the first segment there is none
   no_older : (older : List Message) → All (StandsElsewhere sum size log site) older → older ≡ []
-  no_older [] stand = refl
-  no_older (m ∷ ms) stand = absurd (
-      let s = stand 0 m (omega arith) in
+  no_older older stand = no_element older (λ m there.
+      let s = All-contains (StandsElsewhere sum size log site) older m stand there in
       let below = s.below in
       omega (arith, below, place_first, stands_some sum size log s.lid (m.place / size) m s.stands))
 

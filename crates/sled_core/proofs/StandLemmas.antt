@@ -2,8 +2,10 @@
 use Rattle.std.proofs.Common.{◌≡◌, ◌⊎◌, ◌≤◌, ◌<◌, ◌+◌, ◌/◌, ℕ, ℤ, Bool, true, false, nat_lt, if◌then◌else◌, List, [], ◌∷◌, ◌++◌, map, None, ap, arith, refl, subst, inl, inr}
 use Rattle.std.specs.List.{All, Contains}
 use Rattle.std.proofs.lemmas.Bool.Decides.{nat_tests}
+use Rattle.std.proofs.lemmas.List.Elements.{All-cons, All-contains}
 use Rattle.sled_codec.specs.Pointers.{lid_of}
 use Rattle.sled_codec.specs.History.{Message}
+use Rattle.sled_codec.specs.WellFormed.{LieApart}
 use Rattle.sled_core.specs.declared.iobuf.Site.{Site}
 use Rattle.sled_core.specs.declared.met.Met.{Met}
 use Rattle.sled_core.specs.declared.met.Segment.{Segment}
@@ -14,8 +16,6 @@ use Rattle.sled_core.specs.Tail.{open_at}
 use Rattle.sled_core.specs.LogFile.{StandIn, IsEmpty}
 use Rattle.sled_core.specs.Recoverable.{IsReachedIn}
 use Rattle.sled_core.proofs.Elements.{in_cases, in_nothing}
-use Rattle.sled_core.proofs.Ranges.{with_first, of_one}
-use Rattle.sled_core.proofs.LogFileLemmas.{stands_some, stand_grows}
 use Rattle.sled_core.proofs.PathLemmas.{met_of, is_met}
 use Rattle.sled_core.proofs.ScanLemmas.{one_more}
 
@@ -28,35 +28,12 @@ pub none_open : (end : ℕ) (ms : List Message) → open_at end (map met_of ms) 
 none_open end [] = refl
 none_open end (m ∷ ms) = none_open end ms
 
--- records lie below where they end
-pub stand_below : (sum : List ℕ → ℕ) (size : ℕ) (log : List ℕ) (site : Site) (at : ℕ) (ms : List Message) (end : ℕ) → StandIn sum size log site at ms end
-    → All (λ m. (m.place < site.place + end) × (m.place + m.size ≤ site.place + end)) ms
-stand_below sum size log site at [] end stand = λ k d lt. absurd (omega arith)
-stand_below sum size log site at (m ∷ ms) end stand =
-    let Below : Message → Type 0 = λ x. (x.place < site.place + end) × (x.place + x.size ≤ site.place + end) in
-    let rest = stand_grows sum size log site (at + m.size) ms end stand.4 in
-    let some = stands_some sum size log (site.slot + at) (site.place / size) m stand.3 in
-    let place : m.place ≡ site.place + at = stand.1 in
-    with_first Below m ms (omega (arith, rest, some, place), omega (arith, rest, place)) (stand_below sum size log site (at + m.size) ms end stand.4)
-
--- and not below where they begin
-stand_above : (sum : List ℕ → ℕ) (size : ℕ) (log : List ℕ) (site : Site) (at : ℕ) (ms : List Message) (end : ℕ) → StandIn sum size log site at ms end → All (λ m. site.place + at ≤ m.place) ms
-stand_above sum size log site at [] end stand = λ k d lt. absurd (omega arith)
-stand_above sum size log site at (m ∷ ms) end stand =
-    let place : m.place ≡ site.place + at = stand.1 in
-    let rest = stand_above sum size log site (at + m.size) ms end stand.4 in
-    with_first (λ x. site.place + at ≤ x.place) m ms (omega (arith, place)) (λ k d lt. let above = rest k d lt in omega (arith, above))
-
--- Of two that stand there, one begins behind the other or not behind where it begins.
-pub stand_apart : (sum : List ℕ → ℕ) (size : ℕ) (log : List ℕ) (site : Site) (at : ℕ) (ms : List Message) (end : ℕ) → StandIn sum size log site at ms end
-    → (m n : Message) → Contains ms m → Contains ms n → (n.place < m.place + 1) ⊎ (m.place + m.size ≤ n.place)
-stand_apart sum size log site at [] end stand m n there also = absurd (in_nothing m there)
-stand_apart sum size log site at (x ∷ xs) end stand m n there also = by_cases (stand_apart sum size log site (at + x.size) xs end stand.4 m n) (in_cases x m xs there) (in_cases x n xs also) where
+-- Of two messages that lie apart, one begins behind the other or not behind where it begins.
+pub apart_of_two : (ms : List Message) → LieApart ms → (m n : Message) → Contains ms m → Contains ms n → (n.place < m.place + 1) ⊎ (m.place + m.size ≤ n.place)
+apart_of_two [] apart m n there also = absurd (in_nothing m there)
+apart_of_two (x ∷ xs) apart m n there also = by_cases (apart_of_two xs apart.2 m n) (in_cases x m xs there) (in_cases x n xs also) where
   above : (y : Message) → Contains xs y → x.place + x.size ≤ y.place
-  above y in_rest =
-      let place : x.place ≡ site.place + at = stand.1 in
-      let behind = of_one (λ z. site.place + (at + x.size) ≤ z.place) xs y (stand_above sum size log site (at + x.size) xs end stand.4) in_rest in
-      omega (arith, place, behind)
+  above y in_rest = All-contains (λ z. x.place + x.size ≤ z.place) xs y apart.1 in_rest
 
   by_cases : (Contains xs m → Contains xs n → (n.place < m.place + 1) ⊎ (m.place + m.size ≤ n.place)) → (x ≡ m) ⊎ Contains xs m → (x ≡ n) ⊎ Contains xs n → (n.place < m.place + 1) ⊎ (m.place + m.size ≤ n.place)
   by_cases rest (inl is) (inl same) = inl (omega (arith, ap (λ (y : Message). y.place) is, ap (λ (y : Message). y.place) same))
@@ -93,7 +70,7 @@ module _ (sum : List ℕ → ℕ) (size : ℕ) (r : Readable) (site : Site) (end
     reached_from before at (m ∷ ms) path stand =
         let met = is_met sum size r (site.slot + at) (site.place / size) m stand.3 stand.2 in
         let more = one_more sum size r site.slot site.place 20 before at (met_of m) path stand.0 stand.1 met in
-        with_first (IsReachedIn sum size r segment) m ms (record {
+        All-cons (IsReachedIn sum size r segment) m ms (record {
           before = before;
           at = at;
           path = path;

@@ -11,7 +11,7 @@ use Rattle.sled_store.specs.SnapshotFiles.{is_sound, stable_place}
 use Rattle.sled_core.specs.declared.begin.book.Book.{Book}
 use Rattle.sled_core.specs.Begin.{slot_of, number_of, slots_of, sizes_in, entries_of, AreApart, IsPlacedIn, MayBeActive, IsStartable, is_active, is_used}
 use Rattle.sled_core.specs.Booked.{number_in, AreFit, IsBooked, active_entry}
-use Rattle.sled_core.proofs.EntryLemmas.{head_or_tail}
+use Rattle.sled_core.proofs.Elements.{in_cases}
 
 module _ (size : ℕ) where
   -- one entry may lie alone
@@ -29,7 +29,7 @@ module _ (size : ℕ) where
   }
     where
       only : (c : Entry) → Contains (e ∷ []) c → e ≡ c
-      only c has = elim (head_or_tail e c [] has) [ inl is ↦ is | inr none ↦ absurd (let lt = none.1 in omega arith) ]
+      only c has = elim (in_cases e c [] has) [ inl is ↦ is | inr none ↦ absurd (let lt = none.1 in omega arith) ]
 
       by : (b : Bool) → (if b then e.2 else 0) < 2 ^ 63
       by true = small
@@ -61,15 +61,15 @@ module _ (size : ℕ) where
   apart_active stable (Some a) es apart beside d e has_d has_e =
       let first : Entry = (pos stable, Inline a, 0) in
       let P : Entry → Type 0 = λ c. (slot_of size c ≡ a / size) ↔ (number_of size c ≡ stable / size) in
-      elim (head_or_tail first d es has_d) [
-        | inl is_d ↦ elim (head_or_tail first e es has_e) [
+      elim (in_cases first d es has_d) [
+        | inl is_d ↦ elim (in_cases first e es has_e) [
           | inl is_e ↦ (λ _. ap (number_of size) (sym is_d ∙ is_e), λ _. ap (slot_of size) (sym is_d ∙ is_e))
           | inr in_e ↦ (
               let both = All-contains P es e beside in_e in
               subst (λ (c : Entry). (slot_of size c ≡ slot_of size e) ↔ (number_of size c ≡ number_of size e)) is_d (λ same. sym (both.0 (sym same)), λ same. sym (both.1 (sym same)))
               )
         ]
-        | inr in_d ↦ elim (head_or_tail first e es has_e) [
+        | inr in_d ↦ elim (in_cases first e es has_e) [
           | inl is_e ↦ subst (λ (c : Entry). (slot_of size d ≡ slot_of size c) ↔ (number_of size d ≡ number_of size c)) is_e (All-contains P es d beside in_d)
           | inr in_e ↦ apart d e in_d in_e
         ]

@@ -6,6 +6,7 @@ use Rattle.std.proofs.Math.Nat.{mod-add-div'}
 use Rattle.std.proofs.lemmas.Bool.{cases_lt, cases_Bool}
 use Rattle.std.proofs.lemmas.List.{drop-take, take-take, drop-drop, get_or-take, get_or-drop}
 use Rattle.std.proofs.lemmas.Slice.Eq.{bytes_eq-Decides}
+use Rattle.std.proofs.lemmas.List.Elements.{All-contains, All-cons}
 use Rattle.sled_codec.specs.declared.serialization.message.MessageHeader.{MessageHeader}
 use Rattle.sled_codec.specs.HeaderLaws.{same_header}
 use Rattle.sled_codec.specs.Places.{part}
@@ -20,7 +21,6 @@ use Rattle.sled_core.specs.declared.met.Segment.{Segment}
 use Rattle.sled_core.specs.Reading.{StandsAt}
 use Rattle.sled_core.specs.Scan.{IsFoundSegment}
 use Rattle.sled_core.specs.LogFile.{MessageStands, StandIn, HasHeader, IsLogFile}
-use Rattle.sled_core.proofs.Ranges.{of_one, with_first}
 use Rattle.sled_core.proofs.ReadingLemmas.{header_some, laid_of}
 use Rattle.sled_core.proofs.GivesLemmas.{one_len}
 use Rattle.sled_core.proofs.PathLemmas.{IsEmpty, zeros_empty}
@@ -37,7 +37,7 @@ same_or_not xs ys = elim (cases_Bool (bytes_eq xs ys)) [
 
 -- what is in a list of one is that one
 pub the_only : {X : Type 0} (x y : X) → Contains (x ∷ []) y → y ≡ x
-the_only x y there = of_one (λ z. z ≡ x) (x ∷ []) y (with_first (λ z. z ≡ x) x [] refl (λ k d lt. absurd (omega arith))) there
+the_only x y there = All-contains (λ z. z ≡ x) (x ∷ []) y (All-cons (λ z. z ≡ x) x [] refl (λ k d lt. absurd (omega arith))) there
 
 -- What stands at an offset is a record there.
 pub record_of_stands : (sum : List ℕ → ℕ) (size : ℕ) (log : List ℕ) (lid number : ℕ) (h : MessageHeader) (body : List ℕ) (len : ℕ) → StandsAt sum size log lid number h body len

@@ -163,7 +163,7 @@ fn meet<D: Device, C: Checksum>(
 
 /// What was read, as it is met.
 #[tactic(auto, unfolding(crate::specs::Scan::IsMet, crate::specs::Scan::EndsThere))]
-fn step_of(place: u64, lid: LogOffset, read: LogRead) -> Step
+pub fn step_of(place: u64, lid: LogOffset, read: LogRead) -> Step
     ensures { (sum : List ℕ → ℕ) (size : ℕ) (log : List ℕ) (number : ℕ) → IsReading sum size log lid number read → IsStep sum size (record { log = log; blobs = λ _. None }) lid place number result }
 {
     let (what, len) = match read {

@@ -10,10 +10,11 @@ use Rattle.sled_store.proofs.ScriptLemmas.{EndsIn, ends_in}
 use Rattle.sled_core.specs.Recoverable.{IsBegun, IsRecoverableInFirst, LeavesRecoverable, first_cut}
 use Rattle.sled_core.specs.Running.{CanBegin, NamesFit, NoBlobs}
 use Rattle.sled_core.proofs.CallMoments.{Reaches}
+use Rattle.sled_core.proofs.FirstBegun.{first_cut_within}
 use Rattle.sled_log.specs.Recovery.{Conclusion, tip_of, is_beyond}
 use Rattle.sled_log.specs.WritesBack.{shredding, removing, publishing_file, publishing, writing_back, number_of, short_file, AreOthers, HasWrittenBack}
 use Rattle.sled_log.proofs.FirstConclusion.{first_active, GoesOnIn, StaysIn, ConcludesIn}
-use Rattle.sled_log.proofs.BelowLemmas.{no_batches_below, cut_within, begun_below, file_below, new_below, can_below}
+use Rattle.sled_log.proofs.BelowLemmas.{no_batches_below, begun_below, file_below, new_below, can_below}
 use Rattle.sled_log.proofs.MomentsLemmas.{tip_cases, reaches_cut, reaches_shredded, blobs_synced, resting, resting_kept}
 use Rattle.sled_log.proofs.PublishLemmas.{listed_below, IsNewTable, IsPublished, published_synced, published_removed, published_fit, settled_fit}
 use Rattle.sled_log.proofs.RecoveryMoments.{can_begin, settled_names, no_blobs, new_table, number_is}
@@ -87,7 +88,8 @@ module _ (sum : List ℕ → ℕ) (size : ℕ) (H : History) (A f : ℕ) (large 
     stays_end stays = unpublished_end (stable_place is.first.stable) refl (state_of old).log.bytes (elim stays.why [
       | inl unbegun ↦ record { short = is.segment.short; parts = λ place le. inl (record { none = unbegun.none; nothing = unbegun.nothing; at_first = omega (arith, le, unbegun.at_first) }) }
       | inr (begun, full) ↦ (
-          let same : first_cut size begun.stop ≡ stable_place is.first.stable = omega (arith, full, begun.not_below, cut_within size begun.stop begun.inside) in
+          let within = (first_cut_within size begun.stop begun.inside).1 in
+          let same : first_cut size begun.stop ≡ stable_place is.first.stable = omega (arith, full, begun.not_below, within) in
           subst (λ n. Reaches sum size (state_of old).log.bytes (below H n) A n) same
           (reaches_cut sum size (state_of old).log.bytes (below H (first_cut size begun.stop)) A (stable_place is.first.stable) (begun_below begun) is.segment.short))
     ])

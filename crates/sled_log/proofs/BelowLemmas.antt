@@ -8,10 +8,11 @@ use Rattle.sled_codec.specs.Snapshots.{Shot}
 use Rattle.sled_store.specs.SnapshotFiles.{stable_place}
 use Rattle.sled_core.specs.Recoverable.{IsBegun, IsTableFile, first_cut, first_site}
 use Rattle.sled_core.specs.Running.{CanBegin}
-use Rattle.sled_core.proofs.StandLemmas.{stand_below}
 use Rattle.sled_log.proofs.Ascending.{from_filter}
 use Rattle.sled_log.proofs.PublishLemmas.{listed_below, IsNewTable}
 use Rattle.sled_log.proofs.TableCuts.{table_below, table_below_place}
+use Rattle.sled_core.proofs.LogFileLemmas.{stand_below}
+use Rattle.sled_core.proofs.FirstBegun.{first_cut_within}
 
 -- Messages.
 
@@ -49,26 +50,11 @@ fits_below H bound cut fits = record {
 
 -- The first segment.
 
--- the records end at the cut or below it
-stop_below : (size stop : ℕ) → stop ≤ size → stop ≤ first_cut size stop
-stop_below size stop le = by (nat_lt size (stop + 32))
-  where
-    by : (b : Bool) → stop ≤ (if b then size else stop)
-    by true = le
-    by false = omega arith
-
--- and the cut lies in the segment
-pub cut_within : (size stop : ℕ) → stop ≤ size → first_cut size stop ≤ size
-cut_within size stop le = by (nat_lt size (stop + 32))
-  where
-    by : (b : Bool) → (if b then size else stop) ≤ size
-    by true = omega arith
-    by false = le
-
 own_low : (sum : List ℕ → ℕ) (size : ℕ) (log : List ℕ) (H : History) (A place : ℕ) (begun : IsBegun sum size log H A place) → All (λ m. m.place < first_cut size begun.stop) begun.own
 own_low sum size log H A place begun k d lt =
     let low = (stand_below sum size log first_site 20 begun.own begun.stop begun.stand k d lt).0 in
-    omega (arith, low, stop_below size begun.stop begun.inside)
+    let cut = (first_cut_within size begun.stop begun.inside).0 in
+    omega (arith, low, cut)
 
 -- what lies below the cut are the messages that stand there
 pub messages_below : (sum : List ℕ → ℕ) (size : ℕ) (log : List ℕ) (H : History) (A place : ℕ) (begun : IsBegun sum size log H A place) → (below H (first_cut size begun.stop)).messages ≡ begun.own ++ []

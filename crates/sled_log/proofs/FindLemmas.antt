@@ -13,7 +13,7 @@ use Rattle.sled_core.specs.declared.read_at.BasedBuf.{BasedBuf}
 use Rattle.sled_core.specs.Reading.{file_of}
 use Rattle.sled_core.specs.Scan.{Readable, IsScan, IsDamagedIn}
 use Rattle.sled_core.specs.Scan.{IsFoundSegment, IsMisplaced}
-pub use Rattle.sled_core.proofs.Elements.{in_nothing as not_in_none, only_in, in_one}
+use Rattle.sled_core.proofs.Elements.{in_nothing, only_in, in_one}
 pub use Rattle.sled_core.proofs.FoundLemmas.{zero_mod, pos_injective, found_first, header_first, none_found, is_found, only_found, one_found}
 use Rattle.sled_log.specs.Recovery.{IsOrdering, Scanned, IsScanned, IsTail, GoesOn, begun_below, open_at, StopsOrGoesOn, ArePassed, ContinuesFrom, Outcome, Recovered, Damaged, unchanged, outcome_of, least_place, tail_begins}
 use Rattle.sled_log.proofs.PassedLemmas.{whole_passed}
@@ -30,7 +30,7 @@ module _ (sum : List ℕ → ℕ) (size : ℕ) (r : Readable) (first : Shot) (so
   -- no segment is found: the snapshot stays
   pub nothing_found : IsOrdering sum size r.log (least_place size first) [] → ContinuesFrom sum size r first (Recovered (unchanged first))
   unfolding ContinuesFrom
-  nothing_found none = inr ([], none, inr ([], λ s there. absurd (not_in_none s there), refl))
+  nothing_found none = inr ([], none, inr ([], λ s there. absurd (in_nothing s there), refl))
 
   -- a segment begins where none can
   pub misplaced : (s : Segment) → IsFoundSegment sum size r.log (least_place size first) s → IsMisplaced size s → ContinuesFrom sum size r first Damaged

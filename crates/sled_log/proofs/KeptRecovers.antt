@@ -1,11 +1,13 @@
 -- Where all of a history is on the device, in a log file of at most one segment, recovery finds that segment alone, or stays with the snapshot.
 use Rattle.std.proofs.Common.{◌≡◌, ◌≤◌, ◌+◌, ◌/◌, ◌%◌, ◌∙◌, ℕ, List, [], ◌∷◌, ◌++◌, length, refl, ap, subst, arith, inl, inr}
 use Rattle.std.specs.List.{All}
+use Rattle.std.proofs.lemmas.List.Elements.{All-contains}
 use Rattle.sled_codec.specs.History.{Message}
 use Rattle.sled_core.specs.declared.iobuf.Site.{Site}
 use Rattle.sled_core.specs.LogFile.{StandIn, StandsElsewhere, IsLogFile}
 use Rattle.sled_core.proofs.LogFileLemmas.{stands_some}
 use Rattle.sled_core.proofs.PathLemmas.{zeros_empty}
+use Rattle.sled_core.proofs.Elements.{no_element}
 use Rattle.sled_log.proofs.OnlySegment.{IsOnlySegment, slot_first}
 
 module _ (sum : List ℕ → ℕ) (size : ℕ) (log : List ℕ) (site : Site) (from : ℕ) (messages : List Message) (file : IsLogFile sum size log site from messages)
@@ -33,10 +35,9 @@ module _ (sum : List ℕ → ℕ) (size : ℕ) (log : List ℕ) (site : Site) (f
         | inr above ↦ omega (arith, above, there, short, some_long)
       ]
 
-  none_older : (older : List Message) → All (StandsElsewhere sum size log site) older → older ≡ []
-  none_older [] all = refl
-  none_older (m ∷ ms) all = absurd (no_other m (all 0 m (omega arith)))
+  none_older : file.older ≡ []
+  none_older = no_element file.older (λ m there. no_other m (All-contains (StandsElsewhere sum size log site) file.older m file.elsewhere there))
 
   -- so all messages stand in it
   pub own_all : messages ≡ file.own
-  own_all = file.parts ∙ ap (λ (l : List Message). l ++ file.own) (none_older file.older file.elsewhere)
+  own_all = file.parts ∙ ap (λ (l : List Message). l ++ file.own) none_older

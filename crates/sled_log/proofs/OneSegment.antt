@@ -11,8 +11,8 @@ use Rattle.sled_core.specs.Scan.{Readable, IsMet, IsPath}
 use Rattle.sled_core.specs.LogFile.{StandIn}
 use Rattle.sled_core.proofs.PathLemmas.{met_of, met_is, none_met, IsEmpty}
 use Rattle.sled_log.specs.Recovery.{is_ascending, Applied, applied, given, before_open, open_at}
-use Rattle.sled_log.proofs.FindLemmas.{not_in_none}
 pub use Rattle.sled_core.proofs.StandLemmas.{none_open}
+use Rattle.sled_core.proofs.Elements.{in_nothing}
 
 -- what is met of messages
 pub given_messages : (low cut : ℕ) (ms : List Message) → All (λ m. m.place < cut) ms → given low (map met_of ms) ≡ map applied (filter (λ m. nat_le low m.place && nat_lt m.place cut) ms)
@@ -53,7 +53,7 @@ module _ (sum : List ℕ → ℕ) (size : ℕ) (r : Readable) (site : Site) (end
 
 -- an ordering that has one segment and no other is that one
 pub only_one : (s : Segment) (ordering : List Segment) → is_ascending ordering ≡ true → Contains ordering s → ((t : Segment) → Contains ordering t → s ≡ t) → ordering ≡ s ∷ []
-only_one s [] ascending there alone = absurd (not_in_none s there)
+only_one s [] ascending there alone = absurd (in_nothing s there)
 only_one s (t ∷ []) ascending there alone = ap (λ (x : Segment). x ∷ []) (sym (alone t (0, omega arith, refl)))
 only_one s (t ∷ u ∷ ss) ascending there alone =
     let first : s ≡ t = alone t (0, omega arith, refl) in
@@ -62,8 +62,3 @@ only_one s (t ∷ u ∷ ss) ascending there alone =
     let not_lower : nat_lt t.place u.place ≡ false = grind (arith, nat_tests, places) in
     let both : true ≡ false = sym ascending ∙ ap (λ (b : Bool). b && is_ascending (u ∷ ss)) not_lower in
     cc
-
--- an ordering without an element is empty
-pub no_element : (ordering : List Segment) → ((t : Segment) → Contains ordering t → ⊥) → ordering ≡ []
-no_element [] none = refl
-no_element (t ∷ ts) none = absurd (none t (0, omega arith, refl))

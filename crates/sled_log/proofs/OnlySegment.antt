@@ -9,8 +9,7 @@ use Rattle.sled_core.specs.declared.iobuf.Site.{Site}
 use Rattle.sled_core.specs.declared.met.Segment.{Segment}
 use Rattle.sled_core.specs.Scan.{IsFoundSegment}
 use Rattle.sled_core.specs.LogFile.{StandIn, HasHeader, IsEmpty}
-use Rattle.sled_core.proofs.LogFileLemmas.{stand_grows, header_there}
-use Rattle.sled_core.proofs.StandLemmas.{stand_below}
+use Rattle.sled_core.proofs.LogFileLemmas.{stand_grows, header_there, stand_below}
 use Rattle.sled_log.proofs.FindLemmas.{is_found, only_found}
 
 -- The only segment of a log file: messages stand behind its header, and no record behind them.

@@ -9,6 +9,7 @@ use Rattle.sled_codec.proofs.Segments.{length-short_header, one_header}
 use Rattle.sled_core.specs.declared.met.Segment.{Segment}
 use Rattle.sled_core.specs.Scan.{IsFoundSegment, IsMisplaced}
 use Rattle.sled_core.proofs.ScanLemmas.{aligned_offset}
+use Rattle.sled_core.proofs.FoundLemmas.{found_there}
 use Rattle.sled_log.specs.Recovery.{IsOrdering, IsUnordered}
 use Rattle.sled_log.specs.Plain.{Chain, AreFound, CanBeRead}
 use Rattle.sled_log.proofs.PlainSegments.{chain_ascends}
@@ -29,13 +30,6 @@ module _ (sum : List ℕ → ℕ) (size : ℕ) (log : List ℕ) (least : ℕ) wh
   abbrev Found : Segment → Type 0
   Found s = IsFoundSegment sum size log least s
 
-  -- a segment that is found has its header in the file
-  pub found_inside : (s : Segment) → IsFoundSegment sum size log least s → s.slot + 20 ≤ length log
-  found_inside s found =
-      let header = found.header in
-      let long : length (part log s.slot 20) ≡ 20 = ap length header.is ∙ length-short_header sum (pos s.place) s.mark in
-      omega (arith, long, length-take 20 (drop s.slot log), length-drop s.slot log)
-
   -- one slot has one segment at most
   pub one_in_slot : (s t : Segment) → IsFoundSegment sum size log least s → IsFoundSegment sum size log least t → s.slot ≡ t.slot → s ≡ t
   one_in_slot s t found other slots =
@@ -47,7 +41,7 @@ module _ (sum : List ℕ → ℕ) (size : ℕ) (log : List ℕ) (least : ℕ) wh
   -- it can be read
   pub ready : (s : Segment) → length log + size < 2 ^ 63 → IsFoundSegment sum size log least s → (IsMisplaced size s → ⊥) → CanBeRead size log s
   ready s small found placed =
-      let inside = found_inside s found in
+      let inside = found_there sum size log least s found in
       record {
         aligned = found.slot;
         inside = omega (arith, inside);
@@ -95,7 +89,7 @@ module _ (sum : List ℕ → ℕ) (size : ℕ) (log : List ℕ) (least : ℕ) wh
   pub all_found : (ss : List Segment) (slot : ℕ) → length log ≤ slot → AreFound sum size log least ss slot → IsOrdering sum size log least ss
   all_found ss slot past are = record {
     ascending = chain_ascends 0 ss are.chain;
-    found = λ s. (λ there. ((are.has s).0 there).0, λ found. (are.has s).1 (found, omega (arith, past, found_inside s found)));
+    found = λ s. (λ there. ((are.has s).0 there).0, λ found. (are.has s).1 (found, omega (arith, past, found_there sum size log least s found)));
     placed = are.placed;
   }
 
@@ -112,8 +106,8 @@ module _ (sum : List ℕ → ℕ) (size : ℕ) (log : List ℕ) (least : ℕ) wh
     fronts : take 20 items ≡ part log slot 20
     fronts = ap (take 20) is ∙ take-take 20 size (drop slot log) (omega (arith, most))
 
-    pub found_there : (s : Segment) → s.slot ≡ slot → least ≤ s.place → IsHeader sum (take 20 items) (pos s.place) s.mark → IsFoundSegment sum size log least s
-    found_there s at above header = record {
+    found_by_header : (s : Segment) → s.slot ≡ slot → least ≤ s.place → IsHeader sum (take 20 items) (pos s.place) s.mark → IsFoundSegment sum size log least s
+    found_by_header s at above header = record {
       slot = ap (λ n. n % size) at ∙ aligned;
       header = subst (λ (n : ℕ). IsHeader sum (part log n 20) (pos s.place) s.mark) (sym at) (subst (λ (l : List ℕ). IsHeader sum l (pos s.place) s.mark) fronts header);
       not_below = above;
@@ -126,7 +120,7 @@ module _ (sum : List ℕ → ℕ) (size : ℕ) (log : List ℕ) (least : ℕ) wh
     pub some_read : (o : Option Segment) (offset : ℕ) → offset ≡ slot → IfSome o (λ s. s.slot ≡ offset) → IfSome o (λ s. least ≤ s.place) → IfSome o (λ s. IsHeader sum (take 20 items) (pos s.place) s.mark)
         → IfSome o (λ s. IsFoundSegment sum size log least s × (s.slot ≡ slot))
     some_read None offset here at above header = tt
-    some_read (Some s) offset here at above header = (found_there s (at ∙ here) above header, at ∙ here)
+    some_read (Some s) offset here at above header = (found_by_header s (at ∙ here) above header, at ∙ here)
 
     pub none_read : (o : Option Segment) → IfNone o ((place : ℕ) (mark : ℤ) → least ≤ place → IsHeader sum (take 20 items) (pos place) mark → ⊥)
         → IfNone o ((s : Segment) → IsFoundSegment sum size log least s → s.slot ≡ slot → ⊥)

@@ -7,7 +7,7 @@ use Rattle.std.proofs.lemmas.Bool.{cases_lt}
 use Rattle.std.proofs.lemmas.Bool.Decides.{nat_tests}
 use Rattle.std.proofs.lemmas.List.{append-nil}
 use Rattle.sled_log.proofs.Ascending.{all_from_in}
-use Rattle.std.proofs.lemmas.List.Elements.{All-contains}
+use Rattle.std.proofs.lemmas.List.Elements.{All-contains, All-cons}
 use Rattle.sled_codec.specs.Pointers.{lid_of}
 use Rattle.sled_codec.specs.History.{Message, History}
 use Rattle.sled_codec.specs.PageTables.{IsTable}
@@ -23,7 +23,6 @@ use Rattle.sled_core.specs.Begin.{is_used, is_active}
 use Rattle.sled_core.specs.LogFile.{StandIn, StandsElsewhere, IsLogFile}
 use Rattle.sled_core.specs.Fits.{IsBegunFrom, IsKept}
 use Rattle.sled_core.specs.Ready.{StandsUsed, HasFile, IsReady}
-use Rattle.sled_core.proofs.Ranges.{with_first}
 use Rattle.sled_core.proofs.ScanLemmas.{aligned_offset}
 use Rattle.sled_core.proofs.LogFileLemmas.{stands_some, stand_none}
 use Rattle.sled_core.proofs.GivesLemmas.{StandsWhole, own_stands}
@@ -164,7 +163,7 @@ module _ (sum : List ℕ → ℕ) (size : ℕ) (r : Readable) (snapshots : ℤ �
     in_slot at [] stop stand = λ k d lt. absurd (omega (arith, lt))
     in_slot at (m ∷ ms) stop stand =
         let room = stand.0 in
-        with_first (λ (y : Message). lid_of y.pointer / size ≡ 0) m ms (ap (λ p. lid_of p / size) stand.2 ∙ div-eq_of_lt (omega (arith, room, at_first))) (in_slot (at + m.size) ms stop stand.4)
+        All-cons (λ (y : Message). lid_of y.pointer / size ≡ 0) m ms (ap (λ p. lid_of p / size) stand.2 ∙ div-eq_of_lt (omega (arith, room, at_first))) (in_slot (at + m.size) ms stop stand.4)
 
     slots : (m : Message) → Contains H.messages m → lid_of m.pointer / size ≡ 0
     slots m there = All-contains (λ (y : Message). lid_of y.pointer / size ≡ 0) file.own m (in_slot 20 file.own from stand_own) (subst (λ (l : List Message). Contains l m) all_own there)
@@ -290,7 +289,12 @@ module _ (sum : List ℕ → ℕ) (size : ℕ) (r : Readable) (snapshots : ℤ �
 abbrev pub state_settled : State → State
 state_settled s = step NamesSynced (step Synced s)
 
--- what follows from three facts of an answer
+-- what follows from two facts of an answer
+pub if_both : {T E : Type 0} (a : Result T E) (P Q R : T → Type 0) → ((t : T) → P t → Q t → R t) → IfOk a P → IfOk a Q → IfOk a R
+if_both (Ok t) P Q R follows p q = follows t p q
+if_both (Err e) P Q R follows p q = tt
+
+-- and from a third that says nothing of its value
 pub if_all : {T E : Type 0} (a : Result T E) (P Q : T → Type 0) (R : Type 0) (S : T → Type 0) → ((t : T) → P t → Q t → R → S t) → IfOk a P → IfOk a Q → OnOk a R → IfOk a S
 if_all (Ok t) P Q R S follows p q r = follows t p q r
 if_all (Err e) P Q R S follows p q r = tt

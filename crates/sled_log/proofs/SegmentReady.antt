@@ -9,9 +9,8 @@ use Rattle.sled_store.specs.SnapshotFiles.{BeginsFrom}
 use Rattle.sled_core.specs.declared.iobuf.Site.{Site}
 use Rattle.sled_core.specs.LogFile.{StandIn, HasHeader, IsLogFile}
 use Rattle.sled_core.specs.Ready.{IsReady, active_site}
-use Rattle.sled_core.proofs.LogFileLemmas.{stand_kept, header_kept}
+use Rattle.sled_core.proofs.LogFileLemmas.{stand_kept, header_kept, stand_below}
 use Rattle.sled_core.proofs.ScanLemmas.{aligned_offset}
-use Rattle.sled_core.proofs.StandLemmas.{stand_below}
 use Rattle.sled_core.proofs.TornZeros.{zeros_read}
 
 -- what is read once the rest of a segment is filled from an offset in it on

@@ -14,11 +14,11 @@ use Rattle.sled_core.specs.declared.met.Ending.{Ending}
 use Rattle.sled_core.specs.declared.met.Ending.TheVariants.{Full, Capped, Broken}
 use Rattle.sled_core.specs.Scan.{Readable, IsFoundSegment, IsMisplaced, IsPath, IsScan}
 use Rattle.sled_core.proofs.PathLemmas.{met_of, scan_is}
+use Rattle.sled_core.proofs.Elements.{no_element, in_nothing, only_in}
 use Rattle.sled_log.specs.Recovery.{Scanned, IsScanned, IsOrdering, IsTail, GoesOn, IsPassed, StopsOrGoesOn, ArePassed, begun_below, Conclusion, Outcome, Recovered, Damaged, Applied, applied, given, open_at, tail_end, tail_begins, place_of_mark, least_place, outcome_of, concluded, unchanged, Passes, Replays, ContinuesFrom, Recovers, cut_of}
 use Rattle.sled_log.proofs.BeginLemmas.{one_begin}
 use Rattle.sled_log.proofs.RecoveryLemmas.{one_outcome}
-use Rattle.sled_log.proofs.FindLemmas.{not_in_none, only_in}
-use Rattle.sled_log.proofs.OneSegment.{path_closed, given_messages, none_open, all_before, only_one, no_element}
+use Rattle.sled_log.proofs.OneSegment.{path_closed, given_messages, none_open, all_before, only_one}
 use Rattle.sled_log.proofs.PassedLemmas.{passed_whole}
 use Rattle.sled_log.proofs.OnlySegment.{IsOnlySegment, segment, long, own_below, found_from, found_is}
 
@@ -46,7 +46,7 @@ module _ (sum : List ℕ → ℕ) (size : ℕ) (r : Readable) (first : Shot) (no
   nothing_read : (tail : ℕ) (x : Conclusion) → Replays sum size r first [] tail (Recovered x) → x ≡ unchanged first
   nothing_read tail x (inl damaged) = let no : Recovered x ≡ Damaged = damaged.0 in cc
   nothing_read tail x (inr ([], none, passes)) = ap (λ (o : Outcome). conclusion_in o x) passes
-  nothing_read tail x (inr (s ∷ ss, there, passes)) = absurd (not_in_none s.segment there.0)
+  nothing_read tail x (inr (s ∷ ss, there, passes)) = absurd (in_nothing s.segment there.0)
 
   pub stays_at : (x : Conclusion) → ContinuesFrom sum size r first (Recovered x) → x ≡ unchanged first
   unfolding ContinuesFrom

@@ -9,10 +9,10 @@ use Rattle.sled_core.specs.declared.iobuf.Site.{Site}
 use Rattle.sled_core.specs.declared.met.Segment.{Segment}
 use Rattle.sled_core.specs.Scan.{Readable, IsFoundSegment, IsMisplaced, IsDamagedIn}
 use Rattle.sled_core.proofs.UndamagedLemmas.{undamaged}
+use Rattle.sled_core.proofs.Elements.{in_nothing, only_in}
 use Rattle.sled_log.specs.Recovery.{IsUnordered, ArePassed, begun_below, Recovered, Damaged, tail_begins, least_place, unchanged, IsDamagedPass, Passes, Replays, ContinuesFrom, Recovers}
 use Rattle.sled_log.proofs.Ascending.{in_first}
 use Rattle.sled_log.proofs.BeginLemmas.{one_begin}
-use Rattle.sled_log.proofs.FindLemmas.{not_in_none, only_in}
 use Rattle.sled_log.proofs.OnlySegment.{IsOnlySegment, segment, found_is}
 use Rattle.sled_log.proofs.SegmentRecovers.{none_ordered, the_ordering, tail_first, the_end, comes, passes_are, below_end}
 
@@ -30,9 +30,9 @@ module _ (sum : List ℕ → ℕ) (size : ℕ) (r : Readable) (first : Shot) (no
   none_unordered (inr (s, t, found, also, apart, same)) = none s found
 
   none_replayed : (tail : ℕ) → Replays sum size r first [] tail Damaged → ⊥
-  none_replayed tail (inl (is, damaged)) = not_in_none damaged.segment damaged.there
+  none_replayed tail (inl (is, damaged)) = in_nothing damaged.segment damaged.there
   none_replayed tail (inr ([], missing, passes)) = let no : Damaged ≡ Recovered (unchanged first) = passes in cc
-  none_replayed tail (inr (s ∷ ss, there, passes)) = not_in_none s.segment there.0
+  none_replayed tail (inr (s ∷ ss, there, passes)) = in_nothing s.segment there.0
 
   pub none_damaged : ContinuesFrom sum size r first Damaged → ⊥
   unfolding ContinuesFrom

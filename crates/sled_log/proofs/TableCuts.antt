@@ -7,11 +7,7 @@ use Rattle.sled_codec.specs.History.{Message, History, no_history, page_state, o
 use Rattle.sled_codec.specs.PageTables.{page_with, IsTable}
 use Rattle.sled_codec.specs.Snapshots.{Page}
 use Rattle.sled_log.proofs.Ascending.{in_nothing, none_kept, all_from_in}
-
--- before any message the table is empty
-pub no_pages : (cut : ℕ) → IsTable [] no_history cut
-unfolding table of_page page_state
-no_pages cut = record { states = λ page. refl; begun = λ page. (λ lt. absurd (omega (arith, lt)), λ has. absurd (in_nothing has.message has.there)) }
+use Rattle.sled_core.proofs.FreshLemmas.{no_pages}
 
 -- Two histories with the same messages of each page below a cut have one table there.
 module _ (H K : History) (cut : ℕ) (same : (page : ℕ) → of_page H.messages cut page ≡ of_page K.messages cut page) where

@@ -1,21 +1,21 @@
 //! What the plain recovery meets in one segment of the pass. It reads record by record from the device, and nothing
 //! behind a batch that is open, where a record may be damaged (`IsPassed`, `specs/Recovery.antt`).
-ghost use Rattle.std.specs.Prelude.{List, ℕ, ◌≡◌, ◌+◌, ◌/◌, ◌%◌, ◌^◌, ◌≤◌, ◌<◌, None, IfOk, is_some};
+ghost use Rattle.std.specs.Prelude.{◌≡◌, ◌+◌, ◌/◌, ◌^◌, ◌≤◌, ◌<◌, IfOk, is_some};
 ghost use Rattle.std.specs.List.{All};
 ghost use Rattle.sled_codec.specs.Errors.{IsCorruption};
 ghost use Rattle.sled_store.specs.Device.{state_of};
 ghost use Rattle.sled_core.specs.Causes.{DeviceAnswers};
-ghost use Rattle.sled_core.specs.Reading.{IsReading};
 ghost use Rattle.sled_core.specs.Scan.{HasPlace, IsStep, IsDamagedAt};
 ghost use Rattle.sled_log.specs.Recovery.{IsPassed, open_at, scanned_of};
 ghost use Rattle.sled_log.specs.Plain.{log_alone, CanBeRead, IsDamagedBefore};
 
 use crate::table::opens;
-use sled_codec::result::{DiskPtr, LogOffset, Result};
-use sled_codec::serialization::{Checksum, LogKind, SegmentNumber};
+use sled_codec::result::Result;
+use sled_codec::serialization::{Checksum, SegmentNumber};
 use sled_core::iobuf::{MAX_MSG_HEADER_LEN, SEG_HEADER_LEN};
-use sled_core::met::{Ending, Met, Scan, Segment, Step, What};
-use sled_core::reading::{LogRead, read_message};
+use sled_core::iterator::step_of;
+use sled_core::met::{Ending, Met, Scan, Segment, Step};
+use sled_core::reading::read_message;
 use sled_store::{Device, RunningConfig};
 
 /// What is met in a segment, up to and with the first batch that does not end below `end`. Where such a batch is met,
@@ -97,31 +97,4 @@ fn step_at<D: Device, C: Checksum>(
     let lid = segment.slot + at;
     let read = read_message(config, None, lid, number)?;
     Ok(step_of(segment.place + at, lid, read))
-}
-
-/// What was read, as it is met.
-#[tactic(auto, unfolding(sled_core::specs::Scan::IsMet, sled_core::specs::Scan::EndsThere))]
-fn step_of(place: u64, lid: LogOffset, read: LogRead) -> Step
-    ensures { (sum : List ℕ → ℕ) (size : ℕ) (log : List ℕ) (number : ℕ) → IsReading sum size log lid number read → IsStep sum size (log_alone log) lid place number result }
-{
-    let (what, len) = match read {
-        LogRead::Inline(header, _, len) => (
-            What::Gives(LogKind::from(header.kind), header.pid, DiskPtr::Inline(lid)),
-            len,
-        ),
-        LogRead::Blob(header, _, blob, len) => (
-            What::Gives(
-                LogKind::from(header.kind),
-                header.pid,
-                DiskPtr::Blob(lid, blob),
-            ),
-            len,
-        ),
-        LogRead::Canceled(len) | LogRead::DanglingBlob(_, _, len) => (What::Passed, len),
-        LogRead::BatchManifest(peg, len) => (What::Begins(peg), len),
-        LogRead::Cap(_) => return Step::Ends(Ending::Capped),
-        LogRead::Corrupted => return Step::Ends(Ending::Broken),
-    };
-    let len = u64::from(len);
-    Step::Meets(Met { place, len, what })
 }

@@ -7,19 +7,13 @@ use Rattle.sled_core.specs.Good.{IsGood}
 use Rattle.sled_core.specs.Recoverable.{LeavesRecoverable}
 use Rattle.sled_core.proofs.ReadingLemmas.{if_ok}
 use Rattle.sled_log.proofs.RecoveryHolds.{holds_throughout, meets_no_damage, is_good, is_cut_off, is_ready}
-use Rattle.sled_log.proofs.RestartLemmas.{BeginsAgain}
+use Rattle.sled_log.proofs.RestartLemmas.{BeginsAgain, if_both}
 use Rattle.sled_core.specs.Running.{Ready}
-use Rattle.std.specs.Prelude.{Result, Ok, Err, IfOk}
 use Rattle.sled_log.proofs.snapshot.read_snapshot_or_default.Goals as goal
 
 -- the size of a segment is no longer than offsets in a file
 small : (size : ℕ) → size ≤ 8388608 → size < 2 ^ 63
 small size most = omega (arith, most)
-
--- what follows from two things that are so of an answer
-if_both : {T E : Type 0} (r : Result T E) (P Q R : T → Type 0) → ((x : T) → P x → Q x → R x) → IfOk r P → IfOk r Q → IfOk r R
-if_both (Ok x) P Q R follows p q = follows x p q
-if_both (Err e) P Q R follows p q = tt
 
 pub returns-clause-recoverable : goal.returns-clause-recoverable
 returns-clause-recoverable g c = λ H A f can.
