@@ -10,7 +10,7 @@ use Rattle.sled_codec.specs.Record.{IsHeader}
 use Rattle.sled_codec.specs.History.{Message}
 use Rattle.sled_codec.specs.WellFormed.{LieApart}
 use Rattle.sled_codec.proofs.Segments.{length-short_header}
-use Rattle.sled_store.specs.Device.{overwritten, end_of}
+use Rattle.sled_store.specs.Device.{overwritten}
 use Rattle.sled_store.proofs.OverwrittenLemmas.{length-overwritten, overwritten-part, overwritten-above}
 use Rattle.sled_store.proofs.LogLemmas.{part_written}
 use Rattle.sled_store.proofs.LooseLemmas.{end_of-some}

@@ -11,7 +11,7 @@ use Rattle.sled_store.proofs.LogLemmas.{at_rest_left}
 use Rattle.sled_core.specs.declared.iobuf.Reserved.{Reserved}
 use Rattle.sled_core.specs.declared.iobuf.Site.{Site}
 use Rattle.sled_core.specs.Buffers.{IsChain, Stands, completed_in}
-use Rattle.sled_core.specs.LogFile.{IsLogFile, StandIn, StandsElsewhere}
+use Rattle.sled_core.specs.LogFile.{IsLogFile, StandIn}
 use Rattle.sled_core.specs.Fits.{HoldsIn}
 use Rattle.sled_core.specs.Recoverable.{Recoverable, NoForeign, IsRecoverableInFirst, IsUnbegun, IsBegun, LeavesRecoverable, first_site, first_cut}
 use Rattle.sled_core.specs.Running.{NoneBegun, CanBegin, NoBlobs, NamesFit}

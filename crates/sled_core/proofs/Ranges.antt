@@ -1,6 +1,6 @@
 -- Reservations that lie one behind another: what stands in them stays where bytes are put behind them, and where another one is completed.
 use Rattle.std.proofs.Common.{◌≡◌, ◌≤◌, ◌<◌, ◌+◌, ℕ, zero, suc, List, [], ◌∷◌, ◌++◌, length, take, drop, sym, ◌∙◌, ap, arith, refl, subst, length-append, length-take, length-drop, true, false, if◌then◌else◌, rules, Some, set, ◌⊎◌, inl, inr}
-use Rattle.std.specs.List.{All, Contains, slice_get}
+use Rattle.std.specs.List.{All, slice_get}
 use Rattle.std.proofs.lemmas.List.{drop-append-le, take-append-le, same_lists, places}
 use Rattle.std.proofs.lemmas.Option.{slice_get_within}
 use Rattle.std.proofs.lemmas.List.Elements.{All-cons, All-tail}

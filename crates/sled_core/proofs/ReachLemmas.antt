@@ -1,8 +1,8 @@
 -- Where the messages of a log lie that fits its history: one behind another, below the next place, and, where nothing is left to be written, below the stable end.
-use Rattle.std.proofs.Common.{◌^◌, ◌≡◌, ◌∙◌, ◌≤◌, ◌<◌, ◌+◌, ◌/◌, ℕ, zero, suc, max, true, false, if◌then◌else◌, List, [], ◌∷◌, ◌++◌, length, None, Option, refl, sym, ap, subst, arith, pos}
+use Rattle.std.proofs.Common.{◌^◌, ◌≡◌, ◌∙◌, ◌≤◌, ◌<◌, ◌+◌, ◌/◌, ℕ, zero, suc, max, true, false, if◌then◌else◌, List, [], ◌∷◌, ◌++◌, length, None, Option, sym, ap, subst, arith, pos}
 use Rattle.std.specs.List.{All}
 use Rattle.std.specs.declared.io.Error.{Error as IoError}
-use Rattle.std.proofs.lemmas.List.Elements.{All-cons, All-tail, All-append}
+use Rattle.std.proofs.lemmas.List.Elements.{All-tail, All-append}
 use Rattle.sled_codec.specs.History.{Message, History}
 use Rattle.sled_codec.specs.WellFormed.{LieApart}
 use Rattle.sled_store.specs.Device.{Trace, State, state_of}

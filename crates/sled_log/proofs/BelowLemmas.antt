@@ -1,5 +1,5 @@
 -- What lies below a cut, where the first segment, the tables and the snapshots were those of a whole history.
-use Rattle.std.proofs.Common.{◌≡◌, ◌∙◌, ◌≤◌, ◌<◌, ◌≤ℤ◌, ◌+◌, ℕ, ℤ, pos, negsuc, Bool, true, false, cond, nat_lt, if◌then◌else◌, List, [], ◌∷◌, ◌++◌, Option, Some, refl, ap, arith, lt-ltb, leb→le}
+use Rattle.std.proofs.Common.{◌≡◌, ◌∙◌, ◌≤◌, ◌<◌, ◌≤ℤ◌, ℕ, ℤ, pos, negsuc, Bool, cond, nat_lt, List, [], ◌∷◌, ◌++◌, Option, Some, refl, ap, arith, lt-ltb, leb→le}
 use Rattle.std.specs.List.{All, filter}
 use Rattle.std.proofs.lemmas.Bool.{le-ltb}
 use Rattle.std.proofs.lemmas.List.Elements.{filter-append, All-tail}

@@ -1,6 +1,5 @@
 -- A function that made a list of calls, up to the first that failed, kept at every moment what holds in each state on the way.
-use Rattle.std.proofs.Common.{◌≡◌, ◌⊎◌, List, [], ◌∷◌, ◌++◌, reverse, refl, sym, ◌∙◌, ap, subst, append_assoc, inl, inr}
-use Rattle.std.proofs.lemmas.List.{reverse-append}
+use Rattle.std.proofs.Common.{◌≡◌, ◌⊎◌, List, [], ◌∷◌, ◌++◌, refl, subst, inl, inr}
 use Rattle.sled_store.specs.Device.{Event, Trace, State, state_of, step}
 use Rattle.sled_store.specs.Moments.{Throughout}
 use Rattle.sled_store.specs.Answers.{Tears}
@@ -49,29 +48,7 @@ performs_more [] (f ∷ fs) old new came = inl (inl came)
 performs_more (e ∷ es) fs old new (inl stopped) = inl stopped
 performs_more (e ∷ es) fs old new (inr came) = inr (performs_more es fs (e ∷ old) new came)
 
-reverse-onto : (e : Event) (es : List Event) (old : Trace) → reverse (e ∷ es) ++ old ≡ reverse es ++ (e ∷ old)
-reverse-onto e es old = ap (λ (h : Trace). h ++ old) (reverse-append (e ∷ []) es) ∙ append_assoc (reverse es) (e ∷ []) old
-
--- Where all calls of a list succeeded, the trace has the list reversed, and goes on from there.
-pub done_none : (old : Trace) → old ≡ reverse [] ++ old
-done_none old = refl
-
-pub done_all : (e : Event) (es : List Event) (old mid new : Trace) → mid ≡ e ∷ old → new ≡ reverse es ++ mid → new ≡ reverse (e ∷ es) ++ old
-done_all e es old mid new came rest = rest ∙ ap (λ (h : Trace). reverse es ++ h) came ∙ sym (reverse-onto e es old)
-
--- then another list of calls is made behind it
-pub performs_joined : (es fs : List Event) (old mid new : Trace) → mid ≡ reverse es ++ old → Performs fs mid new → Performs (es ++ fs) old new
-unfolding Performs
-performs_joined [] fs old mid new came rest = subst (λ (h : Trace). Performs fs h new) came rest
-performs_joined (e ∷ es) fs old mid new came rest = inr (performs_joined es fs (e ∷ old) mid new (came ∙ reverse-onto e es old) rest)
-
--- all calls of a list were made
-pub performs_done : (es : List Event) (old new : Trace) → new ≡ reverse es ++ old → Performs es old new
-unfolding Performs
-performs_done [] old new came = came
-performs_done (e ∷ es) old new came = inr (performs_done es (e ∷ old) new (came ∙ reverse-onto e es old))
-
--- The same, with the trace after a list of calls.
+-- With the trace after a list of calls.
 
 -- one list of calls was made, and then another
 pub after_joined : (es fs : List Event) (old : Trace) → after_all (es ++ fs) old ≡ after_all fs (after_all es old)
