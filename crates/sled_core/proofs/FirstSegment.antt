@@ -16,7 +16,7 @@ use Rattle.sled_core.specs.Scan.{IsFoundSegment}
 use Rattle.sled_core.specs.Tail.{IsOrdering, Scanned, IsScanned, GoesOn, IsTail, tail_begins, stops_in, cut_of, least_place}
 use Rattle.sled_core.specs.LogFile.{IsEmpty}
 use Rattle.sled_core.specs.Good.{Reads}
-use Rattle.sled_core.specs.Recoverable.{readable, IsOfHistory, IsSegmentOf, IsMarkOf, cut_over, cut_from, IsRecoverableLog, first_site, first_cut, IsUnbegun, IsBegun, IsInFirstSegment, IsRecoverableInFirst, Recoverable}
+use Rattle.sled_core.specs.Recoverable.{AreRecoverableSnapshots, readable, IsOfHistory, IsSegmentOf, IsMarkOf, cut_over, cut_from, IsRecoverableLog, first_site, first_cut, IsUnbegun, IsBegun, IsInFirstSegment, IsRecoverableInFirst, Recoverable}
 use Rattle.sled_core.proofs.Elements.{in_nothing, only_in, in_one, all_from_in}
 use Rattle.sled_core.proofs.TableEntries.{from_table}
 use Rattle.sled_core.proofs.FoundLemmas.{zero_mod, found_there, none_ordered}
@@ -184,16 +184,22 @@ pub first_part : (sum : List ℕ → ℕ) (size : ℕ) (content : Content) (H : 
 unfolding Recoverable
 first_part sum size content H A f is = record { first = is.first; snapshots = is.snapshots; segment = is.one_segment }
 
+-- where there are no snapshots, recovery begins from the one of a log that was never begun
+pub none_listed : (sum : List ℕ → ℕ) (size : ℕ) (snapshots : ℤ → Option (List ℕ)) → ((n : ℤ) → snapshots n ≡ None) → AreRecoverableSnapshots sum size snapshots no_history 0 empty_shot
+none_listed sum size snapshots none = record {
+  begins = inl (none, refl);
+  listed = λ n bytes there. absurd (none_some bytes (sym (none n) ∙ there));
+  not_below = omega arith;
+  active = zero_mod size;
+} where
+  none_some : (bytes : List ℕ) → None ≡ Some bytes → ⊥
+  none_some bytes is = cc
+
 -- the empty content, of a log that was never begun
 pub nothing_recoverable : (sum : List ℕ → ℕ) (size : ℕ) (content : Content) → 256 ≤ size → size < 2 ^ 63 → content.log ≡ [] → ((n : ℤ) → content.blobs n ≡ None) → ((n : ℤ) → content.snapshots n ≡ None) → Recoverable sum size content no_history 0 0
 nothing_recoverable sum size content some in_reach log blobs snapshots = recoverable_in_first sum size content no_history 0 0 some in_reach (record {
   first = empty_shot;
-  snapshots = record {
-    begins = inl (snapshots, refl);
-    listed = λ n bytes there. absurd (none_some bytes (sym (snapshots n) ∙ there));
-    not_below = omega arith;
-    active = zero_mod size;
-  };
+  snapshots = none_listed sum size content.snapshots snapshots;
   segment = record {
     batches = refl;
     blobs = blobs;
@@ -208,6 +214,3 @@ nothing_recoverable sum size content some in_reach log blobs snapshots = recover
 }) where
   none_long : length content.log ≡ 0
   none_long = ap length log
-
-  none_some : (bytes : List ℕ) → None ≡ Some bytes → ⊥
-  none_some bytes is = cc

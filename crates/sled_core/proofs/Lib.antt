@@ -15,6 +15,7 @@ pub mod FlushFits
 pub mod FlushLemmas
 pub mod FoundLemmas
 pub mod FreshLemmas
+pub mod FreshReady
 pub mod GivesLemmas
 pub mod Heads
 pub mod HoldsLemmas

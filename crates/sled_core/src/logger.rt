@@ -9,7 +9,7 @@ ghost use Rattle.sled_codec.specs.History.{History, Message, Completed, Step, no
 ghost use Rattle.std.specs.IoError.{error_kind};
 ghost use Rattle.std.specs.declared.io.ErrorKind.TheVariants.{OutOfMemory};
 ghost use Rattle.sled_codec.specs.Errors.{IsErrorOf, IsCorrupt, IsCorruption};
-ghost use Rattle.sled_store.specs.Device.{state_of, at_rest, Wrote, Synced};
+ghost use Rattle.sled_store.specs.Device.{state_of, fresh, at_rest, Wrote, Synced};
 ghost use Rattle.sled_store.specs.Answers.{Counts, FailsOr};
 ghost use Rattle.sled_core.specs.Tickets.{place_of, pointer_of, IsFor};
 ghost use Rattle.sled_core.specs.Reading.{GivesMessage, IsInline, IsReading, IsMalformed, IsNoPlace};
@@ -76,6 +76,7 @@ impl<D: Device, C: Checksum> Log<D, C> {
             → IfErr result (λ e. LeavesOnly (RecoverableIfOwn C.sum_of config.config.segment_size H A f) (D.trace config.device) (D.trace e.1.device)) }
         ensures starts { (H : History) (A f : ℕ) → Ready C.sum_of config.config.segment_size (state_of (D.trace config.device)) (shot_of snapshot.now) H A f → IfErr result (λ e. (IsCorrupt e.0 → ⊥) × (e.0 ≢ Error.PlacesUsedUp)) }
         ensures fresh { shot_of snapshot.now ≡ empty_shot → (state_of (D.trace config.device)).log ≡ at_rest [] → ((n : ℤ) → (state_of (D.trace config.device)).snapshots.file n ≡ None) → IfOk result (λ log. Holds D.trace C.sum_of log no_history) }
+        ensures fresh_fits { shot_of snapshot.now ≡ empty_shot → state_of (D.trace config.device) ≡ fresh → IfOk result (λ log. Fits D.trace C.sum_of log no_history 0 0 []) }
         ensures startable { OnOk result (IsStartable config.config.segment_size (length (state_of (D.trace config.device)).log.bytes) (shot_of snapshot.now)) }
         ensures synced { IfOk result (λ log. synced_end log ≡ place_at config.config.segment_size (stable_place snapshot.now.stable_lsn) snapshot.now.active_segment + offset_at config.config.segment_size (stable_place snapshot.now.stable_lsn) snapshot.now.active_segment) }
         ensures next { IfOk result (λ log. next_place log ≡ place_at config.config.segment_size (stable_place snapshot.now.stable_lsn) snapshot.now.active_segment + max 20 (offset_at config.config.segment_size (stable_place snapshot.now.stable_lsn) snapshot.now.active_segment)) }

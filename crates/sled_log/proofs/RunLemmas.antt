@@ -34,7 +34,7 @@ use Rattle.sled_log.specs.declared.run.Phase.{Phase}
 use Rattle.sled_log.specs.declared.run.Phase.TheVariants as phase
 use Rattle.sled_log.specs.RunPhases.{IsOpenAt, IsClosedAt, IsAt, IsRecovery, SaysWhy, trace_of, CarriesOut, CrashesInto}
 use Rattle.std.proofs.lemmas.List.{reverse-append}
-use Rattle.sled_core.proofs.FirstSegment.{nothing_recoverable}
+use Rattle.sled_core.proofs.FreshReady.{fresh_leaves}
 use Rattle.sled_log.proofs.RunHistories.{none_orderly}
 use Rattle.sled_log.specs.Runs.{nothing_yet, ended, HasRecovered, IsOfDevice, NotOpened, OwnLeft, OwnEach, OwnThroughout, Standing, IsLater, IsStep, Runs}
 
@@ -134,13 +134,7 @@ module _ (sum : List ℕ → ℕ) (size : ℕ) where
 
   -- An empty device, no log on it.
   pub fresh_closed : 256 ≤ size → size < 2 ^ 63 → (trace : Trace) → state_of trace ≡ fresh → IsClosedAt sum size trace nothing_yet
-  fresh_closed large small trace is = record { formed = none_orderly; left = subst (LeavesRecoverable sum size no_history 0 0) (sym is) nothing_left; none = refl }
-    where
-      nothing_left : LeavesRecoverable sum size no_history 0 0 fresh
-      nothing_left left leaves own =
-          nothing_recoverable sum size left large small (at_rest_left [] left.log leaves.log)
-          (λ n. settled_name_left (names_at_rest (λ _. None)) n (left.blobs n) (settled_name_at_rest (λ _. None) n) (leaves.blobs n))
-          (λ n. settled_name_left (names_at_rest (λ _. None)) n (left.snapshots n) (settled_name_at_rest (λ _. None) n) (leaves.snapshots n))
+  fresh_closed large small trace is = record { formed = none_orderly; left = subst (LeavesRecoverable sum size no_history 0 0) (sym is) (fresh_leaves sum size large small); none = refl }
 
   -- One command more.
   pub runs_more : (old : Trace) (a : Standing) (cs : List Command) (rs : List Reply) (mid : Trace) (m : Standing) (c : Command) (r : Reply) (new : Trace) (b : Standing)

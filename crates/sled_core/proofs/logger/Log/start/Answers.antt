@@ -24,6 +24,8 @@ use Rattle.sled_codec.specs.History.{no_history}
 use Rattle.sled_core.specs.Ready.{IsReady}
 use Rattle.sled_core.proofs.FreshLemmas.{ready_fresh}
 use Rattle.sled_core.proofs.ReadyLemmas.{begins_ready}
+use Rattle.sled_store.specs.SnapshotFiles.{empty_shot}
+use Rattle.sled_core.proofs.FreshReady.{fresh_ready}
 use Rattle.sled_core.proofs.logger.Log.start.Goals as goal
 
 pub invariant_of-result : goal.invariant_of-result
@@ -123,3 +125,12 @@ returns-in-Err-clause-starts g c = λ H A f ready.
     let most = c.args.config.config.most in
     not_refused (IsStartable size (length old.log.bytes) s) (IsInReach size (length old.log.bytes) s) c.in-Err.e (g.D.Device.faults c.args.config.device) (g.D.Device.faults c.begin.new.config.device)
     (ready_starts g.C.Checksum.sum_of size old s H A f long most ready) (ready_in_reach g.C.Checksum.sum_of size old s H A f long most ready) c.in-Err.ensures.corrupt c.in-Err.ensures.answers
+
+-- on an empty device nothing happened
+pub returns-in-Ok-clause-fresh_fits : goal.returns-in-Ok-clause-fresh_fits
+returns-in-Ok-clause-fresh_fits g c = λ same empty.
+    let size : ℕ = c.args.config.config.segment_size in
+    let sum = g.C.Checksum.sum_of in
+    returns-in-Ok-clause-fits g c no_history 0 0
+    (subst (λ (s : Shot). Ready sum size (state_of (g.D.Device.trace c.args.config.device)) s no_history 0 0) (sym same)
+    (subst (λ (d : State). Ready sum size d empty_shot no_history 0 0) (sym empty) (fresh_ready sum size c.args.config.config.least (in_reach size c.args.config.config.most))))
