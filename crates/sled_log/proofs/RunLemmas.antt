@@ -32,11 +32,11 @@ use Rattle.sled_log.specs.declared.run.Command.TheVariants as command
 use Rattle.sled_log.specs.declared.run.Reply.TheVariants as reply
 use Rattle.sled_log.specs.declared.run.Phase.{Phase}
 use Rattle.sled_log.specs.declared.run.Phase.TheVariants as phase
-use Rattle.sled_log.specs.RunPhases.{IsOpenAt, IsClosedAt, IsAt, IsRecovery, SaysWhy, trace_of, CarriesOut, CrashesInto}
+use Rattle.sled_log.specs.RunPhases.{IsOpenAt, IsClosedAt, IsAt, IsRecovery, SaysWhy, shows_open, trace_of, CarriesOut, CrashesInto}
 use Rattle.std.proofs.lemmas.List.{reverse-append}
 use Rattle.sled_core.proofs.FreshReady.{fresh_leaves}
 use Rattle.sled_log.proofs.RunHistories.{none_orderly}
-use Rattle.sled_log.specs.Runs.{nothing_yet, ended, HasRecovered, IsOfDevice, NotOpened, OwnLeft, OwnEach, OwnThroughout, Standing, IsLater, IsStep, Runs}
+use Rattle.sled_log.specs.Runs.{nothing_yet, opened_as, HasRecovered, IsOfDevice, NotOpened, OwnLeft, OwnEach, OwnThroughout, Standing, IsLater, IsStep, Runs}
 
 -- a place as code holds it
 pub place_back : (z : ℤ) (n : ℕ) → z ≡ pos n → n < 2 ^ 63 → pos n ≡ cast_signed w64 (cast_unsigned w64 z)
@@ -134,7 +134,7 @@ module _ (sum : List ℕ → ℕ) (size : ℕ) where
 
   -- An empty device, no log on it.
   pub fresh_closed : 256 ≤ size → size < 2 ^ 63 → (trace : Trace) → state_of trace ≡ fresh → IsClosedAt sum size trace nothing_yet
-  fresh_closed large small trace is = record { formed = none_orderly; left = subst (LeavesRecoverable sum size no_history 0 0) (sym is) (fresh_leaves sum size large small); none = refl }
+  fresh_closed large small trace is = record { formed = none_orderly; left = subst (LeavesRecoverable sum size no_history 0 0) (sym is) (fresh_leaves sum size large small); closed = refl; none = refl }
 
   -- One command more.
   pub runs_more : (old : Trace) (a : Standing) (cs : List Command) (rs : List Reply) (mid : Trace) (m : Standing) (c : Command) (r : Reply) (new : Trace) (b : Standing)
@@ -160,17 +160,18 @@ left_by old choice false may = settled_left_too old
 
 -- Once a log is given up, a recovery can go on from its device.
 pub closed_at : {D C : Type 0} (trace : D → Trace) (sum : List ℕ → ℕ) (opened : Opened D C) (config : RunningConfig D C) (a : Standing) → config ≡ config_of opened.log → IsOpenAt trace sum opened a
-    → IsClosedAt sum (segment_size_of opened.log) (trace config.device) (ended a)
+    → IsClosedAt sum (segment_size_of opened.log) (trace config.device) (opened_as a false)
 closed_at trace sum opened config a is at = record {
   formed = at.formed;
   left = subst (λ (x : RunningConfig _ _). LeavesRecoverable sum (segment_size_of opened.log) a.history a.acknowledged a.floor (state_of (trace x.device))) (sym is)
       (fits_leaves trace sum opened.log a.history a.acknowledged a.floor at.unmarked at.fits);
+  closed = refl;
   none = refl;
 }
 
 -- no log is open, nor a reservation
-pub ended_at : (sum : List ℕ → ℕ) (size : ℕ) (trace : Trace) (a : Standing) → IsClosedAt sum size trace a → IsClosedAt sum size trace (ended a)
-ended_at sum size trace a at = record { formed = at.formed; left = at.left; none = refl }
+pub ended_at : (sum : List ℕ → ℕ) (size : ℕ) (trace : Trace) (a : Standing) → IsClosedAt sum size trace a → IsClosedAt sum size trace (opened_as a false)
+ended_at sum size trace a at = record { formed = at.formed; left = at.left; closed = refl; none = refl }
 
 -- what is made by a list of calls is later
 pub later_all : (es : List Event) (old new : Trace) → new ≡ after_all es old → IsLater old new
@@ -183,9 +184,9 @@ later_recovered sum size old new (inr (x, recovers, ns, may, inl begun)) = later
 later_recovered sum size old new (inr (x, recovers, ns, may, inr made)) = later_performed (Synced ∷ NamesSynced ∷ writing_back sum x ns) old new made.1
 
 -- a reply that shows what was recovered
-pub recovered_step : (sum : List ℕ → ℕ) (size : ℕ) (old new : Trace) (a b : Standing) (s : Shot) (r : Reply) → IsRecovery s r → SaysWhy size s r → HasRecovered sum size old new a b s → IsStep sum size old new command.Open r a b
-recovered_step sum size old new a b s (reply.Opened t) shows why has = (refl, subst (λ (x : Shot). HasRecovered sum size old new a b x) (sym shows) has)
-recovered_step sum size old new a b s (reply.Recovered t e) shows why has = (refl, subst (λ (x : Shot). HasRecovered sum size old new a b x) (sym shows) has, subst (λ (x : Shot). NotOpened size x e) (sym shows) why)
+pub recovered_step : (sum : List ℕ → ℕ) (size : ℕ) (old new : Trace) (a b : Standing) (s : Shot) (r : Reply) → IsRecovery s r → SaysWhy size s r → HasRecovered sum size old new a b s (shows_open r) → IsStep sum size old new command.Open r a b
+recovered_step sum size old new a b s (reply.Opened t) shows why has = (refl, subst (λ (x : Shot). HasRecovered sum size old new a b x true) (sym shows) has)
+recovered_step sum size old new a b s (reply.Recovered t e) shows why has = (refl, subst (λ (x : Shot). HasRecovered sum size old new a b x false) (sym shows) has, subst (λ (x : Shot). NotOpened size x e) (sym shows) why)
 recovered_step sum size old new a b s (reply.Reserved place pointer) shows why has = absurd shows
 recovered_step sum size old new a b s (reply.Done place pointer) shows why has = absurd shows
 recovered_step sum size old new a b s (reply.Flushed n) shows why has = absurd shows
@@ -210,7 +211,7 @@ carried trace sum phase c d result is carries = subst (λ (x : Command). Carries
 pub crash_closed : {D C : Type 0} (trace : D → Trace) (sum : List ℕ → ℕ) (config : RunningConfig D C) (c : Command) (choice : Choice) (result : Phase D C × Reply) → c ≡ command.Crash choice → CrashesInto trace sum config choice result
     → CarriesOut trace sum (phase.Closed config) c result
 crash_closed trace sum config c choice result is crashes =
-    carried trace sum (phase.Closed config) (command.Crash choice) c result is (λ a at own. let made = crashes a (ended_at sum config.config.segment_size (trace config.device) a at) own in (ended a, made.0, made.1))
+    carried trace sum (phase.Closed config) (command.Crash choice) c result is (λ a at own. let made = crashes a (ended_at sum config.config.segment_size (trace config.device) a at) own in (opened_as a false, made.0, made.1))
 
 -- and while one is, once it is given up
 pub crash_open : {D C : Type 0} (trace : D → Trace) (sum : List ℕ → ℕ) (opened : Opened D C) (config : RunningConfig D C) (c : Command) (choice : Choice) (result : Phase D C × Reply) → config ≡ config_of opened.log → c ≡ command.Crash choice → CrashesInto trace sum config choice result
@@ -219,12 +220,12 @@ pub crash_open : {D C : Type 0} (trace : D → Trace) (sum : List ℕ → ℕ) (
 crash_open trace sum opened config c choice result is_config is crashes a at own =
     let from : CrashesInto trace sum (config_of opened.log) choice result = subst (λ (x : RunningConfig _ _). CrashesInto trace sum x choice result) is_config crashes in
     let made = from a (closed_at trace sum opened (config_of opened.log) a refl at) own in
-    (ended a, subst (λ (x : Command). IsStep sum (segment_size_of opened.log) (trace (device_of opened.log)) (trace_of trace result.0) x result.1 a (ended a)) (sym is) made.0, made.1)
+    (opened_as a false, subst (λ (x : Command). IsStep sum (segment_size_of opened.log) (trace (device_of opened.log)) (trace_of trace result.0) x result.1 a (opened_as a false)) (sym is) made.0, made.1)
 
 -- a log that is given up
 pub halt_open : {D C : Type 0} (trace : D → Trace) (sum : List ℕ → ℕ) (opened : Opened D C) (config : RunningConfig D C) (c : Command) → config ≡ config_of opened.log → c ≡ command.Halt → (a : Standing) → IsOpenAt trace sum opened a
     → (b : Standing) × IsStep sum (segment_size_of opened.log) (trace (device_of opened.log)) (trace config.device) c reply.Halted a b × IsClosedAt sum (segment_size_of opened.log) (trace config.device) b
-halt_open trace sum opened config c is_config is a at = (ended a, (ap (λ (x : RunningConfig _ _). trace x.device) is_config, is, refl), closed_at trace sum opened config a is_config at)
+halt_open trace sum opened config c is_config is a at = (opened_as a false, (ap (λ (x : RunningConfig _ _). trace x.device) is_config, is, refl), closed_at trace sum opened config a is_config at)
 
 -- so is the error of a start that is refused neither for damage nor for want of places
 pub start_of_device : (e : Error) (startable in_reach unwritten : Type 0) (before after : ℕ) → StartRefuses e startable in_reach unwritten before after → (IsCorrupt e → ⊥) → (e ≢ error.PlacesUsedUp) → IsOfDevice e

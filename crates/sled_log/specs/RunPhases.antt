@@ -1,5 +1,5 @@
 -- What stands in each phase of a run, for where the run stands.
-use Rattle.std.specs.Prelude.{◌≡◌, ◌^◌, ◌-◌, ◌<◌, ℕ, List, length, None, Some, Contains}
+use Rattle.std.specs.Prelude.{◌≡◌, ◌^◌, ◌-◌, ◌<◌, ℕ, List, length, None, Some, Contains, Bool, true, false}
 use Rattle.std.specs.List.{All}
 use Rattle.sled_codec.specs.declared.serialization.message.LogKind.TheVariants.{Replace}
 use Rattle.sled_codec.specs.History.{Message, History}
@@ -19,7 +19,7 @@ use Rattle.sled_log.specs.declared.run.Reply.{Reply}
 use Rattle.sled_log.specs.declared.run.Reply.TheVariants as reply
 use Rattle.sled_store.specs.declared.device.choice.Choice.{Choice}
 use Rattle.sled_log.specs.declared.run.Command.TheVariants as command
-use Rattle.sled_log.specs.Runs.{Standing, ended, NotOpened, IsLater, OwnThroughout, IsStep}
+use Rattle.sled_log.specs.Runs.{Standing, opened_as, NotOpened, IsLater, OwnThroughout, IsStep}
 
 -- a message of a page lies below a place
 pub record HasBelow (messages : List Message) (page place : ℕ) : Type 0 where
@@ -51,6 +51,7 @@ pub record HasMessageOf (messages : List Message) (page : ℕ) : Type 0 where
 pub record IsClosedAt (sum : List ℕ → ℕ) (size : ℕ) (trace : Trace) (a : Standing) : Type 0 where
   pub formed : IsOfReplaces a.history
   pub left : LeavesRecoverable sum size a.history a.acknowledged a.floor (state_of trace)
+  pub closed : a.is_open ≡ false
   pub none : a.reserved ≡ None
 
 -- A log is open that fits the history, with a pin out.
@@ -59,6 +60,7 @@ pub record IsOpenAt {D C : Type 0} (trace : D → Trace) (sum : List ℕ → ℕ
   pub unmarked : List Message
   pub fits : Fits trace sum opened.log a.history a.acknowledged a.floor unmarked
   pub pinned : 0 < pins_of opened.log
+  pub is_open : a.is_open ≡ true
   pub begun : (page : ℕ) → page < opened.begun → HasMessageOf a.history.messages page
 
 -- What stands in a phase.
@@ -96,8 +98,8 @@ CarriesOut trace sum phase command result =
 abbrev pub CrashesInto : {D C : Type 0} → (D → Trace) → (List ℕ → ℕ) → RunningConfig D C → Choice → Phase D C × Reply → Type 0
 CrashesInto trace sum config choice result =
     let size = config.config.segment_size in
-    (a : Standing) → IsClosedAt sum size (trace config.device) (ended a) → OwnThroughout sum size (trace config.device) (trace_of trace result.0)
-    → IsStep sum size (trace config.device) (trace_of trace result.0) (command.Crash choice) result.1 a (ended a) × IsAt trace sum size result.0 (ended a)
+    (a : Standing) → IsClosedAt sum size (trace config.device) (opened_as a false) → OwnThroughout sum size (trace config.device) (trace_of trace result.0)
+    → IsStep sum size (trace config.device) (trace_of trace result.0) (command.Crash choice) result.1 a (opened_as a false) × IsAt trace sum size result.0 (opened_as a false)
 
 -- whatever happened, the next phase goes on from the one before
 pub record Continues {D C : Type 0} (trace : D → Trace) (phase next : Phase D C) : Type 0 where
@@ -116,6 +118,11 @@ abbrev pub IsRecovery : Shot → Reply → Type 0
 IsRecovery s (reply.Opened t) = shot_of t ≡ s
 IsRecovery s (reply.Recovered t e) = shot_of t ≡ s
 IsRecovery s _ = ⊥
+
+-- it says whether a log is open
+abbrev pub shows_open : Reply → Bool
+shows_open (reply.Opened t) = true
+shows_open _ = false
 
 -- where it says that no log is open, it says why
 abbrev pub SaysWhy : ℕ → Shot → Reply → Type 0

@@ -3,15 +3,15 @@
 //!
 //! A run begins on an empty device with no log open. One reservation is open at a time, and all messages are
 //! Replaces. A command that is out of its turn is refused.
-ghost use Rattle.std.specs.Prelude.{◌≡◌, ◌^◌, ◌-◌, ◌<◌, ℕ, length, IfOk, None, []};
+ghost use Rattle.std.specs.Prelude.{◌≡◌, ◌^◌, ◌-◌, ◌<◌, ℕ, length, IfOk, None, [], true};
 ghost use Rattle.sled_codec.specs.History.{History};
 ghost use Rattle.sled_codec.specs.Snapshots.{shot_of};
 ghost use Rattle.sled_store.specs.Device.{state_of, fresh};
 ghost use Rattle.sled_store.specs.SnapshotFiles.{stable_place};
 ghost use Rattle.sled_core.specs.Fits.{IsOpen, pins_of, fault_of, config_of, device_of, segment_size_of};
 ghost use Rattle.sled_core.specs.Running.{Fits, Ready};
-ghost use Rattle.sled_log.specs.Runs.{OwnThroughout, Standing, nothing_yet, Runs};
-ghost use Rattle.sled_log.specs.RunPhases.{IsOfReplaces, HasMessageOf, IsRecoveredAt, IsRecovery, SaysWhy, IsAt, trace_of, size_of, CanGoOn, CarriesOut, CrashesInto, Continues};
+ghost use Rattle.sled_log.specs.Runs.{OwnThroughout, Standing, opened_as, nothing_yet, Runs};
+ghost use Rattle.sled_log.specs.RunPhases.{IsOfReplaces, HasMessageOf, IsRecoveredAt, IsRecovery, SaysWhy, shows_open, IsAt, trace_of, size_of, CanGoOn, CarriesOut, CrashesInto, Continues};
 
 use crate::snapshot::{Snapshot, read_snapshot_or_default};
 use sled_codec::result::{DiskPtr, Error, Lsn, PageId};
@@ -203,7 +203,7 @@ fn start<D: CrashDevice, C: Checksum>(
     config: RunningConfig<D, C>,
     snapshot: Snapshot,
 ) -> (Phase<D, C>, Reply)
-    ensures step { (a : Standing) → IsRecoveredAt D.trace C.sum_of config (shot_of snapshot) a → OwnThroughout C.sum_of config.config.segment_size (D.trace config.device) (trace_of D.trace result.0) → IsAt D.trace C.sum_of config.config.segment_size result.0 a × SaysWhy config.config.segment_size (shot_of snapshot) result.1 }
+    ensures step { (a : Standing) → IsRecoveredAt D.trace C.sum_of config (shot_of snapshot) a → OwnThroughout C.sum_of config.config.segment_size (D.trace config.device) (trace_of D.trace result.0) → IsAt D.trace C.sum_of config.config.segment_size result.0 (opened_as a (shows_open result.1)) × SaysWhy config.config.segment_size (shot_of snapshot) result.1 }
     ensures reply { IsRecovery (shot_of snapshot) result.1 }
     ensures on { Continues D.trace (Phase.Closed config) result.0 }
 {
@@ -219,8 +219,8 @@ fn start<D: CrashDevice, C: Checksum>(
 /// A log that was started on a snapshot, with a pin out.
 fn opened_on<D: CrashDevice, C: Checksum>(log: Log<D, C>, snapshot: &Snapshot) -> Phase<D, C>
     requires pins { pins_of log ≡ 0 }
-    ensures fits { (a : Standing) → IsOfReplaces a.history → ((page : ℕ) → page < length snapshot.now.pt.items → HasMessageOf a.history.messages page) → a.reserved ≡ None
-        → Fits D.trace C.sum_of log a.history a.acknowledged a.floor [] → IsAt D.trace C.sum_of (segment_size_of log) result a }
+    ensures fits { (a : Standing) → IsOfReplaces a.history → ((page : ℕ) → page < length snapshot.now.pt.items → HasMessageOf a.history.messages page)
+        → Fits D.trace C.sum_of log a.history a.acknowledged a.floor [] → IsAt D.trace C.sum_of (segment_size_of log) result (opened_as a true) }
     ensures trace { trace_of D.trace result ≡ D.trace (device_of log) }
     ensures size { size_of result ≡ segment_size_of log }
     ensures can_go_on { CanGoOn result }

@@ -16,6 +16,7 @@ returns-clause-step g c = λ a at own.
         formed = at.formed;
         left = crash_recoverable sum c.args.config.config.segment_size a.history a.acknowledged a.floor old new (if taken then left_of c.args.choice else Settled []) at.left c.crash-taken.ensures.left
             (left_by old c.args.choice taken c.crash-taken.ensures.taken.0) own;
+        closed = refl;
         none = refl;
       },
     )

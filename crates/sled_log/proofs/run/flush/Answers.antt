@@ -16,7 +16,7 @@ returns-in-Ok-clause-step g c = λ a at own.
     let holds = fits_holds trace sum old H a.acknowledged a.floor opened.unmarked opened.fits in
     let past = fits_acknowledged trace sum old H a.acknowledged a.floor opened.unmarked opened.fits in
     let grown : synced_end old ≤ synced_end new = omega (arith, c.in-Ok.ensures.answer) in (
-      record { history = H; acknowledged = synced_end new; floor = a.floor; reserved = None },
+      record { history = H; acknowledged = synced_end new; floor = a.floor; is_open = a.is_open; reserved = None },
       (
         later_performed _ _ _ c.flush.ensures.at_most,
         refl,
@@ -25,6 +25,7 @@ returns-in-Ok-clause-step g c = λ a at own.
           all = kept_past sum (segment_size_of new) new.site _ _ H (c.in-Ok.ensures.records H holds);
           more = omega (arith, past, grown);
           floor = refl;
+          opened = refl;
           reserved = sym at.1;
         },
       ),
@@ -34,6 +35,7 @@ returns-in-Ok-clause-step g c = λ a at own.
           unmarked = opened.unmarked;
           fits = c.in-Ok.ensures.acknowledges H a.acknowledged a.floor opened.unmarked opened.fits;
           pinned = subst (λ n. 0 < n) (sym c.flush.ensures.pins) opened.pinned;
+          is_open = opened.is_open;
           begun = opened.begun;
         },
         refl,
@@ -58,6 +60,7 @@ returns-in-Err-clause-step g c = λ a at own.
           unmarked = opened.unmarked;
           fits = c.flush.ensures.fits a.history a.acknowledged a.floor opened.unmarked opened.fits;
           pinned = subst (λ n. 0 < n) (sym c.flush.ensures.pins) opened.pinned;
+          is_open = opened.is_open;
           begun = opened.begun;
         },
         at.1,

@@ -1,4 +1,4 @@
-use Rattle.std.proofs.Common.{◌≡◌, ◌∙◌, ◌<◌, ℕ, refl, sym, ap, subst, None}
+use Rattle.std.proofs.Common.{◌≡◌, ◌∙◌, ◌<◌, ℕ, refl, sym, ap, subst, None, false, Bool}
 use Rattle.sled_codec.specs.History.{below}
 use Rattle.sled_codec.specs.Snapshots.{Shot, shot_of}
 use Rattle.sled_store.specs.declared.config.Config.{Config}
@@ -6,11 +6,11 @@ use Rattle.sled_store.specs.Device.{Trace, state_of}
 use Rattle.sled_store.specs.SnapshotFiles.{stable_place}
 use Rattle.sled_codec.specs.declared.serialization.snapshot.Snapshot.{Snapshot}
 use Rattle.sled_log.specs.Orderly.{CanRecover}
-use Rattle.sled_log.specs.Runs.{Standing, IsLater, OwnThroughout}
+use Rattle.sled_log.specs.Runs.{Standing, opened_as, IsLater, OwnThroughout}
 use Rattle.sled_store.proofs.MomentLemmas.{at_last}
 use Rattle.sled_core.specs.Recoverable.{LeavesRecoverable}
 use Rattle.sled_core.specs.Running.{Ready}
-use Rattle.sled_log.specs.RunPhases.{IsAt, IsClosedAt, IsRecoveredAt, SaysWhy, trace_of}
+use Rattle.sled_log.specs.RunPhases.{IsAt, IsClosedAt, IsRecoveredAt, SaysWhy, shows_open, trace_of}
 use Rattle.sled_log.proofs.RunHistories.{orderly, forgotten, has_of_table}
 use Rattle.sled_log.proofs.RunLemmas.{later_both, later_recovered, own_here, own_rest, recovered_step, of_device}
 use Rattle.sled_log.proofs.run.open.Goals as goal
@@ -27,19 +27,20 @@ returns-in-Ok-clause-step g c = λ a at own.
     let first : IsLater old mid = later_recovered sum size old mid c.read_snapshot_or_default.ensures.calls in
     let second : IsLater mid new = c.start.ensures.on.later in
     let can : CanRecover sum size (state_of old) a.history a.acknowledged a.floor = record { orderly = orderly a.history at.formed; left = at.left; own = own_here sum size old new (later_both old mid new first second) own } in
-    let b : Standing = record { history = below a.history (stable_place s.stable); acknowledged = a.acknowledged; floor = stable_place s.stable; reserved = None } in
+    let b : Standing = record { history = below a.history (stable_place s.stable); acknowledged = a.acknowledged; floor = stable_place s.stable; is_open = false; reserved = None } in
     let good = c.in-Ok.ensures.good a.history a.acknowledged a.floor can in
     let sizes : c.read_snapshot_or_default.new.config.config.segment_size ≡ size = ap (λ (x : Config). x.segment_size) c.read_snapshot_or_default.ensures.config in
     let recovered : IsRecoveredAt trace sum c.read_snapshot_or_default.new.config s b = record {
-      closed = subst (λ n. IsClosedAt sum n mid b) (sym sizes) (record { formed = forgotten a.history (stable_place s.stable) at.formed; left = c.in-Ok.ensures.kept a.history a.acknowledged a.floor can; none = refl });
+      closed = subst (λ n. IsClosedAt sum n mid b) (sym sizes) (record { formed = forgotten a.history (stable_place s.stable) at.formed; left = c.in-Ok.ensures.kept a.history a.acknowledged a.floor can; closed = refl; none = refl });
       ready = subst (λ n. stable_place s.stable < n → Ready sum n (state_of mid) s b.history b.acknowledged b.floor) (sym sizes) (c.in-Ok.ensures.ready a.history a.acknowledged a.floor can);
       begun = has_of_table a.history (stable_place s.stable) s.pages good.table;
     } in
     let rest : OwnThroughout sum size mid new = own_rest sum size old mid new first own in
-    let there = c.start.ensures.step b recovered (subst (λ n. OwnThroughout sum n mid new) (sym sizes) rest) in (
-      b,
-      recovered_step sum size old new a b s c.start.result.1 c.start.ensures.reply (subst (λ n. SaysWhy n s c.start.result.1) sizes there.1) (record { at = mid; from = first; to = second; good = good; history = refl; acknowledged = refl; floor = refl; reserved = refl }),
-      subst (λ n. IsAt trace sum n c.start.result.0 b) sizes there.0,
+    let there = c.start.ensures.step b recovered (subst (λ n. OwnThroughout sum n mid new) (sym sizes) rest) in
+    let opens : Bool = shows_open c.start.result.1 in (
+      opened_as b opens,
+      recovered_step sum size old new a (opened_as b opens) s c.start.result.1 c.start.ensures.reply (subst (λ n. SaysWhy n s c.start.result.1) sizes there.1) (record { at = mid; from = first; to = second; good = good; history = refl; acknowledged = refl; floor = refl; opened = refl; reserved = refl }),
+      subst (λ n. IsAt trace sum n c.start.result.0 (opened_as b opens)) sizes there.0,
     )
 
 pub returns-in-Ok-clause-on : goal.returns-in-Ok-clause-on
@@ -65,6 +66,7 @@ returns-in-Err-clause-step g c = λ a at own.
       record {
         formed = at.formed;
         left = at_last (LeavesRecoverable sum size a.history a.acknowledged a.floor) old mid (c.read_snapshot_or_default.ensures.recoverable a.history a.acknowledged a.floor can);
+        closed = at.closed;
         none = at.none;
       },
     )

@@ -1,4 +1,4 @@
-use Rattle.std.proofs.Common.{◌<◌, ◌∙◌, ap, rules, length}
+use Rattle.std.proofs.Common.{refl, ◌<◌, ◌∙◌, ap, rules, length}
 use Rattle.sled_core.specs.Recoverable.{LeavesRecoverable}
 use Rattle.sled_codec.specs.Snapshots.{shot_of}
 use Rattle.sled_store.specs.SnapshotFiles.{stable_place}
@@ -24,7 +24,8 @@ returns-in-Err-clause-step g c = λ a at own.
       record {
         formed = at.closed.formed;
         left = at_last (LeavesRecoverable g.C.Checksum.sum_of size a.history a.acknowledged a.floor) _ _ (c.in-Err.ensures.crash_err a.history a.acknowledged a.floor (at.ready below));
-        none = at.closed.none;
+        closed = refl;
+        none = refl;
       },
       start_of_device c.in-Err.e _ _ _ _ _ c.in-Err.ensures.refused starts.0 starts.1,
     )
