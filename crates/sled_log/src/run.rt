@@ -3,13 +3,11 @@
 //!
 //! A run begins on an empty device with no log open. One reservation is open at a time, and all messages are
 //! Replaces. A command that is out of its turn is refused.
-ghost use Rattle.std.specs.Prelude.{◌≡◌, ◌^◌, ◌-◌, ◌<◌, ℕ, length, IfOk, None, [], true};
-ghost use Rattle.sled_codec.specs.History.{History};
+ghost use Rattle.std.specs.Prelude.{◌≡◌, ◌^◌, ◌-◌, ◌<◌, ℕ, length, IfOk, IfErr, None, [], true};
 ghost use Rattle.sled_codec.specs.Snapshots.{shot_of};
 ghost use Rattle.sled_store.specs.Device.{state_of, fresh};
-ghost use Rattle.sled_store.specs.SnapshotFiles.{stable_place};
-ghost use Rattle.sled_core.specs.Fits.{IsOpen, pins_of, fault_of, config_of, device_of, segment_size_of};
-ghost use Rattle.sled_core.specs.Running.{Fits, Ready};
+ghost use Rattle.sled_core.specs.Fits.{IsOpen, pins_of, config_of, device_of, segment_size_of};
+ghost use Rattle.sled_core.specs.Running.{Fits};
 ghost use Rattle.sled_log.specs.Runs.{OwnThroughout, Standing, opened_as, nothing_yet, Runs};
 ghost use Rattle.sled_log.specs.RunPhases.{IsOfReplaces, HasMessageOf, IsRecoveredAt, IsRecovery, SaysWhy, shows_open, IsAt, trace_of, size_of, CanGoOn, CarriesOut, CrashesInto, Continues};
 
@@ -97,6 +95,7 @@ pub fn run<D: CrashDevice, C: Checksum>(
     config: RunningConfig<D, C>,
     commands: Vec<Command>,
 ) -> (RunningConfig<D, C>, Result<Vec<Reply>, AllocError>)
+    ensures refused { IfErr result.1 (λ e. result.0 ≡ config) }
     ensures headline { state_of (D.trace config.device) ≡ fresh → IfOk result.1 (λ replies. OwnThroughout C.sum_of config.config.segment_size (D.trace config.device) (D.trace result.0.device)
         → (end : Standing) × Runs C.sum_of config.config.segment_size (D.trace config.device) nothing_yet commands.items replies.items (D.trace result.0.device) end) }
 {
@@ -118,8 +117,8 @@ pub fn run<D: CrashDevice, C: Checksum>(
 /// Carries out a command.
 fn step<D: CrashDevice, C: Checksum>(phase: Phase<D, C>, command: Command) -> (Phase<D, C>, Reply)
     requires can_go_on { CanGoOn phase }
-    ensures step { CarriesOut D.trace C.sum_of (phase) (command) result }
-    ensures on { Continues D.trace (phase) result.0 }
+    ensures step { CarriesOut D.trace C.sum_of phase command result }
+    ensures on { Continues D.trace phase result.0 }
 {
     match phase {
         Phase::Closed(config) => step_closed(config, command),
@@ -133,7 +132,7 @@ fn step_closed<D: CrashDevice, C: Checksum>(
     config: RunningConfig<D, C>,
     command: Command,
 ) -> (Phase<D, C>, Reply)
-    ensures step { CarriesOut D.trace C.sum_of (Phase.Closed config) (command) result }
+    ensures step { CarriesOut D.trace C.sum_of (Phase.Closed config) command result }
     ensures on { Continues D.trace (Phase.Closed config) result.0 }
 {
     match command {
@@ -151,7 +150,7 @@ fn step_open<D: CrashDevice, C: Checksum>(
     opened: Opened<D, C>,
     command: Command,
 ) -> (Phase<D, C>, Reply)
-    ensures step { CarriesOut D.trace C.sum_of (Phase.Open opened) (command) result }
+    ensures step { CarriesOut D.trace C.sum_of (Phase.Open opened) command result }
     ensures on { Continues D.trace (Phase.Open opened) result.0 }
 {
     match command {
@@ -173,7 +172,7 @@ fn step_waiting<D: CrashDevice, C: Checksum>(
 ) -> (Phase<D, C>, Reply)
     requires open { IsOpen opened.log ticket.reservation }
     requires page { ticket.page < 2 ^ 64 - 1 }
-    ensures step { CarriesOut D.trace C.sum_of (Phase.Waiting opened ticket) (command) result }
+    ensures step { CarriesOut D.trace C.sum_of (Phase.Waiting opened ticket) command result }
     ensures on { Continues D.trace (Phase.Waiting opened ticket) result.0 }
 {
     match command {
