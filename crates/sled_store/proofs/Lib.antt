@@ -1,3 +1,4 @@
+pub mod BlobLemmas
 mod CrashLemmas
 mod CrashLogLemmas
 pub mod ForeignLemmas

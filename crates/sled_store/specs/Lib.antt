@@ -1,4 +1,5 @@
 pub mod Answers
+pub mod Blobs
 pub mod Chosen
 pub mod Device
 pub mod Due
@@ -11,3 +12,4 @@ pub mod Noted
 pub mod Script
 pub mod Segments
 pub mod SnapshotFiles
+pub mod Words

@@ -5,8 +5,10 @@
 //! `docs/DEVICE.md`.
 #![tactic(auto)]
 
+pub mod blob_io;
 pub mod config;
 pub mod device;
+pub mod header;
 pub mod snapshot;
 
 pub use config::{Config, RunningConfig};

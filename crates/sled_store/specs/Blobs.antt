@@ -1,0 +1,77 @@
+-- Items that lie beside the log, each in a file of its own under the place of its message.
+use Rattle.std.specs.Prelude.{◌≡◌, ◌⊎◌, ◌↔◌, ◌≤◌, ◌≤ℤ◌, ◌+◌, ◌%◌, ◌^◌, ◌<◌, ℕ, ℤ, Bool, true, List, [], ◌∷◌, ◌++◌, length, map, filter, int_le, Option, Some, None, IsSome, IsTrue, Result, Ok, Err, Contains}
+use Rattle.std.specs.IoError.{error_kind}
+use Rattle.std.specs.List.Sorted.{IsStrictlySortedBy}
+use Rattle.std.specs.Ordering.{int_cmp}
+use Rattle.std.specs.declared.io.ErrorKind.{ErrorKind}
+use Rattle.std.specs.declared.io.ErrorKind.TheVariants.{NotFound, AlreadyExists}
+use Rattle.sled_codec.specs.declared.result.DiskPtr.TheVariants.{Blob}
+use Rattle.sled_codec.specs.declared.result.Error.{Error}
+use Rattle.sled_codec.specs.declared.result.Error.TheVariants.{Io, OutOfMemory, Corruption}
+use Rattle.sled_codec.specs.declared.serialization.message.MessageKind.{MessageKind}
+use Rattle.sled_codec.specs.Kinds.{code_of, kind_of}
+use Rattle.sled_codec.specs.Spelling.{low_bytes}
+use Rattle.sled_store.specs.Answers.{is_fault}
+use Rattle.sled_store.specs.Device.{Content, State, Leaves, Event, BlobMade, BlobSynced, BlobRemoved, NamesSynced}
+
+-- The bytes of a blob that passes: a checksum, the code of a kind, and an item.
+abbrev pub blob_bytes : (List ℕ → ℕ) → ℕ → List ℕ → List ℕ
+blob_bytes sum code item = low_bytes 4 (sum (code ∷ item)) ++ code ∷ item
+
+-- what a blob with these bytes holds: the kind whose code it has, and the item
+pub record HoldsItem (sum : List ℕ → ℕ) (bytes : List ℕ) (kind : MessageKind) (item : List ℕ) : Type 0 where
+  pub code : ℕ
+  pub is : bytes ≡ blob_bytes sum code item
+  pub kind_is : kind ≡ kind_of code
+
+-- no kind and item make a blob of these bytes
+abbrev pub IsDamagedBlob : (List ℕ → ℕ) → List ℕ → Type 0
+IsDamagedBlob sum bytes = (code : ℕ) (item : List ℕ) → bytes ≡ blob_bytes sum code item → ⊥
+
+-- every crash leaves a blob of these bytes at a place
+abbrev pub KeepsBlob : State → ℤ → List ℕ → Type 0
+KeepsBlob s place bytes = (left : Content) → Leaves s left → left.blobs place ≡ Some bytes
+
+-- The calls that make a blob: it is made, its bytes are synced, and then names are.
+abbrev pub making : ℤ → List ℕ → List Event
+making place bytes = BlobMade place bytes bytes true ∷ BlobSynced place ∷ NamesSynced ∷ []
+
+-- the calls that remove the blobs of these places
+abbrev pub removing_blobs : List ℤ → List Event
+removing_blobs places = map (λ p. BlobRemoved p true) places
+
+-- these are all places of blobs from one on, in ascending order
+pub record AreFrom (file : ℤ → Option (List ℕ)) (least : ℤ) (places : List ℤ) : Type 0 where
+  pub each : (p : ℤ) → Contains places p ↔ (IsSome (file p) × (least ≤ℤ p))
+  pub ascending : IsStrictlySortedBy int_cmp places
+
+-- those of a list from one on
+abbrev pub from_place : ℤ → List ℤ → List ℤ
+from_place least places = filter (λ p. int_le least p) places
+
+-- Places of blobs that may have been removed where a call failed: all from one on, or none where they could not be listed.
+abbrev pub MayGo : (ℤ → Option (List ℕ)) → ℤ → List ℤ → Type 0
+MayGo file least places = (places ≡ []) ⊎ AreFrom file least places
+
+-- Why a blob was not made: one is there, the device failed, or memory was refused.
+abbrev pub MakeAnswers : {T : Type 0} → Result T Error → Option (List ℕ) → ℕ → ℕ → Type 0
+MakeAnswers (Ok _) file before after = (file ≡ None) × (after ≡ before)
+MakeAnswers (Err (Io e)) file before after = (IsTrue (is_fault e) × (after ≡ (before + 1) % 2 ^ 64)) ⊎ ((error_kind e ≡ AlreadyExists) × IsSome file × (after ≡ before))
+MakeAnswers (Err OutOfMemory) file before after = after ≡ before
+MakeAnswers (Err _) file before after = ⊥
+
+-- Why a blob was not read: it is missing or damaged, the device failed, or memory was refused. Damage names the blob where its checksum fails, and nothing where it is too short to have one.
+abbrev pub BlobAnswers : {T : Type 0} → (List ℕ → ℕ) → ℤ → Result T Error → Option (List ℕ) → ℕ → ℕ → Type 0
+BlobAnswers sum place (Ok _) file before after = IsSome file × (after ≡ before)
+BlobAnswers sum place (Err (Io e)) file before after = (IsTrue (is_fault e) × (after ≡ (before + 1) % 2 ^ 64)) ⊎ ((error_kind e ≡ NotFound) × (file ≡ None) × (after ≡ before))
+BlobAnswers sum place (Err OutOfMemory) file before after = after ≡ before
+BlobAnswers sum place (Err (Corruption None)) file before after = (after ≡ before) × (bytes : List ℕ) × (file ≡ Some bytes) × (length bytes < 5)
+BlobAnswers sum place (Err (Corruption (Some (Blob lid at)))) file before after = (after ≡ before) × (lid ≡ 0) × (at ≡ place) × (bytes : List ℕ) × (file ≡ Some bytes) × (5 ≤ length bytes) × IsDamagedBlob sum bytes
+BlobAnswers sum place (Err _) file before after = ⊥
+
+-- Why blobs were not removed: the device failed, or memory was refused.
+abbrev pub RemoveAnswers : {T : Type 0} → Result T Error → ℕ → ℕ → Type 0
+RemoveAnswers (Ok _) before after = after ≡ before
+RemoveAnswers (Err (Io e)) before after = IsTrue (is_fault e) × (after ≡ (before + 1) % 2 ^ 64)
+RemoveAnswers (Err OutOfMemory) before after = after ≡ before
+RemoveAnswers (Err _) before after = ⊥
