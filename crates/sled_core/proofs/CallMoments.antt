@@ -1,6 +1,5 @@
 -- What a crash leaves stays recoverable over a call, also where that is torn, if it is recoverable behind the whole call.
-use Rattle.std.proofs.Common.{◌≡◌, ◌⊎◌, ◌≤◌, ◌<◌, ◌^◌, ℕ, ℤ, List, [], ◌∷◌, length, replicate}
-use Rattle.sled_codec.specs.Record.{IsHeader}
+use Rattle.std.proofs.Common.{◌≡◌, ◌⊎◌, ◌≤◌, ◌<◌, ◌^◌, ℕ, List, [], ◌∷◌, length}
 use Rattle.sled_codec.specs.History.{History}
 use Rattle.sled_store.specs.Device.{Event, State, Content, step, Synced, NamesSynced, Crashed, LeavesLog, Left, content_of, content_left, log_left, blobs_left, snapshots_left}
 use Rattle.sled_store.specs.Answers.{Tears}

@@ -1,5 +1,5 @@
 -- What a crash leaves while the write of a flush is not settled yet can be recovered: of its records the first ones came, or the segment was not begun.
-use Rattle.std.proofs.Common.{◌≡◌, ◌≤◌, ◌<◌, ◌+◌, ◌/◌, ◌^◌, ◌∙◌, ℕ, max, true, pos, List, ◌++◌, length, take, drop, replicate, Option, None, ap, sym, subst, arith, inl, inr, append_assoc, length-drop}
+use Rattle.std.proofs.Common.{◌≡◌, ◌≤◌, ◌<◌, ◌+◌, ◌/◌, ◌^◌, ◌∙◌, ℕ, max, true, pos, List, ◌∷◌, ◌++◌, length, take, drop, replicate, Option, None, ap, sym, subst, arith, inl, inr, append_assoc, length-drop}
 use Rattle.std.specs.List.{All}
 use Rattle.std.specs.declared.io.Error.{Error as IoError}
 use Rattle.std.proofs.Math.Nat.{zero-div}

@@ -1,5 +1,5 @@
 -- While the slot of a log that was never begun is filled with zeros, each crash leaves a content in which no segment was begun.
-use Rattle.std.proofs.Common.{◌≡◌, ◌⊎◌, ◌≤◌, ◌<◌, ◌+◌, ◌*◌, ◌/◌, ◌^◌, ◌∙◌, ℕ, zero, suc, ℤ, pos, max, Bool, true, false, if◌then◌else◌, List, [], ◌∷◌, length, take, replicate, get_or, refl, sym, ap, subst, arith, inl, inr}
+use Rattle.std.proofs.Common.{◌≡◌, ◌⊎◌, ◌≤◌, ◌<◌, ◌+◌, ◌-◌, ◌*◌, ◌/◌, ◌^◌, ◌∙◌, ℕ, zero, suc, ℤ, pos, max, Bool, true, false, if◌then◌else◌, List, [], ◌∷◌, length, replicate, get_or, refl, sym, ap, subst, arith, inl, inr}
 use Rattle.std.specs.List.{All}
 use Rattle.std.proofs.Math.Nat.{mod-add-div', div-eq_of_lt}
 use Rattle.std.proofs.lemmas.Bool.{cases_lt}
@@ -12,7 +12,7 @@ use Rattle.sled_codec.specs.Snapshots.{Shot}
 use Rattle.sled_codec.proofs.Segments.{length-short_header}
 use Rattle.sled_store.specs.Answers.{Tears}
 use Rattle.sled_store.specs.Device.{Event, Wrote, Synced, Trace, LogState, State, state_of, step}
-use Rattle.sled_store.specs.Foreign.{Covers, StandsWhole, NoForeignLog}
+use Rattle.sled_store.specs.Foreign.{StandsWhole, NoForeignLog}
 use Rattle.sled_store.specs.Moments.{LeavesOnly}
 use Rattle.sled_store.specs.Script.{Performs, Along}
 use Rattle.sled_store.specs.SnapshotFiles.{stable_place}
@@ -29,8 +29,8 @@ use Rattle.sled_core.proofs.FirstSegment.{recoverable_in_first}
 use Rattle.sled_core.proofs.UsedLemmas.{active_used, zero_part}
 
 -- zeros, and nothing behind them
-zeros_there : (n i : ℕ) → get_or (replicate n 0) i 0 ≡ 0
-zeros_there n i = elim (cases_lt i n) [ inl inside ↦ get_or-replicate n i 0 0 inside | inr past ↦ get_or_past (replicate n 0) i 0 (omega (arith, past, length-replicate {A = ℕ} n 0)) ]
+zeros_there : (n i : ℕ) → get_or {A = ℕ} (replicate n 0) i 0 ≡ 0
+zeros_there n i = elim (cases_lt i n) [ inl inside ↦ get_or-replicate n i 0 0 inside | inr past ↦ get_or_past {X = ℕ} (replicate n 0) i 0 (omega (arith, past, length-replicate {A = ℕ} n 0)) ]
 
 module _ (sum : List ℕ → ℕ) (size : ℕ) where
   -- each write was of zeros

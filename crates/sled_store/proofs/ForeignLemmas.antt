@@ -1,12 +1,11 @@
 -- What passes as the log's own by what was settled and asked for before a call, or when it was torn, does so after the whole call.
-use Rattle.std.proofs.Common.{◌≡◌, ◌∙◌, ◌&&◌, ◌*◌, ◌+◌, ◌/◌, ℕ, ℤ, pos, zero, length, take, drop, suc, Bool, true, false, is_some, if◌then◌else◌, List, [], ◌∷◌, ◌++◌, Option, Some, None, refl, sym, ap, subst, inl, inr, arith}
+use Rattle.std.proofs.Common.{◌≡◌, ◌∙◌, ◌&&◌, ◌*◌, ◌+◌, ℕ, ℤ, zero, length, take, drop, suc, Bool, true, false, is_some, if◌then◌else◌, List, [], ◌∷◌, ◌++◌, Option, Some, None, refl, sym, ap, subst, inl, inr, arith}
 use Rattle.std.specs.Ordering.{int_eq}
 use Rattle.std.specs.List.{Contains}
 use Rattle.std.proofs.lemmas.List.Elements.{Contains-append_right}
 use Rattle.sled_codec.specs.Places.{part}
 use Rattle.sled_store.specs.Device.{Event, NameState, LogState, NamesState, State, step, renamed, unnamed, settled_file, settled_files, at_rest, names_at_rest}
 use Rattle.sled_store.specs.Answers.{Tears}
-use Rattle.sled_codec.specs.Record.{IsHeader}
 use Rattle.sled_store.specs.Foreign.{StandsWhole, HeaderWasPlaced, RecordWasPlaced, NoForeignLog, NoForeignNames}
 use Rattle.sled_store.proofs.LeavesLemmas.{Asked, write, cut, make_blob, remove_blob, fill, publish, remove_snapshot}
 
