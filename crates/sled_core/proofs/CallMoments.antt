@@ -1,8 +1,7 @@
 -- What a crash leaves stays recoverable over a call, also where that is torn, if it is recoverable behind the whole call.
-use Rattle.std.proofs.Common.{◌≡◌, ◌⊎◌, ◌≤◌, ◌<◌, ◌^◌, ℕ, ℤ, List, [], ◌∷◌, length, replicate}
-use Rattle.sled_codec.specs.Record.{IsHeader}
+use Rattle.std.proofs.Common.{◌≡◌, ◌⊎◌, ◌≤◌, ◌<◌, ◌^◌, ℕ, List, [], ◌∷◌, length}
 use Rattle.sled_codec.specs.History.{History}
-use Rattle.sled_store.specs.Device.{Event, State, Content, step, Synced, NamesSynced, Crashed, LeavesLog, Left, content_of, log_left, blobs_left, snapshots_left}
+use Rattle.sled_store.specs.Device.{Event, State, Content, step, Synced, NamesSynced, Crashed, LeavesLog, Left, content_of, content_left, log_left, blobs_left, snapshots_left}
 use Rattle.sled_store.specs.Answers.{Tears}
 use Rattle.sled_store.specs.Foreign.{NoForeignLog}
 use Rattle.sled_store.specs.Script.{Along}
@@ -16,19 +15,19 @@ use Rattle.sled_core.proofs.FirstSegment.{recoverable_in_first}
 -- A content in which only the log's own writes pass by one state is such a one by each that knows more.
 own_still : (sum : List ℕ → ℕ) (size : ℕ) (s t : State) (left : Content) → Knows s t → NoForeign sum size s left → NoForeign sum size t left
 own_still sum size s t left knows own = record {
-  log = own_log sum size s.log t.log knows.log left.log own.log;
+  log = own_log sum size s.log t.log s.placed t.placed left.log knows.log knows.placed own.log;
   blobs = own_names _ s.blobs t.blobs left.blobs knows.blobs own.blobs;
   snapshots = own_names _ s.snapshots t.snapshots left.snapshots knows.snapshots own.snapshots;
   zeros = own.zeros;
 }
 
--- What is read behind a crash was settled by it, so all of it is the log's own, but that zeros might pass as a header.
-pub own_after_crash : (sum : List ℕ → ℕ) (size : ℕ) (left : Left) (s : State) → ((lsn mark : ℤ) → IsHeader sum (replicate 20 0) lsn mark → ⊥) → NoForeign sum size (step (Crashed left) s) (content_of (step (Crashed left) s))
-own_after_crash sum size left s zeros = record {
-  log = own_log_at_rest sum size (log_left left s.log);
+-- What a crash left is settled behind it, so what was the log's own in it is so still.
+pub own_after_crash : (sum : List ℕ → ℕ) (size : ℕ) (left : Left) (s : State) → NoForeign sum size s (content_left left s) → NoForeign sum size (step (Crashed left) s) (content_of (step (Crashed left) s))
+own_after_crash sum size left s own = record {
+  log = own_log_at_rest sum size s.log s.placed (log_left left s.log) own.log;
   blobs = own_names_at_rest _ (blobs_left left s.blobs);
   snapshots = own_names_at_rest _ (snapshots_left left s.snapshots);
-  zeros = zeros;
+  zeros = own.zeros;
 }
 
 module _ (sum : List ℕ → ℕ) (size : ℕ) (H : History) (A f : ℕ) where
@@ -64,7 +63,7 @@ pub record Reaches (sum : List ℕ → ℕ) (size : ℕ) (log : List ℕ) (H : H
 
 -- A state whose parts leave such a log file, no blob, and snapshots from which recovery can begin no further than that.
 pub parts_recoverable : (sum : List ℕ → ℕ) (size : ℕ) (H : History) (A f reached : ℕ) (s : State) → 256 ≤ size → size < 2 ^ 63 → H.batches ≡ []
-    → ((left : List ℕ) → LeavesLog s.log left → NoForeignLog sum size s.log left → Reaches sum size left H A reached) → NoBlobs s.blobs → NamesFit sum size s.snapshots H f reached
+    → ((left : List ℕ) → LeavesLog s.log left → NoForeignLog sum size s.log s.placed left → Reaches sum size left H A reached) → NoBlobs s.blobs → NamesFit sum size s.snapshots H f reached
     → LeavesRecoverable sum size H A f s
 parts_recoverable sum size H A f reached s large small batches log blobs names left leaves own =
     let reaches = log left.log leaves.log own.log in

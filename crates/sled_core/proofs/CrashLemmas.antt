@@ -1,5 +1,5 @@
 -- What a crash leaves while the write of a flush is not settled yet can be recovered: of its records the first ones came, or the segment was not begun.
-use Rattle.std.proofs.Common.{◌≡◌, ◌≤◌, ◌<◌, ◌+◌, ◌/◌, ◌^◌, ◌∙◌, ℕ, max, true, pos, List, ◌++◌, length, take, drop, replicate, Option, None, ap, sym, subst, arith, inl, inr, append_assoc, length-drop}
+use Rattle.std.proofs.Common.{◌≡◌, ◌≤◌, ◌<◌, ◌+◌, ◌/◌, ◌^◌, ◌∙◌, ℕ, max, true, pos, List, ◌∷◌, ◌++◌, length, take, drop, replicate, Option, None, ap, sym, subst, arith, inl, inr, append_assoc, length-drop}
 use Rattle.std.specs.List.{All}
 use Rattle.std.specs.declared.io.Error.{Error as IoError}
 use Rattle.std.proofs.Math.Nat.{zero-div}
@@ -70,8 +70,8 @@ module _ (sum : List ℕ → ℕ) (size : ℕ) (device : State) (fault : Option 
     log_leaves : LeavesLog (after_write old (first_site.slot + from) asked now) left.log
     log_leaves = subst (λ (s : LogState). LeavesLog (log_step (Wrote (first_site.slot + from) asked now) s) left.log) settled leaves.log
 
-    log_own : NoForeignLog sum size (after_write old (first_site.slot + from) asked now) left.log
-    log_own = subst (λ (s : LogState). NoForeignLog sum size (log_step (Wrote (first_site.slot + from) asked now) s) left.log) settled only_own.log
+    log_own : NoForeignLog sum size (after_write old (first_site.slot + from) asked now) ((first_site.slot + from, asked) ∷ device.placed) left.log
+    log_own = subst (λ (s : LogState). NoForeignLog sum size (log_step (Wrote (first_site.slot + from) asked now) s) ((first_site.slot + from, asked) ∷ device.placed) left.log) settled only_own.log
 
     can : CanBegin sum size left.snapshots H f from
     can = fits.names left.snapshots leaves.snapshots only_own.snapshots

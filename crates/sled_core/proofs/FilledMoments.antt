@@ -1,9 +1,9 @@
 -- While the slot of a log that was never begun is filled with zeros, each crash leaves a content in which no segment was begun.
-use Rattle.std.proofs.Common.{◌≡◌, ◌⊎◌, ◌≤◌, ◌<◌, ◌+◌, ◌*◌, ◌/◌, ◌^◌, ◌∙◌, ℕ, zero, suc, ℤ, pos, max, Bool, true, false, if◌then◌else◌, List, [], ◌∷◌, length, take, replicate, get_or, refl, sym, ap, subst, arith, inl, inr}
+use Rattle.std.proofs.Common.{◌≡◌, ◌⊎◌, ◌≤◌, ◌<◌, ◌+◌, ◌-◌, ◌*◌, ◌/◌, ◌^◌, ◌∙◌, ℕ, zero, suc, ℤ, pos, max, Bool, true, false, if◌then◌else◌, List, [], ◌∷◌, length, replicate, get_or, refl, sym, ap, subst, arith, inl, inr}
 use Rattle.std.specs.List.{All}
 use Rattle.std.proofs.Math.Nat.{mod-add-div', div-eq_of_lt}
 use Rattle.std.proofs.lemmas.Bool.{cases_lt}
-use Rattle.std.proofs.lemmas.List.{length-replicate, take-replicate, get_or_past}
+use Rattle.std.proofs.lemmas.List.{length-replicate, get_or-replicate, get_or_past}
 use Rattle.std.proofs.lemmas.List.Elements.{All-contains, All-cons}
 use Rattle.sled_codec.specs.Places.{part}
 use Rattle.sled_codec.specs.Record.{IsHeader}
@@ -12,7 +12,7 @@ use Rattle.sled_codec.specs.Snapshots.{Shot}
 use Rattle.sled_codec.proofs.Segments.{length-short_header}
 use Rattle.sled_store.specs.Answers.{Tears}
 use Rattle.sled_store.specs.Device.{Event, Wrote, Synced, Trace, LogState, State, state_of, step}
-use Rattle.sled_store.specs.Foreign.{HeaderWasLaid, NoForeignLog}
+use Rattle.sled_store.specs.Foreign.{StandsWhole, NoForeignLog}
 use Rattle.sled_store.specs.Moments.{LeavesOnly}
 use Rattle.sled_store.specs.Script.{Performs, Along}
 use Rattle.sled_store.specs.SnapshotFiles.{stable_place}
@@ -28,24 +28,32 @@ use Rattle.sled_core.proofs.FilledLemmas.{filled, begins_in, filled_ends, filled
 use Rattle.sled_core.proofs.FirstSegment.{recoverable_in_first}
 use Rattle.sled_core.proofs.UsedLemmas.{active_used, zero_part}
 
-module _ (sum : List ℕ → ℕ) (size : ℕ) where
-  -- each write began with zeros
-  abbrev pub AreZeros : List (ℕ × List ℕ) → Type 0
-  AreZeros writes = All (λ w. take 20 w.1 ≡ replicate 20 0) writes
+-- zeros, and nothing behind them
+zeros_there : (n i : ℕ) → get_or {A = ℕ} (replicate n 0) i 0 ≡ 0
+zeros_there n i = elim (cases_lt i n) [ inl inside ↦ get_or-replicate n i 0 0 inside | inr past ↦ get_or_past {X = ℕ} (replicate n 0) i 0 (omega (arith, past, length-replicate {A = ℕ} n 0)) ]
 
-  -- No segment is found, where none was begun and each write since began with zeros.
-  none_found : (past : LogState) (log : List ℕ) → NoneBegun sum size past.settled → AreZeros past.asked → NoForeignLog sum size past log → ((lsn mark : ℤ) → IsHeader sum (replicate 20 0) lsn mark → ⊥)
+module _ (sum : List ℕ → ℕ) (size : ℕ) where
+  -- each write was of zeros
+  abbrev pub AreZeros : List (ℕ × List ℕ) → Type 0
+  AreZeros writes = All (λ w. (i : ℕ) → get_or w.1 i 0 ≡ 0) writes
+
+  -- No segment is found, where none was begun and each write since was of zeros.
+  none_found : (past : LogState) (placed : List (ℕ × List ℕ)) (log : List ℕ) → NoneBegun sum size past.settled → AreZeros past.asked → NoForeignLog sum size past placed log → ((lsn mark : ℤ) → IsHeader sum (replicate 20 0) lsn mark → ⊥)
       → (s : Segment) → IsFoundSegment sum size log 0 s → ⊥
-  unfolding HeaderWasLaid
-  none_found past log none zeros own no_header s found =
+  unfolding StandsWhole
+  none_found past placed log none zeros own no_header s found =
       let there : s.slot / size * size ≡ s.slot = let begins = found.slot in omega (arith, mod-add-div' s.slot size, begins) in
-      let laid : HeaderWasLaid sum size past (s.slot / size) (part log (s.slot / size * size) 20) =
-      own.headers (s.slot / size) (pos s.place) s.mark (subst (λ n. IsHeader sum (part log n 20) (pos s.place) s.mark) (sym there) found.header) in
-      let here : part log s.slot 20 ≡ replicate 20 0 = elim laid [
+      let whole : StandsWhole past (s.slot / size * size) (part log (s.slot / size * size) 20) =
+      (own.headers (s.slot / size) (pos s.place) s.mark (subst (λ n. IsHeader sum (part log n 20) (pos s.place) s.mark) (sym there) found.header)).1 in
+      let twenty : length (part log s.slot 20) ≡ 20 = ap length found.header.is ∙ length-short_header sum (pos s.place) s.mark in
+      let here : part log s.slot 20 ≡ replicate 20 0 = elim (subst (λ n. StandsWhole past n (part log n 20)) there whole) [
         | inl stood ↦ (
-            let same : part past.settled s.slot 20 ≡ part log s.slot 20 = subst (λ n. part past.settled n 20 ≡ part log n 20) there stood in
+            let same : part past.settled s.slot 20 ≡ part log s.slot 20 = ap (part past.settled s.slot) (sym twenty) ∙ stood in
             sym same ∙ none s (record { slot = found.slot; header = subst (λ (l : List ℕ). IsHeader sum l (pos s.place) s.mark) (sym same) found.header; not_below = found.not_below }))
-        | inr write ↦ ap (λ n. part log n 20) (sym there) ∙ sym write.3 ∙ All-contains (λ (w : ℕ × List ℕ). take 20 w.1 ≡ replicate 20 0) past.asked write.0 zeros write.1
+        | inr write ↦ (
+            let same : part write.0.1 (s.slot - write.0.0) 20 ≡ part log s.slot 20 = ap (part write.0.1 (s.slot - write.0.0)) (sym twenty) ∙ write.2.same in
+            sym same
+            ∙ zero_part write.0.1 (s.slot - write.0.0) 20 (ap length same ∙ twenty) (λ i low high. All-contains (λ (w : ℕ × List ℕ). (i : ℕ) → get_or w.1 i 0 ≡ 0) past.asked write.0 zeros write.1 i))
       ] in
       no_header (pos s.place) s.mark (subst (λ (l : List ℕ). IsHeader sum l (pos s.place) s.mark) here found.header)
 
@@ -64,7 +72,7 @@ module _ (sum : List ℕ → ℕ) (size : ℕ) where
           blobs = λ n. blobs n (left.blobs n) (leaves.blobs n);
           short = omega (arith, no_longer, short);
           slot = can.slot;
-          log = inl (record { none = none_found past.log left.log none zeros own.log own.zeros; nothing = nothing; at_first = omega (arith, at_first) });
+          log = inl (record { none = none_found past.log past.placed left.log none zeros own.log own.zeros; nothing = nothing; at_first = omega (arith, at_first) });
         };
       })
 
@@ -142,7 +150,7 @@ module _ (sum : List ℕ → ℕ) (size : ℕ) (device : State) (s : Shot) (H : 
         let short = ready.short in
         unbegun_recoverable sum size H A f past long small ready.ready.batches nothing
         (subst (NoneBegun sum size) (sym settled_same) unbegun.1)
-        (All-cons (λ (w : ℕ × List ℕ). take 20 w.1 ≡ replicate 20 0) (0 * size, zeros) device.log.asked (take-replicate {X = ℕ} 20 size 0 (omega (arith, long)))
+        (All-cons (λ (w : ℕ × List ℕ). (i : ℕ) → get_or w.1 i 0 ≡ 0) (0 * size, zeros) device.log.asked (λ i. zeros_there size i)
         (subst (AreZeros sum size) (sym asked) (λ k d lt. absurd (omega (arith, lt)))))
         (omega (arith, most, short, no_more, length-replicate {A = ℕ} size 0, end_of-le (0 * size) (max (length zeros) (length t)) size (omega (arith, no_more, length-replicate {A = ℕ} size 0))))
         ready.blobs names_fit

@@ -37,14 +37,14 @@ module _ (sum : List ℕ → ℕ) (size : ℕ) (site : Site) (old bytes : List �
   zeros_left i above below =
       byte_left old (site.slot + from) (drop from bytes) now left no_more leaves i (omega (arith, last, above)) ∙ file.clean i (omega (arith, behind, above)) below
 
-  module _ (only_own : NoForeignLog sum size (after_write old (site.slot + from) (drop from bytes) now) left) where
+  module _ {placed : List (ℕ × List ℕ)} (only_own : NoForeignLog sum size (after_write old (site.slot + from) (drop from bytes) now) placed left) where
     -- The header of the segment stands; or the segment begins with this write, and each segment that is found was found before, under the same header.
     pub flush_header : HasHeader sum left site ⊎ ((from ≡ 0) × ((y : Segment) → IsFoundSegment sum size left site.place y → IsFoundSegment sum size old site.place y × (part old y.slot 20 ≡ part left y.slot 20)))
     flush_header = elim (cases_lt 0 from) [
       | inl some ↦ inl (header_left sum size site old (drop from bytes) now left from earlier file slot_begins no_more leaves only_own some)
       | inr none ↦ (
           let first : from ≡ 0 = omega (arith, none) in
-          elim (torn_header sum size site old (drop from bytes) now left from earlier file slot_begins no_more leaves only_own first (omega (arith, last, first, begun))
+          elim (torn_header sum size site old (drop from bytes) now left from earlier file slot_begins no_more leaves only_own first (omega (arith, last, first, begun)) (omega (arith, last, first, short))
           (header_stands sum size site old bytes from rs earlier file begun behind short slot_begins place_small slot_small header chain stand room ended)) [
             | inl has ↦ inl has
             | inr same ↦ inr (first, same)

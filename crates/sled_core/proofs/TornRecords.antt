@@ -14,8 +14,9 @@ use Rattle.sled_codec.specs.Record.{IsRecord, IsHeader}
 use Rattle.sled_codec.specs.Spelling.{SpellsMessageHeader}
 use Rattle.sled_codec.specs.Sums.{flipped}
 use Rattle.sled_codec.specs.History.{Message}
+use Rattle.sled_codec.proofs.Segments.{length-short_header}
 use Rattle.sled_store.specs.Device.{LogState, overwritten, LeavesLog}
-use Rattle.sled_store.specs.Foreign.{IsReached, at_first, behind, LaidBy, RecordWasLaid, HeaderWasLaid, NoForeignLog}
+use Rattle.sled_store.specs.Foreign.{IsReached, at_first, behind, Covers, StandsWhole, NoForeignLog}
 use Rattle.sled_core.specs.declared.iobuf.Site.{Site}
 use Rattle.sled_core.specs.declared.met.Segment.{Segment}
 use Rattle.sled_core.specs.Reading.{StandsAt}
@@ -97,7 +98,7 @@ pub record StandsUpTo (sum : List ℕ → ℕ) (size : ℕ) (log : List ℕ) (si
 -- A write to a settled log file, behind what stands in the current segment, of which a crash left this.
 module _ (sum : List ℕ → ℕ) (size : ℕ) (site : Site) (old asked now left : List ℕ) (from : ℕ) (messages : List Message) (file : IsLogFile sum size old site from messages)
     (slot_begins : site.slot % size ≡ 0) (no_more : length now ≤ length asked) (leaves : LeavesLog (after_write old (site.slot + from) asked now) left)
-    (only_own : NoForeignLog sum size (after_write old (site.slot + from) asked now) left) where
+    {placed : List (ℕ × List ℕ)} (only_own : NoForeignLog sum size (after_write old (site.slot + from) asked now) placed left) where
   abbrev new : List ℕ
   new = overwritten old (site.slot + from) asked
 
@@ -125,13 +126,16 @@ module _ (sum : List ℕ → ℕ) (size : ℕ) (site : Site) (old asked now left
     whole : length (part left (site.slot + at) len) ≡ len
     whole = let there = s.in_file in omega (arith, there, length-take len (drop (site.slot + at) left), length-drop (site.slot + at) left)
 
-    laid : RecordWasLaid sum size past (site.slot / size) at (part left (site.slot / size * size + at) len)
-    laid =
-        only_own.records (site.slot / size) site.place header.mark at len h.kind h.pid body
+    whole_there : StandsWhole past (site.slot / size * size + at) (part left (site.slot / size * size + at) len)
+    whole_there =
+        (only_own.records (site.slot / size) site.place header.mark at len h.kind h.pid body
         (subst (λ n. IsHeader sum (part left n 20) (pos site.place) header.mark) (sym slot_there) header.header)
         (subst (λ n. IsReached sum size (site.place / size) (part left n size) 20 at) (sym slot_there) reached)
         fits
-        (subst (λ n. IsRecord sum (part left (n + at) len) h.kind h.pid (site.place / size) body) (sym slot_there) (record_of_stands sum size left (site.slot + at) (site.place / size) h body len s))
+        (subst (λ n. IsRecord sum (part left (n + at) len) h.kind h.pid (site.place / size) body) (sym slot_there) (record_of_stands sum size left (site.slot + at) (site.place / size) h body len s))).1
+
+    stands_whole : StandsWhole past (site.slot + at) (part left (site.slot + at) len)
+    stands_whole = subst (λ n. StandsWhole past (n + at) (part left (n + at) len)) slot_there whole_there
 
     -- there were zeros before
     not_before : part old (site.slot + at) (length (part left (site.slot + at) len)) ≡ part left (site.slot + at) len → ⊥
@@ -143,7 +147,7 @@ module _ (sum : List ℕ → ℕ) (size : ℕ) (site : Site) (old asked now left
         ∙ file.clean (site.slot + at + 4) (omega (arith, later)) (omega (arith, fits, some)) in
         zeros_empty sum size left (site.slot + at) (site.place / size) zero h body len s
 
-    in_write : LaidBy sum size (site.slot + from, asked) (site.slot + at) (part left (site.slot + at) len) → (at + len ≤ from + length asked) × (part new (site.slot + at) len ≡ part left (site.slot + at) len)
+    in_write : Covers (site.slot + from, asked) (site.slot + at) (part left (site.slot + at) len) → (at + len ≤ from + length asked) × (part new (site.slot + at) len ≡ part left (site.slot + at) len)
     in_write by =
         let ends : site.slot + at + length (part left (site.slot + at) len) ≤ site.slot + from + length asked = by.ends in
         let reach : at + len ≤ from + length asked = omega (arith, ends, whole) in
@@ -152,13 +156,12 @@ module _ (sum : List ℕ → ℕ) (size : ℕ) (site : Site) (old asked now left
         (reach, ap (λ n. part new n len) (sym there) ∙ part_laid sum size old (site.slot + from) asked (site.slot + at - (site.slot + from)) len (omega (arith, reach, later)) ∙ counted)
 
     pub written_there : (at + len ≤ from + length asked) × (part new (site.slot + at) len ≡ part left (site.slot + at) len)
-    unfolding RecordWasLaid
-    written_there = elim laid [
-      | inl stood ↦ absurd (not_before (subst (λ n. part old (n + at) (length (part left (n + at) len)) ≡ part left (n + at) len) slot_there stood.same))
+    unfolding StandsWhole
+    written_there = elim stands_whole [
+      | inl stood ↦ absurd (not_before stood)
       | inr write ↦ (
           let is : write.0 ≡ (site.slot + from, asked) = the_only (site.slot + from, asked) write.0 write.1 in
-          let here : LaidBy sum size write.0 (site.slot + at) (part left (site.slot + at) len) = subst (λ n. LaidBy sum size write.0 (n + at) (part left (n + at) len)) slot_there write.2 in
-          in_write (subst (λ (w : ℕ × List ℕ). LaidBy sum size w (site.slot + at) (part left (site.slot + at) len)) is here))
+          in_write (subst (λ (w : ℕ × List ℕ). Covers w (site.slot + at) (part left (site.slot + at) len)) is write.2))
     ]
 
   -- Along the records that were written.
@@ -227,33 +230,51 @@ module _ (sum : List ℕ → ℕ) (size : ℕ) (site : Site) (old asked now left
 
   -- The header.
 
-  -- a header that is found after the crash stood there before, or the write began with it
-  found_where : (y : Segment) → IsFoundSegment sum size left site.place y → (part old y.slot 20 ≡ part left y.slot 20) ⊎ ((y.slot ≡ site.slot + from) × (take 20 asked ≡ part left y.slot 20))
-  unfolding HeaderWasLaid
+  found_long : (y : Segment) → IsFoundSegment sum size left site.place y → length (part left y.slot 20) ≡ 20
+  found_long y found = ap length found.header.is ∙ length-short_header sum (pos y.place) y.mark
+
+  -- a header that is found after the crash stood there before, or the write has it
+  found_where : (y : Segment) → IsFoundSegment sum size left site.place y → (part old y.slot 20 ≡ part left y.slot 20) ⊎ Covers (site.slot + from, asked) y.slot (part left y.slot 20)
+  unfolding StandsWhole
   found_where y found =
       let there : y.slot / size * size ≡ y.slot = let begins = found.slot in omega (arith, mod-add-div' y.slot size, begins) in
-      let laid : HeaderWasLaid sum size past (y.slot / size) (part left (y.slot / size * size) 20) =
-      only_own.headers (y.slot / size) (pos y.place) y.mark (subst (λ n. IsHeader sum (part left n 20) (pos y.place) y.mark) (sym there) found.header) in
-      elim laid [
-        | inl stood ↦ inl (subst (λ n. part old n 20 ≡ part left n 20) there stood)
-        | inr write ↦ (
-            let is : write.0 ≡ (site.slot + from, asked) = the_only (site.slot + from, asked) write.0 write.1 in
-            inr (sym there ∙ sym write.2 ∙ ap (λ (w : ℕ × List ℕ). w.0) is, ap (λ (w : ℕ × List ℕ). take 20 w.1) (sym is) ∙ write.3 ∙ ap (λ n. part left n 20) there))
+      let whole : StandsWhole past (y.slot / size * size) (part left (y.slot / size * size) 20) =
+      (only_own.headers (y.slot / size) (pos y.place) y.mark (subst (λ n. IsHeader sum (part left n 20) (pos y.place) y.mark) (sym there) found.header)).1 in
+      elim (subst (λ n. StandsWhole past n (part left n 20)) there whole) [
+        | inl stood ↦ inl (ap (part old y.slot) (sym (found_long y found)) ∙ stood)
+        | inr write ↦ inr (subst (λ (w : ℕ × List ℕ). Covers w y.slot (part left y.slot 20)) (the_only (site.slot + from, asked) write.0 write.1) write.2)
       ]
 
+  -- a slot that begins within the write is that of the site
+  slot_written : (slot : ℕ) → slot % size ≡ 0 → from + length asked ≤ size → 0 < length asked → site.slot + from ≤ slot → slot < site.slot + from + length asked → slot ≡ site.slot
+  slot_written slot begins inside some above below =
+      let there : site.slot + (slot - site.slot) ≡ slot = omega (arith, above) in
+      let offset = aligned_offset site.slot (slot - site.slot) size slot_begins (omega (arith, above, below, inside)) in
+      let none : (site.slot + (slot - site.slot)) % size ≡ 0 = ap (λ n. n % size) there ∙ begins in
+      omega (arith, there, offset, none)
+
   -- Where the segment begins with the write, its header stands, or each segment that is found was found before, under the same header.
-  pub torn_header : from ≡ 0 → 20 ≤ length asked → HasHeader sum new site
+  pub torn_header : from ≡ 0 → 20 ≤ length asked → length asked ≤ size → HasHeader sum new site
       → HasHeader sum left site ⊎ ((y : Segment) → IsFoundSegment sum size left site.place y → IsFoundSegment sum size old site.place y × (part old y.slot 20 ≡ part left y.slot 20))
-  torn_header first long written = elim (same_or_not (part left site.slot 20) (part new site.slot 20)) [
+  torn_header first long inside written = elim (same_or_not (part left site.slot 20) (part new site.slot 20)) [
     | inl same ↦ inl (record { mark = written.mark; header = subst (λ (l : List ℕ). IsHeader sum l (pos site.place) written.mark) (sym same) written.header; below = written.below; before = written.before })
     | inr other ↦ inr (λ y found. elim (found_where y found) [
       | inl stood ↦ (record { slot = found.slot; header = subst (λ (l : List ℕ). IsHeader sum l (pos y.place) y.mark) (sym stood) found.header; not_below = found.not_below }, stood)
-      | inr write ↦ (
-          let here : site.slot + from + 0 ≡ site.slot = omega (arith, first) in
-          let at : y.slot ≡ site.slot = write.0 ∙ omega (arith, first) in
-          absurd (other (ap (λ n. part left n 20) (sym at) ∙ sym write.1 ∙ sym (part_laid sum size old (site.slot + from) asked 0 20 (omega (arith, long))) ∙ ap (λ n. part new n 20) here)))
+      | inr write ↦ absurd (other (header_written y found write))
     ])
   ]
+    where
+      header_written : (y : Segment) → IsFoundSegment sum size left site.place y → Covers (site.slot + from, asked) y.slot (part left y.slot 20) → part left site.slot 20 ≡ part new site.slot 20
+      header_written y found write =
+          let begins = found.slot in
+          let above : site.slot + from ≤ y.slot = write.begins in
+          let ends : y.slot + length (part left y.slot 20) ≤ site.slot + from + length asked = write.ends in
+          let twenty = found_long y found in
+          let is : y.slot ≡ site.slot = slot_written y.slot begins (omega (arith, first, inside)) (omega (arith, long)) above (omega (arith, ends, twenty)) in
+          let none : y.slot - (site.slot + from) ≡ 0 = omega (arith, is, first) in
+          let here : site.slot + from + 0 ≡ site.slot = omega (arith, first) in
+          ap (λ n. part left n 20) (sym is) ∙ sym write.same ∙ ap (part asked (y.slot - (site.slot + from))) twenty ∙ ap (λ n. part asked n 20) none
+          ∙ sym (part_laid sum size old (site.slot + from) asked 0 20 (omega (arith, long))) ∙ ap (λ n. part new n 20) here
 
   -- Where it began before, its header stays.
   pub header_left : 0 < from → HasHeader sum left site

@@ -7,7 +7,7 @@ use Rattle.sled_codec.specs.Places.{part}
 use Rattle.sled_codec.specs.Record.{IsRecord, IsHeader}
 use Rattle.sled_codec.specs.History.{History}
 use Rattle.sled_store.specs.Device.{LeavesLog, overwritten}
-use Rattle.sled_store.specs.Foreign.{IsReached, at_first, LaidBy, RecordWasLaid, NoForeignLog}
+use Rattle.sled_store.specs.Foreign.{IsReached, at_first, Covers, StandsWhole, NoForeignLog}
 use Rattle.sled_store.proofs.LooseLemmas.{end_of-le}
 use Rattle.sled_store.proofs.OverwrittenLemmas.{length-overwritten, overwritten-part}
 use Rattle.sled_core.specs.Reading.{StandsAt}
@@ -92,7 +92,7 @@ module _ (sum : List ℕ → ℕ) (size : ℕ) (log : List ℕ) (H : History) (A
     own_left : StandIn sum size left first_site 20 begun.own begun.stop
     own_left = stand_stays sum size log left begun.stop (length zeros) grows (part_left log begun.stop zeros now left no_more leaves) first_site 20 begun.own begun.stop (omega arith) begun.stand
 
-    module _ (only_own : NoForeignLog sum size (after_write log begun.stop zeros now) left) where
+    module _ {placed : List (ℕ × List ℕ)} (only_own : NoForeignLog sum size (after_write log begun.stop zeros now) placed left) where
       -- A record that stood behind the others would have stood there before, or be spelled by the zeros.
       module _ (h : MessageHeader) (body : List ℕ) (len : ℕ) (s : StandsAt sum size left begun.stop 0 h body len) where
         some : 8 ≤ len
@@ -124,31 +124,31 @@ module _ (sum : List ℕ → ℕ) (size : ℕ) (log : List ℕ) (H : History) (A
         at : 0 * size + begun.stop ≡ begun.stop
         at = omega arith
 
-        laid : RecordWasLaid sum size (after_write log begun.stop zeros now) 0 begun.stop (part left (0 * size + begun.stop) len)
-        laid =
-            only_own.records 0 0 header_left.mark begun.stop len h.kind h.pid body
+        whole_there : StandsWhole (after_write log begun.stop zeros now) (0 * size + begun.stop) (part left (0 * size + begun.stop) len)
+        whole_there =
+            (only_own.records 0 0 header_left.mark begun.stop len h.kind h.pid body
             (subst (λ n. IsHeader sum (part left n 20) (pos 0) header_left.mark) (sym slot) header_left.header)
             (subst (λ n. IsReached sum size (0 / size) (part left n size) 20 begun.stop) (sym slot) (stand_reached sum size left first_site (mod-eq_of_lt (omega (arith, room))) 20 20 begun.own begun.stop own_left at_first))
             fits
             (subst (λ n. IsRecord sum (part left n len) h.kind h.pid (0 / size) body) (sym at)
-            (subst (λ n. IsRecord sum (part left begun.stop len) h.kind h.pid n body) (sym first_number) (record_of_stands sum size left begun.stop 0 h body len s)))
+            (subst (λ n. IsRecord sum (part left begun.stop len) h.kind h.pid n body) (sym first_number) (record_of_stands sum size left begun.stop 0 h body len s)))).1
 
-        laid_there : RecordWasLaid sum size (after_write log begun.stop zeros now) 0 begun.stop (part left begun.stop len)
-        laid_there = subst (λ n. RecordWasLaid sum size (after_write log begun.stop zeros now) 0 begun.stop (part left n len)) at laid
+        stands_whole : StandsWhole (after_write log begun.stop zeros now) begun.stop (part left begun.stop len)
+        stands_whole = subst (λ n. StandsWhole (after_write log begun.stop zeros now) n (part left n len)) at whole_there
 
-        laid_where : (part log begun.stop len ≡ part left begun.stop len) ⊎ (part zeros 0 len ≡ part left begun.stop len)
-        unfolding RecordWasLaid
-        laid_where = elim laid_there [
-          | inl stood ↦ inl (ap (part log begun.stop) (sym whole) ∙ ap (λ n. part log n (length (part left begun.stop len))) (sym at) ∙ stood.same)
+        stands_where : (part log begun.stop len ≡ part left begun.stop len) ⊎ (part zeros 0 len ≡ part left begun.stop len)
+        unfolding StandsWhole
+        stands_where = elim stands_whole [
+          | inl stood ↦ inl (ap (part log begun.stop) (sym whole) ∙ stood)
           | inr write ↦ (
               let is : write.0 ≡ (begun.stop, zeros) = the_only (begun.stop, zeros) write.0 write.1 in
-              let here : LaidBy sum size (begun.stop, zeros) (0 * size + begun.stop) (part left begun.stop len) = subst (λ (w : ℕ × List ℕ). LaidBy sum size w (0 * size + begun.stop) (part left begun.stop len)) is write.2 in
-              let first : 0 * size + begun.stop - begun.stop ≡ 0 = omega arith in
-              inr (ap (λ k. part zeros k len) (sym first) ∙ ap (part zeros (0 * size + begun.stop - begun.stop)) (sym whole) ∙ here.same))
+              let here : Covers (begun.stop, zeros) begun.stop (part left begun.stop len) = subst (λ (w : ℕ × List ℕ). Covers w begun.stop (part left begun.stop len)) is write.2 in
+              let first : begun.stop - begun.stop ≡ 0 = omega arith in
+              inr (ap (λ k. part zeros k len) (sym first) ∙ ap (part zeros (begun.stop - begun.stop)) (sym whole) ∙ here.same))
         ]
 
       none_behind : IsEmpty sum size left begun.stop 0
-      none_behind h body len s = elim (laid_where h body len s) [ inl stood ↦ stood_before h body len s stood | inr written ↦ by_zeros h body len s written ]
+      none_behind h body len s = elim (stands_where h body len s) [ inl stood ↦ stood_before h body len s stood | inr written ↦ by_zeros h body len s written ]
 
       -- So the same messages stand there.
       pub torn_zeros : IsBegun sum size left H A place

@@ -1,5 +1,5 @@
 -- Behind a recovery a crash leaves what is recoverable for what lies below the cut, with the cut for the floor.
-use Rattle.std.proofs.Common.{◌≡◌, ◌≢◌, ◌∙◌, ◌≤◌, ◌<◌, ◌≤ℤ◌, ◌^◌, ℕ, ℤ, suc, pos, negsuc, Bool, true, false, if◌then◌else◌, List, [], ◌∷◌, ◌++◌, length, Option, Some, None, refl, sym, ap, subst, arith, inl, inr}
+use Rattle.std.proofs.Common.{◌≡◌, ◌≢◌, ◌∙◌, ◌≤◌, ◌<◌, ◌-◌, ◌≤ℤ◌, ◌^◌, ℕ, ℤ, suc, pos, negsuc, Bool, true, false, if◌then◌else◌, List, [], ◌∷◌, ◌++◌, length, replicate, Option, Some, None, refl, sym, ap, subst, arith, inl, inr}
 use Rattle.std.specs.List.{Contains}
 use Rattle.std.proofs.lemmas.Bool.Decides.{nat_tests}
 use Rattle.sled_codec.specs.History.{History, below}
@@ -33,10 +33,10 @@ not_beyond (Some (pos n)) cut is = grind (arith, nat_tests, is)
 
 module _ (sum : List ℕ → ℕ) (size : ℕ) (H : History) (A : ℕ) (large : 256 ≤ size) (small : size < 2 ^ 63) (batches : H.batches ≡ []) where
   -- a log file at rest, under such snapshots
-  cut_off : (cut : ℕ) (log : List ℕ) (blobs names : NamesState) (temporary : Temporary) → Reaches sum size log (below H cut) A cut → NoBlobs blobs → NamesFit sum size names (below H cut) cut cut
-      → IsCutOff sum size H A cut (resting log blobs names temporary)
-  cut_off cut log blobs names temporary reaches none fit =
-      record { left = resting_kept sum size (below H cut) A cut large small (no_batches_below H cut batches) log blobs names temporary cut reaches none fit; names = fit; blobs = none }
+  cut_off : (cut : ℕ) (log : List ℕ) (blobs names : NamesState) (temporary : Temporary) (placed : List (ℕ × List ℕ)) → Reaches sum size log (below H cut) A cut → NoBlobs blobs → NamesFit sum size names (below H cut) cut cut
+      → IsCutOff sum size H A cut (resting log blobs names temporary placed)
+  cut_off cut log blobs names temporary placed reaches none fit =
+      record { left = resting_kept sum size (below H cut) A cut large small (no_batches_below H cut batches) log blobs names temporary placed cut reaches none fit; names = fit; blobs = none }
 
   -- The new table was published, and others were removed.
   module _ (cut : ℕ) (s : Shot) (new : IsNewTable size H cut s) (file : ℤ → Option (List ℕ)) (f : ℕ) (can : CanBegin sum size file H f cut) (log : List ℕ) (reaches : Reaches sum size log (below H cut) A cut) where
@@ -48,44 +48,44 @@ module _ (sum : List ℕ → ℕ) (size : ℕ) (H : History) (A : ℕ) (large : 
         published_fit sum size (below H cut) cut s (new_below size H cut s new) file (λ n bytes there. file_below sum H cut n bytes (low n bytes there) (can.tables.listed n bytes there)) low cut (omega arith) names is
 
     -- whichever they are
-    removals_end : (ns : List ℤ) (blobs names : NamesState) (temporary : Temporary) → ((n : ℤ) → Contains ns n → n ≢ pos cut) → NoBlobs blobs → IsPublished names file (pos cut) (short_file sum s)
-        → EndsIn (IsCutOff sum size H A cut) (removing ns) (resting log blobs names temporary)
-    removals_end [] blobs names temporary apart none is = cut_off cut log blobs names temporary reaches none (fit names is)
-    removals_end (m ∷ ns) blobs names temporary apart none is =
-        removals_end ns blobs (unnamed names m true) temporary (λ n there. apart n (suc there.0, omega (arith, there.1), there.2)) none
+    removals_end : (ns : List ℤ) (blobs names : NamesState) (temporary : Temporary) (placed : List (ℕ × List ℕ)) → ((n : ℤ) → Contains ns n → n ≢ pos cut) → NoBlobs blobs → IsPublished names file (pos cut) (short_file sum s)
+        → EndsIn (IsCutOff sum size H A cut) (removing ns) (resting log blobs names temporary placed)
+    removals_end [] blobs names temporary placed apart none is = cut_off cut log blobs names temporary placed reaches none (fit names is)
+    removals_end (m ∷ ns) blobs names temporary placed apart none is =
+        removals_end ns blobs (unnamed names m true) temporary placed (λ n there. apart n (suc there.0, omega (arith, there.1), there.2)) none
         (published_removed names (pos cut) (short_file sum s) file m (apart m (0, omega arith, refl)) is)
 
   -- The rest of the first segment was filled with zeros, where a record would have had room there.
-  module _ (log : List ℕ) (was : ℕ) (begun : IsBegun sum size log H A was) (short : length log ≤ size) (blobs names : NamesState) (temporary : Temporary) (P : State → Type 0)
-      (es : List Event) (rest : (new : List ℕ) → Reaches sum size new (below H (first_cut size begun.stop)) A (first_cut size begun.stop) → EndsIn P es (resting new blobs names temporary)) where
+  module _ (log : List ℕ) (was : ℕ) (begun : IsBegun sum size log H A was) (short : length log ≤ size) (blobs names : NamesState) (temporary : Temporary) (placed : List (ℕ × List ℕ)) (P : State → Type 0)
+      (es : List Event) (rest : (new : List ℕ) (all : List (ℕ × List ℕ)) → Reaches sum size new (below H (first_cut size begun.stop)) A (first_cut size begun.stop) → EndsIn P es (resting new blobs names temporary all)) where
     -- and then other calls were made
-    filled_end : EndsIn P (shredding (tip_of size (first_cut size begun.stop) (first_active size begun.stop)) ++ es) (resting log blobs names temporary)
+    filled_end : EndsIn P (shredding (tip_of size (first_cut size begun.stop) (first_active size begun.stop)) ++ es) (resting log blobs names temporary placed)
     filled_end = elim (tip_cases size begun.stop) [
       | inl none ↦
-          subst (λ (tip : Option (ℕ × ℕ)). EndsIn P (shredding tip ++ es) (resting log blobs names temporary)) (sym none)
-          (rest log (reaches_cut sum size log (below H (first_cut size begun.stop)) A was (begun_below begun) short))
+          subst (λ (tip : Option (ℕ × ℕ)). EndsIn P (shredding tip ++ es) (resting log blobs names temporary placed)) (sym none)
+          (rest log placed (reaches_cut sum size log (below H (first_cut size begun.stop)) A was (begun_below begun) short))
       | inr (room, is) ↦
-          subst (λ (tip : Option (ℕ × ℕ)). EndsIn P (shredding tip ++ es) (resting log blobs names temporary)) (sym is)
-          (rest _ (reaches_shredded sum size log (below H (first_cut size begun.stop)) A was (begun_below begun) short room))
+          subst (λ (tip : Option (ℕ × ℕ)). EndsIn P (shredding tip ++ es) (resting log blobs names temporary placed)) (sym is)
+          (rest _ ((begun.stop, replicate (size - begun.stop) 0) ∷ placed) (reaches_shredded sum size log (below H (first_cut size begun.stop)) A was (begun_below begun) short room))
     ]
 
 -- All calls of a recovery were made.
 module _ (sum : List ℕ → ℕ) (size : ℕ) (H : History) (A f : ℕ) (large : 256 ≤ size) (small : size < 2 ^ 63) (old : Trace) (is : IsRecoverableInFirst sum size (content_of (state_of old)) H A f) where
-  abbrev settled_with : List ℕ → State
-  settled_with log = resting log (names_synced (state_of old).blobs) (names_synced (state_of old).snapshots) (state_of old).temporary
+  abbrev settled_with : List ℕ → List (ℕ × List ℕ) → State
+  settled_with log placed = resting log (names_synced (state_of old).blobs) (names_synced (state_of old).snapshots) (state_of old).temporary placed
 
   -- Nothing was published, where the newest snapshot lies at the cut.
-  module _ (cut : ℕ) (at : stable_place is.first.stable ≡ cut) (log : List ℕ) (reaches : Reaches sum size log (below H cut) A cut) where
-    unpublished_end : IsCutOff sum size H A cut (settled_with log)
+  module _ (cut : ℕ) (at : stable_place is.first.stable ≡ cut) (log : List ℕ) (placed : List (ℕ × List ℕ)) (reaches : Reaches sum size log (below H cut) A cut) where
+    unpublished_end : IsCutOff sum size H A cut (settled_with log placed)
     unpublished_end =
-        cut_off sum size H A large small is.segment.batches cut log (names_synced (state_of old).blobs) (names_synced (state_of old).snapshots) (state_of old).temporary reaches (no_blobs sum size H A f large small old is)
+        cut_off sum size H A large small is.segment.batches cut log (names_synced (state_of old).blobs) (names_synced (state_of old).snapshots) (state_of old).temporary placed reaches (no_blobs sum size H A f large small old is)
         (settled_fit sum size (below H cut) cut cut (names_synced (state_of old).snapshots) (settled_names sum size H A f large small old)
         (can_below sum size (state_of old).snapshots.file H f cut cut (can_begin sum size H A f large small old is cut (omega (arith, at))) at))
 
   module _ (x : Conclusion) where
     -- The snapshot stays as it was.
-    stays_end : StaysIn sum size (state_of old).log.bytes H A is.first x → IsCutOff sum size H A (stable_place is.first.stable) (settled_with (state_of old).log.bytes)
-    stays_end stays = unpublished_end (stable_place is.first.stable) refl (state_of old).log.bytes (elim stays.why [
+    stays_end : StaysIn sum size (state_of old).log.bytes H A is.first x → IsCutOff sum size H A (stable_place is.first.stable) (settled_with (state_of old).log.bytes (state_of old).placed)
+    stays_end stays = unpublished_end (stable_place is.first.stable) refl (state_of old).log.bytes (state_of old).placed (elim stays.why [
       | inl unbegun ↦ record { short = is.segment.short; parts = λ place le. inl (record { none = unbegun.none; nothing = unbegun.nothing; at_first = omega (arith, le, unbegun.at_first) }) }
       | inr (begun, full) ↦ (
           let within = (first_cut_within size begun.stop begun.inside).1 in
@@ -102,33 +102,33 @@ module _ (sum : List ℕ → ℕ) (size : ℕ) (H : History) (A f : ℕ) (large 
       some : 0 < size
       some = omega (arith, large)
 
-      published_end : FitsSnapshot x.shot → AreOthers (state_of old).snapshots.file (number_of x.shot) ns → (new : List ℕ) → Reaches sum size new (below H cut) A cut
-          → EndsIn (IsCutOff sum size H A cut) (publishing sum x.shot ns) (settled_with new)
-      published_end fits are new reaches =
+      published_end : FitsSnapshot x.shot → AreOthers (state_of old).snapshots.file (number_of x.shot) ns → (new : List ℕ) (placed : List (ℕ × List ℕ)) → Reaches sum size new (below H cut) A cut
+          → EndsIn (IsCutOff sum size H A cut) (publishing sum x.shot ns) (settled_with new placed)
+      published_end fits are new placed reaches =
           let number : number_of x.shot ≡ pos cut = number_is sum size (state_of old).log.bytes H A is.first x some goes in
           let apart : (n : ℤ) → Contains ns n → n ≢ pos cut = λ n there. subst (λ (k : ℤ). n ≢ k) number ((are.each n).0 there).1 in
           let bytes : List ℕ = short_file sum x.shot in
           let names : NamesState = names_synced (state_of old).snapshots in
           let named : NamesState = renamed names (pos cut) true (record { file = Some bytes; is_loose = false }) (bytes ∷ []) in
-          subst (λ (k : ℤ). EndsIn (IsCutOff sum size H A cut) (publishing_file bytes k ++ removing ns) (settled_with new)) (sym number)
+          subst (λ (k : ℤ). EndsIn (IsCutOff sum size H A cut) (publishing_file bytes k ++ removing ns) (settled_with new placed)) (sym number)
           (removals_end sum size H A large small is.segment.batches cut x.shot (new_table sum size (state_of old).log.bytes H A is.first x some goes fits) (state_of old).snapshots.file f
           (can_begin sum size H A f large small old is cut goes.begun.not_below) new reaches ns
-          (names_synced (names_synced (state_of old).blobs)) (names_synced named) (record { bytes = bytes; asked = bytes }) apart
+          (names_synced (names_synced (state_of old).blobs)) (names_synced named) (record { bytes = bytes; asked = bytes }) placed apart
           (blobs_synced (names_synced (state_of old).blobs) (no_blobs sum size H A f large small old is))
           (published_synced names (pos cut) bytes (settled_names sum size H A f large small old)))
 
-      goes_end : (x.is_new ≡ true → FitsSnapshot x.shot) → (x.is_new ≡ true → AreOthers (state_of old).snapshots.file (number_of x.shot) ns) → EndsIn (IsCutOff sum size H A cut) (writing_back sum x ns) (settled_with (state_of old).log.bytes)
+      goes_end : (x.is_new ≡ true → FitsSnapshot x.shot) → (x.is_new ≡ true → AreOthers (state_of old).snapshots.file (number_of x.shot) ns) → EndsIn (IsCutOff sum size H A cut) (writing_back sum x ns) (settled_with (state_of old).log.bytes (state_of old).placed)
       goes_end fits are =
           let es : List Event = if x.is_new then publishing sum x.shot ns else [] in
-          subst (λ (tip : Option (ℕ × ℕ)). EndsIn (IsCutOff sum size H A cut) (shredding tip ++ es) (settled_with (state_of old).log.bytes)) (sym goes.tip)
+          subst (λ (tip : Option (ℕ × ℕ)). EndsIn (IsCutOff sum size H A cut) (shredding tip ++ es) (settled_with (state_of old).log.bytes (state_of old).placed)) (sym goes.tip)
           (filled_end sum size H A large small is.segment.batches (state_of old).log.bytes (stable_place is.first.stable) goes.begun is.segment.short
-          (names_synced (state_of old).blobs) (names_synced (state_of old).snapshots) (state_of old).temporary (IsCutOff sum size H A cut) es (λ new reaches. by new reaches x.is_new refl))
+          (names_synced (state_of old).blobs) (names_synced (state_of old).snapshots) (state_of old).temporary (state_of old).placed (IsCutOff sum size H A cut) es (λ new placed reaches. by new placed reaches x.is_new refl))
         where
-          by : (new : List ℕ) → Reaches sum size new (below H cut) A cut → (b : Bool) → x.is_new ≡ b → EndsIn (IsCutOff sum size H A cut) (if b then publishing sum x.shot ns else []) (settled_with new)
-          by new reaches true is_new = published_end (fits is_new) (are is_new) new reaches
-          by new reaches false is_old =
+          by : (new : List ℕ) (placed : List (ℕ × List ℕ)) → Reaches sum size new (below H cut) A cut → (b : Bool) → x.is_new ≡ b → EndsIn (IsCutOff sum size H A cut) (if b then publishing sum x.shot ns else []) (settled_with new placed)
+          by new placed reaches true is_new = published_end (fits is_new) (are is_new) new placed reaches
+          by new placed reaches false is_old =
               let least = not_beyond is.first.stable cut (sym goes.is_new ∙ is_old) in
-              unpublished_end cut (omega (arith, least, goes.begun.not_below)) new reaches
+              unpublished_end cut (omega (arith, least, goes.begun.not_below)) new placed reaches
 
     -- Where all was written back, all is cut off at the place of the table.
     pub cut_off_after : ConcludesIn sum size (content_of (state_of old)) H A is.first x → (x.is_new ≡ true → FitsSnapshot x.shot) → (new : Trace) → HasWrittenBack sum x (NamesSynced ∷ Synced ∷ old) new
@@ -136,8 +136,8 @@ module _ (sum : List ℕ → ℕ) (size : ℕ) (H : History) (A f : ℕ) (large 
     cut_off_after concludes fits new (ns, are, came) =
         subst (λ (h : Trace). IsCutOff sum size H A (stable_place x.shot.stable) (state_of h)) (sym came) (ends_in (IsCutOff sum size H A (stable_place x.shot.stable)) (writing_back sum x ns) (NamesSynced ∷ Synced ∷ old) (ends concludes))
       where
-        ends : ConcludesIn sum size (content_of (state_of old)) H A is.first x → EndsIn (IsCutOff sum size H A (stable_place x.shot.stable)) (writing_back sum x ns) (settled_with (state_of old).log.bytes)
-        ends (inl stays) = subst (λ (y : Conclusion). EndsIn (IsCutOff sum size H A (stable_place y.shot.stable)) (writing_back sum y ns) (settled_with (state_of old).log.bytes)) (sym stays.is) (stays_end stays)
+        ends : ConcludesIn sum size (content_of (state_of old)) H A is.first x → EndsIn (IsCutOff sum size H A (stable_place x.shot.stable)) (writing_back sum x ns) (settled_with (state_of old).log.bytes (state_of old).placed)
+        ends (inl stays) = subst (λ (y : Conclusion). EndsIn (IsCutOff sum size H A (stable_place y.shot.stable)) (writing_back sum y ns) (settled_with (state_of old).log.bytes (state_of old).placed)) (sym stays.is) (stays_end stays)
         ends (inr goes) =
             let place : stable_place x.shot.stable ≡ first_cut size goes.begun.stop = ap stable_place goes.stable in
-            subst (λ n. EndsIn (IsCutOff sum size H A n) (writing_back sum x ns) (settled_with (state_of old).log.bytes)) (sym place) (goes_end goes ns fits are)
+            subst (λ n. EndsIn (IsCutOff sum size H A n) (writing_back sum x ns) (settled_with (state_of old).log.bytes (state_of old).placed)) (sym place) (goes_end goes ns fits are)

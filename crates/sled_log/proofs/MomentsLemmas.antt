@@ -75,15 +75,15 @@ none_synced blobs none n left (inr (inl earlier)) = absurd earlier
 none_synced blobs none n left (inr (inr half)) = absurd half
 
 -- a device whose log file is at rest
-abbrev pub resting : List ℕ → NamesState → NamesState → Temporary → State
-resting log blobs names temporary = record { log = at_rest log; blobs = blobs; snapshots = names; temporary = temporary }
+abbrev pub resting : List ℕ → NamesState → NamesState → Temporary → List (ℕ × List ℕ) → State
+resting log blobs names temporary placed = record { log = at_rest log; blobs = blobs; snapshots = names; temporary = temporary; placed = placed }
 
 module _ (sum : List ℕ → ℕ) (size : ℕ) (H : History) (A f : ℕ) (large : 256 ≤ size) (small : size < 2 ^ 63) (batches : H.batches ≡ []) where
   -- What a crash leaves of it is recoverable, where its parts are.
-  pub resting_kept : (log : List ℕ) (blobs names : NamesState) (temporary : Temporary) (reached : ℕ) → Reaches sum size log H A reached → NoBlobs blobs → NamesFit sum size names H f reached
-      → LeavesRecoverable sum size H A f (resting log blobs names temporary)
-  resting_kept log blobs names temporary reached reaches none fit =
-      parts_recoverable sum size H A f reached (resting log blobs names temporary) large small batches
+  pub resting_kept : (log : List ℕ) (blobs names : NamesState) (temporary : Temporary) (placed : List (ℕ × List ℕ)) (reached : ℕ) → Reaches sum size log H A reached → NoBlobs blobs → NamesFit sum size names H f reached
+      → LeavesRecoverable sum size H A f (resting log blobs names temporary placed)
+  resting_kept log blobs names temporary placed reached reaches none fit =
+      parts_recoverable sum size H A f reached (resting log blobs names temporary placed) large small batches
       (λ left leaves own. subst (λ (l : List ℕ). Reaches sum size l H A reached) (sym (at_rest_left log left leaves)) reaches) none fit
 
   -- A new table is published, and others are removed.
@@ -95,50 +95,50 @@ module _ (sum : List ℕ → ℕ) (size : ℕ) (H : History) (A f : ℕ) (large 
     fit names is = published_fit sum size H cut s new file can.tables.listed (listed_below sum size file H f can.first can.tables cut can.not_above) f floor names is
 
     -- the others are removed
-    removals_along : (ns : List ℤ) (blobs names : NamesState) (temporary : Temporary) → ((n : ℤ) → Contains ns n → n ≢ pos cut) → NoBlobs blobs → IsPublished names file (pos cut) (short_file sum s)
-        → Along (LeavesRecoverable sum size H A f) (removing ns) (resting log blobs names temporary)
-    removals_along [] blobs names temporary apart none is = resting_kept log blobs names temporary cut reaches none (fit names is)
-    removals_along (m ∷ ns) blobs names temporary apart none is =
-        along_call sum size H A f (SnapshotRemoved m true) (removing ns) (resting log blobs names temporary) (remove_snapshot m)
-        (removals_along ns blobs (unnamed names m true) temporary (λ n there. apart n (suc there.0, omega (arith, there.1), there.2)) none
+    removals_along : (ns : List ℤ) (blobs names : NamesState) (temporary : Temporary) (placed : List (ℕ × List ℕ)) → ((n : ℤ) → Contains ns n → n ≢ pos cut) → NoBlobs blobs → IsPublished names file (pos cut) (short_file sum s)
+        → Along (LeavesRecoverable sum size H A f) (removing ns) (resting log blobs names temporary placed)
+    removals_along [] blobs names temporary placed apart none is = resting_kept log blobs names temporary placed cut reaches none (fit names is)
+    removals_along (m ∷ ns) blobs names temporary placed apart none is =
+        along_call sum size H A f (SnapshotRemoved m true) (removing ns) (resting log blobs names temporary placed) (remove_snapshot m)
+        (removals_along ns blobs (unnamed names m true) temporary placed (λ n there. apart n (suc there.0, omega (arith, there.1), there.2)) none
         (published_removed names (pos cut) (short_file sum s) file m (apart m (0, omega arith, refl)) is))
 
     -- all calls that publish it
-    pub publishing_along : (ns : List ℤ) (blobs names : NamesState) (temporary : Temporary) → names.file ≡ file → ((n : ℤ) → IsSettledName names n) → ((n : ℤ) → Contains ns n → n ≢ pos cut) → NoBlobs blobs
-        → Along (LeavesRecoverable sum size H A f) (publishing_file (short_file sum s) (pos cut) ++ removing ns) (resting log blobs names temporary)
-    publishing_along ns blobs names temporary is_file settled apart none =
+    pub publishing_along : (ns : List ℤ) (blobs names : NamesState) (temporary : Temporary) (placed : List (ℕ × List ℕ)) → names.file ≡ file → ((n : ℤ) → IsSettledName names n) → ((n : ℤ) → Contains ns n → n ≢ pos cut) → NoBlobs blobs
+        → Along (LeavesRecoverable sum size H A f) (publishing_file (short_file sum s) (pos cut) ++ removing ns) (resting log blobs names temporary placed)
+    publishing_along ns blobs names temporary placed is_file settled apart none =
         let bytes : List ℕ = short_file sum s in
         let filled : Temporary = record { bytes = bytes; asked = bytes } in
         let named : NamesState = renamed names (pos cut) true (record { file = Some bytes; is_loose = false }) (bytes ∷ []) in
         let published : IsPublished (names_synced named) file (pos cut) bytes = subst (λ (g : ℤ → Option (List ℕ)). IsPublished (names_synced named) g (pos cut) bytes) is_file (published_synced names (pos cut) bytes settled) in
         let named_fit : NamesFit sum size named H f cut = put_fit sum size H cut s new file can.tables.listed (listed_below sum size file H f can.first can.tables cut can.not_above) f floor names is_file settled can in
-        along_call sum size H A f (SnapshotFilled bytes bytes) (SnapshotPublished (pos cut) true ∷ NamesSynced ∷ removing ns) (resting log blobs names temporary) (fill bytes)
-        (along_call sum size H A f (SnapshotPublished (pos cut) true) (NamesSynced ∷ removing ns) (resting log blobs names filled) (publish (pos cut))
-        (along_names_synced sum size H A f (removing ns) (resting log blobs named filled) (resting_kept log blobs named filled cut reaches none named_fit)
-        (removals_along ns (names_synced blobs) (names_synced named) filled apart (blobs_synced blobs none) published)))
+        along_call sum size H A f (SnapshotFilled bytes bytes) (SnapshotPublished (pos cut) true ∷ NamesSynced ∷ removing ns) (resting log blobs names temporary placed) (fill bytes)
+        (along_call sum size H A f (SnapshotPublished (pos cut) true) (NamesSynced ∷ removing ns) (resting log blobs names filled placed) (publish (pos cut))
+        (along_names_synced sum size H A f (removing ns) (resting log blobs named filled placed) (resting_kept log blobs named filled placed cut reaches none named_fit)
+        (removals_along ns (names_synced blobs) (names_synced named) filled placed apart (blobs_synced blobs none) published)))
 
   -- The rest of the first segment is filled with zeros, where a record would have room there, and then other calls are made.
-  module _ (log : List ℕ) (was : ℕ) (begun : IsBegun sum size log H A was) (short : length log ≤ size) (blobs names : NamesState) (temporary : Temporary) (none : NoBlobs blobs) (fit : NamesFit sum size names H f (first_cut size begun.stop))
-      (es : List Event) (rest : (new : List ℕ) → Reaches sum size new H A (first_cut size begun.stop) → Along (LeavesRecoverable sum size H A f) es (resting new blobs names temporary)) where
+  module _ (log : List ℕ) (was : ℕ) (begun : IsBegun sum size log H A was) (short : length log ≤ size) (blobs names : NamesState) (temporary : Temporary) (placed : List (ℕ × List ℕ)) (none : NoBlobs blobs) (fit : NamesFit sum size names H f (first_cut size begun.stop))
+      (es : List Event) (rest : (new : List ℕ) (all : List (ℕ × List ℕ)) → Reaches sum size new H A (first_cut size begun.stop) → Along (LeavesRecoverable sum size H A f) es (resting new blobs names temporary all)) where
     -- what is written behind the records
     abbrev zeros : List ℕ
     zeros = replicate (size - begun.stop) 0
 
     -- where there is room
-    zeros_along : begun.stop + 32 ≤ size → Along (LeavesRecoverable sum size H A f) (Wrote begun.stop zeros zeros ∷ Synced ∷ es) (resting log blobs names temporary)
+    zeros_along : begun.stop + 32 ≤ size → Along (LeavesRecoverable sum size H A f) (Wrote begun.stop zeros zeros ∷ Synced ∷ es) (resting log blobs names temporary placed)
     zeros_along room =
-        along_call sum size H A f (Wrote begun.stop zeros zeros) (Synced ∷ es) (resting log blobs names temporary) (write begun.stop zeros)
-        (along_synced sum size H A f es (step (Wrote begun.stop zeros zeros) (resting log blobs names temporary))
-        (parts_recoverable sum size H A f (first_cut size begun.stop) (step (Wrote begun.stop zeros zeros) (resting log blobs names temporary)) large small batches
+        along_call sum size H A f (Wrote begun.stop zeros zeros) (Synced ∷ es) (resting log blobs names temporary placed) (write begun.stop zeros)
+        (along_synced sum size H A f es (step (Wrote begun.stop zeros zeros) (resting log blobs names temporary placed))
+        (parts_recoverable sum size H A f (first_cut size begun.stop) (step (Wrote begun.stop zeros zeros) (resting log blobs names temporary placed)) large small batches
         (λ left leaves own. record {
           short = left_short sum size log H A was begun room zeros left (omega arith) leaves short;
           parts = λ place le. inr (torn_zeros sum size log H A place (at_place begun place le) room zeros left (omega arith) leaves own);
         }) none fit)
-        (rest (overwritten log begun.stop zeros) (reaches_shredded sum size log H A was begun short room)))
+        (rest (overwritten log begun.stop zeros) ((begun.stop, zeros) ∷ placed) (reaches_shredded sum size log H A was begun short room)))
 
     -- whether there is room or not
-    pub shredding_along : Along (LeavesRecoverable sum size H A f) (shredding (tip_of size (first_cut size begun.stop) (first_active size begun.stop)) ++ es) (resting log blobs names temporary)
+    pub shredding_along : Along (LeavesRecoverable sum size H A f) (shredding (tip_of size (first_cut size begun.stop) (first_active size begun.stop)) ++ es) (resting log blobs names temporary placed)
     shredding_along = elim (tip_cases size begun.stop) [
-      | inl none ↦ subst (λ (tip : Option (ℕ × ℕ)). Along (LeavesRecoverable sum size H A f) (shredding tip ++ es) (resting log blobs names temporary)) (sym none) (rest log (reaches_cut sum size log H A was begun short))
-      | inr (room, is) ↦ subst (λ (tip : Option (ℕ × ℕ)). Along (LeavesRecoverable sum size H A f) (shredding tip ++ es) (resting log blobs names temporary)) (sym is) (zeros_along room)
+      | inl none ↦ subst (λ (tip : Option (ℕ × ℕ)). Along (LeavesRecoverable sum size H A f) (shredding tip ++ es) (resting log blobs names temporary placed)) (sym none) (rest log placed (reaches_cut sum size log H A was begun short))
+      | inr (room, is) ↦ subst (λ (tip : Option (ℕ × ℕ)). Along (LeavesRecoverable sum size H A f) (shredding tip ++ es) (resting log blobs names temporary placed)) (sym is) (zeros_along room)
     ]

@@ -83,16 +83,16 @@ module _ (sum : List ℕ → ℕ) (size : ℕ) (H : History) (A f : ℕ) (large 
   settled = step NamesSynced (step Synced (state_of old))
 
   -- and with other bytes in its log file
-  abbrev settled_with : List ℕ → State
-  settled_with log = resting log (names_synced (state_of old).blobs) (names_synced (state_of old).snapshots) (state_of old).temporary
+  abbrev settled_with : List ℕ → List (ℕ × List ℕ) → State
+  settled_with log placed = resting log (names_synced (state_of old).blobs) (names_synced (state_of old).snapshots) (state_of old).temporary placed
 
   -- The log file is settled: what was read is what a crash leaves of it.
-  synced_kept : Kept (state_of old) → NoForeignLog sum size (state_of old).log (state_of old).log.bytes → Kept (step Synced (state_of old))
+  synced_kept : Kept (state_of old) → NoForeignLog sum size (state_of old).log (state_of old).placed (state_of old).log.bytes → Kept (step Synced (state_of old))
   synced_kept kept own left leaves own_left =
       let same : left.log ≡ (state_of old).log.bytes = at_rest_left (state_of old).log.bytes left.log leaves.log in
       kept left
       (record { log = before_sync old left.log leaves.log; blobs = leaves.blobs; snapshots = leaves.snapshots })
-      (record { log = subst (λ (l : List ℕ). NoForeignLog sum size (state_of old).log l) (sym same) own; blobs = own_left.blobs; snapshots = own_left.snapshots; zeros = own_left.zeros })
+      (record { log = subst (λ (l : List ℕ). NoForeignLog sum size (state_of old).log (state_of old).placed l) (sym same) own; blobs = own_left.blobs; snapshots = own_left.snapshots; zeros = own_left.zeros })
 
   -- Names are settled by their own sync.
   pub settled_names : (n : ℤ) → IsSettledName (names_synced (state_of old).snapshots) n
@@ -124,7 +124,7 @@ module _ (sum : List ℕ → ℕ) (size : ℕ) (H : History) (A f : ℕ) (large 
     -- so what a crash leaves of the settled device is recoverable
     settled_kept : Kept settled
     settled_kept =
-        resting_kept sum size H A f large small is.segment.batches (state_of old).log.bytes (names_synced (state_of old).blobs) (names_synced (state_of old).snapshots) (state_of old).temporary
+        resting_kept sum size H A f large small is.segment.batches (state_of old).log.bytes (names_synced (state_of old).blobs) (names_synced (state_of old).snapshots) (state_of old).temporary (state_of old).placed
         (stable_place is.first.stable) reaches_first no_blobs (names_fit (stable_place is.first.stable) (omega arith))
 
     module _ (x : Conclusion) (ns : List ℤ) (may : MayBeRemoved (state_of old).snapshots.file (number_of x.shot) ns) where
@@ -137,32 +137,32 @@ module _ (sum : List ℕ → ℕ) (size : ℕ) (H : History) (A f : ℕ) (large 
         some : 0 < size
         some = omega (arith, large)
 
-        filled_along : (es : List Event) → ((new : List ℕ) → Reaches sum size new H A cut → Along Kept es (settled_with new))
+        filled_along : (es : List Event) → ((new : List ℕ) (placed : List (ℕ × List ℕ)) → Reaches sum size new H A cut → Along Kept es (settled_with new placed))
             → Along Kept (shredding x.tip ++ es) settled
         filled_along es rest =
             subst (λ (tip : Option (ℕ × ℕ)). Along Kept (shredding tip ++ es) settled) (sym goes.tip)
-            (shredding_along sum size H A f large small is.segment.batches (state_of old).log.bytes (stable_place is.first.stable) goes.begun is.segment.short (names_synced (state_of old).blobs) (names_synced (state_of old).snapshots) (state_of old).temporary no_blobs
+            (shredding_along sum size H A f large small is.segment.batches (state_of old).log.bytes (stable_place is.first.stable) goes.begun is.segment.short (names_synced (state_of old).blobs) (names_synced (state_of old).snapshots) (state_of old).temporary (state_of old).placed no_blobs
             (names_fit cut goes.begun.not_below) es rest)
 
-        kept_there : (new : List ℕ) → Reaches sum size new H A cut → Kept (settled_with new)
-        kept_there new reaches =
-            resting_kept sum size H A f large small is.segment.batches new (names_synced (state_of old).blobs) (names_synced (state_of old).snapshots) (state_of old).temporary cut reaches no_blobs (names_fit cut goes.begun.not_below)
+        kept_there : (new : List ℕ) (placed : List (ℕ × List ℕ)) → Reaches sum size new H A cut → Kept (settled_with new placed)
+        kept_there new placed reaches =
+            resting_kept sum size H A f large small is.segment.batches new (names_synced (state_of old).blobs) (names_synced (state_of old).snapshots) (state_of old).temporary placed cut reaches no_blobs (names_fit cut goes.begun.not_below)
 
         -- then a new table is published
-        published_along : FitsSnapshot x.shot → (new : List ℕ) → Reaches sum size new H A cut → Along Kept (publishing sum x.shot ns) (settled_with new)
-        published_along fits new reaches =
+        published_along : FitsSnapshot x.shot → (new : List ℕ) (placed : List (ℕ × List ℕ)) → Reaches sum size new H A cut → Along Kept (publishing sum x.shot ns) (settled_with new placed)
+        published_along fits new placed reaches =
             let number : number_of x.shot ≡ pos cut = number_is sum size (state_of old).log.bytes H A is.first x some goes in
             let apart : (n : ℤ) → Contains ns n → n ≢ pos cut = λ n there. subst (λ (k : ℤ). n ≢ k) number (removed_apart (state_of old).snapshots.file (number_of x.shot) ns may n there) in
-            subst (λ (k : ℤ). Along Kept (publishing_file (short_file sum x.shot) k ++ removing ns) (settled_with new)) (sym number)
+            subst (λ (k : ℤ). Along Kept (publishing_file (short_file sum x.shot) k ++ removing ns) (settled_with new placed)) (sym number)
             (publishing_along sum size H A f large small is.segment.batches cut x.shot (new_table sum size (state_of old).log.bytes H A is.first x some goes fits) (state_of old).snapshots.file (can_begin cut goes.begun.not_below) new reaches
-            ns (names_synced (state_of old).blobs) (names_synced (state_of old).snapshots) (state_of old).temporary refl settled_names apart no_blobs)
+            ns (names_synced (state_of old).blobs) (names_synced (state_of old).snapshots) (state_of old).temporary placed refl settled_names apart no_blobs)
 
         goes_along : (x.is_new ≡ true → FitsSnapshot x.shot) → Along Kept (writing_back sum x ns) settled
-        goes_along fits = filled_along (if x.is_new then publishing sum x.shot ns else []) (λ new reaches. by new reaches x.is_new refl)
+        goes_along fits = filled_along (if x.is_new then publishing sum x.shot ns else []) (λ new placed reaches. by new placed reaches x.is_new refl)
           where
-            by : (new : List ℕ) → Reaches sum size new H A cut → (b : Bool) → x.is_new ≡ b → Along Kept (if b then publishing sum x.shot ns else []) (settled_with new)
-            by new reaches true is_new = published_along (fits is_new) new reaches
-            by new reaches false is_new = kept_there new reaches
+            by : (new : List ℕ) (placed : List (ℕ × List ℕ)) → Reaches sum size new H A cut → (b : Bool) → x.is_new ≡ b → Along Kept (if b then publishing sum x.shot ns else []) (settled_with new placed)
+            by new placed reaches true is_new = published_along (fits is_new) new placed reaches
+            by new placed reaches false is_new = kept_there new placed reaches
 
       -- So all calls keep it, and so do those alone that fill the rest of the segment.
 
@@ -175,7 +175,7 @@ module _ (sum : List ℕ → ℕ) (size : ℕ) (H : History) (A f : ℕ) (large 
       filling_along (inr goes) = subst (λ (es : List Event). Along Kept es settled) (append-nil (shredding x.tip)) (filled_along goes [] (kept_there goes))
 
   -- All of a recovery, from the first sync on.
-  module _ (kept : Kept (state_of old)) (own : NoForeignLog sum size (state_of old).log (state_of old).log.bytes) where
+  module _ (kept : Kept (state_of old)) (own : NoForeignLog sum size (state_of old).log (state_of old).placed (state_of old).log.bytes) where
     -- both syncs, and then other calls
     settling_then : (es : List Event) → Kept settled → Along Kept es settled → Along Kept (Synced ∷ NamesSynced ∷ es) (state_of old)
     settling_then es there rest =

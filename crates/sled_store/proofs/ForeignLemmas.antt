@@ -1,13 +1,12 @@
 -- What passes as the log's own by what was settled and asked for before a call, or when it was torn, does so after the whole call.
-use Rattle.std.proofs.Common.{◌≡◌, ◌∙◌, ◌&&◌, ◌*◌, ◌+◌, ◌/◌, ℕ, ℤ, pos, zero, length, take, drop, suc, Bool, true, false, is_some, if◌then◌else◌, List, [], ◌∷◌, ◌++◌, Option, Some, None, refl, sym, ap, subst, inl, inr, arith}
+use Rattle.std.proofs.Common.{◌≡◌, ◌∙◌, ◌&&◌, ◌*◌, ◌+◌, ℕ, ℤ, zero, length, take, drop, suc, Bool, true, false, is_some, if◌then◌else◌, List, [], ◌∷◌, ◌++◌, Option, Some, None, refl, sym, ap, subst, inl, inr, arith}
 use Rattle.std.specs.Ordering.{int_eq}
 use Rattle.std.specs.List.{Contains}
 use Rattle.std.proofs.lemmas.List.Elements.{Contains-append_right}
 use Rattle.sled_codec.specs.Places.{part}
 use Rattle.sled_store.specs.Device.{Event, NameState, LogState, NamesState, State, step, renamed, unnamed, settled_file, settled_files, at_rest, names_at_rest}
 use Rattle.sled_store.specs.Answers.{Tears}
-use Rattle.sled_codec.specs.Record.{IsHeader}
-use Rattle.sled_store.specs.Foreign.{HeaderWasLaid, IsReached, RecordWasLaid, NoForeignLog, NoForeignNames}
+use Rattle.sled_store.specs.Foreign.{StandsWhole, HeaderWasPlaced, RecordWasPlaced, NoForeignLog, NoForeignNames}
 use Rattle.sled_store.proofs.LeavesLemmas.{Asked, write, cut, make_blob, remove_blob, fill, publish, remove_snapshot}
 
 -- Two states of a part have the same settled content, and what was asked of the first was asked of the second.
@@ -27,32 +26,34 @@ pub record Knows (s t : State) : Type 0 where
   pub log : LogKnows s.log t.log
   pub blobs : NamesKnow s.blobs t.blobs
   pub snapshots : NamesKnow s.snapshots t.snapshots
+  pub placed : (w : ℕ × List ℕ) → Contains s.placed w → Contains t.placed w
 
 -- So what passes as the log's own by the first does so by the second.
 
-module _ (sum : List ℕ → ℕ) (size : ℕ) (s t : LogState) (knows : LogKnows s t) where
-  header_laid : (slot : ℕ) (text : List ℕ) → HeaderWasLaid sum size s slot text → HeaderWasLaid sum size t slot text
-  unfolding HeaderWasLaid
-  header_laid slot text (inl stood) = inl (subst (λ (l : List ℕ). part l (slot * size) 20 ≡ text) knows.settled stood)
-  header_laid slot text (inr laid) = inr (laid.0, knows.asked laid.0 laid.1, laid.2, laid.3)
+whole_still : (s t : LogState) (at : ℕ) (text : List ℕ) → LogKnows s t → StandsWhole s at text → StandsWhole t at text
+unfolding StandsWhole
+whole_still s t at text knows (inl stood) = inl (subst (λ (l : List ℕ). part l at (length text) ≡ text) knows.settled stood)
+whole_still s t at text knows (inr since) = inr (since.0, knows.asked since.0 since.1, since.2)
 
-  record_laid : (slot at : ℕ) (text : List ℕ) → RecordWasLaid sum size s slot at text → RecordWasLaid sum size t slot at text
-  unfolding RecordWasLaid
-  record_laid slot at text (inl stood) = inl (record {
-    lsn = stood.lsn;
-    mark = stood.mark;
-    header = subst (λ (l : List ℕ). IsHeader sum (part l (slot * size) 20) (pos stood.lsn) stood.mark) knows.settled stood.header;
-    reached = subst (λ (l : List ℕ). IsReached sum size (stood.lsn / size) (part l (slot * size) size) 20 at) knows.settled stood.reached;
-    same = subst (λ (l : List ℕ). part l (slot * size + at) (length text) ≡ text) knows.settled stood.same;
-  })
-  record_laid slot at text (inr laid) = inr (laid.0, knows.asked laid.0 laid.1, laid.2)
+-- Writes are among others.
+abbrev pub Among : List (ℕ × List ℕ) → List (ℕ × List ℕ) → Type 0
+Among few all = (w : ℕ × List ℕ) → Contains few w → Contains all w
 
-  -- of the log file
-  pub own_log : (left : List ℕ) → NoForeignLog sum size s left → NoForeignLog sum size t left
-  own_log left own = record {
-    headers = λ slot lsn mark is. header_laid slot _ (own.headers slot lsn mark is);
-    records = λ slot lsn mark at len kind page body is reached fits rec. record_laid slot at _ (own.records slot lsn mark at len kind page body is reached fits rec);
-  }
+header_placed : (few all : List (ℕ × List ℕ)) (at : ℕ) (text : List ℕ) → Among few all → HeaderWasPlaced few at text → HeaderWasPlaced all at text
+unfolding HeaderWasPlaced
+header_placed few all at text more laid = (laid.0, more laid.0 laid.1, laid.2, laid.3)
+
+record_placed : (sum : List ℕ → ℕ) (size : ℕ) (few all : List (ℕ × List ℕ)) (number at : ℕ) (text : List ℕ) → Among few all → RecordWasPlaced sum size few number at text → RecordWasPlaced sum size all number at text
+unfolding RecordWasPlaced
+record_placed sum size few all number at text more laid = (laid.0, more laid.0 laid.1, laid.2, laid.3)
+
+-- of the log file
+pub own_log : (sum : List ℕ → ℕ) (size : ℕ) (s t : LogState) (few all : List (ℕ × List ℕ)) (left : List ℕ) → LogKnows s t → Among few all → NoForeignLog sum size s few left → NoForeignLog sum size t all left
+own_log sum size s t few all left knows more own = record {
+  headers = λ slot lsn mark is. let was = own.headers slot lsn mark is in (header_placed few all _ _ more was.0, whole_still s t _ _ knows was.1);
+  records = λ slot lsn mark at len kind page body is reached fits rec.
+      let was = own.records slot lsn mark at len kind page body is reached fits rec in (record_placed sum size few all _ _ _ more was.0, whole_still s t _ _ knows was.1);
+}
 
 -- of files under names
 pub own_names : (passes : List ℕ → Type 0) (s t : NamesState) (files : ℤ → Option (List ℕ)) → NamesKnow s t → NoForeignNames passes s files → NoForeignNames passes t files
@@ -117,46 +118,46 @@ later w ws x (k, below, is) = (suc k, omega (arith, below), is)
 
 -- The state after a call knows all that the one before it does.
 pub before_knows : (e : Event) (s : State) → Asked e → Knows s (step e s)
-before_knows e s (write at bytes) = record { log = record { settled = refl; asked = later (at, bytes) s.log.asked }; blobs = names_same s.blobs; snapshots = names_same s.snapshots }
-before_knows e s (cut len) = record { log = record { settled = refl; asked = λ w is. is }; blobs = names_same s.blobs; snapshots = names_same s.snapshots }
-before_knows e s (make_blob place bytes) = record { log = log_same s.log; blobs = before_change s.blobs place true (record { file = Some bytes; is_loose = true }) (bytes ∷ []); snapshots = names_same s.snapshots }
-before_knows e s (remove_blob place) = record { log = log_same s.log; blobs = before_removal s.blobs place true; snapshots = names_same s.snapshots }
-before_knows e s (fill bytes) = record { log = log_same s.log; blobs = names_same s.blobs; snapshots = names_same s.snapshots }
-before_knows e s (publish number) = record { log = log_same s.log; blobs = names_same s.blobs; snapshots = before_change s.snapshots number true (record { file = Some s.temporary.bytes; is_loose = false }) (s.temporary.asked ∷ []) }
-before_knows e s (remove_snapshot number) = record { log = log_same s.log; blobs = names_same s.blobs; snapshots = before_removal s.snapshots number true }
+before_knows e s (write at bytes) = record { log = record { settled = refl; asked = later (at, bytes) s.log.asked }; blobs = names_same s.blobs; snapshots = names_same s.snapshots; placed = later (at, bytes) s.placed }
+before_knows e s (cut len) = record { log = record { settled = refl; asked = λ w is. is }; blobs = names_same s.blobs; snapshots = names_same s.snapshots; placed = λ w is. is }
+before_knows e s (make_blob place bytes) = record { log = log_same s.log; blobs = before_change s.blobs place true (record { file = Some bytes; is_loose = true }) (bytes ∷ []); snapshots = names_same s.snapshots; placed = λ w is. is }
+before_knows e s (remove_blob place) = record { log = log_same s.log; blobs = before_removal s.blobs place true; snapshots = names_same s.snapshots; placed = λ w is. is }
+before_knows e s (fill bytes) = record { log = log_same s.log; blobs = names_same s.blobs; snapshots = names_same s.snapshots; placed = λ w is. is }
+before_knows e s (publish number) = record { log = log_same s.log; blobs = names_same s.blobs; snapshots = before_change s.snapshots number true (record { file = Some s.temporary.bytes; is_loose = false }) (s.temporary.asked ∷ []); placed = λ w is. is }
+before_knows e s (remove_snapshot number) = record { log = log_same s.log; blobs = names_same s.blobs; snapshots = before_removal s.snapshots number true; placed = λ w is. is }
 
 -- So does the state after the whole call, where the other one is after a torn one.
 pub torn_knows : (e torn : Event) (s : State) → Asked e → Tears e torn → Knows (step torn s) (step e s)
 torn_knows e torn s (write at bytes) tears =
-    subst (λ (x : Event). Knows (step x s) (step e s)) (sym tears.2) (record { log = record { settled = refl; asked = λ w is. is }; blobs = names_same s.blobs; snapshots = names_same s.snapshots })
+    subst (λ (x : Event). Knows (step x s) (step e s)) (sym tears.2) (record { log = record { settled = refl; asked = λ w is. is }; blobs = names_same s.blobs; snapshots = names_same s.snapshots; placed = λ w is. is })
 torn_knows e torn s (cut len) tears =
-    subst (λ (x : Event). Knows (step x s) (step e s)) (sym tears.2) (record { log = record { settled = refl; asked = λ w is. is }; blobs = names_same s.blobs; snapshots = names_same s.snapshots })
+    subst (λ (x : Event). Knows (step x s) (step e s)) (sym tears.2) (record { log = record { settled = refl; asked = λ w is. is }; blobs = names_same s.blobs; snapshots = names_same s.snapshots; placed = λ w is. is })
 torn_knows e torn s (make_blob place bytes) tears =
     subst (λ (x : Event). Knows (step x s) (step e s)) (sym tears.2)
-    (record { log = log_same s.log; blobs = torn_change s.blobs place tears.1 (record { file = Some tears.0; is_loose = true }) (record { file = Some bytes; is_loose = true }) (bytes ∷ []); snapshots = names_same s.snapshots })
+    (record { log = log_same s.log; blobs = torn_change s.blobs place tears.1 (record { file = Some tears.0; is_loose = true }) (record { file = Some bytes; is_loose = true }) (bytes ∷ []); snapshots = names_same s.snapshots; placed = λ w is. is })
 torn_knows e torn s (remove_blob place) tears =
-    subst (λ (x : Event). Knows (step x s) (step e s)) (sym tears.1) (record { log = log_same s.log; blobs = torn_removal s.blobs place tears.0; snapshots = names_same s.snapshots })
+    subst (λ (x : Event). Knows (step x s) (step e s)) (sym tears.1) (record { log = log_same s.log; blobs = torn_removal s.blobs place tears.0; snapshots = names_same s.snapshots; placed = λ w is. is })
 torn_knows e torn s (fill bytes) tears =
-    subst (λ (x : Event). Knows (step x s) (step e s)) (sym tears.1) (record { log = log_same s.log; blobs = names_same s.blobs; snapshots = names_same s.snapshots })
+    subst (λ (x : Event). Knows (step x s) (step e s)) (sym tears.1) (record { log = log_same s.log; blobs = names_same s.blobs; snapshots = names_same s.snapshots; placed = λ w is. is })
 torn_knows e torn s (publish number) tears =
     let top : NameState = record { file = Some s.temporary.bytes; is_loose = false } in
-    subst (λ (x : Event). Knows (step x s) (step e s)) (sym tears.1) (record { log = log_same s.log; blobs = names_same s.blobs; snapshots = torn_change s.snapshots number tears.0 top top (s.temporary.asked ∷ []) })
+    subst (λ (x : Event). Knows (step x s) (step e s)) (sym tears.1) (record { log = log_same s.log; blobs = names_same s.blobs; snapshots = torn_change s.snapshots number tears.0 top top (s.temporary.asked ∷ []); placed = λ w is. is })
 torn_knows e torn s (remove_snapshot number) tears =
-    subst (λ (x : Event). Knows (step x s) (step e s)) (sym tears.1) (record { log = log_same s.log; blobs = names_same s.blobs; snapshots = torn_removal s.snapshots number tears.0 })
+    subst (λ (x : Event). Knows (step x s) (step e s)) (sym tears.1) (record { log = log_same s.log; blobs = names_same s.blobs; snapshots = torn_removal s.snapshots number tears.0; placed = λ w is. is })
 
--- What is read of a device at rest was settled, so all of it is the log's own.
+-- What a crash left, or was read at a sync, is settled from then on. What was the log's own in it is so still.
 
 take_again : (n : ℕ) (xs : List ℕ) → take (length (take n xs)) xs ≡ take n xs
 take_again zero xs = refl
 take_again (suc n) [] = refl
 take_again (suc n) (x ∷ xs) = ap (λ (l : List ℕ). x ∷ l) (take_again n xs)
 
--- the log file
-pub own_log_at_rest : (sum : List ℕ → ℕ) (size : ℕ) (log : List ℕ) → NoForeignLog sum size (at_rest log) log
-unfolding HeaderWasLaid RecordWasLaid
-own_log_at_rest sum size log = record {
-  headers = λ slot lsn mark is. inl refl;
-  records = λ slot lsn mark at len kind page body is reached fits rec. inl (record { lsn = lsn; mark = mark; header = is; reached = reached; same = take_again len (drop (slot * size + at) log) });
+-- the log file, as it was left
+pub own_log_at_rest : (sum : List ℕ → ℕ) (size : ℕ) (past : LogState) (placed : List (ℕ × List ℕ)) (log : List ℕ) → NoForeignLog sum size past placed log → NoForeignLog sum size (at_rest log) placed log
+unfolding StandsWhole
+own_log_at_rest sum size past placed log own = record {
+  headers = λ slot lsn mark is. ((own.headers slot lsn mark is).0, inl (take_again 20 (drop (slot * size) log)));
+  records = λ slot lsn mark at len kind page body is reached fits rec. ((own.records slot lsn mark at len kind page body is reached fits rec).0, inl (take_again len (drop (slot * size + at) log)));
 }
 
 -- files under names

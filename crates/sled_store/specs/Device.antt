@@ -204,19 +204,32 @@ LeavesOneOf (s ∷ others) left = LeavesFile s.file s.is_loose left ⊎ LeavesOn
 abbrev pub LeavesName : NamesState → ℤ → Option (List ℕ) → Type 0
 LeavesName s n left = LeavesFile (s.file n) (s.is_loose n) left ⊎ LeavesOneOf (s.earlier n) left ⊎ LeavesOneOf (s.half_done n) left
 
--- All three parts. A call other than `sync_names` touches one of them, by computation.
+-- what was ever asked to be written to the log file, the newest first; neither a sync nor a crash forgets it
+abbrev pub placed_step : Event → List (ℕ × List ℕ) → List (ℕ × List ℕ)
+placed_step (Wrote at asked now) was = (at, asked) ∷ was
+placed_step _ was = was
+
+-- All parts. A call other than `sync_names` touches only those of the log, of the blobs or of the snapshots, by computation.
 
 pub record State : Type 0 where
   pub log : LogState
   pub blobs : NamesState
   pub snapshots : NamesState
   pub temporary : Temporary
+  -- each write that was ever asked of the log file, the newest first
+  pub placed : List (ℕ × List ℕ)
 
 abbrev pub fresh : State
-fresh = record { log = at_rest []; blobs = names_at_rest (λ _. None); snapshots = names_at_rest (λ _. None); temporary = record { bytes = []; asked = [] } }
+fresh = record { log = at_rest []; blobs = names_at_rest (λ _. None); snapshots = names_at_rest (λ _. None); temporary = record { bytes = []; asked = [] }; placed = [] }
 
 abbrev pub step : Event → State → State
-step e s = record { log = log_step e s.log; blobs = blob_step e s.blobs; snapshots = snapshot_step e s.temporary s.snapshots; temporary = temporary_step e s.temporary }
+step e s = record {
+  log = log_step e s.log;
+  blobs = blob_step e s.blobs;
+  snapshots = snapshot_step e s.temporary s.snapshots;
+  temporary = temporary_step e s.temporary;
+  placed = placed_step e s.placed;
+}
 
 -- the state after these events
 abbrev pub state_of : Trace → State
