@@ -1,5 +1,5 @@
 -- The laws of the header of a message, part by part.
-use Rattle.std.specs.Prelude.{◌≡◌, ◌+◌, ℕ, List, [], ◌∷◌, ◌++◌, length, refl}
+use Rattle.std.specs.Prelude.{◌≡◌, ◌+◌, ◌^◌, ◌<◌, ℕ, List, [], ◌∷◌, ◌++◌, length, refl}
 use Rattle.std.proofs.Common.{sym, ◌∙◌, ap, arith, append_assoc, length-append}
 use Rattle.sled_codec.specs.declared.serialization.message.MessageHeader.{MessageHeader}
 use Rattle.sled_codec.specs.declared.serialization.message.MessageKind.{MessageKind}
@@ -23,6 +23,20 @@ kind_of-code_of BlobNode = refl
 kind_of-code_of InlineLink = refl
 kind_of-code_of BlobLink = refl
 
+code_of-small : (kind : MessageKind) → code_of kind < 2 ^ 8
+code_of-small Corrupted = omega arith
+code_of-small Canceled = omega arith
+code_of-small Cap = omega arith
+code_of-small BatchManifest = omega arith
+code_of-small Free = omega arith
+code_of-small Counter = omega arith
+code_of-small InlineMeta = omega arith
+code_of-small BlobMeta = omega arith
+code_of-small InlineNode = omega arith
+code_of-small BlobNode = omega arith
+code_of-small InlineLink = omega arith
+code_of-small BlobLink = omega arith
+
 pub short_spells-header : (h : MessageHeader) → FitsMessageHeader h → SpellsMessageHeader (short_message_header h) h
 unfolding short_message_header short_header_tail
 short_spells-header h fits = record {
@@ -33,6 +47,7 @@ short_spells-header h fits = record {
   page = short_number h.pid;
   summed = short_spells-four h.crc32 fits.sum;
   kind = sym (kind_of-code_of h.kind);
+  coded = code_of-small h.kind;
   counted = short_spells-number h.len fits.len;
   numbered = short_spells-number h.segment_number.0 fits.number;
   paged = short_spells-number h.pid fits.page;
@@ -60,7 +75,7 @@ behind_sum text f g t u v w p q is_f is_g =
 
 pub behind_code : (text f t u : List ℕ) (v code : ℕ) → SpellsByte f v → text ≡ f ++ t → text ≡ code ∷ u → t ≡ u
 behind_code text f t u v code p is_f is_g =
-    let both : (v ∷ t) ≡ (code ∷ u) = ap (λ (l : List ℕ). l ++ t) (sym p) ∙ sym is_f ∙ is_g in cc
+    let both : (v ∷ t) ≡ (code ∷ u) = ap (λ (l : List ℕ). l ++ t) (sym p.is) ∙ sym is_f ∙ is_g in cc
 
 pub behind_number : (text f g t u : List ℕ) (v w : ℕ) → SpellsNumber f v → SpellsNumber g w → text ≡ f ++ t → text ≡ g ++ u → t ≡ u
 behind_number text f g t u v w p q is_f is_g =
