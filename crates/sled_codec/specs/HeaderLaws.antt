@@ -1,12 +1,12 @@
 -- The laws of the header of a message, part by part.
-use Rattle.std.specs.Prelude.{◌≡◌, ◌+◌, ◌^◌, ◌<◌, ℕ, List, [], ◌∷◌, ◌++◌, length, refl}
+use Rattle.std.specs.Prelude.{◌≡◌, ◌+◌, ◌^◌, ◌<◌, ◌≤◌, ℕ, List, [], ◌∷◌, ◌++◌, length, refl}
 use Rattle.std.proofs.Common.{sym, ◌∙◌, ap, arith, append_assoc, length-append}
 use Rattle.sled_codec.specs.declared.serialization.message.MessageHeader.{MessageHeader}
 use Rattle.sled_codec.specs.declared.serialization.message.MessageKind.{MessageKind}
 use Rattle.sled_codec.specs.declared.serialization.message.MessageKind.TheVariants.{Corrupted, Canceled, Cap, BatchManifest, Free, Counter, InlineMeta, BlobMeta, InlineNode, BlobNode, InlineLink, BlobLink}
 use Rattle.sled_codec.specs.Kinds.{code_of, kind_of}
 use Rattle.sled_codec.specs.Spelling.{low_bytes, SpellsFixed, SpellsByte, SpellsNumber, short_number, SpellsMessageHeader, short_header_tail, short_message_header, FitsMessageHeader}
-use Rattle.sled_codec.specs.SpellingLaws.{short_spells-four, one_value-fixed, no_front-fixed, short_spells-number, one_value-number, no_front-number, same_rests, length-low_bytes, length-short_number}
+use Rattle.sled_codec.specs.SpellingLaws.{short_spells-four, one_value-fixed, no_front-fixed, short_spells-number, one_value-number, no_front-number, same_rests, length-low_bytes, length-short_number, length-number}
 
 -- the code of a kind stands for it
 pub kind_of-code_of : (kind : MessageKind) → kind_of (code_of kind) ≡ kind
@@ -143,5 +143,17 @@ length-short_header_tail kind len number page =
 pub length-short_message_header : (h : MessageHeader) → length (short_message_header h) ≡ 4 + length (short_header_tail h.kind h.len h.segment_number.0 h.pid)
 unfolding short_message_header
 length-short_message_header h = length-append (low_bytes 4 h.crc32) (short_header_tail h.kind h.len h.segment_number.0 h.pid)
+
+-- any spelling of a header has eight to thirty-two bytes
+pub length-message_header : (text : List ℕ) (h : MessageHeader) → SpellsMessageHeader text h → (8 ≤ length text) × (length text ≤ 32)
+length-message_header text h s =
+    let sum = s.summed.long in
+    let len = length-number s.len h.len s.counted in
+    let number = length-number s.number h.segment_number.0 s.numbered in
+    let page = length-number s.page h.pid s.paged in
+    let front : List ℕ = s.sum ++ (s.code ∷ s.len) in
+    let whole : length text ≡ 5 + length s.len + length s.number + length s.page =
+    ap length s.is ∙ omega (arith, sum, length-append (front ++ s.number) s.page, length-append front s.number, length-append s.sum (s.code ∷ s.len)) in
+    (omega (arith, whole, len.0, number.0, page.0), omega (arith, whole, len.1, number.1, page.1))
 
 pub ruleset header_lengths = (length-short_message_header, length-short_header_tail, length-short_number, length-low_bytes)

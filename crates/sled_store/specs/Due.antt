@@ -32,8 +32,8 @@ is_due device = is_stopped device || fails_in device == 1
 abbrev pub trace_of : MemDevice → Trace
 trace_of device = device.story.events
 
--- What a call leaves that fails since it was due: of a write the first half of its bytes, rounded down, unless the device was stopped or memory had
--- to be taken; of any other nothing.
+-- What a call leaves that fails since it was due: of a write the first half of its bytes, rounded down, unless the device was stopped or memory
+-- had to be taken; of any other nothing.
 abbrev pub LeftByFailure : Option Event → MemDevice → MemDevice → Type 0
 LeftByFailure (Some (Wrote at asked now)) old new =
     ((is_stopped old ≡ false) × (trace_of new ≡ Wrote at asked (take (length asked / 2) asked) ∷ trace_of old))
@@ -47,21 +47,27 @@ left_by_stop (BlobSynced place) before = before
 left_by_stop NamesSynced before = before
 left_by_stop event before = event ∷ before
 
--- A call that changes or syncs is done while some are to be.
+-- A call is done where it isn't due; one that changes or syncs while some are to be.
 abbrev pub Done : Option Event → MemDevice → MemDevice → Type 0
-Done None old new = Awaits new (fails_in old - 1) (stops_in old) (is_stopped old)
-Done (Some event) old new = (stops_in old ≢ Some 0) × Awaits new (fails_in old - 1) (one_fewer (stops_in old)) (is_stopped old)
+Done None old new = (is_due old ≡ false) × Awaits new (fails_in old - 1) (stops_in old) (is_stopped old)
+Done (Some event) old new =
+    (is_due old ≡ false) × (stops_in old ≢ Some 0) × Awaits new (fails_in old - 1) (one_fewer (stops_in old)) (is_stopped old)
 
--- And it is stopped within when none is.
+-- One that changes or syncs is stopped within when none is to be done.
 abbrev pub Stopped : Option Event → MemDevice → MemDevice → Type 0
 Stopped None old new = ⊥
-Stopped (Some event) old new = (is_due old ≡ false) × (stops_in old ≡ Some 0) × Awaits new (fails_in old - 1) (Some 0) true × (trace_of new ≡ left_by_stop event (trace_of old))
+Stopped (Some event) old new =
+    (is_due old ≡ false) × (stops_in old ≡ Some 0) × Awaits new (fails_in old - 1) (Some 0) true × (trace_of new ≡ left_by_stop event (trace_of old))
 
--- A call of this event, if it changes or syncs, that answers an error of this kind, if any. It is done or refused only where it isn't due, and fails
--- only where it is, or where it is stopped within.
+-- It fails since it was due, or is refused.
+abbrev pub Failed : Option Event → MemDevice → MemDevice → Type 0
+Failed event old new = (is_due old ≡ true) × Awaits new (fails_in old - 1) (stops_in old) (is_stopped old) × LeftByFailure event old new
+
+abbrev pub Refused : MemDevice → MemDevice → Type 0
+Refused old new = (is_due old ≡ false) × Awaits new (fails_in old - 1) (stops_in old) (is_stopped old)
+
+-- How a call obeys: its event, if it changes or syncs, the kind of its error, if any, and the device before and after. So it fails exactly where it
+-- is due or stopped within, and each call counts.
 abbrev pub Obeys : Option Event → Option ErrorKind → MemDevice → MemDevice → Type 0
-Obeys event None old new = (is_due old ≡ false) × Done event old new
-Obeys event (Some kind) old new =
-    MatchBool (is_fault_kind kind)
-    ((kind ≡ Other) × (((is_due old ≡ true) × Awaits new (fails_in old - 1) (stops_in old) (is_stopped old) × LeftByFailure event old new) ⊎ Stopped event old new))
-    ((is_due old ≡ false) × Awaits new (fails_in old - 1) (stops_in old) (is_stopped old))
+Obeys event None old new = Done event old new
+Obeys event (Some kind) old new = MatchBool (is_fault_kind kind) ((kind ≡ Other) × (Failed event old new ⊎ Stopped event old new)) (Refused old new)

@@ -34,9 +34,8 @@ pub trait Device {
     /// How many calls failed.
     ghost faults: { Self → ℕ };
 
-    /// What a device in a test makes of the failures that were asked of it: of a call with this event, if it
-    /// changes or syncs, and an error of this kind, if any, what is so before and after. Other devices say
-    /// nothing here.
+    /// How a call keeps to the failures that a test asked for: its event, if it changes or syncs, the kind of
+    /// its error, if any, and the device before and after. Only a device for tests says anything here.
     ghost Obeys: { Option Event → Option ErrorKind → Self → Self → Type 0 } = { λ event error old new. Unit {0} };
 
     /// The length of the log file, in bytes.
