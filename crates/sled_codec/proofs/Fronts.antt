@@ -37,20 +37,20 @@ has_number text (lead ∷ more) rest v is spelled =
     omega (arith, ap length is, length-append more rest, spelled.0)
 
 -- and one that has them begins with a number
-pub takes_number : (text : List ℕ) (n v : ℕ) → n ≡ more_bytes (get_or text 0 0) → 1 + n ≤ length text → v ≡ number_of (get_or text 0 0) (take (1 + n - 1) (drop 1 text)) → v < 2 ^ 64 → (front : List ℕ) × SpellsNumber front v × (text ≡ front ++ take (length text - (1 + n)) (drop (1 + n) text))
-takes_number [] n v counts long value small = absurd (omega arith)
-takes_number (lead ∷ more) n v counts long value small =
+pub takes_number : (text : List ℕ) (n v : ℕ) → n ≡ more_bytes (get_or text 0 0) → 1 + n ≤ length text → v ≡ number_of (get_or text 0 0) (take (1 + n - 1) (drop 1 text)) → v < 2 ^ 64 → get_or text 0 0 < 2 ^ 8 → (front : List ℕ) × SpellsNumber front v × (text ≡ front ++ take (length text - (1 + n)) (drop (1 + n) text))
+takes_number [] n v counts long value small byte = absurd (omega arith)
+takes_number (lead ∷ more) n v counts long value small byte =
     let one : 1 + n ≡ suc n = omega arith in
     let same : 1 + n - 1 ≡ n = omega arith in (
       lead ∷ take n more,
-      spells_lead lead (take n more) v (omega (arith, length-take n more)) (rw same at value) small,
+      spells_lead lead (take n more) v (omega (arith, length-take n more)) (rw same at value) small byte,
       front_rest (lead ∷ more) (1 + n) ∙ ap (λ k. take k (lead ∷ more) ++ take (length (lead ∷ more) - (1 + n)) (drop (1 + n) (lead ∷ more))) one,
     )
 
 -- a lead byte that is a number by itself
 pub takes_small : (text : List ℕ) (v : ℕ) → 0 < length text → get_or text 0 0 ≤ 240 → v ≡ get_or text 0 0 → (front : List ℕ) × SpellsNumber front v × (text ≡ front ++ take (length text - 1) (drop 1 text))
 takes_small text v some small is =
-    takes_number text 0 v (none_more (get_or text 0 0) small) (omega arith) (is ∙ itself (get_or text 0 0) small) (omega arith)
+    takes_number text 0 v (none_more (get_or text 0 0) small) (omega arith) (is ∙ itself (get_or text 0 0) small) (omega arith) (omega arith)
 
 -- a text that begins with a byte string has, behind the count that it begins with, the bytes that are counted
 pub has_bytes : (text count front rest left v : List ℕ) (n : ℕ) → SpellsNumber count n → text ≡ count ++ left → text ≡ front ++ rest → SpellsBytes front v → n ≤ length left

@@ -28,6 +28,6 @@ module _ (text a x : List ℕ) (v : MessageHeader) (p : SpellsMessageHeader a v)
 pub takes_header : (t0 t1 t2 t3 t4 t5 : List ℕ) (sum code len number page : ℕ) (kind : MessageKind) → Takes (SpellsFixed 4) t0 sum t1 → Takes SpellsByte t1 code t2 → Takes SpellsNumber t2 len t3 → Takes SpellsNumber t3 number t4 → Takes SpellsNumber t4 page t5 → kind ≡ kind_of code → Takes SpellsMessageHeader t0 (record { crc32 = sum; kind = kind; segment_number = record { 0 = number }; pid = page; len = len }) t5
 takes_header t0 t1 t2 t3 t4 t5 sum code len number page kind (f1, s1, e1) (f2, s2, e2) (f3, s3, e3) (f4, s4, e4) (f5, s5, e5) is = (
   f1 ++ (code ∷ f3) ++ f4 ++ f5,
-  record { sum = f1; code = code; len = f3; number = f4; page = f5; summed = s1; kind = is; counted = s3; numbered = s4; paged = s5; is = refl },
-  e1 ∙ ap (λ (l : List ℕ). f1 ++ l) (e2 ∙ ap (λ (l : List ℕ). l ++ t2) s2 ∙ ap (λ (l : List ℕ). code ∷ l) (e3 ∙ ap (λ (l : List ℕ). f3 ++ l) (e4 ∙ ap (λ (l : List ℕ). f4 ++ l) e5))) ∙ simp append_assoc,
+  record { sum = f1; code = code; len = f3; number = f4; page = f5; summed = s1; kind = is; coded = s2.small; counted = s3; numbered = s4; paged = s5; is = refl },
+  e1 ∙ ap (λ (l : List ℕ). f1 ++ l) (e2 ∙ ap (λ (l : List ℕ). l ++ t2) s2.is ∙ ap (λ (l : List ℕ). code ∷ l) (e3 ∙ ap (λ (l : List ℕ). f3 ++ l) (e4 ∙ ap (λ (l : List ℕ). f4 ++ l) e5))) ∙ simp append_assoc,
 )

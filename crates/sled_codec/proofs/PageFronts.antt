@@ -1,5 +1,5 @@
 -- What is written for a page, and what a decoder of pages takes off the front of a text.
-use Rattle.std.proofs.Common.{◌≡◌, ◌∙◌, sym, ap, ℕ, ℤ, ◌+◌, ◌-◌, ◌<◌, ◌≤◌, ◌≢◌, List, [], ◌∷◌, ◌++◌, length, map, refl, arith, append_assoc, length-append}
+use Rattle.std.proofs.Common.{◌≡◌, ◌∙◌, sym, ap, ℕ, ℤ, ◌+◌, ◌-◌, ◌^◌, ◌<◌, ◌≤◌, ◌≢◌, List, [], ◌∷◌, ◌++◌, length, map, refl, arith, append_assoc, length-append}
 use Rattle.std.specs.List.{flat_map}
 use Rattle.std.proofs.lemmas.List.{map-id}
 use Rattle.sled_codec.specs.declared.result.DiskPtr.{DiskPtr}
@@ -68,10 +68,11 @@ module _ (text t1 front rest : List ℕ) (code : ℕ) (byte : Takes SpellsByte t
 
 -- without a byte there is no page
 pub no_byte : (text : List ℕ) → ((f r : List ℕ) (n : ℕ) → text ≡ f ++ r → SpellsByte f n → ⊥) → (front rest : List ℕ) (v : Page) → text ≡ front ++ rest → SpellsPage front v → ⊥
-no_byte text none front rest (Free place pointer) is p = none (0 ∷ []) (p.rest ++ rest) 0 (tagged_front text front rest p.rest 0 is p.is) refl
+no_byte text none front rest (Free place pointer) is p = none (0 ∷ []) (p.rest ++ rest) 0 (tagged_front text front rest p.rest 0 is p.is) (record { is = refl; small = omega arith })
 no_byte text none front rest (Present base frags) is p =
     let tag = 1 + length frags in
-    none (tag ∷ []) (p.1.rest ++ rest) tag (tagged_front text front rest p.1.rest tag is p.1.is) refl
+    let few : tag < 2 ^ 8 = omega (arith, p.0) in
+    none (tag ∷ []) (p.1.rest ++ rest) tag (tagged_front text front rest p.1.rest tag is p.1.is) (record { is = refl; small = few })
 no_byte text none front rest Uninitialized is p = absurd p
 
 -- the byte, an entry and as many further ones as it tells are a page

@@ -1,5 +1,5 @@
 -- Which error it is.
-use Rattle.std.specs.Prelude.{◌≡◌, ◌≢◌, ℕ, ℤ, pos, List, [], Option, Some, None, Result, Ok, Err, string_bytes, option_map}
+use Rattle.std.specs.Prelude.{◌≡◌, ◌≢◌, ℕ, ℤ, pos, Bool, true, false, List, [], Option, Some, None, Result, Ok, Err, string_bytes, option_map}
 use Rattle.std.specs.IoError.{error_kind}
 use Rattle.std.specs.declared.io.Error.{Error as IoError}
 use Rattle.std.specs.declared.io.ErrorKind.{ErrorKind}
@@ -29,6 +29,11 @@ abbrev pub IsDecodeError : Error → Type 0
 IsDecodeError (Corruption at) = at ≡ None
 IsDecodeError OutOfMemory = Unit {0}
 IsDecodeError _ = ⊥
+
+-- one that takes no memory, for such bytes alone
+abbrev pub IsDecodeErrorOf : Bool → Error → Type 0
+IsDecodeErrorOf true e = IsDecodeError e
+IsDecodeErrorOf false e = e ≡ Corruption None
 
 -- What becomes of an error of the device: want of memory stays that, and all else is a failure of the device.
 pub record IsErrorOf (io : IoError) (e : Error) : Type 0 where

@@ -1,12 +1,12 @@
 -- The laws of the header of a message, part by part.
-use Rattle.std.specs.Prelude.{◌≡◌, ◌+◌, ℕ, List, [], ◌∷◌, ◌++◌, length, refl}
+use Rattle.std.specs.Prelude.{◌≡◌, ◌+◌, ◌^◌, ◌<◌, ◌≤◌, ℕ, List, [], ◌∷◌, ◌++◌, length, refl}
 use Rattle.std.proofs.Common.{sym, ◌∙◌, ap, arith, append_assoc, length-append}
 use Rattle.sled_codec.specs.declared.serialization.message.MessageHeader.{MessageHeader}
 use Rattle.sled_codec.specs.declared.serialization.message.MessageKind.{MessageKind}
 use Rattle.sled_codec.specs.declared.serialization.message.MessageKind.TheVariants.{Corrupted, Canceled, Cap, BatchManifest, Free, Counter, InlineMeta, BlobMeta, InlineNode, BlobNode, InlineLink, BlobLink}
 use Rattle.sled_codec.specs.Kinds.{code_of, kind_of}
 use Rattle.sled_codec.specs.Spelling.{low_bytes, SpellsFixed, SpellsByte, SpellsNumber, short_number, SpellsMessageHeader, short_header_tail, short_message_header, FitsMessageHeader}
-use Rattle.sled_codec.specs.SpellingLaws.{short_spells-four, one_value-fixed, no_front-fixed, short_spells-number, one_value-number, no_front-number, same_rests, length-low_bytes, length-short_number}
+use Rattle.sled_codec.specs.SpellingLaws.{short_spells-four, one_value-fixed, no_front-fixed, short_spells-number, one_value-number, no_front-number, same_rests, length-low_bytes, length-short_number, length-number}
 
 -- the code of a kind stands for it
 pub kind_of-code_of : (kind : MessageKind) → kind_of (code_of kind) ≡ kind
@@ -23,6 +23,20 @@ kind_of-code_of BlobNode = refl
 kind_of-code_of InlineLink = refl
 kind_of-code_of BlobLink = refl
 
+code_of-small : (kind : MessageKind) → code_of kind < 2 ^ 8
+code_of-small Corrupted = omega arith
+code_of-small Canceled = omega arith
+code_of-small Cap = omega arith
+code_of-small BatchManifest = omega arith
+code_of-small Free = omega arith
+code_of-small Counter = omega arith
+code_of-small InlineMeta = omega arith
+code_of-small BlobMeta = omega arith
+code_of-small InlineNode = omega arith
+code_of-small BlobNode = omega arith
+code_of-small InlineLink = omega arith
+code_of-small BlobLink = omega arith
+
 pub short_spells-header : (h : MessageHeader) → FitsMessageHeader h → SpellsMessageHeader (short_message_header h) h
 unfolding short_message_header short_header_tail
 short_spells-header h fits = record {
@@ -33,6 +47,7 @@ short_spells-header h fits = record {
   page = short_number h.pid;
   summed = short_spells-four h.crc32 fits.sum;
   kind = sym (kind_of-code_of h.kind);
+  coded = code_of-small h.kind;
   counted = short_spells-number h.len fits.len;
   numbered = short_spells-number h.segment_number.0 fits.number;
   paged = short_spells-number h.pid fits.page;
@@ -60,7 +75,7 @@ behind_sum text f g t u v w p q is_f is_g =
 
 pub behind_code : (text f t u : List ℕ) (v code : ℕ) → SpellsByte f v → text ≡ f ++ t → text ≡ code ∷ u → t ≡ u
 behind_code text f t u v code p is_f is_g =
-    let both : (v ∷ t) ≡ (code ∷ u) = ap (λ (l : List ℕ). l ++ t) (sym p) ∙ sym is_f ∙ is_g in cc
+    let both : (v ∷ t) ≡ (code ∷ u) = ap (λ (l : List ℕ). l ++ t) (sym p.is) ∙ sym is_f ∙ is_g in cc
 
 pub behind_number : (text f g t u : List ℕ) (v w : ℕ) → SpellsNumber f v → SpellsNumber g w → text ≡ f ++ t → text ≡ g ++ u → t ≡ u
 behind_number text f g t u v w p q is_f is_g =
@@ -128,5 +143,17 @@ length-short_header_tail kind len number page =
 pub length-short_message_header : (h : MessageHeader) → length (short_message_header h) ≡ 4 + length (short_header_tail h.kind h.len h.segment_number.0 h.pid)
 unfolding short_message_header
 length-short_message_header h = length-append (low_bytes 4 h.crc32) (short_header_tail h.kind h.len h.segment_number.0 h.pid)
+
+-- any spelling of a header has eight to thirty-two bytes
+pub length-message_header : (text : List ℕ) (h : MessageHeader) → SpellsMessageHeader text h → (8 ≤ length text) × (length text ≤ 32)
+length-message_header text h s =
+    let sum = s.summed.long in
+    let len = length-number s.len h.len s.counted in
+    let number = length-number s.number h.segment_number.0 s.numbered in
+    let page = length-number s.page h.pid s.paged in
+    let front : List ℕ = s.sum ++ (s.code ∷ s.len) in
+    let whole : length text ≡ 5 + length s.len + length s.number + length s.page =
+    ap length s.is ∙ omega (arith, sum, length-append (front ++ s.number) s.page, length-append front s.number, length-append s.sum (s.code ∷ s.len)) in
+    (omega (arith, whole, len.0, number.0, page.0), omega (arith, whole, len.1, number.1, page.1))
 
 pub ruleset header_lengths = (length-short_message_header, length-short_header_tail, length-short_number, length-low_bytes)

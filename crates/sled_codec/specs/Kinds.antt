@@ -51,7 +51,7 @@ log_kind_of BlobNode = does.Replace
 log_kind_of InlineLink = does.Link
 log_kind_of BlobLink = does.Link
 
--- The kind under which a message of a page is written, with its item inline or as a blob. `None`: there is no such message.
+-- The kind under which a message of a page is written, with its item inline or as a blob. `None`: there is no such message; a Free has no blob.
 -- Manifests of batches, which are told by their page, are not among these.
 abbrev pub kind_written : LogKind → ℕ → Bool → Option MessageKind
 kind_written does.Replace page blob =
@@ -59,6 +59,6 @@ kind_written does.Replace page blob =
     else if page == 0 then Some (if blob then BlobMeta else InlineMeta)
     else Some (if blob then BlobNode else InlineNode)
 kind_written does.Link page blob = Some (if blob then BlobLink else InlineLink)
-kind_written does.Free page blob = Some Free
+kind_written does.Free page blob = if blob then None else Some Free
 kind_written does.Skip page blob = None
 kind_written does.Corrupted page blob = None

@@ -5,8 +5,8 @@ use Rattle.sled_codec.specs.Spelling.{SpellsBool, short_bool, SpellsNumber, or_z
 use Rattle.sled_codec.specs.SpellingLaws.{same_fronts, one_value-number, one_value-signed}
 
 pub short_spells-bool : (v : Bool) → Unit {0} → SpellsBool (short_bool v) v
-short_spells-bool true fits = record { byte = 1; is = refl; value = refl }
-short_spells-bool false fits = record { byte = 0; is = refl; value = refl }
+short_spells-bool true fits = record { byte = 1; is = refl; small = omega arith; value = refl }
+short_spells-bool false fits = record { byte = 0; is = refl; small = omega arith; value = refl }
 
 pub one_value-bool : (text : List ℕ) (v w : Bool) → SpellsBool text v → SpellsBool text w → v ≡ w
 one_value-bool text v w p q =

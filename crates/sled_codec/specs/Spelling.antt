@@ -28,8 +28,9 @@ pub record SpellsFixed (n : ℕ) (text : List ℕ) (v : ℕ) : Type 0 where
   pub small : v < 256 ^ n
 
 -- one byte
-abbrev pub SpellsByte : List ℕ → ℕ → Type 0
-SpellsByte text v = text ≡ v ∷ []
+pub record SpellsByte (text : List ℕ) (v : ℕ) : Type 0 where
+  pub is : text ≡ v ∷ []
+  pub small : v < 2 ^ 8
 
 -- eight bytes that stand for a signed number, by the two's complement
 pub record SpellsSigned (text : List ℕ) (z : ℤ) : Type 0 where
@@ -55,7 +56,7 @@ number_of lead more =
 
 unfoldable pub SpellsNumber : List ℕ → ℕ → Type 0
 SpellsNumber [] v = ⊥
-SpellsNumber (lead ∷ more) v = (length more ≡ more_bytes lead) × (v ≡ number_of lead more) × (v < 2 ^ 64)
+SpellsNumber (lead ∷ more) v = (length more ≡ more_bytes lead) × (v ≡ number_of lead more) × (v < 2 ^ 64) × (lead < 2 ^ 8)
 
 -- how many bytes hold v, three at least
 abbrev pub byte_count : ℕ → ℕ
@@ -88,6 +89,7 @@ pub record SpellsMessageHeader (text : List ℕ) (h : MessageHeader) : Type 0 wh
   pub page : List ℕ
   pub summed : SpellsFixed 4 sum h.crc32
   pub kind : h.kind ≡ kind_of code
+  pub coded : code < 2 ^ 8
   pub counted : SpellsNumber len h.len
   pub numbered : SpellsNumber number h.segment_number.0
   pub paged : SpellsNumber page h.pid
@@ -123,6 +125,7 @@ pub record SpellsPair {V W : Type 0} (A : List ℕ → V → Type 0) (B : List �
 pub record SpellsBool (text : List ℕ) (v : Bool) : Type 0 where
   pub byte : ℕ
   pub is : text ≡ byte ∷ []
+  pub small : byte < 2 ^ 8
   pub value : v ≡ (if byte == 0 then false else true)
 
 abbrev pub short_bool : Bool → List ℕ

@@ -72,13 +72,13 @@ no_front-signed a b x y v w p q is = no_front-fixed 8 a b x y _ _ p.unsigned q.u
 
 -- one byte
 pub short_spells-byte : (v : ℕ) → v < 2 ^ 8 → SpellsByte (v ∷ []) v
-short_spells-byte v small = refl
+short_spells-byte v small = record { is = refl; small = small }
 
 pub one_value-byte : (text : List ℕ) (v w : ℕ) → SpellsByte text v → SpellsByte text w → v ≡ w
-one_value-byte text v w p q = let both : (v ∷ []) ≡ (w ∷ []) = sym p ∙ q in cc
+one_value-byte text v w p q = let both : (v ∷ []) ≡ (w ∷ []) = sym p.is ∙ q.is in cc
 
 pub no_front-byte : (a b x y : List ℕ) (v w : ℕ) → SpellsByte a v → SpellsByte b w → a ++ x ≡ b ++ y → a ≡ b
-no_front-byte a b x y v w p q is = same_fronts a b x y (ap length p ∙ sym (ap length q)) is
+no_front-byte a b x y v w p q is = same_fronts a b x y (ap length p.is ∙ sym (ap length q.is)) is
 
 -- Numbers of one to nine bytes.
 
@@ -103,9 +103,9 @@ short_many v least = grind (arith, nat_tests)
 pub ruleset short_cases = (short_one, short_two, short_three, short_many, length-low_bytes)
 
 -- what a lead byte and the bytes behind it spell
-pub spells_lead : (lead : ℕ) (more : List ℕ) (v : ℕ) → length more ≡ more_bytes lead → v ≡ number_of lead more → v < 2 ^ 64 → SpellsNumber (lead ∷ more) v
+pub spells_lead : (lead : ℕ) (more : List ℕ) (v : ℕ) → length more ≡ more_bytes lead → v ≡ number_of lead more → v < 2 ^ 64 → lead < 2 ^ 8 → SpellsNumber (lead ∷ more) v
 unfolding SpellsNumber
-spells_lead lead more v long value small = (long, value, small)
+spells_lead lead more v long value small byte = (long, value, small, byte)
 
 -- how many bytes hold a number
 pub record Holds (v n : ℕ) : Type 0 where
@@ -132,7 +132,8 @@ spells_many v n holds small =
     let long : length (low_bytes n v) ≡ n = length-low_bytes n v holds.most in
     let least : 3 ≤ n = holds.least in
     let is : low_first (low_bytes n v) ≡ v = low_first-low_bytes n v holds.most holds.small in
-    spells_lead (n + 247) (low_bytes n v) v (many_more n (length (low_bytes n v)) long least) (many_value n (low_bytes n v) v is least) small
+    let most : n ≤ 8 = holds.most in
+    spells_lead (n + 247) (low_bytes n v) v (many_more n (length (low_bytes n v)) long least) (many_value n (low_bytes n v) v is least) small (omega arith)
 
 -- a number of four bytes
 pub short_spells-four : (v : ℕ) → v < 2 ^ 32 → SpellsFixed 4 (low_bytes 4 v) v
@@ -141,15 +142,15 @@ short_spells-four v small = short_spells-fixed 4 v (omega arith) small
 -- one or two bytes behind their lead
 
 spells_one : (v : ℕ) → v ≤ 240 → SpellsNumber (v ∷ []) v
-spells_one v most = spells_lead v [] v (grind (arith, nat_tests)) (grind (arith, nat_tests)) (omega arith)
+spells_one v most = spells_lead v [] v (grind (arith, nat_tests)) (grind (arith, nat_tests)) (omega arith) (omega arith)
 
 spells_two : (v q r : ℕ) → 240 < v → v ≤ 2287 → q ≡ (v - 240) / 256 → r ≡ (v - 240) % 256 → SpellsNumber ((q + 241) ∷ r ∷ []) v
 spells_two v q r least most high low =
     let lead : q ≤ 7 = omega arith in
-    spells_lead (q + 241) (r ∷ []) v (grind (arith, nat_tests)) (grind (arith, nat_tests)) (omega arith)
+    spells_lead (q + 241) (r ∷ []) v (grind (arith, nat_tests)) (grind (arith, nat_tests)) (omega arith) (omega arith)
 
 spells_three : (v q r : ℕ) → 2287 < v → v ≤ 67823 → q ≡ (v - 2288) / 256 → r ≡ (v - 2288) % 256 → SpellsNumber (249 ∷ q ∷ r ∷ []) v
-spells_three v q r least most high low = spells_lead 249 (q ∷ r ∷ []) v refl (omega arith) (omega arith)
+spells_three v q r least most high low = spells_lead 249 (q ∷ r ∷ []) v refl (omega arith) (omega arith) (omega arith)
 
 short_by_cases : (v : ℕ) → v < 2 ^ 64 → (240 < v) ⊎ (v ≤ 240) → (2287 < v) ⊎ (v ≤ 2287) → (67823 < v) ⊎ (v ≤ 67823) → SpellsNumber (short_number v) v
 short_by_cases v small (inr most) y z = rw (short_one v most) (spells_one v most)
@@ -172,6 +173,15 @@ length_by_cases v small (inl _) (inl _) (inl least) =
 
 pub length-short_number : (v : ℕ) → v < 2 ^ 64 → (1 ≤ length (short_number v)) × (length (short_number v) ≤ 9)
 length-short_number v small = length_by_cases v small (cases_lt 240 v) (cases_lt 2287 v) (cases_lt 67823 v)
+
+few_more : (lead : ℕ) → lead < 2 ^ 8 → more_bytes lead ≤ 8
+few_more lead byte = grind (arith, nat_tests)
+
+-- any spelling of a number has one byte at least and nine at most
+pub length-number : (text : List ℕ) (v : ℕ) → SpellsNumber text v → (1 ≤ length text) × (length text ≤ 9)
+unfolding SpellsNumber
+length-number [] v p = absurd p
+length-number (lead ∷ more) v p = let few = few_more lead p.3 in (omega arith, omega (arith, p.0, few))
 
 -- the number of bytes is told by the first one, and the number by all
 pub one_value-number : (text : List ℕ) (v w : ℕ) → SpellsNumber text v → SpellsNumber text w → v ≡ w

@@ -1,8 +1,8 @@
 //! The codecs. A type that has one is `Serialize`, whose clauses say what is written and what is read
 //! by the grammar of `specs/Spelling.antt`; a `Delimited` one can stand before other bytes.
-ghost use Rattle.std.specs.Prelude.{◌≡◌, ◌↔◌, ◌+◌, ◌≤◌, ◌^◌, ◌<◌, ◌++◌, ℕ, List, length, IsTrue, IfOk, IfErr, OnErr, IsOkUnless};
+ghost use Rattle.std.specs.Prelude.{◌≡◌, ◌↔◌, ◌+◌, ◌≤◌, ◌^◌, ◌<◌, ◌++◌, ℕ, Bool, List, length, IsTrue, IfOk, IfErr, OnErr, IsOkUnless};
 ghost use Rattle.sled_codec.specs.Written.{written};
-ghost use Rattle.sled_codec.specs.Errors.{IsCorruption, IsDecodeError};
+ghost use Rattle.sled_codec.specs.Errors.{IsCorruption, IsDecodeErrorOf};
 
 use crate::result::{Error, Result};
 use std::alloc::Global;
@@ -46,6 +46,9 @@ pub trait Serialize: Sized {
     /// The spelling that is written.
     ghost short: { Meaning → List ℕ };
 
+    /// Whether decoding it takes memory.
+    ghost takes_memory: { Bool };
+
     /// Whether the value has a spelling. The calls that encode it ask for that.
     fn can_serialize(&self) -> bool
         ensures { IsTrue result ↔ fits (meaning self.now) };
@@ -65,12 +68,12 @@ pub trait Serialize: Sized {
 
     /// Takes a spelling off the front of `buf`, and leaves what follows it. `Corruption` comes where
     /// no front of `buf` is a spelling before what may follow one, and `OutOfMemory` where memory was
-    /// refused. After an error `buf` is as it was.
+    /// refused to a type whose decoding takes memory. After an error `buf` is as it was.
     fn deserialize(alloc: Global, buf: &mut &[u8]) -> Result<Self>
         ensures ok { IfOk result (λ v. (front : List ℕ) × Spells front (meaning v) × (buf.old.now ≡ front ++ buf.new.now)) }
         ensures rest { IfOk result (λ v. Follows buf.new.now) }
         ensures corrupt { IsCorruption result → (front rest : List ℕ) (v : Meaning) → buf.old.now ≡ front ++ rest → Follows rest → Spells front v → ⊥ }
-        ensures errors { IfErr result IsDecodeError }
+        ensures errors { IfErr result (IsDecodeErrorOf takes_memory) }
         ensures err { OnErr result (buf.new.now ≡ buf.old.now) };
 
     /// The spelling in a vector of its own. Its one error is `OutOfMemory`.

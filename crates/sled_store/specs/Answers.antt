@@ -1,5 +1,5 @@
 -- What a call of a device answers, and the event that it adds.
-use Rattle.std.specs.Prelude.{◌≡◌, ◌⊎◌, ◌≤◌, ◌+◌, ◌%◌, ◌^◌, ℕ, Bool, true, false, if◌then◌else◌, List, ◌∷◌, length, Result, Ok, Err, IsTrue}
+use Rattle.std.specs.Prelude.{◌≡◌, ◌⊎◌, ◌≤◌, ◌+◌, ◌%◌, ◌^◌, ℕ, Bool, true, false, if◌then◌else◌, List, ◌∷◌, length, Result, Ok, Err, IsTrue, Option, None, Some}
 use Rattle.std.specs.Bool.{MatchBool}
 use Rattle.std.specs.IoError.{error_kind}
 use Rattle.std.specs.declared.io.Error.{Error}
@@ -42,6 +42,11 @@ FailsOrSays kind so (Err e) = MatchBool (is_fault e) (Unit {0}) ((error_kind e �
 abbrev pub FailsWantsOrSays : {T : Type 0} → ErrorKind → Type 0 → Result T Error → Type 0
 FailsWantsOrSays kind so (Ok _) = Unit {0}
 FailsWantsOrSays kind so (Err e) = MatchBool (is_fault e) (Unit {0}) ((error_kind e ≡ OutOfMemory) ⊎ ((error_kind e ≡ kind) × so))
+
+-- the kind of the error, if it is one
+abbrev pub kind_in : {T : Type 0} → Result T Error → Option ErrorKind
+kind_in (Ok _) = None
+kind_in (Err e) = Some (error_kind e)
 
 -- What a failure may leave of a call, in place of its event. A write has any bytes in its range, as far as it came, and a cut any length
 -- from the new one on; a name is made or removed, or not.

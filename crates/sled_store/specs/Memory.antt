@@ -1,5 +1,5 @@
 -- What a log file in memory stands for.
-use Rattle.std.specs.Prelude.{◌≡◌, ◌≤◌, ◌<◌, ◌||◌, ◌&&◌, ◌==◌, ℕ, Bool, true, false, nat_lt, nat_le, slice_index, List, [], ◌∷◌, length, vec_capacity}
+use Rattle.std.specs.Prelude.{◌≡◌, ◌≤◌, ◌<◌, ◌||◌, ◌&&◌, ◌==◌, ℕ, Bool, true, false, nat_lt, nat_le, slice_index, List, [], ◌∷◌, length, vec_len, vec_capacity}
 use Rattle.sled_store.specs.declared.device.mem_log.MemLog.{MemLog}
 use Rattle.sled_store.specs.Device.{LogState}
 
@@ -21,6 +21,10 @@ are_in n (p ∷ patch) = nat_lt p.0 n && are_in n patch
 abbrev pub are_kept : List (ℕ × ℕ) → ℕ → List ℕ → List ℕ → List (ℕ × ℕ) → Bool
 are_kept loose cut bytes settled [] = true
 are_kept loose cut bytes settled (p ∷ patch) = (is_loose_at loose cut p.0 || slice_index bytes p.0 == slice_index settled p.0) && are_kept loose cut bytes settled patch
+
+-- a write up to this end takes no memory
+abbrev pub has_room : MemLog → ℕ → Bool
+has_room log end = nat_le end (vec_capacity log.bytes) && (nat_le end (vec_capacity log.settled) && nat_lt (vec_len log.loose) (vec_capacity log.loose))
 
 -- What is kept of a log file is this state of it.
 pub record Stands (log : MemLog) (s : LogState) : Type 0 where

@@ -70,7 +70,7 @@ fn kinds_by_page(rt: HostRuntime) {
             LogKind::Free,
             0,
             Some(MessageKind::Free),
-            Some(MessageKind::Free),
+            None,
         ),
         (LogKind::Corrupted, 0, None, None),
     ];

@@ -5,6 +5,7 @@
 use crate::support::log_bytes;
 use sled_log::device::{Device, MemDevice};
 use sled_store::device::laws;
+use std::io::ErrorKind;
 use std::test::Fail;
 
 #[test]
@@ -33,6 +34,21 @@ fn read_up_to_the_end(rt: HostRuntime) -> Result<(), Fail> {
     assert_eq!(rt; device.read_at(3, &mut buf)?, 0);
     assert_eq!(rt; device.read_at(u64::MAX, &mut buf)?, 0);
     assert_eq!(rt; buf, [2, 3, 9, 9]);
+    Ok(())
+}
+
+#[test]
+fn a_place_that_no_memory_holds(rt: HostRuntime) -> Result<(), Fail> {
+    let mut device = MemDevice::new(rt.alloc());
+    for at in [1 << 62, u64::MAX] {
+        match device.write_at(at, &[1]) {
+            Ok(()) => assert!(rt; false, "at {at}"),
+            Err(e) => assert_eq!(rt; e.kind(), ErrorKind::OutOfMemory, "at {at}"),
+        }
+    }
+    device.write_at(u64::MAX, &[])?;
+    assert_eq!(rt; device.len()?, 0);
+    assert_eq!(rt; device.failures(), 0);
     Ok(())
 }
 

@@ -1,5 +1,5 @@
 //! Byte strings, whose spelling begins with their length, and `()`, which has no bytes.
-ghost use Rattle.std.specs.Prelude.{◌≡◌, ◌+◌, ◌^◌, ◌<◌, ◌≤◌, ℕ, List, [], length};
+ghost use Rattle.std.specs.Prelude.{◌≡◌, ◌+◌, ◌^◌, ◌<◌, ◌≤◌, ℕ, List, [], length, true, false};
 ghost use Rattle.sled_codec.specs.Spelling.{SpellsBytes, short_bytes};
 ghost use Rattle.sled_codec.specs.SpellingLaws.{short_spells-bytes, one_value-bytes, no_front-bytes, one_value-nothing, no_front-nothing};
 ghost use Rattle.std.proofs.Common.{refl};
@@ -22,6 +22,8 @@ impl Serialize for () {
     ghost fits = { λ nothing. Unit {0} };
 
     ghost short = { λ nothing. [] };
+
+    ghost takes_memory = { false };
 
     fn can_serialize(&self) -> bool {
         true
@@ -63,6 +65,8 @@ impl Serialize for Vec<u8> {
     ghost fits = { λ bytes. length bytes < 2 ^ 63 };
 
     ghost short = { short_bytes };
+
+    ghost takes_memory = { true };
 
     fn can_serialize(&self) -> bool {
         true

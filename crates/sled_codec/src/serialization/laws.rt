@@ -1,9 +1,11 @@
 //! The laws of the formats, each the contract of a function that does nothing.
-ghost use Rattle.std.specs.Prelude.{◌≡◌, ◌≢◌, ◌^◌, ◌<◌, ℕ, List, ◌++◌, length};
+ghost use Rattle.std.specs.Prelude.{◌≡◌, ◌≢◌, ◌^◌, ◌<◌, ◌≤◌, ℕ, List, ◌++◌, length};
+ghost use Rattle.sled_codec.specs.declared.serialization.message.MessageHeader.{MessageHeader};
 ghost use Rattle.sled_codec.specs.declared.serialization.message.MessageKind.{MessageKind};
 ghost use Rattle.sled_codec.specs.declared.serialization.message.MessageKind.TheVariants.{Corrupted};
 ghost use Rattle.sled_codec.specs.Metas.{Numbers, SpellsMeta, FitsMeta, short_meta};
 ghost use Rattle.sled_codec.specs.Record.{IsRecord, short_record};
+ghost use Rattle.sled_codec.specs.Spelling.{SpellsNumber, short_number, SpellsMessageHeader};
 ghost use Rattle.sled_codec.specs.Snapshots.{Shot, SpellsSnapshot, FitsSnapshot, short_snapshot};
 
 use crate::serialization::{Checksum, Delimited};
@@ -12,6 +14,14 @@ use crate::serialization::{Checksum, Delimited};
 /// written for a value, each spelling at its front is one of that value, and leaves what follows.
 pub fn read_again<T: Delimited>()
     ensures { (v : T.Meaning) (rest front back : List ℕ) (w : T.Meaning) → T.fits v → T.short v ++ rest ≡ front ++ back → T.Spells front w → (w ≡ v) × (back ≡ rest) }
+{}
+
+/// A `u64` takes one to nine bytes, as it is written and in any other spelling that is read; the header of a
+/// message eight to thirty-two.
+pub fn lengths()
+    ensures written { (v : ℕ) → v < 2 ^ 64 → (1 ≤ length (short_number v)) × (length (short_number v) ≤ 9) }
+    ensures read { (text : List ℕ) (v : ℕ) → SpellsNumber text v → (1 ≤ length text) × (length text ≤ 9) }
+    ensures header { (text : List ℕ) (h : MessageHeader) → SpellsMessageHeader text h → (8 ≤ length text) × (length text ≤ 32) }
 {}
 
 /// What was written for a snapshot is read as that snapshot and no other, and a text is one snapshot at

@@ -1,5 +1,5 @@
 //! Messages: their kinds, their headers, and which bytes pass as a record (`docs/FORMATS.md`, "Records").
-ghost use Rattle.std.specs.Prelude.{◌≡◌, ◌+◌, ◌≤◌, length};
+ghost use Rattle.std.specs.Prelude.{◌≡◌, ◌+◌, ◌≤◌, length, false};
 ghost use Rattle.sled_codec.specs.Kinds.{code_of, kind_of, log_kind_of, kind_written};
 ghost use Rattle.sled_codec.specs.Spelling.{SpellsMessageHeader, FitsMessageHeader, short_message_header, short_header_tail};
 ghost use Rattle.sled_codec.specs.Written.{written};
@@ -146,7 +146,8 @@ impl From<MessageKind> for LogKind {
 }
 
 /// The kind under which a message of a page is written, with its item inline or as a blob. `None`:
-/// there is no such message. Manifests of batches, which are told by their page, are not among these.
+/// there is no such message, as a Free with a blob. Manifests of batches, which are told by their page,
+/// are not among these.
 pub fn message_kind(kind: LogKind, pid: PageId, blob: bool) -> Option<MessageKind>
     ensures { result ≡ kind_written kind pid blob }
 {
@@ -154,8 +155,8 @@ pub fn message_kind(kind: LogKind, pid: PageId, blob: bool) -> Option<MessageKin
         LogKind::Replace => Some(replace_kind(pid, blob)),
         LogKind::Link if blob => Some(MessageKind::BlobLink),
         LogKind::Link => Some(MessageKind::InlineLink),
-        LogKind::Free => Some(MessageKind::Free),
-        LogKind::Skip | LogKind::Corrupted => None,
+        LogKind::Free if !blob => Some(MessageKind::Free),
+        LogKind::Free | LogKind::Skip | LogKind::Corrupted => None,
     }
 }
 
@@ -189,6 +190,8 @@ impl Serialize for MessageHeader {
     ghost fits = { FitsMessageHeader };
 
     ghost short = { short_message_header };
+
+    ghost takes_memory = { false };
 
     fn can_serialize(&self) -> bool {
         let _sum = self.crc32;
@@ -280,6 +283,8 @@ impl Serialize for BatchManifest {
     ghost fits = { FitsSigned w64 };
 
     ghost short = { short_signed };
+
+    ghost takes_memory = { false };
 
     fn can_serialize(&self) -> bool {
         let peg = self.0;

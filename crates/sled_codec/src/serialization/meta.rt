@@ -1,5 +1,5 @@
 //! Metas: page numbers by the names of collections (`docs/FORMATS.md`, "Metas").
-ghost use Rattle.std.specs.Prelude.{◌≡◌, ◌↔◌, ◌+◌, ◌^◌, ◌<◌, ◌++◌, ℕ, List, [], length, IfOk, IfErr};
+ghost use Rattle.std.specs.Prelude.{◌≡◌, ◌↔◌, ◌+◌, ◌^◌, ◌<◌, ◌++◌, ℕ, List, [], length, IfOk, IfErr, true};
 ghost use Rattle.std.specs.Option.{SomeIff};
 ghost use Rattle.sled_codec.specs.Errors.{IsCorruption, IsDecodeError};
 ghost use Rattle.sled_codec.specs.Metas.{Numbers, numbers_of, numbers_in, SpellsMeta, FitsMeta, short_meta};
@@ -32,6 +32,8 @@ impl Serialize for Meta {
     ghost fits = { FitsMeta };
 
     ghost short = { short_meta };
+
+    ghost takes_memory = { true };
 
     fn can_serialize(&self) -> bool {
         checked_size(&self.inner).is_some()

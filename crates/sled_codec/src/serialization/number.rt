@@ -1,6 +1,6 @@
 //! Numbers: a `u64` takes one to nine bytes, the small ones few; `i64`, `u32` and `u8` take as many as
 //! they have, the lowest first (`docs/FORMATS.md`, "Numbers").
-ghost use Rattle.std.specs.Prelude.{◌≡◌, ◌+◌, ◌-◌, ◌^◌, ◌≤◌, ◌<◌, ℕ, ℤ, List, [], ◌∷◌, length, take, drop, FitsSigned};
+ghost use Rattle.std.specs.Prelude.{◌≡◌, ◌+◌, ◌-◌, ◌^◌, ◌≤◌, ◌<◌, ℕ, ℤ, List, [], ◌∷◌, length, take, drop, FitsSigned, false};
 ghost use Rattle.std.specs.Int.{w64};
 ghost use Rattle.sled_codec.specs.Spelling.{low_bytes, low_first, SpellsFixed, SpellsByte, SpellsSigned, short_signed, more_bytes, number_of, SpellsNumber, byte_count, short_number};
 ghost use Rattle.sled_codec.specs.SpellingLaws.{short_spells-four, one_value-fixed, no_front-fixed, short_spells-byte, one_value-byte, no_front-byte, short_spells-signed, one_value-signed, no_front-signed, short_spells-number, one_value-number, no_front-number};
@@ -23,6 +23,8 @@ impl Serialize for u8 {
     ghost fits = { λ v. v < 2 ^ 8 };
 
     ghost short = { λ v. v ∷ [] };
+
+    ghost takes_memory = { false };
 
     fn can_serialize(&self) -> bool {
         let _value = *self;
@@ -72,6 +74,8 @@ impl Serialize for u32 {
     ghost fits = { λ v. v < 2 ^ 32 };
 
     ghost short = { low_bytes 4 };
+
+    ghost takes_memory = { false };
 
     fn can_serialize(&self) -> bool {
         let _value = *self;
@@ -123,6 +127,8 @@ impl Serialize for i64 {
 
     ghost short = { short_signed };
 
+    ghost takes_memory = { false };
+
     fn can_serialize(&self) -> bool {
         let _value = *self;
         true
@@ -173,6 +179,8 @@ impl Serialize for u64 {
     ghost fits = { λ v. v < 2 ^ 64 };
 
     ghost short = { short_number };
+
+    ghost takes_memory = { false };
 
     fn can_serialize(&self) -> bool {
         let _value = *self;

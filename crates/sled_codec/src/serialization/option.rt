@@ -1,5 +1,5 @@
 //! Flags, and numbers that may be missing.
-ghost use Rattle.std.specs.Prelude.{◌≡◌, ◌^◌, ◌<◌, ℕ, ℤ, List, Bool, Option, length, FitsSigned};
+ghost use Rattle.std.specs.Prelude.{◌≡◌, ◌^◌, ◌<◌, ℕ, ℤ, List, Bool, false, Option, length, FitsSigned};
 ghost use Rattle.std.specs.Int.{w64};
 ghost use Rattle.sled_codec.specs.Spelling.{SpellsBool, short_bool, SpellsNumber, short_number, or_zero, number_or_zero, SpellsSigned, short_signed, or_zero_signed};
 ghost use Rattle.sled_codec.specs.OptionLaws.{short_spells-bool, one_value-bool, no_front-bool, one_value-option, one_value-option_signed};
@@ -23,6 +23,8 @@ impl Serialize for bool {
     ghost fits = { λ v. Unit {0} };
 
     ghost short = { short_bool };
+
+    ghost takes_memory = { false };
 
     fn can_serialize(&self) -> bool {
         true
@@ -65,6 +67,8 @@ impl Serialize for Option<u64> {
     ghost fits = { λ v. or_zero v < 2 ^ 64 };
 
     ghost short = { λ v. short_number (or_zero v) };
+
+    ghost takes_memory = { false };
 
     fn can_serialize(&self) -> bool {
         match *self {
@@ -124,6 +128,8 @@ impl Serialize for Option<i64> {
     ghost fits = { λ v. FitsSigned w64 (or_zero_signed v) };
 
     ghost short = { λ v. short_signed (or_zero_signed v) };
+
+    ghost takes_memory = { false };
 
     fn can_serialize(&self) -> bool {
         match *self {
@@ -189,6 +195,8 @@ impl Serialize for Option<NonZeroU64> {
     ghost fits = { λ v. v < 2 ^ 64 };
 
     ghost short = { short_number };
+
+    ghost takes_memory = { false };
 
     fn can_serialize(&self) -> bool {
         number_or_zero(*self).can_serialize()

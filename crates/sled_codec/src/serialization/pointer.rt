@@ -1,5 +1,6 @@
 //! Pointers: a byte that tells which, the offset as a number, and the place of the blob if there is one
 //! (`docs/FORMATS.md`, "Pointers").
+ghost use Rattle.std.specs.Prelude.{false};
 ghost use Rattle.sled_codec.specs.declared.result.DiskPtr.{DiskPtr};
 ghost use Rattle.sled_codec.specs.Spelling.{SpellsPointer, FitsPointer, short_pointer};
 ghost use Rattle.sled_codec.specs.PointerLaws.{short_spells-pointer, one_value-pointer, no_front-pointer};
@@ -21,6 +22,8 @@ impl Serialize for DiskPtr {
     ghost fits = { FitsPointer };
 
     ghost short = { short_pointer };
+
+    ghost takes_memory = { false };
 
     fn can_serialize(&self) -> bool {
         match *self {

@@ -1,5 +1,5 @@
 //! Snapshots of the page table (`docs/FORMATS.md`, "Snapshots").
-ghost use Rattle.std.specs.Prelude.{◌≡◌, ◌+◌, ◌-◌, ◌^◌, ◌<◌, [], None};
+ghost use Rattle.std.specs.Prelude.{◌≡◌, ◌+◌, ◌-◌, ◌^◌, ◌<◌, [], None, true};
 ghost use Rattle.sled_codec.specs.Coords.{coords_of, HasCoords, raised};
 
 use crate::result::{DiskPtr, LogOffset, Lsn, Result};
@@ -48,6 +48,8 @@ impl Serialize for PageState {
     ghost fits = { FitsPage };
 
     ghost short = { short_page };
+
+    ghost takes_memory = { true };
 
     fn can_serialize(&self) -> bool {
         match self {
@@ -142,6 +144,8 @@ impl Serialize for Snapshot {
     ghost fits = { FitsSnapshot };
 
     ghost short = { short_snapshot };
+
+    ghost takes_memory = { true };
 
     fn can_serialize(&self) -> bool {
         let coords = (self.stable_lsn, self.active_segment);

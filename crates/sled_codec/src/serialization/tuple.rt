@@ -1,5 +1,5 @@
 //! Pairs and triples: their parts one behind another.
-ghost use Rattle.std.specs.Prelude.{◌≡◌, ◌+◌, ◌^◌, ◌<◌, ◌++◌, ℕ, List, length, refl};
+ghost use Rattle.std.specs.Prelude.{◌≡◌, ◌+◌, ◌^◌, ◌<◌, ◌++◌, ◌||◌, ℕ, List, length, refl};
 ghost use Rattle.sled_codec.specs.Spelling.{SpellsPair};
 ghost use Rattle.sled_codec.specs.PairLaws.{no_front-pair, one_first-pair, one_second-pair};
 
@@ -21,6 +21,8 @@ impl<A: Delimited + Drop, B: Serialize> Serialize for (A, B) {
     ghost fits = { λ v. A.fits v.0 × B.fits v.1 × (length (A.short v.0) + length (B.short v.1) < 2 ^ 64) };
 
     ghost short = { λ v. A.short v.0 ++ B.short v.1 };
+
+    ghost takes_memory = { A.takes_memory || B.takes_memory };
 
     fn can_serialize(&self) -> bool {
         if !self.0.can_serialize() || !self.1.can_serialize() {
@@ -77,6 +79,8 @@ impl<A: Delimited + Drop, B: Delimited + Drop, C: Serialize> Serialize for (A, B
     ghost fits = { λ v. A.fits v.0 × B.fits v.1 × C.fits v.2 × (length (A.short v.0) + length (B.short v.1) + length (C.short v.2) < 2 ^ 64) };
 
     ghost short = { λ v. A.short v.0 ++ B.short v.1 ++ C.short v.2 };
+
+    ghost takes_memory = { A.takes_memory || B.takes_memory || C.takes_memory };
 
     fn can_serialize(&self) -> bool {
         if !self.0.can_serialize() || !self.1.can_serialize() || !self.2.can_serialize() {

@@ -14,12 +14,16 @@ pub trait CrashDevice: Device {
     /// How many calls that change or sync are done before one is stopped within, where one is to be.
     ghost stops_in: { Self → Option ℕ };
 
+    /// Which call is to fail, counted from the next one on; 0 for none.
+    ghost fails_in: { Self → ℕ } = { λ device. 0 };
+
     /// Of the calls that change or sync, `n` more are done, and the next is stopped within: what it changes
     /// is done, and nothing is settled by it. All calls fail from then on until a crash. It takes the
     /// place of an earlier `stop_after`.
     fn stop_after(&mut self, n: u64)
         ensures trace { Self.trace self.new ≡ Self.trace self.old }
         ensures faults { Self.faults self.new ≡ Self.faults self.old }
+        ensures fails { fails_in self.new ≡ fails_in self.old }
         ensures stops { stops_in self.new ≡ Some n }
         ensures stopped { is_stopped self.new ≡ is_stopped self.old };
 
@@ -28,11 +32,12 @@ pub trait CrashDevice: Device {
         ensures { result ≡ is_stopped self.now };
 
     /// Leaves what was chosen, where a crash now may leave that, and else what was settled; answers which.
-    /// It ends what `stop_after` asked for.
+    /// It ends what `stop_after` asked for, and any failure that was asked for.
     fn crash(&mut self, choice: Choice) -> bool
         ensures taken { IsTrue result ↔ MayBeChosen choice (state_of (Self.trace self.old)) }
         ensures left { Self.trace self.new ≡ Crashed (if result then left_of choice else Settled []) ∷ Self.trace self.old }
         ensures faults { Self.faults self.new ≡ Self.faults self.old }
+        ensures fails { fails_in self.new ≡ 0 }
         ensures stops { stops_in self.new ≡ None }
         ensures stopped { is_stopped self.new ≡ false };
 }

@@ -105,6 +105,8 @@ impl CrashDevice for MemDevice {
 
     ghost stops_in = { λ device. device.faults.stops_after };
 
+    ghost fails_in = { λ device. device.faults.fails_in };
+
     fn stop_after(&mut self, n: u64) {
         self.faults.stops_after = Some(n);
     }

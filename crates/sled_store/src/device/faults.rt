@@ -1,9 +1,10 @@
 //! The failures of a device in memory: how many there were, the call that is to fail, and the one that is
 //! to be stopped within.
-ghost use Rattle.std.specs.Prelude.{◌≡◌, ◌↔◌, ◌⊎◌, ◌+◌, ◌-◌, ◌%◌, ◌^◌, IsTrue, IsErr, IfErr, true, false, None};
+ghost use Rattle.std.specs.Prelude.{◌≡◌, ◌≢◌, ◌↔◌, ◌+◌, ◌-◌, ◌%◌, ◌^◌, ◌||◌, ◌==◌, IsTrue, IfErr, OnOk, OnErr, true, false, None};
 ghost use Rattle.std.specs.IoError.{error_kind};
 ghost use Rattle.std.specs.declared.io.ErrorKind.TheVariants.{Other};
 ghost use Rattle.sled_store.specs.Answers.{Counts};
+ghost use Rattle.sled_store.specs.Fewer.{one_fewer};
 
 use std::io;
 
@@ -57,12 +58,14 @@ impl Faults {
 
     // A call came: it goes on, unless it is the one that fails or all do.
     pub(crate) fn begin(&mut self) -> io::Result<()>
-        ensures fails { IsErr result ↔ (IsTrue self.old.is_stopped ⊎ (self.old.fails_in ≡ 1)) }
+        ensures goes_on { OnOk result ((self.old.is_stopped || self.old.fails_in == 1) ≡ false) }
+        ensures fails { OnErr result ((self.old.is_stopped || self.old.fails_in == 1) ≡ true) }
         ensures kind { IfErr result (λ e. error_kind e ≡ Other) }
         ensures count { Counts result self.old.count self.new.count }
-        ensures stopped { self.new.is_stopped ≡ self.old.is_stopped }
+        ensures rest { self.new ≡ record self.old { count = self.new.count; fails_in = self.old.fails_in - 1 } }
     {
-        if self.is_stopped || self.is_due() {
+        let is_due = self.is_due();
+        if self.is_stopped || is_due {
             return Err(self.fail());
         }
         Ok(())
@@ -82,10 +85,12 @@ impl Faults {
 
     // A call that changes or syncs is done, or is stopped within.
     pub(crate) fn end(&mut self) -> io::Result<()>
-        ensures stops { IsErr result ↔ (self.old.stops_after ≡ Some 0) }
+        ensures done { OnOk result (self.old.stops_after ≢ Some 0) }
+        ensures stops { OnErr result (self.old.stops_after ≡ Some 0) }
         ensures kind { IfErr result (λ e. error_kind e ≡ Other) }
         ensures count { Counts result self.old.count self.new.count }
-        ensures stopped { IfErr result (λ _. IsTrue self.new.is_stopped) }
+        ensures ok { OnOk result (self.new ≡ record self.old { stops_after = one_fewer self.old.stops_after }) }
+        ensures err { OnErr result (self.new ≡ record self.old { count = self.new.count; is_stopped = true }) }
     {
         match self.stops_after {
             Some(0) => {

@@ -2,9 +2,9 @@
 //!
 //! It knows of no trace. Its clauses say that where it stands for a state, it stands for the next one
 //! after each call (`specs/Memory.antt`).
-ghost use Rattle.std.specs.Prelude.{◌≡◌, ◌≤◌, ◌<◌, ◌+◌, ◌-◌, ◌^◌, ℕ, [], ◌∷◌, ◌++◌, length, take, drop, replicate, slice_index, vec_len, vec_capacity, OnOk, OnErr, false, min};
+ghost use Rattle.std.specs.Prelude.{◌≡◌, ◌≤◌, ◌<◌, ◌+◌, ◌-◌, ◌^◌, ℕ, [], ◌∷◌, ◌++◌, length, take, drop, replicate, slice_index, vec_len, vec_capacity, IsOk, OnOk, OnErr, true, false, min};
 ghost use Rattle.sled_store.specs.Device.{LogState, at_rest, log_step, overwritten, Wrote, Cut, Synced};
-ghost use Rattle.sled_store.specs.Memory.{Stands, is_within};
+ghost use Rattle.sled_store.specs.Memory.{Stands, is_within, has_room};
 
 use std::alloc::{AllocError, Global};
 
@@ -40,15 +40,17 @@ impl MemLog {
 
     // Writes the first `count` of these bytes, where all were asked for.
     pub(crate) fn write(&mut self, at: usize, bytes: &[u8], count: usize) -> Result<(), AllocError>
-        requires fits { at + length bytes.now < 2 ^ 63 }
-        requires count { count ≤ length bytes.now }
+        requires { count ≤ length bytes.now }
         ensures ok { (s : LogState) → Stands self.old s → OnOk result (Stands self.new (log_step (Wrote at bytes.now (take count bytes.now)) s)) }
         ensures err { (s : LogState) → Stands self.old s → OnErr result (Stands self.new s) }
+        ensures room { has_room self.old (at + length bytes.now) ≡ true → IsOk result }
     {
         if bytes.is_empty() {
             return Ok(());
         }
-        let end = at + bytes.len();
+        let Some(end) = at.checked_add(bytes.len()) else {
+            return Err(AllocError);
+        };
         make_room(&mut self.bytes, end)?;
         make_room(&mut self.settled, end)?;
         self.loose.reserve(1)?;
@@ -87,6 +89,7 @@ fn make_room(bytes: &mut Vec<u8>, end: usize) -> Result<(), AllocError>
     ensures items { bytes.new.items ≡ bytes.old.items }
     ensures room { OnOk result (end ≤ vec_capacity bytes.new) }
     ensures capacity { vec_capacity bytes.old ≤ vec_capacity bytes.new }
+    ensures succeeds { end ≤ vec_capacity bytes.old → IsOk result }
 {
     if end > bytes.len() {
         bytes.reserve(end - bytes.len())?;
@@ -104,10 +107,11 @@ fn add_range(ranges: &mut Vec<(usize, usize)>, from: usize, end: usize)
 
 // Writes over what is there, and past the end.
 fn put(bytes: &mut Vec<u8>, at: usize, new: &[u8]) -> Result<(), AllocError>
-    requires { at + length new.now < 2 ^ 63 }
+    requires { at + length new.now < 2 ^ 64 }
     ensures ok { OnOk result (bytes.new.items ≡ overwritten bytes.old.items at new.now) }
     ensures err { OnErr result (bytes.new.items ≡ bytes.old.items) }
     ensures capacity { vec_capacity bytes.old ≤ vec_capacity bytes.new }
+    ensures succeeds { at + length new.now ≤ vec_capacity bytes.old → IsOk result }
 {
     if new.is_empty() {
         return Ok(());
@@ -122,6 +126,7 @@ fn grow(bytes: &mut Vec<u8>, end: usize) -> Result<(), AllocError>
     ensures ok { OnOk result (bytes.new.items ≡ bytes.old.items ++ replicate (end - length bytes.old.items) 0) }
     ensures err { OnErr result (bytes.new.items ≡ bytes.old.items) }
     ensures capacity { vec_capacity bytes.old ≤ vec_capacity bytes.new }
+    ensures succeeds { end ≤ vec_capacity bytes.old → IsOk result }
 {
     if end > bytes.len() {
         bytes.resize(end, 0)?;

@@ -2,7 +2,7 @@
 //!
 //! What is read, and what a crash may leave, is kept as data; what was asked so far stands in proofs
 //! alone. A ghost field ties the two, so that each answer is that of the trace.
-ghost use Rattle.std.specs.Prelude.{◌≡◌, ◌<◌, ◌+◌, ◌/◌, ◌^◌, ◌⊎◌, [], ◌∷◌, length, take};
+ghost use Rattle.std.specs.Prelude.{◌≡◌, ◌<◌, ◌+◌, ◌/◌, ◌⊎◌, [], ◌∷◌, None, false, length, take};
 ghost use Rattle.sled_store.specs.Device.{state_of, Wrote};
 ghost use Rattle.sled_store.specs.Memory.{Stands};
 ghost use Rattle.sled_store.specs.MemoryNames.{Keeps};
@@ -33,13 +33,14 @@ pub struct MemDevice {
 }
 
 impl MemDevice {
-    ghost use Rattle.sled_store.specs.Due.{fails_in};
+    ghost use Rattle.sled_store.specs.Due.{Awaits, stops_in, is_stopped};
+    ghost use Rattle.sled_store.specs.Memory.{has_room};
 
     /// An empty device. It takes no memory.
     pub fn new(alloc: Global) -> MemDevice
         ensures trace { ⟦<MemDevice as Device>⟧.trace result ≡ [] }
         ensures faults { ⟦<MemDevice as Device>⟧.faults result ≡ 0 }
-        ensures fails_in { fails_in result ≡ 0 }
+        ensures awaits { Awaits result 0 None false }
     {
         MemDevice {
             story: Story::new(),
@@ -60,16 +61,16 @@ impl MemDevice {
         requires { 0 < n }
         ensures trace { ⟦<MemDevice as Device>⟧.trace self.new ≡ ⟦<MemDevice as Device>⟧.trace self.old }
         ensures faults { ⟦<MemDevice as Device>⟧.faults self.new ≡ ⟦<MemDevice as Device>⟧.faults self.old }
-        ensures fails_in { fails_in self.new ≡ n }
+        ensures awaits { Awaits self.new n (stops_in self.old) (is_stopped self.old) }
     {
         self.faults.fails_in = n;
     }
 
-    // What a write that fails does: the first half of its bytes is written, or nothing where there is no
+    // What a write does that is to fail: the first half of its bytes is written, or nothing where there is no
     // memory for that.
     fn write_half(&mut self, at: u64, bytes: &[u8])
-        requires { at + length bytes.now < 2 ^ 63 }
-        ensures left { (self.new.story.events ≡ self.old.story.events) ⊎ (self.new.story.events ≡ Wrote at bytes.now (take (length bytes.now / 2) bytes.now) ∷ self.old.story.events) }
+        ensures left { (self.new.story.events ≡ Wrote at bytes.now (take (length bytes.now / 2) bytes.now) ∷ self.old.story.events)
+            ⊎ ((self.new.story.events ≡ self.old.story.events) × (has_room self.old.log (at + length bytes.now) ≡ false)) }
         ensures faults { self.new.faults ≡ self.old.faults }
     {
         let half = bytes.len() / 2;
@@ -84,9 +85,13 @@ impl MemDevice {
 }
 
 impl Device for MemDevice {
+    ghost use Rattle.sled_store.specs.Due.{Obeys};
+
     ghost trace = { λ device. device.story.events };
 
     ghost faults = { λ device. device.faults.count };
+
+    ghost Obeys = { Obeys };
 
     fn len(&mut self) -> io::Result<u64> {
         self.faults.begin()?;
@@ -102,12 +107,12 @@ impl Device for MemDevice {
     }
 
     fn write_at(&mut self, at: u64, bytes: &[u8]) -> io::Result<()> {
-        if self.faults.is_stopped {
-            return Err(self.faults.fail());
-        }
-        if self.faults.is_due() {
-            self.write_half(at, bytes);
-            return Err(self.faults.fail());
+        let was_stopped = self.faults.is_stopped;
+        if let Err(e) = self.faults.begin() {
+            if !was_stopped {
+                self.write_half(at, bytes);
+            }
+            return Err(e);
         }
         self.log.write(at as usize, bytes, bytes.len())?;
         self.story = self.story.then(&Note::Wrote {

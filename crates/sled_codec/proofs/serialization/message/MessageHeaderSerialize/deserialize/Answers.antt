@@ -15,7 +15,7 @@ returns-in_err-code-clause-corrupt c =
     let e = err_from_is_err_and c.from_residual-in_err-code.result c.from_residual-in_err-code.ensures.1 in
     rw (e.1, e.2)
     (λ corrupt front rest v is follows p.
-    c.in_err-code.ensures.corrupt corrupt (p.code ∷ []) _ p.code (behind-sum _ front rest v p is _ _ c.in_ok-crc32.ensures.ok) tt refl)
+    c.in_err-code.ensures.corrupt corrupt (p.code ∷ []) _ p.code (behind-sum _ front rest v p is _ _ c.in_ok-crc32.ensures.ok) tt (record { is = refl; small = p.coded }))
 
 pub returns-in_err-len-clause-corrupt : goal.returns-in_err-len-clause-corrupt
 returns-in_err-len-clause-corrupt c =

@@ -12,7 +12,7 @@ returns-then-bytes-end-clause-corrupt c =
     λ _ front rest v is follows spelled. omega (arith, has_number _ front rest v is spelled, c.more_bytes-end.ensures)
 
 pub returns-clause-ok : goal.returns-clause-ok
-returns-clause-ok c = takes_number _ _ _ c.more_bytes-end.ensures (omega arith) c.number_of-value.ensures.value (omega arith)
+returns-clause-ok c = takes_number _ _ _ c.more_bytes-end.ensures (omega arith) c.number_of-value.ensures.value (omega arith) (omega arith)
 
 pub returns-then-lead-le240-clause-ok : goal.returns-then-lead-le240-clause-ok
 returns-then-lead-le240-clause-ok c =
