@@ -12,7 +12,7 @@ use Rattle.sled_codec.specs.Snapshots.{Shot}
 use Rattle.sled_codec.proofs.Segments.{length-short_header}
 use Rattle.sled_store.specs.Answers.{Tears}
 use Rattle.sled_store.specs.Device.{Event, Wrote, Synced, Trace, LogState, State, state_of, step}
-use Rattle.sled_store.specs.Foreign.{StandsWhole, NoForeignLog}
+use Rattle.sled_store.specs.Foreign.{IsWhole, NoForeignLog}
 use Rattle.sled_store.specs.Moments.{LeavesOnly}
 use Rattle.sled_store.specs.Script.{Performs, Along}
 use Rattle.sled_store.specs.SnapshotFiles.{stable_place}
@@ -40,13 +40,13 @@ module _ (sum : List ℕ → ℕ) (size : ℕ) where
   -- No segment is found, where none was begun and each write since was of zeros.
   none_found : (past : LogState) (placed : List (ℕ × List ℕ)) (log : List ℕ) → NoneBegun sum size past.settled → AreZeros past.asked → NoForeignLog sum size past placed log → ((lsn mark : ℤ) → IsHeader sum (replicate 20 0) lsn mark → ⊥)
       → (s : Segment) → IsFoundSegment sum size log 0 s → ⊥
-  unfolding StandsWhole
+  unfolding IsWhole
   none_found past placed log none zeros own no_header s found =
       let there : s.slot / size * size ≡ s.slot = let begins = found.slot in omega (arith, mod-add-div' s.slot size, begins) in
-      let whole : StandsWhole past (s.slot / size * size) (part log (s.slot / size * size) 20) =
+      let whole : IsWhole past (s.slot / size * size) (part log (s.slot / size * size) 20) =
       (own.headers (s.slot / size) (pos s.place) s.mark (subst (λ n. IsHeader sum (part log n 20) (pos s.place) s.mark) (sym there) found.header)).1 in
       let twenty : length (part log s.slot 20) ≡ 20 = ap length found.header.is ∙ length-short_header sum (pos s.place) s.mark in
-      let here : part log s.slot 20 ≡ replicate 20 0 = elim (subst (λ n. StandsWhole past n (part log n 20)) there whole) [
+      let here : part log s.slot 20 ≡ replicate 20 0 = elim (subst (λ n. IsWhole past n (part log n 20)) there whole) [
         | inl stood ↦ (
             let same : part past.settled s.slot 20 ≡ part log s.slot 20 = ap (part past.settled s.slot) (sym twenty) ∙ stood in
             sym same ∙ none s (record { slot = found.slot; header = subst (λ (l : List ℕ). IsHeader sum l (pos s.place) s.mark) (sym same) found.header; not_below = found.not_below }))

@@ -22,6 +22,8 @@ pub mod HoldsLemmas
 pub mod LogFileLemmas
 pub mod MainLemmas
 pub mod OpenLemmas
+pub mod OwnLemmas
+pub mod OwnRecords
 pub mod Parts
 pub mod PathLemmas
 pub mod Ranges

@@ -16,7 +16,7 @@ use Rattle.sled_codec.specs.Sums.{flipped}
 use Rattle.sled_codec.specs.History.{Message}
 use Rattle.sled_codec.proofs.Segments.{length-short_header}
 use Rattle.sled_store.specs.Device.{LogState, overwritten, LeavesLog}
-use Rattle.sled_store.specs.Foreign.{IsReached, at_first, behind, Covers, StandsWhole, NoForeignLog}
+use Rattle.sled_store.specs.Foreign.{IsReached, at_first, behind, Covers, IsWhole, NoForeignLog}
 use Rattle.sled_core.specs.declared.iobuf.Site.{Site}
 use Rattle.sled_core.specs.declared.met.Segment.{Segment}
 use Rattle.sled_core.specs.Reading.{StandsAt}
@@ -126,7 +126,7 @@ module _ (sum : List ℕ → ℕ) (size : ℕ) (site : Site) (old asked now left
     whole : length (part left (site.slot + at) len) ≡ len
     whole = let there = s.in_file in omega (arith, there, length-take len (drop (site.slot + at) left), length-drop (site.slot + at) left)
 
-    whole_there : StandsWhole past (site.slot / size * size + at) (part left (site.slot / size * size + at) len)
+    whole_there : IsWhole past (site.slot / size * size + at) (part left (site.slot / size * size + at) len)
     whole_there =
         (only_own.records (site.slot / size) site.place header.mark at len h.kind h.pid body
         (subst (λ n. IsHeader sum (part left n 20) (pos site.place) header.mark) (sym slot_there) header.header)
@@ -134,8 +134,8 @@ module _ (sum : List ℕ → ℕ) (size : ℕ) (site : Site) (old asked now left
         fits
         (subst (λ n. IsRecord sum (part left (n + at) len) h.kind h.pid (site.place / size) body) (sym slot_there) (record_of_stands sum size left (site.slot + at) (site.place / size) h body len s))).1
 
-    stands_whole : StandsWhole past (site.slot + at) (part left (site.slot + at) len)
-    stands_whole = subst (λ n. StandsWhole past (n + at) (part left (n + at) len)) slot_there whole_there
+    stands_whole : IsWhole past (site.slot + at) (part left (site.slot + at) len)
+    stands_whole = subst (λ n. IsWhole past (n + at) (part left (n + at) len)) slot_there whole_there
 
     -- there were zeros before
     not_before : part old (site.slot + at) (length (part left (site.slot + at) len)) ≡ part left (site.slot + at) len → ⊥
@@ -156,7 +156,7 @@ module _ (sum : List ℕ → ℕ) (size : ℕ) (site : Site) (old asked now left
         (reach, ap (λ n. part new n len) (sym there) ∙ part_laid sum size old (site.slot + from) asked (site.slot + at - (site.slot + from)) len (omega (arith, reach, later)) ∙ counted)
 
     pub written_there : (at + len ≤ from + length asked) × (part new (site.slot + at) len ≡ part left (site.slot + at) len)
-    unfolding StandsWhole
+    unfolding IsWhole
     written_there = elim stands_whole [
       | inl stood ↦ absurd (not_before stood)
       | inr write ↦ (
@@ -235,12 +235,12 @@ module _ (sum : List ℕ → ℕ) (size : ℕ) (site : Site) (old asked now left
 
   -- a header that is found after the crash stood there before, or the write has it
   found_where : (y : Segment) → IsFoundSegment sum size left site.place y → (part old y.slot 20 ≡ part left y.slot 20) ⊎ Covers (site.slot + from, asked) y.slot (part left y.slot 20)
-  unfolding StandsWhole
+  unfolding IsWhole
   found_where y found =
       let there : y.slot / size * size ≡ y.slot = let begins = found.slot in omega (arith, mod-add-div' y.slot size, begins) in
-      let whole : StandsWhole past (y.slot / size * size) (part left (y.slot / size * size) 20) =
+      let whole : IsWhole past (y.slot / size * size) (part left (y.slot / size * size) 20) =
       (only_own.headers (y.slot / size) (pos y.place) y.mark (subst (λ n. IsHeader sum (part left n 20) (pos y.place) y.mark) (sym there) found.header)).1 in
-      elim (subst (λ n. StandsWhole past n (part left n 20)) there whole) [
+      elim (subst (λ n. IsWhole past n (part left n 20)) there whole) [
         | inl stood ↦ inl (ap (part old y.slot) (sym (found_long y found)) ∙ stood)
         | inr write ↦ inr (subst (λ (w : ℕ × List ℕ). Covers w y.slot (part left y.slot 20)) (the_only (site.slot + from, asked) write.0 write.1) write.2)
       ]

@@ -7,7 +7,7 @@ use Rattle.sled_codec.specs.Places.{part}
 use Rattle.sled_codec.specs.Record.{IsRecord, IsHeader}
 use Rattle.sled_codec.specs.History.{History}
 use Rattle.sled_store.specs.Device.{LeavesLog, overwritten}
-use Rattle.sled_store.specs.Foreign.{IsReached, at_first, Covers, StandsWhole, NoForeignLog}
+use Rattle.sled_store.specs.Foreign.{IsReached, at_first, Covers, IsWhole, NoForeignLog}
 use Rattle.sled_store.proofs.LooseLemmas.{end_of-le}
 use Rattle.sled_store.proofs.OverwrittenLemmas.{length-overwritten, overwritten-part}
 use Rattle.sled_core.specs.Reading.{StandsAt}
@@ -124,7 +124,7 @@ module _ (sum : List ℕ → ℕ) (size : ℕ) (log : List ℕ) (H : History) (A
         at : 0 * size + begun.stop ≡ begun.stop
         at = omega arith
 
-        whole_there : StandsWhole (after_write log begun.stop zeros now) (0 * size + begun.stop) (part left (0 * size + begun.stop) len)
+        whole_there : IsWhole (after_write log begun.stop zeros now) (0 * size + begun.stop) (part left (0 * size + begun.stop) len)
         whole_there =
             (only_own.records 0 0 header_left.mark begun.stop len h.kind h.pid body
             (subst (λ n. IsHeader sum (part left n 20) (pos 0) header_left.mark) (sym slot) header_left.header)
@@ -133,11 +133,11 @@ module _ (sum : List ℕ → ℕ) (size : ℕ) (log : List ℕ) (H : History) (A
             (subst (λ n. IsRecord sum (part left n len) h.kind h.pid (0 / size) body) (sym at)
             (subst (λ n. IsRecord sum (part left begun.stop len) h.kind h.pid n body) (sym first_number) (record_of_stands sum size left begun.stop 0 h body len s)))).1
 
-        stands_whole : StandsWhole (after_write log begun.stop zeros now) begun.stop (part left begun.stop len)
-        stands_whole = subst (λ n. StandsWhole (after_write log begun.stop zeros now) n (part left n len)) at whole_there
+        stands_whole : IsWhole (after_write log begun.stop zeros now) begun.stop (part left begun.stop len)
+        stands_whole = subst (λ n. IsWhole (after_write log begun.stop zeros now) n (part left n len)) at whole_there
 
         stands_where : (part log begun.stop len ≡ part left begun.stop len) ⊎ (part zeros 0 len ≡ part left begun.stop len)
-        unfolding StandsWhole
+        unfolding IsWhole
         stands_where = elim stands_whole [
           | inl stood ↦ inl (ap (part log begun.stop) (sym whole) ∙ stood)
           | inr write ↦ (

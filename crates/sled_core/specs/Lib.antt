@@ -5,6 +5,7 @@ pub mod Causes
 pub mod Fits
 pub mod Good
 pub mod LogFile
+pub mod Own
 pub mod Reading
 pub mod Ready
 pub mod Recoverable

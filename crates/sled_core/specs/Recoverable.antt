@@ -26,12 +26,16 @@ use Rattle.sled_core.specs.Good.{HasOwnBlob, Reads}
 
 -- The premise on a checksum.
 
+-- twenty zeros pass as no header
+abbrev pub NoHeaderOfZeros : (List ℕ → ℕ) → Type 0
+NoHeaderOfZeros sum = (lsn mark : ℤ) → IsHeader sum (replicate 20 0) lsn mark → ⊥
+
 -- Only what the log itself wrote passes as its own, in all parts of a content, and zeros pass as no header.
 pub record NoForeign (sum : List ℕ → ℕ) (size : ℕ) (past : State) (left : Content) : Type 0 where
   pub log : NoForeignLog sum size past.log past.placed left.log
   pub blobs : NoForeignNames (λ bytes. (k : MessageKind) × (item : List ℕ) × IsBlob sum bytes k item) past.blobs left.blobs
   pub snapshots : NoForeignNames (λ bytes. (s : Shot) × IsSnapshotFile sum bytes s) past.snapshots left.snapshots
-  pub zeros : (lsn mark : ℤ) → IsHeader sum (replicate 20 0) lsn mark → ⊥
+  pub zeros : NoHeaderOfZeros sum
 
 -- The snapshots.
 

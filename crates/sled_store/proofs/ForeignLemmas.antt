@@ -6,7 +6,7 @@ use Rattle.std.proofs.lemmas.List.Elements.{Contains-append_right}
 use Rattle.sled_codec.specs.Places.{part}
 use Rattle.sled_store.specs.Device.{Event, NameState, LogState, NamesState, State, step, renamed, unnamed, settled_file, settled_files, at_rest, names_at_rest}
 use Rattle.sled_store.specs.Answers.{Tears}
-use Rattle.sled_store.specs.Foreign.{StandsWhole, HeaderWasPlaced, RecordWasPlaced, NoForeignLog, NoForeignNames}
+use Rattle.sled_store.specs.Foreign.{IsWhole, HeaderWasPlaced, RecordWasPlaced, NoForeignLog, NoForeignNames}
 use Rattle.sled_store.proofs.LeavesLemmas.{Asked, write, cut, make_blob, remove_blob, fill, publish, remove_snapshot}
 
 -- Two states of a part have the same settled content, and what was asked of the first was asked of the second.
@@ -30,8 +30,8 @@ pub record Knows (s t : State) : Type 0 where
 
 -- So what passes as the log's own by the first does so by the second.
 
-whole_still : (s t : LogState) (at : ℕ) (text : List ℕ) → LogKnows s t → StandsWhole s at text → StandsWhole t at text
-unfolding StandsWhole
+whole_still : (s t : LogState) (at : ℕ) (text : List ℕ) → LogKnows s t → IsWhole s at text → IsWhole t at text
+unfolding IsWhole
 whole_still s t at text knows (inl stood) = inl (subst (λ (l : List ℕ). part l at (length text) ≡ text) knows.settled stood)
 whole_still s t at text knows (inr since) = inr (since.0, knows.asked since.0 since.1, since.2)
 
@@ -147,14 +147,14 @@ torn_knows e torn s (remove_snapshot number) tears =
 
 -- What a crash left, or was read at a sync, is settled from then on. What was the log's own in it is so still.
 
-take_again : (n : ℕ) (xs : List ℕ) → take (length (take n xs)) xs ≡ take n xs
+pub take_again : (n : ℕ) (xs : List ℕ) → take (length (take n xs)) xs ≡ take n xs
 take_again zero xs = refl
 take_again (suc n) [] = refl
 take_again (suc n) (x ∷ xs) = ap (λ (l : List ℕ). x ∷ l) (take_again n xs)
 
 -- the log file, as it was left
 pub own_log_at_rest : (sum : List ℕ → ℕ) (size : ℕ) (past : LogState) (placed : List (ℕ × List ℕ)) (log : List ℕ) → NoForeignLog sum size past placed log → NoForeignLog sum size (at_rest log) placed log
-unfolding StandsWhole
+unfolding IsWhole
 own_log_at_rest sum size past placed log own = record {
   headers = λ slot lsn mark is. ((own.headers slot lsn mark is).0, inl (take_again 20 (drop (slot * size) log)));
   records = λ slot lsn mark at len kind page body is reached fits rec. ((own.records slot lsn mark at len kind page body is reached fits rec).0, inl (take_again len (drop (slot * size + at) log)));

@@ -13,35 +13,38 @@ pub record Covers (write : ℕ × List ℕ) (at : ℕ) (text : List ℕ) : Type 
   pub same : part write.1 (at - write.0) (length text) ≡ text
 
 -- These bytes stand whole at an offset: in the settled log, or in one of the writes since. (Whether a reader comes to them there doesn't matter.)
-unfoldable pub StandsWhole : LogState → ℕ → List ℕ → Type 0
-StandsWhole past at text = (part past.settled at (length text) ≡ text) ⊎ ((write : ℕ × List ℕ) × Contains past.asked write × Covers write at text)
+unfoldable pub IsWhole : LogState → ℕ → List ℕ → Type 0
+IsWhole past at text = (part past.settled at (length text) ≡ text) ⊎ ((write : ℕ × List ℕ) × Contains past.asked write × Covers write at text)
 
 -- One of these writes laid down this header: it begins at that offset of the file with it.
 unfoldable pub HeaderWasPlaced : List (ℕ × List ℕ) → ℕ → List ℕ → Type 0
 HeaderWasPlaced placed at text = (write : ℕ × List ℕ) × Contains placed write × (write.0 ≡ at) × (take 20 write.1 ≡ text)
 
+-- where in a write to an offset of the file the first record begins: behind a header, where a slot begins at that offset
+abbrev pub first_record : ℕ → ℕ → ℕ
+first_record size at = if nat_lt 0 (at % size) then 0 else 20
+
 module _ (sum : List ℕ → ℕ) (size : ℕ) where
   -- The offsets of a text that a reader of records of one number comes to, from a first one on: the first, and each end of a record that begins at one.
   pub data IsReached (number : ℕ) (text : List ℕ) (first : ℕ) : ℕ → Type 0 where
     at_first : IsReached number text first first
-    behind : (at len : ℕ) (kind : MessageKind) (page : ℕ) (body : List ℕ) → IsReached number text first at → at + len ≤ length text → IsRecord sum (part text at len) kind page number body → IsReached number text first (at + len)
-
-  -- where in a write to an offset of the file the first record begins: behind a header, where a slot begins at that offset
-  abbrev pub first_record : ℕ → ℕ
-  first_record at = if nat_lt 0 (at % size) then 0 else 20
+    behind : (at len : ℕ) (kind : MessageKind) (page : ℕ) (body : List ℕ) → IsReached number text first at → at + len ≤ length text
+        → IsRecord sum (part text at len) kind page number body → IsReached number text first (at + len)
 
   -- One of these writes laid down this record of a number: it covers it, and a reader of records of that number comes to it from the first one of the write.
   unfoldable pub RecordWasPlaced : List (ℕ × List ℕ) → ℕ → ℕ → List ℕ → Type 0
   RecordWasPlaced placed number at text =
-      (write : ℕ × List ℕ) × Contains placed write × Covers write at text × IsReached number write.1 (first_record write.0) (at - write.0)
+      (write : ℕ × List ℕ) × Contains placed write × Covers write at text × IsReached number write.1 (first_record size write.0) (at - write.0)
 
-  -- In each slot that begins with a header, that header, and each record of its number that a reader comes to, was placed there by one of all writes ever asked, and stands whole.
+  -- In each slot that begins with a header, that header and each record of its number that a reader comes to was placed there by the log, and stands whole.
   pub record NoForeignLog (past : LogState) (placed : List (ℕ × List ℕ)) (log : List ℕ) : Type 0 where
     pub headers : (slot : ℕ) (lsn mark : ℤ) → IsHeader sum (part log (slot * size) 20) lsn mark
-        → HeaderWasPlaced placed (slot * size) (part log (slot * size) 20) × StandsWhole past (slot * size) (part log (slot * size) 20)
-    pub records : (slot lsn : ℕ) (mark : ℤ) (at len : ℕ) (kind : MessageKind) (page : ℕ) (body : List ℕ) → IsHeader sum (part log (slot * size) 20) (pos lsn) mark
+        → HeaderWasPlaced placed (slot * size) (part log (slot * size) 20) × IsWhole past (slot * size) (part log (slot * size) 20)
+    pub records : (slot lsn : ℕ) (mark : ℤ) (at len : ℕ) (kind : MessageKind) (page : ℕ) (body : List ℕ)
+        → IsHeader sum (part log (slot * size) 20) (pos lsn) mark
         → IsReached (lsn / size) (part log (slot * size) size) 20 at → at + len ≤ size → IsRecord sum (part log (slot * size + at) len) kind page (lsn / size) body
-        → RecordWasPlaced placed (lsn / size) (slot * size + at) (part log (slot * size + at) len) × StandsWhole past (slot * size + at) (part log (slot * size + at) len)
+        → RecordWasPlaced placed (lsn / size) (slot * size + at) (part log (slot * size + at) len)
+        × IsWhole past (slot * size + at) (part log (slot * size + at) len)
 
 -- A file that passes its sum is one that was written under its name: it is the settled one, or was asked for since.
 pub record NoForeignNames (passes : List ℕ → Type 0) (past : NamesState) (files : ℤ → Option (List ℕ)) : Type 0 where

@@ -1,0 +1,41 @@
+//! Laws of the definitions, for those who build on the log: they say that its premises can be met.
+ghost use Rattle.std.specs.Prelude.{◌≡◌, ◌≤◌, ◌+◌, ◌∷◌, ℕ, List, [], length};
+ghost use Rattle.sled_store.specs.Device.{State, Left, Settled, Wrote, Synced, Crashed, fresh, step, state_of, content_of, content_left};
+ghost use Rattle.sled_core.specs.Own.{IsSomeRecord, written_out_of_order};
+ghost use Rattle.sled_core.specs.Recoverable.{NoForeign, NoHeaderOfZeros};
+
+/// On an empty device nothing is foreign.
+pub fn nothing_is_foreign_on_an_empty_device()
+    ensures { (sum : List ℕ → ℕ) (size : ℕ) → NoHeaderOfZeros sum → NoForeign sum size fresh (content_of fresh) }
+{}
+
+/// After one write to an empty log file, whatever it is, nothing is foreign in what is read, before a sync and after it,
+/// nor in what a crash leaves that loses all of it. (A write that a file keeps half is what the premise is for.)
+pub fn nothing_is_foreign_after_the_first_write()
+    ensures read { (sum : List ℕ → ℕ) (size : ℕ) (text : List ℕ) → NoHeaderOfZeros sum → length text ≤ size
+        → NoForeign sum size (state_of (Wrote 0 text text ∷ [])) (content_of (state_of (Wrote 0 text text ∷ []))) }
+    ensures synced { (sum : List ℕ → ℕ) (size : ℕ) (text : List ℕ) → NoHeaderOfZeros sum → length text ≤ size
+        → NoForeign sum size (state_of (Synced ∷ Wrote 0 text text ∷ [])) (content_of (state_of (Synced ∷ Wrote 0 text text ∷ []))) }
+    ensures lost { (sum : List ℕ → ℕ) (size : ℕ) (text : List ℕ) → NoHeaderOfZeros sum
+        → NoForeign sum size (state_of (Wrote 0 text text ∷ [])) (content_left (Settled []) (state_of (Wrote 0 text text ∷ []))) }
+{}
+
+/// A record that was written before the one in front of it isn't foreign, not even before that one is synced.
+pub fn nothing_is_foreign_where_records_come_out_of_order()
+    ensures { (sum : List ℕ → ℕ) (size : ℕ) (header first second third : List ℕ) → NoHeaderOfZeros sum → length header ≡ 20
+        → IsSomeRecord sum first → IsSomeRecord sum second → IsSomeRecord sum third → 20 + length first + length second + length third ≤ size
+        → NoForeign sum size (state_of (written_out_of_order header first second third))
+        (content_of (state_of (written_out_of_order header first second third))) }
+{}
+
+/// What is read stays without anything foreign when the log file is synced.
+pub fn nothing_becomes_foreign_by_a_sync()
+    ensures { (sum : List ℕ → ℕ) (size : ℕ) (s : State) → NoForeign sum size s (content_of s)
+        → NoForeign sum size (step Synced s) (content_of (step Synced s)) }
+{}
+
+/// What a crash left stays without anything foreign once it is what is read.
+pub fn nothing_becomes_foreign_after_a_crash()
+    ensures { (sum : List ℕ → ℕ) (size : ℕ) (left : Left) (s : State) → NoForeign sum size s (content_left left s)
+        → NoForeign sum size (step (Crashed left) s) (content_of (step (Crashed left) s)) }
+{}
