@@ -34,6 +34,7 @@ pub mod PublishLemmas
 pub mod ReadyAfter
 pub mod RecoveryHolds
 mod RecoveryLemmas
+pub mod RecoveryLater
 pub mod RecoveryMoments
 pub mod RemovalLemmas
 pub mod RestartLemmas
