@@ -30,6 +30,7 @@ mod PlainSegments
 mod PlainSlots
 mod PlainTail
 mod PlainWhole
+pub mod PublicLaws
 pub mod PublishLemmas
 pub mod ReadyAfter
 pub mod RecoveryHolds

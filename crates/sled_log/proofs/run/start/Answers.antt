@@ -23,12 +23,12 @@ returns-in-Err-clause-step g c = λ a at own.
     let starts = c.in-Err.ensures.starts a.history a.acknowledged a.floor (at.ready below) in (
       record {
         formed = at.closed.formed;
-        left = at_last (LeavesRecoverable g.C.Checksum.sum_of size a.history a.acknowledged a.floor) _ _ (c.start.ensures.crash a.history a.acknowledged a.floor (at.ready below));
+        left = at_last (LeavesRecoverable g.C.Checksum.sum_of size a.history a.acknowledged a.floor) _ _ (c.in-Err.ensures.crash a.history a.acknowledged a.floor (at.ready below));
         closed = refl;
         none = refl;
       },
-      start_of_device c.in-Err.e _ _ _ _ _ c.start.ensures.answers starts.0 starts.1,
+      start_of_device c.in-Err.e _ _ _ _ _ c.in-Err.ensures.answers starts.0 starts.1,
     )
 
 pub returns-in-Err-clause-on : goal.returns-in-Err-clause-on
-returns-in-Err-clause-on g c = record { later = c.start.ensures.later; size = ap (λ x. x.segment_size) c.start.ensures.config.config; can_go_on = tt }
+returns-in-Err-clause-on g c = record { later = c.in-Err.ensures.later; size = ap (λ x. x.segment_size) c.in-Err.ensures.config.config; can_go_on = tt }

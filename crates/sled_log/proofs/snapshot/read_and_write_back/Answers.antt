@@ -1,4 +1,4 @@
-use Rattle.std.proofs.Common.{◌≡◌, ◌⊎◌, ◌∙◌, ◌≤◌, ℕ, List, [], ◌∷◌, length, refl, inl, inr, sym, subst, arith}
+use Rattle.std.proofs.Common.{◌≡◌, ◌⊎◌, ◌∙◌, ◌≤◌, ℕ, List, [], ◌∷◌, length, refl, rules, inl, inr, sym, subst, arith}
 use Rattle.sled_core.specs.Scan.{Readable}
 use Rattle.sled_store.specs.Device.{Trace, Synced, NamesSynced, state_of}
 use Rattle.sled_store.specs.SnapshotFiles.{BeginsFrom}
@@ -70,4 +70,4 @@ returns-in-Err-clause-comes g c =
     }
 
 pub returns-in_err-settle-clause-comes : goal.returns-in_err-settle-clause-comes
-returns-in_err-settle-clause-comes g c = record { calls = inl c.settle.ensures.calls; ok = tt; corrupt = λ damaged. absurd (c.settle.ensures.readable damaged) }
+returns-in_err-settle-clause-comes g c = record { calls = inl c.settle.ensures.calls; ok = search rules; corrupt = λ damaged. absurd (search rules) }
