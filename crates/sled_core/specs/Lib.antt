@@ -4,6 +4,7 @@ pub mod Buffers
 pub mod Causes
 pub mod Fits
 pub mod Good
+pub mod Keeps
 pub mod LogFile
 pub mod Own
 pub mod Reading
@@ -11,5 +12,6 @@ pub mod Ready
 pub mod Recoverable
 pub mod Running
 pub mod Scan
+pub mod Starts
 pub mod Tail
 pub mod Tickets

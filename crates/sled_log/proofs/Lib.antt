@@ -30,10 +30,12 @@ mod PlainSegments
 mod PlainSlots
 mod PlainTail
 mod PlainWhole
+pub mod PublicLaws
 pub mod PublishLemmas
 pub mod ReadyAfter
 pub mod RecoveryHolds
 mod RecoveryLemmas
+pub mod RecoveryLater
 pub mod RecoveryMoments
 pub mod RemovalLemmas
 pub mod RestartLemmas

@@ -27,6 +27,7 @@ use Rattle.sled_core.proofs.ScanLemmas.{aligned_offset}
 use Rattle.sled_core.proofs.LogFileLemmas.{stands_some, stand_none}
 use Rattle.sled_core.proofs.GivesLemmas.{StandsWhole, own_stands}
 use Rattle.sled_log.specs.Recovery.{Conclusion, Recovered, Damaged, Applied, applied, has_no_table, are_whole, table_of, unchanged, concluded, cut_of, is_filled, tip_of, is_beyond, least_place, ContinuesFrom, Recovers}
+pub use Rattle.sled_log.specs.Restores.{BeginsAgain}
 use Rattle.sled_log.specs.WritesBack.{IsWrittenBack}
 use Rattle.sled_log.proofs.FoldLemmas.{fold_all}
 use Rattle.sled_log.proofs.NewestLemmas.{chosen_well}
@@ -43,10 +44,6 @@ none_misplaced : (sum : List ℕ → ℕ) (size : ℕ) (r : Readable) (first : S
 unfolding ContinuesFrom
 none_misplaced sum size r first x (inl damaged) y found bad = let no : Recovered x ≡ Damaged = damaged.0 in cc
 none_misplaced sum size r first x (inr (ordering, is, replays)) y found bad = is.placed y ((is.found y).1 found) bad
-
--- a recovery would begin from this snapshot or one of the same place and pages: from itself, or from the one that was there
-abbrev pub BeginsAgain : (List ℕ → ℕ) → (ℤ → Option (List ℕ)) → State → Shot → Type 0
-BeginsAgain sum snapshots new s = (w : Shot) × BeginsFrom sum new.snapshots.file w × (w.stable ≡ s.stable) × (w.pages ≡ s.pages) × ((w ≡ s) ⊎ BeginsFrom sum snapshots w)
 
 -- then it would begin from the snapshot itself, where the one that was there is the same as soon as its place and pages are
 pub begins_with : (sum : List ℕ → ℕ) (snapshots : ℤ → Option (List ℕ)) (new : State) (s first : Shot) → BeginsFrom sum snapshots first → BeginsAgain sum snapshots new s

@@ -11,6 +11,7 @@ mod conclusion;
 pub mod config;
 pub mod device;
 pub mod iobuf;
+pub mod laws;
 pub mod logger;
 pub mod plain;
 pub mod reservation;

@@ -1,23 +1,27 @@
 //! Recovery: what the device has, read into a table of pages (`specs/Recovery.antt`).
-ghost use Rattle.std.specs.Prelude.{IfSome, List, ℤ, ◌↔◌, ◌≢◌, IsTrue, ◌≡◌, ◌⊎◌, ◌+◌, ◌-◌, ◌^◌, ◌*◌, ◌/◌, ◌%◌, ◌≤◌, ◌<◌, ℕ, map, pos, true, false, Some, [], ◌∷◌, length, None, IfOk, IfErr, OnOk};
+ghost use Rattle.std.specs.Prelude.{IfSome, ◌↔◌, ◌≢◌, IsTrue, ◌≡◌, ◌⊎◌, ◌+◌, ◌-◌, ◌^◌, ◌*◌, ◌/◌, ◌%◌, ◌≤◌, ◌<◌, ℕ, map, pos, true, false, Some, [], ◌∷◌, length, None, IfOk, IfErr, OnOk};
 ghost use Rattle.std.specs.List.{All};
 ghost use Rattle.sled_codec.specs.Errors.{IsCorruption, IsDecodeError};
 ghost use Rattle.sled_codec.specs.History.{History, below};
 ghost use Rattle.sled_codec.specs.Snapshots.{Shot, shot_of, page_of, FitsSnapshot};
 ghost use Rattle.sled_store.specs.Device.{state_of, content_of, Synced, NamesSynced};
-ghost use Rattle.sled_store.specs.Moments.{LeavesOnly};
+ghost use Rattle.sled_store.specs.Moments.{IsLater, LeavesOnly};
 ghost use Rattle.sled_store.specs.Script.{Performs, after_all};
 ghost use Rattle.sled_core.specs.Causes.{DeviceAnswers};
 ghost use Rattle.sled_core.specs.Reading.{file_of};
 ghost use Rattle.sled_core.specs.Scan.{read_of};
-ghost use Rattle.sled_store.specs.SnapshotFiles.{stable_place, BeginsFrom};
+ghost use Rattle.sled_store.specs.SnapshotFiles.{stable_place};
 ghost use Rattle.sled_core.specs.Scan.{IsFoundSegment, IsMisplaced};
 ghost use Rattle.sled_core.specs.Good.{IsGood};
 ghost use Rattle.sled_core.specs.Recoverable.{RecoverableIfOwn, LeavesRecoverable};
+ghost use Rattle.sled_core.specs.Keeps.{ConfigKept};
 ghost use Rattle.sled_core.specs.Running.{Ready};
+ghost use Rattle.sled_codec.specs.PageTables.{IsTable};
+ghost use Rattle.sled_log.specs.Plain.{log_alone};
+ghost use Rattle.sled_log.specs.Restores.{ComesOf, IsBeyondRecovery, RecoveryCalls, Restores};
 ghost use Rattle.sled_log.specs.Orderly.{CanRecover};
-ghost use Rattle.sled_log.specs.Recovery.{least_place, tail_begins, IsOrdering, Recovered, Damaged, Conclusion, outcome_of, are_whole, scanned_of, cut_of, tip_of, is_beyond, ContinuesFrom, Recovers};
-ghost use Rattle.sled_log.specs.WritesBack.{conclusion_of, range_of, number_of, shredding, MayBeRemoved, HasPublished, Publishes, HasWrittenBack, WritesBack, WritesBehind, IsWrittenBack};
+ghost use Rattle.sled_log.specs.Recovery.{least_place, tail_begins, IsOrdering, Recovered, Damaged, outcome_of, are_whole, scanned_of, cut_of, tip_of, is_beyond, ContinuesFrom, Recovers};
+ghost use Rattle.sled_log.specs.WritesBack.{conclusion_of, range_of, shredding, HasPublished, Publishes, HasWrittenBack, WritesBack, IsWrittenBack};
 
 use crate::conclusion::{Recovery, Tip};
 use crate::snapshot_file::{encode_file, publish, read_newest, remove_others};
@@ -48,41 +52,38 @@ use std::alloc::Global;
 pub fn read_snapshot_or_default<D: Device, C: Checksum>(
     config: &mut RunningConfig<D, C>,
 ) -> Result<Snapshot>
-    ensures ok { let old = state_of (D.trace config.old.device) in
-        IfOk result (λ s. (x : Conclusion) × Recovers C.sum_of config.old.config.segment_size (record { log = old.log.bytes; blobs = λ _. None }) old.snapshots.file (Recovered x) × (shot_of s ≡ x.shot) × IsWrittenBack C.sum_of x (state_of (NamesSynced ∷ Synced ∷ D.trace config.old.device)) (state_of (D.trace config.new.device)) × HasWrittenBack C.sum_of x (NamesSynced ∷ Synced ∷ D.trace config.old.device) (D.trace config.new.device) × (x.is_new ≡ true → FitsSnapshot x.shot)) }
-    ensures newest { IfOk result (λ s. (first : Shot) × BeginsFrom C.sum_of (state_of (D.trace config.new.device)).snapshots.file first × (first.stable ≡ s.stable_lsn) × (first.pages ≡ (shot_of s).pages) × ((first ≡ shot_of s) ⊎ BeginsFrom C.sum_of (state_of (D.trace config.old.device)).snapshots.file first)) }
-    ensures short { OnOk result (length (state_of (D.trace config.old.device)).log.bytes ≤ config.old.config.segment_size) }
-    ensures calls { let old = state_of (D.trace config.old.device) in
-        Performs (Synced ∷ NamesSynced ∷ []) (D.trace config.old.device) (D.trace config.new.device)
-        ⊎ ((x : Conclusion) × Recovers C.sum_of config.old.config.segment_size (record { log = old.log.bytes; blobs = λ _. None }) old.snapshots.file (Recovered x) × (numbers : List ℤ) × MayBeRemoved old.snapshots.file (number_of x.shot) numbers × WritesBehind (Synced ∷ NamesSynced ∷ []) C.sum_of x numbers (D.trace config.old.device) (D.trace config.new.device)) }
-    ensures corrupt { IsCorruption result → (config.old.config.segment_size < length (state_of (D.trace config.old.device)).log.bytes) ⊎ Recovers C.sum_of config.old.config.segment_size (record { log = (state_of (D.trace config.old.device)).log.bytes; blobs = λ _. None }) (state_of (D.trace config.old.device)).snapshots.file Damaged }
-    ensures unwritten { IsCorruption result → D.trace config.new.device ≡ NamesSynced ∷ Synced ∷ D.trace config.old.device }
+    ensures ok { IfOk result (λ s. Restores C.sum_of config.old.config.segment_size (D.trace config.old.device) (D.trace config.new.device) (shot_of s)) }
+    ensures calls { RecoveryCalls C.sum_of config.old.config.segment_size (D.trace config.old.device) (D.trace config.new.device) }
+    ensures corrupt { IsCorruption result → IsBeyondRecovery C.sum_of config.old.config.segment_size (state_of (D.trace config.old.device))
+        × (D.trace config.new.device ≡ NamesSynced ∷ Synced ∷ D.trace config.old.device) }
     ensures answers { DeviceAnswers result (D.faults config.old.device) (D.faults config.new.device) }
-    ensures config { config.new.config ≡ config.old.config }
-    ensures checksum { config.new.checksum ≡ config.old.checksum }
-    ensures recoverable { (H : History) (A f : ℕ) → CanRecover C.sum_of config.old.config.segment_size (state_of (D.trace config.old.device)) H A f → LeavesOnly (RecoverableIfOwn C.sum_of config.old.config.segment_size H A f) (D.trace config.old.device) (D.trace config.new.device) }
-    ensures undamaged { (H : History) (A f : ℕ) → CanRecover C.sum_of config.old.config.segment_size (state_of (D.trace config.old.device)) H A f → IsCorruption result → ⊥ }
-    ensures good { (H : History) (A f : ℕ) → CanRecover C.sum_of config.old.config.segment_size (state_of (D.trace config.old.device)) H A f → IfOk result (λ s. IsGood C.sum_of config.old.config.segment_size (content_of (state_of (D.trace config.new.device))) H A f (shot_of s)) }
-    ensures kept { (H : History) (A f : ℕ) → CanRecover C.sum_of config.old.config.segment_size (state_of (D.trace config.old.device)) H A f → IfOk result (λ s. LeavesRecoverable C.sum_of config.old.config.segment_size (below H (stable_place s.stable_lsn)) A (stable_place s.stable_lsn) (state_of (D.trace config.new.device))) }
-    ensures ready { (H : History) (A f : ℕ) → CanRecover C.sum_of config.old.config.segment_size (state_of (D.trace config.old.device)) H A f → IfOk result (λ s. stable_place s.stable_lsn < config.old.config.segment_size → Ready C.sum_of config.old.config.segment_size (state_of (D.trace config.new.device)) (shot_of s) (below H (stable_place s.stable_lsn)) A (stable_place s.stable_lsn)) }
+    ensures config { ConfigKept config.old config.new }
+    ensures later { IsLater (D.trace config.old.device) (D.trace config.new.device) }
+    ensures recoverable { let size = config.old.config.segment_size in let old = D.trace config.old.device in
+        (H : History) (A f : ℕ) → CanRecover C.sum_of size (state_of old) H A f
+        → LeavesOnly (RecoverableIfOwn C.sum_of size H A f) old (D.trace config.new.device) }
+    ensures undamaged { (H : History) (A f : ℕ) → CanRecover C.sum_of config.old.config.segment_size (state_of (D.trace config.old.device)) H A f
+        → IsCorruption result → ⊥ }
+    ensures good { let size = config.old.config.segment_size in let new = state_of (D.trace config.new.device) in
+        (H : History) (A f : ℕ) → CanRecover C.sum_of size (state_of (D.trace config.old.device)) H A f
+        → IfOk result (λ s. IsGood C.sum_of size (content_of new) H A f (shot_of s)) }
+    ensures table { (H : History) (A f : ℕ) → CanRecover C.sum_of config.old.config.segment_size (state_of (D.trace config.old.device)) H A f
+        → IfOk result (λ s. let cut = stable_place s.stable_lsn in IsTable (shot_of s).pages (below H cut) cut) }
+    ensures kept { let size = config.old.config.segment_size in let new = state_of (D.trace config.new.device) in
+        (H : History) (A f : ℕ) → CanRecover C.sum_of size (state_of (D.trace config.old.device)) H A f
+        → IfOk result (λ s. let cut = stable_place s.stable_lsn in LeavesRecoverable C.sum_of size (below H cut) A cut new) }
+    ensures ready { let size = config.old.config.segment_size in let new = state_of (D.trace config.new.device) in
+        (H : History) (A f : ℕ) → CanRecover C.sum_of size (state_of (D.trace config.old.device)) H A f
+        → IfOk result (λ s. let cut = stable_place s.stable_lsn in cut < size → Ready C.sum_of size new (shot_of s) (below H cut) A cut) }
 {
     read_and_write_back(config)
 }
 
 /// Recovers what the device has, and writes back what is left to be written.
 fn read_and_write_back<D: Device, C: Checksum>(config: &mut RunningConfig<D, C>) -> Result<Snapshot>
-    ensures ok { let old = state_of (D.trace config.old.device) in
-        IfOk result (λ s. (x : Conclusion) × Recovers C.sum_of config.old.config.segment_size (record { log = old.log.bytes; blobs = λ _. None }) old.snapshots.file (Recovered x) × (shot_of s ≡ x.shot) × IsWrittenBack C.sum_of x (state_of (NamesSynced ∷ Synced ∷ D.trace config.old.device)) (state_of (D.trace config.new.device)) × HasWrittenBack C.sum_of x (NamesSynced ∷ Synced ∷ D.trace config.old.device) (D.trace config.new.device) × (x.is_new ≡ true → FitsSnapshot x.shot)) }
-    ensures newest { IfOk result (λ s. (first : Shot) × BeginsFrom C.sum_of (state_of (D.trace config.new.device)).snapshots.file first × (first.stable ≡ s.stable_lsn) × (first.pages ≡ (shot_of s).pages) × ((first ≡ shot_of s) ⊎ BeginsFrom C.sum_of (state_of (D.trace config.old.device)).snapshots.file first)) }
-    ensures short { OnOk result (length (state_of (D.trace config.old.device)).log.bytes ≤ config.old.config.segment_size) }
-    ensures calls { let old = state_of (D.trace config.old.device) in
-        Performs (Synced ∷ NamesSynced ∷ []) (D.trace config.old.device) (D.trace config.new.device)
-        ⊎ ((x : Conclusion) × Recovers C.sum_of config.old.config.segment_size (record { log = old.log.bytes; blobs = λ _. None }) old.snapshots.file (Recovered x) × (numbers : List ℤ) × MayBeRemoved old.snapshots.file (number_of x.shot) numbers × WritesBehind (Synced ∷ NamesSynced ∷ []) C.sum_of x numbers (D.trace config.old.device) (D.trace config.new.device)) }
-    ensures corrupt { IsCorruption result → (config.old.config.segment_size < length (state_of (D.trace config.old.device)).log.bytes) ⊎ Recovers C.sum_of config.old.config.segment_size (record { log = (state_of (D.trace config.old.device)).log.bytes; blobs = λ _. None }) (state_of (D.trace config.old.device)).snapshots.file Damaged }
-    ensures unwritten { IsCorruption result → D.trace config.new.device ≡ NamesSynced ∷ Synced ∷ D.trace config.old.device }
+    ensures comes { ComesOf C.sum_of config.old.config.segment_size (D.trace config.old.device) (D.trace config.new.device) result }
     ensures answers { DeviceAnswers result (D.faults config.old.device) (D.faults config.new.device) }
-    ensures config { config.new.config ≡ config.old.config }
-    ensures checksum { config.new.checksum ≡ config.old.checksum }
+    ensures config { ConfigKept config.old config.new }
 {
     settle(&mut config.device)?;
     match recover(config) {
@@ -112,13 +113,13 @@ fn write_back<D: Device, C: Checksum>(
     recovery: &Recovery,
 ) -> Result<()>
     ensures done { OnOk result (HasWrittenBack C.sum_of (conclusion_of recovery.now) (D.trace config.old.device) (D.trace config.new.device)) }
-    ensures written { OnOk result (IsWrittenBack C.sum_of (conclusion_of recovery.now) (state_of (D.trace config.old.device)) (state_of (D.trace config.new.device))) }
+    ensures written { let old = state_of (D.trace config.old.device) in let new = state_of (D.trace config.new.device) in
+        OnOk result (IsWrittenBack C.sum_of (conclusion_of recovery.now) old new) }
     ensures calls { WritesBack C.sum_of (conclusion_of recovery.now) (D.trace config.old.device) (D.trace config.new.device) }
     ensures fits { OnOk result (recovery.now.is_new ≡ true → FitsSnapshot (shot_of recovery.now.snapshot)) }
     ensures answers { DeviceAnswers result (D.faults config.old.device) (D.faults config.new.device) }
     ensures readable { IsCorruption result → ⊥ }
-    ensures config { config.new.config ≡ config.old.config }
-    ensures checksum { config.new.checksum ≡ config.old.checksum }
+    ensures config { ConfigKept config.old config.new }
 {
     shred(config, recovery.tip)?;
     if recovery.is_new {
@@ -133,8 +134,7 @@ fn shred<D: Device, C: Checksum>(config: &mut RunningConfig<D, C>, tip: Option<T
     ensures calls { Performs (shredding (range_of tip)) (D.trace config.old.device) (D.trace config.new.device) }
     ensures answers { DeviceAnswers result (D.faults config.old.device) (D.faults config.new.device) }
     ensures readable { IsCorruption result → ⊥ }
-    ensures config { config.new.config ≡ config.old.config }
-    ensures checksum { config.new.checksum ≡ config.old.checksum }
+    ensures config { ConfigKept config.old config.new }
 {
     let Some(tip) = tip else {
         return Ok(());
@@ -155,8 +155,7 @@ fn publish_new<D: Device, C: Checksum>(
     ensures fits { OnOk result (FitsSnapshot (shot_of snapshot.now)) }
     ensures answers { DeviceAnswers result (D.faults config.old.device) (D.faults config.new.device) }
     ensures readable { IsCorruption result → ⊥ }
-    ensures config { config.new.config ≡ config.old.config }
-    ensures checksum { config.new.checksum ≡ config.old.checksum }
+    ensures config { ConfigKept config.old config.new }
 {
     if !snapshot.can_serialize() || snapshot.serialized_size() >= 1 << 62 {
         return Err(Error::OutOfMemory);
@@ -171,13 +170,13 @@ fn publish_new<D: Device, C: Checksum>(
 /// reads. `Corruption` comes where the newest snapshot is damaged, where segments are found that can't be
 /// of one log, where a damaged record is met, where the table can't be one, and where the file is longer.
 pub(crate) fn recover<D: Device, C: Checksum>(config: &mut RunningConfig<D, C>) -> Result<Recovery>
-    ensures ok { IfOk result (λ x. Recovers C.sum_of config.old.config.segment_size (record { log = (state_of (D.trace config.old.device)).log.bytes; blobs = λ _. None }) (state_of (D.trace config.old.device)).snapshots.file (Recovered (conclusion_of x))) }
-    ensures corrupt { IsCorruption result → (config.old.config.segment_size < length (state_of (D.trace config.old.device)).log.bytes) ⊎ Recovers C.sum_of config.old.config.segment_size (record { log = (state_of (D.trace config.old.device)).log.bytes; blobs = λ _. None }) (state_of (D.trace config.old.device)).snapshots.file Damaged }
+    ensures ok { let old = state_of (D.trace config.old.device) in
+        IfOk result (λ x. Recovers C.sum_of config.old.config.segment_size (log_alone old.log.bytes) old.snapshots.file (Recovered (conclusion_of x))) }
+    ensures corrupt { IsCorruption result → IsBeyondRecovery C.sum_of config.old.config.segment_size (state_of (D.trace config.old.device)) }
     ensures short { OnOk result (length (state_of (D.trace config.old.device)).log.bytes ≤ config.old.config.segment_size) }
     ensures answers { DeviceAnswers result (D.faults config.old.device) (D.faults config.new.device) }
     ensures trace { D.trace config.new.device ≡ D.trace config.old.device }
-    ensures config { config.new.config ≡ config.old.config }
-    ensures checksum { config.new.checksum ≡ config.old.checksum }
+    ensures config { ConfigKept config.old config.new }
 {
     if config.device.len()? > config.config.segment_size {
         return Err(Error::Corruption { at: None });
@@ -194,12 +193,13 @@ fn continue_from<D: Device, C: Checksum>(
     first: Snapshot,
 ) -> Result<Recovery>
     requires short { length (state_of (D.trace config.old.device)).log.bytes ≤ config.old.config.segment_size }
-    ensures ok { IfOk result (λ x. ContinuesFrom C.sum_of config.old.config.segment_size (record { log = (state_of (D.trace config.old.device)).log.bytes; blobs = λ _. None }) (shot_of first) (Recovered (conclusion_of x))) }
-    ensures corrupt { IsCorruption result → ContinuesFrom C.sum_of config.old.config.segment_size (record { log = (state_of (D.trace config.old.device)).log.bytes; blobs = λ _. None }) (shot_of first) Damaged }
+    ensures ok { let log = (state_of (D.trace config.old.device)).log.bytes in
+        IfOk result (λ x. ContinuesFrom C.sum_of config.old.config.segment_size (log_alone log) (shot_of first) (Recovered (conclusion_of x))) }
+    ensures corrupt { let log = (state_of (D.trace config.old.device)).log.bytes in
+        IsCorruption result → ContinuesFrom C.sum_of config.old.config.segment_size (log_alone log) (shot_of first) Damaged }
     ensures answers { DeviceAnswers result (D.faults config.old.device) (D.faults config.new.device) }
     ensures trace { D.trace config.new.device ≡ D.trace config.old.device }
-    ensures config { config.new.config ≡ config.old.config }
-    ensures checksum { config.new.checksum ≡ config.old.checksum }
+    ensures config { ConfigKept config.old config.new }
 {
     let size = config.config.segment_size;
     let least = stable_place(&first) / size * size;
@@ -223,14 +223,14 @@ fn continue_in<D: Device, C: Checksum>(
 ) -> Result<Recovery>
     requires slot { buf.now.offset ≡ 0 }
     requires own { segment.now.slot ≡ 0 }
-    requires found { IsFoundSegment C.sum_of config.old.config.segment_size (file_of buf.now) (least_place config.old.config.segment_size (shot_of first)) segment.now }
-    requires only { (IsMisplaced config.old.config.segment_size segment.now → ⊥) → IsOrdering C.sum_of config.old.config.segment_size (file_of buf.now) (least_place config.old.config.segment_size (shot_of first)) (segment.now ∷ []) }
+    requires found { let size = config.old.config.segment_size in IsFoundSegment C.sum_of size (file_of buf.now) (least_place size (shot_of first)) segment.now }
+    requires only { let size = config.old.config.segment_size in
+        (IsMisplaced size segment.now → ⊥) → IsOrdering C.sum_of size (file_of buf.now) (least_place size (shot_of first)) (segment.now ∷ []) }
     ensures ok { IfOk result (λ x. ContinuesFrom C.sum_of config.old.config.segment_size (read_of buf.now) (shot_of first) (Recovered (conclusion_of x))) }
     ensures corrupt { IsCorruption result → ContinuesFrom C.sum_of config.old.config.segment_size (read_of buf.now) (shot_of first) Damaged }
     ensures answers { DeviceAnswers result (D.faults config.old.device) (D.faults config.new.device) }
     ensures trace { D.trace config.new.device ≡ D.trace config.old.device }
-    ensures config { config.new.config ≡ config.old.config }
-    ensures checksum { config.new.checksum ≡ config.old.checksum }
+    ensures config { ConfigKept config.old config.new }
 {
     let size = config.config.segment_size;
     if is_misplaced(size, segment.place) {
@@ -280,8 +280,10 @@ fn replay(
     requires slot { segment.now.slot + size < 2 ^ 63 }
     requires stop { scan.now.stop ≤ size }
     requires places { All (λ m. m.place < segment.now.place + size) scan.now.met.items }
-    ensures ok { IfOk result (λ x. outcome_of size (shot_of first) (segment.now.place + scan.now.stop) (scanned_of segment.now scan.now ∷ []) ≡ Recovered (conclusion_of x)) }
-    ensures corrupt { IsCorruption result → outcome_of size (shot_of first) (segment.now.place + scan.now.stop) (scanned_of segment.now scan.now ∷ []) ≡ Damaged }
+    ensures ok { let end = segment.now.place + scan.now.stop in
+        IfOk result (λ x. outcome_of size (shot_of first) end (scanned_of segment.now scan.now ∷ []) ≡ Recovered (conclusion_of x)) }
+    ensures corrupt { IsCorruption result
+        → outcome_of size (shot_of first) (segment.now.place + scan.now.stop) (scanned_of segment.now scan.now ∷ []) ≡ Damaged }
     ensures errors { IfErr result IsDecodeError }
 {
     let least = stable_place(&first);

@@ -11,6 +11,7 @@ pub mod MomentLemmas
 pub mod NamesLemmas
 mod OfferLemmas
 pub mod OverwrittenLemmas
+pub mod PublicLaws
 pub mod ScriptLemmas
 pub mod SettledLemmas
 pub mod SyncedLemmas

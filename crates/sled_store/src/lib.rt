@@ -9,6 +9,7 @@ pub mod blob_io;
 pub mod config;
 pub mod device;
 pub mod header;
+pub mod laws;
 pub mod snapshot;
 
 pub use config::{Config, RunningConfig};

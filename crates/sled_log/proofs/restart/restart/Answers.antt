@@ -10,7 +10,7 @@ use Rattle.sled_store.specs.SnapshotFiles.{stable_place}
 use Rattle.sled_core.specs.Fits.{IsKept, segment_size_of}
 use Rattle.sled_core.specs.Ready.{IsReady}
 use Rattle.sled_core.proofs.ReadingLemmas.{if_ok}
-use Rattle.sled_log.proofs.RestartLemmas.{ready_kept, if_all}
+use Rattle.sled_log.proofs.RestartLemmas.{ready_kept}
 use Rattle.sled_log.proofs.restart.restart.Goals as goal
 
 pub returns-in-Ok-clause-ready : goal.returns-in-Ok-clause-ready
@@ -21,12 +21,12 @@ returns-in-Ok-clause-ready g c = λ H holds formed.
     let new : State = state_of (g.D.Device.trace c.read_snapshot_or_default-snapshot.new.config.device) in
     let kept : IsKept g.C.Checksum.sum_of size log.site log.buffer.from device H =
     subst (λ (x : RunningConfig _ _). IsKept g.C.Checksum.sum_of x.config.segment_size log.site log.buffer.from (state_of (g.D.Device.trace x.device)) H) (sym c.halt-config.ensures.config) (c.in-Ok.ensures.records H holds) in
-    let sizes : size ≡ segment_size_of c.args.log = ap (λ (x : RunningConfig _ _). x.config.segment_size) c.halt-config.ensures.config ∙ c.in-Ok.ensures.size in
+    let sizes : size ≡ segment_size_of c.args.log = ap (λ (x : RunningConfig _ _). x.config.segment_size) c.halt-config.ensures.config ∙ c.in-Ok.ensures.position.size in
     let many = c.halt-config.result.config.least in
     subst (λ (n : ℕ). IfOk c.read_snapshot_or_default-snapshot.result (λ s. IsReady g.C.Checksum.sum_of n new (shot_of s) H)) sizes
-    (if_all c.read_snapshot_or_default-snapshot.result _ _ _ (λ s. IsReady g.C.Checksum.sum_of size new (shot_of s) H)
-    (λ s ok newest short. ready_kept g.C.Checksum.sum_of size log.site log.buffer.from device new H kept formed many short (shot_of s) ok.0 ok.1 ok.2 ok.3 newest)
-    c.read_snapshot_or_default-snapshot.ensures.ok c.read_snapshot_or_default-snapshot.ensures.newest c.read_snapshot_or_default-snapshot.ensures.short)
+    (if_ok c.read_snapshot_or_default-snapshot.result _ (λ s. IsReady g.C.Checksum.sum_of size new (shot_of s) H)
+    (λ s ok. ready_kept g.C.Checksum.sum_of size log.site log.buffer.from device new H kept formed many ok.short (shot_of s) ok.conclusion ok.recovers ok.shot ok.written ok.newest)
+    c.read_snapshot_or_default-snapshot.ensures.ok)
 
 pub returns-in-Ok-clause-table : goal.returns-in-Ok-clause-table
 returns-in-Ok-clause-table g c = λ H holds formed.

@@ -34,7 +34,7 @@ returns-in-Ok-clause-step g c = λ a at own.
           formed = opened.formed;
           unmarked = opened.unmarked;
           fits = c.in-Ok.ensures.acknowledges H a.acknowledged a.floor opened.unmarked opened.fits;
-          pinned = subst (λ n. 0 < n) (sym c.flush.ensures.pins) opened.pinned;
+          pinned = subst (λ n. 0 < n) (sym c.flush.ensures.position.pins) opened.pinned;
           is_open = opened.is_open;
           begun = opened.begun;
         },
@@ -43,10 +43,10 @@ returns-in-Ok-clause-step g c = λ a at own.
     )
 
 pub returns-in-Ok-clause-on : goal.returns-in-Ok-clause-on
-returns-in-Ok-clause-on g c = record { later = later_performed _ _ _ c.flush.ensures.at_most; size = c.flush.ensures.size; can_go_on = tt }
+returns-in-Ok-clause-on g c = record { later = later_performed _ _ _ c.flush.ensures.at_most; size = c.flush.ensures.position.size; can_go_on = tt }
 
 pub returns-in-Err-clause-on : goal.returns-in-Err-clause-on
-returns-in-Err-clause-on g c = record { later = later_performed _ _ _ c.flush.ensures.at_most; size = c.flush.ensures.size; can_go_on = tt }
+returns-in-Err-clause-on g c = record { later = later_performed _ _ _ c.flush.ensures.at_most; size = c.flush.ensures.position.size; can_go_on = tt }
 
 -- a flush that failed changes nothing of the history
 pub returns-in-Err-clause-step : goal.returns-in-Err-clause-step
@@ -58,8 +58,8 @@ returns-in-Err-clause-step g c = λ a at own.
         record {
           formed = opened.formed;
           unmarked = opened.unmarked;
-          fits = c.flush.ensures.fits a.history a.acknowledged a.floor opened.unmarked opened.fits;
-          pinned = subst (λ n. 0 < n) (sym c.flush.ensures.pins) opened.pinned;
+          fits = c.flush.ensures.keeps.fits a.history a.acknowledged a.floor opened.unmarked opened.fits;
+          pinned = subst (λ n. 0 < n) (sym c.flush.ensures.position.pins) opened.pinned;
           is_open = opened.is_open;
           begun = opened.begun;
         },

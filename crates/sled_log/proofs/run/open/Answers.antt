@@ -29,7 +29,7 @@ returns-in-Ok-clause-step g c = λ a at own.
     let can : CanRecover sum size (state_of old) a.history a.acknowledged a.floor = record { orderly = orderly a.history at.formed; left = at.left; own = own_here sum size old new (later_both old mid new first second) own } in
     let b : Standing = record { history = below a.history (stable_place s.stable); acknowledged = a.acknowledged; floor = stable_place s.stable; is_open = false; reserved = None } in
     let good = c.in-Ok.ensures.good a.history a.acknowledged a.floor can in
-    let sizes : c.read_snapshot_or_default.new.config.config.segment_size ≡ size = ap (λ (x : Config). x.segment_size) c.read_snapshot_or_default.ensures.config in
+    let sizes : c.read_snapshot_or_default.new.config.config.segment_size ≡ size = ap (λ (x : Config). x.segment_size) c.read_snapshot_or_default.ensures.config.config in
     let recovered : IsRecoveredAt trace sum c.read_snapshot_or_default.new.config s b = record {
       closed = subst (λ n. IsClosedAt sum n mid b) (sym sizes) (record { formed = forgotten a.history (stable_place s.stable) at.formed; left = c.in-Ok.ensures.kept a.history a.acknowledged a.floor can; closed = refl; none = refl });
       ready = subst (λ n. stable_place s.stable < n → Ready sum n (state_of mid) s b.history b.acknowledged b.floor) (sym sizes) (c.in-Ok.ensures.ready a.history a.acknowledged a.floor can);
@@ -46,7 +46,7 @@ returns-in-Ok-clause-step g c = λ a at own.
 pub returns-in-Ok-clause-on : goal.returns-in-Ok-clause-on
 returns-in-Ok-clause-on g c = record {
   later = later_both _ _ _ (later_recovered g.C.Checksum.sum_of c.args.config.config.segment_size _ _ c.read_snapshot_or_default.ensures.calls) c.start.ensures.on.later;
-  size = c.start.ensures.on.size ∙ ap (λ (x : Config). x.segment_size) c.read_snapshot_or_default.ensures.config;
+  size = c.start.ensures.on.size ∙ ap (λ (x : Config). x.segment_size) c.read_snapshot_or_default.ensures.config.config;
   can_go_on = c.start.ensures.on.can_go_on;
 }
 
@@ -74,6 +74,6 @@ returns-in-Err-clause-step g c = λ a at own.
 pub returns-in-Err-clause-on : goal.returns-in-Err-clause-on
 returns-in-Err-clause-on g c = record {
   later = later_recovered g.C.Checksum.sum_of c.args.config.config.segment_size _ _ c.read_snapshot_or_default.ensures.calls;
-  size = ap (λ (x : Config). x.segment_size) c.read_snapshot_or_default.ensures.config;
+  size = ap (λ (x : Config). x.segment_size) c.read_snapshot_or_default.ensures.config.config;
   can_go_on = tt;
 }

@@ -34,7 +34,7 @@ returns-in-Ok-clause-step g c = λ a at own.
         record {
           formed = opened.formed;
           unmarked = opened.unmarked;
-          fits = c.reserve.ensures.fits a.history a.acknowledged a.floor opened.unmarked opened.fits;
+          fits = c.reserve.ensures.keeps.fits a.history a.acknowledged a.floor opened.unmarked opened.fits;
           pinned = subst (λ n. 0 < n) (sym c.reserve.ensures.same.pins) opened.pinned;
           is_open = opened.is_open;
           begun = opened.begun;

@@ -11,7 +11,7 @@ use Rattle.sled_log.proofs.run.start.Goals as goal
 pub returns-in-Ok-clause-on : goal.returns-in-Ok-clause-on
 returns-in-Ok-clause-on g c = let size = c.args.config.config.segment_size in record {
   later = later_all (filling size (unused size (slots_of size (length (state_of (g.D.Device.trace c.args.config.device)).log.bytes)) (shot_of c.args.snapshot))) _ _ (c.opened_on.ensures.trace ∙ c.in-Ok.ensures.filled);
-  size = c.opened_on.ensures.size ∙ c.in-Ok.ensures.size;
+  size = c.opened_on.ensures.size ∙ c.in-Ok.ensures.begins.sized;
   can_go_on = c.opened_on.ensures.can_go_on;
 }
 
@@ -23,12 +23,12 @@ returns-in-Err-clause-step g c = λ a at own.
     let starts = c.in-Err.ensures.starts a.history a.acknowledged a.floor (at.ready below) in (
       record {
         formed = at.closed.formed;
-        left = at_last (LeavesRecoverable g.C.Checksum.sum_of size a.history a.acknowledged a.floor) _ _ (c.in-Err.ensures.crash_err a.history a.acknowledged a.floor (at.ready below));
+        left = at_last (LeavesRecoverable g.C.Checksum.sum_of size a.history a.acknowledged a.floor) _ _ (c.in-Err.ensures.crash a.history a.acknowledged a.floor (at.ready below));
         closed = refl;
         none = refl;
       },
-      start_of_device c.in-Err.e _ _ _ _ _ c.in-Err.ensures.refused starts.0 starts.1,
+      start_of_device c.in-Err.e _ _ _ _ _ c.in-Err.ensures.answers starts.0 starts.1,
     )
 
 pub returns-in-Err-clause-on : goal.returns-in-Err-clause-on
-returns-in-Err-clause-on g c = record { later = later_performed _ _ _ c.in-Err.ensures.calls; size = ap (λ x. x.segment_size) c.in-Err.ensures.back.0; can_go_on = tt }
+returns-in-Err-clause-on g c = record { later = c.in-Err.ensures.later; size = ap (λ x. x.segment_size) c.in-Err.ensures.config.config; can_go_on = tt }
