@@ -14,8 +14,8 @@ pub struct Counting<D> {
 impl<D: Device> Counting<D> {
     /// Returns a device over another one, with no calls counted.
     pub fn new(device: D) -> Counting<D>
-        ensures trace { ⟦<Counting D as Device>⟧.trace result ≡ D.trace device }
-        ensures faults { ⟦<Counting D as Device>⟧.faults result ≡ D.faults device }
+        ensures trace { ⟦<Counting<D> as Device>⟧.trace result ≡ D.trace device }
+        ensures faults { ⟦<Counting<D> as Device>⟧.faults result ≡ D.faults device }
     {
         Counting { device, calls: 0 }
     }
