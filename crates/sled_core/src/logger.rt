@@ -2,7 +2,7 @@
 //!
 //! A log keeps the bytes of its segment, the reservations in them, the count of pins, and the first
 //! failure of its device, which it answers from then on. `specs/Fits.antt` says which history it holds.
-ghost use Rattle.std.specs.Prelude.{List, ◌≡◌, ◌≢◌, ◌↔◌, ◌+◌, ◌-◌, ◌<◌, ◌≤◌, ◌^◌, ◌∷◌, ◌-ℤ◌, ◌<ℤ◌, pos, [], ℕ, length, drop, true, false, IsTrue, IfOk, IfErr, OnOk, OnErr, Contains, None, Some, ◌⊎◌, ◌/◌, unsigned_abs, max, ℤ};
+ghost use Rattle.std.specs.Prelude.{List, ◌≡◌, ◌≢◌, ◌↔◌, ◌+◌, ◌-◌, ◌<◌, ◌≤◌, ◌^◌, ◌∷◌, ◌-ℤ◌, ◌<ℤ◌, ◌≤ℤ◌, pos, [], ℕ, length, drop, true, false, IsTrue, IfOk, IfErr, OnOk, OnErr, Contains, None, Some, ◌⊎◌, ◌/◌, unsigned_abs, max, ℤ};
 ghost use Rattle.std.specs.declared.io.Error.{Error as IoError};
 ghost use Rattle.sled_codec.specs.Kinds.{kind_written};
 ghost use Rattle.sled_codec.specs.History.{History, Message, Completed, Step};
@@ -253,11 +253,11 @@ impl<D: Device, C: Checksum> Log<D, C> {
     }
 
     /// Reads the message of this page and place that lies there, from the device. Where its place is not
-    /// written yet, what was completed is written first, as `flush` does. `Corruption` comes for a
-    /// negative place, for an offset at which no record begins, and for a record that has to hold a
-    /// place and does not.
+    /// written yet, what was completed is written first, as `flush` does, and for that alone no reservation
+    /// may be open. `Corruption` comes for a negative place, for an offset at which no record begins, and for a
+    /// record that has to hold a place and does not.
     pub fn read(&mut self, _pid: PageId, lsn: Lsn, ptr: DiskPtr) -> Result<LogRead>
-        requires ended { AllEnded self.old }
+        requires ended { pos (synced_end self.old) ≤ℤ lsn → AllEnded self.old }
         requires inline { IsInline ptr }
         requires reserved { lsn <ℤ pos (reserved_end self.old) }
         ensures message { (H : History) (m : Message) → Holds D.trace C.sum_of self.old H → Contains H.messages m
@@ -271,7 +271,7 @@ impl<D: Device, C: Checksum> Log<D, C> {
         ensures calm { lsn <ℤ pos (synced_end self.old) → D.trace (device_of self.new) ≡ D.trace (device_of self.old) }
         ensures refused { fault_of self.old ≡ None → IsNoPlace (segment_size_of self.old) lsn (lid_of ptr) → IsCorruption result × (self.new ≡ self.old) }
         ensures keeps { Preserves D.trace C.sum_of self.old self.new }
-        ensures ended { AllEnded self.new }
+        ensures ended { AllEnded self.old → AllEnded self.new }
         ensures position { SamePosition self.old self.new }
         ensures answers { ReadAnswers result (fault_of self.old) (fault_of self.new) (D.faults (device_of self.old)) (D.faults (device_of self.new)) }
         ensures faulty { (e : IoError) → fault_of self.old ≡ Some e → self.new ≡ self.old }
@@ -291,13 +291,13 @@ impl<D: Device, C: Checksum> Log<D, C> {
 
     /// Writes what was completed where this place is not written yet.
     fn settle(&mut self, place: u64) -> Result<()>
-        requires ended { AllEnded self.old }
+        requires ended { synced_end self.old ≤ place → AllEnded self.old }
         requires reserved { place < reserved_end self.old }
         requires fault { fault_of self.old ≡ None }
         ensures written { OnOk result (place < synced_end self.new) }
         ensures calm { place < synced_end self.old → D.trace (device_of self.new) ≡ D.trace (device_of self.old) }
         ensures keeps { Preserves D.trace C.sum_of self.old self.new }
-        ensures ended { AllEnded self.new }
+        ensures ended { AllEnded self.old → AllEnded self.new }
         ensures position { SamePosition self.old self.new }
         ensures answers { Answers result (fault_of self.old) (fault_of self.new) (D.faults (device_of self.old)) (D.faults (device_of self.new)) }
     {

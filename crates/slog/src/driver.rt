@@ -1,15 +1,14 @@
 //! What runs the commands: the log that is open, the tickets of its open reservations by number, and
 //! where each page was last replaced; or, while no log is open, the device that keeps what was written.
 //!
-//! A command that breaks a condition of the log's calls is a bad line. Neither a log nor a ticket can
-//! be dropped, so a driver ends by `close`.
+//! A command that comes out of turn, or that the log can't take, is refused, and then nothing was done. Pages
+//! are begun in order, and a page has one open ticket at a time: so what a flush made durable can be recovered.
+//! Neither a log nor a ticket can be dropped, so a driver ends by `close`.
 
-ghost use Rattle.std.specs.Prelude.{◌≡◌, ◌<◌, ℕ, map, Some, None, IsSome, IfOk, IfSome, OnOk, MatchOption, vec_len, vec_capacity};
-ghost use Rattle.std.specs.BTreeMap.{get};
-ghost use Rattle.std.specs.Ordering.{nat_cmp};
+ghost use Rattle.std.specs.Prelude.{◌≡◌, ◌-◌, ◌<◌, ◌^◌, map, Some, None, IsSome, IfOk, IfSome, OnOk, MatchOption, vec_len, vec_capacity};
 ghost use Rattle.sled_codec.specs.Snapshots.{page_of};
-ghost use Rattle.sled_core.specs.Fits.{AllEnded, config_of};
-ghost use Rattle.slog.specs.Pages.{last_of, spot_in};
+ghost use Rattle.sled_core.specs.Fits.{config_of, pins_of};
+ghost use Rattle.slog.specs.Pages.{last_of, last_of_page};
 
 use crate::line::Command;
 use sled_log::config::{Config, RunningConfig};
@@ -19,14 +18,7 @@ use sled_log::reservation::{Guard, Reservation};
 use sled_log::result::{DiskPtr, Error, LogOffset, Lsn, PageId};
 use sled_log::snapshot::{PageState, Snapshot, read_snapshot_or_default};
 use std::alloc::{AllocError, AllocFailed, Global};
-use std::collections::BTreeMap;
 use std::io;
-
-// How many pins may be out.
-const MOST_PINS: u64 = 4294967295;
-
-// Where the last completed message of a page lies; `None` for one that has only been reserved.
-type Pages = BTreeMap<PageId, Option<(Lsn, DiskPtr)>>;
 
 /// Why the program ends before its input does.
 #[derive(Debug, Clone, Copy, PartialEq, Eq)]
@@ -61,16 +53,10 @@ impl From<io::Error> for Stop {
 /// What came of a command.
 #[derive(Debug, Drop)]
 pub enum Reply {
-    /// The log is open: up to where it was settled, the segment that it goes on in, and how many pages
-    /// it has.
-    Opened {
-        /// The place at which the log goes on, if it was ever begun.
-        stable: Option<Lsn>,
-        /// The segment that it goes on in, if that has begun.
-        active: Option<LogOffset>,
-        /// How many pages were begun.
-        pages: usize,
-    },
+    /// The log is open, on what was recovered.
+    Opened(Recovered),
+    /// This was recovered, and no log is open: the segment is full.
+    Full(Recovered),
     /// A place is kept for a message.
     Reserved {
         /// The number of its ticket.
@@ -86,10 +72,40 @@ pub enum Reply {
     Flushed(usize),
     /// The log is closed, and its device is kept.
     Halted,
-    /// What a page is: the item's spelling.
+    /// What a page is: the item's encoding.
     Page(Vec<u8>),
     /// The log answered an error.
     Failed(Error),
+    /// Nothing was done.
+    Refused(Refusal),
+}
+
+/// What a recovery found.
+#[derive(Debug, Clone, Copy)]
+pub struct Recovered {
+    /// The place at which the log goes on, if it was ever begun.
+    pub stable: Option<Lsn>,
+    /// The segment that it goes on in, if that has begun.
+    pub active: Option<LogOffset>,
+    /// How many pages were begun.
+    pub pages: usize,
+}
+
+/// Why a command was refused. Where several of these hold, the first one is told.
+#[derive(Debug, Clone, Copy, PartialEq, Eq)]
+pub enum Refusal {
+    /// A log is open already.
+    Open,
+    /// No log is open.
+    Closed,
+    /// The page is not begun, and for a Replace it isn't the next one either.
+    Page,
+    /// The page has an open ticket.
+    Busy,
+    /// No such ticket is open.
+    Ticket,
+    /// The record doesn't fit into what is left of the segment.
+    Room,
 }
 
 /// What runs the commands.
@@ -101,7 +117,7 @@ pub struct Driver {
 }
 
 impl Driver {
-    /// No size is known and no log is open. It takes no memory.
+    /// Returns a driver with no size of segments and no log. It takes no memory.
     pub fn new(alloc: Global) -> Driver {
         Driver {
             alloc,
@@ -110,17 +126,33 @@ impl Driver {
         }
     }
 
-    /// Runs a command. There is no reply to the size of segments. `BadLine` comes for a command that
-    /// is out of its turn or breaks a condition of the log, and then nothing was done.
+    /// Runs a command, and returns its reply; there is none to the size of segments.
+    ///
+    /// # Errors
+    ///
+    /// `BadLine` where the size of segments isn't the first command, comes again, or can't be one; then nothing
+    /// was done. `Failed` where memory for the program itself was refused.
     pub fn run(&mut self, command: Command) -> Result<Option<Reply>, Stop> {
         let reply = match command {
             Command::Size(size) => return self.size(size),
             Command::Open => self.open()?,
-            Command::Replace(page, item) => self.opened()?.replace(page, &item)?,
-            Command::Complete(ticket) => self.opened()?.complete(ticket)?,
-            Command::Flush => self.opened()?.flush()?,
             Command::Halt => self.halt()?,
-            Command::Read(page) => self.opened()?.read(page)?,
+            Command::Replace(page, item) => match &mut self.opened {
+                Some(opened) => opened.replace(page, &item)?,
+                None => self.closed()?,
+            },
+            Command::Complete(ticket) => match &mut self.opened {
+                Some(opened) => opened.complete(ticket),
+                None => self.closed()?,
+            },
+            Command::Flush => match &mut self.opened {
+                Some(opened) => opened.flush(),
+                None => self.closed()?,
+            },
+            Command::Read(page) => match &mut self.opened {
+                Some(opened) => opened.read(page),
+                None => self.closed()?,
+            },
         };
         Ok(Some(reply))
     }
@@ -155,42 +187,55 @@ impl Driver {
     fn open(&mut self) -> Result<Reply, Stop>
         ensures kept { OnOk result (self.new.opened ≡ None → IsSome self.new.halted) }
     {
+        if self.opened.is_some() {
+            return Ok(Reply::Refused(Refusal::Open));
+        }
         let Some(mut config) = self.halted.take() else {
             return Err(Stop::BadLine);
         };
         match read_snapshot_or_default(&mut config) {
             Ok(snapshot) => self.start(config, &snapshot),
-            Err(e) => Ok(self.refuse(config, e)),
+            Err(e) => Ok(self.keep(config, Reply::Failed(e))),
         }
     }
 
-    // Opens a log on what was recovered.
+    // Opens a log on what was recovered, unless the segment is full: a message more would begin a second
+    // segment, which no recovery reads yet.
     fn start(
         &mut self,
         config: RunningConfig<MemDevice, PlaceSum>,
         snapshot: &Snapshot,
     ) -> Result<Reply, Stop>
         ensures kept { OnOk result (self.new.opened ≡ None → IsSome self.new.halted) }
-        ensures pages { self.old.opened ≡ None → OnOk result (IfSome self.new.opened (λ opened. (number : ℕ) → get nat_cmp opened.pages number ≡ spot_in (map page_of snapshot.now.pt.items) number)) }
+        ensures pages { self.old.opened ≡ None → OnOk result (IfSome self.new.opened (λ opened. map last_of_page opened.pages.items ≡ map last_of (map page_of snapshot.now.pt.items))) }
     {
-        let pages = pages_of(self.alloc, snapshot)?;
-        match Log::start(config, snapshot) {
-            Ok(log) => self.keep(log, pages),
-            Err((e, config)) => return Ok(self.refuse(config, e)),
-        }
-        Ok(Reply::Opened {
+        let recovered = Recovered {
             stable: snapshot.stable_lsn,
             active: snapshot.active_segment,
             pages: snapshot.pt.len(),
-        })
+        };
+        if recovered.stable.is_some() && recovered.active.is_none() {
+            return Ok(self.keep(config, Reply::Full(recovered)));
+        }
+        let pages = pages_of(self.alloc, snapshot)?;
+        match Log::start(config, snapshot) {
+            Ok(log) => self.set_open(log, pages),
+            Err((e, config)) => return Ok(self.keep(config, Reply::Failed(e))),
+        }
+        Ok(Reply::Opened(recovered))
     }
 
-    // Keeps a log that was opened, and where its pages lie.
-    fn keep(&mut self, log: Log<MemDevice, PlaceSum>, pages: Pages)
-        ensures { MatchOption self.new.opened ⊥ (λ opened. (opened.log ≡ log) × (opened.pages ≡ pages)) }
+    // Keeps a log that was opened, and where its pages lie. Its pin stays out until the log is halted: a
+    // completed message counts as unmarked, since nothing marks one yet, and while one is a pin has to be out.
+    fn set_open(&mut self, log: Log<MemDevice, PlaceSum>, pages: Vec<Page>)
+        requires { pins_of log < 2 ^ 32 - 1 }
+        ensures { MatchOption self.new.opened ⊥ (λ opened. opened.pages ≡ pages) }
     {
+        let mut log = log;
+        let guard = log.pin();
         let opened = Opened {
             log,
+            guard,
             tickets: Vec::new(self.alloc),
             pages,
         };
@@ -199,13 +244,13 @@ impl Driver {
         }
     }
 
-    // Keeps the device of a log that could not be opened.
-    fn refuse(&mut self, config: RunningConfig<MemDevice, PlaceSum>, e: Error) -> Reply
+    // Keeps the device while no log is open, and replies.
+    fn keep(&mut self, config: RunningConfig<MemDevice, PlaceSum>, reply: Reply) -> Reply
         ensures kept { self.new ≡ record self.old { halted = Some config } }
-        ensures reply { result ≡ Reply.Failed e }
+        ensures reply { result ≡ reply }
     {
         self.halted = Some(config);
-        Reply::Failed(e)
+        reply
     }
 
     // Closes the log that is open, and keeps its device. What was not flushed is lost.
@@ -215,57 +260,85 @@ impl Driver {
         ensures out_of_turn { self.old.opened ≡ None → self.new ≡ self.old }
     {
         let Some(opened) = self.opened.take() else {
-            return Err(Stop::BadLine);
+            return self.closed();
         };
         self.halted = Some(opened.halt());
         Ok(Reply::Halted)
     }
 
-    // The log that is open, if one is.
-    fn opened(&mut self) -> Result<&mut Opened, Stop> {
-        self.opened.as_mut().ok_or(Stop::BadLine)
+    // Replies to a command that only an open log can carry out. Before the size of segments it is a bad line.
+    fn closed(&self) -> Result<Reply, Stop> {
+        if self.halted.is_none() {
+            return Err(Stop::BadLine);
+        }
+        Ok(Reply::Refused(Refusal::Closed))
     }
 }
 
-// A log that is open.
+// Where a completed message lies.
+type Spot = (Lsn, DiskPtr);
+
+// What is known of a page.
+#[derive(Drop)]
+struct Page {
+    // Its last completed message; none before the first one.
+    last: Option<Spot>,
+    // Whether it has an open ticket.
+    is_busy: bool,
+}
+
+// A log that is open, with a pin out.
 struct Opened {
     log: Log<MemDevice, PlaceSum>,
-    // By number. One that was completed is gone.
+    guard: Guard,
+    // By number, and so by place. One that was completed is gone.
     tickets: Vec<Option<Ticket>>,
-    pages: Pages,
+    // By number: those that are begun, and the next one where a place was kept for it.
+    pages: Vec<Page>,
 }
 
 // What is held for an open reservation.
 struct Ticket {
     page: PageId,
     reservation: Reservation,
-    guard: Guard,
 }
 
 impl Opened {
-    // Keeps a place for a message, behind a pin. All room that the message will want is made first.
+    // Keeps a place for a message, unless it is refused. All room that the message will want is made first.
     fn replace(&mut self, page: PageId, item: &Vec<u8>) -> Result<Reply, Stop> {
-        if self.log.pins() >= MOST_PINS {
-            return Err(Stop::BadLine);
+        if let Some(refusal) = self.refusal(page) {
+            return Ok(Reply::Refused(refusal));
         }
         self.tickets.reserve(1)?;
-        self.pages.entry(page)?.or_insert(None);
-        let guard = self.log.pin();
-        if !self.log.has_room(page, item) {
-            self.log.unpin(guard);
-            return Err(Stop::BadLine);
+        if page == self.pages.len() as u64 {
+            self.pages.push(Page::reserved())?;
         }
-        match self.log.reserve(LogKind::Replace, page, item, &guard) {
-            Ok(reservation) => Ok(self.hold(page, reservation, guard)),
-            Err(e) => {
-                self.log.unpin(guard);
-                Ok(Reply::Failed(e))
-            }
+        if !self.log.has_room(page, item) {
+            return Ok(Reply::Refused(Refusal::Room));
+        }
+        match self.log.reserve(LogKind::Replace, page, item, &self.guard) {
+            Ok(reservation) => Ok(self.hold(page, reservation)),
+            Err(e) => Ok(Reply::Failed(e)),
         }
     }
 
+    // Why a Replace of this page is refused, whatever its item is.
+    fn refusal(&self, page: PageId) -> Option<Refusal> {
+        match self.pages.get(page as usize) {
+            Some(known) if known.is_busy => Some(Refusal::Busy),
+            Some(_) => None,
+            None if page == self.pages.len() as u64 && self.all_begun() => None,
+            None => Some(Refusal::Page),
+        }
+    }
+
+    // Whether each page that is known is begun.
+    fn all_begun(&self) -> bool {
+        self.pages.last().map_or(true, |page| page.last.is_some())
+    }
+
     // Keeps a ticket under the next number, where there is room for it.
-    fn hold(&mut self, page: PageId, reservation: Reservation, guard: Guard) -> Reply
+    fn hold(&mut self, page: PageId, reservation: Reservation) -> Reply
         requires { vec_len self.old.tickets < vec_capacity self.old.tickets }
     {
         let reply = Reply::Reserved {
@@ -273,37 +346,33 @@ impl Opened {
             place: reservation.lsn(),
             pointer: reservation.pointer(),
         };
-        let ticket = Ticket {
-            page,
-            reservation,
-            guard,
-        };
-        self.tickets.push(Some(ticket)).unwrap();
+        if let Some(known) = self.pages.get_mut(page as usize) {
+            known.is_busy = true;
+        }
+        self.tickets
+            .push(Some(Ticket { page, reservation }))
+            .unwrap();
         reply
     }
 
-    // Completes the message of a ticket, and gives its pin back.
-    fn complete(&mut self, number: u64) -> Result<Reply, Stop> {
-        let Some(ticket) = self.take(number) else {
-            return Err(Stop::BadLine);
+    // Completes the message of a ticket.
+    fn complete(&mut self, number: u64) -> Reply {
+        let Some(Ticket { page, reservation }) = self.take(number) else {
+            return Reply::Refused(Refusal::Ticket);
         };
-        if !self.log.is_open(&ticket.reservation) {
-            ticket.abandon();
-            return Err(Stop::BadLine);
+        if !self.log.is_open(&reservation) {
+            reservation.abandon();
+            return Reply::Refused(Refusal::Ticket);
         }
-        let Ticket {
-            page,
-            reservation,
-            guard,
-        } = ticket;
-        let done = self.log.complete(reservation);
-        self.unpin(guard);
-        match done {
+        match self.log.complete(reservation) {
             Ok((place, pointer)) => {
-                self.note(page, place, pointer);
-                Ok(Reply::Done(place, pointer))
+                self.end(page, Some((place, pointer)));
+                Reply::Done(place, pointer)
             }
-            Err(e) => Ok(Reply::Failed(e)),
+            Err(e) => {
+                self.end(page, None);
+                Reply::Failed(e)
+            }
         }
     }
 
@@ -312,54 +381,69 @@ impl Opened {
         self.tickets.get_mut(number as usize)?.take()
     }
 
-    // Gives a pin back.
-    fn unpin(&mut self, guard: Guard) {
-        if self.log.pins() == 0 {
-            guard.abandon();
-        } else {
-            self.log.unpin(guard);
+    // Notes that a page has no open ticket any more, and where it lies if its message was completed.
+    fn end(&mut self, page: PageId, spot: Option<Spot>) {
+        if let Some(known) = self.pages.get_mut(page as usize) {
+            known.is_busy = false;
+            known.last = spot.or(known.last);
         }
     }
 
-    // Notes where a page lies now.
-    fn note(&mut self, page: PageId, place: Lsn, pointer: DiskPtr) {
-        if let Some(at) = self.pages.get_mut(&page) {
-            *at = Some((place, pointer));
-        }
-    }
-
-    // Writes what was completed, and settles it.
-    fn flush(&mut self) -> Result<Reply, Stop> {
+    // Writes what was completed, and syncs it. An open ticket holds it up.
+    fn flush(&mut self) -> Reply {
         if !self.log.all_ended() {
-            return Err(Stop::BadLine);
+            return self.held_up();
         }
         match self.log.flush() {
-            Ok(grown) => Ok(Reply::Flushed(grown)),
-            Err(e) => Ok(Reply::Failed(e)),
+            Ok(grown) => Reply::Flushed(grown),
+            Err(e) => Reply::Failed(e),
         }
     }
 
-    // Reads the last completed message of a page.
-    fn read(&mut self, page: PageId) -> Result<Reply, Stop> {
-        let Some(Some((place, DiskPtr::Inline(lid)))) = self.pages.get(&page).copied() else {
-            return Err(Stop::BadLine);
+    // Replies that the first open ticket holds a call up. A reservation is open without a ticket only where
+    // its completion failed; the device of this program does not fail.
+    fn held_up(&self) -> Reply {
+        for ticket in &self.tickets {
+            if let Some(ticket) = ticket {
+                return Reply::Failed(Error::Held(ticket.reservation.lsn()));
+            }
+        }
+        Reply::Refused(Refusal::Ticket)
+    }
+
+    // Reads the last completed message of a page. Where it is not durable yet, it is flushed first.
+    fn read(&mut self, page: PageId) -> Reply {
+        let Some((place, DiskPtr::Inline(lid))) = self.last_of(page) else {
+            return Reply::Refused(Refusal::Page);
         };
-        if !self.log.all_ended() {
-            return Err(Stop::BadLine);
+        if place > self.log.stable_offset() {
+            match self.flush() {
+                Reply::Flushed(_) => {}
+                reply => return reply,
+            }
         }
-        match read_settled(&mut self.log, page, place, lid) {
-            Ok(LogRead::Inline(_, item, _)) => Ok(Reply::Page(item)),
-            Ok(_) => Ok(Reply::Failed(Error::Corruption { at: None })),
-            Err(e) => Ok(Reply::Failed(e)),
+        if place > self.log.stable_offset() {
+            return Reply::Failed(Error::Corruption { at: None });
+        }
+        match self.log.read(page, place, DiskPtr::Inline(lid)) {
+            Ok(LogRead::Inline(_, item, _)) => Reply::Page(item),
+            Ok(_) => Reply::Failed(Error::Corruption { at: None }),
+            Err(e) => Reply::Failed(e),
         }
     }
 
-    // Gives all tickets up, and then the log, and answers what that ran on.
+    // Where the last completed message of a page lies, if it is begun.
+    fn last_of(&self, page: PageId) -> Option<Spot> {
+        self.pages.get(page as usize)?.last
+    }
+
+    // Gives all tickets up, and then the log with its pin, and answers what that ran on.
     fn halt(self) -> RunningConfig<MemDevice, PlaceSum>
         ensures { result ≡ config_of self.log }
     {
         let Opened {
             log,
+            guard,
             mut tickets,
             pages: _,
         } = self;
@@ -369,7 +453,18 @@ impl Opened {
             }
         }
         tickets.destroy_empty();
+        guard.abandon();
         log.halt()
+    }
+}
+
+impl Page {
+    // A page that a place is about to be kept for, for the first time.
+    fn reserved() -> Page {
+        Page {
+            last: None,
+            is_busy: false,
+        }
     }
 }
 
@@ -379,28 +474,27 @@ impl Ticket {
         let Ticket {
             page: _,
             reservation,
-            guard,
         } = self;
         reservation.abandon();
-        guard.abandon();
     }
 }
 
-// Where the pages of a snapshot lie, by their number.
-fn pages_of(alloc: Global, snapshot: &Snapshot) -> Result<Pages, AllocError>
-    ensures { IfOk result (λ pages. (number : ℕ) → get nat_cmp pages number ≡ spot_in (map page_of snapshot.now.pt.items) number) }
+// What is known of the pages of a snapshot.
+fn pages_of(alloc: Global, snapshot: &Snapshot) -> Result<Vec<Page>, AllocError>
+    ensures { IfOk result (λ pages. map last_of_page pages.items ≡ map last_of (map page_of snapshot.now.pt.items)) }
 {
-    let mut pages = BTreeMap::new(alloc);
-    for (page, state) in snapshot.pt.iter().enumerate() {
-        if let Some(at) = last_of(state) {
-            pages.insert(page as PageId, Some(at))?;
-        }
+    let mut pages = Vec::new(alloc);
+    for state in &snapshot.pt {
+        pages.push(Page {
+            last: last_of(state),
+            is_busy: false,
+        })?;
     }
     Ok(pages)
 }
 
 // Where the last message of a page lies, if it has one.
-fn last_of(state: &PageState) -> Option<(Lsn, DiskPtr)>
+fn last_of(state: &PageState) -> Option<Spot>
     ensures { result ≡ last_of (page_of state.now) }
 {
     match state {
@@ -410,22 +504,4 @@ fn last_of(state: &PageState) -> Option<(Lsn, DiskPtr)>
         }
         PageState::Free(_, _) | PageState::Uninitialized => None,
     }
-}
-
-// Settles the log as far as a message's place, and reads the message.
-fn read_settled(
-    log: &mut Log<MemDevice, PlaceSum>,
-    page: PageId,
-    place: Lsn,
-    lid: LogOffset,
-) -> sled_log::result::Result<LogRead>
-    requires { AllEnded log.old }
-{
-    if place > log.stable_offset() {
-        log.flush()?;
-    }
-    if place > log.stable_offset() {
-        return Ok(LogRead::Corrupted);
-    }
-    log.read(page, place, DiskPtr::Inline(lid))
 }

@@ -1,8 +1,8 @@
 //! The program `slog`: it reads lines from standard input, runs them on a log over a device in memory,
 //! and prints a line for each (`docs/SLOG.md`).
 //!
-//! The first line names the size of segments. A line that cannot be carried out ends the program, and
-//! an error of the log does not.
+//! The first line names the size of segments. A line that is no command ends the program; an error of the
+//! log, or a command that is refused, does not.
 #![tactic(auto)]
 
 ghost use Rattle.std.specs.Prelude.{◌≤◌};
@@ -36,9 +36,9 @@ fn run_standard(rt: &HostRuntime) -> u8
     run_lines(alloc, reader, writer)
 }
 
-/// Runs the lines of a reader up to its end or to a bad one, and prints on a writer. It answers the
-/// exit status: 0 at the end of the lines, 2 after a bad line, and 1 where the reader or the writer
-/// fails or memory for the program itself is refused.
+/// Runs the lines of a reader up to its end or to a bad one, and prints on a writer. Returns the exit status:
+/// 0 at the end of the lines, 2 after a bad line, and 1 where the reader or the writer fails or memory for
+/// the program itself is refused.
 pub fn run_lines<R: BufRead + Drop, W: Write + Drop>(
     alloc: Global,
     mut reader: R,
@@ -77,7 +77,8 @@ fn run_all<R: BufRead, W: Write>(
     Err(Stop::Failed)
 }
 
-// Runs a line, and prints what came of it.
+// Runs a line, and prints what came of it. The writer is flushed then, so that whoever writes the lines can
+// wait for each reply.
 fn run_line<W: Write>(
     alloc: Global,
     driver: &mut Driver,
@@ -89,6 +90,7 @@ fn run_line<W: Write>(
     };
     if let Some(reply) = driver.run(command)? {
         text::print(alloc, writer, &reply)?;
+        writer.flush()?;
     }
     Ok(())
 }

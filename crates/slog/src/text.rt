@@ -6,7 +6,7 @@
 ghost use Rattle.std.specs.Prelude.{◌≡◌, ◌↔◌, ◌<◌, ◌/◌, ◌%◌, ◌++◌, ◌∷◌, ℕ, List, [], All, IfOk, IfSome, string_bytes, OnOk, IsTrue};
 ghost use Rattle.slog.specs.Hex.{digit_of, digits_of, hex_of};
 
-use crate::driver::Reply;
+use crate::driver::{Recovered, Refusal, Reply};
 use sled_log::result::{DiskPtr, Error};
 use std::alloc::{AllocError, Global};
 use std::fmt;
@@ -114,16 +114,8 @@ fn value(digit: u8) -> Option<u8>
 /// Prints the line of a reply.
 pub fn print<W: Write>(alloc: Global, writer: &mut W, reply: &Reply) -> io::Result<()> {
     match reply {
-        Reply::Opened {
-            stable,
-            active,
-            pages,
-        } => writeln!(
-            writer,
-            "opened {} {} {pages}",
-            OrDash(*stable),
-            OrDash(*active)
-        ),
+        Reply::Opened(recovered) => print_recovered(writer, "opened", recovered),
+        Reply::Full(recovered) => print_recovered(writer, "full", recovered),
         Reply::Reserved {
             ticket,
             place,
@@ -137,6 +129,30 @@ pub fn print<W: Write>(alloc: Global, writer: &mut W, reply: &Reply) -> io::Resu
             writeln!(writer, "page {item}")
         }
         Reply::Failed(e) => print_error(writer, e),
+        Reply::Refused(refusal) => writeln!(writer, "refused {}", word_of(*refusal)),
+    }
+}
+
+// Prints what a recovery found.
+fn print_recovered<W: Write>(writer: &mut W, word: &str, recovered: &Recovered) -> io::Result<()> {
+    writeln!(
+        writer,
+        "{word} {} {} {}",
+        OrDash(recovered.stable),
+        OrDash(recovered.active),
+        recovered.pages
+    )
+}
+
+// The word that says why a command was refused.
+fn word_of(refusal: Refusal) -> &'static str {
+    match refusal {
+        Refusal::Open => "open",
+        Refusal::Closed => "closed",
+        Refusal::Page => "page",
+        Refusal::Busy => "busy",
+        Refusal::Ticket => "ticket",
+        Refusal::Room => "room",
     }
 }
 

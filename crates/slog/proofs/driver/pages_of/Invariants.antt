@@ -1,14 +1,9 @@
--- So far: the pages up to here are in the map by where they are read, and no others are.
-use Rattle.std.proofs.Common.{◌≡◌, ◌<◌, ◌≤◌, ℕ, map, None}
-use Rattle.std.specs.BTreeMap.{get}
-use Rattle.std.specs.Ordering.{nat_cmp}
+-- So far: where the pages up to here lie, and then those behind.
+use Rattle.std.proofs.Common.{◌≡◌, ◌++◌, map, drop}
 use Rattle.sled_codec.specs.Snapshots.{page_of}
-use Rattle.slog.specs.Pages.{spot_in}
+use Rattle.slog.specs.Pages.{last_of, last_of_page}
 use Rattle.slog.proofs.driver.pages_of.Given as goal
 
-abbrev pub invariant-loop-page : goal.invariant-loop-page
-invariant-loop-page l =
-    record {
-      below : (number : ℕ) → number < l.page → get nat_cmp l.pages number ≡ spot_in (map page_of l.snapshot.pt.items) number;
-      above : (number : ℕ) → l.page ≤ number → get nat_cmp l.pages number ≡ None;
-    }
+abbrev pub invariant-loop-state : goal.invariant-loop-state
+invariant-loop-state l =
+    map last_of (map page_of l.snapshot.pt.items) ≡ map last_of_page l.pages.items ++ map last_of (map page_of (drop l.state-index l.snapshot.pt.items))

@@ -1,0 +1,59 @@
+//! A first program on a segment log: it puts one message into a log, reads it back, and finds it again after a
+//! restart (`docs/USING.md`).
+#![tactic(auto)]
+
+mod checksum;
+mod counting;
+#[cfg(test)]
+mod tests;
+
+use anyhow::{Result, bail, ensure};
+use sled_log::config::{Config, RunningConfig};
+use sled_log::device::{MemDevice, PlaceSum};
+use sled_log::logger::{DiskPtr, Log, LogKind, LogRead, PageId};
+use sled_log::reservation::Guard;
+use sled_log::snapshot::read_snapshot_or_default;
+
+fn main(rt: HostRuntime) -> Result<()> {
+    let alloc = rt.alloc();
+    let item = vec![in alloc; 7u8; 3]?;
+    let Some(size) = Config::new(256) else {
+        bail!("256 bytes is no size of a segment");
+    };
+    let mut config = RunningConfig::new(alloc, size, MemDevice::new(alloc), PlaceSum);
+    let snapshot = read_snapshot_or_default(&mut config)?;
+    let mut log = match Log::start(config, &snapshot) {
+        Ok(log) => log,
+        Err((e, _config)) => return Err(e.into()),
+    };
+    // A log and a guard can't be dropped. So what may fail is a function of its own, and both end behind it,
+    // whatever it returns. The pin stays out until then: after a crash a log can only be counted on if a pin
+    // was out while a completed message was unmarked, and nothing marks messages yet.
+    let guard = log.pin();
+    let read = put(&mut log, &guard, 0, &item);
+    guard.abandon();
+    let mut config = log.halt();
+    println!(rt; "page 0 is {:?}", read?)?;
+    let snapshot = read_snapshot_or_default(&mut config)?;
+    println!(rt; "recovered: {} page, and the log goes on at {:?}", snapshot.pt.len(), snapshot.stable_lsn)?;
+    Ok(())
+}
+
+// Replaces a page by an item, makes that durable, and returns what is then read: the item's encoding.
+fn put(
+    log: &mut Log<MemDevice, PlaceSum>,
+    guard: &Guard,
+    page: PageId,
+    item: &Vec<u8>,
+) -> Result<Vec<u8>> {
+    ensure!(log.has_room(page, item), "the segment is full");
+    let ticket = log.reserve(LogKind::Replace, page, item, guard)?;
+    let (place, pointer) = log.complete(ticket)?;
+    ensure!(log.all_ended(), "another reservation is open");
+    log.flush()?;
+    ensure!(place <= log.stable_offset(), "not durable");
+    match log.read(page, place, pointer)? {
+        LogRead::Inline(_, bytes, _) => Ok(bytes),
+        _ => bail!("no message is there"),
+    }
+}
