@@ -60,8 +60,8 @@ fn item(alloc: Global, len: u32) -> Result<Vec<u8>, AllocError> {
 fn fill(log: &mut MemoryLog, item: &Vec<u8>, guard: &Guard) -> io::Result<u32>
     requires { length item.now.items < 2 ^ 63 }
 {
+    let mut page = 0;
     for count in 0..u32::MAX {
-        let page = u64::from(count) % PAGES;
         if !log.has_room(page, item) {
             return Ok(count);
         }
@@ -69,8 +69,18 @@ fn fill(log: &mut MemoryLog, item: &Vec<u8>, guard: &Guard) -> io::Result<u32>
             Ok(ticket) => complete(log, ticket)?,
             Err(_) => return Err(io::Error::other("a message isn't reserved")),
         }
+        page = page_behind(page);
     }
     Ok(u32::MAX)
+}
+
+/// The page that is replaced behind another.
+fn page_behind(page: u64) -> u64 {
+    let next = page.wrapping_add(1);
+    if next >= PAGES {
+        return 0;
+    }
+    next
 }
 
 /// Completes a message.
