@@ -5,7 +5,7 @@ use std::io;
 use std::time::Duration;
 
 /// How many values are encoded and decoded in a run.
-pub const VALUES: usize = 100000;
+pub const VALUES: u32 = 100000;
 
 /// How many runs there are.
 pub const RUNS: u32 = 100;
@@ -28,9 +28,9 @@ impl Shortest {
         self.nanos = self.nanos.min(nanos);
     }
 
-    /// Prints it as hundredths of a nanosecond, for each value of a run.
-    pub fn print(&self, rt: &HostRuntime, name: &str, what: &str) -> io::Result<()> {
-        let hundredths = u128::from(self.nanos) * 100 / VALUES as u128;
+    /// Prints it as hundredths of a nanosecond, for each of the values of a run.
+    pub fn print(&self, rt: &HostRuntime, name: &str, what: &str, values: u32) -> io::Result<()> {
+        let hundredths = u128::from(self.nanos) * 100 / u128::from(values.max(1));
         println!(rt;
             "{name}, {what}: {}.{:02} ns",
             hundredths / 100,

@@ -46,7 +46,7 @@ pub fn of_one_size(
 
 /// Measures both ways, and prints the shortest run of each.
 pub fn measure(rt: &HostRuntime, name: &str, headers: &[MessageHeader]) -> io::Result<()> {
-    let mut buf = vec![in rt.alloc(); 0u8; 32 * VALUES]?;
+    let mut buf = vec![in rt.alloc(); 0u8; 32 * VALUES as usize]?;
     let written = sum_of(headers);
     let mut encode = Shortest::new();
     let mut decode = Shortest::new();
@@ -59,8 +59,8 @@ pub fn measure(rt: &HostRuntime, name: &str, headers: &[MessageHeader]) -> io::R
         decode.add(start.elapsed(rt)?);
         same_sum(read, written)?;
     }
-    encode.print(rt, name, "encode")?;
-    decode.print(rt, name, "decode")
+    encode.print(rt, name, "encode", VALUES)?;
+    decode.print(rt, name, "decode", VALUES)
 }
 
 // All numbers of a header, added up.

@@ -1,4 +1,5 @@
-//! The program `codec_bench`: how long the codecs take for a value (`docs/BENCHMARKS.md`).
+//! The program `codec_bench`: how long the codecs take for a value, and a log for a record
+//! (`docs/BENCHMARKS.md`).
 //!
 //! Without an argument it prints one fixed line. With the argument `time` it measures, and prints a line
 //! for each figure.
@@ -6,6 +7,7 @@
 
 mod figure;
 mod headers;
+mod logs;
 mod numbers;
 mod sequence;
 
@@ -27,7 +29,11 @@ fn main(rt: HostRuntime) -> io::Result<()> {
     let headers = headers::of_any_size(rt.alloc(), &mut sequence)?;
     headers::measure(&rt, "header", &headers)?;
     let alike = headers::of_one_size(rt.alloc(), &mut sequence)?;
-    headers::measure(&rt, "header of 14 bytes", &alike)
+    headers::measure(&rt, "header of 14 bytes", &alike)?;
+    logs::measure(&rt, "records of 11 bytes", 10)?;
+    logs::measure(&rt, "records of 200 bytes", 199)?;
+    logs::measure(&rt, "records of 4000 bytes", 3997)?;
+    logs::measure_start(&rt)
 }
 
 // Whether `time` is among the arguments.

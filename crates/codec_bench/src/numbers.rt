@@ -35,7 +35,7 @@ pub fn sorted(alloc: Global, values: &[u64]) -> Result<Vec<u64>, AllocError> {
 
 /// Measures both ways, and prints the shortest run of each.
 pub fn measure(rt: &HostRuntime, name: &str, values: &[u64]) -> io::Result<()> {
-    let mut buf = vec![in rt.alloc(); 0u8; 9 * VALUES]?;
+    let mut buf = vec![in rt.alloc(); 0u8; 9 * VALUES as usize]?;
     let written = sum_of(values);
     let mut encode = Shortest::new();
     let mut decode = Shortest::new();
@@ -48,8 +48,8 @@ pub fn measure(rt: &HostRuntime, name: &str, values: &[u64]) -> io::Result<()> {
         decode.add(start.elapsed(rt)?);
         same_sum(read, written)?;
     }
-    encode.print(rt, name, "encode")?;
-    decode.print(rt, name, "decode")
+    encode.print(rt, name, "encode", VALUES)?;
+    decode.print(rt, name, "decode", VALUES)
 }
 
 fn sum_of(values: &[u64]) -> u64 {

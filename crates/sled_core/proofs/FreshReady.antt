@@ -9,7 +9,7 @@ use Rattle.sled_core.specs.Recoverable.{LeavesRecoverable}
 use Rattle.sled_core.specs.Running.{Ready}
 use Rattle.sled_core.proofs.FirstSegment.{none_listed, nothing_recoverable}
 use Rattle.sled_core.proofs.FoundLemmas.{found_there}
-use Rattle.sled_core.proofs.FreshLemmas.{no_pages, ready_fresh}
+use Rattle.sled_core.proofs.FreshLemmas.{ready_fresh}
 
 -- a crash leaves no names where there are none
 none_left : (n : ℤ) (left : Option (List ℕ)) → LeavesName (names_at_rest (λ _. None)) n left → left ≡ None

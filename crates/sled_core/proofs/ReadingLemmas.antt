@@ -49,7 +49,7 @@ lead_behind text front mid back at is long some =
     ∙ get_or_append_left mid back 0 0 some
 
 -- the header of a message is no longer than thirty-two bytes, where its first ones are bytes
-header_short : (text : List ℕ) (h : MessageHeader) → SpellsMessageHeader text h → ((i : ℕ) → i < length text → i < 128 → get_or text i 0 < 256) → (8 ≤ length text) × (length text ≤ 32)
+header_short : (text : List ℕ) (h : MessageHeader) → SpellsMessageHeader text h → ((i : ℕ) → i < length text → i < 32 → get_or text i 0 < 256) → (8 ≤ length text) × (length text ≤ 32)
 header_short text h s bytes =
     let sum = s.summed.long in
     let l1 = number_some s.len h.len s.counted in
@@ -73,8 +73,8 @@ header_short text h s bytes =
 part_front : (log : List ℕ) (lid k len : ℕ) → k ≤ len → part log lid k ≡ take k (part log lid len)
 part_front log lid k len le = sym (take-take k len (drop lid log) le)
 
-module _ (sum : List ℕ → ℕ) (size : ℕ) (log : List ℕ) (lid number : ℕ) (head : List ℕ) (long : length head ≡ 128) (bytes : (i : ℕ) → i < 128 → get_or head i 0 < 256)
-    (same : (k : ℕ) → k ≤ 128 → lid + k ≤ length log → take k head ≡ part log lid k) where
+module _ (sum : List ℕ → ℕ) (size : ℕ) (log : List ℕ) (lid number : ℕ) (head : List ℕ) (long : length head ≡ 32) (bytes : (i : ℕ) → i < 32 → get_or head i 0 < 256)
+    (same : (k : ℕ) → k ≤ 32 → lid + k ≤ length log → take k head ≡ part log lid k) where
   module _ (h : MessageHeader) (body : List ℕ) (len : ℕ) (stands : StandsAt sum size log lid number h body len) where
     -- the record is as long as its header and its body
     pub record_long : len ≡ length stands.header + length body
@@ -82,7 +82,7 @@ module _ (sum : List ℕ → ℕ) (size : ℕ) (log : List ℕ) (lid number : �
         let there : length (part log lid len) ≡ len = let within = stands.in_file in omega (arith, within, length-take len (drop lid log), length-drop lid log) in
         sym there ∙ ap length stands.is ∙ length-append stands.header body
 
-    header_byte : (i : ℕ) → i < length stands.header → i < 128 → get_or stands.header i 0 < 256
+    header_byte : (i : ℕ) → i < length stands.header → i < 32 → get_or stands.header i 0 < 256
     header_byte i lt below =
         let within : lid + suc i ≤ length log = let inside = stands.in_file in omega (arith, inside, record_long) in
         let le : suc i ≤ len = omega (arith, record_long) in
@@ -105,13 +105,13 @@ module _ (sum : List ℕ → ℕ) (size : ℕ) (log : List ℕ) (lid number : �
         same n (omega (arith, short)) within ∙ part_front log lid n len (omega (arith, record_long)) ∙ ap (take n) stands.is ∙ take_at stands.header body n refl in
         sym (take-append-drop n head) ∙ ap (λ (l : List ℕ). l ++ drop n head) front
 
-  module _ (n : ℕ) (h0 : MessageHeader) (found : SpellsMessageHeader (take n head) h0) (small : n ≤ 128) where
+  module _ (n : ℕ) (h0 : MessageHeader) (found : SpellsMessageHeader (take n head) h0) (small : n ≤ 32) where
     found_long : length (take n head) ≡ n
     found_long = omega (arith, long, length-take n head)
 
     pub found_some : 8 ≤ n
     found_some =
-        let byte : (i : ℕ) → i < length (take n head) → i < 128 → get_or (take n head) i 0 < 256 = λ i lt below. subst (λ b. b < 256) (sym (get_or-take n head i 0 (omega (arith, found_long)))) (bytes i below) in
+        let byte : (i : ℕ) → i < length (take n head) → i < 32 → get_or (take n head) i 0 < 256 = λ i lt below. subst (λ b. b < 256) (sym (get_or-take n head i 0 (omega (arith, found_long)))) (bytes i below) in
         let le = (header_short (take n head) h0 found byte).0 in omega (arith, le, found_long)
 
     -- a record that stands there has the header that was found

@@ -1,5 +1,5 @@
 //! Where a log begins on a log file, from a snapshot (`specs/Begin.antt`).
-ghost use Rattle.std.specs.Prelude.{◌≡◌, ◌+◌, ◌*◌, ◌%◌, ◌^◌, ◌<◌, ◌≤◌, ℕ, List, length, map, replicate, is_some, IfSome, IfOk, IfErr, OnOk, OnErr, IsOkUnless};
+ghost use Rattle.std.specs.Prelude.{[], IsTrue, ◌≡◌, ◌+◌, ◌*◌, ◌%◌, ◌^◌, ◌<◌, ◌≤◌, ℕ, List, length, map, replicate, is_some, IfSome, IfOk, IfErr, OnOk, OnErr, IsOkUnless};
 ghost use Rattle.std.specs.BTreeMap.{get};
 ghost use Rattle.std.specs.Ordering.{nat_cmp};
 ghost use Rattle.sled_codec.specs.Coords.{raised};
@@ -199,6 +199,9 @@ fn fill_unused<D: Device, C: Checksum>(
     ensures config { config.new.config ≡ config.old.config }
     ensures checksum { config.new.checksum ≡ config.old.checksum }
 {
+    if are_used(book, slots) {
+        return Ok(None);
+    }
     let zeros = vec![in config.alloc(); 0; config.config.segment_size as usize]?;
     match write_unused(config, book, slots, &zeros) {
         Ok(Some(first)) => {
@@ -208,6 +211,18 @@ fn fill_unused<D: Device, C: Checksum>(
         Ok(None) => Ok(None),
         Err(e) => Err(e),
     }
+}
+
+/// Whether all slots of a file are in use.
+fn are_used(book: &Book, slots: u64) -> bool
+    ensures { IsTrue result → not_below (λ k. is_some (get nat_cmp book.now.held k)) slots ≡ [] }
+{
+    for k in 0..slots {
+        if !book.has(k) {
+            return false;
+        }
+    }
+    true
 }
 
 /// The same, but for the sync.

@@ -3,8 +3,8 @@ ghost use Rattle.std.specs.Prelude.{◌≤◌, ◌<◌, ◌+◌, ◌^◌, length
 
 use sled_codec::serialization::MessageHeader;
 
-/// How many bytes are read at first: more than any header has.
-pub(crate) const READ_AHEAD: usize = 128;
+/// How many bytes are read at first: as many as the longest header has.
+pub(crate) const READ_AHEAD: usize = 32;
 
 /// A header and the body that it announces, as they stand in the log. The sum may be wrong.
 #[derive(Drop)]
@@ -16,7 +16,7 @@ pub(crate) struct Found {
     /// The body, with room for a header behind it.
     pub(crate) body: Vec<u8>,
     ghost some: { 8 ≤ header_len },
-    ghost short: { header_len ≤ 128 },
+    ghost short: { header_len ≤ 32 },
     ghost small: { header_len + length body.items < 2 ^ 32 },
-    ghost room: { length body.items + 128 ≤ vec_capacity body },
+    ghost room: { length body.items + 32 ≤ vec_capacity body },
 }

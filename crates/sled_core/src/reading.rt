@@ -177,12 +177,12 @@ fn find_announced<R: ReadAt>(
 ) -> Result<Option<Found>>
     requires size { (0 < size) × (size < 2 ^ 32) }
     requires behind { R.begins reader.old ≤ lid }
-    requires head { (k : ℕ) → k ≤ 128 → lid + k ≤ length (R.file reader.old) → take k head ≡ part (R.file reader.old) lid k }
-    requires long { length head ≡ 128 }
+    requires head { (k : ℕ) → k ≤ 32 → lid + k ≤ length (R.file reader.old) → take k head ≡ part (R.file reader.old) lid k }
+    requires long { length head ≡ 32 }
     requires bytes { (i : ℕ) → slice_index head i < 256 }
     requires found { SpellsMessageHeader (take header_len head) header }
     requires some { 8 ≤ header_len }
-    requires short { header_len ≤ 128 }
+    requires short { header_len ≤ 32 }
     requires there { lid + header_len ≤ length (R.file reader.old) }
     ensures found { IfOk result (λ o. IfSome o (IsFound size (R.file reader.old) lid number.0)) }
     ensures none { IfOk result (λ o. IfNone o (IsBare size (R.file reader.old) lid number.0)) }
@@ -212,9 +212,9 @@ fn find_announced<R: ReadAt>(
 /// The first bytes from an offset on, and how many of them the file has. The others are anything.
 fn read_head<R: ReadAt>(reader: &mut R, lid: LogOffset) -> Result<([u8; READ_AHEAD], usize)>
     requires { R.begins reader.old ≤ lid }
-    ensures head { IfOk result (λ read. (k : ℕ) → k ≤ 128 → lid + k ≤ length (R.file reader.old) → take k read.0 ≡ part (R.file reader.old) lid k) }
-    ensures long { IfOk result (λ read. length read.0 ≡ 128) }
-    ensures count { IfOk result (λ read. read.1 ≡ min 128 (length (R.file reader.old) - lid)) }
+    ensures head { IfOk result (λ read. (k : ℕ) → k ≤ 32 → lid + k ≤ length (R.file reader.old) → take k read.0 ≡ part (R.file reader.old) lid k) }
+    ensures long { IfOk result (λ read. length read.0 ≡ 32) }
+    ensures count { IfOk result (λ read. read.1 ≡ min 32 (length (R.file reader.old) - lid)) }
     ensures answers { ReaderAnswers result ⊥ (R.faults reader.old) (R.faults reader.new) }
     ensures file { R.file reader.new ≡ R.file reader.old }
     ensures begins { R.begins reader.new ≡ R.begins reader.old }
@@ -232,10 +232,10 @@ fn blank() -> [u8; READ_AHEAD] {
 
 /// The header that these bytes begin with, and how long its spelling is.
 fn decode_head(alloc: Global, head: &[u8]) -> Result<Option<(MessageHeader, usize)>>
-    requires { length head.now ≡ 128 }
+    requires { length head.now ≡ 32 }
     ensures found { IfOk result (λ found. MatchOption found
         ((front rest : List ℕ) (h : MessageHeader) → head.now ≡ front ++ rest → SpellsMessageHeader front h → ⊥)
-        (λ x. SpellsMessageHeader (take x.1 head.now) x.0 × (x.1 ≤ 128) × (8 ≤ x.1))) }
+        (λ x. SpellsMessageHeader (take x.1 head.now) x.0 × (x.1 ≤ 32) × (8 ≤ x.1))) }
     ensures bytes { (i : ℕ) → slice_index head.now i < 256 }
     ensures errors { IfErr result (λ e. e ≡ Error.OutOfMemory) }
 {
@@ -276,7 +276,7 @@ fn read_body<R: ReadAt>(
     requires behind { R.begins reader.old ≤ at }
     requires there { at ≤ length (R.file reader.old) }
     ensures body { IfOk result (λ body. MatchOption body (length (R.file reader.old) < at + len) (λ b. (b.items ≡ part (R.file reader.old) at len) × (at + len ≤ length (R.file reader.old)))) }
-    ensures room { IfOk result (λ o. IfSome o (λ b. len + 128 ≤ vec_capacity b)) }
+    ensures room { IfOk result (λ o. IfSome o (λ b. len + 32 ≤ vec_capacity b)) }
     ensures len { IfOk result (λ o. IfSome o (λ b. length b.items ≡ len)) }
     ensures answers { DeviceAnswers result (R.faults reader.old) (R.faults reader.new) }
     ensures readable { IsCorruption result → ⊥ }

@@ -7,6 +7,9 @@ use Rattle.sled_store.proofs.ScriptLemmas.{performs_nothing, performs_whole}
 use Rattle.sled_core.proofs.FillLemmas.{nothing_filled, all_filled, sync_stopped, filling_stopped}
 use Rattle.sled_core.proofs.begin.fill_unused.Goals as goal
 
+pub returns-then-are_used-clause-calls : goal.returns-then-are_used-clause-calls
+returns-then-are_used-clause-calls g c = performs_nothing _ (g.D.Device.trace c.args.config.now.device) _ refl
+
 pub returns-in_err-zeros-clause-calls : goal.returns-in_err-zeros-clause-calls
 returns-in_err-zeros-clause-calls g c = performs_nothing _ (g.D.Device.trace c.args.config.now.device) _ refl
 

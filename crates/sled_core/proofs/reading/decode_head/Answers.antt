@@ -11,7 +11,7 @@ pub returns-in-Ok-clause-found : goal.returns-in-Ok-clause-found
 returns-in-Ok-clause-found c =
     let taken = c.in-Ok.ensures.ok in
     let rest : List ℕ = c.deserialize.new.buf.now in
-    let long : length c.args.head.now ≡ 128 = c.requires in
+    let long : length c.args.head.now ≡ 32 = c.requires in
     let some = header_some taken.0 c.in-Ok.header taken.1 in
     let parts = ap length taken.2 in
     let front_long : length taken.0 ≡ length c.args.head.now - length rest = omega (arith, long, parts, length-append taken.0 rest) in

@@ -1,0 +1,233 @@
+//! Logs on a device in memory, with the sum for tests: what is measured of a log goes over these.
+ghost use Rattle.std.specs.Prelude.{◌≡◌, ◌<◌, ◌^◌, length, IfOk};
+ghost use Rattle.sled_core.specs.Fits.{IsOpen, pins_of};
+
+use crate::figure::{RUNS, Shortest};
+use sled_core::iterator::{read_slot, scan};
+use sled_log::config::{Config, RunningConfig};
+use sled_log::device::{MemDevice, PlaceSum};
+use sled_log::logger::{Log, LogKind, PageId};
+use sled_log::reservation::{Guard, Reservation};
+use sled_log::snapshot::{Snapshot, read_snapshot_or_default};
+use std::alloc::{AllocError, Global};
+use std::io;
+use std::time::Instant;
+
+/// A log on a device in memory.
+type MemoryLog = Log<MemDevice, PlaceSum>;
+
+/// What such a log runs on.
+type Running = RunningConfig<MemDevice, PlaceSum>;
+
+/// How many pages are replaced, one behind another and again from the first. Each takes one byte in a header.
+const PAGES: u64 = 200;
+
+/// The segments that are filled.
+const SEGMENT_SIZE: u64 = 524288;
+
+/// The longest segments that there are.
+const LONGEST_SEGMENT: u64 = 8388608;
+
+/// What a log in segments of this size runs on, on a device that has nothing yet.
+fn empty(alloc: Global, segment_size: u64) -> io::Result<Running> {
+    match Config::new(segment_size) {
+        Some(config) => Ok(RunningConfig::new(alloc, config, MemDevice::new(alloc), PlaceSum)),
+        None => Err(io::Error::other("no segments have this size")),
+    }
+}
+
+/// A log that begins on such a device.
+fn started(alloc: Global, config: Running) -> io::Result<MemoryLog>
+    ensures { IfOk result (λ log. pins_of log ≡ 0) }
+{
+    match Log::start(config, &Snapshot::empty(alloc)) {
+        Ok(log) => Ok(log),
+        Err(_) => Err(io::Error::other("the log can't begin")),
+    }
+}
+
+/// An item of so many bytes and their count.
+fn item(alloc: Global, len: u32) -> Result<Vec<u8>, AllocError> {
+    let mut bytes = Vec::new(alloc);
+    for i in 0..len {
+        bytes.push((i % 251) as u8)?;
+    }
+    Ok(bytes)
+}
+
+/// Replaces one page after another by an item until the segment has no room for one more, and answers how many
+/// messages these are.
+fn fill(log: &mut MemoryLog, item: &Vec<u8>, guard: &Guard) -> io::Result<u32>
+    requires { length item.now.items < 2 ^ 63 }
+{
+    let mut page = 0;
+    for count in 0..u32::MAX {
+        if !log.has_room(page, item) {
+            return Ok(count);
+        }
+        match log.reserve(LogKind::Replace, page, item, guard) {
+            Ok(ticket) => complete(log, ticket)?,
+            Err(_) => return Err(io::Error::other("a message isn't reserved")),
+        }
+        page = page_behind(page);
+    }
+    Ok(u32::MAX)
+}
+
+/// The page that is replaced behind another.
+fn page_behind(page: u64) -> u64 {
+    let next = page.wrapping_add(1);
+    if next >= PAGES {
+        return 0;
+    }
+    next
+}
+
+/// Completes a message.
+fn complete(log: &mut MemoryLog, ticket: Reservation) -> io::Result<()>
+    requires { IsOpen log.old ticket }
+{
+    match log.complete(ticket) {
+        Ok(_) => Ok(()),
+        Err(_) => Err(io::Error::other("a message isn't completed")),
+    }
+}
+
+/// Settles what was completed.
+fn flush(log: &mut MemoryLog) -> io::Result<()> {
+    if !log.all_ended() {
+        return Err(io::Error::other("a message isn't completed"));
+    }
+    match log.flush() {
+        Ok(_) => Ok(()),
+        Err(_) => Err(io::Error::other("the messages aren't settled")),
+    }
+}
+
+/// Reads the bytes of the segment and all records in it, and answers how many these are.
+fn scan_segment(config: &mut Running) -> io::Result<usize> {
+    let read = read_slot(config, 0);
+    let Ok(buf) = read else {
+        return Err(io::Error::other("the segment isn't read"));
+    };
+    match scan(config, &buf, 0) {
+        Ok(scan) => Ok(scan.met.len()),
+        Err(_) => Err(io::Error::other("the segment isn't read")),
+    }
+}
+
+/// Recovers the table, and answers how many pages it has.
+fn recover(config: &mut Running) -> io::Result<usize> {
+    match read_snapshot_or_default(config) {
+        Ok(snapshot) => Ok(snapshot.pt.len()),
+        Err(_) => Err(io::Error::other("the log isn't recovered")),
+    }
+}
+
+/// How long it takes to fill a segment, to settle it, to read its records and to recover it.
+#[derive(Drop)]
+struct Figures {
+    records: u32,
+    append: Shortest,
+    flush: Shortest,
+    scan: Shortest,
+    recovery: Shortest,
+}
+
+impl Figures {
+    /// Of no run.
+    fn new() -> Figures {
+        Figures {
+            records: 0,
+            append: Shortest::new(),
+            flush: Shortest::new(),
+            scan: Shortest::new(),
+            recovery: Shortest::new(),
+        }
+    }
+
+    /// Fills the segment of a log, and settles it.
+    fn time_writing(
+        &mut self,
+        rt: &HostRuntime,
+        log: &mut MemoryLog,
+        item: &Vec<u8>,
+        guard: &Guard,
+    ) -> io::Result<()>
+        requires { length item.now.items < 2 ^ 63 }
+    {
+        let start = Instant::now(rt)?;
+        self.records = fill(log, item, guard)?;
+        self.append.add(start.elapsed(rt)?);
+        let start = Instant::now(rt)?;
+        flush(log)?;
+        self.flush.add(start.elapsed(rt)?);
+        Ok(())
+    }
+
+    /// Reads what was settled, and recovers it.
+    fn time_reading(&mut self, rt: &HostRuntime, config: &mut Running) -> io::Result<()> {
+        let start = Instant::now(rt)?;
+        let met = scan_segment(config)?;
+        self.scan.add(start.elapsed(rt)?);
+        let start = Instant::now(rt)?;
+        let pages = recover(config)?;
+        self.recovery.add(start.elapsed(rt)?);
+        if met != self.records as usize || pages != met.min(PAGES as usize) {
+            return Err(io::Error::other("what was read is not what was written"));
+        }
+        Ok(())
+    }
+
+    /// Prints them, for each record.
+    fn print(&self, rt: &HostRuntime, name: &str) -> io::Result<()> {
+        self.append.print(rt, name, "append", self.records)?;
+        self.flush.print(rt, name, "flush", self.records)?;
+        self.scan.print(rt, name, "scan", self.records)?;
+        self.recovery.print(rt, name, "recovery", self.records)
+    }
+}
+
+/// Fills a segment of a log on an empty device and settles it. Answers what the log ran on.
+fn write(
+    rt: &HostRuntime,
+    segment_size: u64,
+    item: &Vec<u8>,
+    figures: &mut Figures,
+) -> io::Result<Running>
+    requires { length item.now.items < 2 ^ 63 }
+{
+    let config = empty(rt.alloc(), segment_size)?;
+    let mut log = started(rt.alloc(), config)?;
+    let guard = log.pin();
+    let timed = figures.time_writing(rt, &mut log, item, &guard);
+    guard.abandon();
+    let config = log.halt();
+    timed?;
+    Ok(config)
+}
+
+/// Measures what a log does with records whose items have so many bytes, and prints the shortest run of each.
+pub fn measure(rt: &HostRuntime, name: &str, len: u32) -> io::Result<()> {
+    let item = item(rt.alloc(), len)?;
+    let mut figures = Figures::new();
+    for _ in 0..RUNS {
+        let mut config = write(rt, SEGMENT_SIZE, &item, &mut figures)?;
+        figures.time_reading(rt, &mut config)?;
+    }
+    figures.print(rt, name)
+}
+
+/// Measures how long a log takes to begin on an empty device, with segments as long as they can be.
+pub fn measure_start(rt: &HostRuntime) -> io::Result<()> {
+    let mut start = Shortest::new();
+    for _ in 0..RUNS {
+        let config = empty(rt.alloc(), LONGEST_SEGMENT)?;
+        let began = Instant::now(rt)?;
+        let log = started(rt.alloc(), config)?;
+        let took = began.elapsed(rt);
+        let _ = log.halt();
+        start.add(took?);
+    }
+    start.print(rt, "log", "start", 1)
+}
