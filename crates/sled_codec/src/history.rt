@@ -84,7 +84,8 @@ fn behind<'a>(alloc: Global, base: Message<'a>, of_page: &[Message<'a>]) -> Resu
 
 // Puts the Links above a place behind the entries.
 fn push_links<'a>(entries: &mut Vec<Message<'a>>, place: u64, of_page: &[Message<'a>]) -> Result<()>
-    ensures { OnOk result (map seen entries.new.items ≡ map seen entries.old.items ++ filter (λ m. is_link m.kind && nat_lt place m.place) (map seen of_page.now)) }
+    ensures { OnOk result (map seen entries.new.items ≡ map seen entries.old.items
+        ++ filter (λ m. is_link m.kind && nat_lt place m.place) (map seen of_page.now)) }
 {
     for m in of_page {
         if is_link(m.kind) && m.place > place {

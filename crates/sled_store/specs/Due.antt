@@ -6,7 +6,6 @@ use Rattle.std.specs.declared.io.ErrorKind.TheVariants.{Other}
 use Rattle.sled_store.specs.declared.device.memory.MemDevice.{MemDevice}
 use Rattle.sled_store.specs.Answers.{is_fault_kind}
 use Rattle.sled_store.specs.Device.{Event, Trace, Wrote, Synced, BlobSynced, NamesSynced}
-use Rattle.sled_store.specs.Fewer.{one_fewer}
 use Rattle.sled_store.specs.Memory.{has_room}
 
 -- which call fails, counted from the next one on; 0 for none
@@ -29,6 +28,12 @@ Awaits device fails stops stopped = (fails_in device ≡ fails) × (stops_in dev
 abbrev pub is_due : MemDevice → Bool
 is_due device = is_stopped device || fails_in device == 1
 
+-- one call fewer is to be done
+abbrev pub one_fewer : Option ℕ → Option ℕ
+one_fewer None = None
+one_fewer (Some n) = Some (n - 1)
+
+-- what it did so far
 abbrev pub trace_of : MemDevice → Trace
 trace_of device = device.story.events
 

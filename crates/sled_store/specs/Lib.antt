@@ -4,7 +4,6 @@ pub mod Chosen
 pub mod Device
 pub mod Due
 pub mod Durable
-pub mod Fewer
 pub mod Foreign
 pub mod Memory
 pub mod MemoryNames

@@ -66,12 +66,7 @@ fn kinds_by_page(rt: HostRuntime) {
             Some(MessageKind::InlineLink),
             Some(MessageKind::BlobLink),
         ),
-        (
-            LogKind::Free,
-            0,
-            Some(MessageKind::Free),
-            None,
-        ),
+        (LogKind::Free, 0, Some(MessageKind::Free), None),
         (LogKind::Corrupted, 0, None, None),
     ];
     for (kind, page, inline, blob) in rows {

@@ -124,6 +124,7 @@ fn laws_of_formats() {
     laws::read_again::<u64>();
     laws::read_again::<Vec<u8>>();
     laws::read_again::<MessageHeader>();
+    laws::lengths();
     laws::written_is_record::<PlaceSum>();
     laws::one_record::<PlaceSum>();
 }

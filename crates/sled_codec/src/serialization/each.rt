@@ -61,7 +61,8 @@ pub(crate) fn deserialize_many<T: Delimited + Drop>(
 ) -> Result<Vec<T>>
     ensures ok { IfOk result (λ vs. (front : List ℕ) × SpellsEach T.Spells front (map T.meaning vs.items) × (buf.old.now ≡ front ++ buf.new.now)) }
     ensures count { IfOk result (λ vs. length vs.items ≡ count) }
-    ensures corrupt { IsCorruption result → (front rest : List ℕ) (vs : List T.Meaning) → length vs ≡ count → buf.old.now ≡ front ++ rest → SpellsEach T.Spells front vs → ⊥ }
+    ensures corrupt { IsCorruption result → (front rest : List ℕ) (vs : List T.Meaning)
+        → length vs ≡ count → buf.old.now ≡ front ++ rest → SpellsEach T.Spells front vs → ⊥ }
     ensures errors { IfErr result IsDecodeError }
     ensures err { OnErr result (buf.new.now ≡ buf.old.now) }
 {

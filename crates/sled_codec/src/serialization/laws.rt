@@ -13,7 +13,8 @@ use crate::serialization::{Checksum, Delimited};
 /// What was written is read again, whatever follows it: where a text begins with the spelling that is
 /// written for a value, each spelling at its front is one of that value, and leaves what follows.
 pub fn read_again<T: Delimited>()
-    ensures { (v : T.Meaning) (rest front back : List ℕ) (w : T.Meaning) → T.fits v → T.short v ++ rest ≡ front ++ back → T.Spells front w → (w ≡ v) × (back ≡ rest) }
+    ensures { (v : T.Meaning) (rest front back : List ℕ) (w : T.Meaning)
+        → T.fits v → T.short v ++ rest ≡ front ++ back → T.Spells front w → (w ≡ v) × (back ≡ rest) }
 {}
 
 /// A `u64` takes one to nine bytes, as it is written and in any other spelling that is read; the header of a
@@ -39,10 +40,14 @@ pub fn meta_again()
 
 /// The record that is written for a message is a record of it.
 pub fn written_is_record<C: Checksum>()
-    ensures { (kind : MessageKind) (page number : ℕ) (body : List ℕ) → kind ≢ Corrupted → page < 2 ^ 64 → number < 2 ^ 64 → length body < 2 ^ 64 → IsRecord C.sum_of (short_record C.sum_of kind page number body) kind page number body }
+    ensures { (kind : MessageKind) (page number : ℕ) (body : List ℕ)
+        → kind ≢ Corrupted → page < 2 ^ 64 → number < 2 ^ 64 → length body < 2 ^ 64
+        → IsRecord C.sum_of (short_record C.sum_of kind page number body) kind page number body }
 {}
 
 /// Two records at the front of one text are one record, of one message.
 pub fn one_record<C: Checksum>()
-    ensures { (a b x y : List ℕ) (kind kind' : MessageKind) (page page' number number' : ℕ) (body body' : List ℕ) → IsRecord C.sum_of a kind page number body → IsRecord C.sum_of b kind' page' number' body' → a ++ x ≡ b ++ y → (a ≡ b) × (kind ≡ kind') × (page ≡ page') × (number ≡ number') × (body ≡ body') }
+    ensures { (a b x y : List ℕ) (kind kind' : MessageKind) (page page' number number' : ℕ) (body body' : List ℕ)
+        → IsRecord C.sum_of a kind page number body → IsRecord C.sum_of b kind' page' number' body'
+        → a ++ x ≡ b ++ y → (a ≡ b) × (kind ≡ kind') × (page ≡ page') × (number ≡ number') × (body ≡ body') }
 {}

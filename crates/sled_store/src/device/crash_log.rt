@@ -15,8 +15,11 @@ impl MemLog {
     // If so it does, and else it leaves the settled ones.
     pub(crate) fn crash(&mut self, back: bool, patch: &[(u64, u8)]) -> bool
         requires { (s : LogState) × Stands self.old s }
-        ensures taken { (s : LogState) → Stands self.old s → IsTrue result ↔ (All (λ p. p.0 < length (if back then s.settled else s.bytes)) patch.now × LeavesLog s (poked (if back then s.settled else s.bytes) patch.now)) }
-        ensures left { (s : LogState) → Stands self.old s → Stands self.new (at_rest (if result then poked (if back then s.settled else s.bytes) patch.now else s.settled)) }
+        ensures taken { (s : LogState) → Stands self.old s
+            → IsTrue result ↔ (All (λ p. p.0 < length (if back then s.settled else s.bytes)) patch.now
+            × LeavesLog s (poked (if back then s.settled else s.bytes) patch.now)) }
+        ensures left { (s : LogState) → Stands self.old s
+            → Stands self.new (at_rest (if result then poked (if back then s.settled else s.bytes) patch.now else s.settled)) }
     {
         put_back(&mut self.bytes, &self.settled, back);
         let taken = attempt(&mut self.bytes, &self.settled, &self.loose, self.cut, patch);
@@ -94,7 +97,8 @@ fn attempt(
     patch: &[(u64, u8)],
 ) -> bool
     requires { cut ≤ length settled.now.items }
-    ensures taken { result ≡ (are_in (length bytes.old.items) patch.now && are_kept loose.now.items cut (poked bytes.old.items patch.now) settled.now.items patch.now) }
+    ensures taken { result ≡ (are_in (length bytes.old.items) patch.now
+        && are_kept loose.now.items cut (poked bytes.old.items patch.now) settled.now.items patch.now) }
     ensures bytes { IsTrue result → bytes.new.items ≡ poked bytes.old.items patch.now }
     ensures capacity { vec_capacity bytes.new ≡ vec_capacity bytes.old }
 {
@@ -180,7 +184,9 @@ pub(super) fn is_lost(loose: &Vec<(usize, usize)>, cut: usize, at: usize) -> boo
 // Whether each offered byte is the one that is read, or that may be lost.
 fn are_firm(bytes: &Vec<u8>, loose: &Vec<(usize, usize)>, cut: usize, offered: &[u8]) -> bool
     requires { cut ≤ length bytes.now.items }
-    ensures { MatchBool result ((i : ℕ) → i < length offered.now → (is_loose_at loose.now.items cut i || slice_index offered.now i == slice_index bytes.now.items i) ≡ true) ((i : ℕ) × (i < length offered.now) × ((is_loose_at loose.now.items cut i || slice_index offered.now i == slice_index bytes.now.items i) ≡ false)) }
+    ensures { MatchBool result
+        ((i : ℕ) → i < length offered.now → (is_loose_at loose.now.items cut i || slice_index offered.now i == slice_index bytes.now.items i) ≡ true)
+        ((i : ℕ) × (i < length offered.now) × ((is_loose_at loose.now.items cut i || slice_index offered.now i == slice_index bytes.now.items i) ≡ false)) }
 {
     for i in 0..offered.len() {
         if !is_firm(bytes, loose, cut, offered, i) {

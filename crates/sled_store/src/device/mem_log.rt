@@ -181,7 +181,8 @@ fn copy_part(settled: &mut Vec<u8>, bytes: &Vec<u8>, from: usize, to: usize)
     requires { length settled.old.items ≡ length bytes.now.items }
     ensures long { length settled.new.items ≡ length settled.old.items }
     ensures inside { (i : ℕ) → from ≤ i → i < to → slice_index settled.new.items i ≡ slice_index bytes.now.items i }
-    ensures outside { (i : ℕ) → slice_index settled.old.items i ≡ slice_index bytes.now.items i → slice_index settled.new.items i ≡ slice_index bytes.now.items i }
+    ensures outside { (i : ℕ) → slice_index settled.old.items i ≡ slice_index bytes.now.items i
+        → slice_index settled.new.items i ≡ slice_index bytes.now.items i }
     ensures capacity { vec_capacity settled.new ≡ vec_capacity settled.old }
 {
     let end = to.min(bytes.len());

@@ -64,7 +64,8 @@ impl MemNames {
         bytes: Vec<u8>,
         is_loose: bool,
     ) -> Result<(), AllocError>
-        ensures ok { (s : NamesState) (asked : List (List ℕ)) → Keeps self.old s → OnOk result (Keeps self.new (renamed s name true (record { file = Some bytes.items; is_loose = is_loose }) asked)) }
+        ensures ok { (s : NamesState) (asked : List (List ℕ)) → Keeps self.old s
+            → OnOk result (Keeps self.new (renamed s name true (record { file = Some bytes.items; is_loose = is_loose }) asked)) }
         ensures err { (s : NamesState) → Keeps self.old s → OnErr result (Keeps self.new s) }
     {
         let one = Kept {

@@ -25,7 +25,10 @@ impl MemNames {
 
     // Whether it may be so under each name that was offered.
     fn may_have_offered(&self, files: &Vec<(i64, Vec<u8>)>) -> bool
-        ensures { MatchBool result ((n : ℤ) → IsSome (file_named (files_of files.now.items) n) → IsTrue (leaves_any (states_of (files_under self.now.kept n)) (file_named (files_of files.now.items) n))) ((n : ℤ) × (leaves_any (states_of (files_under self.now.kept n)) (file_named (files_of files.now.items) n) ≡ false)) }
+        ensures { MatchBool result
+            ((n : ℤ) → IsSome (file_named (files_of files.now.items) n)
+            → IsTrue (leaves_any (states_of (files_under self.now.kept n)) (file_named (files_of files.now.items) n)))
+            ((n : ℤ) × (leaves_any (states_of (files_under self.now.kept n)) (file_named (files_of files.now.items) n) ≡ false)) }
     {
         for file in files {
             if !self.may_be(files, file.0) {
@@ -37,7 +40,10 @@ impl MemNames {
 
     // Whether it may be so under each name under which a file was made.
     fn may_have_kept(&self, files: &Vec<(i64, Vec<u8>)>) -> bool
-        ensures { MatchBool result ((n : ℤ) → IsSome (get int_cmp self.now.kept n) → IsTrue (leaves_any (states_of (files_under self.now.kept n)) (file_named (files_of files.now.items) n))) ((n : ℤ) × (leaves_any (states_of (files_under self.now.kept n)) (file_named (files_of files.now.items) n) ≡ false)) }
+        ensures { MatchBool result
+            ((n : ℤ) → IsSome (get int_cmp self.now.kept n)
+            → IsTrue (leaves_any (states_of (files_under self.now.kept n)) (file_named (files_of files.now.items) n)))
+            ((n : ℤ) × (leaves_any (states_of (files_under self.now.kept n)) (file_named (files_of files.now.items) n) ≡ false)) }
     {
         for (name, _kept) in &self.kept {
             if !self.may_be(files, *name) {
@@ -74,7 +80,9 @@ pub(super) fn is_ascending(files: &Vec<(i64, Vec<u8>)>) -> bool
 
 // Where a name is among the offered files.
 pub(super) fn offered(files: &Vec<(i64, Vec<u8>)>, name: i64) -> Option<usize>
-    ensures { MatchOption result (file_named (files_of files.now.items) name ≡ None) (λ i. (i < length files.now.items) × ((d : ℤ × Vec ℕ Global) → file_named (files_of files.now.items) name ≡ Some (slice_index_or files.now.items i d).1.items)) }
+    ensures { MatchOption result (file_named (files_of files.now.items) name ≡ None)
+        (λ i. (i < length files.now.items) × ((d : ℤ × Vec ℕ Global)
+        → file_named (files_of files.now.items) name ≡ Some (slice_index_or files.now.items i d).1.items)) }
 {
     for (i, file) in files.iter().enumerate() {
         if file.0 == name {
