@@ -22,6 +22,7 @@ pub mod HoldsLemmas
 pub mod LogFileLemmas
 pub mod MainLemmas
 pub mod OpenLemmas
+pub mod OwnBehind
 pub mod OwnLemmas
 pub mod OwnRecords
 pub mod Parts

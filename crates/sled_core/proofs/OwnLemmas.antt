@@ -21,6 +21,12 @@ no_names_own passes = record { own = λ n bytes there is. cc }
 pub record_some : (sum : List ℕ → ℕ) (text : List ℕ) (kind : MessageKind) (page number : ℕ) (body : List ℕ) → IsRecord sum text kind page number body → 8 ≤ length text
 record_some sum text kind page number body r = let some = header_some r.header _ r.spelled in omega (arith, some, ap length r.is, length-append r.header body)
 
+-- The header of the first slot is the log's own, and so is each record of its number that a reader comes to.
+pub record FirstOwn (sum : List ℕ → ℕ) (size : ℕ) (past : LogState) (placed : List (ℕ × List ℕ)) (log : List ℕ) : Type 0 where
+  pub headers : (lsn mark : ℤ) → IsHeader sum (part log 0 20) lsn mark → HeaderWasPlaced placed 0 (part log 0 20) × IsWhole past 0 (part log 0 20)
+  pub records : (lsn : ℕ) (mark : ℤ) (at len : ℕ) (kind : MessageKind) (page : ℕ) (body : List ℕ) → IsHeader sum (part log 0 20) (pos lsn) mark → IsReached sum size (lsn / size) log 20 at → at + len ≤ size
+      → IsRecord sum (part log at len) kind page (lsn / size) body → RecordWasPlaced sum size placed (lsn / size) at (part log at len) × IsWhole past at (part log at len)
+
 -- A log file of one slot at most, with a header at its beginning alone.
 module _ (sum : List ℕ → ℕ) (size : ℕ) (log : List ℕ) (short : length log ≤ size) where
   pub header_first : (slot : ℕ) (lsn mark : ℤ) → IsHeader sum (part log (slot * size) 20) lsn mark → slot * size ≡ 0
@@ -39,23 +45,38 @@ module _ (sum : List ℕ → ℕ) (size : ℕ) (log : List ℕ) (short : length 
       take_short (suc n) (x ∷ xs) le = ap (λ (l : List ℕ). x ∷ l) (take_short n xs (omega (arith, le)))
 
   -- Nothing is foreign in it, where its header is the log's own, and each record that a reader comes to.
-  pub first_own : (past : LogState) (placed : List (ℕ × List ℕ))
-      → HeaderWasPlaced placed 0 (part log 0 20) × IsWhole past 0 (part log 0 20)
-      → ((number at len : ℕ) (kind : MessageKind) (page : ℕ) (body : List ℕ) → IsReached sum size number log 20 at → IsRecord sum (part log at len) kind page number body
-      → RecordWasPlaced sum size placed number at (part log at len) × IsWhole past at (part log at len))
-      → NoForeignLog sum size past placed log
-  first_own past placed header records = record {
+  pub first_own : (past : LogState) (placed : List (ℕ × List ℕ)) → FirstOwn sum size past placed log → NoForeignLog sum size past placed log
+  first_own past placed own = record {
     headers = λ slot lsn mark is.
         let at = header_first slot lsn mark is in
-        subst (λ n. HeaderWasPlaced placed n (part log n 20) × IsWhole past n (part log n 20)) (sym at) header;
+        subst (λ n. HeaderWasPlaced placed n (part log n 20) × IsWhole past n (part log n 20)) (sym at) (own.headers lsn mark (subst (λ n. IsHeader sum (part log n 20) lsn mark) at is));
     records = λ slot lsn mark at len kind page body is reached fits rec.
         let first = header_first slot (pos lsn) mark is in
         let here : slot * size + at ≡ at = omega (arith, first) in
         subst (λ n. RecordWasPlaced sum size placed (lsn / size) n (part log n len) × IsWhole past n (part log n len)) (sym here)
-        (records (lsn / size) at len kind page body
+        (own.records lsn mark at len kind page body
+        (subst (λ n. IsHeader sum (part log n 20) (pos lsn) mark) first is)
         (subst (λ (l : List ℕ). IsReached sum size (lsn / size) l 20 at) slot_whole (subst (λ n. IsReached sum size (lsn / size) (part log n size) 20 at) first reached))
+        fits
         (subst (λ n. IsRecord sum (part log n len) kind page (lsn / size) body) here rec));
   }
+
+  -- And so they are, where nothing is foreign in it.
+  pub own_first : (past : LogState) (placed : List (ℕ × List ℕ)) → NoForeignLog sum size past placed log → FirstOwn sum size past placed log
+  own_first past placed own =
+      let first : 0 * size ≡ 0 = omega arith in
+      record {
+        headers = λ lsn mark is.
+            subst (λ n. HeaderWasPlaced placed n (part log n 20) × IsWhole past n (part log n 20)) first (own.headers 0 lsn mark (subst (λ n. IsHeader sum (part log n 20) lsn mark) (sym first) is));
+        records = λ lsn mark at len kind page body is reached fits rec.
+            let here : 0 * size + at ≡ at = omega arith in
+            subst (λ n. RecordWasPlaced sum size placed (lsn / size) n (part log n len) × IsWhole past n (part log n len)) here
+            (own.records 0 lsn mark at len kind page body
+            (subst (λ n. IsHeader sum (part log n 20) (pos lsn) mark) (sym first) is)
+            (subst (λ n. IsReached sum size (lsn / size) (part log n size) 20 at) (sym first) (subst (λ (l : List ℕ). IsReached sum size (lsn / size) l 20 at) (sym slot_whole) reached))
+            fits
+            (subst (λ n. IsRecord sum (part log n len) kind page (lsn / size) body) (sym here) rec));
+      }
 
 -- a write from the beginning of the file on covers each part of it
 covers_part : (text : List ℕ) (at n : ℕ) → at ≤ length text → Covers (0, text) at (part text at n)
@@ -68,7 +89,7 @@ covers_part text at n there =
     }
 
 -- a part of some length begins within
-part_within : (text : List ℕ) (k n : ℕ) → 0 < length (part text k n) → k ≤ length text
+pub part_within : (text : List ℕ) (k n : ℕ) → 0 < length (part text k n) → k ≤ length text
 part_within text k n some = omega (arith, some, length-take n (drop k text), length-drop k text)
 
 pub first_of_slot : (size : ℕ) → first_record size 0 ≡ 20
@@ -79,14 +100,15 @@ module _ (sum : List ℕ → ℕ) (size : ℕ) (text : List ℕ) (short : length
   first_write_own : ((at : ℕ) (t : List ℕ) → Covers (0, text) at t → IsWhole past at t) → NoForeignLog sum size past placed text
   unfolding HeaderWasPlaced RecordWasPlaced
   first_write_own whole =
-      first_own sum size text short past placed
-      (((0, text), there, refl, refl), whole 0 (part text 0 20) (covers_part text 0 20 (omega arith)))
-      (λ number at len kind page body reached rec.
-      let some = record_some sum (part text at len) kind page number body rec in
-      let covers : Covers (0, text) at (part text at len) = covers_part text at len (part_within text at len (omega (arith, some))) in
-      let same : at - 0 ≡ at = omega arith in
-      let here = subst (λ n. IsReached sum size number text n (at - 0)) (sym (first_of_slot size)) (subst (λ n. IsReached sum size number text 20 n) (sym same) reached) in
-      (((0, text), there, covers, here), whole at (part text at len) covers))
+      first_own sum size text short past placed (record {
+        headers = λ lsn mark is. (((0, text), there, refl, refl), whole 0 (part text 0 20) (covers_part text 0 20 (omega arith)));
+        records = λ lsn mark at len kind page body is reached fits rec.
+            let some = record_some sum (part text at len) kind page (lsn / size) body rec in
+            let covers : Covers (0, text) at (part text at len) = covers_part text at len (part_within text at len (omega (arith, some))) in
+            let same : at - 0 ≡ at = omega arith in
+            let here = subst (λ n. IsReached sum size (lsn / size) text n (at - 0)) (sym (first_of_slot size)) (subst (λ n. IsReached sum size (lsn / size) text 20 n) (sym same) reached) in
+            (((0, text), there, covers, here), whole at (part text at len) covers);
+      })
 
 module _ (sum : List ℕ → ℕ) (size : ℕ) (zeros : NoHeaderOfZeros sum) where
   -- an empty log file, whatever was before

@@ -1,7 +1,7 @@
 //! Laws of the definitions, for those who build on the log: they say that its premises can be met.
 ghost use Rattle.std.specs.Prelude.{◌≡◌, ◌≤◌, ◌+◌, ◌∷◌, ℕ, List, [], length};
 ghost use Rattle.sled_store.specs.Device.{State, Left, Settled, Wrote, Synced, Crashed, fresh, step, state_of, content_of, content_left};
-ghost use Rattle.sled_core.specs.Own.{IsSomeRecord, written_out_of_order};
+ghost use Rattle.sled_core.specs.Own.{IsSomeRecord, IsReachedToEnd, written_out_of_order};
 ghost use Rattle.sled_core.specs.Recoverable.{NoForeign, NoHeaderOfZeros};
 
 /// On an empty device nothing is foreign.
@@ -18,6 +18,15 @@ pub fn nothing_is_foreign_after_the_first_write()
         → NoForeign sum size (state_of (Synced ∷ Wrote 0 text text ∷ [])) (content_of (state_of (Synced ∷ Wrote 0 text text ∷ []))) }
     ensures lost { (sum : List ℕ → ℕ) (size : ℕ) (text : List ℕ) → NoHeaderOfZeros sum
         → NoForeign sum size (state_of (Wrote 0 text text ∷ [])) (content_left (Settled []) (state_of (Wrote 0 text text ∷ []))) }
+{}
+
+/// A write at the end of the records makes nothing foreign: neither in what is read, nor where it is lost after a sync.
+pub fn nothing_becomes_foreign_by_a_write_behind()
+    ensures read { (sum : List ℕ → ℕ) (size : ℕ) (s : State) (text : List ℕ) → NoForeign sum size s (content_of s) → 20 ≤ length s.log.bytes
+        → length s.log.bytes + length text ≤ size → IsReachedToEnd sum size s.log.bytes
+        → NoForeign sum size (step (Wrote (length s.log.bytes) text text) s) (content_of (step (Wrote (length s.log.bytes) text text) s)) }
+    ensures lost { (sum : List ℕ → ℕ) (size : ℕ) (s : State) (at : ℕ) (asked now : List ℕ) → NoForeign sum size s (content_of s)
+        → NoForeign sum size (step (Wrote at asked now) (step Synced s)) (content_left (Settled []) (step (Wrote at asked now) (step Synced s))) }
 {}
 
 /// A record that was written before the one in front of it isn't foreign, not even before that one is synced.
