@@ -19,7 +19,7 @@ use Rattle.sled_core.proofs.OwnRecords.{begins_inside}
 
 -- Text is appended: what was there reads as before, and the rest as the text.
 module _ (old text : List ℕ) where
-    in_old : (at len : ℕ) → at + len ≤ length old → part (old ++ text) at len ≡ part old at len
+  in_old : (at len : ℕ) → at + len ≤ length old → part (old ++ text) at len ≡ part old at len
   in_old at len fits =
       ap (take len) (drop-append-le at old text (omega (arith, fits))) ∙ take-append-le len (drop at old) text (omega (arith, fits, length-drop at old))
 
