@@ -7,7 +7,7 @@ use Rattle.sled_codec.specs.declared.serialization.message.MessageKind.{MessageK
 use Rattle.sled_codec.specs.Places.{part}
 use Rattle.sled_codec.specs.Record.{IsRecord, IsHeader}
 use Rattle.sled_codec.proofs.Records.{one_record}
-use Rattle.sled_store.specs.Device.{Event, LogState, State, Wrote, Synced, Settled, step, content_of, content_left, overwritten, at_rest}
+use Rattle.sled_store.specs.Device.{LogState, State, Wrote, Synced, Settled, step, content_of, content_left, at_rest}
 use Rattle.sled_store.specs.Foreign.{IsReached, at_first, behind, first_record, Covers, IsWhole, HeaderWasPlaced, RecordWasPlaced, NoForeignLog}
 use Rattle.sled_store.proofs.ForeignLemmas.{Knows, LogKnows, before_knows, own_log, own_log_at_rest, take_again}
 use Rattle.sled_store.proofs.LeavesLemmas.{write}
@@ -126,9 +126,11 @@ module _ (sum : List ℕ → ℕ) (size number : ℕ) where
           split (from + len) (subst (λ n. IsReached sum size number old 20 (from + n)) (sym same) (behind from len' there.kind there.page there.body before inside there.is)) (omega (arith, same, inside)))
       | inr (after, past) ↦ (
           let there : from - length old + len ≡ from + len - length old = omega (arith, past) in
-          inr (subst (λ n. IsReached sum size number text 0 n) there
-            (behind (from - length old) len kind page body after (omega (arith, past, fits, length-append old text)) (subst (λ (l : List ℕ). IsRecord sum l kind page number body) (in_text old text from len past) rec)),
-            omega (arith, past)))
+          inr (
+            subst (λ n. IsReached sum size number text 0 n) there
+                (behind (from - length old) len kind page body after (omega (arith, past, fits, length-append old text)) (subst (λ (l : List ℕ). IsRecord sum l kind page number body) (in_text old text from len past) rec)),
+            omega (arith, past),
+          ))
     ]
 
 -- The write at the end of the log file.
@@ -208,9 +210,9 @@ lost_behind sum size s at asked now own =
     let t : State = step (Wrote at asked now) (step Synced s) in
     record {
       log = own_log sum size (at_rest s.log.bytes) t.log s.placed t.placed s.log.bytes
-        (record { settled = refl; asked = λ w none. (suc none.0, let le = none.1 in omega (arith, le), none.2) })
-        (λ w there. (suc there.0, let le = there.1 in omega (arith, le), there.2))
-        (own_log_at_rest sum size s.log s.placed s.log.bytes own.log);
+          (record { settled = refl; asked = λ w none. (suc none.0, let le = none.1 in omega (arith, le), none.2) })
+          (λ w there. (suc there.0, let le = there.1 in omega (arith, le), there.2))
+          (own_log_at_rest sum size s.log s.placed s.log.bytes own.log);
       blobs = record { own = λ n bytes there is. inl there };
       snapshots = record { own = λ n bytes there is. inl there };
       zeros = own.zeros;

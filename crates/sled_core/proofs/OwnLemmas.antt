@@ -1,10 +1,14 @@
 -- Nothing is foreign on an empty device, nor in what is read after the first write; and a sync or a crash makes nothing foreign.
-use Rattle.std.proofs.Common.{◌≡◌, ◌≤◌, ◌<◌, ◌+◌, ◌-◌, ◌*◌, ◌/◌, ◌∙◌, ℕ, zero, suc, ℤ, pos, nat_lt, if◌then◌else◌, List, [], ◌∷◌, length, take, drop, None, refl, sym, ap, subst, arith, inr, length-append, length-take, length-drop}
+use Rattle.std.proofs.Common.{◌≡◌, ◌≤◌, ◌<◌, ◌+◌, ◌-◌, ◌*◌, ◌/◌, ◌^◌, ◌∙◌, ℕ, zero, suc, ℤ, pos, nat_lt, if◌then◌else◌, List, [], ◌∷◌, ◌++◌, length, take, drop, replicate, None, refl, sym, ap, subst, arith, inr, length-append, length-take, length-drop}
 use Rattle.std.specs.List.{Contains}
 use Rattle.std.proofs.Math.Nat.{zero-mod}
 use Rattle.sled_codec.specs.declared.serialization.message.MessageKind.{MessageKind}
 use Rattle.sled_codec.specs.Places.{part}
-use Rattle.sled_codec.specs.Record.{IsRecord, IsHeader}
+use Rattle.sled_codec.specs.Record.{IsRecord, IsHeader, short_header, header_places}
+use Rattle.sled_codec.specs.Spelling.{low_bytes, low_first}
+use Rattle.sled_codec.specs.SpellingLaws.{low_first-low_bytes, length-low_bytes}
+use Rattle.sled_codec.specs.Sums.{flipped, place_sum}
+use Rattle.std.proofs.Math.Seq.{take-append_seam, drop-append_seam}
 use Rattle.sled_codec.proofs.Segments.{length-short_header}
 use Rattle.sled_store.specs.Device.{State, LogState, Wrote, Synced, Settled, fresh, step, state_of, content_of, content_left, overwritten, names_at_rest}
 use Rattle.sled_store.specs.Foreign.{IsReached, first_record, Covers, IsWhole, HeaderWasPlaced, RecordWasPlaced, NoForeignLog, NoForeignNames}
@@ -12,6 +16,24 @@ use Rattle.sled_store.proofs.ForeignLemmas.{take_again, own_log_at_rest}
 use Rattle.sled_store.proofs.OverwrittenLemmas.{overwritten-end}
 use Rattle.sled_core.specs.Recoverable.{NoForeign, NoHeaderOfZeros}
 use Rattle.sled_core.proofs.ReadingLemmas.{header_some}
+
+-- Zeros pass as no header, where the sum of sixteen of them isn't all ones.
+pub zeros_no_header : (sum : List ℕ → ℕ) → sum (replicate 16 0) < 2 ^ 32 - 1 → NoHeaderOfZeros sum
+unfolding short_header
+zeros_no_header sum less lsn mark h =
+    let places : List ℕ = header_places lsn mark in
+    let f : ℕ = flipped (sum places) in
+    let low : List ℕ = low_bytes 4 f in
+    let four : length low ≡ 4 = length-low_bytes 4 f (omega arith) in
+    let rest : replicate 16 0 ≡ places = ap (drop 4) h.is ∙ ap (λ n. drop n (low ++ places)) (sym four) ∙ drop-append_seam low places in
+    let front : replicate 4 0 ≡ low = ap (take 4) h.is ∙ ap (λ n. take n (low ++ places)) (sym four) ∙ take-append_seam low places in
+    let none : f ≡ 0 = sym (low_first-low_bytes 4 f (omega arith) (omega arith)) ∙ ap low_first (sym front) in
+    let small : sum places < 2 ^ 32 - 1 = subst (λ (l : List ℕ). sum l < 2 ^ 32 - 1) rest less in
+    absurd (omega (arith, none, small))
+
+pub zeros_by_place : NoHeaderOfZeros place_sum
+unfolding place_sum
+zeros_by_place = zeros_no_header place_sum (omega arith)
 
 -- where there are no names, nothing is under one
 pub no_names_own : (passes : List ℕ → Type 0) → NoForeignNames passes (names_at_rest (λ _. None)) (λ _. None)

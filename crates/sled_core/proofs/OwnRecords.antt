@@ -203,7 +203,7 @@ module _ (sum : List ℕ → ℕ) (size : ℕ) (first second third : List ℕ) (
     pub out_of_order_own : NoForeign sum size state (content_of state)
     out_of_order_own = record {
       log = first_own sum size log (omega (arith, long_log, short)) state.log state.placed
-      (record { headers = λ lsn mark is. header_own; records = λ lsn mark at len kind page body is reached fits rec. record_own (lsn / size) at len kind page body reached rec });
+          (record { headers = λ lsn mark is. header_own; records = λ lsn mark at len kind page body is reached fits rec. record_own (lsn / size) at len kind page body reached rec });
       blobs = no_names_own _;
       snapshots = no_names_own _;
       zeros = zeros;

@@ -1,8 +1,15 @@
 //! Laws of the definitions, for those who build on the log: they say that its premises can be met.
-ghost use Rattle.std.specs.Prelude.{◌≡◌, ◌≤◌, ◌+◌, ◌∷◌, ℕ, List, [], length};
+ghost use Rattle.std.specs.Prelude.{◌≡◌, ◌≤◌, ◌<◌, ◌+◌, ◌-◌, ◌^◌, ◌∷◌, ℕ, List, [], length, replicate};
+ghost use Rattle.sled_codec.specs.Sums.{place_sum};
 ghost use Rattle.sled_store.specs.Device.{State, Left, Settled, Wrote, Synced, Crashed, fresh, step, state_of, content_of, content_left};
 ghost use Rattle.sled_core.specs.Own.{IsSomeRecord, IsReachedToEnd, written_out_of_order};
 ghost use Rattle.sled_core.specs.Recoverable.{NoForeign, NoHeaderOfZeros};
+
+/// Twenty zeros pass as no header, where the checksum of sixteen zeros isn't all ones: so under the checksum for tests.
+pub fn zeros_are_no_header()
+    ensures general { (sum : List ℕ → ℕ) → sum (replicate 16 0) < 2 ^ 32 - 1 → NoHeaderOfZeros sum }
+    ensures place_sum { NoHeaderOfZeros place_sum }
+{}
 
 /// On an empty device nothing is foreign.
 pub fn nothing_is_foreign_on_an_empty_device()
