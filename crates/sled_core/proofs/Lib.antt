@@ -24,6 +24,7 @@ pub mod KeptCalls
 pub mod LogFileLemmas
 pub mod MainLemmas
 pub mod OpenLemmas
+pub mod OwnBehind
 pub mod OwnLemmas
 pub mod OwnRecords
 pub mod OpenTickets

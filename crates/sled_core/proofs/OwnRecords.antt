@@ -1,5 +1,5 @@
 -- Where a record was written before the one in front of it nothing is foreign, in what is read before that one is synced.
-use Rattle.std.proofs.Common.{◌≡◌, ◌⊎◌, ◌≤◌, ◌<◌, ◌+◌, ◌-◌, ◌∙◌, ℕ, List, [], ◌∷◌, ◌++◌, length, take, drop, refl, sym, ap, subst, arith, inl, inr, length-append, length-take, length-drop}
+use Rattle.std.proofs.Common.{◌≡◌, ◌⊎◌, ◌≤◌, ◌<◌, ◌+◌, ◌-◌, ◌/◌, ◌∙◌, ℕ, List, [], ◌∷◌, ◌++◌, length, take, drop, refl, sym, ap, subst, arith, inl, inr, length-append, length-take, length-drop}
 use Rattle.std.specs.List.{Contains}
 use Rattle.std.proofs.Math.Nat.{mod-eq_of_lt}
 use Rattle.std.proofs.Math.Seq.{take-append_seam, drop-append_seam}
@@ -37,7 +37,7 @@ covers_all : (at : ℕ) (r : List ℕ) → Covers (at, r) at r
 covers_all at r = let none : at - at ≡ 0 = omega arith in record { begins = omega arith; ends = omega arith; same = ap (λ n. part r n (length r)) none ∙ take_all r }
 
 -- in a write that begins within a slot the first record is at its beginning
-begins_inside : (size at : ℕ) → 0 < at → at < size → first_record size at ≡ 0
+pub begins_inside : (size at : ℕ) → 0 < at → at < size → first_record size at ≡ 0
 begins_inside size at some inside = let offset = mod-eq_of_lt inside in grind (arith, nat_tests, offset, some)
 
 -- Three records, one behind another up to the end of a log file.
@@ -202,7 +202,8 @@ module _ (sum : List ℕ → ℕ) (size : ℕ) (first second third : List ℕ) (
     -- So nothing is foreign.
     pub out_of_order_own : NoForeign sum size state (content_of state)
     out_of_order_own = record {
-      log = first_own sum size log (omega (arith, long_log, short)) state.log state.placed header_own record_own;
+      log = first_own sum size log (omega (arith, long_log, short)) state.log state.placed
+          (record { headers = λ lsn mark is. header_own; records = λ lsn mark at len kind page body is reached fits rec. record_own (lsn / size) at len kind page body reached rec });
       blobs = no_names_own _;
       snapshots = no_names_own _;
       zeros = zeros;

@@ -1,6 +1,6 @@
 //! Laws of logs, each the contract of a function that does nothing. A proof cites them by the lemmas of
 //! `proofs/PublicLaws.antt`.
-ghost use Rattle.std.specs.Prelude.{◌≡◌, ◌≤◌, ◌<◌, ◌+◌, ◌^◌, ◌∷◌, ℕ, ℤ, pos, List, [], replicate, None, length};
+ghost use Rattle.std.specs.Prelude.{◌≡◌, ◌≤◌, ◌<◌, ◌+◌, ◌^◌, ◌∷◌, ℕ, ℤ, pos, List, [], replicate, None, length, ◌-◌};
 ghost use Rattle.std.specs.List.{All};
 ghost use Rattle.sled_codec.specs.History.{Message, History, no_history};
 ghost use Rattle.sled_codec.specs.Record.{IsHeader};
@@ -15,7 +15,8 @@ ghost use Rattle.sled_core.specs.Ready.{IsReady};
 ghost use Rattle.sled_core.specs.Recoverable.{NoForeign, Recoverable, RecoverableIfOwn, LeavesRecoverable, NoHeaderOfZeros};
 ghost use Rattle.sled_core.specs.Running.{Fits, Ready};
 ghost use Rattle.sled_core.specs.Tickets.{place_of, pointer_of};
-ghost use Rattle.sled_core.specs.Own.{IsSomeRecord, written_out_of_order};
+ghost use Rattle.sled_core.specs.Own.{IsSomeRecord, written_out_of_order, IsReachedToEnd};
+ghost use Rattle.sled_codec.specs.Sums.{place_sum};
 
 use crate::logger::Log;
 use crate::reservation::Reservation;
@@ -131,4 +132,19 @@ pub fn nothing_becomes_foreign_by_a_sync()
 pub fn nothing_becomes_foreign_after_a_crash()
     ensures { (sum : List ℕ → ℕ) (size : ℕ) (left : Left) (s : State) → NoForeign sum size s (content_left left s)
         → NoForeign sum size (step (Crashed left) s) (content_of (step (Crashed left) s)) }
+{}
+
+/// Twenty zeros pass as no header, where the checksum of sixteen zeros isn't all ones: so under the checksum for tests.
+pub fn zeros_are_no_header()
+    ensures general { (sum : List ℕ → ℕ) → sum (replicate 16 0) < 2 ^ 32 - 1 → NoHeaderOfZeros sum }
+    ensures place_sum { NoHeaderOfZeros place_sum }
+{}
+
+/// A write at the end of the records makes nothing foreign: neither in what is read, nor where it is lost after a sync.
+pub fn nothing_becomes_foreign_by_a_write_behind()
+    ensures read { (sum : List ℕ → ℕ) (size : ℕ) (s : State) (text : List ℕ) → NoForeign sum size s (content_of s) → 20 ≤ length s.log.bytes
+        → length s.log.bytes + length text ≤ size → IsReachedToEnd sum size s.log.bytes
+        → NoForeign sum size (step (Wrote (length s.log.bytes) text text) s) (content_of (step (Wrote (length s.log.bytes) text text) s)) }
+    ensures lost { (sum : List ℕ → ℕ) (size : ℕ) (s : State) (at : ℕ) (asked now : List ℕ) → NoForeign sum size s (content_of s)
+        → NoForeign sum size (step (Wrote at asked now) (step Synced s)) (content_left (Settled []) (step (Wrote at asked now) (step Synced s))) }
 {}
