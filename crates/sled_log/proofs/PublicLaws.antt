@@ -22,10 +22,10 @@ pub appended : (H H' : History) (m : Message) → Step H (Completed m) H' → Al
 unfolding Step
 appended H H' m adds lower =
     let none : adds.after ≡ [] = no_element adds.after (λ x there.
-        let old : Contains H.messages x = subst (λ (ms : List Message). Contains ms x) (sym adds.old) (Contains-append_right adds.before adds.after x there) in
-        let less = All-contains (λ z. z.place < m.place) H.messages x lower old in
-        let more = adds.higher x there in
-        omega (arith, less, more)) in
+    let old : Contains H.messages x = subst (λ (ms : List Message). Contains ms x) (sym adds.old) (Contains-append_right adds.before adds.after x there) in
+    let less = All-contains (λ z. z.place < m.place) H.messages x lower old in
+    let more = adds.higher x there in
+    omega (arith, less, more)) in
     let before : adds.before ≡ H.messages = sym (append-nil adds.before) ∙ ap (λ (ms : List Message). adds.before ++ ms) (sym none) ∙ sym adds.old in
     (adds.new ∙ ap (λ (ms : List Message). adds.before ++ m ∷ ms) none ∙ ap (λ (ms : List Message). ms ++ m ∷ []) before, adds.batches)
 

@@ -20,7 +20,7 @@ abbrev pub RecoveryCalls : (List ℕ → ℕ) → ℕ → Trace → Trace → Ty
 RecoveryCalls sum size old new =
     Performs (Synced ∷ NamesSynced ∷ []) old new
     ⊎ ((x : Conclusion) × Recovers sum size (log_alone (state_of old).log.bytes) (state_of old).snapshots.file (Recovered x)
-       × (numbers : List ℤ) × MayBeRemoved (state_of old).snapshots.file (number_of x.shot) numbers × WritesBehind (Synced ∷ NamesSynced ∷ []) sum x numbers old new)
+    × (numbers : List ℤ) × MayBeRemoved (state_of old).snapshots.file (number_of x.shot) numbers × WritesBehind (Synced ∷ NamesSynced ∷ []) sum x numbers old new)
 
 -- The log file of a device is longer than a segment, or what the device has is damaged.
 abbrev pub IsBeyondRecovery : (List ℕ → ℕ) → ℕ → State → Type 0

@@ -117,13 +117,13 @@ returns-in-Ok-clause-begins g c =
     let long = first_next size len s c.in-Ok.beginning c.in-Ok.ensures.beginning c.in-Ok.ensures.startable c.in-Ok.ensures.answers.1 g.C.Checksum.sum_of c.in-Ok.buffer c.in-Ok.ensures.buffer in
     let place = ap (λ (x : Beginning). x.place) c.in-Ok.ensures.beginning ∙ begins_place size (slots_of size len) (stable_place s.stable) (unused size (slots_of size len) s) s.active in
     record {
-  synced = search rules;
-  next = ap (λ n. n + length c.in-Ok.buffer.bytes.items) place ∙ ap (λ n. place_at size (stable_place s.stable) s.active + n) long;
-  ended = ap all_ended c.in-Ok.ensures.buffer.reserved;
-  pins = refl;
-  fault = refl;
-  sized = ap (λ (x : Config). x.segment_size) c.begin.ensures.config;
-}
+      synced = search rules;
+      next = ap (λ n. n + length c.in-Ok.buffer.bytes.items) place ∙ ap (λ n. place_at size (stable_place s.stable) s.active + n) long;
+      ended = ap all_ended c.in-Ok.ensures.buffer.reserved;
+      pins = refl;
+      fault = refl;
+      sized = ap (λ (x : Config). x.segment_size) c.begin.ensures.config;
+    }
 
 pub returns-in-Ok-clause-config : goal.returns-in-Ok-clause-config
 returns-in-Ok-clause-config g c = record { config = c.begin.ensures.config; checksum = c.begin.ensures.checksum }
