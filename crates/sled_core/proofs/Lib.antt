@@ -21,6 +21,7 @@ pub mod Heads
 pub mod HoldsLemmas
 pub mod LogFileLemmas
 pub mod MainLemmas
+pub mod OpenCounts
 pub mod OpenLemmas
 pub mod Parts
 pub mod PathLemmas
