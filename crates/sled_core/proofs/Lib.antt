@@ -23,6 +23,7 @@ pub mod HoldsLemmas
 pub mod KeptCalls
 pub mod LogFileLemmas
 pub mod MainLemmas
+pub mod OpenCounts
 pub mod OpenLemmas
 pub mod OwnBehind
 pub mod OwnLemmas

@@ -1,5 +1,5 @@
 -- The current buffer: which records and which placeholders stand in it, and which messages these are.
-use Rattle.std.specs.Prelude.{◌≡◌, ◌≢◌, ◌+◌, ◌-◌, ◌≤◌, ◌<◌, ◌^◌, ℕ, Bool, true, false, if◌then◌else◌, List, [], ◌∷◌, ◌++◌, length, drop, replicate, Some}
+use Rattle.std.specs.Prelude.{suc, ◌≡◌, ◌≢◌, ◌+◌, ◌-◌, ◌≤◌, ◌<◌, ◌^◌, ℕ, Bool, true, false, if◌then◌else◌, List, [], ◌∷◌, ◌++◌, length, drop, replicate, Some}
 use Rattle.sled_codec.specs.declared.result.DiskPtr.TheVariants.{Inline}
 use Rattle.sled_codec.specs.declared.serialization.message.MessageKind.TheVariants.{Corrupted}
 use Rattle.sled_codec.specs.Kinds.{kind_written, code_of}
@@ -73,6 +73,11 @@ completed_in site bytes (r ∷ rs) = if r.is_open then completed_in site bytes r
 abbrev pub all_ended : List Reserved → Bool
 all_ended [] = true
 all_ended (r ∷ rs) = if r.is_open then false else all_ended rs
+
+-- how many of them are open
+abbrev pub open_in : List Reserved → ℕ
+open_in [] = 0
+open_in (r ∷ rs) = if r.is_open then suc (open_in rs) else open_in rs
 
 -- the end of what was reserved: of all the bytes, where something was reserved since they were written
 abbrev pub end_reserved : ℕ → ℕ → List Reserved → ℕ

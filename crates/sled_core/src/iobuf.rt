@@ -1,9 +1,9 @@
 //! The bytes of the segment that is being filled. The current buffer is the part of them that was not
 //! written yet, and the reservations in it lie one behind another.
-ghost use Rattle.std.specs.Prelude.{◌≡◌, ◌+◌, ◌-◌, ◌<◌, ◌≤◌, ◌^◌, ◌++◌, ◌∷◌, [], ℕ, List, length, take, drop, set, replicate, vec_len, vec_capacity, slice_get, OnOk, OnErr, IfOk, IsOkUnless, All, Some};
+ghost use Rattle.std.specs.Prelude.{true, ◌≡◌, ◌+◌, ◌-◌, ◌<◌, ◌≤◌, ◌^◌, ◌++◌, ◌∷◌, [], ℕ, List, length, take, drop, set, replicate, vec_len, vec_capacity, slice_get, OnOk, OnErr, IfOk, IsOkUnless, All, Some};
 ghost use Rattle.sled_codec.specs.Written.{written};
 ghost use Rattle.sled_core.specs.declared.iobuf.Reserved.{Reserved};
-ghost use Rattle.sled_core.specs.Buffers.{completing, closed, placeholder_head, reserved_for};
+ghost use Rattle.sled_core.specs.Buffers.{completing, closed, open_in, placeholder_head, reserved_for};
 
 use crate::record::{Head, push_item, push_placeholder, sum_behind};
 use sled_codec::result::{Error, LogOffset, PageId, Result};
@@ -64,10 +64,13 @@ pub(crate) struct Buffer {
     pub(crate) from: usize,
     /// The reservations of the current buffer, by place.
     pub(crate) reserved: Vec<Reserved>,
+    /// How many of them are open.
+    pub(crate) open_count: usize,
     ghost begun: { 20 ≤ length bytes.items },
     ghost behind: { from ≤ length bytes.items },
     ghost within: { All (λ r. r.from + r.len ≤ length bytes.items) reserved.items },
     ghost headed: { All (λ r. (5 ≤ r.header_len) × (r.header_len ≤ r.len)) reserved.items },
+    ghost counted: { open_count ≡ open_in reserved.items },
 }
 
 impl Buffer {
@@ -84,6 +87,7 @@ impl Buffer {
             bytes: Vec::from_slice(alloc, header)?,
             from: 0,
             reserved: Vec::new(alloc),
+            open_count: 0,
         })
     }
 
@@ -100,6 +104,7 @@ impl Buffer {
             bytes: vec![in alloc; 0; from]?,
             from,
             reserved: Vec::new(alloc),
+            open_count: 0,
         })
     }
 
@@ -107,12 +112,7 @@ impl Buffer {
     pub(crate) fn all_ended(&self) -> bool
         ensures { result ≡ all_ended self.now.reserved.items }
     {
-        for r in &self.reserved {
-            if r.is_open {
-                return false;
-            }
-        }
-        true
+        self.open_count == 0
     }
 
     /// Makes room for a record of this length, for what is summed behind it, and for its reservation.
@@ -165,11 +165,13 @@ impl Buffer {
                 is_open: true,
             },
         );
+        self.open_count += 1;
     }
 
     /// Completes a reservation: stores the flipped sum and the kind in its header.
     pub(crate) fn complete(&mut self, index: usize)
-        requires { index < vec_len self.old.reserved }
+        requires within { index < vec_len self.old.reserved }
+        requires awaited { (r : Reserved) → slice_get self.old.reserved.items index ≡ Some r → r.is_open ≡ true }
         ensures bytes { (r : Reserved) → slice_get self.old.reserved.items index ≡ Some r → self.new.bytes.items ≡ written self.old.bytes.items r.from (completing r) }
         ensures reserved { (r : Reserved) → slice_get self.old.reserved.items index ≡ Some r → self.new.reserved.items ≡ set self.old.reserved.items index (closed r) }
         ensures from { self.new.from ≡ self.old.from }
@@ -183,6 +185,7 @@ impl Buffer {
             &[sum[0], sum[1], sum[2], sum[3], u8::from(r.kind)],
         );
         close(&mut self.reserved, index);
+        self.open_count -= 1;
     }
 
     /// All bytes are on the device now.
@@ -193,6 +196,7 @@ impl Buffer {
     {
         self.from = self.bytes.len();
         self.reserved.clear();
+        self.open_count = 0;
     }
 }
 

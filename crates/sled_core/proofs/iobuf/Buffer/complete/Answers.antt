@@ -3,7 +3,8 @@ use Rattle.std.specs.List.{slice_get, All}
 use Rattle.std.proofs.lemmas.List.Elements.{All-set}
 use Rattle.sled_codec.specs.Written.{written}
 use Rattle.sled_core.specs.declared.iobuf.Reserved.{Reserved}
-use Rattle.sled_core.specs.Buffers.{completing, closed}
+use Rattle.sled_core.specs.Buffers.{completing, closed, open_in}
+use Rattle.sled_core.proofs.OpenCounts.{open_fewer}
 use Rattle.sled_core.proofs.Parts.{get_there, there_is}
 use Rattle.sled_core.proofs.iobuf.Buffer.complete.Goals as goal
 
@@ -23,6 +24,18 @@ still P old new i r lt is set_is closes all =
     let here : P r = subst P (sym is) (all i r lt) in
     subst (λ (rs : List Reserved). All P rs) (sym set_is) (All-set P old i (closed r) (closes r here) all)
 
+-- one fewer is open than before
+fewer : (c : goal.After-close) → c.args.self.now.open_count ≡ open_in c.close.new.reserved.items + 1
+fewer c =
+    let old : List Reserved = c.args.self.now.reserved.items in
+    let r : Reserved = c.index-r.result.now in
+    let lt : c.args.index < length old = search rules in
+    let there : slice_get old c.args.index ≡ Some r = there_is old c.args.index r lt c.index-r.ensures in
+    c.args.self.now.counted ∙ open_fewer old c.args.index r there (c.requires.awaited r there) ∙ ap (λ (l : List Reserved). open_in l + 1) (sym (c.close.ensures r there))
+
+pub overflow_sub-self : goal.overflow_sub-self
+overflow_sub-self c = omega (arith, fewer c)
+
 pub invariant_of-self : goal.invariant_of-self
 invariant_of-self c =
     let old : List Reserved = c.args.self.now.reserved.items in
@@ -37,4 +50,5 @@ invariant_of-self c =
       within = still (λ x. x.from + x.len ≤ length c.put.new.buf.items) old _ c.args.index r lt c.index-r.ensures new (λ x h. h)
           (subst (λ (n : ℕ). All (λ x. x.from + x.len ≤ n) old) len c.args.self.now.within);
       headed = still (λ x. (5 ≤ x.header_len) × (x.header_len ≤ x.len)) old _ c.args.index r lt c.index-r.ensures new (λ x h. h) c.args.self.now.headed;
+      counted = omega (arith, fewer c);
     }

@@ -46,8 +46,8 @@ returns-clause-others g c = λ H other m holds awaits apart.
       message = awaits.message ∙ sym stay.1 ∙ ap (λ (l : List ℕ). message_in c.args.self.now.site l x) (sym (c.complete.ensures.bytes r there));
     }
 
-pub complete-requires : goal.complete-requires
-complete-requires g c =
+pub complete-requires-clause-within : goal.complete-requires-clause-within
+complete-requires-clause-within g c =
     let old = c.args.self.now.buffer.reserved in
     let own = c.requires.1 in
     let within = slice_get_within old.items c.index-index.result own.reserved (ap (slice_get old.items) c.index-index.ensures ∙ own.there) in
