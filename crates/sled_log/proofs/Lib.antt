@@ -39,6 +39,7 @@ pub mod RemovalLemmas
 pub mod RestartLemmas
 pub mod RunHistories
 pub mod RunLemmas
+pub mod RunLogs
 pub mod SegmentReady
 mod SegmentRecovers
 mod SegmentUndamaged

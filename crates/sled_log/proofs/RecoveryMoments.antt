@@ -24,14 +24,14 @@ use Rattle.sled_core.proofs.CallMoments.{Reaches, along_synced, along_names_sync
 use Rattle.sled_core.proofs.FirstSegment.{first_part}
 use Rattle.sled_core.proofs.LogFileLemmas.{stand_grows}
 use Rattle.sled_log.specs.Recovery.{Conclusion, Recovered, Recovers}
-use Rattle.sled_log.specs.WritesBack.{shredding, removing, publishing_file, publishing, writing_back, number_of, short_file, MayBeRemoved, WritesBehind}
+use Rattle.sled_log.specs.WritesBack.{shredding, removing, publishing_file, publishing, writing_back, number_of, short_file, MayBeRemoved, WritesBehind, RecoveryCalls}
 use Rattle.sled_log.proofs.FirstConclusion.{first_active, GoesOnIn, ConcludesIn}
 use Rattle.sled_log.proofs.MomentsLemmas.{at_place, resting, resting_kept, none_synced, publishing_along, shredding_along}
 use Rattle.sled_log.proofs.PublishLemmas.{IsNewTable, settled_fit}
 
 -- The table that is concluded.
 
-active_fits : (size stop : ℕ) → 0 < size → 20 ≤ stop → ActiveFits size (first_cut size stop) (first_active size stop)
+pub active_fits : (size stop : ℕ) → 0 < size → 20 ≤ stop → ActiveFits size (first_cut size stop) (first_active size stop)
 active_fits size stop some long = by (nat_lt size (stop + 32)) refl
   where
     by : (b : Bool) → nat_lt size (stop + 32) ≡ b → ActiveFits size (if b then size else stop) (if b then None else Some 0)
@@ -41,7 +41,7 @@ active_fits size stop some long = by (nat_lt size (stop + 32)) refl
         let offset : stop % size ≡ stop = mod-eq_of_lt (omega (arith, room)) in
         (omega (arith, offset, long), omega (arith, offset, room))
 
-slot_first : (size stop slot : ℕ) → first_active size stop ≡ Some slot → slot ≡ 0
+pub slot_first : (size stop slot : ℕ) → first_active size stop ≡ Some slot → slot ≡ 0
 slot_first size stop slot is = by (nat_lt size (stop + 32)) is
   where
     by : (b : Bool) → (if b then None else Some 0) ≡ Some slot → slot ≡ 0
@@ -199,12 +199,6 @@ module _ (sum : List ℕ → ℕ) (size : ℕ) (H : History) (A f : ℕ) (large 
         pub behind_throughout : (new : Trace) → WritesBehind (Synced ∷ NamesSynced ∷ []) sum x ns old new → LeavesOnly (RecoverableIfOwn sum size H A f) old new
         behind_throughout new (inl calls) = performs_throughout Kept (Synced ∷ NamesSynced ∷ shredding x.tip) old new calls begun_along
         behind_throughout new (inr calls) = performs_throughout Kept (Synced ∷ NamesSynced ∷ writing_back sum x ns) old new calls.1 (recovery_along calls.0)
-
--- The calls of a recovery, all of them or up to one that failed.
-abbrev pub RecoveryCalls : (List ℕ → ℕ) → ℕ → Trace → Trace → Type 0
-RecoveryCalls sum size old new =
-    Performs (Synced ∷ NamesSynced ∷ []) old new
-    ⊎ ((x : Conclusion) × Recovers sum size (record { log = (state_of old).log.bytes; blobs = λ _. None }) (state_of old).snapshots.file (Recovered x) × (numbers : List ℤ) × MayBeRemoved (state_of old).snapshots.file (number_of x.shot) numbers × WritesBehind (Synced ∷ NamesSynced ∷ []) sum x numbers old new)
 
 -- A recovery keeps at each moment what a crash leaves recoverable.
 pub recovery_throughout : (sum : List ℕ → ℕ) (size : ℕ) (H : History) (A f : ℕ) (old new : Trace) → 256 ≤ size → size < 2 ^ 63

@@ -2,5 +2,6 @@ pub mod Orderly
 pub mod Plain
 pub mod Recovery
 pub mod RunPhases
+pub mod RunStates
 pub mod Runs
 pub mod WritesBack

@@ -9,7 +9,7 @@ use Rattle.sled_codec.specs.Snapshots.{Shot, shot_of, short_snapshot, FitsSnapsh
 use Rattle.sled_codec.specs.Spelling.{low_bytes}
 use Rattle.sled_store.specs.Device.{Event, Wrote, Synced, SnapshotFilled, SnapshotPublished, SnapshotRemoved, NamesSynced, Trace, State, state_of, at_rest, overwritten}
 use Rattle.sled_store.specs.Script.{Performs, after_all}
-use Rattle.sled_log.specs.Recovery.{Conclusion}
+use Rattle.sled_log.specs.Recovery.{Conclusion, Recovered, Recovers}
 use Rattle.sled_log.specs.declared.conclusion.Recovery.{Recovery}
 use Rattle.sled_log.specs.declared.conclusion.Tip.{Tip}
 
@@ -92,6 +92,15 @@ WritesBehind first sum x numbers old new =
 -- so it is with no calls before them
 abbrev pub WritesBack : (List ℕ → ℕ) → Conclusion → Trace → Trace → Type 0
 WritesBack sum x old new = (numbers : List ℤ) × MayBeRemoved (state_of old).snapshots.file (number_of x.shot) numbers × WritesBehind [] sum x numbers old new
+
+-- The calls of a recovery, all of them or up to one that failed: the device is settled, and what it comes to is written back.
+abbrev pub RecoveryCalls : (List ℕ → ℕ) → ℕ → Trace → Trace → Type 0
+RecoveryCalls sum size old new =
+    let log = (state_of old).log.bytes in
+    let snapshots = (state_of old).snapshots.file in
+    Performs (Synced ∷ NamesSynced ∷ []) old new
+    ⊎ ((x : Conclusion) × Recovers sum size (record { log = log; blobs = λ _. None }) snapshots (Recovered x)
+        × (numbers : List ℤ) × MayBeRemoved snapshots (number_of x.shot) numbers × WritesBehind (Synced ∷ NamesSynced ∷ []) sum x numbers old new)
 
 -- What is read afterwards.
 
