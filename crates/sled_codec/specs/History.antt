@@ -1,5 +1,5 @@
 -- What was completed, and what it makes of the pages. Lists alone: no buffer, file or byte of the disk.
-use Rattle.std.specs.Prelude.{◌≡◌, ◌≤◌, ◌<◌, ◌+◌, ℕ, Bool, true, false, ◌&&◌, nat_lt, ◌==◌, List, [], ◌∷◌, ◌++◌, filter, Contains, Option, None, Some, if◌then◌else◌}
+use Rattle.std.specs.Prelude.{◌≡◌, ◌⊎◌, ◌≤◌, ◌<◌, ◌+◌, ℕ, Bool, true, false, ◌&&◌, nat_lt, ◌==◌, List, [], ◌∷◌, ◌++◌, filter, Contains, Option, None, Some, if◌then◌else◌}
 use Rattle.sled_codec.specs.declared.result.DiskPtr.{DiskPtr}
 use Rattle.sled_codec.specs.declared.serialization.message.LogKind.{LogKind}
 use Rattle.sled_codec.specs.declared.serialization.message.LogKind.TheVariants.{Replace, Link, Free, Skip, Corrupted}
@@ -107,8 +107,13 @@ pub data Happening : Type 0 where
   -- an abort, a refusal, a write, a read, a mark, a halt, a crash, a recovery that failed
   Nothing : Happening
 
--- a message is put in at its place
+-- the kind is one that changes a page
+abbrev pub ChangesPage : LogKind → Type 0
+ChangesPage kind = (kind ≡ Replace) ⊎ (kind ≡ Link) ⊎ (kind ≡ Free)
+
+-- a message that changes a page is put in at its place
 pub record AddsMessage (H : History) (m : Message) (H' : History) : Type 0 where
+  pub changes : ChangesPage m.kind
   pub before : List Message
   pub after : List Message
   pub old : H.messages ≡ before ++ after

@@ -1,18 +1,14 @@
 -- When a history is one that a log's users make.
 use Rattle.std.specs.Prelude.{◌≡◌, ◌≢◌, ◌⊎◌, ◌≤◌, ◌<◌, ◌+◌, ◌-◌, ◌^◌, ℕ, List, [], ◌∷◌, ◌++◌, Contains}
 use Rattle.std.specs.List.{All}
-use Rattle.sled_codec.specs.declared.serialization.message.LogKind.{LogKind}
-use Rattle.sled_codec.specs.declared.serialization.message.LogKind.TheVariants.{Replace, Link, Free}
+use Rattle.sled_codec.specs.declared.serialization.message.LogKind.TheVariants.{Replace}
 use Rattle.sled_codec.specs.History.{Message, History}
+pub use Rattle.sled_codec.specs.History.{ChangesPage}
 
 -- Messages lie one behind another: each has a size, and ends where the later ones begin, or before.
 abbrev pub LieApart : List Message → Type 0
 LieApart [] = Unit {0}
 LieApart (m ∷ ms) = (0 < m.size) × All (λ n. m.place + m.size ≤ n.place) ms × LieApart ms
-
--- the kind is one that changes a page
-abbrev pub ChangesPage : LogKind → Type 0
-ChangesPage kind = (kind ≡ Replace) ⊎ (kind ≡ Link) ⊎ (kind ≡ Free)
 
 -- these messages have a Replace of the page
 pub record HasReplace (messages : List Message) (page : ℕ) : Type 0 where

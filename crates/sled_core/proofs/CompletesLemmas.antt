@@ -1,5 +1,5 @@
 -- A reservation that is completed becomes a message of the history, at its place, and no other one is touched.
-use Rattle.std.proofs.Common.{◌≡◌, ◌≤◌, ◌<◌, ◌+◌, ◌-◌, ◌/◌, inl, inr, ℕ, suc, max, List, ◌∷◌, ◌++◌, length, take, drop, set, sym, ◌∙◌, ap, arith, refl, subst, append_assoc, true, Bool, if◌then◌else◌, Option, Some, get_or}
+use Rattle.std.proofs.Common.{◌≡◌, ◌≤◌, ◌<◌, ◌+◌, ◌-◌, ◌/◌, inl, inr, ℕ, suc, max, List, ◌∷◌, ◌++◌, length, take, drop, set, sym, ◌∙◌, ap, arith, refl, subst, append_assoc, true, false, Bool, if◌then◌else◌, Option, Some, get_or}
 use Rattle.std.specs.List.{All, Contains, slice_get}
 use Rattle.std.specs.declared.io.Error.{Error as IoError}
 use Rattle.std.proofs.lemmas.List.{set_split}
@@ -9,7 +9,11 @@ use Rattle.sled_codec.specs.Written.{written}
 use Rattle.sled_codec.specs.Spelling.{short_header_tail}
 use Rattle.sled_codec.specs.Record.{record_sum, short_record}
 use Rattle.sled_codec.specs.Sums.{flipped}
-use Rattle.sled_codec.specs.History.{Message, History, AddsMessage}
+use Rattle.sled_codec.specs.declared.serialization.message.LogKind.{LogKind}
+use Rattle.sled_codec.specs.declared.serialization.message.LogKind.TheVariants.{Replace, Link, Free, Skip, Corrupted}
+use Rattle.sled_codec.specs.declared.serialization.message.MessageKind.{MessageKind}
+use Rattle.sled_codec.specs.Kinds.{kind_written}
+use Rattle.sled_codec.specs.History.{Message, History, ChangesPage, AddsMessage}
 use Rattle.sled_store.specs.Device.{State}
 use Rattle.sled_core.specs.declared.iobuf.Reserved.{Reserved}
 use Rattle.sled_core.specs.declared.iobuf.Site.{Site}
@@ -18,6 +22,14 @@ use Rattle.sled_core.specs.Fits.{HoldsIn}
 use Rattle.sled_core.proofs.Ranges.{part-written_before, part-written_behind, part-written_at, length-written, completed-same, completed-append, completed_between, chain-split, chain-joined, chain_grows, chain_within, there_split, all_split, all_joined, at_there, there-set_other, chain_apart}
 use Rattle.sled_core.proofs.HoldsLemmas.{stands-same, completed_open}
 use Rattle.sled_core.proofs.BegunLemmas.{begun-adds}
+
+-- a message that has a kind to be written under changes a page
+changes_page : (does : LogKind) (page : ℕ) (kind : MessageKind) → kind_written does page false ≡ Some kind → ChangesPage does
+changes_page Replace page kind is = inl refl
+changes_page Link page kind is = inr (inl refl)
+changes_page Free page kind is = inr (inr refl)
+changes_page Skip page kind is = cc
+changes_page Corrupted page kind is = cc
 
 -- the sum and the kind, in front of what else stands in a placeholder, make the record
 record_is : (sum : List ℕ → ℕ) (number : ℕ) (r : Reserved) (body : List ℕ) → flipped r.sum ≡ record_sum sum r.kind r.page number body
@@ -132,7 +144,7 @@ module _ (sum : List ℕ → ℕ) (size : ℕ) (site : Site) (device : State) (f
       omega (arith, b.0, h, l)
 
   adds : AddsMessage H (message_in site bytes r) history
-  adds = record { before = holds.earlier ++ completed_in site bytes xs; after = completed_in site bytes ys; old = old_messages; new = refl; lower = lower; higher = higher; batches = refl }
+  adds = record { changes = changes_page r.log_kind r.page r.kind stand_all.1.known; before = holds.earlier ++ completed_in site bytes xs; after = completed_in site bytes ys; old = old_messages; new = refl; lower = lower; higher = higher; batches = refl }
 
   stand_new : All (Stands sum number new) (xs ++ closed r ∷ ys)
   stand_new = all_joined (Stands sum number new) xs ys (closed r)

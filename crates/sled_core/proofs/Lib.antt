@@ -18,10 +18,13 @@ pub mod FreshLemmas
 pub mod FreshReady
 pub mod GivesLemmas
 pub mod Heads
+pub mod HeldPointers
 pub mod HoldsLemmas
+pub mod KeptCalls
 pub mod LogFileLemmas
 pub mod MainLemmas
 pub mod OpenLemmas
+pub mod OpenTickets
 pub mod Parts
 pub mod PathLemmas
 pub mod Ranges

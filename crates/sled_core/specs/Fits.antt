@@ -85,6 +85,10 @@ IsOpen log ticket = (m : Message) × Awaits log ticket m
 abbrev pub AllEnded : {D C : Type 0} → Log D C → Type 0
 AllEnded log = all_ended log.buffer.reserved.items ≡ true
 
+-- no reservation of the log is open or abandoned, but for the one that the ticket is for
+abbrev pub IsOnlyOpen : {D C : Type 0} → Log D C → Reservation → Type 0
+IsOnlyOpen log ticket = (i : ℕ) (r : Reserved) → slice_get log.buffer.reserved.items i ≡ Some r → r.is_open ≡ true → i ≡ index_of ticket
+
 -- The log file holds this history, and all of it is settled, so that a crash leaves just that: the header of the current segment and its records by place, nothing behind them, and the records of earlier segments.
 pub record IsOnDevice (sum : List ℕ → ℕ) (size : ℕ) (device : LogState) (site : Site) (from : ℕ) (messages : List Message) : Type 0 where
   pub log : List ℕ

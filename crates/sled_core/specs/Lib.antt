@@ -4,11 +4,13 @@ pub mod Buffers
 pub mod Causes
 pub mod Fits
 pub mod Good
+pub mod Keeps
 pub mod LogFile
 pub mod Reading
 pub mod Ready
 pub mod Recoverable
 pub mod Running
 pub mod Scan
+pub mod Starts
 pub mod Tail
 pub mod Tickets

@@ -2,14 +2,14 @@
 //!
 //! A log keeps the bytes of its segment, the reservations in them, the count of pins, and the first
 //! failure of its device, which it answers from then on. `specs/Fits.antt` says which history it holds.
-ghost use Rattle.std.specs.Prelude.{List, ◌≡◌, ◌≢◌, ◌↔◌, ◌+◌, ◌-◌, ◌<◌, ◌≤◌, ◌^◌, ◌∷◌, ◌-ℤ◌, ◌<ℤ◌, pos, [], ℕ, length, drop, true, false, IsTrue, IfOk, IfErr, OnOk, OnErr, IsErrOf, Contains, None, Some, ◌⊎◌, ◌/◌, unsigned_abs, max, ℤ};
+ghost use Rattle.std.specs.Prelude.{List, ◌≡◌, ◌≢◌, ◌↔◌, ◌+◌, ◌-◌, ◌<◌, ◌≤◌, ◌^◌, ◌∷◌, ◌-ℤ◌, ◌<ℤ◌, pos, [], ℕ, length, drop, true, false, IsTrue, IfOk, IfErr, OnOk, OnErr, Contains, None, Some, ◌⊎◌, ◌/◌, unsigned_abs, max, ℤ};
 ghost use Rattle.std.specs.declared.io.Error.{Error as IoError};
 ghost use Rattle.sled_codec.specs.Kinds.{kind_written};
-ghost use Rattle.sled_codec.specs.History.{History, Message, Completed, Step, no_history};
+ghost use Rattle.sled_codec.specs.History.{History, Message, Completed, Step};
 ghost use Rattle.std.specs.IoError.{error_kind};
 ghost use Rattle.std.specs.declared.io.ErrorKind.TheVariants.{OutOfMemory};
 ghost use Rattle.sled_codec.specs.Errors.{IsErrorOf, IsCorrupt, IsCorruption};
-ghost use Rattle.sled_store.specs.Device.{state_of, fresh, at_rest, Wrote, Synced};
+ghost use Rattle.sled_store.specs.Device.{state_of, Wrote, Synced};
 ghost use Rattle.sled_store.specs.Answers.{Counts, FailsOr};
 ghost use Rattle.sled_core.specs.Tickets.{place_of, pointer_of, IsFor};
 ghost use Rattle.sled_core.specs.Reading.{GivesMessage, IsInline, IsReading, IsMalformed, IsNoPlace};
@@ -18,12 +18,11 @@ ghost use Rattle.sled_codec.specs.Pointers.{lid_of};
 ghost use Rattle.sled_core.specs.Buffers.{record_size};
 ghost use Rattle.sled_codec.specs.Snapshots.{shot_of};
 ghost use Rattle.sled_store.specs.Script.{after_all, Performs};
-ghost use Rattle.sled_store.specs.Moments.{LeavesOnly};
-ghost use Rattle.sled_store.specs.SnapshotFiles.{stable_place, empty_shot};
-ghost use Rattle.sled_core.specs.Begin.{IsStartable, IsInReach, slots_of, unused, filling, place_at, offset_at};
+ghost use Rattle.sled_store.specs.Moments.{IsLater, LeavesOnly};
+ghost use Rattle.sled_core.specs.Begin.{IsStartable, IsInReach, slots_of, unused, filling};
 ghost use Rattle.sled_core.specs.Ready.{IsReady};
 ghost use Rattle.sled_core.specs.Recoverable.{LeavesRecoverable, RecoverableIfOwn};
-ghost use Rattle.sled_core.specs.Causes.{StartRefuses, Answers, FaultAnswers, ReserveAnswers, ReadAnswers, failure_in};
+ghost use Rattle.sled_core.specs.Causes.{Answers, FaultAnswers, ReserveAnswers, ReadAnswers, failure_in};
 
 use crate::begin::begin;
 use crate::iobuf::{Buffer, Kept, MAX_MSG_HEADER_LEN, Reserved, SEG_HEADER_LEN, Site};
@@ -53,8 +52,10 @@ pub struct Log<D, C> {
 }
 
 impl<D: Device, C: Checksum> Log<D, C> {
-    ghost use Rattle.sled_core.specs.Fits.{Holds, AllEnded, Awaits, IsOpen, HasRoom, IsUnchanged, fault_of, next_place, synced_end, reserved_end, pins_of, config_of, device_of, site_of, IsWritten, flushing, manifest_page, segment_size_of, size_for, message_for, KeepsAll};
+    ghost use Rattle.sled_core.specs.Fits.{Holds, AllEnded, Awaits, IsOpen, IsOnlyOpen, HasRoom, IsUnchanged, fault_of, next_place, synced_end, reserved_end, pins_of, config_of, device_of, IsWritten, flushing, manifest_page, segment_size_of, size_for, message_for, KeepsAll};
+    ghost use Rattle.sled_core.specs.Keeps.{ConfigKept, GoesOn, Preserves, SamePosition};
     ghost use Rattle.sled_core.specs.Running.{Fits, Ready};
+    ghost use Rattle.sled_core.specs.Starts.{BeginsBehind, StartsOrRefuses, config_left};
 
     /// Begins a log on what a recovery left: it goes on at the snapshot's stable place. First it fills the
     /// slots of the file that the snapshot does not use with zeros, in ascending order, and syncs the file
@@ -68,31 +69,25 @@ impl<D: Device, C: Checksum> Log<D, C> {
         config: RunningConfig<D, C>,
         snapshot: &Snapshot,
     ) -> std::result::Result<Log<D, C>, (Error, RunningConfig<D, C>)>
-        ensures history { (H : History) → IsReady C.sum_of config.config.segment_size (state_of (D.trace config.device)) (shot_of snapshot.now) H → IfOk result (λ log. Holds D.trace C.sum_of log H) }
-        ensures fits { (H : History) (A f : ℕ) → Ready C.sum_of config.config.segment_size (state_of (D.trace config.device)) (shot_of snapshot.now) H A f → IfOk result (λ log. Fits D.trace C.sum_of log H A f []) }
+        ensures history { (H : History) → IsReady C.sum_of config.config.segment_size (state_of (D.trace config.device)) (shot_of snapshot.now) H
+            → IfOk result (λ log. Holds D.trace C.sum_of log H) }
+        ensures fits { (H : History) (A f : ℕ) → Ready C.sum_of config.config.segment_size (state_of (D.trace config.device)) (shot_of snapshot.now) H A f
+            → IfOk result (λ log. Fits D.trace C.sum_of log H A f []) }
         ensures crash { (H : History) (A f : ℕ) → Ready C.sum_of config.config.segment_size (state_of (D.trace config.device)) (shot_of snapshot.now) H A f
-            → IfOk result (λ log. LeavesOnly (RecoverableIfOwn C.sum_of config.config.segment_size H A f) (D.trace config.device) (D.trace (device_of log))) }
-        ensures crash_err { (H : History) (A f : ℕ) → Ready C.sum_of config.config.segment_size (state_of (D.trace config.device)) (shot_of snapshot.now) H A f
-            → IfErr result (λ e. LeavesOnly (RecoverableIfOwn C.sum_of config.config.segment_size H A f) (D.trace config.device) (D.trace e.1.device)) }
-        ensures starts { (H : History) (A f : ℕ) → Ready C.sum_of config.config.segment_size (state_of (D.trace config.device)) (shot_of snapshot.now) H A f → IfErr result (λ e. (IsCorrupt e.0 → ⊥) × (e.0 ≢ Error.PlacesUsedUp)) }
-        ensures fresh { shot_of snapshot.now ≡ empty_shot → (state_of (D.trace config.device)).log ≡ at_rest [] → ((n : ℤ) → (state_of (D.trace config.device)).snapshots.file n ≡ None) → IfOk result (λ log. Holds D.trace C.sum_of log no_history) }
-        ensures fresh_fits { shot_of snapshot.now ≡ empty_shot → state_of (D.trace config.device) ≡ fresh → IfOk result (λ log. Fits D.trace C.sum_of log no_history 0 0 []) }
-        ensures startable { OnOk result (IsStartable config.config.segment_size (length (state_of (D.trace config.device)).log.bytes) (shot_of snapshot.now)) }
-        ensures synced { IfOk result (λ log. synced_end log ≡ place_at config.config.segment_size (stable_place snapshot.now.stable_lsn) snapshot.now.active_segment + offset_at config.config.segment_size (stable_place snapshot.now.stable_lsn) snapshot.now.active_segment) }
-        ensures next { IfOk result (λ log. next_place log ≡ place_at config.config.segment_size (stable_place snapshot.now.stable_lsn) snapshot.now.active_segment + max 20 (offset_at config.config.segment_size (stable_place snapshot.now.stable_lsn) snapshot.now.active_segment)) }
-        ensures config { IfOk result (λ log. ((config_of log).config ≡ config.config) × ((config_of log).checksum ≡ config.checksum)) }
+            → LeavesOnly (RecoverableIfOwn C.sum_of config.config.segment_size H A f) (D.trace config.device) (D.trace (config_left result).device) }
+        ensures starts { (H : History) (A f : ℕ) → Ready C.sum_of config.config.segment_size (state_of (D.trace config.device)) (shot_of snapshot.now) H A f
+            → IfErr result (λ e. (IsCorrupt e.0 → ⊥) × (e.0 ≢ Error.PlacesUsedUp)) }
+        ensures begins { IfOk result (λ log. BeginsBehind config.config.segment_size (shot_of snapshot.now) log) }
+        ensures config { ConfigKept config (config_left result) }
+        ensures later { IsLater (D.trace config.device) (D.trace (config_left result).device) }
         ensures filled { let size = config.config.segment_size in let s = shot_of snapshot.now in let old = D.trace config.device in
-            IfOk result (λ log. D.trace (device_of log) ≡ after_all (filling size (unused size (slots_of size (length (state_of old).log.bytes)) s)) old) }
-        ensures ended { IfOk result (λ log. AllEnded log) }
-        ensures fault { IfOk result (λ log. fault_of log ≡ None) }
-        ensures pins { IfOk result (λ log. pins_of log ≡ 0) }
-        ensures size { IfOk result (λ log. segment_size_of log ≡ config.config.segment_size) }
-        ensures reach { OnOk result (IsInReach config.config.segment_size (length (state_of (D.trace config.device)).log.bytes) (shot_of snapshot.now)) }
-        ensures faults { IfOk result (λ log. D.faults (device_of log) ≡ D.faults config.device) }
-        ensures refused { IfErr result (λ e. StartRefuses e.0 (IsStartable config.config.segment_size (length (state_of (D.trace config.device)).log.bytes) (shot_of snapshot.now)) (IsInReach config.config.segment_size (length (state_of (D.trace config.device)).log.bytes) (shot_of snapshot.now)) (D.trace e.1.device ≡ D.trace config.device) (D.faults config.device) (D.faults e.1.device)) }
+            OnOk result (D.trace (config_left result).device ≡ after_all (filling size (unused size (slots_of size (length (state_of old).log.bytes)) s)) old) }
         ensures calls { let size = config.config.segment_size in let s = shot_of snapshot.now in let old = D.trace config.device in
-            IfErr result (λ e. Performs (filling size (unused size (slots_of size (length (state_of old).log.bytes)) s)) old (D.trace e.1.device)) }
-        ensures back { IfErr result (λ e. (e.1.config ≡ config.config) × (e.1.checksum ≡ config.checksum)) }
+            Performs (filling size (unused size (slots_of size (length (state_of old).log.bytes)) s)) old (D.trace (config_left result).device) }
+        ensures answers { let size = config.config.segment_size in let s = shot_of snapshot.now in
+            let len = length (state_of (D.trace config.device)).log.bytes in let device = (config_left result).device in
+            StartsOrRefuses result (IsStartable size len s) (IsInReach size len s) (D.trace device ≡ D.trace config.device)
+            (D.faults config.device) (D.faults device) }
     {
         let mut config = config;
         match begin(&mut config, snapshot) {
@@ -114,7 +109,7 @@ impl<D: Device, C: Checksum> Log<D, C> {
     pub fn pin(&mut self) -> Guard
         requires { pins_of self.old < 2 ^ 32 - 1 }
         ensures taken { self.new ≡ record self.old { pins = pins_of self.old + 1 } }
-        ensures fits { (H : History) (A f : ℕ) (U : List Message) → Fits D.trace C.sum_of self.old H A f U → Fits D.trace C.sum_of self.new H A f U }
+        ensures keeps { Preserves D.trace C.sum_of self.old self.new }
     {
         self.pins += 1;
         Guard::new()
@@ -124,7 +119,9 @@ impl<D: Device, C: Checksum> Log<D, C> {
     pub fn unpin(&mut self, guard: Guard)
         requires { 0 < pins_of self.old }
         ensures given { self.new ≡ record self.old { pins = pins_of self.old - 1 } }
-        ensures fits { (H : History) (A f : ℕ) (U : List Message) → Fits D.trace C.sum_of self.old H A f U → (U ≢ [] → 1 < pins_of self.old) → Fits D.trace C.sum_of self.new H A f U }
+        ensures fits { (H : History) (A f : ℕ) (U : List Message) → Fits D.trace C.sum_of self.old H A f U → (U ≢ [] → 1 < pins_of self.old)
+            → Fits D.trace C.sum_of self.new H A f U }
+        ensures goes_on { GoesOn D.trace C.sum_of self.old self.new }
     {
         guard.abandon();
         self.pins -= 1;
@@ -140,7 +137,8 @@ impl<D: Device, C: Checksum> Log<D, C> {
     /// The last place of which all up to it is settled on the device; -1 before the first one.
     pub fn stable_offset(&self) -> Lsn
         ensures place { result ≡ pos (synced_end self.now) -ℤ pos 1 }
-        ensures acknowledges { (H : History) (A f : ℕ) (U : List Message) → Fits D.trace C.sum_of self.now H A f U → Fits D.trace C.sum_of self.now H (synced_end self.now) f U }
+        ensures acknowledges { (H : History) (A f : ℕ) (U : List Message) → Fits D.trace C.sum_of self.now H A f U
+            → Fits D.trace C.sum_of self.now H (synced_end self.now) f U }
     {
         (self.site.place + self.buffer.from as u64) as i64 - 1
     }
@@ -161,10 +159,9 @@ impl<D: Device, C: Checksum> Log<D, C> {
         ensures ticket { IfOk result (λ ticket. Awaits self.new ticket (message_for self.old kind pid (T.short (T.meaning item.now)))) }
         ensures next { OnOk result (next_place self.new ≡ next_place self.old + size_for self.old pid (length (T.short (T.meaning item.now)))) }
         ensures others { (ticket : Reservation) (m : Message) → Awaits self.old ticket m → Awaits self.new ticket m }
-        ensures history { (H : History) → Holds D.trace C.sum_of self.old H → Holds D.trace C.sum_of self.new H }
+        ensures open { AllEnded self.old → IfOk result (IsOnlyOpen self.new) }
         ensures answers { ReserveAnswers result (fault_of self.old) (kind_written kind pid false) }
-        ensures fits { (H : History) (A f : ℕ) (U : List Message) → Fits D.trace C.sum_of self.old H A f U → Fits D.trace C.sum_of self.new H A f U }
-        ensures crash { (H : History) (A f : ℕ) (U : List Message) → Fits D.trace C.sum_of self.old H A f U → LeavesOnly (RecoverableIfOwn C.sum_of (segment_size_of self.old) H A f) (D.trace (device_of self.old)) (D.trace (device_of self.new)) }
+        ensures keeps { Preserves D.trace C.sum_of self.old self.new }
         ensures same { KeepsAll self.old self.new }
         ensures err { OnErr result (IsUnchanged self.old self.new) }
     {
@@ -199,11 +196,14 @@ impl<D: Device, C: Checksum> Log<D, C> {
         ensures place { IfOk result (λ at. (at.0 ≡ place_of ticket) × (at.1 ≡ pointer_of ticket)) }
         ensures history { (H : History) (m : Message) → Holds D.trace C.sum_of self.old H → Awaits self.old ticket m
             → OnOk result ((H' : History) × Step H (Completed m) H' × Holds D.trace C.sum_of self.new H') }
-        ensures others { (H : History) (other : Reservation) (m : Message) → Holds D.trace C.sum_of self.old H → Awaits self.old other m → place_of other ≢ place_of ticket → Awaits self.new other m }
+        ensures others { (H : History) (other : Reservation) (m : Message) → Holds D.trace C.sum_of self.old H
+            → Awaits self.old other m → place_of other ≢ place_of ticket → Awaits self.new other m }
+        ensures ended { IsOnlyOpen self.old ticket → OnOk result (AllEnded self.new) }
         ensures answers { FaultAnswers result (fault_of self.old) }
-        ensures fits { (H : History) (A f : ℕ) (U : List Message) (m : Message) → Fits D.trace C.sum_of self.old H A f U → Awaits self.old ticket m → 0 < pins_of self.old
+        ensures fits { (H : History) (A f : ℕ) (U : List Message) (m : Message)
+            → Fits D.trace C.sum_of self.old H A f U → Awaits self.old ticket m → 0 < pins_of self.old
             → OnOk result ((H' : History) × Step H (Completed m) H' × Fits D.trace C.sum_of self.new H' A f (m ∷ U)) }
-        ensures crash { (H : History) (A f : ℕ) (U : List Message) → Fits D.trace C.sum_of self.old H A f U → LeavesOnly (RecoverableIfOwn C.sum_of (segment_size_of self.old) H A f) (D.trace (device_of self.old)) (D.trace (device_of self.new)) }
+        ensures goes_on { GoesOn D.trace C.sum_of self.old self.new }
         ensures same { KeepsAll self.old self.new }
         ensures next { next_place self.new ≡ next_place self.old }
         ensures err { OnErr result (self.new ≡ self.old) }
@@ -229,15 +229,11 @@ impl<D: Device, C: Checksum> Log<D, C> {
         ensures records { (H : History) → Holds D.trace C.sum_of self.old H → OnOk result (IsWritten D.trace C.sum_of self.new H) }
         ensures calls { OnOk result (D.trace (device_of self.new) ≡ after_all (flushing self.old) (D.trace (device_of self.old))) }
         ensures at_most { Performs (flushing self.old) (D.trace (device_of self.old)) (D.trace (device_of self.new)) }
-        ensures history { (H : History) → Holds D.trace C.sum_of self.old H → Holds D.trace C.sum_of self.new H }
-        ensures fits { (H : History) (A f : ℕ) (U : List Message) → Fits D.trace C.sum_of self.old H A f U → Fits D.trace C.sum_of self.new H A f U }
-        ensures acknowledges { (H : History) (A f : ℕ) (U : List Message) → Fits D.trace C.sum_of self.old H A f U → OnOk result (Fits D.trace C.sum_of self.new H (synced_end self.new) f U) }
-        ensures crash { (H : History) (A f : ℕ) (U : List Message) → Fits D.trace C.sum_of self.old H A f U → LeavesOnly (RecoverableIfOwn C.sum_of (segment_size_of self.old) H A f) (D.trace (device_of self.old)) (D.trace (device_of self.new)) }
+        ensures keeps { Preserves D.trace C.sum_of self.old self.new }
+        ensures acknowledges { (H : History) (A f : ℕ) (U : List Message) → Fits D.trace C.sum_of self.old H A f U
+            → OnOk result (Fits D.trace C.sum_of self.new H (synced_end self.new) f U) }
         ensures ended { AllEnded self.new }
-        ensures next { next_place self.new ≡ next_place self.old }
-        ensures pins { pins_of self.new ≡ pins_of self.old }
-        ensures site { site_of self.new ≡ site_of self.old }
-        ensures size { segment_size_of self.new ≡ segment_size_of self.old }
+        ensures position { SamePosition self.old self.new }
         ensures answers { Answers result (fault_of self.old) (fault_of self.new) (D.faults (device_of self.old)) (D.faults (device_of self.new)) }
         ensures faulty { (e : IoError) → fault_of self.old ≡ Some e → self.new ≡ self.old }
         ensures err { OnErr result (synced_end self.new ≡ synced_end self.old) }
@@ -264,19 +260,19 @@ impl<D: Device, C: Checksum> Log<D, C> {
         requires ended { AllEnded self.old }
         requires inline { IsInline ptr }
         requires reserved { lsn <ℤ pos (reserved_end self.old) }
-        ensures message { (H : History) (m : Message) → Holds D.trace C.sum_of self.old H → Contains H.messages m → pos m.place ≡ lsn → m.pointer ≡ ptr → IfOk result (GivesMessage m) }
-        ensures reading { IfOk result (IsReading C.sum_of (segment_size_of self.old) (state_of (D.trace (device_of self.new))).log.bytes (lid_of ptr) (unsigned_abs lsn / segment_size_of self.old)) }
-        ensures corrupt { IsCorruption result → IsNoPlace (segment_size_of self.old) lsn (lid_of ptr) ⊎ IsMalformed C.sum_of (segment_size_of self.old) (state_of (D.trace (device_of self.new))).log.bytes (lid_of ptr) (unsigned_abs lsn / segment_size_of self.old) }
+        ensures message { (H : History) (m : Message) → Holds D.trace C.sum_of self.old H → Contains H.messages m
+            → pos m.place ≡ lsn → m.pointer ≡ ptr → IfOk result (GivesMessage m) }
+        ensures undamaged { (H : History) (A f : ℕ) (U : List Message) (m : Message) → Fits D.trace C.sum_of self.old H A f U → Contains H.messages m
+            → pos m.place ≡ lsn → m.pointer ≡ ptr → IsCorruption result → ⊥ }
+        ensures reading { let log = (state_of (D.trace (device_of self.new))).log.bytes in let size = segment_size_of self.old in
+            IfOk result (IsReading C.sum_of size log (lid_of ptr) (unsigned_abs lsn / size)) }
+        ensures corrupt { let log = (state_of (D.trace (device_of self.new))).log.bytes in let size = segment_size_of self.old in
+            IsCorruption result → IsNoPlace size lsn (lid_of ptr) ⊎ IsMalformed C.sum_of size log (lid_of ptr) (unsigned_abs lsn / size) }
         ensures calm { lsn <ℤ pos (synced_end self.old) → D.trace (device_of self.new) ≡ D.trace (device_of self.old) }
         ensures refused { fault_of self.old ≡ None → IsNoPlace (segment_size_of self.old) lsn (lid_of ptr) → IsCorruption result × (self.new ≡ self.old) }
-        ensures history { (H : History) → Holds D.trace C.sum_of self.old H → Holds D.trace C.sum_of self.new H }
-        ensures fits { (H : History) (A f : ℕ) (U : List Message) → Fits D.trace C.sum_of self.old H A f U → Fits D.trace C.sum_of self.new H A f U }
-        ensures crash { (H : History) (A f : ℕ) (U : List Message) → Fits D.trace C.sum_of self.old H A f U → LeavesOnly (RecoverableIfOwn C.sum_of (segment_size_of self.old) H A f) (D.trace (device_of self.old)) (D.trace (device_of self.new)) }
+        ensures keeps { Preserves D.trace C.sum_of self.old self.new }
         ensures ended { AllEnded self.new }
-        ensures next { next_place self.new ≡ next_place self.old }
-        ensures pins { pins_of self.new ≡ pins_of self.old }
-        ensures site { site_of self.new ≡ site_of self.old }
-        ensures size { segment_size_of self.new ≡ segment_size_of self.old }
+        ensures position { SamePosition self.old self.new }
         ensures answers { ReadAnswers result (fault_of self.old) (fault_of self.new) (D.faults (device_of self.old)) (D.faults (device_of self.new)) }
         ensures faulty { (e : IoError) → fault_of self.old ≡ Some e → self.new ≡ self.old }
     {
@@ -300,14 +296,9 @@ impl<D: Device, C: Checksum> Log<D, C> {
         requires fault { fault_of self.old ≡ None }
         ensures written { OnOk result (place < synced_end self.new) }
         ensures calm { place < synced_end self.old → D.trace (device_of self.new) ≡ D.trace (device_of self.old) }
-        ensures history { (H : History) → Holds D.trace C.sum_of self.old H → Holds D.trace C.sum_of self.new H }
-        ensures fits { (H : History) (A f : ℕ) (U : List Message) → Fits D.trace C.sum_of self.old H A f U → Fits D.trace C.sum_of self.new H A f U }
-        ensures crash { (H : History) (A f : ℕ) (U : List Message) → Fits D.trace C.sum_of self.old H A f U → LeavesOnly (RecoverableIfOwn C.sum_of (segment_size_of self.old) H A f) (D.trace (device_of self.old)) (D.trace (device_of self.new)) }
+        ensures keeps { Preserves D.trace C.sum_of self.old self.new }
         ensures ended { AllEnded self.new }
-        ensures next { next_place self.new ≡ next_place self.old }
-        ensures pins { pins_of self.new ≡ pins_of self.old }
-        ensures site { site_of self.new ≡ site_of self.old }
-        ensures size { segment_size_of self.new ≡ segment_size_of self.old }
+        ensures position { SamePosition self.old self.new }
         ensures answers { Answers result (fault_of self.old) (fault_of self.new) (D.faults (device_of self.old)) (D.faults (device_of self.new)) }
     {
         if place >= self.site.place + self.buffer.from as u64 {
@@ -320,17 +311,14 @@ impl<D: Device, C: Checksum> Log<D, C> {
     fn read_settled(&mut self, lid: LogOffset, number: SegmentNumber) -> Result<LogRead>
         requires fault { fault_of self.old ≡ None }
         requires begin { MayBegin (segment_size_of self.old) lid }
-        ensures reading { IfOk result (IsReading C.sum_of (segment_size_of self.old) (state_of (D.trace (device_of self.old))).log.bytes lid number.0) }
-        ensures malformed { IsCorruption result → IsMalformed C.sum_of (segment_size_of self.old) (state_of (D.trace (device_of self.old))).log.bytes lid number.0 }
-        ensures history { (H : History) → Holds D.trace C.sum_of self.old H → Holds D.trace C.sum_of self.new H }
-        ensures fits { (H : History) (A f : ℕ) (U : List Message) → Fits D.trace C.sum_of self.old H A f U → Fits D.trace C.sum_of self.new H A f U }
-        ensures crash { (H : History) (A f : ℕ) (U : List Message) → Fits D.trace C.sum_of self.old H A f U → LeavesOnly (RecoverableIfOwn C.sum_of (segment_size_of self.old) H A f) (D.trace (device_of self.old)) (D.trace (device_of self.new)) }
+        ensures reading { let log = (state_of (D.trace (device_of self.old))).log.bytes in
+            IfOk result (IsReading C.sum_of (segment_size_of self.old) log lid number.0) }
+        ensures malformed { let log = (state_of (D.trace (device_of self.old))).log.bytes in
+            IsCorruption result → IsMalformed C.sum_of (segment_size_of self.old) log lid number.0 }
+        ensures keeps { Preserves D.trace C.sum_of self.old self.new }
         ensures ended { AllEnded self.old → AllEnded self.new }
-        ensures next { next_place self.new ≡ next_place self.old }
+        ensures position { SamePosition self.old self.new }
         ensures trace { D.trace (device_of self.new) ≡ D.trace (device_of self.old) }
-        ensures pins { pins_of self.new ≡ pins_of self.old }
-        ensures site { site_of self.new ≡ site_of self.old }
-        ensures size { segment_size_of self.new ≡ segment_size_of self.old }
         ensures answers { ReadAnswers result None (fault_of self.new) (D.faults (device_of self.old)) (D.faults (device_of self.new)) }
     {
         let answer = read_message(&mut self.config, None, lid, number);
@@ -372,7 +360,8 @@ impl<D: Device, C: Checksum> Log<D, C> {
     /// Gives the log up, and writes nothing.
     pub fn halt(self) -> RunningConfig<D, C>
         ensures config { result ≡ config_of self }
-        ensures recoverable { (H : History) (A f : ℕ) (U : List Message) → Fits D.trace C.sum_of self H A f U → LeavesRecoverable C.sum_of (segment_size_of self) H A f (state_of (D.trace result.device)) }
+        ensures recoverable { (H : History) (A f : ℕ) (U : List Message) → Fits D.trace C.sum_of self H A f U
+            → LeavesRecoverable C.sum_of (segment_size_of self) H A f (state_of (D.trace result.device)) }
     {
         let Log {
             config,

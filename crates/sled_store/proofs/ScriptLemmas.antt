@@ -1,7 +1,7 @@
 -- A function that made a list of calls, up to the first that failed, kept at every moment what holds in each state on the way.
 use Rattle.std.proofs.Common.{◌≡◌, ◌⊎◌, List, [], ◌∷◌, ◌++◌, refl, subst, inl, inr}
 use Rattle.sled_store.specs.Device.{Event, Trace, State, state_of, step}
-use Rattle.sled_store.specs.Moments.{Throughout}
+use Rattle.sled_store.specs.Moments.{IsLater, Throughout}
 use Rattle.sled_store.specs.Answers.{Tears}
 use Rattle.sled_store.specs.Script.{Stops, Performs, Along, after_all}
 use Rattle.sled_store.proofs.MomentLemmas.{started, added, stays, joined}
@@ -81,3 +81,10 @@ EndsIn P (e ∷ es) s = EndsIn P es (step e s)
 pub ends_in : (P : State → Type 0) (es : List Event) (old : Trace) → EndsIn P es (state_of old) → P (state_of (after_all es old))
 ends_in P [] old ends = ends
 ends_in P (e ∷ es) old ends = ends_in P es (e ∷ old) ends
+
+-- What the calls made is later than what they began with.
+pub later_performed : (es : List Event) (old new : Trace) → Performs es old new → IsLater old new
+later_performed es old new came = let run = performs_throughout (λ s. Unit {0}) es old new came (all_along es (state_of old)) in (run.events, run.follows) where
+  all_along : (fs : List Event) (s : State) → Along (λ x. Unit {0}) fs s
+  all_along [] s = tt
+  all_along (f ∷ fs) s = (tt, λ torn tears. tt, all_along fs (step f s))

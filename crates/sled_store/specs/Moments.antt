@@ -2,6 +2,10 @@
 use Rattle.std.specs.Prelude.{◌≡◌, List, [], ◌∷◌, ◌++◌}
 use Rattle.sled_store.specs.Device.{Event, Trace, Content, State, state_of, Leaves}
 
+-- one trace goes on from another
+abbrev pub IsLater : Trace → Trace → Type 0
+IsLater old new = (events : List Event) × (new ≡ events ++ old)
+
 -- it holds before these events, and again after each
 abbrev pub AtEach : (State → Type 0) → List Event → Trace → Type 0
 AtEach P [] old = P (state_of old)

@@ -1,18 +1,19 @@
-use Rattle.std.proofs.Common.{◌≡◌, ◌∙◌, ◌≤◌, ◌+◌, ap, sym, subst, arith, rules, length, max, List, ℕ, pos, Some}
+use Rattle.std.proofs.Common.{◌≡◌, ◌∙◌, ◌≤◌, ◌+◌, ap, sym, subst, refl, arith, rules, length, max, List, ℕ, pos, Some}
 use Rattle.std.specs.Vec.{vec_len}
 use Rattle.std.proofs.lemmas.Option.{slice_get_within}
 use Rattle.std.specs.List.{slice_get}
 use Rattle.sled_codec.specs.History.{Message, AddsMessage, Step}
 use Rattle.sled_store.specs.Device.{state_of}
 use Rattle.sled_core.specs.declared.iobuf.Reserved.{Reserved}
-use Rattle.sled_core.specs.Buffers.{message_in}
+use Rattle.sled_core.specs.Buffers.{message_in, all_ended, closed}
 use Rattle.sled_core.specs.Tickets.{index_of}
 use Rattle.sled_core.specs.Fits.{Holds}
 use Rattle.sled_core.specs.Running.{Fits}
-use Rattle.sled_store.proofs.MomentLemmas.{started}
 use Rattle.sled_core.proofs.Ranges.{at_there, chain_within}
-use Rattle.sled_core.proofs.RunningLemmas.{fits-completed, fits-leaves}
+use Rattle.sled_core.proofs.RunningLemmas.{fits-completed}
 use Rattle.sled_core.proofs.HoldsLemmas.{holds-same}
+use Rattle.sled_core.proofs.KeptCalls.{goes_on_still, goes_on_quietly}
+use Rattle.sled_core.proofs.OpenTickets.{only_closed}
 use Rattle.sled_core.proofs.CompletesLemmas.{holds-complete, others_stay}
 use Rattle.sled_core.proofs.logger.Log.complete.Goals as goal
 
@@ -55,13 +56,20 @@ complete-requires g c =
 
 -- It goes on fitting its history, with the message, and nothing is written.
 
-pub returns-in-Some-clause-crash : goal.returns-in-Some-clause-crash
-unfolding Fits
-returns-in-Some-clause-crash g c = λ H A f U fits. started _ _ (fits-leaves _ _ _ _ _ _ _ _ _ H A f U fits c.args.self.now.config.config.least (let reach = c.args.self.now.place_in_reach in omega (arith, reach)))
+pub returns-in-Some-clause-goes_on : goal.returns-in-Some-clause-goes_on
+returns-in-Some-clause-goes_on g c = goes_on_still g.D.Device.trace g.C.Checksum.sum_of c.args.self.now
 
-pub returns-clause-crash : goal.returns-clause-crash
-unfolding Fits
-returns-clause-crash g c = λ H A f U fits. started _ _ (fits-leaves _ _ _ _ _ _ _ _ _ H A f U fits c.args.self.now.config.config.least (let reach = c.args.self.now.place_in_reach in omega (arith, reach)))
+pub returns-clause-goes_on : goal.returns-clause-goes_on
+returns-clause-goes_on g c = goes_on_quietly g.D.Device.trace g.C.Checksum.sum_of c.args.self.now _ (record { config = refl; checksum = refl }) refl (omega (arith, c.complete.ensures.from))
+
+-- the only reservation that was open has ended
+pub returns-clause-ended : goal.returns-clause-ended
+returns-clause-ended g c = λ only.
+    let rs : List Reserved = c.args.self.now.buffer.reserved.items in
+    let own = c.requires.1 in
+    let there : slice_get rs c.index-index.result ≡ Some own.reserved = ap (slice_get rs) c.index-index.ensures ∙ own.there in
+    ap all_ended (c.complete.ensures.reserved own.reserved there)
+    ∙ only_closed rs c.index-index.result (closed own.reserved) refl (λ j r at is. only j r at is ∙ sym c.index-index.ensures)
 
 pub returns-clause-fits : goal.returns-clause-fits
 unfolding Fits Holds Step

@@ -1,8 +1,14 @@
-use Rattle.std.proofs.Common.{arith}
+use Rattle.std.proofs.Common.{arith, refl}
+use Rattle.sled_core.specs.Fits.{Holds}
 use Rattle.sled_core.specs.Running.{Fits}
+use Rattle.sled_core.proofs.KeptCalls.{goes_on_quietly}
 use Rattle.sled_core.proofs.RunningLemmas.{fits-pinned}
 use Rattle.sled_core.proofs.logger.Log.pin.Goals as goal
 
-pub returns-clause-fits : goal.returns-clause-fits
-unfolding Fits
-returns-clause-fits g c = λ H A f U fits. fits-pinned _ _ _ _ _ _ _ _ _ H A f U fits _ (λ some. omega arith)
+pub returns-clause-keeps : goal.returns-clause-keeps
+unfolding Fits Holds
+returns-clause-keeps g c = record {
+  goes_on = goes_on_quietly g.D.Device.trace g.C.Checksum.sum_of c.args.self.now _ (record { config = refl; checksum = refl }) refl (omega arith);
+  history = λ H holds. holds;
+  fits = λ H A f U fits. fits-pinned _ _ _ _ _ _ _ _ _ H A f U fits _ (λ some. omega arith);
+}

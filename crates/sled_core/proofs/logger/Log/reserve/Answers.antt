@@ -8,21 +8,18 @@ use Rattle.sled_core.specs.declared.iobuf.Reserved.{Reserved}
 use Rattle.sled_core.specs.declared.iobuf.Kept.{Kept}
 use Rattle.sled_core.specs.Buffers.{placeholder_head, reserved_for, message_in}
 use Rattle.sled_core.specs.Tickets.{place_of, index_of}
-use Rattle.sled_core.specs.Fits.{Holds}
+use Rattle.sled_codec.specs.History.{History}
+use Rattle.sled_core.specs.Fits.{Holds, HoldsIn}
 use Rattle.sled_core.specs.Running.{Fits}
-use Rattle.sled_store.proofs.MomentLemmas.{started}
-use Rattle.sled_core.proofs.RunningLemmas.{fits-moved, fits-leaves}
+use Rattle.sled_core.proofs.RunningLemmas.{fits-moved}
+use Rattle.sled_core.proofs.KeptCalls.{kept_still, goes_on_quietly}
+use Rattle.sled_core.proofs.OpenTickets.{only_new}
 use Rattle.sled_core.proofs.HoldsLemmas.{holds-same, holds-append, body-append}
 use Rattle.sled_core.proofs.ReserveLemmas.{there_last, there_append, stands, message_is, more_long, head_whole}
 use Rattle.sled_core.proofs.Heads.{length-short_header_tail}
 use Rattle.sled_core.proofs.Ranges.{at_there}
 use Rattle.sled_core.proofs.logger.Log.reserve.Given as given
 use Rattle.sled_core.proofs.logger.Log.reserve.Goals as goal
-
-pub returns-in_err-make_room-clause-history : goal.returns-in_err-make_room-clause-history
-unfolding Holds
-returns-in_err-make_room-clause-history g c = λ H holds.
-    holds-same g.C.Checksum.sum_of _ _ _ _ c.args.self.now.buffer.bytes.items _ c.args.self.now.buffer.from _ c.args.self.now.buffer.reserved.items _ H c.make_room.ensures.bytes c.make_room.ensures.from c.make_room.ensures.reserved holds
 
 -- What was laid out.
 
@@ -86,9 +83,11 @@ returns-clause-next g c =
       length-short_header_tail c.in-Some-message_kind.message_kind (length (item g c)) (number g c) c.args.pid,
     )
 
-pub returns-clause-history : goal.returns-clause-history
-unfolding Holds
-returns-clause-history g c = λ H holds.
+-- what the log held it still holds
+held_still : (g : given.Over) (c : goal.After-new-2 g) (H : History)
+    → HoldsIn g.C.Checksum.sum_of c.args.self.now.config.config.segment_size c.args.self.now.site (state_of (g.D.Device.trace c.args.self.now.config.device)) c.args.self.now.fault c.args.self.now.buffer.bytes.items c.args.self.now.buffer.from c.args.self.now.buffer.reserved.items H
+    → HoldsIn g.C.Checksum.sum_of c.args.self.now.config.config.segment_size c.args.self.now.site (state_of (g.D.Device.trace c.args.self.now.config.device)) c.args.self.now.fault c.append.new.self.bytes.items c.append.new.self.from c.append.new.self.reserved.items H
+held_still g c H holds =
     let old = c.args.self.now.buffer in
     let more : List ℕ = placeholder_head (head g c) ++ item g c in
     let long = more_long g.C.Checksum.sum_of (number g c) old.bytes.items (head g c) (item g c) (kept g c) (known g c) c.ranges.pid.fits (tail_is g c) (whole g c) in
@@ -134,28 +133,33 @@ invariant_of-self-4 g c =
 
 -- It goes on fitting its history, and nothing is written.
 
-pub returns-in-Some-clause-crash : goal.returns-in-Some-clause-crash
-unfolding Fits
-returns-in-Some-clause-crash g c = λ H A f U fits. started _ _ (fits-leaves _ _ _ _ _ _ _ _ _ H A f U fits c.args.self.now.config.config.least (let reach = c.args.self.now.place_in_reach in omega (arith, reach)))
+pub returns-in-Some-clause-keeps : goal.returns-in-Some-clause-keeps
+returns-in-Some-clause-keeps g c = kept_still g.D.Device.trace g.C.Checksum.sum_of c.args.self.now
 
-pub returns-in_default-message_kind-clause-crash : goal.returns-in_default-message_kind-clause-crash
-unfolding Fits
-returns-in_default-message_kind-clause-crash g c = λ H A f U fits. started _ _ (fits-leaves _ _ _ _ _ _ _ _ _ H A f U fits c.args.self.now.config.config.least (let reach = c.args.self.now.place_in_reach in omega (arith, reach)))
+pub returns-in_default-message_kind-clause-keeps : goal.returns-in_default-message_kind-clause-keeps
+returns-in_default-message_kind-clause-keeps g c = kept_still g.D.Device.trace g.C.Checksum.sum_of c.args.self.now
 
-pub returns-in_err-make_room-clause-crash : goal.returns-in_err-make_room-clause-crash
-unfolding Fits
-returns-in_err-make_room-clause-crash g c = λ H A f U fits. started _ _ (fits-leaves _ _ _ _ _ _ _ _ _ H A f U fits c.args.self.now.config.config.least (let reach = c.args.self.now.place_in_reach in omega (arith, reach)))
-
-pub returns-clause-crash : goal.returns-clause-crash
-unfolding Fits
-returns-clause-crash g c = λ H A f U fits. started _ _ (fits-leaves _ _ _ _ _ _ _ _ _ H A f U fits c.args.self.now.config.config.least (let reach = c.args.self.now.place_in_reach in omega (arith, reach)))
-
-pub returns-in_err-make_room-clause-fits : goal.returns-in_err-make_room-clause-fits
+pub returns-in_err-make_room-clause-keeps : goal.returns-in_err-make_room-clause-keeps
 unfolding Fits Holds
-returns-in_err-make_room-clause-fits g c = λ H A f U fits.
-    fits-moved _ _ _ _ _ _ _ _ _ H A f U fits _ _ _ c.make_room.ensures.from (returns-in_err-make_room-clause-history g c H fits.holds)
+returns-in_err-make_room-clause-keeps g c =
+    let old = c.args.self.now.buffer in
+    let same = c.make_room.ensures in
+    record {
+      goes_on = goes_on_quietly g.D.Device.trace g.C.Checksum.sum_of c.args.self.now _ (record { config = refl; checksum = refl }) refl (omega (arith, same.from));
+      history = λ H holds. holds-same g.C.Checksum.sum_of _ _ _ _ old.bytes.items _ old.from _ old.reserved.items _ H same.bytes same.from same.reserved holds;
+      fits = λ H A f U fits. fits-moved _ _ _ _ _ _ _ _ _ H A f U fits _ _ _ same.from (holds-same g.C.Checksum.sum_of _ _ _ _ old.bytes.items _ old.from _ old.reserved.items _ H same.bytes same.from same.reserved fits.holds);
+    }
 
-pub returns-clause-fits : goal.returns-clause-fits
+pub returns-clause-keeps : goal.returns-clause-keeps
 unfolding Fits Holds
-returns-clause-fits g c = λ H A f U fits.
-    fits-moved _ _ _ _ _ _ _ _ _ H A f U fits _ _ _ (c.append.ensures.from ∙ c.make_room.ensures.from) (returns-clause-history g c H fits.holds)
+returns-clause-keeps g c = record {
+  goes_on = goes_on_quietly g.D.Device.trace g.C.Checksum.sum_of c.args.self.now _ (record { config = refl; checksum = refl }) refl (omega (arith, c.append.ensures.from, c.make_room.ensures.from));
+  history = held_still g c;
+  fits = λ H A f U fits. fits-moved _ _ _ _ _ _ _ _ _ H A f U fits _ _ _ (c.append.ensures.from ∙ c.make_room.ensures.from) (held_still g c H fits.holds);
+}
+
+-- where none was open, the new reservation is the only one
+pub returns-clause-open : goal.returns-clause-open
+returns-clause-open g c = λ ended i r there is.
+    only_new c.args.self.now.buffer.reserved.items (reserved g c) ended i r (ap (λ (l : List Reserved). slice_get l i) (sym (reserved_are g c)) ∙ there) is
+    ∙ sym (c.new-2.ensures.index ∙ index_is g c)

@@ -1,4 +1,4 @@
-use Rattle.std.proofs.Common.{◌≡◌, ◌≢◌, Err, ◌∙◌, ◌+◌, ◌≤◌, ◌<◌, ◌^◌, ℕ, List, [], None, length, refl, ap, sym, subst, arith}
+use Rattle.std.proofs.Common.{◌≡◌, ◌≢◌, Err, ◌∙◌, ◌+◌, ◌≤◌, ◌<◌, ◌^◌, ℕ, List, [], None, length, rules, refl, ap, sym, subst, arith}
 use Rattle.sled_codec.specs.declared.result.Error.{Error}
 use Rattle.sled_codec.specs.declared.result.Error.TheVariants.{PlacesUsedUp}
 use Rattle.sled_codec.specs.Errors.{IsCorrupt, IsCorruption}
@@ -20,12 +20,9 @@ use Rattle.sled_core.proofs.FilledMoments.{filled_throughout}
 use Rattle.sled_core.proofs.ReadyStarts.{ready_starts, ready_in_reach}
 use Rattle.sled_core.proofs.StartFits.{start_fits}
 use Rattle.sled_core.proofs.OpenLemmas.{in_segment, place_in_reach, slot_in_reach, first_next, begins_place}
-use Rattle.sled_codec.specs.History.{no_history}
-use Rattle.sled_core.specs.Ready.{IsReady}
-use Rattle.sled_core.proofs.FreshLemmas.{ready_fresh}
 use Rattle.sled_core.proofs.ReadyLemmas.{begins_ready}
-use Rattle.sled_store.specs.SnapshotFiles.{empty_shot}
-use Rattle.sled_core.proofs.FreshReady.{fresh_ready}
+use Rattle.sled_store.proofs.ScriptLemmas.{later_performed}
+use Rattle.sled_core.specs.Buffers.{all_ended}
 use Rattle.sled_core.proofs.logger.Log.start.Goals as goal
 
 pub invariant_of-result : goal.invariant_of-result
@@ -65,27 +62,12 @@ returns-in-Ok-clause-history g c = λ H ready.
     (holds-same g.C.Checksum.sum_of size (record { place = c.in-Ok.beginning.place; slot = c.in-Ok.beginning.slot }) now None c.in-Ok.buffer.bytes.items c.in-Ok.buffer.bytes.items c.in-Ok.beginning.offset c.in-Ok.buffer.from [] c.in-Ok.buffer.reserved.items H
     refl first.from first.reserved holds)
 
-pub returns-in-Ok-clause-next : goal.returns-in-Ok-clause-next
-returns-in-Ok-clause-next g c =
-    let size : ℕ = c.args.config.config.segment_size in
-    let len : ℕ = length (state_of (g.D.Device.trace c.args.config.device)).log.bytes in
-    let s : Shot = shot_of c.args.snapshot.now in
-    let long = first_next size len s c.in-Ok.beginning c.in-Ok.ensures.beginning c.in-Ok.ensures.startable c.in-Ok.ensures.answers.1 g.C.Checksum.sum_of c.in-Ok.buffer c.in-Ok.ensures.buffer in
-    let place = ap (λ (x : Beginning). x.place) c.in-Ok.ensures.beginning ∙ begins_place size (slots_of size len) (stable_place s.stable) (unused size (slots_of size len) s) s.active in
-    ap (λ n. n + length c.in-Ok.buffer.bytes.items) place ∙ ap (λ n. place_at size (stable_place s.stable) s.active + n) long
-
-pub returns-in-Ok-clause-fresh : goal.returns-in-Ok-clause-fresh
-returns-in-Ok-clause-fresh g c = λ same empty none.
-    let size : ℕ = c.args.config.config.segment_size in
-    let device : State = state_of (g.D.Device.trace c.args.config.device) in
-    returns-in-Ok-clause-history g c no_history (subst (λ (s : Shot). IsReady g.C.Checksum.sum_of size device s no_history) (sym same) (ready_fresh g.C.Checksum.sum_of size device empty none))
-
 pub returns-in-Ok-clause-crash : goal.returns-in-Ok-clause-crash
 returns-in-Ok-clause-crash g c = λ H A f ready. filled_throughout g.C.Checksum.sum_of c.args.config.config.segment_size (shot_of c.args.snapshot.now) H A f c.args.config.config.least (in_reach c.args.config.config.segment_size c.args.config.config.most)
     (g.D.Device.trace c.args.config.device) (g.D.Device.trace c.begin.new.config.device) ready c.begin.ensures.calls
 
-pub returns-in-Err-clause-crash_err : goal.returns-in-Err-clause-crash_err
-returns-in-Err-clause-crash_err g c = λ H A f ready. filled_throughout g.C.Checksum.sum_of c.args.config.config.segment_size (shot_of c.args.snapshot.now) H A f c.args.config.config.least (in_reach c.args.config.config.segment_size c.args.config.config.most)
+pub returns-in-Err-clause-crash : goal.returns-in-Err-clause-crash
+returns-in-Err-clause-crash g c = λ H A f ready. filled_throughout g.C.Checksum.sum_of c.args.config.config.segment_size (shot_of c.args.snapshot.now) H A f c.args.config.config.least (in_reach c.args.config.config.segment_size c.args.config.config.most)
     (g.D.Device.trace c.args.config.device) (g.D.Device.trace c.begin.new.config.device) ready c.begin.ensures.calls
 
 pub returns-in-Ok-clause-fits : goal.returns-in-Ok-clause-fits
@@ -126,11 +108,31 @@ returns-in-Err-clause-starts g c = λ H A f ready.
     not_refused (IsStartable size (length old.log.bytes) s) (IsInReach size (length old.log.bytes) s) c.in-Err.e (g.D.Device.faults c.args.config.device) (g.D.Device.faults c.begin.new.config.device)
     (ready_starts g.C.Checksum.sum_of size old s H A f long most ready) (ready_in_reach g.C.Checksum.sum_of size old s H A f long most ready) c.in-Err.ensures.corrupt c.in-Err.ensures.answers
 
--- on an empty device nothing happened
-pub returns-in-Ok-clause-fresh_fits : goal.returns-in-Ok-clause-fresh_fits
-returns-in-Ok-clause-fresh_fits g c = λ same empty.
+-- Nothing is reserved in it yet.
+pub returns-in-Ok-clause-begins : goal.returns-in-Ok-clause-begins
+returns-in-Ok-clause-begins g c =
     let size : ℕ = c.args.config.config.segment_size in
-    let sum = g.C.Checksum.sum_of in
-    returns-in-Ok-clause-fits g c no_history 0 0
-    (subst (λ (s : Shot). Ready sum size (state_of (g.D.Device.trace c.args.config.device)) s no_history 0 0) (sym same)
-    (subst (λ (d : State). Ready sum size d empty_shot no_history 0 0) (sym empty) (fresh_ready sum size c.args.config.config.least (in_reach size c.args.config.config.most))))
+    let len : ℕ = length (state_of (g.D.Device.trace c.args.config.device)).log.bytes in
+    let s : Shot = shot_of c.args.snapshot.now in
+    let long = first_next size len s c.in-Ok.beginning c.in-Ok.ensures.beginning c.in-Ok.ensures.startable c.in-Ok.ensures.answers.1 g.C.Checksum.sum_of c.in-Ok.buffer c.in-Ok.ensures.buffer in
+    let place = ap (λ (x : Beginning). x.place) c.in-Ok.ensures.beginning ∙ begins_place size (slots_of size len) (stable_place s.stable) (unused size (slots_of size len) s) s.active in
+    record {
+  synced = search rules;
+  next = ap (λ n. n + length c.in-Ok.buffer.bytes.items) place ∙ ap (λ n. place_at size (stable_place s.stable) s.active + n) long;
+  ended = ap all_ended c.in-Ok.ensures.buffer.reserved;
+  pins = refl;
+  fault = refl;
+  sized = ap (λ (x : Config). x.segment_size) c.begin.ensures.config;
+}
+
+pub returns-in-Ok-clause-config : goal.returns-in-Ok-clause-config
+returns-in-Ok-clause-config g c = record { config = c.begin.ensures.config; checksum = c.begin.ensures.checksum }
+
+pub returns-in-Err-clause-config : goal.returns-in-Err-clause-config
+returns-in-Err-clause-config g c = record { config = c.begin.ensures.config; checksum = c.begin.ensures.checksum }
+
+pub returns-in-Ok-clause-later : goal.returns-in-Ok-clause-later
+returns-in-Ok-clause-later g c = later_performed _ _ _ c.begin.ensures.calls
+
+pub returns-in-Err-clause-later : goal.returns-in-Err-clause-later
+returns-in-Err-clause-later g c = later_performed _ _ _ c.begin.ensures.calls
