@@ -13,6 +13,7 @@ use Rattle.sled_store.specs.declared.device.choice.Choice.{Choice}
 use Rattle.sled_store.specs.declared.config.RunningConfig.{RunningConfig}
 use Rattle.sled_store.specs.Chosen.{MayBeChosen}
 use Rattle.sled_store.specs.Device.{Event, Left, Trace, State, Content, Synced, NamesSynced, Crashed, Settled, state_of, fresh, step, content_of, content_left, Leaves, names_at_rest}
+use Rattle.sled_store.specs.Moments.{IsLater}
 use Rattle.sled_store.specs.Noted.{left_of}
 use Rattle.sled_store.specs.Script.{Performs, Along, after_all}
 use Rattle.sled_store.proofs.LogLemmas.{at_rest_left}
@@ -33,7 +34,7 @@ use Rattle.sled_log.specs.declared.run.Phase.TheVariants as phase
 use Rattle.sled_log.specs.declared.run.Reply.{Reply}
 use Rattle.sled_log.specs.declared.run.Reply.TheVariants as reply
 use Rattle.sled_log.specs.RunStates.{DeviceView, LogView, RunState, recovered, with_log, started_on}
-use Rattle.sled_log.specs.Runs.{IsLater, IsOwn, IsOutOfTurn, IsRefusedWhere, IsCause, HasRecovered, StartActs, OpenActs, CrashActs, Acts, IsGoodFor, IsStep, Runs}
+use Rattle.sled_log.specs.Runs.{IsOwn, IsOutOfTurn, IsRefusedWhere, IsCause, HasRecovered, StartActs, OpenActs, CrashActs, Acts, IsGoodFor, IsStep, Runs}
 use Rattle.sled_log.specs.RunPhases.{IsOpenAt, IsClosedAt, IsAt, Unstored, Shows, SaysWhy, log_shown, stands, traces, device_in, running, RunsOn, CarriesOut, CarriesOutAt}
 use Rattle.sled_log.specs.WritesBack.{shredding, writing_back, RecoveryCalls}
 use Rattle.sled_log.proofs.RunHistories.{none_orderly}
@@ -78,15 +79,13 @@ later_recovered sum size old new (inr (x, recovers, ns, may, inr made)) = later_
 pub runs_on_both : {D C : Type 0} (trace : D → Trace) (old mid new : RunningConfig D C) → RunsOn trace old mid → RunsOn trace mid new → RunsOn trace old new
 runs_on_both trace old mid new first second = record {
   later = later_both (trace old.device) (trace mid.device) (trace new.device) first.later second.later;
-  config = second.config ∙ first.config;
-  checksum = second.checksum ∙ first.checksum;
+  kept = record { config = second.kept.config ∙ first.kept.config; checksum = second.kept.checksum ∙ first.kept.checksum };
 }
 
 pub runs_on_same : {D C : Type 0} (trace : D → Trace) (old new : RunningConfig D C) → new ≡ old → RunsOn trace old new
 runs_on_same trace old new is = record {
   later = later_is (trace old.device) (trace new.device) (ap (λ (x : RunningConfig _ _). trace x.device) is);
-  config = ap (λ (x : RunningConfig _ _). x.config) is;
-  checksum = ap (λ (x : RunningConfig _ _). x.checksum) is;
+  kept = record { config = ap (λ (x : RunningConfig _ _). x.config) is; checksum = ap (λ (x : RunningConfig _ _). x.checksum) is };
 }
 
 -- What a crash leaves.
@@ -151,7 +150,7 @@ pub halted : {D C : Type 0} (view : D → DeviceView) (sum : List ℕ → ℕ) (
 halted view sum opened config is = λ k at. record {
   turn = λ no. no;
   acts = ap (λ (x : RunningConfig _ _). view x.device) is;
-  step = λ own. (k, refl, subst (λ (x : RunningConfig _ _). IsClosedAt sum x.config.segment_size (traces view x.device) k) (sym is) (closed_at (traces view) sum opened k at));
+  step = λ own. (k, refl, subst (λ (x : RunningConfig _ _). IsClosedAt sum x.config.segment_size (traces view x.device) k) (sym is) (closed_at (traces view) sum opened k at.0));
 }
 
 -- the same with a reservation
@@ -177,7 +176,7 @@ module _ {D C : Type 0} (view : D → DeviceView) (sum : List ℕ → ℕ) (open
 
   pub crashed_open : CarriesOut view sum (phase.Open opened) (command.Crash choice) result
   crashed_open = λ k at.
-      let made = from_log k (closed_at (traces view) sum opened k at) in
+      let made = from_log k (closed_at (traces view) sum opened k at.0) in
       record {
         turn = made.turn;
         acts = made.acts;

@@ -179,3 +179,8 @@ good_moves sum size old new H A f s good (inl none) = record {
   reads = λ page m there. let found = from_table H (stable_place s.stable) page m there in absurd (let low = found.2 in omega (arith, low, none));
   table = good.table;
 }
+
+-- no calls change nothing
+pub performed_nothing : (old new : Trace) → Performs [] old new → new ≡ old
+unfolding Performs
+performed_nothing old new is = is

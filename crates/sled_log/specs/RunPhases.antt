@@ -1,16 +1,20 @@
 -- What stands in each phase of a run.
-use Rattle.std.specs.Prelude.{◌≡◌, ◌^◌, ◌-◌, ◌<◌, ◌⊎◌, ℕ, List, length, Option, None, Some, Contains, Bool}
+use Rattle.std.specs.Prelude.{◌≡◌, ◌^◌, ◌-◌, ◌<◌, ◌⊎◌, ℕ, List, length, Option, None, Some, MatchOption, Contains, Bool}
 use Rattle.std.specs.List.{All}
+use Rattle.std.specs.declared.io.Error.{Error as IoError}
+use Rattle.sled_codec.specs.declared.result.Error.{Error}
+use Rattle.sled_codec.specs.declared.result.Error.TheVariants.{Io}
 use Rattle.sled_codec.specs.declared.serialization.message.LogKind.TheVariants.{Replace}
 use Rattle.sled_codec.specs.History.{Message, History}
 use Rattle.sled_codec.specs.WellFormed.{LieApart}
 use Rattle.sled_codec.specs.Snapshots.{Shot, shot_of}
-use Rattle.sled_store.specs.Device.{Trace, state_of, content_of}
+use Rattle.sled_store.specs.Device.{Trace, state_of}
+use Rattle.sled_store.specs.Moments.{IsLater}
 use Rattle.sled_store.specs.SnapshotFiles.{stable_place}
 use Rattle.sled_store.specs.declared.config.Config.{Config}
 use Rattle.sled_store.specs.declared.config.RunningConfig.{RunningConfig}
-use Rattle.sled_core.specs.Fits.{Awaits, IsOpen, config_of, fault_of, next_place, pins_of, segment_size_of, synced_end}
-use Rattle.sled_core.specs.Good.{IsGood}
+use Rattle.sled_core.specs.Fits.{AllEnded, Awaits, IsOnlyOpen, IsOpen, config_of, fault_of, next_place, pins_of, segment_size_of, synced_end}
+use Rattle.sled_core.specs.Keeps.{ConfigKept}
 use Rattle.sled_core.specs.Recoverable.{LeavesRecoverable}
 use Rattle.sled_core.specs.Running.{Fits, Ready}
 use Rattle.sled_log.specs.declared.run.Phase.{Phase}
@@ -21,7 +25,7 @@ use Rattle.sled_log.specs.declared.run.Command.{Command}
 use Rattle.sled_log.specs.declared.run.Reply.{Reply}
 use Rattle.sled_log.specs.declared.run.Reply.TheVariants as reply
 use Rattle.sled_log.specs.RunStates.{DeviceView, LogView, RunState, started_on}
-use Rattle.sled_log.specs.Runs.{IsLater, IsOwn, IsOutOfTurn, IsRefusedWhere, IsCause, StartActs, Acts, IsStep}
+use Rattle.sled_log.specs.Runs.{IsOwn, IsOutOfTurn, IsRefusedWhere, IsCause, StartActs, Acts, IsStep}
 
 -- a message of a page lies below a place
 pub record HasBelow (messages : List Message) (page place : ℕ) : Type 0 where
@@ -123,11 +127,27 @@ IsAt trace sum (Closed config) k = IsClosedAt sum config.config.segment_size (tr
 IsAt trace sum (Open opened) k = IsOpenAt trace sum opened k
 IsAt trace sum (Waiting opened ticket) k = IsOpenAt trace sum opened k × IsWaitingFor opened ticket k
 
--- whatever happened, the ticket is for an open reservation of the log
+-- no reservation of the log is open, or the log keeps the failure with which the last one was given up
+abbrev pub HasNoneOpen : {D C : Type 0} → Opened D C → Type 0
+HasNoneOpen opened = MatchOption opened.lost (AllEnded opened.log) (λ e. fault_of opened.log ≡ Some e)
+
+-- the ticket is for the one reservation of the log that is open
+pub record HasOneOpen {D C : Type 0} (opened : Opened D C) (ticket : Ticket) : Type 0 where
+  pub open_yet : IsOpen opened.log ticket.reservation
+  pub only : IsOnlyOpen opened.log ticket.reservation
+  pub page : ticket.page < 2 ^ 64 - 1
+  pub none_lost : opened.lost ≡ None
+
+-- whatever happened, the phase is one in which calls can be made
 abbrev pub CanGoOn : {D C : Type 0} → Phase D C → Type 0
 CanGoOn (Closed config) = Unit {0}
-CanGoOn (Open opened) = Unit {0}
-CanGoOn (Waiting opened ticket) = IsOpen opened.log ticket.reservation × (ticket.page < 2 ^ 64 - 1)
+CanGoOn (Open opened) = HasNoneOpen opened
+CanGoOn (Waiting opened ticket) = HasOneOpen opened ticket
+
+-- the failure of the device that an error tells of
+abbrev pub failure_told : Error → Option IoError
+failure_told (Io e) = Some e
+failure_told _ = None
 
 -- A command is answered in its turn, and what it does leads from a phase to the next one: what holds there holds again, unless what is foreign was read or left.
 pub record CarriesOutAt {D C : Type 0} (view : D → DeviceView) (sum : List ℕ → ℕ) (phase : Phase D C) (command : Command) (result : Phase D C × Reply) (k : Unstored) : Type 0 where
@@ -139,11 +159,10 @@ pub record CarriesOutAt {D C : Type 0} (view : D → DeviceView) (sum : List ℕ
 abbrev pub CarriesOut : {D C : Type 0} → (D → DeviceView) → (List ℕ → ℕ) → Phase D C → Command → Phase D C × Reply → Type 0
 CarriesOut view sum phase command result = (k : Unstored) → IsAt (traces view) sum phase k → CarriesOutAt view sum phase command result k
 
--- what runs a log stays, but for its device, whose trace goes on
+-- the trace goes on, with the same sizes and the same checksum
 pub record RunsOn {D C : Type 0} (trace : D → Trace) (old new : RunningConfig D C) : Type 0 where
   pub later : IsLater (trace old.device) (trace new.device)
-  pub config : new.config ≡ old.config
-  pub checksum : new.checksum ≡ old.checksum
+  pub kept : ConfigKept old new
 
 -- whatever happened, the next phase goes on from the one before
 pub record Continues {D C : Type 0} (trace : D → Trace) (phase next : Phase D C) : Type 0 where

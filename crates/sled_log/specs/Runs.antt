@@ -29,10 +29,6 @@ use Rattle.sled_log.specs.Recovery.{Conclusion, Recovered, Recovers}
 use Rattle.sled_log.specs.RunStates.{DeviceView, LogView, RunState, with_log, recovered, started_on, is_pending, end_reserved, replace_at, HasRoomAt, ShowsActive}
 use Rattle.sled_log.specs.WritesBack.{HasWrittenBack, RecoveryCalls}
 
--- one trace goes on from another
-abbrev pub IsLater : Trace → Trace → Type 0
-IsLater old new = (es : List Event) × (new ≡ es ++ old)
-
 -- The premise.
 
 -- what a crash leaves that takes a choice or doesn't

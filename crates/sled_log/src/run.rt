@@ -3,13 +3,13 @@
 //!
 //! A run begins on an empty device with no log open. One reservation is open at a time, and all messages are
 //! Replaces. A command that is out of its turn is refused.
-ghost use Rattle.std.specs.Prelude.{◌≡◌, ◌^◌, ◌-◌, ◌<◌, IfOk, IfErr};
+ghost use Rattle.std.specs.Prelude.{◌≡◌, IfOk, IfErr};
 ghost use Rattle.sled_codec.specs.Snapshots.{shot_of};
 ghost use Rattle.sled_store.specs.Device.{state_of, fresh};
-ghost use Rattle.sled_core.specs.Fits.{IsOpen, config_of};
+ghost use Rattle.sled_core.specs.Fits.{config_of};
 ghost use Rattle.sled_log.specs.RunStates.{begins_on};
 ghost use Rattle.sled_log.specs.Runs.{StartActs, Runs};
-ghost use Rattle.sled_log.specs.RunPhases.{Shows, Starts, RunsOn, view_by, running, device_in, CanGoOn, CarriesOut, Continues};
+ghost use Rattle.sled_log.specs.RunPhases.{HasNoneOpen, HasOneOpen, failure_told, Shows, Starts, RunsOn, view_by, running, device_in, CanGoOn, CarriesOut, Continues};
 
 use crate::snapshot::{Snapshot, read_snapshot_or_default};
 use sled_codec::result::{DiskPtr, Error, Lsn, PageId};
@@ -19,6 +19,7 @@ use sled_core::reservation::{Guard, Reservation};
 use sled_store::snapshot::stable_place;
 use sled_store::{Choice, CrashDevice, RunningConfig};
 use std::alloc::AllocError;
+use std::io;
 
 /// What a run is told to do.
 #[derive(Drop)]
@@ -80,6 +81,8 @@ struct Opened<D, C> {
     guard: Guard,
     /// How many pages have a Replace.
     begun: u64,
+    /// The failure with which the last reservation was given up, which still counts as open in the log.
+    lost: Option<io::Error>,
 }
 
 /// The reservation that is open.
@@ -152,6 +155,7 @@ fn step_open<D: CrashDevice, C: Checksum>(
     opened: Opened<D, C>,
     command: Command,
 ) -> (Phase<D, C>, Reply)
+    requires none_open { HasNoneOpen opened }
     ensures step { CarriesOut (view_by D.trace D.faults D.is_stopped D.stops_in) C.sum_of (Phase.Open opened) command result }
     ensures on { Continues D.trace (Phase.Open opened) result.0 }
 {
@@ -172,8 +176,7 @@ fn step_waiting<D: CrashDevice, C: Checksum>(
     ticket: Ticket,
     command: Command,
 ) -> (Phase<D, C>, Reply)
-    requires open { IsOpen opened.log ticket.reservation }
-    requires page { ticket.page < 2 ^ 64 - 1 }
+    requires one_open { HasOneOpen opened ticket }
     ensures step { CarriesOut (view_by D.trace D.faults D.is_stopped D.stops_in) C.sum_of (Phase.Waiting opened ticket) command result }
     ensures on { Continues D.trace (Phase.Waiting opened ticket) result.0 }
 {
@@ -218,7 +221,13 @@ fn start<D: CrashDevice, C: Checksum>(
             let mut log = log;
             let guard = log.pin();
             let begun = snapshot.pt.len() as u64;
-            (Phase::Open(Opened { log, guard, begun }), Reply::Opened(snapshot))
+            let opened = Opened {
+                log,
+                guard,
+                begun,
+                lost: None,
+            };
+            (Phase::Open(opened), Reply::Opened(snapshot))
         }
         Err((e, config)) => (Phase::Closed(config), Reply::Recovered(snapshot, Some(e))),
     }
@@ -253,6 +262,7 @@ fn replace<D: CrashDevice, C: Checksum>(
     page: PageId,
     item: &Vec<u8>,
 ) -> (Phase<D, C>, Reply)
+    requires none_open { HasNoneOpen opened }
     ensures step { CarriesOut (view_by D.trace D.faults D.is_stopped D.stops_in) C.sum_of (Phase.Open opened) (Command.Replace page item.now) result }
     ensures on { Continues D.trace (Phase.Open opened) result.0 }
 {
@@ -277,8 +287,7 @@ fn complete<D: CrashDevice, C: Checksum>(
     opened: Opened<D, C>,
     ticket: Ticket,
 ) -> (Phase<D, C>, Reply)
-    requires open { IsOpen opened.log ticket.reservation }
-    requires page { ticket.page < 2 ^ 64 - 1 }
+    requires one_open { HasOneOpen opened ticket }
     ensures step { CarriesOut (view_by D.trace D.faults D.is_stopped D.stops_in) C.sum_of (Phase.Waiting opened ticket) (Command.Complete) result }
     ensures on { Continues D.trace (Phase.Waiting opened ticket) result.0 }
 {
@@ -291,18 +300,32 @@ fn complete<D: CrashDevice, C: Checksum>(
             }
             (Phase::Open(opened), Reply::Done(place, pointer))
         }
-        Err(e) => (Phase::Open(opened), Reply::Failed(e)),
+        Err(e) => {
+            opened.lost = failure_of(&e);
+            (Phase::Open(opened), Reply::Failed(e))
+        }
+    }
+}
+
+/// The failure of the device that an error tells of.
+fn failure_of(error: &Error) -> Option<io::Error>
+    ensures { result ≡ failure_told error.now }
+{
+    match error {
+        Error::Io(e) => Some(*e),
+        _ => None,
     }
 }
 
 /// Writes what was completed, and settles it.
 fn flush<D: CrashDevice, C: Checksum>(opened: Opened<D, C>) -> (Phase<D, C>, Reply)
+    requires none_open { HasNoneOpen opened }
     ensures step { CarriesOut (view_by D.trace D.faults D.is_stopped D.stops_in) C.sum_of (Phase.Open opened) (Command.Flush) result }
     ensures on { Continues D.trace (Phase.Open opened) result.0 }
 {
     let mut opened = opened;
-    if !opened.log.all_ended() {
-        return (Phase::Open(opened), Reply::Refused);
+    if let Some(e) = opened.lost {
+        return (Phase::Open(opened), Reply::Failed(Error::Io(e)));
     }
     match opened.log.flush() {
         Ok(grown) => (Phase::Open(opened), Reply::Flushed(grown)),
@@ -318,6 +341,7 @@ fn halt<D: CrashDevice, C: Checksum>(opened: Opened<D, C>) -> RunningConfig<D, C
         log,
         guard,
         begun: _,
+        lost: _,
     } = opened;
     guard.abandon();
     log.halt()
