@@ -1,10 +1,10 @@
 -- A call keeps what a log held and fitted where it leaves its device and what is written alone, and where it is two such calls in a row.
-use Rattle.std.proofs.Common.{◌≡◌, ◌∙◌, ◌≤◌, ℕ, List, [], ◌++◌, refl, ap, sym, subst, append_assoc, arith}
+use Rattle.std.proofs.Common.{◌≡◌, ◌∙◌, ◌≤◌, ℕ, List, [], refl, ap, subst, arith}
 use Rattle.sled_codec.specs.History.{Message, History}
 use Rattle.sled_store.specs.declared.config.Config.{Config}
-use Rattle.sled_store.specs.Device.{Event, Trace}
-use Rattle.sled_store.specs.Moments.{IsLater, LeavesOnly}
-use Rattle.sled_store.specs.Script.{Performs}
+use Rattle.sled_store.specs.Device.{Trace}
+use Rattle.sled_store.specs.Moments.{LeavesOnly}
+use Rattle.sled_store.proofs.PublicLaws.{later_both}
 use Rattle.sled_store.proofs.MomentLemmas.{started, stays, joined}
 use Rattle.sled_core.specs.declared.logger.Log.{Log}
 use Rattle.sled_core.specs.Fits.{Holds, config_of, device_of, segment_size_of, synced_end}
@@ -12,10 +12,6 @@ use Rattle.sled_core.specs.Keeps.{ConfigKept, GoesOn, Preserves}
 use Rattle.sled_core.specs.Recoverable.{RecoverableIfOwn}
 use Rattle.sled_core.specs.Running.{Fits}
 use Rattle.sled_core.proofs.ReachLemmas.{fits_leaves}
-
--- one trace goes on from another, and a third from that
-pub later_still : (old mid new : Trace) → IsLater old mid → IsLater mid new → IsLater old new
-later_still old mid new first then = (then.0 ++ first.0, then.1 ∙ ap (λ (t : Trace). then.0 ++ t) first.1 ∙ sym (append_assoc then.0 first.0 old))
 
 module _ {D C : Type 0} (trace : D → Trace) (sum : List ℕ → ℕ) where
   -- a device that was left alone has no other moment
@@ -36,7 +32,7 @@ module _ {D C : Type 0} (trace : D → Trace) (sum : List ℕ → ℕ) where
   pub goes_on_further : (old mid new : Log D C) → Preserves trace sum old mid → GoesOn trace sum mid new → GoesOn trace sum old new
   goes_on_further old mid new first then = record {
     config = record { config = then.config.config ∙ first.goes_on.config.config; checksum = then.config.checksum ∙ first.goes_on.config.checksum };
-    later = later_still _ _ _ first.goes_on.later then.later;
+    later = later_both _ _ _ first.goes_on.later then.later;
     stable = omega (arith, first.goes_on.stable, then.stable);
     crash = λ H A f U fits. joined _ _ _ _ (first.goes_on.crash H A f U fits)
         (subst (λ n. LeavesOnly (RecoverableIfOwn sum n H A f) (trace (device_of mid)) (trace (device_of new))) (ap (λ (x : Config). x.segment_size) first.goes_on.config.config)

@@ -27,6 +27,7 @@ pub mod OpenLemmas
 pub mod OpenTickets
 pub mod Parts
 pub mod PathLemmas
+pub mod PublicLaws
 pub mod Ranges
 pub mod ReachLemmas
 pub mod ReadingLemmas

@@ -8,6 +8,7 @@ mod begin;
 mod found;
 pub mod iobuf;
 pub mod iterator;
+pub mod laws;
 pub mod logger;
 pub mod met;
 pub mod read_at;

@@ -10,6 +10,7 @@ pub mod MomentLemmas
 pub mod NamesLemmas
 mod OfferLemmas
 pub mod OverwrittenLemmas
+pub mod PublicLaws
 pub mod ScriptLemmas
 pub mod SettledLemmas
 pub mod SyncedLemmas

@@ -7,6 +7,7 @@
 
 pub mod config;
 pub mod device;
+pub mod laws;
 pub mod snapshot;
 
 pub use config::{Config, RunningConfig};

@@ -1,21 +1,27 @@
-use Rattle.std.proofs.Common.{◌≡◌, ◌∙◌, ◌+◌, ◌<◌, ◌/◌, ap, sym, subst, refl, ℕ, List, arith, inr, Option}
+use Rattle.std.proofs.Common.{◌≡◌, ◌∙◌, ◌+◌, ◌<◌, ◌/◌, ap, sym, subst, refl, ℕ, List, arith, inr, Option, IsTrue, rules, pos}
 use Rattle.std.specs.Int.{w64}
-use Rattle.std.specs.Prelude.{unsigned_abs}
+use Rattle.std.specs.Prelude.{unsigned_abs, ◌<ℤ◌}
+use Rattle.std.specs.List.{Contains}
+use Rattle.std.proofs.lemmas.List.Elements.{All-contains}
+use Rattle.sled_codec.specs.History.{Message, History}
+use Rattle.sled_codec.specs.Places.{MayBegin}
+use Rattle.sled_core.specs.LogFile.{MessageStands}
 use Rattle.std.specs.declared.io.Error.{Error as IoError}
 use Rattle.std.proofs.lemmas.Int.{to_z-of_z}
 use Rattle.sled_codec.specs.Pointers.{lid_of}
 use Rattle.sled_store.specs.Device.{State, Trace, state_of}
 use Rattle.sled_core.specs.Reading.{IsReading, IsMalformed, GivesMessage}
-use Rattle.sled_core.specs.Fits.{Holds, HoldsIn}
+use Rattle.sled_core.specs.Fits.{Holds, HoldsIn, segment_size_of}
 use Rattle.sled_core.specs.Running.{Fits}
 use Rattle.sled_core.specs.declared.reading.LogRead.{LogRead}
 use Rattle.sled_core.proofs.Parts.{moved}
 use Rattle.sled_core.proofs.ReadingLemmas.{if_ok}
 use Rattle.sled_core.proofs.GivesLemmas.{gives, message_found}
-use Rattle.sled_core.proofs.HeldPointers.{fits_lie, stands_formed}
+use Rattle.sled_core.proofs.HeldPointers.{LiesInline, fits_lie, stands_formed}
 use Rattle.sled_core.proofs.KeptCalls.{kept_still, kept_further}
 use Rattle.sled_core.proofs.ReachLemmas.{fits_holds}
 use Rattle.sled_core.proofs.logger.Log.read.Given as given
+use Rattle.sled_core.proofs.logger.Log.read.Goals.{then-lsn-lt0-via-then-lsn-lt0, then-lsn-lt0-via-else-lsn-lt0+then-not-may_begin}
 use Rattle.sled_core.proofs.logger.Log.read.Goals as goal
 
 place_is : (g : given.Over) (c : goal.After-read_settled g) → c.unsigned_abs-place.result ≡ unsigned_abs c.args.lsn
@@ -28,9 +34,11 @@ returns-clause-corrupt g c = λ damaged.
     c.in_ok-settle.ensures.position.size (ap (λ (t : Trace). (state_of t).log.bytes) (sym c.read_settled.ensures.trace)) c.lid-lid.ensures (ap (λ n. n / size) (place_is g c))
     (c.read_settled.ensures.malformed damaged))
 
-pub returns-clause-message : goal.returns-clause-message
+-- the record of a message stands where it is read
+stands_there : (g : given.Over) (c : goal.After-read_settled g) (H : History) (m : Message) → Holds g.D.Device.trace g.C.Checksum.sum_of c.args.self.now H → Contains H.messages m → pos m.place ≡ c.args.lsn → m.pointer ≡ c.args.ptr
+    → MessageStands g.C.Checksum.sum_of (segment_size_of c.settle.new.self) (state_of (g.D.Device.trace c.settle.new.self.config.device)).log.bytes c.lid-lid.result (c.unsigned_abs-place.result / c.args.self.now.config.config.segment_size) m
 unfolding Holds
-returns-clause-message g c = λ H m holds there at pointer.
+stands_there g c H m holds there at pointer =
     let log = c.settle.new.self in
     let device : State = state_of (g.D.Device.trace log.config.device) in
     let size : ℕ = log.config.config.segment_size in
@@ -41,10 +49,30 @@ returns-clause-message g c = λ H m holds there at pointer.
     let lid : c.lid-lid.result ≡ found.0 = c.lid-lid.ensures ∙ ap lid_of (sym pointer ∙ found.1) in
     let number : c.unsigned_abs-place.result / c.args.self.now.config.config.segment_size ≡ m.place / size =
     ap (λ n. n / c.args.self.now.config.config.segment_size) place ∙ ap (λ n. m.place / n) (sym c.in_ok-settle.ensures.position.size) in
-    if_ok c.read_settled.result _ (GivesMessage m) (λ (r : LogRead) reads.
-    gives g.C.Checksum.sum_of size device.log.bytes found.0 (m.place / size) m found.2.header r found.2.stands found.2.known found.2.page
-    (moved (λ (s : ℕ) (l : List ℕ) (o n : ℕ). IsReading g.C.Checksum.sum_of s l o n r) _ _ _ device.log.bytes _ found.0 _ (m.place / size) refl refl lid number reads))
-    c.read_settled.ensures.reading
+    subst (λ n. MessageStands g.C.Checksum.sum_of size device.log.bytes n (c.unsigned_abs-place.result / c.args.self.now.config.config.segment_size) m) (sym lid)
+    (subst (λ n. MessageStands g.C.Checksum.sum_of size device.log.bytes found.0 n m) (sym number) found.2)
+
+pub returns-clause-message : goal.returns-clause-message
+returns-clause-message g c = λ H m holds there at pointer.
+    let s = stands_there g c H m holds there at pointer in
+    if_ok c.read_settled.result _ (GivesMessage m) (λ (r : LogRead) reads. gives g.C.Checksum.sum_of _ _ _ _ m s.header r s.stands s.known s.page reads) c.read_settled.ensures.reading
+
+-- what a log fits is held without damage
+
+pub returns-clause-undamaged : goal.returns-clause-undamaged
+returns-clause-undamaged g c = λ H A f U m fits there at pointer damaged.
+    stands_formed g.C.Checksum.sum_of _ _ _ _ m (stands_there g c H m (fits_holds g.D.Device.trace g.C.Checksum.sum_of c.args.self.now H A f U fits) there at pointer) (c.read_settled.ensures.malformed damaged)
+
+pub returns-then-lsn-lt0-clause-undamaged : goal.returns-then-lsn-lt0-clause-undamaged
+returns-then-lsn-lt0-clause-undamaged g c = λ H A f U m fits there at pointer damaged.
+    let log = c.args.self.now in
+    let lies : LiesInline (segment_size_of log) m = All-contains (LiesInline (segment_size_of log)) H.messages m (fits_lie g.D.Device.trace g.C.Checksum.sum_of log H A f U fits c.in_default.is) there in
+    let lid : c.lid-lid.result ≡ lies.lid = c.lid-lid.ensures ∙ ap lid_of (sym pointer ∙ lies.pointer) in
+    let begins : MayBegin (segment_size_of log) c.lid-lid.result = subst (MayBegin (segment_size_of log)) (sym lid) lies.begins in
+    elim c.then-lsn-lt0.branch [
+      | then-lsn-lt0-via-then-lsn-lt0 w ↦ (let negative : c.args.lsn <ℤ pos 0 = search rules in let both : pos m.place <ℤ pos 0 = subst (λ z. z <ℤ pos 0) (sym at) negative in search rules)
+      | then-lsn-lt0-via-else-lsn-lt0+then-not-may_begin w ↦ (let yes : IsTrue w.may_begin.result = w.may_begin.ensures.1 begins in search rules)
+    ]
 
 -- what a log fits is held without damage
 

@@ -1,0 +1,66 @@
+-- What a crate above may rely on of logs: where the messages lie that a log fits, what a crash leaves of its device, and that an empty device is ready.
+use Rattle.std.proofs.Common.{◌≡◌, ◌∙◌, ◌≤◌, ◌<◌, ◌+◌, ◌^◌, ℕ, ℤ, pos, List, [], ◌∷◌, replicate, Option, None, refl, sym, ap, subst}
+use Rattle.std.specs.List.{All}
+use Rattle.sled_codec.specs.History.{Message, History, no_history}
+use Rattle.sled_codec.specs.Record.{IsHeader}
+use Rattle.sled_codec.specs.WellFormed.{LieApart}
+use Rattle.sled_store.specs.Device.{Trace, State, Content, Left, Leaves, Crashed, state_of, content_of, content_left, at_rest, fresh, names_at_rest, step}
+use Rattle.sled_store.specs.SnapshotFiles.{empty_shot}
+use Rattle.sled_store.proofs.LogLemmas.{at_rest_left}
+use Rattle.sled_store.proofs.NamesLemmas.{settled_name_left, settled_name_at_rest}
+use Rattle.sled_store.proofs.SettledLemmas.{read_left}
+use Rattle.sled_core.specs.declared.logger.Log.{Log}
+use Rattle.sled_core.specs.Fits.{Holds, IsWritten, fault_of, next_place, synced_end, device_of, segment_size_of}
+use Rattle.sled_core.specs.Keeps.{Preserves}
+use Rattle.sled_core.specs.Reading.{IsInline}
+use Rattle.sled_core.specs.Ready.{IsReady}
+use Rattle.sled_core.specs.Recoverable.{NoForeign, Recoverable, LeavesRecoverable}
+use Rattle.sled_core.specs.Running.{Fits, Ready}
+use Rattle.sled_core.proofs.CallMoments.{own_after_crash}
+use Rattle.sled_core.proofs.FirstSegment.{nothing_recoverable}
+use Rattle.sled_core.proofs.FreshLemmas.{ready_fresh}
+use Rattle.sled_core.proofs.HeldPointers.{LiesInline, fits_lie}
+use Rattle.sled_core.proofs.ReachLemmas.{fits_reach, fits_apart, kept_past}
+pub use Rattle.sled_core.proofs.FreshReady.{fresh_leaves, fresh_ready}
+pub use Rattle.sled_core.proofs.KeptCalls.{goes_on_still, goes_on_further, kept_still, kept_further}
+pub use Rattle.sled_core.proofs.ReachLemmas.{fits_holds, fits_acknowledged, fits_reach, fits_apart, fits_leaves, awaited, next_small}
+
+-- Messages that a log fits have inline pointers.
+pub fits_inline : {D C : Type 0} (trace : D → Trace) (sum : List ℕ → ℕ) (log : Log D C) (H : History) (A f : ℕ) (U : List Message) → Fits trace sum log H A f U → fault_of log ≡ None → All (λ m. IsInline m.pointer) H.messages
+fits_inline trace sum log H A f U fits none = λ k d lt. let lies = fits_lie trace sum log H A f U fits none k d lt in subst IsInline (sym lies.pointer) tt
+
+-- What was written ends at the stable end at most.
+pub written_past : {D C : Type 0} (trace : D → Trace) (sum : List ℕ → ℕ) (log : Log D C) (H : History) → IsWritten trace sum log H → All (λ m. m.place + m.size ≤ synced_end log) H.messages
+written_past trace sum log H written = kept_past sum (segment_size_of log) log.site log.buffer.from _ H written
+
+-- An empty log file without a snapshot is ready, whatever blobs there are.
+pub empty_ready : (sum : List ℕ → ℕ) (size : ℕ) (device : State) → device.log ≡ at_rest [] → ((n : ℤ) → device.snapshots.file n ≡ None) → IsReady sum size device empty_shot no_history
+empty_ready sum size device empty none = ready_fresh sum size device empty none
+
+-- A recovery can go on from nothing.
+pub empty_recoverable : (sum : List ℕ → ℕ) (size : ℕ) → 256 ≤ size → size < 2 ^ 63 → Recoverable sum size (record { log = []; blobs = λ n. None; snapshots = λ n. None }) no_history 0 0
+empty_recoverable sum size large small = nothing_recoverable sum size (record { log = []; blobs = λ n. None; snapshots = λ n. None }) large small refl (λ n. refl) (λ n. refl)
+
+module _ (sum : List ℕ → ℕ) (size : ℕ) (H : History) (A f : ℕ) where
+  -- What is read now can be recovered where whatever a crash leaves can.
+  pub reads_recoverable : (trace : Trace) → LeavesRecoverable sum size H A f (state_of trace) → NoForeign sum size (state_of trace) (content_of (state_of trace)) → Recoverable sum size (content_of (state_of trace)) H A f
+  reads_recoverable trace leaves own = leaves (content_of (state_of trace)) (read_left trace) own
+
+  -- Behind a crash another one leaves just what it left.
+  pub crashed_leaves : (left : Left) (s : State) → Recoverable sum size (content_left left s) H A f → LeavesRecoverable sum size H A f (step (Crashed left) s)
+  crashed_leaves left s can content leaves own =
+      let now : Content = content_left left s in
+      let logs : content.log ≡ now.log = at_rest_left now.log content.log leaves.log in
+      let blobs : (n : ℤ) → content.blobs n ≡ now.blobs n = λ n. settled_name_left (names_at_rest now.blobs) n (content.blobs n) (settled_name_at_rest now.blobs n) (leaves.blobs n) in
+      let snapshots : (n : ℤ) → content.snapshots n ≡ now.snapshots n = λ n. settled_name_left (names_at_rest now.snapshots) n (content.snapshots n) (settled_name_at_rest now.snapshots n) (leaves.snapshots n) in
+      let same : now ≡ content = λ i. record { log = sym logs i; blobs = λ n. sym (blobs n) i; snapshots = λ n. sym (snapshots n) i } in
+      subst (λ (c : Content). Recoverable sum size c H A f) same can
+
+  -- What a crash leaves can be recovered, and so can what is left by the next one.
+  pub crash_recoverable : (trace : Trace) (left : Left) → LeavesRecoverable sum size H A f (state_of trace) → Leaves (state_of trace) (content_left left (state_of trace)) → NoForeign sum size (state_of trace) (content_left left (state_of trace))
+      → Recoverable sum size (content_left left (state_of trace)) H A f × LeavesRecoverable sum size H A f (state_of (Crashed left ∷ trace))
+  crash_recoverable trace left leaves may own = let can = leaves (content_left left (state_of trace)) may own in (can, crashed_leaves left (state_of trace) can)
+
+-- What is read behind a crash was settled by it, so it is the log's own.
+pub own_behind_crash : (sum : List ℕ → ℕ) (size : ℕ) (left : Left) (trace : Trace) → ((lsn mark : ℤ) → IsHeader sum (replicate 20 0) lsn mark → ⊥) → NoForeign sum size (state_of (Crashed left ∷ trace)) (content_of (state_of (Crashed left ∷ trace)))
+own_behind_crash sum size left trace zeros = own_after_crash sum size left (state_of trace) zeros

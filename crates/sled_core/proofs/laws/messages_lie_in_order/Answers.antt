@@ -1,0 +1,14 @@
+use Rattle.sled_core.proofs.PublicLaws.{fits_reach, fits_apart, fits_inline, next_small}
+use Rattle.sled_core.proofs.laws.messages_lie_in_order.Goals as goal
+
+pub returns-clause-below : goal.returns-clause-below
+returns-clause-below g c = λ log H A f U fits. fits_reach g.D.Device.trace g.C.Checksum.sum_of log H A f U fits
+
+pub returns-clause-apart : goal.returns-clause-apart
+returns-clause-apart g c = λ log H A f U fits none. fits_apart g.D.Device.trace g.C.Checksum.sum_of log H A f U fits none
+
+pub returns-clause-inline : goal.returns-clause-inline
+returns-clause-inline g c = λ log H A f U fits none. fits_inline g.D.Device.trace g.C.Checksum.sum_of log H A f U fits none
+
+pub returns-clause-small : goal.returns-clause-small
+returns-clause-small g c = λ log. next_small log

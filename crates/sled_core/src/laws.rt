@@ -1,0 +1,97 @@
+//! Laws of logs, each the contract of a function that does nothing. A proof cites them by the lemmas of
+//! `proofs/PublicLaws.antt`.
+ghost use Rattle.std.specs.Prelude.{◌≡◌, ◌≤◌, ◌<◌, ◌+◌, ◌^◌, ◌∷◌, ℕ, ℤ, pos, List, [], replicate, None};
+ghost use Rattle.std.specs.List.{All};
+ghost use Rattle.sled_codec.specs.History.{Message, History, no_history};
+ghost use Rattle.sled_codec.specs.Record.{IsHeader};
+ghost use Rattle.sled_codec.specs.WellFormed.{LieApart};
+ghost use Rattle.sled_store.specs.Device.{Trace, State, Content, Left, Leaves, Crashed, state_of, content_of, content_left, at_rest, fresh};
+ghost use Rattle.sled_store.specs.Moments.{IsLater, LeavesOnly};
+ghost use Rattle.sled_store.specs.SnapshotFiles.{empty_shot};
+ghost use Rattle.sled_core.specs.Fits.{Holds, Awaits, IsWritten, fault_of, next_place, synced_end, device_of, segment_size_of};
+ghost use Rattle.sled_core.specs.Keeps.{GoesOn, Preserves};
+ghost use Rattle.sled_core.specs.Reading.{IsInline};
+ghost use Rattle.sled_core.specs.Ready.{IsReady};
+ghost use Rattle.sled_core.specs.Recoverable.{NoForeign, Recoverable, RecoverableIfOwn, LeavesRecoverable};
+ghost use Rattle.sled_core.specs.Running.{Fits, Ready};
+ghost use Rattle.sled_core.specs.Tickets.{place_of, pointer_of};
+
+use crate::logger::Log;
+use crate::reservation::Reservation;
+use sled_codec::serialization::Checksum;
+use sled_store::Device;
+
+/// A log holds the history that it fits, and what was acknowledged lies below its stable end.
+pub fn a_fitting_log_holds<D: Device, C: Checksum>()
+    ensures holds { (log : Log D C) (H : History) (A f : ℕ) (U : List Message) → Fits D.trace C.sum_of log H A f U → Holds D.trace C.sum_of log H }
+    ensures acknowledged { (log : Log D C) (H : History) (A f : ℕ) (U : List Message) → Fits D.trace C.sum_of log H A f U → A ≤ synced_end log }
+{}
+
+/// The messages of a history that a log fits lie below its next place, one behind another, and their
+/// pointers are inline.
+pub fn messages_lie_in_order<D: Device, C: Checksum>()
+    ensures below { (log : Log D C) (H : History) (A f : ℕ) (U : List Message) → Fits D.trace C.sum_of log H A f U
+        → All (λ m. m.place < next_place log) H.messages }
+    ensures apart { (log : Log D C) (H : History) (A f : ℕ) (U : List Message) → Fits D.trace C.sum_of log H A f U
+        → fault_of log ≡ None → LieApart H.messages }
+    ensures inline { (log : Log D C) (H : History) (A f : ℕ) (U : List Message) → Fits D.trace C.sum_of log H A f U
+        → fault_of log ≡ None → All (λ m. IsInline m.pointer) H.messages }
+    ensures small { (log : Log D C) → next_place log < 2 ^ 63 }
+{}
+
+/// What a flush wrote ends at the stable end at most.
+pub fn written_messages_are_stable<D: Device, C: Checksum>()
+    ensures { (log : Log D C) (H : History) → IsWritten D.trace C.sum_of log H → All (λ m. m.place + m.size ≤ synced_end log) H.messages }
+{}
+
+/// A ticket says where its message lies.
+pub fn a_ticket_says_the_place<D: Device, C: Checksum>()
+    ensures { (log : Log D C) (ticket : Reservation) (m : Message) → Awaits log ticket m → (pos m.place ≡ place_of ticket) × (m.pointer ≡ pointer_of ticket) }
+{}
+
+/// What a crash leaves now of the device of a log can be recovered, without any call.
+pub fn a_crash_now_loses_nothing<D: Device, C: Checksum>()
+    ensures { (log : Log D C) (H : History) (A f : ℕ) (U : List Message) → Fits D.trace C.sum_of log H A f U
+        → LeavesRecoverable C.sum_of (segment_size_of log) H A f (state_of (D.trace (device_of log))) }
+{}
+
+/// What two calls keep one behind the other both of them keep, and where nothing is done all is kept.
+pub fn calls_keep_together<D: Device, C: Checksum>()
+    ensures none { (log : Log D C) → Preserves D.trace C.sum_of log log }
+    ensures both { (old mid new : Log D C) → Preserves D.trace C.sum_of old mid → Preserves D.trace C.sum_of mid new → Preserves D.trace C.sum_of old new }
+    ensures goes_on { (old mid new : Log D C) → Preserves D.trace C.sum_of old mid → GoesOn D.trace C.sum_of mid new → GoesOn D.trace C.sum_of old new }
+{}
+
+/// What can be recovered at each moment of one call and of the next can be at each moment of both.
+pub fn moments_follow_one_another<C: Checksum>()
+    ensures here { (size : ℕ) (H : History) (A f : ℕ) (trace : Trace) → LeavesRecoverable C.sum_of size H A f (state_of trace)
+        → LeavesOnly (RecoverableIfOwn C.sum_of size H A f) trace trace }
+    ensures both { (size : ℕ) (H : History) (A f : ℕ) (old mid new : Trace) → LeavesOnly (RecoverableIfOwn C.sum_of size H A f) old mid
+        → LeavesOnly (RecoverableIfOwn C.sum_of size H A f) mid new → LeavesOnly (RecoverableIfOwn C.sum_of size H A f) old new }
+    ensures last { (size : ℕ) (H : History) (A f : ℕ) (old new : Trace) → LeavesOnly (RecoverableIfOwn C.sum_of size H A f) old new
+        → LeavesRecoverable C.sum_of size H A f (state_of new) }
+    ensures later { (size : ℕ) (H : History) (A f : ℕ) (old new : Trace) → LeavesOnly (RecoverableIfOwn C.sum_of size H A f) old new → IsLater old new }
+{}
+
+/// A log can be started on an empty device, with nothing in its history, and a recovery can go on from what a
+/// crash leaves of it.
+pub fn an_empty_device_is_ready<C: Checksum>()
+    ensures ready { (size : ℕ) → 256 ≤ size → size < 2 ^ 63 → Ready C.sum_of size fresh empty_shot no_history 0 0 }
+    ensures leaves { (size : ℕ) → 256 ≤ size → size < 2 ^ 63 → LeavesRecoverable C.sum_of size no_history 0 0 fresh }
+    ensures recoverable { (size : ℕ) → 256 ≤ size → size < 2 ^ 63
+        → Recoverable C.sum_of size (record { log = []; blobs = λ n. None; snapshots = λ n. None }) no_history 0 0 }
+    ensures no_log { (size : ℕ) (device : State) → device.log ≡ at_rest [] → ((n : ℤ) → device.snapshots.file n ≡ None)
+        → IsReady C.sum_of size device empty_shot no_history }
+{}
+
+/// What a crash leaves can be recovered, and so can what the next crash leaves; and what is read behind a
+/// crash is the log's own.
+pub fn a_crash_leaves_what_can_be_recovered<C: Checksum>()
+    ensures now { (size : ℕ) (H : History) (A f : ℕ) (trace : Trace) → LeavesRecoverable C.sum_of size H A f (state_of trace)
+        → NoForeign C.sum_of size (state_of trace) (content_of (state_of trace)) → Recoverable C.sum_of size (content_of (state_of trace)) H A f }
+    ensures crash { (size : ℕ) (H : History) (A f : ℕ) (trace : Trace) (left : Left) → LeavesRecoverable C.sum_of size H A f (state_of trace)
+        → Leaves (state_of trace) (content_left left (state_of trace)) → NoForeign C.sum_of size (state_of trace) (content_left left (state_of trace))
+        → Recoverable C.sum_of size (content_left left (state_of trace)) H A f × LeavesRecoverable C.sum_of size H A f (state_of (Crashed left ∷ trace)) }
+    ensures own { (size : ℕ) (left : Left) (trace : Trace) → ((lsn mark : ℤ) → IsHeader C.sum_of (replicate 20 0) lsn mark → ⊥)
+        → NoForeign C.sum_of size (state_of (Crashed left ∷ trace)) (content_of (state_of (Crashed left ∷ trace))) }
+{}

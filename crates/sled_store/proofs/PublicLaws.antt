@@ -1,0 +1,36 @@
+-- What a crate above may rely on: traces that go on from one another, and what crashes leave at the moments between them.
+use Rattle.std.proofs.Common.{◌≡◌, ◌∙◌, List, [], ◌++◌, refl, ap, sym, append_assoc}
+use Rattle.sled_store.specs.Device.{Trace, State, Content, state_of}
+use Rattle.sled_store.specs.Moments.{AllLeft, IsLater, LeavesOnly}
+use Rattle.sled_store.proofs.MomentLemmas.{started, joined, at_first, at_last, weaker}
+
+-- Each trace goes on from itself.
+pub later_same : (trace : Trace) → IsLater trace trace
+later_same trace = ([], refl)
+
+-- What goes on from a later trace goes on from the one before.
+pub later_both : (old mid new : Trace) → IsLater old mid → IsLater mid new → IsLater old new
+later_both old mid new first then = (then.0 ++ first.0, then.1 ∙ ap (λ (t : Trace). then.0 ++ t) first.1 ∙ sym (append_assoc then.0 first.0 old))
+
+module _ (P : State → Content → Type 0) where
+  -- Where no call was made there is one moment.
+  pub moment_here : (trace : Trace) → AllLeft P (state_of trace) → LeavesOnly P trace trace
+  moment_here trace here = started (AllLeft P) trace here
+
+  -- The moments of one call and of the next are those of both.
+  pub moments_both : (old mid new : Trace) → LeavesOnly P old mid → LeavesOnly P mid new → LeavesOnly P old new
+  moments_both old mid new first then = joined (AllLeft P) old mid new first then
+
+  -- The first moment is before the calls, and the last one behind them.
+  pub moment_first : (old new : Trace) → LeavesOnly P old new → AllLeft P (state_of old)
+  moment_first old new run = at_first (AllLeft P) old new run
+
+  pub moment_last : (old new : Trace) → LeavesOnly P old new → AllLeft P (state_of new)
+  moment_last old new run = at_last (AllLeft P) old new run
+
+  pub moments_later : (old new : Trace) → LeavesOnly P old new → IsLater old new
+  moments_later old new run = (run.events, run.follows)
+
+-- What P implies holds at each moment too.
+pub moments_weaker : (P Q : State → Content → Type 0) → ((s : State) (left : Content) → P s left → Q s left) → (old new : Trace) → LeavesOnly P old new → LeavesOnly Q old new
+moments_weaker P Q implies old new run = weaker (AllLeft P) (AllLeft Q) (λ s all left leaves. implies s left (all left leaves)) old new run
