@@ -43,6 +43,7 @@ pub mod RunLogs
 pub mod SegmentReady
 mod SegmentRecovers
 mod SegmentUndamaged
+mod ShownLemmas
 pub mod TableCuts
 mod TableLemmas
 pub mod TableParts

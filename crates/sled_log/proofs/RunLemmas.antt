@@ -1,13 +1,17 @@
 -- What holds at the joints of a run: one trace behind another, what a crash leaves, and how a phase leads to the next one.
 use Rattle.std.proofs.Common.{◌≢◌, rules, reverse, ◌≤◌, ◌≡◌, ◌⊎◌, ◌∙◌, ◌<◌, ◌^◌, ℕ, ℤ, pos, Bool, true, false, if◌then◌else◌, IsTrue, List, [], ◌∷◌, ◌++◌, Option, None, Some, refl, sym, ap, subst, append_assoc, inl, inr}
-use Rattle.std.specs.Prelude.{FitsSigned, Err, ◌↔◌}
+use Rattle.std.specs.Prelude.{FitsSigned, Err, IsSome, MatchOption, ◌==◌}
+use Rattle.std.specs.declared.io.Error.{Error as IoError}
 use Rattle.std.specs.Int.{w64, cast_signed, cast_unsigned}
 use Rattle.std.proofs.lemmas.Int.{to_z-of_z}
 use Rattle.std.proofs.lemmas.List.{reverse-append}
 use Rattle.sled_codec.specs.declared.result.Error.{Error}
 use Rattle.sled_codec.specs.declared.result.Error.TheVariants as error
 use Rattle.sled_codec.specs.Errors.{IsCorruption, IsCorrupt}
+use Rattle.sled_codec.specs.declared.serialization.message.LogKind.TheVariants.{Replace}
+use Rattle.sled_codec.specs.declared.serialization.message.MessageKind.TheVariants.{Counter, InlineMeta, InlineNode}
 use Rattle.sled_codec.specs.History.{History, no_history}
+use Rattle.sled_codec.specs.Kinds.{kind_written}
 use Rattle.sled_codec.specs.Snapshots.{Shot, shot_of}
 use Rattle.sled_store.specs.declared.device.choice.Choice.{Choice}
 use Rattle.sled_store.specs.declared.config.RunningConfig.{RunningConfig}
@@ -20,7 +24,7 @@ use Rattle.sled_store.proofs.LogLemmas.{at_rest_left}
 use Rattle.sled_store.proofs.NamesLemmas.{settled_name_left, settled_name_at_rest}
 use Rattle.sled_store.proofs.ScriptLemmas.{performs_throughout, performs_whole}
 use Rattle.sled_store.proofs.SettledLemmas.{settled_left_too}
-use Rattle.sled_core.specs.Causes.{DeviceAnswers, StartRefuses}
+use Rattle.sled_core.specs.Causes.{Answers, DeviceAnswers, FaultAnswers, ReserveAnswers, StartRefuses}
 use Rattle.sled_core.specs.Fits.{config_of, device_of, segment_size_of}
 use Rattle.sled_core.specs.Recoverable.{NoForeign, Recoverable, LeavesRecoverable}
 use Rattle.sled_core.proofs.FreshReady.{fresh_leaves}
@@ -34,8 +38,8 @@ use Rattle.sled_log.specs.declared.run.Phase.TheVariants as phase
 use Rattle.sled_log.specs.declared.run.Reply.{Reply}
 use Rattle.sled_log.specs.declared.run.Reply.TheVariants as reply
 use Rattle.sled_log.specs.RunStates.{DeviceView, LogView, RunState, recovered, with_log, started_on}
-use Rattle.sled_log.specs.Runs.{IsOwn, IsOutOfTurn, IsRefusedWhere, IsCause, HasRecovered, StartActs, OpenActs, CrashActs, Acts, IsGoodFor, IsStep, Runs}
-use Rattle.sled_log.specs.RunPhases.{IsOpenAt, IsClosedAt, IsAt, Unstored, Shows, SaysWhy, log_shown, stands, traces, device_in, running, RunsOn, CarriesOut, CarriesOutAt}
+use Rattle.sled_log.specs.Runs.{IsOwn, IsOutOfTurn, IsRefusedWhere, IsCause, HasRecovered, StartActs, OpenActs, CrashActs, Acts, IsGoodFor, flushed, ended, FlushStep, CompleteStep, ReplaceStep, IsStep, Runs}
+use Rattle.sled_log.specs.RunPhases.{failure_told, IsOpenAt, IsClosedAt, IsAt, Unstored, Shows, SaysWhy, log_shown, stands, traces, device_in, running, RunsOn, CarriesOut, CarriesOutAt}
 use Rattle.sled_log.specs.WritesBack.{shredding, writing_back, RecoveryCalls}
 use Rattle.sled_log.proofs.RunHistories.{none_orderly}
 
@@ -150,7 +154,7 @@ pub halted : {D C : Type 0} (view : D → DeviceView) (sum : List ℕ → ℕ) (
 halted view sum opened config is = λ k at. record {
   turn = λ no. no;
   acts = ap (λ (x : RunningConfig _ _). view x.device) is;
-  step = λ own. (k, refl, subst (λ (x : RunningConfig _ _). IsClosedAt sum x.config.segment_size (traces view x.device) k) (sym is) (closed_at (traces view) sum opened k at.0));
+  step = λ own. (k, refl, subst (λ (x : RunningConfig _ _). IsClosedAt sum x.config.segment_size (traces view x.device) k) (sym is) (closed_at (traces view) sum opened k at));
 }
 
 -- the same with a reservation
@@ -176,7 +180,7 @@ module _ {D C : Type 0} (view : D → DeviceView) (sum : List ℕ → ℕ) (open
 
   pub crashed_open : CarriesOut view sum (phase.Open opened) (command.Crash choice) result
   crashed_open = λ k at.
-      let made = from_log k (closed_at (traces view) sum opened k at.0) in
+      let made = from_log k (closed_at (traces view) sum opened k at) in
       record {
         turn = made.turn;
         acts = made.acts;
@@ -235,3 +239,46 @@ open_step sum size device new H A f s (reply.Recovered t (Some e)) b shows good 
     let a : RunState = record { device = device; history = H; acknowledged = A; floor = f; log = None } in
     (subst (λ (x : Shot). IsGoodFor sum size a new x) (sym shows) good, why, subst (λ (x : Shot). b ≡ recovered a new x None) (sym shows) is)
 open_step sum size device new H A f s _ b shows good why is = absurd shows
+
+-- Commands that failed.
+
+-- A flush fails for the failure that the log keeps then, or for want of memory.
+pub flush_failed : (sum : List ℕ → ℕ) (size : ℕ) (a : RunState) (l : LogView) (T : Type 0) (e : Error) (fault : Option IoError) (new : DeviceView) (b : RunState)
+    → Answers {T = T} (Err e) l.fault fault a.device.failures new.failures → b ≡ with_log a new (Some (flushed l l.stable fault)) → FlushStep sum size a l (reply.Failed e) new b
+flush_failed sum size a l T (error.Io x) fault new b (inl kept) leads = (inl (kept.0, refl, kept.2), leads ∙ (λ i. with_log a new (Some (flushed l l.stable (kept.1 i)))))
+flush_failed sum size a l T (error.Io x) fault new b (inr failed) leads = (inr (failed.0, refl, failed.2, failed.3), leads ∙ (λ i. with_log a new (Some (flushed l l.stable (failed.1 i)))))
+flush_failed sum size a l T error.OutOfMemory fault new b answers leads = (answers.0, answers.2, leads ∙ (λ i. with_log a new (Some (flushed l l.stable ((answers.1 ∙ sym answers.0) i)))))
+flush_failed sum size a l T _ fault new b answers leads = absurd answers
+
+-- A completion fails for the failure that the log keeps.
+pub complete_failed : (a : RunState) (l : LogView) (T : Type 0) (e : Error) (new : DeviceView) (b : RunState)
+    → FaultAnswers {T = T} (Err e) l.fault → b ≡ with_log a new (Some (ended l l.begun)) → CompleteStep a l (reply.Failed e) new b
+complete_failed a l T (error.Io x) new b answers leads = (answers, leads)
+complete_failed a l T _ new b answers leads = absurd answers
+
+-- the log keeps the failure that is told of
+pub failure_kept : (T : Type 0) (e : Error) (fault : Option IoError) (P : Type 0) → FaultAnswers {T = T} (Err e) fault → MatchOption (failure_told e) P (λ x. fault ≡ Some x)
+failure_kept T (error.Io x) fault P answers = answers
+failure_kept T _ fault P answers = absurd answers
+
+-- A Replace has a kind on each page.
+replace_kind : (page : ℕ) → kind_written Replace page false ≡ None → ⊥
+replace_kind page none = by (page == 1) (page == 0) none
+  where
+    by : (one zero_page : Bool) → (if one then Some Counter else if zero_page then Some InlineMeta else Some InlineNode) ≡ None → ⊥
+    by true z is = cc
+    by false true is = cc
+    by false false is = cc
+
+-- So a reservation for one fails for the failure that the log keeps, or for want of memory.
+pub replace_failed : (a : RunState) (l : LogView) (page : ℕ) (bytes : List ℕ) (T : Type 0) (e : Error) (new : DeviceView) (b : RunState)
+    → ReserveAnswers {T = T} (Err e) l.fault (kind_written Replace page false) → b ≡ a → ReplaceStep a l page bytes (reply.Failed e) new b
+replace_failed a l page bytes T (error.Io x) new b answers leads = (answers, leads)
+replace_failed a l page bytes T error.OutOfMemory new b answers leads = (answers.0, leads)
+replace_failed a l page bytes T (error.Unsupported text) new b answers leads = absurd (replace_kind page answers.1)
+replace_failed a l page bytes T _ new b answers leads = absurd answers
+
+-- a failure that is there
+pub some_of : {X : Type 0} (o : Option X) → IsSome o → (x : X) × (o ≡ Some x)
+some_of None is = absurd (cc)
+some_of (Some x) is = (x, refl)

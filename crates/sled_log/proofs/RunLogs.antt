@@ -150,7 +150,7 @@ module _ (sum : List ℕ → ℕ) (size : ℕ) (trace : Trace) (s : Shot) (H : H
         (omega (arith, whole), omega (arith, whole, behind)))
     | inr none ↦ (
         let low : (0 + (size - 1)) / size ≡ 0 = div-eq_of_lt (omega (arith, long)) in
-        let at : (stable + (size - 1)) / size * size ≡ 0 = ap (λ n. (n + (size - 1)) / size * size) none.1 ∙ ap (λ n. n * size) low in
+        let at : (stable + (size - 1)) / size * size ≡ 0 * size = ap (λ n. (n + (size - 1)) / size * size) none.1 ∙ ap (λ n. n * size) low in
         subst (λ (o : Option ℕ). (place_at size stable o + offset_at size stable o ≡ stable) × (place_at size stable o + max 20 (offset_at size stable o) ≡ next_behind stable o)) (sym none.0)
         (omega (arith, at, none.1), omega (arith, at, none.1)))
   ]
