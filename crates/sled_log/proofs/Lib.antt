@@ -36,6 +36,7 @@ pub mod RecoveryHolds
 mod RecoveryLemmas
 pub mod RecoveryMoments
 pub mod RemovalLemmas
+mod RestartCauses
 pub mod RestartLemmas
 pub mod RunHistories
 pub mod RunLemmas

@@ -39,7 +39,7 @@ use Rattle.sled_log.specs.declared.run.Reply.{Reply}
 use Rattle.sled_log.specs.declared.run.Reply.TheVariants as reply
 use Rattle.sled_log.specs.RunStates.{DeviceView, LogView, RunState, recovered, with_log, started_on}
 use Rattle.sled_log.specs.Runs.{IsOwn, IsOutOfTurn, IsRefusedWhere, IsCause, HasRecovered, StartActs, OpenActs, CrashActs, Acts, IsGoodFor, flushed, ended, FlushStep, CompleteStep, ReplaceStep, IsStep, Runs}
-use Rattle.sled_log.specs.RunPhases.{failure_told, IsOpenAt, IsClosedAt, IsAt, Unstored, Shows, SaysWhy, log_shown, stands, traces, device_in, running, RunsOn, CarriesOut, CarriesOutAt}
+use Rattle.sled_log.specs.RunPhases.{failure_told, IsOpenAt, IsClosedAt, IsAt, Unstored, Shows, SaysWhy, log_shown, stands, size_of, traces, device_in, RunsOn, CarriesOut, CarriesOutAt}
 use Rattle.sled_log.specs.WritesBack.{shredding, writing_back, RecoveryCalls}
 use Rattle.sled_log.proofs.RunHistories.{none_orderly}
 
@@ -278,7 +278,17 @@ replace_failed a l page bytes T error.OutOfMemory new b answers leads = (answers
 replace_failed a l page bytes T (error.Unsupported text) new b answers leads = absurd (replace_kind page answers.1)
 replace_failed a l page bytes T _ new b answers leads = absurd answers
 
--- a failure that is there
-pub some_of : {X : Type 0} (o : Option X) → IsSome o → (x : X) × (o ≡ Some x)
-some_of None is = absurd (cc)
-some_of (Some x) is = (x, refl)
+-- One command that is carried out, and then what runs on from the phase that it leads to.
+pub carried_next : {D C : Type 0} (view : D → DeviceView) (sum : List ℕ → ℕ) (size : ℕ) (phase : Phase D C) (c : Command) (result : Phase D C × Reply) → size_of phase ≡ size → CarriesOut view sum phase c result
+    → (cs : List Command) (rs : List Reply) (end : DeviceView) → ((k : Unstored) → IsAt (traces view) sum result.0 k → Runs sum size (stands view result.0 k) cs rs end)
+    → (k : Unstored) → IsAt (traces view) sum phase k → Runs sum size (stands view phase k) (c ∷ cs) (result.1 ∷ rs) end
+carried_next view sum size phase c result sized carries cs rs end rest k at =
+    let made = carries k at in
+    let new : DeviceView = device_in view result.0 in
+    let a : RunState = stands view phase k in
+    runs_more sum size a c cs result.1 rs end new
+    (subst (λ n. IsRefusedWhere (IsOutOfTurn n a.log c) result.1) sized made.turn)
+    (subst (λ n. Acts sum n a c result.1 new) sized made.acts)
+    (λ own.
+        let done = made.step (subst (λ n. IsOwn sum n (state_of a.device.trace) c result.1) (sym sized) own) in
+        (stands view result.0 done.0, subst (λ n. IsStep sum n a c result.1 new (stands view result.0 done.0)) sized done.1, rest done.0 done.2))

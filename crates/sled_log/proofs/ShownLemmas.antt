@@ -4,7 +4,7 @@ use Rattle.sled_codec.specs.History.{History}
 use Rattle.sled_codec.specs.Snapshots.{Shot}
 use Rattle.sled_store.specs.Device.{Trace, state_of, content_of}
 use Rattle.sled_store.specs.SnapshotFiles.{stable_place}
-use Rattle.sled_core.specs.Recoverable.{ActiveFits, first_cut, first_site}
+use Rattle.sled_core.specs.Recoverable.{ActiveFits, IsRecoverableInFirst, first_cut, first_site}
 use Rattle.sled_core.proofs.LogFileLemmas.{stand_grows}
 use Rattle.sled_log.specs.Orderly.{CanRecover}
 use Rattle.sled_log.specs.Recovery.{Conclusion, Recovered, Recovers}
@@ -23,7 +23,7 @@ pub shows_active : (sum : List ℕ → ℕ) (size : ℕ) → 256 ≤ size → si
     → Recovers sum size (record { log = (state_of old).log.bytes; blobs = λ _. None }) (state_of old).snapshots.file (Recovered x) → ShowsActive size (stable_place x.shot.stable) x.shot.active
 shows_active sum size large small old H A f can x recovers = by (concludes_in sum size (content_of (state_of old)) H A f large small can.orderly is x recovers)
   where
-    is : _
+    is : IsRecoverableInFirst sum size (content_of (state_of old)) H A f
     is = in_first sum size large small old H A f can
 
     by : ConcludesIn sum size (content_of (state_of old)) H A is.first x → ShowsActive size (stable_place x.shot.stable) x.shot.active

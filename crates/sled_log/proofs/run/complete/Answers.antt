@@ -1,8 +1,9 @@
 -- The message comes to the history, unless the log keeps a failure.
-use Rattle.std.proofs.Common.{rules, pos, ◌≡◌, ◌<◌, ◌+◌, ◌∙◌, ◌∷◌, ◌==◌, ℕ, Bool, true, false, None, Some, if◌then◌else◌, refl, sym, ap, subst, arith, inl, inr, eq-eqb, neq-eqb}
-use Rattle.std.proofs.lemmas.Bool.{cases_lt}
+use Rattle.std.proofs.Common.{rules, pos, ◌≡◌, ◌<◌, ◌+◌, ◌∙◌, ◌∷◌, ◌==◌, ℕ, ℤ, Bool, true, false, None, Some, if◌then◌else◌, refl, sym, ap, subst, arith, inl, inr, eq-eqb}
+use Rattle.std.proofs.lemmas.Bool.{cases_lt, ne_eqb}
 use Rattle.std.proofs.lemmas.List.Elements.{All-contains}
 use Rattle.std.specs.Int.{w64, cast_signed, cast_unsigned}
+use Rattle.sled_codec.specs.declared.result.DiskPtr.{DiskPtr}
 use Rattle.sled_codec.specs.History.{Message, History}
 use Rattle.sled_core.specs.Fits.{pins_of, next_place, synced_end, fault_of}
 use Rattle.sled_core.proofs.ReachLemmas.{fits_apart, fits_reach, awaited, next_small}
@@ -79,7 +80,7 @@ returns-after-page-opened-clause-step g c = λ k at.
             | inr last ↦ subst (HasMessageOf H'.messages) (waits.page ∙ search rules) (has_new k.history H' m done.1)
           ]))
       | else-page-opened w ↦ subst Comes (sym w.opened-is) (come given.begun
-          (ap (λ (b : Bool). if b then given.begun + 1 else given.begun) (neq-eqb m.page given.begun (λ same_page. let not_that = w.if-page-opened.false in cc)))
+          (ap (λ (b : Bool). if b then given.begun + 1 else given.begun) (ne_eqb m.page given.begun (λ same_page. w.if-page-opened.false (sym waits.page ∙ same_page))))
           still)
     ]
 
@@ -102,7 +103,7 @@ returns-in-Err-clause-step g c = λ k at.
       acts = device;
       step = λ own. (
         l,
-        complete_failed (stands view (phase.Waiting given c.args.ticket) k) (seen given k.reserved) _ c.in-Err.e (view new.config.device) _ c.in-Err.ensures.answers (λ i. record {
+        complete_failed (stands view (phase.Waiting given c.args.ticket) k) (seen given k.reserved) (ℤ × DiskPtr) c.in-Err.e (view new.config.device) _ c.in-Err.ensures.answers (λ i. record {
           device = view new.config.device;
           history = k.history;
           acknowledged = k.acknowledged;

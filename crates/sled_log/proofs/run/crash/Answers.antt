@@ -31,6 +31,6 @@ returns-clause-step g c = λ k at.
 
 pub returns-clause-on : goal.returns-clause-on
 returns-clause-on g c = record {
-  runs_on = record { later = later_one (g.D.Device.trace c.args.config.device) (g.D.Device.trace c.crash-taken.new.self) _ c.crash-taken.ensures.left; config = refl; checksum = refl };
+  runs_on = record { later = later_one (g.D.Device.trace c.args.config.device) (g.D.Device.trace c.crash-taken.new.self) _ c.crash-taken.ensures.left; kept = record { config = refl; checksum = refl } };
   can_go_on = tt;
 }

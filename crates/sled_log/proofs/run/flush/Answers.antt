@@ -5,13 +5,15 @@ use Rattle.sled_store.specs.Device.{Event, Trace, state_of}
 use Rattle.sled_store.specs.Script.{Performs, after_all}
 use Rattle.sled_store.proofs.ScriptLemmas.{performs_nothing}
 use Rattle.std.specs.Prelude.{MatchOption}
-use Rattle.sled_core.specs.Fits.{AllEnded, synced_end, next_place, fault_of, segment_size_of, device_of}
+use Rattle.sled_core.specs.Recoverable.{first_site}
+use Rattle.sled_core.specs.Fits.{IsKept, AllEnded, synced_end, next_place, fault_of, segment_size_of, device_of}
 use Rattle.sled_core.proofs.ReachLemmas.{kept_past, fits_holds, fits_acknowledged}
 use Rattle.sled_log.specs.RunStates.{LogView, end_reserved}
 use Rattle.sled_log.specs.declared.run.Phase.TheVariants as phase
 use Rattle.sled_log.specs.Runs.{flush_calls}
 use Rattle.sled_log.specs.RunPhases.{Unstored, seen, stands, view_by}
-use Rattle.sled_log.proofs.RunLemmas.{flush_failed, some_of}
+use Rattle.sled_log.proofs.RunLemmas.{flush_failed}
+use Rattle.sled_log.proofs.RestartCauses.{some_of}
 use Rattle.sled_log.proofs.RunLogs.{fits_end, fits_flushing, fits_kept}
 use Rattle.sled_log.proofs.run.flush.Goals as goal
 
@@ -43,8 +45,8 @@ returns-in-Ok-clause-step g c = λ k at.
           fault = answers.0;
           growth = growth;
           more = omega (arith, past, growth);
-          all = kept_past sum (segment_size_of new) _ end _ H kept;
-          kept = kept;
+          all = λ i d lt. let low = kept_past sum (segment_size_of new) first_site end _ H kept i d lt in omega (arith, low);
+          kept = subst (λ n. IsKept sum n first_site end (state_of (trace (device_of new))) H) c.flush.ensures.position.size kept;
           leads = λ i. record {
             device = view new.config.device;
             history = H;
@@ -96,12 +98,12 @@ returns-in-Err-clause-step g c = λ k at.
       );
       step = λ own. (
         k,
-        flush_failed sum (segment_size_of old) (stands view (phase.Open c.args.opened) k) l _ c.in-Err.e (fault_of new) (view new.config.device) _ c.flush.ensures.answers (λ i. record {
+        flush_failed sum (segment_size_of old) (stands view (phase.Open c.args.opened) k) l ℕ c.in-Err.e (fault_of new) (view new.config.device) _ c.in-Err.ensures.answers (λ i. record {
           device = view new.config.device;
           history = k.history;
           acknowledged = k.acknowledged;
           floor = k.floor;
-          log = Some (record { next = position.next i; stable = c.flush.ensures.err i; begun = c.args.opened.begun; fault = fault_of new; reserved = None });
+          log = Some (record { next = position.next i; stable = c.in-Err.ensures.err i; begun = c.args.opened.begun; fault = fault_of new; reserved = None });
         }),
         record {
           formed = at.formed;
@@ -122,7 +124,7 @@ returns-in-Some-clause-step g c = λ k at.
     let old = c.args.opened.log in
     let l : LogView = seen c.args.opened None in
     let asked = fits_flushing trace sum old k.history k.acknowledged k.floor at.unmarked at.fits l refl refl in
-    let kept : fault_of old ≡ Some c.in-Some.e = subst (λ o. MatchOption o (AllEnded old) (λ e. fault_of old ≡ Some e)) c.in-Some.is c.requires in
+    let kept : fault_of old ≡ Some c.in-Some.e = subst (λ o. MatchOption o (AllEnded old) (λ e. fault_of old ≡ Some e)) c.in-Some.is c.requires.none_open in
     record {
       turn = λ out. cc;
       acts = (asked.0, asked.1, performs_nothing (flush_calls l asked.0) _ _ refl, λ some. refl);

@@ -5,6 +5,7 @@ use Rattle.std.specs.Int.{w64, cast_signed, cast_unsigned}
 use Rattle.sled_codec.specs.declared.serialization.message.LogKind.TheVariants.{Replace}
 use Rattle.sled_codec.specs.Spelling.{short_bytes}
 use Rattle.sled_codec.specs.History.{Message}
+use Rattle.sled_core.specs.declared.reservation.Reservation.{Reservation}
 use Rattle.sled_core.specs.Fits.{Awaits, message_for, next_place, synced_end, fault_of}
 use Rattle.sled_core.proofs.ReachLemmas.{fits_reach, awaited, next_small}
 use Rattle.sled_log.specs.RunStates.{LogView, replace_at, HasRoomAt}
@@ -12,7 +13,10 @@ use Rattle.sled_log.specs.declared.run.Phase.TheVariants as phase
 use Rattle.sled_log.specs.RunPhases.{Unstored, seen, stands, view_by}
 use Rattle.sled_log.proofs.RunLemmas.{place_back, replace_failed}
 use Rattle.sled_log.proofs.RunLogs.{fits_message, room_at, room_from}
+use Rattle.sled_log.specs.declared.run.Command.TheVariants as command
+use Rattle.sled_log.specs.Runs.{IsOutOfTurn}
 use Rattle.sled_log.proofs.run.replace.Goals as goal
+use Rattle.sled_log.proofs.run.replace.Goals.{then-page-opened-via-then-page-opened, then-page-opened-via-else-page-opened+then-page-eq18446744073709551615, then-page-opened-via-else-page-opened+else-page-eq18446744073709551615+then-not-has_room}
 
 pub returns-in-Ok-clause-step : goal.returns-in-Ok-clause-step
 returns-in-Ok-clause-step g c = λ k at.
@@ -105,7 +109,7 @@ returns-in-Err-clause-step g c = λ k at.
       acts = device;
       step = λ own. (
         k,
-        replace_failed (stands view (phase.Open c.args.opened) k) (seen c.args.opened None) page bytes _ c.in-Err.e (view new.config.device) _ c.in-Err.ensures.answers (λ i. record {
+        replace_failed (stands view (phase.Open c.args.opened) k) (seen c.args.opened None) page bytes Reservation c.in-Err.e (view new.config.device) _ c.in-Err.ensures.answers (λ i. record {
           device = device i;
           history = k.history;
           acknowledged = k.acknowledged;
@@ -121,3 +125,21 @@ returns-in-Err-clause-step g c = λ k at.
         },
       );
     }
+
+-- A command that is out of its turn changes nothing.
+pub returns-then-page-opened-clause-step : goal.returns-then-page-opened-clause-step
+returns-then-page-opened-clause-step g c = λ k at.
+    let trace = g.D.Device.trace in
+    let sum = g.C.Checksum.sum_of in
+    let old = c.args.opened.log in
+    let page : ℕ = c.args.page in
+    let n : ℕ = length (short_bytes c.args.item.now.items) in
+    let some : 0 < old.config.config.segment_size = let least = old.config.config.least in omega (arith, least) in
+    let out : IsOutOfTurn old.config.config.segment_size (Some (seen c.args.opened None)) (command.Replace page c.args.item.now) =
+    elim c.then-page-opened.branch [
+      | then-page-opened-via-then-page-opened w ↦ inr (inl w.if-page-opened.true)
+      | then-page-opened-via-else-page-opened+then-page-eq18446744073709551615 w ↦ inr (inr (inl w.if-page-eq18446744073709551615.true))
+      | then-page-opened-via-else-page-opened+else-page-eq18446744073709551615+then-not-has_room w ↦
+          inr (inr (inr (λ room. let has = w.has_room.ensures.1 (room_from trace sum old k.history k.acknowledged k.floor at.unmarked at.fits page n some room) in cc)))
+    ] in
+    record { turn = out; acts = refl; step = λ own. (k, (refl, refl), at) }
