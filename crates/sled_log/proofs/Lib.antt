@@ -38,12 +38,15 @@ mod RecoveryLemmas
 pub mod RecoveryLater
 pub mod RecoveryMoments
 pub mod RemovalLemmas
+mod RestartCauses
 pub mod RestartLemmas
 pub mod RunHistories
 pub mod RunLemmas
+pub mod RunLogs
 pub mod SegmentReady
 mod SegmentRecovers
 mod SegmentUndamaged
+mod ShownLemmas
 pub mod TableCuts
 mod TableLemmas
 pub mod TableParts

@@ -13,11 +13,12 @@ use Rattle.sled_core.proofs.FirstSegment.{first_part}
 use Rattle.sled_log.specs.Recovery.{Conclusion, Recovered, Damaged, Recovers}
 use Rattle.sled_log.specs.Orderly.{CanRecover}
 use Rattle.sled_log.specs.WritesBack.{IsWrittenBack, HasWrittenBack}
+use Rattle.sled_log.specs.Restores.{RecoveryCalls}
 use Rattle.sled_log.proofs.FirstConclusion.{ConcludesIn}
 use Rattle.sled_log.proofs.FirstRecovers.{log_read, concludes_in}
 use Rattle.sled_log.proofs.FirstUndamaged.{not_damaged}
 use Rattle.sled_log.proofs.GoodLemmas.{IsLeftBy, good_written}
-use Rattle.sled_log.proofs.RecoveryMoments.{RecoveryCalls, recovery_throughout}
+use Rattle.sled_log.proofs.RecoveryMoments.{recovery_throughout}
 use Rattle.sled_log.proofs.AfterRecovery.{IsCutOff, cut_off_after}
 use Rattle.sled_log.proofs.ReadyAfter.{ready_after}
 use Rattle.sled_log.proofs.RestartLemmas.{BeginsAgain}

@@ -24,7 +24,7 @@ use Rattle.sled_core.proofs.CallMoments.{Reaches, along_synced, along_names_sync
 use Rattle.sled_core.proofs.FirstSegment.{first_part}
 use Rattle.sled_core.proofs.LogFileLemmas.{stand_grows}
 use Rattle.sled_log.specs.Recovery.{Conclusion, Recovered, Recovers}
-pub use Rattle.sled_log.specs.Restores.{RecoveryCalls}
+use Rattle.sled_log.specs.Restores.{RecoveryCalls}
 use Rattle.sled_log.specs.WritesBack.{shredding, removing, publishing_file, publishing, writing_back, number_of, short_file, MayBeRemoved, WritesBehind}
 use Rattle.sled_log.proofs.FirstConclusion.{first_active, GoesOnIn, ConcludesIn}
 use Rattle.sled_log.proofs.MomentsLemmas.{at_place, resting, resting_kept, none_synced, publishing_along, shredding_along}
@@ -32,7 +32,7 @@ use Rattle.sled_log.proofs.PublishLemmas.{IsNewTable, settled_fit}
 
 -- The table that is concluded.
 
-active_fits : (size stop : ℕ) → 0 < size → 20 ≤ stop → ActiveFits size (first_cut size stop) (first_active size stop)
+pub active_fits : (size stop : ℕ) → 0 < size → 20 ≤ stop → ActiveFits size (first_cut size stop) (first_active size stop)
 active_fits size stop some long = by (nat_lt size (stop + 32)) refl
   where
     by : (b : Bool) → nat_lt size (stop + 32) ≡ b → ActiveFits size (if b then size else stop) (if b then None else Some 0)
@@ -42,7 +42,7 @@ active_fits size stop some long = by (nat_lt size (stop + 32)) refl
         let offset : stop % size ≡ stop = mod-eq_of_lt (omega (arith, room)) in
         (omega (arith, offset, long), omega (arith, offset, room))
 
-slot_first : (size stop slot : ℕ) → first_active size stop ≡ Some slot → slot ≡ 0
+pub slot_first : (size stop slot : ℕ) → first_active size stop ≡ Some slot → slot ≡ 0
 slot_first size stop slot is = by (nat_lt size (stop + 32)) is
   where
     by : (b : Bool) → (if b then None else Some 0) ≡ Some slot → slot ≡ 0

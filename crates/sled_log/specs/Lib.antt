@@ -3,6 +3,8 @@ pub mod Plain
 pub mod Recovery
 pub mod Replaces
 pub mod Restores
+pub mod Restarts
 pub mod RunPhases
+pub mod RunStates
 pub mod Runs
 pub mod WritesBack

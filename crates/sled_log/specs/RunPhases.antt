@@ -1,25 +1,31 @@
--- What stands in each phase of a run, for where the run stands.
-use Rattle.std.specs.Prelude.{◌≡◌, ◌^◌, ◌-◌, ◌<◌, ℕ, List, length, None, Some, Contains, Bool, true, false}
+-- What stands in each phase of a run.
+use Rattle.std.specs.Prelude.{◌≡◌, ◌^◌, ◌-◌, ◌<◌, ◌⊎◌, ℕ, List, length, Option, None, Some, MatchOption, Contains, Bool}
 use Rattle.std.specs.List.{All}
+use Rattle.std.specs.declared.io.Error.{Error as IoError}
+use Rattle.sled_codec.specs.declared.result.Error.{Error}
+use Rattle.sled_codec.specs.declared.result.Error.TheVariants.{Io}
 use Rattle.sled_codec.specs.declared.serialization.message.LogKind.TheVariants.{Replace}
 use Rattle.sled_codec.specs.History.{Message, History}
 use Rattle.sled_codec.specs.WellFormed.{LieApart}
 use Rattle.sled_codec.specs.Snapshots.{Shot, shot_of}
 use Rattle.sled_store.specs.Device.{Trace, state_of}
+use Rattle.sled_store.specs.Moments.{IsLater}
 use Rattle.sled_store.specs.SnapshotFiles.{stable_place}
+use Rattle.sled_store.specs.declared.config.Config.{Config}
 use Rattle.sled_store.specs.declared.config.RunningConfig.{RunningConfig}
-use Rattle.sled_core.specs.Fits.{Awaits, IsOpen, pins_of, segment_size_of}
+use Rattle.sled_core.specs.Fits.{AllEnded, Awaits, IsOnlyOpen, IsOpen, config_of, fault_of, next_place, pins_of, segment_size_of, synced_end}
+use Rattle.sled_core.specs.Keeps.{ConfigKept}
 use Rattle.sled_core.specs.Recoverable.{LeavesRecoverable}
 use Rattle.sled_core.specs.Running.{Fits, Ready}
 use Rattle.sled_log.specs.declared.run.Phase.{Phase}
 use Rattle.sled_log.specs.declared.run.Phase.TheVariants.{Closed, Open, Waiting}
 use Rattle.sled_log.specs.declared.run.Opened.{Opened}
+use Rattle.sled_log.specs.declared.run.Ticket.{Ticket}
 use Rattle.sled_log.specs.declared.run.Command.{Command}
 use Rattle.sled_log.specs.declared.run.Reply.{Reply}
 use Rattle.sled_log.specs.declared.run.Reply.TheVariants as reply
-use Rattle.sled_store.specs.declared.device.choice.Choice.{Choice}
-use Rattle.sled_log.specs.declared.run.Command.TheVariants as command
-use Rattle.sled_log.specs.Runs.{Standing, opened_as, NotOpened, IsLater, OwnThroughout, IsStep}
+use Rattle.sled_log.specs.RunStates.{DeviceView, LogView, RunState, started_on}
+use Rattle.sled_log.specs.Runs.{IsOwn, IsOutOfTurn, IsRefusedWhere, IsCause, StartActs, Acts, IsStep}
 
 -- a message of a page lies below a place
 pub record HasBelow (messages : List Message) (page place : ℕ) : Type 0 where
@@ -47,84 +53,150 @@ pub record HasMessageOf (messages : List Message) (page : ℕ) : Type 0 where
   pub there : Contains messages message
   pub of : message.page ≡ page
 
--- No log is open: a recovery can go on from what the device has.
-pub record IsClosedAt (sum : List ℕ → ℕ) (size : ℕ) (trace : Trace) (a : Standing) : Type 0 where
-  pub formed : IsOfReplaces a.history
-  pub left : LeavesRecoverable sum size a.history a.acknowledged a.floor (state_of trace)
-  pub closed : a.is_open ≡ false
-  pub none : a.reserved ≡ None
+-- What is seen of what code has.
 
--- A log is open that fits the history, with a pin out.
-pub record IsOpenAt {D C : Type 0} (trace : D → Trace) (sum : List ℕ → ℕ) (opened : Opened D C) (a : Standing) : Type 0 where
-  pub formed : IsOfReplaces a.history
-  pub unmarked : List Message
-  pub fits : Fits trace sum opened.log a.history a.acknowledged a.floor unmarked
-  pub pinned : 0 < pins_of opened.log
-  pub is_open : a.is_open ≡ true
-  pub begun : (page : ℕ) → page < opened.begun → HasMessageOf a.history.messages page
+-- what is seen of a device by what its traits show
+abbrev pub view_by : {D : Type 0} → (D → Trace) → (D → ℕ) → (D → Bool) → (D → Option ℕ) → D → DeviceView
+view_by trace faults stopped stops device = record { trace = trace device; failures = faults device; is_stopped = stopped device; stops_in = stops device }
 
--- What stands in a phase.
-abbrev pub IsAt : {D C : Type 0} → (D → Trace) → (List ℕ → ℕ) → ℕ → Phase D C → Standing → Type 0
-IsAt trace sum size (Closed config) a = IsClosedAt sum size (trace config.device) a
-IsAt trace sum size (Open opened) a = IsOpenAt trace sum opened a × (a.reserved ≡ None)
-IsAt trace sum size (Waiting opened ticket) a = IsOpenAt trace sum opened a × (m : Message) × (a.reserved ≡ Some m) × Awaits opened.log ticket.reservation m × (m.page ≡ ticket.page) × MayCome a.history m
+-- the traces of devices that are seen so
+abbrev pub traces : {D : Type 0} → (D → DeviceView) → D → Trace
+traces view device = (view device).trace
 
--- the trace of the device that a phase is over
-abbrev pub trace_of : {D C : Type 0} → (D → Trace) → Phase D C → Trace
-trace_of trace (Closed config) = trace config.device
-trace_of trace (Open opened) = trace opened.log.config.device
-trace_of trace (Waiting opened ticket) = trace opened.log.config.device
+-- what is seen of a log that is open, with the message of its reservation
+abbrev pub seen : {D C : Type 0} → Opened D C → Option Message → LogView
+seen opened reserved = record { next = next_place opened.log; stable = synced_end opened.log; begun = opened.begun; fault = fault_of opened.log; reserved = reserved }
+
+-- What a run keeps in mind that its code doesn't store.
+pub record Unstored : Type 0 where
+  pub history : History
+  pub acknowledged : ℕ
+  pub floor : ℕ
+  pub reserved : Option Message
+
+-- the log in a phase
+abbrev pub log_in : {D C : Type 0} → Phase D C → Option Message → Option LogView
+log_in (Closed config) reserved = None
+log_in (Open opened) reserved = Some (seen opened None)
+log_in (Waiting opened ticket) reserved = Some (seen opened reserved)
+
+-- what a phase runs on
+abbrev pub running : {D C : Type 0} → Phase D C → RunningConfig D C
+running (Closed config) = config
+running (Open opened) = config_of opened.log
+running (Waiting opened ticket) = config_of opened.log
+
+-- the device that is seen in a phase
+abbrev pub device_in : {D C : Type 0} → (D → DeviceView) → Phase D C → DeviceView
+device_in view phase = view (running phase).device
+
+-- where a run stands in a phase
+abbrev pub stands : {D C : Type 0} → (D → DeviceView) → Phase D C → Unstored → RunState
+stands view phase k = record { device = device_in view phase; history = k.history; acknowledged = k.acknowledged; floor = k.floor; log = log_in phase k.reserved }
 
 -- the size of its segments
 abbrev pub size_of : {D C : Type 0} → Phase D C → ℕ
-size_of (Closed config) = config.config.segment_size
-size_of (Open opened) = segment_size_of opened.log
-size_of (Waiting opened ticket) = segment_size_of opened.log
+size_of phase = (running phase).config.segment_size
 
--- whatever happened, the ticket is for an open reservation of the log
+-- What holds there.
+
+-- No log is open: a recovery can go on from what the device has.
+pub record IsClosedAt (sum : List ℕ → ℕ) (size : ℕ) (trace : Trace) (k : Unstored) : Type 0 where
+  pub formed : IsOfReplaces k.history
+  pub left : LeavesRecoverable sum size k.history k.acknowledged k.floor (state_of trace)
+
+-- A log is open that fits the history, with a pin out.
+pub record IsOpenAt {D C : Type 0} (trace : D → Trace) (sum : List ℕ → ℕ) (opened : Opened D C) (k : Unstored) : Type 0 where
+  pub formed : IsOfReplaces k.history
+  pub unmarked : List Message
+  pub fits : Fits trace sum opened.log k.history k.acknowledged k.floor unmarked
+  pub pinned : 0 < pins_of opened.log
+  pub begun : (page : ℕ) → page < opened.begun → HasMessageOf k.history.messages page
+
+-- A reservation is open for a Replace that may come.
+pub record IsWaitingFor {D C : Type 0} (opened : Opened D C) (ticket : Ticket) (k : Unstored) : Type 0 where
+  pub message : Message
+  pub reserved : k.reserved ≡ Some message
+  pub awaits : Awaits opened.log ticket.reservation message
+  pub page : message.page ≡ ticket.page
+  pub may_come : MayCome k.history message
+
+-- What holds in a phase.
+abbrev pub IsAt : {D C : Type 0} → (D → Trace) → (List ℕ → ℕ) → Phase D C → Unstored → Type 0
+IsAt trace sum (Closed config) k = IsClosedAt sum config.config.segment_size (trace config.device) k
+IsAt trace sum (Open opened) k = IsOpenAt trace sum opened k
+IsAt trace sum (Waiting opened ticket) k = IsOpenAt trace sum opened k × IsWaitingFor opened ticket k
+
+-- no reservation of the log is open, or the log keeps the failure with which the last one was given up
+abbrev pub HasNoneOpen : {D C : Type 0} → Opened D C → Type 0
+HasNoneOpen opened = MatchOption opened.lost (AllEnded opened.log) (λ e. fault_of opened.log ≡ Some e)
+
+-- the ticket is for the one reservation of the log that is open
+pub record HasOneOpen {D C : Type 0} (opened : Opened D C) (ticket : Ticket) : Type 0 where
+  pub open_yet : IsOpen opened.log ticket.reservation
+  pub only : IsOnlyOpen opened.log ticket.reservation
+  pub page : ticket.page < 2 ^ 64 - 1
+  pub none_lost : opened.lost ≡ None
+
+-- whatever happened, the phase is one in which calls can be made
 abbrev pub CanGoOn : {D C : Type 0} → Phase D C → Type 0
 CanGoOn (Closed config) = Unit {0}
-CanGoOn (Open opened) = Unit {0}
-CanGoOn (Waiting opened ticket) = IsOpen opened.log ticket.reservation × (ticket.page < 2 ^ 64 - 1)
+CanGoOn (Open opened) = HasNoneOpen opened
+CanGoOn (Waiting opened ticket) = HasOneOpen opened ticket
 
--- A command with this reply leads from a phase to the next one.
-abbrev pub CarriesOut : {D C : Type 0} → (D → Trace) → (List ℕ → ℕ) → Phase D C → Command → Phase D C × Reply → Type 0
-CarriesOut trace sum phase command result =
-    let size = size_of phase in
-    (a : Standing) → IsAt trace sum size phase a → OwnThroughout sum size (trace_of trace phase) (trace_of trace result.0)
-    → (b : Standing) × IsStep sum size (trace_of trace phase) (trace_of trace result.0) command result.1 a b × IsAt trace sum size result.0 b
+-- the failure of the device that an error tells of
+abbrev pub failure_told : Error → Option IoError
+failure_told (Io e) = Some e
+failure_told _ = None
 
--- A crash of the device of these leads to a phase in which no reservation is open.
-abbrev pub CrashesInto : {D C : Type 0} → (D → Trace) → (List ℕ → ℕ) → RunningConfig D C → Choice → Phase D C × Reply → Type 0
-CrashesInto trace sum config choice result =
-    let size = config.config.segment_size in
-    (a : Standing) → IsClosedAt sum size (trace config.device) (opened_as a false) → OwnThroughout sum size (trace config.device) (trace_of trace result.0)
-    → IsStep sum size (trace config.device) (trace_of trace result.0) (command.Crash choice) result.1 a (opened_as a false) × IsAt trace sum size result.0 (opened_as a false)
+-- A command is answered in its turn, and what it does leads from a phase to the next one: what holds there holds again, unless what is foreign was read or left.
+pub record CarriesOutAt {D C : Type 0} (view : D → DeviceView) (sum : List ℕ → ℕ) (phase : Phase D C) (command : Command) (result : Phase D C × Reply) (k : Unstored) : Type 0 where
+  pub turn : IsRefusedWhere (IsOutOfTurn (size_of phase) (log_in phase k.reserved) command) result.1
+  pub acts : Acts sum (size_of phase) (stands view phase k) command result.1 (device_in view result.0)
+  pub step : IsOwn sum (size_of phase) (state_of (device_in view phase).trace) command result.1
+      → (l : Unstored) × IsStep sum (size_of phase) (stands view phase k) command result.1 (device_in view result.0) (stands view result.0 l) × IsAt (traces view) sum result.0 l
+
+abbrev pub CarriesOut : {D C : Type 0} → (D → DeviceView) → (List ℕ → ℕ) → Phase D C → Command → Phase D C × Reply → Type 0
+CarriesOut view sum phase command result = (k : Unstored) → IsAt (traces view) sum phase k → CarriesOutAt view sum phase command result k
+
+-- the trace goes on, with the same sizes and the same checksum
+pub record RunsOn {D C : Type 0} (trace : D → Trace) (old new : RunningConfig D C) : Type 0 where
+  pub later : IsLater (trace old.device) (trace new.device)
+  pub kept : ConfigKept old new
 
 -- whatever happened, the next phase goes on from the one before
 pub record Continues {D C : Type 0} (trace : D → Trace) (phase next : Phase D C) : Type 0 where
-  pub later : IsLater (trace_of trace phase) (trace_of trace next)
-  pub size : size_of next ≡ size_of phase
+  pub runs_on : RunsOn trace (running phase) (running next)
   pub can_go_on : CanGoOn next
 
--- A recovery has left this: a table that is good, whose cut is the floor now, and where it lies in the segment, a log can be started on it.
-pub record IsRecoveredAt {D C : Type 0} (trace : D → Trace) (sum : List ℕ → ℕ) (config : RunningConfig D C) (s : Shot) (a : Standing) : Type 0 where
-  pub closed : IsClosedAt sum config.config.segment_size (trace config.device) a
-  pub ready : stable_place s.stable < config.config.segment_size → Ready sum config.config.segment_size (state_of (trace config.device)) s a.history a.acknowledged a.floor
-  pub begun : (page : ℕ) → page < length s.pages → HasMessageOf a.history.messages page
+-- A recovery has left this: a table of which each page has a message, and where its place lies in the segment, a log can be started on it.
+pub record IsRecoveredAt {D C : Type 0} (trace : D → Trace) (sum : List ℕ → ℕ) (config : RunningConfig D C) (s : Shot) (k : Unstored) : Type 0 where
+  pub closed : IsClosedAt sum config.config.segment_size (trace config.device) k
+  pub ready : stable_place s.stable < config.config.segment_size → Ready sum config.config.segment_size (state_of (trace config.device)) s k.history k.acknowledged k.floor
+  pub begun : (page : ℕ) → page < length s.pages → HasMessageOf k.history.messages page
 
 -- a reply that shows this recovered table
-abbrev pub IsRecovery : Shot → Reply → Type 0
-IsRecovery s (reply.Opened t) = shot_of t ≡ s
-IsRecovery s (reply.Recovered t e) = shot_of t ≡ s
-IsRecovery s _ = ⊥
+abbrev pub Shows : Shot → Reply → Type 0
+Shows s (reply.Opened t) = shot_of t ≡ s
+Shows s (reply.Recovered t e) = shot_of t ≡ s
+Shows s _ = ⊥
 
--- it says whether a log is open
-abbrev pub shows_open : Reply → Bool
-shows_open (reply.Opened t) = true
-shows_open _ = false
+-- the log that a reply shows, and why none is open
+abbrev pub log_shown : Shot → Reply → Option LogView
+log_shown s (reply.Opened t) = Some (started_on s)
+log_shown s _ = None
 
--- where it says that no log is open, it says why
-abbrev pub SaysWhy : ℕ → Shot → Reply → Type 0
-SaysWhy size s (reply.Recovered t e) = NotOpened size s e
-SaysWhy size s _ = Unit {0}
+abbrev pub SaysWhy : Reply → ℕ → ℕ → Type 0
+SaysWhy (reply.Recovered t (Some e)) before after = IsCause e before after
+SaysWhy _ before after = Unit {0}
+
+-- What a start makes of a table that was recovered.
+pub record HasStarted {D C : Type 0} (view : D → DeviceView) (sum : List ℕ → ℕ) (config : RunningConfig D C) (s : Shot) (result : Phase D C × Reply) (k : Unstored) : Type 0 where
+  pub log : log_in result.0 None ≡ log_shown s result.1
+  pub at : IsAt (traces view) sum result.0 k
+  pub why : SaysWhy result.1 (view config.device).failures (device_in view result.0).failures
+  -- what was written is nothing that an entry reads
+  pub reads : (stable_place s.stable ≡ 0) ⊎ ((device_in view result.0).trace ≡ (view config.device).trace)
+
+abbrev pub Starts : {D C : Type 0} → (D → DeviceView) → (List ℕ → ℕ) → RunningConfig D C → Shot → Phase D C × Reply → Type 0
+Starts view sum config s result = (k : Unstored) → IsRecoveredAt (traces view) sum config s k → HasStarted view sum config s result k

@@ -1,156 +1,249 @@
--- What runs of commands over a log of one segment come to.
-use Rattle.std.specs.Prelude.{◌≡◌, ◌+◌, ◌≤◌, ◌∷◌, ◌++◌, ℕ, ℤ, pos, if◌then◌else◌, IsTrue, List, [], Option, None, Some, Bool, true, false}
+-- What runs of commands over a log of one segment come to: what each command does to the device, what it is answered, and where the run stands then.
+use Rattle.std.specs.Prelude.{◌≡◌, ◌≢◌, ◌⊎◌, ◌↔◌, ◌+◌, ◌-◌, ◌%◌, ◌^◌, ◌==◌, ◌<◌, ◌≤◌, ◌∷◌, ◌++◌, ℕ, ℤ, pos, if◌then◌else◌, IsTrue, IsSome, List, [], length, Option, None, Some, false}
 use Rattle.std.specs.List.{All}
+use Rattle.std.specs.declared.io.Error.{Error as IoError}
 use Rattle.sled_codec.specs.declared.result.DiskPtr.{DiskPtr}
+use Rattle.sled_codec.specs.declared.result.DiskPtr.TheVariants.{Inline}
 use Rattle.sled_codec.specs.declared.result.Error.{Error}
 use Rattle.sled_codec.specs.declared.result.Error.TheVariants.{Io, OutOfMemory}
-use Rattle.sled_codec.specs.declared.serialization.message.LogKind.TheVariants as does
 use Rattle.sled_codec.specs.Spelling.{short_bytes}
 use Rattle.sled_codec.specs.Snapshots.{Shot, shot_of}
-use Rattle.sled_codec.specs.History.{Message, History, no_history, Step, Completed, below}
+use Rattle.sled_codec.specs.History.{Message, History, Step, Completed}
 use Rattle.sled_store.specs.declared.device.choice.Choice.{Choice}
-use Rattle.sled_store.specs.Device.{Event, Trace, State, Crashed as TheCrash, Settled, state_of, content_of, content_left}
+use Rattle.sled_store.specs.Device.{Event, Left, Trace, State, Wrote, Synced, NamesSynced, Crashed, Settled, state_of, content_of, content_left}
+use Rattle.sled_store.specs.Answers.{is_fault}
 use Rattle.sled_store.specs.Chosen.{MayBeChosen}
 use Rattle.sled_store.specs.Noted.{left_of}
+use Rattle.sled_store.specs.Script.{Performs, after_all}
 use Rattle.sled_store.specs.SnapshotFiles.{stable_place}
+use Rattle.sled_core.specs.Begin.{slots_of, unused, filling}
+use Rattle.sled_core.specs.Causes.{IsFault}
+use Rattle.sled_core.specs.Fits.{IsKept}
 use Rattle.sled_core.specs.Good.{IsGood}
-use Rattle.sled_core.specs.Recoverable.{NoForeign}
+use Rattle.sled_core.specs.Recoverable.{NoForeign, first_site}
 use Rattle.sled_log.specs.declared.run.Command.{Command}
 use Rattle.sled_log.specs.declared.run.Command.TheVariants as command
 use Rattle.sled_log.specs.declared.run.Reply.{Reply}
 use Rattle.sled_log.specs.declared.run.Reply.TheVariants as reply
+use Rattle.sled_log.specs.Recovery.{Conclusion, Recovered, Recovers}
+use Rattle.sled_log.specs.RunStates.{DeviceView, LogView, RunState, with_log, recovered, started_on, is_pending, end_reserved, replace_at, HasRoomAt, ShowsActive}
+use Rattle.sled_log.specs.WritesBack.{HasWrittenBack}
+use Rattle.sled_log.specs.Restores.{RecoveryCalls}
 
 -- The premise.
 
--- only what the log itself wrote passes as its own in what a crash left
-abbrev pub OwnLeft : (List ℕ → ℕ) → ℕ → Event → State → Type 0
-OwnLeft sum size (TheCrash left) s = NoForeign sum size s (content_left left s)
-OwnLeft sum size _ s = Unit {0}
+-- what a crash leaves that takes a choice or doesn't
+abbrev pub left_after : Choice → Reply → Left
+left_after choice (reply.Crashed taken) = if taken then left_of choice else Settled []
+left_after choice _ = Settled []
 
-abbrev pub OwnEach : (List ℕ → ℕ) → ℕ → List Event → Trace → Type 0
-OwnEach sum size [] old = NoForeign sum size (state_of old) (content_of (state_of old))
-OwnEach sum size (e ∷ es) old = NoForeign sum size (state_of (e ∷ (es ++ old))) (content_of (state_of (e ∷ (es ++ old)))) × OwnLeft sum size e (state_of (es ++ old)) × OwnEach sum size es old
+-- Only what the log itself wrote passes as its own, in what a recovery reads and in what a crash leaves.
+abbrev pub IsOwn : (List ℕ → ℕ) → ℕ → State → Command → Reply → Type 0
+IsOwn sum size s command.Open r = NoForeign sum size s (content_of s)
+IsOwn sum size s (command.Crash choice) r = NoForeign sum size s (content_left (left_after choice r) s)
+IsOwn sum size s _ r = Unit {0}
 
--- From one trace to another only what the log itself wrote passes as its own, in what is read and in what each crash left.
-unfoldable pub OwnThroughout : (List ℕ → ℕ) → ℕ → Trace → Trace → Type 0
-OwnThroughout sum size old new = (es : List Event) → new ≡ es ++ old → OwnEach sum size es old
+-- Turns.
+
+-- A command is out of its turn, at a log that is open or none.
+abbrev pub IsOutOfTurn : ℕ → Option LogView → Command → Type 0
+IsOutOfTurn size log (command.Crash choice) = ⊥
+IsOutOfTurn size None command.Open = ⊥
+IsOutOfTurn size None (command.Stop n) = ⊥
+IsOutOfTurn size None _ = Unit {0}
+IsOutOfTurn size (Some l) command.Open = Unit {0}
+IsOutOfTurn size (Some l) (command.Stop n) = Unit {0}
+IsOutOfTurn size (Some l) command.Halt = ⊥
+IsOutOfTurn size (Some l) command.Complete = l.reserved ≡ None
+IsOutOfTurn size (Some l) command.Flush = IsSome l.reserved
+IsOutOfTurn size (Some l) (command.Replace page item) =
+    IsSome l.reserved ⊎ (l.begun < page) ⊎ (page ≡ 2 ^ 64 - 1) ⊎ (HasRoomAt size l.next page (length (short_bytes item.items)) → ⊥)
+
+-- a command is refused exactly where it is out of its turn
+abbrev pub IsRefusedWhere : Type 0 → Reply → Type 0
+IsRefusedWhere out reply.Refused = out
+IsRefusedWhere out _ = out → ⊥
+
+-- What a command does to the device, whatever that has.
+
+-- A recovery was made that shows this: the device was settled, and what the newest snapshot and the log file come to was written back.
+pub record HasRecovered (sum : List ℕ → ℕ) (size : ℕ) (old new : DeviceView) (s : Shot) : Type 0 where
+  pub conclusion : Conclusion
+  pub recovers : Recovers sum size (record { log = (state_of old.trace).log.bytes; blobs = λ _. None }) (state_of old.trace).snapshots.file (Recovered conclusion)
+  pub shown : s ≡ conclusion.shot
+  pub written : HasWrittenBack sum conclusion (NamesSynced ∷ Synced ∷ old.trace) new.trace
+  pub failures : new.failures ≡ old.failures
+
+-- the calls that the start of a log makes: the slots of the file that the snapshot doesn't use are filled with zeros
+abbrev pub starting : ℕ → Trace → Shot → List Event
+starting size trace s = filling size (unused size (slots_of size (length (state_of trace).log.bytes)) s)
+
+-- A log was started on what was recovered, or the calls for it were made up to one that failed, or none where the segment is full.
+abbrev pub StartActs : ℕ → DeviceView → Reply → DeviceView → Type 0
+StartActs size old (reply.Opened s) new = (new.trace ≡ after_all (starting size old.trace (shot_of s)) old.trace) × (new.failures ≡ old.failures)
+StartActs size old (reply.Recovered s None) new = (size ≤ stable_place s.stable_lsn) × (new ≡ old)
+StartActs size old (reply.Recovered s (Some e)) new = (stable_place s.stable_lsn < size) × Performs (starting size old.trace (shot_of s)) old.trace new.trace
+StartActs size old _ new = ⊥
+
+-- A recovery was made and a log started on what it shows, or its calls were made up to one that failed.
+abbrev pub OpenActs : (List ℕ → ℕ) → ℕ → DeviceView → Reply → DeviceView → Type 0
+OpenActs sum size old (reply.Opened s) new = (mid : DeviceView) × HasRecovered sum size old mid (shot_of s) × StartActs size mid (reply.Opened s) new
+OpenActs sum size old (reply.Recovered s e) new = (mid : DeviceView) × HasRecovered sum size old mid (shot_of s) × StartActs size mid (reply.Recovered s e) new
+OpenActs sum size old (reply.Failed e) new = RecoveryCalls sum size old.trace new.trace
+OpenActs sum size old reply.Refused new = new ≡ old
+OpenActs sum size old _ new = ⊥
+
+-- the calls that write what was reserved and sync it: one write of these bytes and one sync, or none where nothing is pending
+abbrev pub flush_calls : LogView → List ℕ → List Event
+flush_calls l bytes = if is_pending l then Wrote l.stable bytes bytes ∷ Synced ∷ [] else []
+
+-- Those calls were made, all of them or up to one that failed, and none by a log that keeps a failure.
+abbrev pub FlushActs : Option LogView → DeviceView → Reply → DeviceView → Type 0
+FlushActs (Some l) old (reply.Flushed n) new =
+    (bytes : List ℕ) × (length bytes ≡ l.next - l.stable) × (new.trace ≡ after_all (flush_calls l bytes) old.trace) × (new.failures ≡ old.failures)
+FlushActs (Some l) old (reply.Failed e) new =
+    (bytes : List ℕ) × (length bytes ≡ l.next - l.stable) × Performs (flush_calls l bytes) old.trace new.trace × (IsSome l.fault → new ≡ old)
+FlushActs log old _ new = new ≡ old
+
+-- The device crashed: what was chosen was taken exactly where a crash may leave that, and else what was synced. It is no longer stopped, nor to be.
+abbrev pub CrashActs : Choice → DeviceView → Reply → DeviceView → Type 0
+CrashActs choice old (reply.Crashed taken) new =
+    (IsTrue taken ↔ MayBeChosen choice (state_of old.trace))
+    × (new ≡ record { trace = Crashed (left_after choice (reply.Crashed taken)) ∷ old.trace; failures = old.failures; is_stopped = false; stops_in = None })
+CrashActs choice old _ new = ⊥
+
+-- It is to be stopped within a call.
+abbrev pub StopActs : ℕ → DeviceView → Reply → DeviceView → Type 0
+StopActs n old reply.Armed new = new ≡ record { trace = old.trace; failures = old.failures; is_stopped = old.is_stopped; stops_in = Some n }
+StopActs n old _ new = new ≡ old
+
+-- All other commands leave it as it was.
+abbrev pub Acts : (List ℕ → ℕ) → ℕ → RunState → Command → Reply → DeviceView → Type 0
+Acts sum size a command.Open r new = OpenActs sum size a.device r new
+Acts sum size a command.Flush r new = FlushActs a.log a.device r new
+Acts sum size a (command.Crash choice) r new = CrashActs choice a.device r new
+Acts sum size a (command.Stop n) r new = StopActs n a.device r new
+Acts sum size a _ r new = new ≡ a.device
+
+-- What it is answered, and where the run stands then.
+
+-- a failure of the device is counted, and nothing else is
+abbrev pub IsCause : Error → ℕ → ℕ → Type 0
+IsCause (Io e) before after = IsTrue (is_fault e) × (after ≡ (before + 1) % 2 ^ 64)
+IsCause OutOfMemory before after = after ≡ before
+IsCause _ before after = ⊥
+
+-- The snapshot is good for the run on what is left, and shows the segment in which a log goes on.
+pub record IsGoodFor (sum : List ℕ → ℕ) (size : ℕ) (a : RunState) (new : DeviceView) (s : Shot) : Type 0 where
+  pub good : IsGood sum size (content_of (state_of new.trace)) a.history a.acknowledged a.floor s
+  pub active : ShowsActive size (stable_place s.stable) s.active
+
+abbrev pub OpenStep : (List ℕ → ℕ) → ℕ → RunState → Reply → DeviceView → RunState → Type 0
+OpenStep sum size a (reply.Opened s) new b = IsGoodFor sum size a new (shot_of s) × (b ≡ recovered a new (shot_of s) (Some (started_on (shot_of s))))
+OpenStep sum size a (reply.Recovered s None) new b = IsGoodFor sum size a new (shot_of s) × (b ≡ recovered a new (shot_of s) None)
+OpenStep sum size a (reply.Recovered s (Some e)) new b =
+    IsGoodFor sum size a new (shot_of s) × IsCause e a.device.failures new.failures × (b ≡ recovered a new (shot_of s) None)
+OpenStep sum size a (reply.Failed e) new b = IsCause e a.device.failures new.failures × (b ≡ with_log a new None)
+OpenStep sum size a _ new b = ⊥
+
+-- the place and the pointer that are answered are those of a message
+abbrev pub IsAnswerFor : Message → ℤ → DiskPtr → Type 0
+IsAnswerFor m place pointer = (place ≡ pos m.place) × (pointer ≡ m.pointer)
+
+-- the log with a reservation for a message at its next place
+abbrev pub reserving : LogView → Message → LogView
+reserving l m = record { next = l.next + m.size; stable = l.stable; begun = l.begun; fault = l.fault; reserved = Some m }
+
+abbrev pub ReplaceStep : RunState → LogView → ℕ → List ℕ → Reply → DeviceView → RunState → Type 0
+ReplaceStep a l page bytes (reply.Reserved place pointer) new b =
+    let m = replace_at l.next page bytes in
+    (l.fault ≡ None) × IsAnswerFor m place pointer × (b ≡ with_log a new (Some (reserving l m)))
+ReplaceStep a l page bytes (reply.Failed (Io e)) new b = (l.fault ≡ Some e) × (b ≡ a)
+ReplaceStep a l page bytes (reply.Failed OutOfMemory) new b = (l.fault ≡ None) × (b ≡ a)
+ReplaceStep a l page bytes _ new b = ⊥
+
+-- the log with no reservation open, and this many pages begun
+abbrev pub ended : LogView → ℕ → LogView
+ended l begun = record { next = l.next; stable = l.stable; begun = begun; fault = l.fault; reserved = None }
+
+-- The message of the open reservation comes to the history. Where it is the first of its page, that is begun.
+pub record HasCompleted (a : RunState) (l : LogView) (place : ℤ) (pointer : DiskPtr) (new : DeviceView) (b : RunState) : Type 0 where
+  pub message : Message
+  pub reserved : l.reserved ≡ Some message
+  pub fault : l.fault ≡ None
+  pub answer : IsAnswerFor message place pointer
+  pub history : History
+  pub step : Step a.history (Completed message) history
+  pub leads : b ≡ record {
+    device = new;
+    history = history;
+    acknowledged = a.acknowledged;
+    floor = a.floor;
+    log = Some (ended l (if message.page == l.begun then l.begun + 1 else l.begun));
+  }
+
+abbrev pub CompleteStep : RunState → LogView → Reply → DeviceView → RunState → Type 0
+CompleteStep a l (reply.Done place pointer) new b = HasCompleted a l place pointer new b
+CompleteStep a l (reply.Failed (Io e)) new b = (l.fault ≡ Some e) × (b ≡ with_log a new (Some (ended l l.begun)))
+CompleteStep a l _ new b = ⊥
+
+-- the log behind a flush, with its stable end there and this failure kept
+abbrev pub flushed : LogView → ℕ → Option IoError → LogView
+flushed l stable fault = record { next = l.next; stable = stable; begun = l.begun; fault = fault; reserved = l.reserved }
+
+-- All that was reserved is written and synced. Each completed message is acknowledged, and what is answered is by how much the stable end grew.
+pub record HasFlushed (sum : List ℕ → ℕ) (size : ℕ) (a : RunState) (l : LogView) (n : ℕ) (new : DeviceView) (b : RunState) : Type 0 where
+  pub fault : l.fault ≡ None
+  pub growth : l.stable + n ≡ end_reserved l
+  pub more : a.acknowledged ≤ end_reserved l
+  pub all : All (λ m. m.place + m.size ≤ end_reserved l) a.history.messages
+  pub kept : IsKept sum size first_site (end_reserved l) (state_of new.trace) a.history
+  pub leads : b ≡ record { device = new; history = a.history; acknowledged = end_reserved l; floor = a.floor; log = Some (flushed l (end_reserved l) None) }
+
+abbrev pub FlushStep : (List ℕ → ℕ) → ℕ → RunState → LogView → Reply → DeviceView → RunState → Type 0
+FlushStep sum size a l (reply.Flushed n) new b = HasFlushed sum size a l n new b
+FlushStep sum size a l (reply.Failed (Io e)) new b =
+    IsFault e l.fault (Some e) a.device.failures new.failures × (b ≡ with_log a new (Some (flushed l l.stable (Some e))))
+FlushStep sum size a l (reply.Failed OutOfMemory) new b = (l.fault ≡ None) × (new.failures ≡ a.device.failures) × (b ≡ with_log a new (Some l))
+FlushStep sum size a l _ new b = ⊥
+
+abbrev pub HaltStep : RunState → Reply → DeviceView → RunState → Type 0
+HaltStep a reply.Halted new b = b ≡ with_log a new None
+HaltStep a _ new b = ⊥
+
+abbrev pub StopStep : RunState → Reply → DeviceView → RunState → Type 0
+StopStep a reply.Armed new b = b ≡ with_log a new a.log
+StopStep a _ new b = ⊥
+
+abbrev pub CrashStep : RunState → Reply → DeviceView → RunState → Type 0
+CrashStep a (reply.Crashed taken) new b = b ≡ with_log a new None
+CrashStep a _ new b = ⊥
+
+-- of a command in its turn
+abbrev pub TurnStep : (List ℕ → ℕ) → ℕ → RunState → Option LogView → Command → Reply → DeviceView → RunState → Type 0
+TurnStep sum size a log (command.Crash choice) r new b = CrashStep a r new b
+TurnStep sum size a None command.Open r new b = OpenStep sum size a r new b
+TurnStep sum size a None (command.Stop n) r new b = StopStep a r new b
+TurnStep sum size a (Some l) (command.Replace page item) r new b = ReplaceStep a l page (short_bytes item.items) r new b
+TurnStep sum size a (Some l) command.Complete r new b = CompleteStep a l r new b
+TurnStep sum size a (Some l) command.Flush r new b = FlushStep sum size a l r new b
+TurnStep sum size a (Some l) command.Halt r new b = HaltStep a r new b
+TurnStep sum size a log _ r new b = ⊥
+
+-- What a command comes to: one that is refused changes nothing.
+abbrev pub IsStep : (List ℕ → ℕ) → ℕ → RunState → Command → Reply → DeviceView → RunState → Type 0
+IsStep sum size a c reply.Refused new b = (new ≡ a.device) × (b ≡ a)
+IsStep sum size a c r new b = TurnStep sum size a a.log c r new b
 
 -- Runs.
 
--- Where a run stands: the completed messages, the end of what was acknowledged, the cut of the last recovery, whether a log is open, and the message of the reservation that is open.
-pub record Standing : Type 0 where
-  pub history : History
-  pub acknowledged : ℕ
-  pub floor : ℕ
-  pub is_open : Bool
-  pub reserved : Option Message
-
-abbrev pub nothing_yet : Standing
-nothing_yet = record { history = no_history; acknowledged = 0; floor = 0; is_open = false; reserved = None }
-
--- the same, with no reservation open
-abbrev pub ended : Standing → Standing
-ended a = record { history = a.history; acknowledged = a.acknowledged; floor = a.floor; is_open = a.is_open; reserved = None }
-
--- and with a log open or none
-abbrev pub opened_as : Standing → Bool → Standing
-opened_as a b = record { history = a.history; acknowledged = a.acknowledged; floor = a.floor; is_open = b; reserved = None }
-
-abbrev pub waiting : Standing → Message → Standing
-waiting a m = record { history = a.history; acknowledged = a.acknowledged; floor = a.floor; is_open = a.is_open; reserved = Some m }
-
--- one trace goes on from another
-abbrev pub IsLater : Trace → Trace → Type 0
-IsLater old new = (es : List Event) × (new ≡ es ++ old)
-
--- A recovery gave a table: it is that of the completed messages below one cut, which splits no batch, passes all that was acknowledged and isn't below an earlier cut, and every pointer reads its own bytes on what the recovery left. What lies past the cut is forgotten.
-pub record HasRecovered (sum : List ℕ → ℕ) (size : ℕ) (old new : Trace) (a b : Standing) (s : Shot) (opens : Bool) : Type 0 where
-  pub at : Trace
-  pub from : IsLater old at
-  pub to : IsLater at new
-  pub good : IsGood sum size (content_of (state_of at)) a.history a.acknowledged a.floor s
-  pub history : b.history ≡ below a.history (stable_place s.stable)
-  pub acknowledged : b.acknowledged ≡ a.acknowledged
-  pub floor : b.floor ≡ stable_place s.stable
-  pub opened : b.is_open ≡ opens
-  pub reserved : b.reserved ≡ None
-
--- the message of a Replace of a page with these bytes, at this place with this pointer
-pub record IsReplaceOf (page : ℕ) (item : List ℕ) (place : ℤ) (pointer : DiskPtr) (m : Message) : Type 0 where
-  pub kind : m.kind ≡ does.Replace
-  pub of : m.page ≡ page
-  pub bytes : m.bytes ≡ short_bytes item
-  pub lies : pos m.place ≡ place
-  pub points : m.pointer ≡ pointer
-
--- the message of the open reservation was completed
-pub record HasCompleted (a b : Standing) (place : ℤ) (pointer : DiskPtr) : Type 0 where
-  pub message : Message
-  pub reserved : a.reserved ≡ Some message
-  pub lies : pos message.place ≡ place
-  pub points : message.pointer ≡ pointer
-  pub step : Step a.history (Completed message) b.history
-  pub acknowledged : b.acknowledged ≡ a.acknowledged
-  pub floor : b.floor ≡ a.floor
-  pub opened : b.is_open ≡ a.is_open
-  pub ended : b.reserved ≡ None
-
--- all completed messages were acknowledged
-pub record HasFlushed (a b : Standing) : Type 0 where
-  pub history : b.history ≡ a.history
-  pub all : All (λ m. m.place + m.size ≤ b.acknowledged) a.history.messages
-  pub more : a.acknowledged ≤ b.acknowledged
-  pub floor : b.floor ≡ a.floor
-  pub opened : b.is_open ≡ a.is_open
-  pub reserved : b.reserved ≡ a.reserved
-
--- the device failed, or memory was refused
-abbrev pub IsOfDevice : Error → Type 0
-IsOfDevice (Io e) = Unit {0}
-IsOfDevice OutOfMemory = Unit {0}
-IsOfDevice _ = ⊥
-
--- Why no log is open behind a recovery: the segment is full, or a start failed for this error of the device, or for want of memory.
-abbrev pub NotOpened : ℕ → Shot → Option Error → Type 0
-NotOpened size s None = size ≤ stable_place s.stable
-NotOpened size s (Some e) = IsOfDevice e
-
--- A command failed. A recovery fails only where the device does, or where memory is refused.
-abbrev pub FailsWith : Command → Error → Trace → Trace → Standing → Standing → Type 0
-FailsWith command.Open e old new a b = IsLater old new × IsOfDevice e × (b ≡ a)
-FailsWith command.Flush e old new a b = IsLater old new × (b ≡ a)
-FailsWith (command.Replace page item) e old new a b = (new ≡ old) × (b ≡ a)
-FailsWith command.Complete e old new a b = (new ≡ old) × (b ≡ ended a)
-FailsWith _ e old new a b = ⊥
-
--- A command is out of its turn. (Of a Replace and a flush this says nothing more.)
-abbrev pub IsRefused : Command → Standing → Type 0
-IsRefused command.Open a = a.is_open ≡ true
-IsRefused (command.Stop n) a = a.is_open ≡ true
-IsRefused command.Halt a = a.is_open ≡ false
-IsRefused command.Complete a = a.reserved ≡ None
-IsRefused (command.Crash choice) a = ⊥
-IsRefused (command.Replace page item) a = Unit {0}
-IsRefused command.Flush a = Unit {0}
-
--- What a command with this reply makes of where a run stands.
-abbrev pub IsStep : (List ℕ → ℕ) → ℕ → Trace → Trace → Command → Reply → Standing → Standing → Type 0
-IsStep sum size old new c (reply.Opened s) a b = (c ≡ command.Open) × HasRecovered sum size old new a b (shot_of s) true
-IsStep sum size old new c (reply.Recovered s e) a b = (c ≡ command.Open) × HasRecovered sum size old new a b (shot_of s) false × NotOpened size (shot_of s) e
-IsStep sum size old new c (reply.Reserved place pointer) a b =
-    (new ≡ old) × (page : ℕ) × (item : _) × (c ≡ command.Replace page item) × (m : Message) × IsReplaceOf page item.items place pointer m × (b ≡ waiting a m)
-IsStep sum size old new c (reply.Done place pointer) a b = (new ≡ old) × (c ≡ command.Complete) × HasCompleted a b place pointer
-IsStep sum size old new c (reply.Flushed n) a b = IsLater old new × (c ≡ command.Flush) × HasFlushed a b
-IsStep sum size old new c reply.Halted a b = (new ≡ old) × (c ≡ command.Halt) × (b ≡ opened_as a false)
-IsStep sum size old new c reply.Armed a b = (new ≡ old) × (n : ℕ) × (c ≡ command.Stop n) × (b ≡ a)
-IsStep sum size old new c (reply.Crashed taken) a b =
-    (choice : Choice) × (c ≡ command.Crash choice) × (new ≡ TheCrash (if taken then left_of choice else Settled []) ∷ old) × (IsTrue taken → MayBeChosen choice (state_of old)) × (b ≡ opened_as a false)
-IsStep sum size old new c (reply.Failed e) a b = FailsWith c e old new a b
-IsStep sum size old new c reply.Refused a b = (new ≡ old) × (b ≡ a) × IsRefused c a
-
--- These commands with these replies lead from a trace and a standing to others.
-unfoldable pub Runs : (List ℕ → ℕ) → ℕ → Trace → Standing → List Command → List Reply → Trace → Standing → Type 0
-Runs sum size old a [] [] new b = (new ≡ old) × (b ≡ a)
-Runs sum size old a (c ∷ cs) (r ∷ rs) new b = (mid : Trace) × (m : Standing) × IsStep sum size old mid c r a m × Runs sum size mid m cs rs new b
-Runs sum size old a [] (r ∷ rs) new b = ⊥
-Runs sum size old a (c ∷ cs) [] new b = ⊥
+-- These commands are answered by these replies, from where a run stands on, and leave this of the device. Each command is refused exactly where it is out of its turn.
+-- Where a command reads or leaves what is foreign, nothing more is claimed from there on.
+unfoldable pub Runs : (List ℕ → ℕ) → ℕ → RunState → List Command → List Reply → DeviceView → Type 0
+Runs sum size a [] [] end = a.device ≡ end
+Runs sum size a (c ∷ cs) (r ∷ rs) end =
+    IsRefusedWhere (IsOutOfTurn size a.log c) r
+    × (new : DeviceView) × Acts sum size a c r new
+    × (IsOwn sum size (state_of a.device.trace) c r → (b : RunState) × IsStep sum size a c r new b × Runs sum size b cs rs end)
+Runs sum size a [] (r ∷ rs) end = ⊥
+Runs sum size a (c ∷ cs) [] end = ⊥

@@ -9,7 +9,7 @@ use Rattle.sled_codec.specs.Snapshots.{Shot, shot_of, short_snapshot, FitsSnapsh
 use Rattle.sled_codec.specs.Spelling.{low_bytes}
 use Rattle.sled_store.specs.Device.{Event, Wrote, Synced, SnapshotFilled, SnapshotPublished, SnapshotRemoved, NamesSynced, Trace, State, state_of, at_rest, overwritten}
 use Rattle.sled_store.specs.Script.{Performs, after_all}
-use Rattle.sled_log.specs.Recovery.{Conclusion}
+use Rattle.sled_log.specs.Recovery.{Conclusion, Recovered, Recovers}
 use Rattle.sled_log.specs.declared.conclusion.Recovery.{Recovery}
 use Rattle.sled_log.specs.declared.conclusion.Tip.{Tip}
 

@@ -2,16 +2,23 @@
 //!
 //! What a flush left is what a recovery reads: its table is that of the whole history, and a log that begins on
 //! it holds that history again (`specs/Recovery.antt`; `Log::start`).
-ghost use Rattle.std.specs.Prelude.{◌≡◌, ◌+◌, ◌≤◌, IfOk};
+ghost use Rattle.std.specs.Prelude.{◌+◌, ◌≤◌, ℕ, List, IfOk};
 ghost use Rattle.std.specs.List.{All};
 ghost use Rattle.sled_codec.specs.History.{History, Message};
 ghost use Rattle.sled_codec.specs.PageTables.{IsTable};
 ghost use Rattle.sled_codec.specs.Snapshots.{shot_of};
 ghost use Rattle.sled_codec.specs.WellFormed.{IsWellFormed};
-ghost use Rattle.sled_store.specs.Device.{state_of};
+ghost use Rattle.sled_store.specs.Device.{state_of, content_of};
+ghost use Rattle.sled_store.specs.Moments.{LeavesOnly};
+ghost use Rattle.sled_store.specs.Script.{after_all};
 ghost use Rattle.sled_store.specs.SnapshotFiles.{stable_place};
-ghost use Rattle.sled_core.specs.Fits.{Holds, AllEnded, segment_size_of};
+ghost use Rattle.sled_core.specs.Fits.{Holds, AllEnded, config_of, device_of, fault_of, flushing, segment_size_of};
+ghost use Rattle.sled_core.specs.Keeps.{ConfigKept};
 ghost use Rattle.sled_core.specs.Ready.{IsReady};
+ghost use Rattle.sled_core.specs.Recoverable.{NoForeign, RecoverableIfOwn};
+ghost use Rattle.sled_core.specs.Running.{Fits};
+ghost use Rattle.sled_log.specs.Orderly.{IsOrderly};
+ghost use Rattle.sled_log.specs.Restarts.{Restarts};
 
 use crate::snapshot::{Snapshot, read_snapshot_or_default};
 use sled_codec::result::Result;
@@ -27,10 +34,18 @@ use sled_store::{Device, RunningConfig};
 /// of them.
 pub fn restart<D: Device, C: Checksum>(log: Log<D, C>) -> (RunningConfig<D, C>, Result<Snapshot>)
     requires ended { AllEnded log }
-    ensures table { (H : History) → Holds D.trace C.sum_of log H → IsWellFormed H → IfOk result.1 (λ s. IsTable (shot_of s).pages H (stable_place s.stable_lsn)) }
-    ensures past { (H : History) → Holds D.trace C.sum_of log H → IsWellFormed H → IfOk result.1 (λ s. All (λ m. m.place + m.size ≤ stable_place s.stable_lsn) H.messages) }
-    ensures ready { (H : History) → Holds D.trace C.sum_of log H → IsWellFormed H → IfOk result.1 (λ s. IsReady C.sum_of (segment_size_of log) (state_of (D.trace result.0.device)) (shot_of s) H) }
-    ensures size { result.0.config.segment_size ≡ segment_size_of log }
+    ensures table { (H : History) → Holds D.trace C.sum_of log H → IsWellFormed H
+        → IfOk result.1 (λ s. IsTable (shot_of s).pages H (stable_place s.stable_lsn)) }
+    ensures past { (H : History) → Holds D.trace C.sum_of log H → IsWellFormed H
+        → IfOk result.1 (λ s. All (λ m. m.place + m.size ≤ stable_place s.stable_lsn) H.messages) }
+    ensures ready { (H : History) → Holds D.trace C.sum_of log H → IsWellFormed H
+        → IfOk result.1 (λ s. IsReady C.sum_of (segment_size_of log) (state_of (D.trace result.0.device)) (shot_of s) H) }
+    ensures did { let old = device_of log in let new = result.0.device in
+        Restarts C.sum_of (segment_size_of log) (flushing log) (fault_of log) result.1 (D.trace old) (D.trace new) (D.faults old) (D.faults new) }
+    ensures crash { (H : History) (A f : ℕ) (U : List Message) → Fits D.trace C.sum_of log H A f U → IsOrderly H
+        → let flushed = state_of (after_all (flushing log) (D.trace (device_of log))) in NoForeign C.sum_of (segment_size_of log) flushed (content_of flushed)
+        → LeavesOnly (RecoverableIfOwn C.sum_of (segment_size_of log) H A f) (D.trace (device_of log)) (D.trace result.0.device) }
+    ensures kept { ConfigKept (config_of log) result.0 }
 {
     let mut log = log;
     let flushed = log.flush();

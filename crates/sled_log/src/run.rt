@@ -3,13 +3,13 @@
 //!
 //! A run begins on an empty device with no log open. One reservation is open at a time, and all messages are
 //! Replaces. A command that is out of its turn is refused.
-ghost use Rattle.std.specs.Prelude.{◌≡◌, ◌^◌, ◌-◌, ◌<◌, ℕ, length, IfOk, IfErr, None, [], true};
+ghost use Rattle.std.specs.Prelude.{◌≡◌, IfOk, IfErr};
 ghost use Rattle.sled_codec.specs.Snapshots.{shot_of};
 ghost use Rattle.sled_store.specs.Device.{state_of, fresh};
-ghost use Rattle.sled_core.specs.Fits.{IsOpen, pins_of, config_of, device_of, segment_size_of};
-ghost use Rattle.sled_core.specs.Running.{Fits};
-ghost use Rattle.sled_log.specs.Runs.{OwnThroughout, Standing, opened_as, nothing_yet, Runs};
-ghost use Rattle.sled_log.specs.RunPhases.{IsOfReplaces, HasMessageOf, IsRecoveredAt, IsRecovery, SaysWhy, shows_open, IsAt, trace_of, size_of, CanGoOn, CarriesOut, CrashesInto, Continues};
+ghost use Rattle.sled_core.specs.Fits.{config_of};
+ghost use Rattle.sled_log.specs.RunStates.{begins_on};
+ghost use Rattle.sled_log.specs.Runs.{StartActs, Runs};
+ghost use Rattle.sled_log.specs.RunPhases.{HasNoneOpen, HasOneOpen, failure_told, Shows, Starts, RunsOn, view_by, running, device_in, CanGoOn, CarriesOut, Continues};
 
 use crate::snapshot::{Snapshot, read_snapshot_or_default};
 use sled_codec::result::{DiskPtr, Error, Lsn, PageId};
@@ -19,6 +19,7 @@ use sled_core::reservation::{Guard, Reservation};
 use sled_store::snapshot::stable_place;
 use sled_store::{Choice, CrashDevice, RunningConfig};
 use std::alloc::AllocError;
+use std::io;
 
 /// What a run is told to do.
 #[derive(Drop)]
@@ -80,6 +81,8 @@ struct Opened<D, C> {
     guard: Guard,
     /// How many pages have a Replace.
     begun: u64,
+    /// The failure with which the last reservation was given up, which still counts as open in the log.
+    lost: Option<io::Error>,
 }
 
 /// The reservation that is open.
@@ -96,8 +99,10 @@ pub fn run<D: CrashDevice, C: Checksum>(
     commands: Vec<Command>,
 ) -> (RunningConfig<D, C>, Result<Vec<Reply>, AllocError>)
     ensures refused { IfErr result.1 (λ e. result.0 ≡ config) }
-    ensures headline { state_of (D.trace config.device) ≡ fresh → IfOk result.1 (λ replies. OwnThroughout C.sum_of config.config.segment_size (D.trace config.device) (D.trace result.0.device)
-        → (end : Standing) × Runs C.sum_of config.config.segment_size (D.trace config.device) nothing_yet commands.items replies.items (D.trace result.0.device) end) }
+    ensures headline { let view = view_by D.trace D.faults D.is_stopped D.stops_in in
+        state_of (D.trace config.device) ≡ fresh
+        → IfOk result.1 (λ replies. Runs C.sum_of config.config.segment_size (begins_on (view config.device)) commands.items replies.items (view result.0.device)) }
+    ensures runs_on { RunsOn D.trace config result.0 }
 {
     let mut replies = match Vec::with_capacity(config.alloc(), commands.len()) {
         Ok(replies) => replies,
@@ -117,7 +122,7 @@ pub fn run<D: CrashDevice, C: Checksum>(
 /// Carries out a command.
 fn step<D: CrashDevice, C: Checksum>(phase: Phase<D, C>, command: Command) -> (Phase<D, C>, Reply)
     requires can_go_on { CanGoOn phase }
-    ensures step { CarriesOut D.trace C.sum_of phase command result }
+    ensures step { CarriesOut (view_by D.trace D.faults D.is_stopped D.stops_in) C.sum_of phase command result }
     ensures on { Continues D.trace phase result.0 }
 {
     match phase {
@@ -132,7 +137,7 @@ fn step_closed<D: CrashDevice, C: Checksum>(
     config: RunningConfig<D, C>,
     command: Command,
 ) -> (Phase<D, C>, Reply)
-    ensures step { CarriesOut D.trace C.sum_of (Phase.Closed config) command result }
+    ensures step { CarriesOut (view_by D.trace D.faults D.is_stopped D.stops_in) C.sum_of (Phase.Closed config) command result }
     ensures on { Continues D.trace (Phase.Closed config) result.0 }
 {
     match command {
@@ -150,7 +155,8 @@ fn step_open<D: CrashDevice, C: Checksum>(
     opened: Opened<D, C>,
     command: Command,
 ) -> (Phase<D, C>, Reply)
-    ensures step { CarriesOut D.trace C.sum_of (Phase.Open opened) command result }
+    requires none_open { HasNoneOpen opened }
+    ensures step { CarriesOut (view_by D.trace D.faults D.is_stopped D.stops_in) C.sum_of (Phase.Open opened) command result }
     ensures on { Continues D.trace (Phase.Open opened) result.0 }
 {
     match command {
@@ -170,9 +176,8 @@ fn step_waiting<D: CrashDevice, C: Checksum>(
     ticket: Ticket,
     command: Command,
 ) -> (Phase<D, C>, Reply)
-    requires open { IsOpen opened.log ticket.reservation }
-    requires page { ticket.page < 2 ^ 64 - 1 }
-    ensures step { CarriesOut D.trace C.sum_of (Phase.Waiting opened ticket) command result }
+    requires one_open { HasOneOpen opened ticket }
+    ensures step { CarriesOut (view_by D.trace D.faults D.is_stopped D.stops_in) C.sum_of (Phase.Waiting opened ticket) command result }
     ensures on { Continues D.trace (Phase.Waiting opened ticket) result.0 }
 {
     match command {
@@ -187,7 +192,7 @@ fn step_waiting<D: CrashDevice, C: Checksum>(
 
 /// Recovers what the device has, and opens a log on it.
 fn open<D: CrashDevice, C: Checksum>(config: RunningConfig<D, C>) -> (Phase<D, C>, Reply)
-    ensures step { CarriesOut D.trace C.sum_of (Phase.Closed config) (Command.Open) result }
+    ensures step { CarriesOut (view_by D.trace D.faults D.is_stopped D.stops_in) C.sum_of (Phase.Closed config) (Command.Open) result }
     ensures on { Continues D.trace (Phase.Closed config) result.0 }
 {
     let mut config = config;
@@ -202,40 +207,35 @@ fn start<D: CrashDevice, C: Checksum>(
     config: RunningConfig<D, C>,
     snapshot: Snapshot,
 ) -> (Phase<D, C>, Reply)
-    ensures step { (a : Standing) → IsRecoveredAt D.trace C.sum_of config (shot_of snapshot) a → OwnThroughout C.sum_of config.config.segment_size (D.trace config.device) (trace_of D.trace result.0) → IsAt D.trace C.sum_of config.config.segment_size result.0 (opened_as a (shows_open result.1)) × SaysWhy config.config.segment_size (shot_of snapshot) result.1 }
-    ensures reply { IsRecovery (shot_of snapshot) result.1 }
+    ensures shows { Shows (shot_of snapshot) result.1 }
+    ensures acts { let view = view_by D.trace D.faults D.is_stopped D.stops_in in
+        StartActs config.config.segment_size (view config.device) result.1 (device_in view result.0) }
+    ensures starts { Starts (view_by D.trace D.faults D.is_stopped D.stops_in) C.sum_of config (shot_of snapshot) result }
     ensures on { Continues D.trace (Phase.Closed config) result.0 }
 {
     if stable_place(&snapshot) >= config.config.segment_size {
         return (Phase::Closed(config), Reply::Recovered(snapshot, None));
     }
     match Log::start(config, &snapshot) {
-        Ok(log) => (opened_on(log, &snapshot), Reply::Opened(snapshot)),
+        Ok(log) => {
+            let mut log = log;
+            let guard = log.pin();
+            let begun = snapshot.pt.len() as u64;
+            let opened = Opened {
+                log,
+                guard,
+                begun,
+                lost: None,
+            };
+            (Phase::Open(opened), Reply::Opened(snapshot))
+        }
         Err((e, config)) => (Phase::Closed(config), Reply::Recovered(snapshot, Some(e))),
     }
 }
 
-/// A log that was started on a snapshot, with a pin out.
-fn opened_on<D: CrashDevice, C: Checksum>(log: Log<D, C>, snapshot: &Snapshot) -> Phase<D, C>
-    requires pins { pins_of log ≡ 0 }
-    ensures fits { (a : Standing) → IsOfReplaces a.history → ((page : ℕ) → page < length snapshot.now.pt.items → HasMessageOf a.history.messages page)
-        → Fits D.trace C.sum_of log a.history a.acknowledged a.floor [] → IsAt D.trace C.sum_of (segment_size_of log) result (opened_as a true) }
-    ensures trace { trace_of D.trace result ≡ D.trace (device_of log) }
-    ensures size { size_of result ≡ segment_size_of log }
-    ensures can_go_on { CanGoOn result }
-{
-    let mut log = log;
-    let guard = log.pin();
-    Phase::Open(Opened {
-        log,
-        guard,
-        begun: snapshot.pt.len() as u64,
-    })
-}
-
 /// Has the device stop.
 fn stop<D: CrashDevice, C: Checksum>(config: RunningConfig<D, C>, n: u64) -> (Phase<D, C>, Reply)
-    ensures step { CarriesOut D.trace C.sum_of (Phase.Closed config) (Command.Stop n) result }
+    ensures step { CarriesOut (view_by D.trace D.faults D.is_stopped D.stops_in) C.sum_of (Phase.Closed config) (Command.Stop n) result }
     ensures on { Continues D.trace (Phase.Closed config) result.0 }
 {
     let mut config = config;
@@ -248,7 +248,7 @@ fn crash<D: CrashDevice, C: Checksum>(
     config: RunningConfig<D, C>,
     choice: Choice,
 ) -> (Phase<D, C>, Reply)
-    ensures step { CrashesInto D.trace C.sum_of config choice result }
+    ensures step { CarriesOut (view_by D.trace D.faults D.is_stopped D.stops_in) C.sum_of (Phase.Closed config) (Command.Crash choice) result }
     ensures on { Continues D.trace (Phase.Closed config) result.0 }
 {
     let mut config = config;
@@ -262,7 +262,8 @@ fn replace<D: CrashDevice, C: Checksum>(
     page: PageId,
     item: &Vec<u8>,
 ) -> (Phase<D, C>, Reply)
-    ensures step { CarriesOut D.trace C.sum_of (Phase.Open opened) (Command.Replace page item.now) result }
+    requires none_open { HasNoneOpen opened }
+    ensures step { CarriesOut (view_by D.trace D.faults D.is_stopped D.stops_in) C.sum_of (Phase.Open opened) (Command.Replace page item.now) result }
     ensures on { Continues D.trace (Phase.Open opened) result.0 }
 {
     let mut opened = opened;
@@ -286,9 +287,8 @@ fn complete<D: CrashDevice, C: Checksum>(
     opened: Opened<D, C>,
     ticket: Ticket,
 ) -> (Phase<D, C>, Reply)
-    requires open { IsOpen opened.log ticket.reservation }
-    requires page { ticket.page < 2 ^ 64 - 1 }
-    ensures step { CarriesOut D.trace C.sum_of (Phase.Waiting opened ticket) (Command.Complete) result }
+    requires one_open { HasOneOpen opened ticket }
+    ensures step { CarriesOut (view_by D.trace D.faults D.is_stopped D.stops_in) C.sum_of (Phase.Waiting opened ticket) (Command.Complete) result }
     ensures on { Continues D.trace (Phase.Waiting opened ticket) result.0 }
 {
     let mut opened = opened;
@@ -300,18 +300,32 @@ fn complete<D: CrashDevice, C: Checksum>(
             }
             (Phase::Open(opened), Reply::Done(place, pointer))
         }
-        Err(e) => (Phase::Open(opened), Reply::Failed(e)),
+        Err(e) => {
+            opened.lost = failure_of(&e);
+            (Phase::Open(opened), Reply::Failed(e))
+        }
+    }
+}
+
+/// The failure of the device that an error tells of.
+fn failure_of(error: &Error) -> Option<io::Error>
+    ensures { result ≡ failure_told error.now }
+{
+    match error {
+        Error::Io(e) => Some(*e),
+        _ => None,
     }
 }
 
 /// Writes what was completed, and settles it.
 fn flush<D: CrashDevice, C: Checksum>(opened: Opened<D, C>) -> (Phase<D, C>, Reply)
-    ensures step { CarriesOut D.trace C.sum_of (Phase.Open opened) (Command.Flush) result }
+    requires none_open { HasNoneOpen opened }
+    ensures step { CarriesOut (view_by D.trace D.faults D.is_stopped D.stops_in) C.sum_of (Phase.Open opened) (Command.Flush) result }
     ensures on { Continues D.trace (Phase.Open opened) result.0 }
 {
     let mut opened = opened;
-    if !opened.log.all_ended() {
-        return (Phase::Open(opened), Reply::Refused);
+    if let Some(e) = opened.lost {
+        return (Phase::Open(opened), Reply::Failed(Error::Io(e)));
     }
     match opened.log.flush() {
         Ok(grown) => (Phase::Open(opened), Reply::Flushed(grown)),
@@ -327,6 +341,7 @@ fn halt<D: CrashDevice, C: Checksum>(opened: Opened<D, C>) -> RunningConfig<D, C
         log,
         guard,
         begun: _,
+        lost: _,
     } = opened;
     guard.abandon();
     log.halt()
@@ -346,7 +361,7 @@ fn give_up<D: CrashDevice, C: Checksum>(opened: Opened<D, C>, ticket: Ticket) ->
 
 /// What a run ran on.
 fn close<D: CrashDevice, C: Checksum>(phase: Phase<D, C>) -> RunningConfig<D, C>
-    ensures trace { D.trace result.device ≡ trace_of D.trace phase }
+    ensures { result ≡ running phase }
 {
     match phase {
         Phase::Closed(config) => config,

@@ -1,22 +1,25 @@
 use Rattle.std.proofs.Common.{◌≡◌, ◌≤◌, ◌+◌, ◌++◌, List, length, reverse, vec_capacity}
 use Rattle.sled_store.specs.Device.{state_of, fresh}
 use Rattle.sled_log.specs.declared.run.Command.{Command}
-use Rattle.sled_log.specs.Runs.{OwnThroughout, Standing, nothing_yet, IsLater, Runs}
-use Rattle.sled_log.specs.RunPhases.{IsAt, trace_of, size_of, CanGoOn}
+use Rattle.sled_log.specs.declared.run.Reply.{Reply}
+use Rattle.sled_log.specs.RunStates.{DeviceView, begins_on}
+use Rattle.sled_log.specs.Runs.{Runs}
+use Rattle.sled_log.specs.RunPhases.{IsAt, RunsOn, Unstored, running, stands, view_by, CanGoOn}
 use Rattle.sled_log.proofs.run.run.Given as goal
 
--- what was carried out so far leads to where the run stands, and what is left is the rest of the commands
+-- what was carried out so far leads to here: whatever runs on from the phase that was reached runs on from the beginning, behind these commands and replies
 abbrev pub invariant-loop-command : goal.invariant-loop-command
 invariant-loop-command g l =
-    let old = g.D.Device.trace l.fn.config.device in
-    let now = trace_of g.D.Device.trace l.phase in
+    let view = view_by g.D.Device.trace g.D.Device.faults g.D.CrashDevice.is_stopped g.D.CrashDevice.stops_in in
+    let sum = g.C.Checksum.sum_of in
     let size = l.fn.config.config.segment_size in
     record {
       can_go_on : CanGoOn l.phase;
-      sized : size_of l.phase ≡ size;
-      later : IsLater old now;
+      runs_on : RunsOn g.D.Device.trace l.fn.config (running l.phase);
       room : length l.replies.items + length l.rest.items ≤ vec_capacity l.replies;
-      runs : state_of old ≡ fresh → OwnThroughout g.C.Checksum.sum_of size old now → (done : List Command) × (l.fn.commands.items ≡ done ++ reverse l.rest.items) × (a : Standing) × Runs g.C.Checksum.sum_of size old nothing_yet done l.replies.items now a × IsAt g.D.Device.trace g.C.Checksum.sum_of size l.phase a;
+      runs : state_of (g.D.Device.trace l.fn.config.device) ≡ fresh → (done : List Command) × (l.fn.commands.items ≡ done ++ reverse l.rest.items)
+          × ((cs : List Command) (rs : List Reply) (end : DeviceView) → ((k : Unstored) → IsAt g.D.Device.trace sum l.phase k → Runs sum size (stands view l.phase k) cs rs end)
+              → Runs sum size (begins_on (view l.fn.config.device)) (done ++ cs) (l.replies.items ++ rs) end);
     }
 
 abbrev pub decreases-loop-command : goal.decreases-loop-command
