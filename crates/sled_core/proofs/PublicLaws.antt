@@ -1,6 +1,9 @@
 -- What a crate above may rely on of logs: where the messages lie that a log fits, what a crash leaves of its device, and that an empty device is ready.
-use Rattle.std.proofs.Common.{◌≡◌, ◌∙◌, ◌≤◌, ◌<◌, ◌+◌, ◌^◌, ℕ, ℤ, pos, List, [], ◌∷◌, replicate, Option, None, refl, sym, ap, subst}
+use Rattle.std.proofs.Common.{◌≡◌, ◌∙◌, ◌≤◌, ◌<◌, ◌+◌, ◌^◌, ℕ, ℤ, pos, List, [], ◌∷◌, replicate, Option, None, refl, rules, sym, ap, subst}
+use Rattle.std.specs.Prelude.{FitsSigned}
+use Rattle.std.specs.Int.{w64, cast_signed, cast_unsigned}
 use Rattle.std.specs.List.{All}
+use Rattle.std.proofs.lemmas.Int.{to_z-of_z}
 use Rattle.sled_codec.specs.History.{Message, History, no_history}
 use Rattle.sled_codec.specs.Record.{IsHeader}
 use Rattle.sled_codec.specs.WellFormed.{LieApart}
@@ -10,8 +13,8 @@ use Rattle.sled_store.proofs.LogLemmas.{at_rest_left}
 use Rattle.sled_store.proofs.NamesLemmas.{settled_name_left, settled_name_at_rest}
 use Rattle.sled_store.proofs.SettledLemmas.{read_left}
 use Rattle.sled_core.specs.declared.logger.Log.{Log}
-use Rattle.sled_core.specs.Fits.{Holds, IsWritten, fault_of, next_place, synced_end, device_of, segment_size_of}
-use Rattle.sled_core.specs.Keeps.{Preserves}
+use Rattle.sled_core.specs.Fits.{Holds, AllEnded, IsUnchanged, IsWritten, fault_of, next_place, synced_end, device_of, segment_size_of}
+use Rattle.sled_core.specs.Buffers.{all_ended}
 use Rattle.sled_core.specs.Reading.{IsInline}
 use Rattle.sled_core.specs.Ready.{IsReady}
 use Rattle.sled_core.specs.Recoverable.{NoForeign, Recoverable, LeavesRecoverable}
@@ -28,6 +31,14 @@ pub use Rattle.sled_core.proofs.ReachLemmas.{fits_holds, fits_acknowledged, fits
 -- Messages that a log fits have inline pointers.
 pub fits_inline : {D C : Type 0} (trace : D → Trace) (sum : List ℕ → ℕ) (log : Log D C) (H : History) (A f : ℕ) (U : List Message) → Fits trace sum log H A f U → fault_of log ≡ None → All (λ m. IsInline m.pointer) H.messages
 fits_inline trace sum log H A f U fits none = λ k d lt. let lies = fits_lie trace sum log H A f U fits none k d lt in subst IsInline (sym lies.pointer) tt
+
+-- Where no reservation was open, none is as long as nothing is another.
+pub unchanged_ended : {D C : Type 0} (old new : Log D C) → IsUnchanged old new → AllEnded old → AllEnded new
+unchanged_ended old new unchanged ended = ap all_ended unchanged.reserved ∙ ended
+
+-- A place, as code holds it and gives it back.
+pub place_back : (z : ℤ) (n : ℕ) → z ≡ pos n → n < 2 ^ 63 → pos n ≡ cast_signed w64 (cast_unsigned w64 z)
+place_back z n is small = let fits : FitsSigned w64 (pos n) = search rules in sym (ap (λ (x : ℤ). cast_signed w64 (cast_unsigned w64 x)) is ∙ to_z-of_z w64 (pos n) fits)
 
 -- What was written ends at the stable end at most.
 pub written_past : {D C : Type 0} (trace : D → Trace) (sum : List ℕ → ℕ) (log : Log D C) (H : History) → IsWritten trace sum log H → All (λ m. m.place + m.size ≤ synced_end log) H.messages

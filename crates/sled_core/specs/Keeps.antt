@@ -14,6 +14,12 @@ pub record ConfigKept {D C : Type 0} (old new : RunningConfig D C) : Type 0 wher
   pub config : new.config ≡ old.config
   pub checksum : new.checksum ≡ old.checksum
 
+-- It has the same sizes and the same checksum, and its device was only read.
+pub record OnlyReads {D C : Type 0} (trace : D → Trace) (old new : RunningConfig D C) : Type 0 where
+  pub config : new.config ≡ old.config
+  pub checksum : new.checksum ≡ old.checksum
+  pub unwritten : trace new.device ≡ trace old.device
+
 -- The log goes on from what it was: its device's trace goes on from the old one, its stable end doesn't fall, and at each moment between them a crash leaves what can be recovered.
 pub record GoesOn {D C : Type 0} (trace : D → Trace) (sum : List ℕ → ℕ) (old new : Log D C) : Type 0 where
   pub config : ConfigKept (config_of old) (config_of new)

@@ -409,12 +409,14 @@ fn record_size(number: u64, pid: PageId, item_len: u64) -> u64
 /// Writes what was not written yet of the segment in a slot, and syncs it.
 fn write_out<D: Device>(device: &mut D, slot: LogOffset, buffer: &Buffer) -> io::Result<()>
     requires { slot + length buffer.now.bytes.items < 2 ^ 63 }
-    ensures done { OnOk result (D.trace device.new ≡ Synced ∷ Wrote (slot + buffer.now.from) (drop buffer.now.from buffer.now.bytes.items) (drop buffer.now.from buffer.now.bytes.items) ∷ D.trace device.old) }
+    ensures done { let at = slot + buffer.now.from in let bytes = drop buffer.now.from buffer.now.bytes.items in
+        OnOk result (D.trace device.new ≡ Synced ∷ Wrote at bytes bytes ∷ D.trace device.old) }
     ensures refused { IfErr result (λ e. error_kind e ≡ OutOfMemory → D.trace device.new ≡ D.trace device.old) }
     ensures faults { Counts result (D.faults device.old) (D.faults device.new) }
     ensures error { FailsOr OutOfMemory result }
     ensures names { (state_of (D.trace device.new)).snapshots ≡ (state_of (D.trace device.old)).snapshots }
-    ensures calls { Performs (Wrote (slot + buffer.now.from) (drop buffer.now.from buffer.now.bytes.items) (drop buffer.now.from buffer.now.bytes.items) ∷ Synced ∷ []) (D.trace device.old) (D.trace device.new) }
+    ensures calls { let at = slot + buffer.now.from in let bytes = drop buffer.now.from buffer.now.bytes.items in
+        Performs (Wrote at bytes bytes ∷ Synced ∷ []) (D.trace device.old) (D.trace device.new) }
 {
     device.write_at(slot + buffer.from as u64, &buffer.bytes[buffer.from..])?;
     device.sync()

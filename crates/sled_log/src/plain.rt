@@ -7,6 +7,7 @@ ghost use Rattle.sled_codec.specs.Snapshots.{shot_of, page_of};
 ghost use Rattle.sled_store.specs.Device.{state_of};
 ghost use Rattle.sled_store.specs.SnapshotFiles.{stable_place};
 ghost use Rattle.sled_core.specs.Causes.{DeviceAnswers};
+ghost use Rattle.sled_core.specs.Keeps.{OnlyReads};
 ghost use Rattle.sled_core.specs.Scan.{IsFoundSegment, IsMisplaced, IsDamagedIn};
 ghost use Rattle.sled_core.specs.declared.met.Segment.{Segment};
 ghost use Rattle.sled_log.specs.Recovery.{Scanned, IsScanned, IsUnordered, IsOrdering, IsTail, IsDamagedTail, ArePassed, begun_below, IsDamagedPass, tail_begins, tail_end, Recovered, Damaged, Conclusion, outcome_of, least_place, scanned_of, given, has_no_table, table_of, ContinuesFrom, Recovers};
@@ -50,9 +51,7 @@ pub fn recovered_plainly<D: Device, C: Checksum>(
         IfOk result (λ o. IfNone o (Recovers C.sum_of config.old.config.segment_size (log_alone old.log.bytes) old.snapshots.file Damaged)) }
     ensures readable { IsCorruption result → ⊥ }
     ensures answers { DeviceAnswers result (D.faults config.old.device) (D.faults config.new.device) }
-    ensures trace { D.trace config.new.device ≡ D.trace config.old.device }
-    ensures config { config.new.config ≡ config.old.config }
-    ensures checksum { config.new.checksum ≡ config.old.checksum }
+    ensures reads { OnlyReads D.trace config.old config.new }
 {
     match recover_all(config) {
         Ok(recovery) => Ok(Some(recovery.snapshot)),
@@ -66,9 +65,7 @@ fn recover_all<D: Device, C: Checksum>(config: &mut RunningConfig<D, C>) -> Resu
     ensures ok { IfOk result (λ x. Recovers C.sum_of config.old.config.segment_size (log_alone (state_of (D.trace config.old.device)).log.bytes) (state_of (D.trace config.old.device)).snapshots.file (Recovered (conclusion_of x))) }
     ensures corrupt { IsCorruption result → Recovers C.sum_of config.old.config.segment_size (log_alone (state_of (D.trace config.old.device)).log.bytes) (state_of (D.trace config.old.device)).snapshots.file Damaged }
     ensures answers { DeviceAnswers result (D.faults config.old.device) (D.faults config.new.device) }
-    ensures trace { D.trace config.new.device ≡ D.trace config.old.device }
-    ensures config { config.new.config ≡ config.old.config }
-    ensures checksum { config.new.checksum ≡ config.old.checksum }
+    ensures reads { OnlyReads D.trace config.old config.new }
 {
     match read_newest(config) {
         Ok(first) => continue_all(config, first),
@@ -84,9 +81,7 @@ fn continue_all<D: Device, C: Checksum>(
     ensures ok { IfOk result (λ x. ContinuesFrom C.sum_of config.old.config.segment_size (log_alone (state_of (D.trace config.old.device)).log.bytes) (shot_of first) (Recovered (conclusion_of x))) }
     ensures corrupt { IsCorruption result → ContinuesFrom C.sum_of config.old.config.segment_size (log_alone (state_of (D.trace config.old.device)).log.bytes) (shot_of first) Damaged }
     ensures answers { DeviceAnswers result (D.faults config.old.device) (D.faults config.new.device) }
-    ensures trace { D.trace config.new.device ≡ D.trace config.old.device }
-    ensures config { config.new.config ≡ config.old.config }
-    ensures checksum { config.new.checksum ≡ config.old.checksum }
+    ensures reads { OnlyReads D.trace config.old config.new }
 {
     let size = config.config.segment_size;
     let least = stable_place(&first) / size * size;
@@ -107,9 +102,7 @@ fn replay_all<D: Device, C: Checksum>(
     ensures ok { IfOk result (λ x. ContinuesFrom C.sum_of config.old.config.segment_size (log_alone (state_of (D.trace config.old.device)).log.bytes) (shot_of first) (Recovered (conclusion_of x))) }
     ensures corrupt { IsCorruption result → ContinuesFrom C.sum_of config.old.config.segment_size (log_alone (state_of (D.trace config.old.device)).log.bytes) (shot_of first) Damaged }
     ensures answers { DeviceAnswers result (D.faults config.old.device) (D.faults config.new.device) }
-    ensures trace { D.trace config.new.device ≡ D.trace config.old.device }
-    ensures config { config.new.config ≡ config.old.config }
-    ensures checksum { config.new.checksum ≡ config.old.checksum }
+    ensures reads { OnlyReads D.trace config.old config.new }
 {
     let size = config.config.segment_size;
     let least = stable_place(&first) / size * size;
@@ -138,9 +131,7 @@ fn pass_over<D: Device, C: Checksum>(
         IsDamagedPass C.sum_of config.old.config.segment_size (log_alone (state_of (D.trace config.old.device)).log.bytes) end (begun_below end segments.now)
         ⊎ ((passes : List Scanned) × ArePassed C.sum_of config.old.config.segment_size (log_alone (state_of (D.trace config.old.device)).log.bytes) end (begun_below end segments.now) passes × (outcome_of config.old.config.segment_size (shot_of first) end passes ≡ Damaged)) }
     ensures answers { DeviceAnswers result (D.faults config.old.device) (D.faults config.new.device) }
-    ensures trace { D.trace config.new.device ≡ D.trace config.old.device }
-    ensures config { config.new.config ≡ config.old.config }
-    ensures checksum { config.new.checksum ≡ config.old.checksum }
+    ensures reads { OnlyReads D.trace config.old config.new }
 {
     match passes_below(config, segments, end) {
         Ok(passes) => {
@@ -163,9 +154,7 @@ fn found_segments<D: Device, C: Checksum>(
     ensures small { OnOk result (length (state_of (D.trace config.old.device)).log.bytes + config.old.config.segment_size < 2 ^ 63) }
     ensures corrupt { IsCorruption result → IsUnordered C.sum_of config.old.config.segment_size (state_of (D.trace config.old.device)).log.bytes least }
     ensures answers { DeviceAnswers result (D.faults config.old.device) (D.faults config.new.device) }
-    ensures trace { D.trace config.new.device ≡ D.trace config.old.device }
-    ensures config { config.new.config ≡ config.old.config }
-    ensures checksum { config.new.checksum ≡ config.old.checksum }
+    ensures reads { OnlyReads D.trace config.old config.new }
 {
     let len = config.device.len()?;
     let size = config.config.segment_size;
@@ -196,9 +185,7 @@ fn look_in<D: Device, C: Checksum>(
     ensures found { OnOk result (AreFound C.sum_of config.old.config.segment_size (state_of (D.trace config.old.device)).log.bytes least segments.new.items (slot + config.old.config.segment_size)) }
     ensures corrupt { IsCorruption result → IsUnordered C.sum_of config.old.config.segment_size (state_of (D.trace config.old.device)).log.bytes least }
     ensures answers { DeviceAnswers result (D.faults config.old.device) (D.faults config.new.device) }
-    ensures trace { D.trace config.new.device ≡ D.trace config.old.device }
-    ensures config { config.new.config ≡ config.old.config }
-    ensures checksum { config.new.checksum ≡ config.old.checksum }
+    ensures reads { OnlyReads D.trace config.old config.new }
 {
     match found_in(config, slot, least) {
         Ok(Some(segment)) => add(config.config.segment_size, segments, segment),
@@ -218,9 +205,7 @@ fn found_in<D: Device, C: Checksum>(
     ensures none { IfOk result (λ o. IfNone o ((s : Segment) → IsFoundSegment C.sum_of config.old.config.segment_size (state_of (D.trace config.old.device)).log.bytes least s → s.slot ≡ slot → ⊥)) }
     ensures answers { DeviceAnswers result (D.faults config.old.device) (D.faults config.new.device) }
     ensures readable { IsCorruption result → ⊥ }
-    ensures trace { D.trace config.new.device ≡ D.trace config.old.device }
-    ensures config { config.new.config ≡ config.old.config }
-    ensures checksum { config.new.checksum ≡ config.old.checksum }
+    ensures reads { OnlyReads D.trace config.old config.new }
 {
     let buf = read_slot(config, slot)?;
     Ok(segment_in(&config.checksum, &buf, least))
@@ -304,9 +289,7 @@ fn scan_of<D: Device, C: Checksum>(
     ensures places { IfOk result (λ s. All (λ m. m.place < segment.now.place + config.old.config.segment_size) s.met.items) }
     ensures damaged { IsCorruption result → IsDamagedIn C.sum_of config.old.config.segment_size (log_alone (state_of (D.trace config.old.device)).log.bytes) segment.now.slot segment.now.place }
     ensures answers { DeviceAnswers result (D.faults config.old.device) (D.faults config.new.device) }
-    ensures trace { D.trace config.new.device ≡ D.trace config.old.device }
-    ensures config { config.new.config ≡ config.old.config }
-    ensures checksum { config.new.checksum ≡ config.old.checksum }
+    ensures reads { OnlyReads D.trace config.old config.new }
 {
     match read_slot(config, segment.slot) {
         Ok(buf) => scan(config, &buf, segment.place),
@@ -326,9 +309,7 @@ fn tail_end<D: Device, C: Checksum>(
     ensures small { IfOk result (λ o. IfSome o (λ end. end < 2 ^ 63)) }
     ensures damaged { IsCorruption result → IsDamagedTail C.sum_of config.old.config.segment_size (log_alone (state_of (D.trace config.old.device)).log.bytes) segments.now begin }
     ensures answers { DeviceAnswers result (D.faults config.old.device) (D.faults config.new.device) }
-    ensures trace { D.trace config.new.device ≡ D.trace config.old.device }
-    ensures config { config.new.config ≡ config.old.config }
-    ensures checksum { config.new.checksum ≡ config.old.checksum }
+    ensures reads { OnlyReads D.trace config.old config.new }
 {
     let size = config.config.segment_size;
     let mut place = begin;
@@ -373,9 +354,7 @@ fn passes_below<D: Device, C: Checksum>(
     ensures fits { IfOk result (λ v. All (IsPass config.old.config.segment_size) v.items) }
     ensures damaged { IsCorruption result → IsDamagedPass C.sum_of config.old.config.segment_size (log_alone (state_of (D.trace config.old.device)).log.bytes) end (begun_below end segments.now) }
     ensures answers { DeviceAnswers result (D.faults config.old.device) (D.faults config.new.device) }
-    ensures trace { D.trace config.new.device ≡ D.trace config.old.device }
-    ensures config { config.new.config ≡ config.old.config }
-    ensures checksum { config.new.checksum ≡ config.old.checksum }
+    ensures reads { OnlyReads D.trace config.old config.new }
 {
     let mut passes = Vec::new(config.alloc());
     for segment in segments {

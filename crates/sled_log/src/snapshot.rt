@@ -14,7 +14,7 @@ ghost use Rattle.sled_store.specs.SnapshotFiles.{stable_place};
 ghost use Rattle.sled_core.specs.Scan.{IsFoundSegment, IsMisplaced};
 ghost use Rattle.sled_core.specs.Good.{IsGood};
 ghost use Rattle.sled_core.specs.Recoverable.{RecoverableIfOwn, LeavesRecoverable};
-ghost use Rattle.sled_core.specs.Keeps.{ConfigKept};
+ghost use Rattle.sled_core.specs.Keeps.{ConfigKept, OnlyReads};
 ghost use Rattle.sled_core.specs.Running.{Ready};
 ghost use Rattle.sled_codec.specs.PageTables.{IsTable};
 ghost use Rattle.sled_log.specs.Plain.{log_alone};
@@ -175,8 +175,7 @@ pub(crate) fn recover<D: Device, C: Checksum>(config: &mut RunningConfig<D, C>) 
     ensures corrupt { IsCorruption result → IsBeyondRecovery C.sum_of config.old.config.segment_size (state_of (D.trace config.old.device)) }
     ensures short { OnOk result (length (state_of (D.trace config.old.device)).log.bytes ≤ config.old.config.segment_size) }
     ensures answers { DeviceAnswers result (D.faults config.old.device) (D.faults config.new.device) }
-    ensures trace { D.trace config.new.device ≡ D.trace config.old.device }
-    ensures config { ConfigKept config.old config.new }
+    ensures reads { OnlyReads D.trace config.old config.new }
 {
     if config.device.len()? > config.config.segment_size {
         return Err(Error::Corruption { at: None });
@@ -198,8 +197,7 @@ fn continue_from<D: Device, C: Checksum>(
     ensures corrupt { let log = (state_of (D.trace config.old.device)).log.bytes in
         IsCorruption result → ContinuesFrom C.sum_of config.old.config.segment_size (log_alone log) (shot_of first) Damaged }
     ensures answers { DeviceAnswers result (D.faults config.old.device) (D.faults config.new.device) }
-    ensures trace { D.trace config.new.device ≡ D.trace config.old.device }
-    ensures config { ConfigKept config.old config.new }
+    ensures reads { OnlyReads D.trace config.old config.new }
 {
     let size = config.config.segment_size;
     let least = stable_place(&first) / size * size;
@@ -229,8 +227,7 @@ fn continue_in<D: Device, C: Checksum>(
     ensures ok { IfOk result (λ x. ContinuesFrom C.sum_of config.old.config.segment_size (read_of buf.now) (shot_of first) (Recovered (conclusion_of x))) }
     ensures corrupt { IsCorruption result → ContinuesFrom C.sum_of config.old.config.segment_size (read_of buf.now) (shot_of first) Damaged }
     ensures answers { DeviceAnswers result (D.faults config.old.device) (D.faults config.new.device) }
-    ensures trace { D.trace config.new.device ≡ D.trace config.old.device }
-    ensures config { ConfigKept config.old config.new }
+    ensures reads { OnlyReads D.trace config.old config.new }
 {
     let size = config.config.segment_size;
     if is_misplaced(size, segment.place) {

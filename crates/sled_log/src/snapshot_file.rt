@@ -10,6 +10,7 @@ ghost use Rattle.sled_codec.specs.Spelling.{low_bytes};
 ghost use Rattle.sled_store.specs.Device.{state_of};
 ghost use Rattle.sled_store.specs.Script.{Performs, after_all};
 ghost use Rattle.sled_core.specs.Causes.{DeviceAnswers};
+ghost use Rattle.sled_core.specs.Keeps.{OnlyReads};
 ghost use Rattle.sled_store.specs.SnapshotFiles.{IsSnapshotFile, is_sound, BeginsFrom, IsDamagedSnapshot};
 ghost use Rattle.sled_log.specs.WritesBack.{publishing_file, removing, others, AreOthers, MayBeRemoved};
 
@@ -114,9 +115,7 @@ pub(crate) fn read_newest<D: Device, C: Checksum>(
     ensures ok { IfOk result (λ s. BeginsFrom C.sum_of (state_of (D.trace config.old.device)).snapshots.file (shot_of s)) }
     ensures corrupt { IsCorruption result → IsDamagedSnapshot C.sum_of (state_of (D.trace config.old.device)).snapshots.file }
     ensures answers { DeviceAnswers result (D.faults config.old.device) (D.faults config.new.device) }
-    ensures trace { D.trace config.new.device ≡ D.trace config.old.device }
-    ensures config { config.new.config ≡ config.old.config }
-    ensures checksum { config.new.checksum ≡ config.old.checksum }
+    ensures reads { OnlyReads D.trace config.old config.new }
 {
     match newest_number(&mut config.device)? {
         Some(number) => read_sound(config, number),
@@ -135,9 +134,7 @@ fn read_sound<D: Device, C: Checksum>(
     ensures corrupt { let file = (state_of (D.trace config.old.device)).snapshots.file in
         IsCorruption result → (bytes : List ℕ) × (file number ≡ Some bytes) × ((s : Shot) → IsSnapshotFile C.sum_of bytes s → is_sound s ≡ false) }
     ensures answers { DeviceAnswers result (D.faults config.old.device) (D.faults config.new.device) }
-    ensures trace { D.trace config.new.device ≡ D.trace config.old.device }
-    ensures config { config.new.config ≡ config.old.config }
-    ensures checksum { config.new.checksum ≡ config.old.checksum }
+    ensures reads { OnlyReads D.trace config.old config.new }
 {
     let bytes = read_file(&mut config.device, number)?;
     let snapshot = decode_file(config.alloc(), &config.checksum, &bytes)?;

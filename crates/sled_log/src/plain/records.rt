@@ -5,6 +5,7 @@ ghost use Rattle.std.specs.List.{All};
 ghost use Rattle.sled_codec.specs.Errors.{IsCorruption};
 ghost use Rattle.sled_store.specs.Device.{state_of};
 ghost use Rattle.sled_core.specs.Causes.{DeviceAnswers};
+ghost use Rattle.sled_core.specs.Keeps.{OnlyReads};
 ghost use Rattle.sled_core.specs.Scan.{HasPlace, IsStep, IsDamagedAt};
 ghost use Rattle.sled_log.specs.Recovery.{IsPassed, open_at, scanned_of};
 ghost use Rattle.sled_log.specs.Plain.{log_alone, CanBeRead, IsDamagedBefore};
@@ -32,9 +33,7 @@ pub(crate) fn scan_up_to<D: Device, C: Checksum>(
     ensures places { IfOk result (λ s. All (λ m. m.place < segment.now.place + config.old.config.segment_size) s.met.items) }
     ensures damaged { IsCorruption result → IsDamagedBefore C.sum_of config.old.config.segment_size (log_alone (state_of (D.trace config.old.device)).log.bytes) end segment.now }
     ensures answers { DeviceAnswers result (D.faults config.old.device) (D.faults config.new.device) }
-    ensures trace { D.trace config.new.device ≡ D.trace config.old.device }
-    ensures config { config.new.config ≡ config.old.config }
-    ensures checksum { config.new.checksum ≡ config.old.checksum }
+    ensures reads { OnlyReads D.trace config.old config.new }
 {
     let last = config.config.segment_size - MAX_MSG_HEADER_LEN as u64;
     let mut met = Vec::new(config.alloc());
@@ -89,9 +88,7 @@ fn step_at<D: Device, C: Checksum>(
     ensures room { IfOk result (HasPlace config.old.config.segment_size at) }
     ensures damaged { IsCorruption result → IsDamagedAt C.sum_of config.old.config.segment_size (log_alone (state_of (D.trace config.old.device)).log.bytes) (segment.now.slot + at) (segment.now.place / config.old.config.segment_size) }
     ensures answers { DeviceAnswers result (D.faults config.old.device) (D.faults config.new.device) }
-    ensures trace { D.trace config.new.device ≡ D.trace config.old.device }
-    ensures config { config.new.config ≡ config.old.config }
-    ensures checksum { config.new.checksum ≡ config.old.checksum }
+    ensures reads { OnlyReads D.trace config.old config.new }
 {
     let number = SegmentNumber(segment.place / config.config.segment_size);
     let lid = segment.slot + at;

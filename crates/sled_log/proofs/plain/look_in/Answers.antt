@@ -17,7 +17,7 @@ returns-in-Ok-Some-clause-found g c =
     let t : Segment = c.in-Ok-Some.segment in
     let found = subst (λ (o : Option Segment). IfSome o (λ s. IsFoundSegment g.C.Checksum.sum_of cfg.segment_size log c.args.least s × (s.slot ≡ c.args.slot))) c.in-Ok-Some.field-0-is c.in-Ok-Some.ensures.some in
     added g.C.Checksum.sum_of cfg.segment_size log c.args.least c.add.result c.args.segments.now.items c.add.new.segments.items c.args.slot t c.requires.slot (some cfg.segment_size cfg.least) found.0 found.1
-    c.add.ensures.chain c.add.ensures.has (subst (λ (x : Config). OnOk c.add.result (IsMisplaced x.segment_size t → ⊥)) c.in-Ok-Some.ensures.config c.add.ensures.placed) c.requires.found
+    c.add.ensures.chain c.add.ensures.has (subst (λ (x : Config). OnOk c.add.result (IsMisplaced x.segment_size t → ⊥)) c.in-Ok-Some.ensures.reads.config c.add.ensures.placed) c.requires.found
 
 pub returns-in-Ok-Some-clause-corrupt : goal.returns-in-Ok-Some-clause-corrupt
 returns-in-Ok-Some-clause-corrupt g c = λ corrupt.
@@ -26,7 +26,7 @@ returns-in-Ok-Some-clause-corrupt g c = λ corrupt.
     let t : Segment = c.in-Ok-Some.segment in
     let found = subst (λ (o : Option Segment). IfSome o (λ s. IsFoundSegment g.C.Checksum.sum_of cfg.segment_size log c.args.least s × (s.slot ≡ c.args.slot))) c.in-Ok-Some.field-0-is c.in-Ok-Some.ensures.some in
     unordered g.C.Checksum.sum_of cfg.segment_size log c.args.least c.args.segments.now.items c.args.slot t found.0 found.1 c.requires.found
-    (subst (λ (x : Config). IsMisplaced x.segment_size t ⊎ ((s : Segment) × Contains c.args.segments.now.items s × (s.place ≡ t.place))) c.in-Ok-Some.ensures.config (c.add.ensures.corrupt corrupt))
+    (subst (λ (x : Config). IsMisplaced x.segment_size t ⊎ ((s : Segment) × Contains c.args.segments.now.items s × (s.place ≡ t.place))) c.in-Ok-Some.ensures.reads.config (c.add.ensures.corrupt corrupt))
 
 pub returns-in-Ok-None-clause-found : goal.returns-in-Ok-None-clause-found
 returns-in-Ok-None-clause-found g c =

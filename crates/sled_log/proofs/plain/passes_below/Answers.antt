@@ -112,8 +112,8 @@ loop-segment-preserved g c =
       closed = subst (AreClosed end) (sym mapped) (closed_more end (map pass_of ps) (pass_of p) c.loop-segment.invariant.closed closed);
       fits = more_fit cfg.segment_size log ps new p (c.requires.ready s (Contains-get_or c.args.segments.now i none c.loop-segment-test.true)) (subst (λ (x : Config). p.scan.stop ≤ x.segment_size) c.loop-segment.invariant.config c.in-Ok.ensures.stop)
           (subst (λ (x : Config). All (λ (m : Met). m.place < s.place + x.segment_size) p.scan.met.items) c.loop-segment.invariant.config c.in-Ok.ensures.places) is c.loop-segment.invariant.fits;
-      trace = c.scan_up_to.ensures.trace ∙ c.loop-segment.invariant.trace;
+      trace = c.scan_up_to.ensures.reads.unwritten ∙ c.loop-segment.invariant.trace;
       faults = c.in-Ok.ensures.answers ∙ c.loop-segment.invariant.faults;
-      config = c.scan_up_to.ensures.config ∙ c.loop-segment.invariant.config;
-      checksum = c.scan_up_to.ensures.checksum ∙ c.loop-segment.invariant.checksum;
+      config = c.scan_up_to.ensures.reads.config ∙ c.loop-segment.invariant.config;
+      checksum = c.scan_up_to.ensures.reads.checksum ∙ c.loop-segment.invariant.checksum;
     }

@@ -16,7 +16,7 @@ returns-in-Ok-clause-ok g c =
     let first : Shot = shot_of c.in-Ok.first in
     if_ok c.continue_all.result _ _ (λ x comes.
     recovers_from g.C.Checksum.sum_of cfg.segment_size (log_alone (state_of before).log.bytes) (state_of before).snapshots.file first (Recovered (conclusion_of x)) c.in-Ok.ensures.ok
-    (was_so (λ n l. ContinuesFrom g.C.Checksum.sum_of n (log_alone l) first (Recovered (conclusion_of x))) cfg c.read_newest.new.config.config before (g.D.Device.trace c.read_newest.new.config.device) c.in-Ok.ensures.config c.in-Ok.ensures.trace comes))
+    (was_so (λ n l. ContinuesFrom g.C.Checksum.sum_of n (log_alone l) first (Recovered (conclusion_of x))) cfg c.read_newest.new.config.config before (g.D.Device.trace c.read_newest.new.config.device) c.in-Ok.ensures.reads.config c.in-Ok.ensures.reads.unwritten comes))
     c.continue_all.ensures.ok
 
 pub returns-in-Ok-clause-corrupt : goal.returns-in-Ok-clause-corrupt
@@ -25,7 +25,7 @@ returns-in-Ok-clause-corrupt g c = λ corrupt.
     let before : Trace = g.D.Device.trace c.args.config.now.device in
     let first : Shot = shot_of c.in-Ok.first in
     recovers_from g.C.Checksum.sum_of cfg.segment_size (log_alone (state_of before).log.bytes) (state_of before).snapshots.file first Damaged c.in-Ok.ensures.ok
-    (was_so (λ n l. ContinuesFrom g.C.Checksum.sum_of n (log_alone l) first Damaged) cfg c.read_newest.new.config.config before (g.D.Device.trace c.read_newest.new.config.device) c.in-Ok.ensures.config c.in-Ok.ensures.trace (c.continue_all.ensures.corrupt corrupt))
+    (was_so (λ n l. ContinuesFrom g.C.Checksum.sum_of n (log_alone l) first Damaged) cfg c.read_newest.new.config.config before (g.D.Device.trace c.read_newest.new.config.device) c.in-Ok.ensures.reads.config c.in-Ok.ensures.reads.unwritten (c.continue_all.ensures.corrupt corrupt))
 
 pub returns-in-Err-clause-corrupt : goal.returns-in-Err-clause-corrupt
 returns-in-Err-clause-corrupt g c = λ corrupt.

@@ -23,7 +23,7 @@ pub pass_over-requires-clause-ready : goal.pass_over-requires-clause-ready
 pass_over-requires-clause-ready g c =
     let cfg : Config = c.args.config.now.config in
     let before : Trace = g.D.Device.trace c.args.config.now.device in
-    still_so (λ n l. (s : Segment) → Contains c.args.segments.now s → CanBeRead n l s) cfg c.tail_end.new.config.config before (g.D.Device.trace c.tail_end.new.config.device) c.in-Ok-Some.ensures.config c.in-Ok-Some.ensures.trace
+    still_so (λ n l. (s : Segment) → Contains c.args.segments.now s → CanBeRead n l s) cfg c.tail_end.new.config.config before (g.D.Device.trace c.tail_end.new.config.device) c.in-Ok-Some.ensures.reads.config c.in-Ok-Some.ensures.reads.unwritten
     (all_ready g.C.Checksum.sum_of cfg.segment_size (state_of before).log.bytes (least_place cfg.segment_size (shot_of c.args.first)) c.args.segments.now c.requires.small c.requires.ordering)
 
 pub returns-in-Ok-Some-clause-ok : goal.returns-in-Ok-Some-clause-ok
@@ -39,7 +39,7 @@ returns-in-Ok-Some-clause-ok g c =
     let tail = c.in-Ok-Some.ensures.end in
     if_ok c.pass_over.result _ _ (λ x passed.
     let passes = was_so (λ n l. (xs : List Scanned) × ArePassed g.C.Checksum.sum_of n (log_alone l) end (begun_below end ss) xs × (outcome_of n first end xs ≡ Recovered (conclusion_of x))) cfg c.tail_end.new.config.config before (g.D.Device.trace c.tail_end.new.config.device)
-    c.in-Ok-Some.ensures.config c.in-Ok-Some.ensures.trace passed in
+    c.in-Ok-Some.ensures.reads.config c.in-Ok-Some.ensures.reads.unwritten passed in
     comes_passed g.C.Checksum.sum_of size (log_alone log) first ss c.requires.ordering tail.0 (subst (λ n. IsTail g.C.Checksum.sum_of size (log_alone log) ss n tail.0) begins tail.1) end (tail.2 ∙ c.in-Ok-Some.field-0-is)
     (Recovered (conclusion_of x)) passes.0 passes.1 passes.2)
     c.pass_over.ensures.ok
@@ -57,7 +57,7 @@ returns-in-Ok-Some-clause-corrupt g c = λ corrupt.
     let tail = c.in-Ok-Some.ensures.end in
     comes_corrupt g.C.Checksum.sum_of size (log_alone log) first ss c.requires.ordering tail.0 (subst (λ n. IsTail g.C.Checksum.sum_of size (log_alone log) ss n tail.0) begins tail.1) end (tail.2 ∙ c.in-Ok-Some.field-0-is)
     (was_so (λ n l. IsDamagedPass g.C.Checksum.sum_of n (log_alone l) end (begun_below end ss) ⊎ ((xs : List Scanned) × ArePassed g.C.Checksum.sum_of n (log_alone l) end (begun_below end ss) xs × (outcome_of n first end xs ≡ Damaged))) cfg c.tail_end.new.config.config before (g.D.Device.trace c.tail_end.new.config.device)
-    c.in-Ok-Some.ensures.config c.in-Ok-Some.ensures.trace (c.pass_over.ensures.corrupt corrupt))
+    c.in-Ok-Some.ensures.reads.config c.in-Ok-Some.ensures.reads.unwritten (c.pass_over.ensures.corrupt corrupt))
 
 pub returns-in-Ok-None-clause-ok : goal.returns-in-Ok-None-clause-ok
 returns-in-Ok-None-clause-ok g c =

@@ -86,10 +86,10 @@ loop-segment-preserved g c =
       ready = c.loop-segment.invariant.ready;
       small = end_there size log s c.loop-segment.place c.in-Ok.scan.stop (c.loop-segment.invariant.ready s c.in-Some.ensures.some.0) c.in-Some.ensures.some.1 stop;
       size = c.loop-segment.invariant.size;
-      trace = c.scan_of.ensures.trace ∙ c.loop-segment.invariant.trace;
+      trace = c.scan_of.ensures.reads.unwritten ∙ c.loop-segment.invariant.trace;
       faults = c.in-Ok.ensures.answers ∙ c.loop-segment.invariant.faults;
-      config = c.scan_of.ensures.config ∙ c.loop-segment.invariant.config;
-      checksum = c.scan_of.ensures.checksum ∙ c.loop-segment.invariant.checksum;
+      config = c.scan_of.ensures.reads.config ∙ c.loop-segment.invariant.config;
+      checksum = c.scan_of.ensures.reads.checksum ∙ c.loop-segment.invariant.checksum;
     }
 
 pub returns-clause-end : goal.returns-clause-end

@@ -25,12 +25,12 @@ returns-in-Ok-write_back-clause-comes g c =
     let new : Trace = g.D.Device.trace c.write_back.new.config.device in
     let size : ℕ = c.args.config.now.config.segment_size in
     let x : Conclusion = conclusion_of c.in-Ok.recovery in
-    let is_mid : mid ≡ NamesSynced ∷ Synced ∷ old = c.in-Ok.ensures.trace ∙ c.in_ok-settle.ensures.done in
+    let is_mid : mid ≡ NamesSynced ∷ Synced ∷ old = c.in-Ok.ensures.reads.unwritten ∙ c.in_ok-settle.ensures.done in
     let recovers = recovers_settled sum old settled c.in_ok-settle.ensures.done size (Recovered x) c.in-Ok.ensures.ok in
     let writes = writes_settled sum old mid is_mid x new c.write_back.ensures.calls in
     let back = c.in-Ok-write_back.ensures in
     let r : Readable = log_alone (state_of settled).log.bytes in
-    let met = subst (λ (h : Trace). Recovers sum size r (state_of h).snapshots.file (Recovered x)) (sym c.in-Ok.ensures.trace) c.in-Ok.ensures.ok in
+    let met = subst (λ (h : Trace). Recovers sum size r (state_of h).snapshots.file (Recovered x)) (sym c.in-Ok.ensures.reads.unwritten) c.in-Ok.ensures.ok in
     let again = begins_again sum size r (omega (arith, c.args.config.now.config.least)) x (state_of mid) (state_of new) back.written met back.fits in
     let as_before = subst (λ (h : Trace). (again.0 ≡ x.shot) ⊎ BeginsFrom sum (state_of h).snapshots.file again.0) is_mid again.4 in
     record {
@@ -55,14 +55,14 @@ returns-in-Err-write_back-clause-comes g c =
     let old : Trace = g.D.Device.trace c.args.config.now.device in
     let x : Conclusion = conclusion_of c.in-Ok.recovery in
     let recovers = recovers_settled sum old (g.D.Device.trace c.settle.new.device) c.in_ok-settle.ensures.done c.args.config.now.config.segment_size (Recovered x) c.in-Ok.ensures.ok in
-    let writes = writes_settled sum old (g.D.Device.trace c.recover.new.config.device) (c.in-Ok.ensures.trace ∙ c.in_ok-settle.ensures.done) x (g.D.Device.trace c.write_back.new.config.device) c.write_back.ensures.calls in
+    let writes = writes_settled sum old (g.D.Device.trace c.recover.new.config.device) (c.in-Ok.ensures.reads.unwritten ∙ c.in_ok-settle.ensures.done) x (g.D.Device.trace c.write_back.new.config.device) c.write_back.ensures.calls in
     record { calls = inr (x, recovers, writes.0, writes.1, writes.2); ok = tt; corrupt = λ damaged. absurd (c.in-Err-write_back.ensures.readable damaged) }
 
 -- Nothing was concluded.
 pub returns-in-Err-clause-comes : goal.returns-in-Err-clause-comes
 returns-in-Err-clause-comes g c =
     let old : Trace = g.D.Device.trace c.args.config.now.device in
-    let is : g.D.Device.trace c.recover.new.config.device ≡ NamesSynced ∷ Synced ∷ old = c.recover.ensures.trace ∙ c.in_ok-settle.ensures.done in
+    let is : g.D.Device.trace c.recover.new.config.device ≡ NamesSynced ∷ Synced ∷ old = c.recover.ensures.reads.unwritten ∙ c.in_ok-settle.ensures.done in
     record {
       calls = inl (performs_whole (Synced ∷ NamesSynced ∷ []) old _ is);
       ok = tt;

@@ -37,7 +37,7 @@ returns-in-Ok-clause-ok g c =
     if_ok c.continue_from.result _ _ (λ x comes.
     from_it sum cfg.segment_size (state_of before).log.bytes (state_of before).snapshots.file first (Recovered (conclusion_of x))
     (begins_as sum first before _ c.len.ensures.trace c.in-Ok.ensures.ok)
-    (comes_as sum first (Recovered (conclusion_of x)) cfg _ before _ c.in-Ok.ensures.config (c.in-Ok.ensures.trace ∙ c.len.ensures.trace) comes))
+    (comes_as sum first (Recovered (conclusion_of x)) cfg _ before _ c.in-Ok.ensures.reads.config (c.in-Ok.ensures.reads.unwritten ∙ c.len.ensures.trace) comes))
     c.continue_from.ensures.ok
 
 pub returns-in-Ok-clause-corrupt : goal.returns-in-Ok-clause-corrupt
@@ -48,7 +48,7 @@ returns-in-Ok-clause-corrupt g c = λ corrupt.
     let first : Shot = shot_of c.in-Ok.first in
     inr (from_it sum cfg.segment_size (state_of before).log.bytes (state_of before).snapshots.file first Damaged
     (begins_as sum first before _ c.len.ensures.trace c.in-Ok.ensures.ok)
-    (comes_as sum first Damaged cfg _ before _ c.in-Ok.ensures.config (c.in-Ok.ensures.trace ∙ c.len.ensures.trace) (c.continue_from.ensures.corrupt corrupt)))
+    (comes_as sum first Damaged cfg _ before _ c.in-Ok.ensures.reads.config (c.in-Ok.ensures.reads.unwritten ∙ c.len.ensures.trace) (c.continue_from.ensures.corrupt corrupt)))
 
 pub returns-in-Err-clause-corrupt : goal.returns-in-Err-clause-corrupt
 returns-in-Err-clause-corrupt g c = λ corrupt.

@@ -54,10 +54,10 @@ loop-stop-preserved g c =
       behind = omega (arith, c.loop-stop.invariant.behind);
       within = omega (arith, inside);
       places = All-same Below c.push.new.self.items (c.loop-stop.met.items ++ m ∷ []) items (All-push Below c.loop-stop.met.items m c.loop-stop.invariant.places (omega (arith, step.0, room)));
-      trace = c.step_at.ensures.trace ∙ c.loop-stop.invariant.trace;
+      trace = c.step_at.ensures.reads.unwritten ∙ c.loop-stop.invariant.trace;
       faults = c.in-Ok-Meets.ensures.answers ∙ c.loop-stop.invariant.faults;
-      config = c.step_at.ensures.config ∙ c.loop-stop.invariant.config;
-      checksum = c.step_at.ensures.checksum ∙ c.loop-stop.invariant.checksum;
+      config = c.step_at.ensures.reads.config ∙ c.loop-stop.invariant.config;
+      checksum = c.step_at.ensures.reads.checksum ∙ c.loop-stop.invariant.checksum;
       last = c.loop-stop.invariant.last;
       ready = c.loop-stop.invariant.ready;
     }
