@@ -129,7 +129,11 @@ fn first_buffer<D, C: Checksum>(config: &RunningConfig<D, C>, snapshot: &Snapsho
         max_stable_lsn: place - 1,
         ok: true,
     };
-    Buffer::new(config.alloc(), &header.to_bytes(&config.checksum))
+    Buffer::new(
+        config.alloc(),
+        &header.to_bytes(&config.checksum),
+        size as usize,
+    )
 }
 
 /// Where a log begins, where this is the lowest of its slots that are not used.

@@ -76,15 +76,17 @@ pub(crate) struct Buffer {
 impl Buffer {
     ghost use Rattle.sled_core.specs.Buffers.{all_ended};
 
-    /// The bytes of a segment that has its header alone.
-    pub(crate) fn new(alloc: Global, header: &[u8; 20]) -> Result<Buffer>
+    /// The bytes of a segment that has its header alone, with room for so many.
+    pub(crate) fn new(alloc: Global, header: &[u8; 20], room: usize) -> Result<Buffer>
         ensures bytes { IfOk result (λ b. b.bytes.items ≡ header.now) }
         ensures from { IfOk result (λ b. b.from ≡ 0) }
         ensures reserved { IfOk result (λ b. b.reserved.items ≡ []) }
         ensures err { IsOkUnless result Error.OutOfMemory }
     {
+        let mut bytes = Vec::with_capacity(alloc, room)?;
+        bytes.extend_from_slice(header)?;
         Ok(Buffer {
-            bytes: Vec::from_slice(alloc, header)?,
+            bytes,
             from: 0,
             reserved: Vec::new(alloc),
             open_count: 0,
