@@ -1,5 +1,5 @@
 //! A device of one's own (`docs/USING.md`): another device, whose calls are counted.
-ghost use Rattle.std.specs.Prelude.{◌≡◌};
+ghost use Rattle.std.specs.Prelude.{◌≡◌, ◌+◌, ◌%◌, ◌^◌};
 
 use sled_log::device::Device;
 use std::io;
@@ -20,15 +20,17 @@ impl<D: Device> Counting<D> {
         Counting { device, calls: 0 }
     }
 
-    /// How many calls were made, modulo 2^64.
+    /// Returns how many calls were made, modulo 2^64.
     pub fn calls(&self) -> u64 {
         self.calls
     }
 
-    // The device below, for one call more.
-    fn counted(&mut self) -> &mut D {
+    // Counts a call.
+    fn count(&mut self)
+        ensures device { self.new.device ≡ self.old.device }
+        ensures calls { self.new.calls ≡ (self.old.calls + 1) % 2 ^ 64 }
+    {
         self.calls = self.calls.wrapping_add(1);
-        &mut self.device
     }
 }
 
@@ -39,67 +41,83 @@ impl<D: Device> Device for Counting<D> {
     ghost faults = { λ counting. D.faults counting.device };
 
     fn len(&mut self) -> io::Result<u64> {
-        self.counted().len()
+        self.count();
+        self.device.len()
     }
 
     fn read_at(&mut self, at: u64, buf: &mut [u8]) -> io::Result<usize> {
-        self.counted().read_at(at, buf)
+        self.count();
+        self.device.read_at(at, buf)
     }
 
     fn write_at(&mut self, at: u64, bytes: &[u8]) -> io::Result<()> {
-        self.counted().write_at(at, bytes)
+        self.count();
+        self.device.write_at(at, bytes)
     }
 
     fn cut(&mut self, len: u64) -> io::Result<()> {
-        self.counted().cut(len)
+        self.count();
+        self.device.cut(len)
     }
 
     fn sync(&mut self) -> io::Result<()> {
-        self.counted().sync()
+        self.count();
+        self.device.sync()
     }
 
     fn blob_create(&mut self, place: i64, bytes: &[u8]) -> io::Result<()> {
-        self.counted().blob_create(place, bytes)
+        self.count();
+        self.device.blob_create(place, bytes)
     }
 
     fn blob_sync(&mut self, place: i64) -> io::Result<()> {
-        self.counted().blob_sync(place)
+        self.count();
+        self.device.blob_sync(place)
     }
 
     fn blob_read(&mut self, place: i64) -> io::Result<Vec<u8>> {
-        self.counted().blob_read(place)
+        self.count();
+        self.device.blob_read(place)
     }
 
     fn blob_remove(&mut self, place: i64) -> io::Result<()> {
-        self.counted().blob_remove(place)
+        self.count();
+        self.device.blob_remove(place)
     }
 
     fn blobs(&mut self) -> io::Result<Vec<i64>> {
-        self.counted().blobs()
+        self.count();
+        self.device.blobs()
     }
 
     fn snapshot_write(&mut self, bytes: &[u8]) -> io::Result<()> {
-        self.counted().snapshot_write(bytes)
+        self.count();
+        self.device.snapshot_write(bytes)
     }
 
     fn snapshot_publish(&mut self, number: i64) -> io::Result<()> {
-        self.counted().snapshot_publish(number)
+        self.count();
+        self.device.snapshot_publish(number)
     }
 
     fn snapshot_read(&mut self, number: i64) -> io::Result<Vec<u8>> {
-        self.counted().snapshot_read(number)
+        self.count();
+        self.device.snapshot_read(number)
     }
 
     fn snapshot_remove(&mut self, number: i64) -> io::Result<()> {
-        self.counted().snapshot_remove(number)
+        self.count();
+        self.device.snapshot_remove(number)
     }
 
     fn snapshots(&mut self) -> io::Result<Vec<i64>> {
-        self.counted().snapshots()
+        self.count();
+        self.device.snapshots()
     }
 
     fn sync_names(&mut self) -> io::Result<()> {
-        self.counted().sync_names()
+        self.count();
+        self.device.sync_names()
     }
 
     fn failures(&self) -> u64 {

@@ -10,7 +10,7 @@ mod tests;
 use anyhow::{Result, bail, ensure};
 use sled_log::config::{Config, RunningConfig};
 use sled_log::device::{MemDevice, PlaceSum};
-use sled_log::logger::{DiskPtr, Log, LogKind, LogRead, PageId};
+use sled_log::logger::{Log, LogKind, LogRead, PageId};
 use sled_log::reservation::Guard;
 use sled_log::snapshot::read_snapshot_or_default;
 
@@ -35,7 +35,11 @@ fn main(rt: HostRuntime) -> Result<()> {
     let mut config = log.halt();
     println!(rt; "page 0 is {:?}", read?)?;
     let snapshot = read_snapshot_or_default(&mut config)?;
-    println!(rt; "recovered: {} page, and the log goes on at {:?}", snapshot.pt.len(), snapshot.stable_lsn)?;
+    println!(rt;
+        "recovered: {} page, and the log goes on at {:?}",
+        snapshot.pt.len(),
+        snapshot.stable_lsn
+    )?;
     Ok(())
 }
 

@@ -25,9 +25,13 @@ pub struct Message<'a> {
     pub bytes: &'a [u8],
 }
 
-/// The entries of a page in the table of these messages below a cut: none where the page was not begun,
-/// one Free where it was given back, else its Replace and the Links on it. The messages stand by place,
-/// the lowest first. Its one error is `OutOfMemory`.
+/// Returns the entries of a page in the table of these messages below a cut: none where the page was not
+/// begun, one Free where it was given back, else its Replace and the Links on it. The messages stand by
+/// place, the lowest first.
+///
+/// # Errors
+///
+/// `OutOfMemory` alone.
 #[tactic(auto, unfolding(crate::specs::History::of_page))]
 pub fn entries_of_page<'a>(
     alloc: Global,

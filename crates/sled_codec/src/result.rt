@@ -37,7 +37,7 @@ pub enum DiskPtr {
 impl DiskPtr {
     ghost use Rattle.sled_codec.specs.Pointers.{lid_of};
 
-    /// The offset of the record in the log file.
+    /// Returns the offset of the record in the log file.
     pub fn lid(&self) -> LogOffset
         ensures { result ≡ lid_of self.now }
     {
@@ -67,10 +67,10 @@ impl fmt::Display for DiskPtr {
 /// then is unchanged.
 #[derive(Debug, Drop, Error)]
 pub enum Error {
-    /// Bytes that spell nothing. `at` names the blob, where a blob is what is damaged.
+    /// Bytes that encode nothing. `at` names the blob, where a blob is what is damaged.
     #[error("the bytes are damaged: {at:?}")]
     Corruption {
-        /// The blob with a wrong sum, if it is one.
+        /// The blob with a wrong checksum, if it is one.
         at: Option<DiskPtr>,
     },
     /// A message of this kind cannot stand under this page. The text is empty.
@@ -196,7 +196,11 @@ impl Eq for Error {
     ghost laws = { error_equiv };
 }
 
-/// A copy in which all is the same, so it is equal. Memory may be refused for the text or the name in it.
+/// Returns a copy in which all is the same, so it is equal.
+///
+/// # Errors
+///
+/// `AllocError` where memory was refused for the text or the name in it.
 impl Clone for Error {
     ghost use Rattle.sled_codec.specs.ErrorLaws.{SameError};
 
@@ -258,7 +262,7 @@ impl<T: Drop> From<AllocFailed<T>> for Error {
     }
 }
 
-/// The kind for want of memory is `OutOfMemory`, and each other one is `Io`.
+/// The kind `OutOfMemory` is `Error::OutOfMemory`, and each other one is `Error::Io`.
 impl From<io::Error> for Error {
     ghost use Rattle.sled_codec.specs.Errors.{IsErrorOf};
 

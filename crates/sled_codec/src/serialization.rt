@@ -1,5 +1,6 @@
 //! The codecs. A type that has one is `Serialize`, whose clauses say what is written and what is read
-//! by the grammar of `specs/Spelling.antt`; a `Delimited` one can stand before other bytes.
+//! by the grammar of `specs/Spelling.antt`; a `Delimited` one can stand before other bytes. The grammar calls
+//! an encoding a spelling.
 ghost use Rattle.std.specs.Prelude.{◌≡◌, ◌↔◌, ◌+◌, ◌≤◌, ◌^◌, ◌<◌, ◌++◌, ℕ, Bool, List, length, IsTrue, IfOk, IfErr, OnErr, IsOkUnless};
 ghost use Rattle.sled_codec.specs.Written.{written};
 ghost use Rattle.sled_codec.specs.Errors.{IsCorruption, IsDecodeErrorOf};
@@ -49,26 +50,29 @@ pub trait Serialize: Sized {
     /// Whether decoding it takes memory.
     ghost takes_memory: { Bool };
 
-    /// Whether the value has a spelling. The calls that encode it ask for that.
+    /// Returns whether the value has an encoding. The calls that encode it ask for that.
     fn can_serialize(&self) -> bool
         ensures { IsTrue result ↔ fits (meaning self.now) };
 
-    /// How many bytes are written for it.
+    /// Returns how many bytes are written for it.
     fn serialized_size(&self) -> u64
         requires { fits (meaning self.now) }
         ensures { result ≡ length (short (meaning self.now)) };
 
-    /// Writes it into `buf` from the index `at` on, where there has to be room, and answers the index
-    /// behind it. All other bytes stay.
+    /// Writes it into `buf` from the index `at` on, where there has to be room. Returns the index behind
+    /// it. All other bytes stay.
     fn serialize_into(&self, buf: &mut [u8], at: usize) -> usize
         requires fits { fits (meaning self.now) }
         requires room { at + length (short (meaning self.now)) ≤ length buf.old }
         ensures next { result ≡ at + length (short (meaning self.now)) }
         ensures bytes { buf.new ≡ written buf.old at (short (meaning self.now)) };
 
-    /// Takes a spelling off the front of `buf`, and leaves what follows it. `Corruption` comes where
-    /// no front of `buf` is a spelling before what may follow one, and `OutOfMemory` where memory was
-    /// refused to a type whose decoding takes memory. After an error `buf` is as it was.
+    /// Takes an encoding off the front of `buf`, and leaves what follows it. Returns its value.
+    ///
+    /// # Errors
+    ///
+    /// `Corruption` where no front of `buf` is an encoding before what may follow one, and `OutOfMemory`
+    /// where memory was refused to a type whose decoding takes memory. After an error `buf` is as it was.
     fn deserialize(alloc: Global, buf: &mut &[u8]) -> Result<Self>
         ensures ok { IfOk result (λ v. (front : List ℕ) × Spells front (meaning v) × (buf.old.now ≡ front ++ buf.new.now)) }
         ensures rest { IfOk result (λ v. Follows buf.new.now) }
@@ -76,7 +80,11 @@ pub trait Serialize: Sized {
         ensures errors { IfErr result (IsDecodeErrorOf takes_memory) }
         ensures err { OnErr result (buf.new.now ≡ buf.old.now) };
 
-    /// The spelling in a vector of its own. Its one error is `OutOfMemory`.
+    /// Returns the encoding in a vector of its own.
+    ///
+    /// # Errors
+    ///
+    /// `OutOfMemory` alone.
     final fn serialize(&self, alloc: Global) -> Result<Vec<u8>>
         requires { fits (meaning self.now) }
         ensures short { IfOk result (λ v. v.items ≡ short (meaning self.now)) }
@@ -92,7 +100,7 @@ pub trait Serialize: Sized {
     ghost short_spells: { (v : Meaning) → fits v → Spells (short v) v };
 }
 
-/// A type whose spellings end by themselves: one spelling stands for one value, and none is a proper
+/// A type whose encodings end by themselves: one encoding stands for one value, and none is a proper
 /// beginning of another. So what was written is read again, whatever follows it.
 pub trait Delimited: Serialize {
     ghost one_value: { (text : List ℕ) (v w : Self.Meaning) → Self.Spells text v → Self.Spells text w → v ≡ w };

@@ -253,8 +253,8 @@ impl<D: Device, C: Checksum> Log<D, C> {
     }
 
     /// Reads the message of this page and place that lies there, from the device. Where its place is not
-    /// written yet, what was completed is written first, as `flush` does, and for that alone no reservation
-    /// may be open. `Corruption` comes for a negative place, for an offset at which no record begins, and for a
+    /// written yet, what was completed is written first, as `flush` does; for that alone no reservation may
+    /// be open. `Corruption` comes for a negative place, for an offset at which no record begins, and for a
     /// record that has to hold a place and does not.
     pub fn read(&mut self, _pid: PageId, lsn: Lsn, ptr: DiskPtr) -> Result<LogRead>
         requires ended { pos (synced_end self.old) ≤ℤ lsn → AllEnded self.old }

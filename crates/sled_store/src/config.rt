@@ -16,7 +16,8 @@ pub struct Config {
 }
 
 impl Config {
-    /// A configuration with segments of this size, where it is a power of two from 256 to 8388608.
+    /// Returns a configuration with segments of this size; `None` where that is no power of two from 256 to
+    /// 8388608.
     pub fn new(segment_size: u64) -> Option<Config>
         ensures known { IsSome result ↔ IsSegmentSize segment_size }
         ensures size { IfSome result (λ config. config.segment_size ≡ segment_size) }
@@ -41,7 +42,8 @@ pub struct RunningConfig<D, C> {
 }
 
 impl<D, C> RunningConfig<D, C> {
-    /// Takes no memory. What the log makes, it makes with this allocator.
+    /// Returns what a log runs on. What the log makes, it makes with this allocator; this call takes no
+    /// memory.
     pub fn new(alloc: Global, config: Config, device: D, checksum: C) -> RunningConfig<D, C>
         ensures config { result.config ≡ config }
         ensures device { result.device ≡ device }
@@ -55,7 +57,7 @@ impl<D, C> RunningConfig<D, C> {
         }
     }
 
-    /// The allocator that it was made with.
+    /// Returns the allocator that it was made with.
     pub fn alloc(&self) -> Global {
         self.alloc
     }

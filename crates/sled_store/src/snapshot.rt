@@ -5,8 +5,8 @@ ghost use Rattle.sled_store.specs.SnapshotFiles.{is_sound, stable_place};
 
 use sled_codec::serialization::Snapshot;
 
-/// Whether a log can have it: it has a stable place that is not negative, or it is the one of a log that was never
-/// begun.
+/// Returns whether a log can have it: it has a stable place that is not negative, or it is the one of a log that
+/// was never begun.
 pub fn is_sound(snapshot: &Snapshot) -> bool
     ensures { result ≡ is_sound (shot_of snapshot.now) }
 {
@@ -16,7 +16,7 @@ pub fn is_sound(snapshot: &Snapshot) -> bool
     }
 }
 
-/// The place that it ends with; 0 where there is none, or a negative one.
+/// Returns the place that it ends with; 0 where there is none, or a negative one.
 pub fn stable_place(snapshot: &Snapshot) -> u64
     ensures place { result ≡ stable_place snapshot.now.stable_lsn }
     ensures small { result < 2 ^ 63 }

@@ -108,8 +108,7 @@ impl Delimited for Vec<u8> {
     ghost open = { λ rest. tt };
 }
 
-/// Writes bytes as they are over those of `buf` from the index `at` on, and answers the index behind
-/// them.
+/// Writes bytes as they are over those of `buf` from the index `at` on. Returns the index behind them.
 pub fn copy_in(bytes: &[u8], buf: &mut [u8], at: usize) -> usize
     requires { at + length bytes.now ≤ length buf.old }
     ensures next { result ≡ at + length bytes.now }

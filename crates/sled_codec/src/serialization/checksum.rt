@@ -1,17 +1,17 @@
-//! Sums that tell a message that was written whole from one that was not.
+//! Checksums, which tell a message that was written whole from one that was not.
 ghost use Rattle.std.specs.Prelude.{◌≡◌, ℕ, List};
 ghost use Rattle.sled_codec.specs.Sums.{place_sum};
 
-/// A sum over bytes, which the bytes alone decide.
+/// A checksum: a number that the bytes alone decide.
 pub trait Checksum {
     ghost sum_of: { List ℕ → ℕ };
 
-    /// The sum of these bytes.
+    /// Returns the checksum of these bytes.
     fn sum(&self, bytes: &[u8]) -> u32
         ensures { result ≡ sum_of bytes.now };
 }
 
-/// The sum for tests: the bytes times their places, counted from 1, modulo 2^32. It finds a byte that
+/// The checksum for tests: the bytes times their places, counted from 1, modulo 2^32. It finds a byte that
 /// differs and two that changed places, and is simple enough to be worked out by hand.
 #[derive(Debug, Clone, Copy, PartialEq, Eq)]
 pub struct PlaceSum;

@@ -10,8 +10,8 @@ ghost use Rattle.sled_codec.specs.Snapshots.{Shot, SpellsSnapshot, FitsSnapshot,
 
 use crate::serialization::{Checksum, Delimited};
 
-/// What was written is read again, whatever follows it: where a text begins with the spelling that is
-/// written for a value, each spelling at its front is one of that value, and leaves what follows.
+/// What was written is read again, whatever follows it: where bytes begin with the encoding that is
+/// written for a value, each encoding at their front is one of that value, and leaves what follows.
 pub fn read_again<T: Delimited>()
     ensures { (v : T.Meaning) (rest front back : List ℕ) (w : T.Meaning)
         → T.fits v → T.short v ++ rest ≡ front ++ back → T.Spells front w → (w ≡ v) × (back ≡ rest) }
@@ -25,14 +25,14 @@ pub fn lengths()
     ensures header { (text : List ℕ) (h : MessageHeader) → SpellsMessageHeader text h → (8 ≤ length text) × (length text ≤ 32) }
 {}
 
-/// What was written for a snapshot is read as that snapshot and no other, and a text is one snapshot at
+/// What was written for a snapshot is read as that snapshot and no other, and bytes are one snapshot at
 /// most.
 pub fn snapshot_again()
     ensures one { (text : List ℕ) (s w : Shot) → SpellsSnapshot text s → SpellsSnapshot text w → w ≡ s }
     ensures again { (s w : Shot) → FitsSnapshot s → SpellsSnapshot (short_snapshot s) w → w ≡ s }
 {}
 
-/// What was written for a meta is read as that meta and no other, and a text is one meta at most.
+/// What was written for a meta is read as that meta and no other, and bytes are one meta at most.
 pub fn meta_again()
     ensures one { (text : List ℕ) (m n : Numbers) → SpellsMeta text m → SpellsMeta text n → n ≡ m }
     ensures again { (m n : Numbers) → FitsMeta m → SpellsMeta (short_meta m) n → n ≡ m }
@@ -45,7 +45,7 @@ pub fn written_is_record<C: Checksum>()
         → IsRecord C.sum_of (short_record C.sum_of kind page number body) kind page number body }
 {}
 
-/// Two records at the front of one text are one record, of one message.
+/// Two records at the front of the same bytes are one record, of one message.
 pub fn one_record<C: Checksum>()
     ensures { (a b x y : List ℕ) (kind kind' : MessageKind) (page page' number number' : ℕ) (body body' : List ℕ)
         → IsRecord C.sum_of a kind page number body → IsRecord C.sum_of b kind' page' number' body'

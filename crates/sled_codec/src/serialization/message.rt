@@ -80,7 +80,7 @@ pub struct MessageHeader {
     pub len: u64,
 }
 
-/// The kind that a byte stands for. All bytes but the twelve codes stand for damage.
+/// Returns the kind that a byte stands for. All bytes but the twelve codes stand for damage.
 impl From<u8> for MessageKind {
     ghost use Rattle.sled_codec.specs.Kinds.{kind_of};
 
@@ -104,7 +104,7 @@ impl From<u8> for MessageKind {
     }
 }
 
-/// The byte that is written for a kind.
+/// Returns the byte that is written for a kind.
 impl From<MessageKind> for u8 {
     ghost from_gives = { λ kind code. code ≡ code_of kind };
 
@@ -126,7 +126,7 @@ impl From<MessageKind> for u8 {
     }
 }
 
-/// What a message of a kind does to its page.
+/// Returns what a message of a kind does to its page.
 impl From<MessageKind> for LogKind {
     ghost from_gives = { λ kind does. does ≡ log_kind_of kind };
 
@@ -145,9 +145,9 @@ impl From<MessageKind> for LogKind {
     }
 }
 
-/// The kind under which a message of a page is written, with its item inline or as a blob. `None`:
-/// there is no such message, as a Free with a blob. Manifests of batches, which are told by their page,
-/// are not among these.
+/// Returns the kind under which a message of a page is written, with its item inline or as a blob; `None`
+/// where there is no such message, as a Free with a blob. Manifests of batches, which are told by their page, are
+/// not among these.
 pub fn message_kind(kind: LogKind, pid: PageId, blob: bool) -> Option<MessageKind>
     ensures { result ≡ kind_written kind pid blob }
 {
@@ -245,8 +245,8 @@ impl Delimited for MessageHeader {
 }
 
 impl MessageHeader {
-    /// Writes what stands behind the sum over the bytes of `buf` from the index `at` on, and answers
-    /// the index behind it.
+    /// Writes what stands behind the checksum over the bytes of `buf` from the index `at` on. Returns the
+    /// index behind it.
     #[tactic(auto, using(crate::specs::HeaderLaws::header_lengths))]
     pub fn serialize_tail(&self, buf: &mut [u8], at: usize) -> usize
         requires { at + length (short_header_tail self.now.kind self.now.len self.now.segment_number.0 self.now.pid) ≤ length buf.old }

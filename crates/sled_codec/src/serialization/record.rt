@@ -7,8 +7,12 @@ use crate::result::{Error, PageId, Result};
 use crate::serialization::{Checksum, MessageHeader, MessageKind, SegmentNumber, Serialize};
 use std::alloc::Global;
 
-/// Whether a text is the record of a message: a header that announces this body and carries the sum of
-/// the body and of its own rest, and then the body. Its one error is `OutOfMemory`.
+/// Returns whether bytes are the record of a message: a header that announces this body and carries the
+/// checksum of the body and of its own rest, and then the body.
+///
+/// # Errors
+///
+/// `OutOfMemory` alone.
 pub fn is_record<C: Checksum>(
     alloc: Global,
     checksum: &C,
@@ -63,8 +67,8 @@ fn flipped_sum<C: Checksum>(alloc: Global, checksum: &C, first: &[u8], second: &
     Ok(!checksum.sum(&summed))
 }
 
-/// The sum that a record is to carry, of the body and of the header behind its sum, where `head` of its
-/// bytes are the header. The record is turned in place for it, and back, so it takes no memory.
+/// Returns the checksum that a record is to carry, of the body and of the header behind its checksum, where
+/// `head` of its bytes are the header. The record is turned in place for it, and back, so it takes no memory.
 pub fn sum_in_place<C: Checksum>(checksum: &C, bytes: &mut [u8], head: usize) -> u32
     requires whole_sum { 4 ≤ head }
     requires whole_head { head ≤ length bytes.old }

@@ -22,8 +22,8 @@ pub struct SegmentHeader {
 }
 
 impl SegmentHeader {
-    /// Reads the bytes at the beginning of a segment. Where their sum is wrong the places are read all
-    /// the same.
+    /// Returns the header that the bytes at the beginning of a segment are. Where their checksum is wrong the
+    /// places are read all the same.
     pub fn from_bytes<C: Checksum>(bytes: &[u8; 20], checksum: &C) -> SegmentHeader
         ensures sum { IsTrue result.ok ↔ IsHeader C.sum_of bytes.now result.lsn result.max_stable_lsn }
         ensures places { drop 4 bytes.now ≡ header_places result.lsn result.max_stable_lsn }
@@ -37,7 +37,7 @@ impl SegmentHeader {
         }
     }
 
-    /// The bytes of a header with these places, and the sum that fits.
+    /// Returns the bytes of a header with these places, and the checksum that fits.
     #[tactic(auto, unfolding(crate::specs::Record::short_header))]
     pub fn to_bytes<C: Checksum>(&self, checksum: &C) -> [u8; 20]
         ensures { result ≡ short_header C.sum_of self.now.lsn self.now.max_stable_lsn }

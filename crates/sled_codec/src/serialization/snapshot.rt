@@ -185,7 +185,7 @@ impl Serialize for Snapshot {
 }
 
 impl Snapshot {
-    /// The snapshot of a log that nothing was written to. It takes no memory.
+    /// Returns the snapshot of a log that nothing was written to. It takes no memory.
     pub fn empty(alloc: Global) -> Snapshot
         ensures stable { result.stable_lsn ≡ None }
         ensures active { result.active_segment ≡ None }
@@ -198,8 +198,8 @@ impl Snapshot {
         }
     }
 
-    /// Where a log with segments of this size goes on: the offset in the file and the place. It asks for
-    /// a stable place that is not negative, and for sums that fit.
+    /// Returns where a log with segments of this size goes on: the offset in the file and the place. It asks
+    /// for a stable place that is not negative, and for an offset and a place that are in range.
     pub fn recovered_coords(&self, segment_size: u64) -> (Option<LogOffset>, Option<Lsn>)
         requires { HasCoords segment_size self.now.stable_lsn self.now.active_segment }
         ensures { result ≡ coords_of segment_size self.now.stable_lsn self.now.active_segment }
