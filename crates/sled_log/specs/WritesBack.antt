@@ -100,7 +100,7 @@ RecoveryCalls sum size old new =
     let snapshots = (state_of old).snapshots.file in
     Performs (Synced ∷ NamesSynced ∷ []) old new
     ⊎ ((x : Conclusion) × Recovers sum size (record { log = log; blobs = λ _. None }) snapshots (Recovered x)
-        × (numbers : List ℤ) × MayBeRemoved snapshots (number_of x.shot) numbers × WritesBehind (Synced ∷ NamesSynced ∷ []) sum x numbers old new)
+    × (numbers : List ℤ) × MayBeRemoved snapshots (number_of x.shot) numbers × WritesBehind (Synced ∷ NamesSynced ∷ []) sum x numbers old new)
 
 -- What is read afterwards.
 

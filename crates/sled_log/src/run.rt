@@ -9,7 +9,8 @@ ghost use Rattle.sled_store.specs.Device.{state_of, fresh};
 ghost use Rattle.sled_core.specs.Fits.{config_of};
 ghost use Rattle.sled_log.specs.RunStates.{begins_on};
 ghost use Rattle.sled_log.specs.Runs.{StartActs, Runs};
-ghost use Rattle.sled_log.specs.RunPhases.{HasNoneOpen, HasOneOpen, failure_told, Shows, Starts, RunsOn, view_by, running, device_in, CanGoOn, CarriesOut, Continues};
+ghost use Rattle.sled_log.specs.RunPhases.{HasNoneOpen, HasOneOpen, CanGoOn, Shows, Starts, RunsOn, CarriesOut, Continues};
+ghost use Rattle.sled_log.specs.RunPhases.{failure_told, view_by, running, device_in};
 
 use crate::snapshot::{Snapshot, read_snapshot_or_default};
 use sled_codec::result::{DiskPtr, Error, Lsn, PageId};
@@ -101,7 +102,8 @@ pub fn run<D: CrashDevice, C: Checksum>(
     ensures refused { IfErr result.1 (λ e. result.0 ≡ config) }
     ensures headline { let view = view_by D.trace D.faults D.is_stopped D.stops_in in
         state_of (D.trace config.device) ≡ fresh
-        → IfOk result.1 (λ replies. Runs C.sum_of config.config.segment_size (begins_on (view config.device)) commands.items replies.items (view result.0.device)) }
+        → IfOk result.1 (λ replies. Runs C.sum_of config.config.segment_size (begins_on (view config.device)) commands.items replies.items
+        (view result.0.device)) }
     ensures runs_on { RunsOn D.trace config result.0 }
 {
     let mut replies = match Vec::with_capacity(config.alloc(), commands.len()) {

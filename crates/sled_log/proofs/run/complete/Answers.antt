@@ -1,18 +1,16 @@
 -- The message comes to the history, unless the log keeps a failure.
-use Rattle.std.proofs.Common.{rules, pos, ◌≡◌, ◌<◌, ◌+◌, ◌∙◌, ◌∷◌, ◌==◌, ℕ, ℤ, Bool, true, false, None, Some, if◌then◌else◌, refl, sym, ap, subst, arith, inl, inr, eq-eqb}
+use Rattle.std.proofs.Common.{rules, pos, ◌≡◌, ◌<◌, ◌+◌, ◌∙◌, ◌∷◌, ◌==◌, ℕ, ℤ, Bool, None, Some, if◌then◌else◌, sym, ap, subst, arith, inl, inr, eq-eqb}
 use Rattle.std.proofs.lemmas.Bool.{cases_lt, ne_eqb}
 use Rattle.std.proofs.lemmas.List.Elements.{All-contains}
 use Rattle.std.specs.Int.{w64, cast_signed, cast_unsigned}
 use Rattle.sled_codec.specs.declared.result.DiskPtr.{DiskPtr}
 use Rattle.sled_codec.specs.History.{Message, History}
-use Rattle.sled_core.specs.Fits.{pins_of, next_place, synced_end, fault_of}
+use Rattle.sled_core.specs.Fits.{pins_of, next_place, fault_of}
 use Rattle.sled_core.proofs.ReachLemmas.{fits_apart, fits_reach, awaited, next_small}
 use Rattle.sled_log.specs.declared.run.Opened.{Opened}
 use Rattle.sled_log.specs.declared.run.Command.TheVariants as command
 use Rattle.sled_log.specs.declared.run.Phase.TheVariants as phase
 use Rattle.sled_log.specs.declared.run.Reply.TheVariants as reply
-use Rattle.sled_log.specs.RunStates.{RunState, LogView}
-use Rattle.sled_log.specs.Runs.{HasCompleted, IsAnswerFor}
 use Rattle.sled_log.specs.RunPhases.{HasMessageOf, IsOpenAt, CarriesOutAt, Unstored, seen, stands, view_by}
 use Rattle.sled_core.specs.Running.{Fits}
 use Rattle.sled_log.proofs.RunLemmas.{place_back, complete_failed}

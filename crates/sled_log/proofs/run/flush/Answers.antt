@@ -1,12 +1,11 @@
 -- All that was reserved is written and synced, and all completed messages are acknowledged, unless memory is refused, the device fails, or the log keeps a failure.
-use Rattle.std.proofs.Common.{refl, ◌≡◌, ◌≤◌, ◌<◌, ◌+◌, ◌-◌, ◌∙◌, ℕ, List, arith, subst, sym, ap, None, Some, inl, inr}
-use Rattle.std.specs.List.{All}
-use Rattle.sled_store.specs.Device.{Event, Trace, state_of}
+use Rattle.std.proofs.Common.{refl, ◌≡◌, ◌<◌, ◌+◌, ◌∙◌, ℕ, List, arith, subst, sym, ap, None, Some, inl}
+use Rattle.sled_store.specs.Device.{Event, state_of}
 use Rattle.sled_store.specs.Script.{Performs, after_all}
 use Rattle.sled_store.proofs.ScriptLemmas.{performs_nothing}
 use Rattle.std.specs.Prelude.{MatchOption}
 use Rattle.sled_core.specs.Recoverable.{first_site}
-use Rattle.sled_core.specs.Fits.{IsKept, AllEnded, synced_end, next_place, fault_of, segment_size_of, device_of}
+use Rattle.sled_core.specs.Fits.{IsKept, AllEnded, synced_end, fault_of, segment_size_of, device_of}
 use Rattle.sled_core.proofs.ReachLemmas.{kept_past, fits_holds, fits_acknowledged}
 use Rattle.sled_log.specs.RunStates.{LogView, end_reserved}
 use Rattle.sled_log.specs.declared.run.Phase.TheVariants as phase
