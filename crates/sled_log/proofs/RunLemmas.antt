@@ -39,7 +39,7 @@ use Rattle.sled_log.specs.declared.run.Reply.{Reply}
 use Rattle.sled_log.specs.declared.run.Reply.TheVariants as reply
 use Rattle.sled_log.specs.RunStates.{DeviceView, LogView, RunState, recovered, with_log, started_on}
 use Rattle.sled_log.specs.Runs.{IsOwn, IsOutOfTurn, IsRefusedWhere, IsCause, HasRecovered, StartActs, OpenActs, CrashActs, Acts, IsGoodFor, flushed, ended, FlushStep, CompleteStep, ReplaceStep, IsStep, Runs}
-use Rattle.sled_log.specs.RunPhases.{failure_told, IsOpenAt, IsClosedAt, IsAt, Unstored, Shows, SaysWhy, log_shown, stands, size_of, traces, device_in, RunsOn, CarriesOut}
+use Rattle.sled_log.specs.RunPhases.{IsOpenAt, IsClosedAt, IsAt, Unstored, Shows, SaysWhy, log_shown, stands, size_of, traces, device_in, RunsOn, CarriesOut}
 use Rattle.sled_log.specs.WritesBack.{shredding, writing_back, RecoveryCalls}
 use Rattle.sled_log.proofs.RunHistories.{none_orderly}
 
@@ -256,10 +256,10 @@ pub complete_failed : (a : RunState) (l : LogView) (T : Type 0) (e : Error) (new
 complete_failed a l T (error.Io x) new b answers leads = (answers, leads)
 complete_failed a l T _ new b answers leads = absurd answers
 
--- the log keeps the failure that is told of
-pub failure_kept : (T : Type 0) (e : Error) (fault : Option IoError) (P : Type 0) → FaultAnswers {T = T} (Err e) fault → MatchOption (failure_told e) P (λ x. fault ≡ Some x)
-failure_kept T (error.Io x) fault P answers = answers
-failure_kept T _ fault P answers = absurd answers
+-- a log that keeps none completes
+pub none_failed : (T : Type 0) (e : Error) (fault : Option IoError) → FaultAnswers {T = T} (Err e) fault → fault ≡ None → ⊥
+none_failed T (error.Io x) fault answers none = let both : Some x ≡ None = sym answers ∙ none in cc
+none_failed T _ fault answers none = answers
 
 -- A Replace has a kind on each page.
 replace_kind : (page : ℕ) → kind_written Replace page false ≡ None → ⊥

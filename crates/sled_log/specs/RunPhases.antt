@@ -1,9 +1,6 @@
 -- What stands in each phase of a run.
-use Rattle.std.specs.Prelude.{◌≡◌, ◌^◌, ◌-◌, ◌<◌, ◌⊎◌, ℕ, List, length, Option, None, Some, MatchOption, Contains, Bool}
+use Rattle.std.specs.Prelude.{◌≡◌, ◌^◌, ◌-◌, ◌<◌, ◌⊎◌, ℕ, List, length, Option, None, Some, Contains, Bool}
 use Rattle.std.specs.List.{All}
-use Rattle.std.specs.declared.io.Error.{Error as IoError}
-use Rattle.sled_codec.specs.declared.result.Error.{Error}
-use Rattle.sled_codec.specs.declared.result.Error.TheVariants.{Io}
 use Rattle.sled_codec.specs.declared.serialization.message.LogKind.TheVariants.{Replace}
 use Rattle.sled_codec.specs.History.{Message, History}
 use Rattle.sled_codec.specs.WellFormed.{LieApart}
@@ -128,27 +125,22 @@ IsAt trace sum (Closed config) k = IsClosedAt sum config.config.segment_size (tr
 IsAt trace sum (Open opened) k = IsOpenAt trace sum opened k
 IsAt trace sum (Waiting opened ticket) k = IsOpenAt trace sum opened k × IsWaitingFor opened ticket k
 
--- no reservation of the log is open, or the log keeps the failure with which the last one was given up
+-- no reservation of the log is open
 abbrev pub HasNoneOpen : {D C : Type 0} → Opened D C → Type 0
-HasNoneOpen opened = MatchOption opened.lost (AllEnded opened.log) (λ e. fault_of opened.log ≡ Some e)
+HasNoneOpen opened = AllEnded opened.log
 
--- the ticket is for the one reservation of the log that is open
+-- the ticket is for the one reservation of the log that is open, and the log keeps no failure
 pub record HasOneOpen {D C : Type 0} (opened : Opened D C) (ticket : Ticket) : Type 0 where
   pub open_yet : IsOpen opened.log ticket.reservation
   pub only : IsOnlyOpen opened.log ticket.reservation
   pub page : ticket.page < 2 ^ 64 - 1
-  pub none_lost : opened.lost ≡ None
+  pub fault : fault_of opened.log ≡ None
 
 -- whatever happened, the phase is one in which calls can be made
 abbrev pub CanGoOn : {D C : Type 0} → Phase D C → Type 0
 CanGoOn (Closed config) = Unit {0}
 CanGoOn (Open opened) = HasNoneOpen opened
 CanGoOn (Waiting opened ticket) = HasOneOpen opened ticket
-
--- the failure of the device that an error tells of
-abbrev pub failure_told : Error → Option IoError
-failure_told (Io e) = Some e
-failure_told _ = None
 
 -- A command is answered in its turn, and leads from a phase to the next one: what holds there holds again, unless what is foreign was read or left.
 pub record CarriesOutAt {D C : Type 0} (view : D → DeviceView) (sum : List ℕ → ℕ) (phase : Phase D C) (command : Command) (result : Phase D C × Reply)

@@ -13,7 +13,7 @@ use Rattle.sled_log.specs.declared.run.Phase.TheVariants as phase
 use Rattle.sled_log.specs.declared.run.Reply.TheVariants as reply
 use Rattle.sled_log.specs.RunPhases.{HasMessageOf, IsOpenAt, CarriesOutAt, Unstored, seen, stands, view_by}
 use Rattle.sled_core.specs.Running.{Fits}
-use Rattle.sled_log.proofs.RunLemmas.{place_back, complete_failed}
+use Rattle.sled_log.proofs.RunLemmas.{place_back, complete_failed, none_failed}
 use Rattle.sled_log.proofs.RunHistories.{completed, still_has, has_new, new_there}
 use Rattle.sled_log.proofs.run.complete.Goals as goal
 use Rattle.sled_log.proofs.run.complete.Goals.{then-page-opened, else-page-opened}
@@ -42,7 +42,7 @@ returns-after-page-opened-clause-step g c = λ k at.
     let device : view new.config.device ≡ view old.config.device = ap (λ x. view x.device) same.config in
     let l : Unstored = record { history = H'; acknowledged = k.acknowledged; floor = k.floor; reserved = None } in
     let out : 0 < pins_of new = subst (λ n. 0 < n) (sym same.pins) opened.pinned in
-    let now : ℕ → Opened _ _ = λ begun. record { log = new; guard = given.guard; begun = begun; lost = given.lost } in
+    let now : ℕ → Opened _ _ = λ begun. record { log = new; guard = given.guard; begun = begun } in
     let opens : (begun : ℕ) → ((page : ℕ) → page < begun → HasMessageOf H'.messages page) → IsOpenAt trace sum (now begun) l = λ begun has.
     record { formed = formed; unmarked = m ∷ opened.unmarked; fits = done.2; pinned = out; begun = has } in
     let still : (page : ℕ) → page < given.begun → HasMessageOf H'.messages page = λ page less. still_has k.history H' m page done.1 (opened.begun page less) in
@@ -117,3 +117,6 @@ returns-in-Err-clause-step g c = λ k at.
         },
       );
     }
+
+pub returns-in-Err-clause-on : goal.returns-in-Err-clause-on
+returns-in-Err-clause-on g c = absurd (none_failed (ℤ × DiskPtr) c.in-Err.e _ c.in-Err.ensures.answers c.requires.one_open.fault)
