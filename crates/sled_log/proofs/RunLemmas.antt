@@ -1,6 +1,6 @@
 -- What holds at the joints of a run: one trace behind another, what a crash leaves, and how a phase leads to the next one.
-use Rattle.std.proofs.Common.{◌≢◌, rules, reverse, ◌≤◌, ◌≡◌, ◌⊎◌, ◌∙◌, ◌<◌, ◌^◌, ℕ, ℤ, pos, Bool, true, false, if◌then◌else◌, IsTrue, List, [], ◌∷◌, ◌++◌, Option, None, Some, refl, sym, ap, subst, append_assoc, inl, inr}
-use Rattle.std.specs.Prelude.{FitsSigned, Err, IsSome, MatchOption, ◌==◌}
+use Rattle.std.proofs.Common.{◌≢◌, rules, reverse, ◌≤◌, ◌≡◌, ◌∙◌, ◌<◌, ◌^◌, ℕ, ℤ, pos, Bool, true, false, if◌then◌else◌, IsTrue, List, [], ◌∷◌, ◌++◌, Option, None, Some, refl, sym, ap, subst, append_assoc, inl, inr}
+use Rattle.std.specs.Prelude.{FitsSigned, Err, MatchOption, ◌==◌}
 use Rattle.std.specs.declared.io.Error.{Error as IoError}
 use Rattle.std.specs.Int.{w64, cast_signed, cast_unsigned}
 use Rattle.std.proofs.lemmas.Int.{to_z-of_z}
@@ -12,11 +12,11 @@ use Rattle.sled_codec.specs.declared.serialization.message.LogKind.TheVariants.{
 use Rattle.sled_codec.specs.declared.serialization.message.MessageKind.TheVariants.{Counter, InlineMeta, InlineNode}
 use Rattle.sled_codec.specs.History.{History, no_history}
 use Rattle.sled_codec.specs.Kinds.{kind_written}
-use Rattle.sled_codec.specs.Snapshots.{Shot, shot_of}
+use Rattle.sled_codec.specs.Snapshots.{Shot}
 use Rattle.sled_store.specs.declared.device.choice.Choice.{Choice}
 use Rattle.sled_store.specs.declared.config.RunningConfig.{RunningConfig}
 use Rattle.sled_store.specs.Chosen.{MayBeChosen}
-use Rattle.sled_store.specs.Device.{Event, Left, Trace, State, Content, Synced, NamesSynced, Crashed, Settled, state_of, fresh, step, content_of, content_left, Leaves, names_at_rest}
+use Rattle.sled_store.specs.Device.{Event, Left, Trace, State, Content, Synced, NamesSynced, Crashed, Settled, state_of, fresh, step, content_left, Leaves, names_at_rest}
 use Rattle.sled_store.specs.Moments.{IsLater}
 use Rattle.sled_store.specs.Noted.{left_of}
 use Rattle.sled_store.specs.Script.{Performs, Along, after_all}
@@ -39,7 +39,7 @@ use Rattle.sled_log.specs.declared.run.Reply.{Reply}
 use Rattle.sled_log.specs.declared.run.Reply.TheVariants as reply
 use Rattle.sled_log.specs.RunStates.{DeviceView, LogView, RunState, recovered, with_log, started_on}
 use Rattle.sled_log.specs.Runs.{IsOwn, IsOutOfTurn, IsRefusedWhere, IsCause, HasRecovered, StartActs, OpenActs, CrashActs, Acts, IsGoodFor, flushed, ended, FlushStep, CompleteStep, ReplaceStep, IsStep, Runs}
-use Rattle.sled_log.specs.RunPhases.{failure_told, IsOpenAt, IsClosedAt, IsAt, Unstored, Shows, SaysWhy, log_shown, stands, size_of, traces, device_in, RunsOn, CarriesOut, CarriesOutAt}
+use Rattle.sled_log.specs.RunPhases.{IsOpenAt, IsClosedAt, IsAt, Unstored, Shows, SaysWhy, log_shown, stands, size_of, traces, device_in, RunsOn, CarriesOut}
 use Rattle.sled_log.specs.WritesBack.{shredding, writing_back}
 use Rattle.sled_log.specs.Restores.{RecoveryCalls}
 use Rattle.sled_log.proofs.RunHistories.{none_orderly}
@@ -257,10 +257,10 @@ pub complete_failed : (a : RunState) (l : LogView) (T : Type 0) (e : Error) (new
 complete_failed a l T (error.Io x) new b answers leads = (answers, leads)
 complete_failed a l T _ new b answers leads = absurd answers
 
--- the log keeps the failure that is told of
-pub failure_kept : (T : Type 0) (e : Error) (fault : Option IoError) (P : Type 0) → FaultAnswers {T = T} (Err e) fault → MatchOption (failure_told e) P (λ x. fault ≡ Some x)
-failure_kept T (error.Io x) fault P answers = answers
-failure_kept T _ fault P answers = absurd answers
+-- a log that keeps none completes
+pub none_failed : (T : Type 0) (e : Error) (fault : Option IoError) → FaultAnswers {T = T} (Err e) fault → fault ≡ None → ⊥
+none_failed T (error.Io x) fault answers none = let both : Some x ≡ None = sym answers ∙ none in cc
+none_failed T _ fault answers none = answers
 
 -- A Replace has a kind on each page.
 replace_kind : (page : ℕ) → kind_written Replace page false ≡ None → ⊥
@@ -291,5 +291,5 @@ carried_next view sum size phase c result sized carries cs rs end rest k at =
     (subst (λ n. IsRefusedWhere (IsOutOfTurn n a.log c) result.1) sized made.turn)
     (subst (λ n. Acts sum n a c result.1 new) sized made.acts)
     (λ own.
-        let done = made.step (subst (λ n. IsOwn sum n (state_of a.device.trace) c result.1) (sym sized) own) in
-        (stands view result.0 done.0, subst (λ n. IsStep sum n a c result.1 new (stands view result.0 done.0)) sized done.1, rest done.0 done.2))
+    let done = made.step (subst (λ n. IsOwn sum n (state_of a.device.trace) c result.1) (sym sized) own) in
+    (stands view result.0 done.0, subst (λ n. IsStep sum n a c result.1 new (stands view result.0 done.0)) sized done.1, rest done.0 done.2))

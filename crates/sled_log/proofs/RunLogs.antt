@@ -1,32 +1,32 @@
 -- What a log of one segment that fits a history shows of itself, and where it begins on a snapshot that is ready for it.
-use Rattle.std.proofs.Common.{◌≡◌, ◌⊎◌, ◌∙◌, ◌≤◌, ◌<◌, ◌+◌, ◌-◌, ◌*◌, ◌/◌, ◌%◌, ◌^◌, ℕ, zero, suc, max, Bool, true, false, nat_lt, if◌then◌else◌, List, [], ◌∷◌, length, drop, Option, Some, None, refl, sym, ap, subst, arith, inl, inr}
+use Rattle.std.proofs.Common.{◌≡◌, ◌⊎◌, ◌∙◌, ◌≤◌, ◌<◌, ◌+◌, ◌-◌, ◌*◌, ◌/◌, ◌%◌, ℕ, max, Bool, true, false, nat_lt, if◌then◌else◌, List, [], ◌∷◌, length, drop, Option, Some, refl, sym, ap, subst, arith, inl, inr}
 use Rattle.std.specs.List.{All}
-use Rattle.std.proofs.Math.Nat.{div-eq_of_lt, mod-eq_of_lt, mod-add-div'}
+use Rattle.std.proofs.Math.Nat.{div-eq_of_lt, mod-add-div'}
 use Rattle.std.proofs.lemmas.Bool.Decides.{nat_tests}
 use Rattle.std.proofs.lemmas.List.{length-drop}
 use Rattle.sled_codec.specs.declared.result.DiskPtr.TheVariants.{Inline}
 use Rattle.sled_codec.specs.declared.serialization.message.LogKind.TheVariants as does
 use Rattle.sled_codec.specs.History.{Message, History}
 use Rattle.sled_codec.specs.Snapshots.{Shot}
-use Rattle.sled_store.specs.Device.{Event, Trace, State, Wrote, Synced, state_of, content_of}
-use Rattle.sled_store.specs.Script.{Performs, after_all}
+use Rattle.sled_store.specs.Device.{Trace, Wrote, Synced, state_of, content_of}
+use Rattle.sled_store.specs.Script.{Performs}
 use Rattle.sled_store.specs.SnapshotFiles.{stable_place}
 use Rattle.sled_core.specs.declared.iobuf.Reserved.{Reserved}
 use Rattle.sled_core.specs.declared.iobuf.Site.{Site}
 use Rattle.sled_core.specs.declared.logger.Log.{Log}
 use Rattle.sled_core.specs.Begin.{filling, place_at, offset_at, is_used}
 use Rattle.sled_core.specs.Buffers.{IsChain, Stands, record_size, end_reserved as end_in}
-use Rattle.sled_core.specs.Fits.{HasRoom, Holds, IsWritten, IsKept, device_of, fault_of, flushing, flushing_of, message_for, next_place, number_of, reserved_end, segment_size_of, site_of, size_for, synced_end}
+use Rattle.sled_core.specs.Fits.{HasRoom, IsWritten, IsKept, device_of, flushing, flushing_of, message_for, next_place, number_of, reserved_end, segment_size_of, site_of, size_for, synced_end}
 use Rattle.sled_core.specs.Good.{IsGood}
 use Rattle.sled_core.specs.Recoverable.{first_site}
-use Rattle.sled_core.specs.Running.{Fits, IsReadyFor, Ready}
+use Rattle.sled_core.specs.Running.{Fits, Ready}
 use Rattle.sled_core.specs.Ready.{HasFile}
 use Rattle.sled_core.proofs.CompletesLemmas.{some_long}
 use Rattle.sled_core.proofs.FilledMoments.{free_of_one}
 use Rattle.sled_core.proofs.Ranges.{chain_grows}
 use Rattle.sled_core.proofs.TableEntries.{from_table}
 use Rattle.sled_core.proofs.UsedLemmas.{active_used}
-use Rattle.sled_log.specs.RunStates.{LogView, next_behind, is_pending, end_reserved, replace_at, HasRoomAt, ShowsActive}
+use Rattle.sled_log.specs.RunStates.{LogView, next_behind, end_reserved, replace_at, HasRoomAt}
 use Rattle.sled_log.specs.Runs.{starting, flush_calls}
 
 -- A log that fits a history.
@@ -99,7 +99,7 @@ module _ {D C : Type 0} (trace : D → Trace) (sum : List ℕ → ℕ) (log : Lo
         bytes,
         length-drop log.buffer.from log.buffer.bytes.items ∙ omega (arith, from, end),
         chain_flushing sum (log.site.place / log.config.config.segment_size) bytes log.buffer.bytes.items (log.site.slot + log.buffer.from) log.buffer.from (length log.buffer.bytes.items) log.buffer.reserved.items fits.holds.chain fits.holds.stand
-        ∙ (λ i. if nat_lt (max 20 (sym from i)) (sym end i) then Wrote (at i) bytes bytes ∷ Synced ∷ [] else []),
+            ∙ (λ i. if nat_lt (max 20 (sym from i)) (sym end i) then Wrote (at i) bytes bytes ∷ Synced ∷ [] else []),
       )
 
   -- the next message
@@ -160,11 +160,11 @@ module _ (sum : List ℕ → ℕ) (size : ℕ) (trace : Trace) (s : Shot) (H : H
   unfolding Ready
   starts_idle = elim ready.one_segment [
     | inl active ↦ elim (free_of_one size (length (state_of trace).log.bytes) s (omega (arith, long)) ready.short) [
-        | inl none ↦ inr (ap (filling size) none.0)
-        | inr first ↦ (
-            let used : is_used size s 0 ≡ true = ap (is_used size s) (sym (div-eq_of_lt (omega (arith, long)))) ∙ active_used size s 0 active.0 in
-            absurd (cc))
-      ]
+      | inl none ↦ inr (ap (filling size) none.0)
+      | inr first ↦ (
+          let used : is_used size s 0 ≡ true = ap (is_used size s) (sym (div-eq_of_lt (omega (arith, long)))) ∙ active_used size s 0 active.0 in
+          absurd (cc))
+    ]
     | inr none ↦ inl none.1
   ]
 

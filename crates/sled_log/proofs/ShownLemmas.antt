@@ -1,7 +1,6 @@
 -- What a recovery concludes shows the segment in which a log goes on: none where its place is the end of one, else the first.
-use Rattle.std.proofs.Common.{◌≡◌, ◌≤◌, ◌<◌, ◌^◌, ℕ, pos, List, Option, Some, None, sym, ap, subst, arith, inl, inr}
+use Rattle.std.proofs.Common.{◌≡◌, ◌≤◌, ◌<◌, ◌^◌, ℕ, List, Option, Some, None, sym, ap, subst, arith, inl, inr}
 use Rattle.sled_codec.specs.History.{History}
-use Rattle.sled_codec.specs.Snapshots.{Shot}
 use Rattle.sled_store.specs.Device.{Trace, state_of, content_of}
 use Rattle.sled_store.specs.SnapshotFiles.{stable_place}
 use Rattle.sled_core.specs.Recoverable.{ActiveFits, IsRecoverableInFirst, first_cut, first_site}
@@ -10,7 +9,7 @@ use Rattle.sled_log.specs.Orderly.{CanRecover}
 use Rattle.sled_log.specs.Recovery.{Conclusion, Recovered, Recovers}
 use Rattle.sled_log.specs.RunStates.{ShowsActive}
 use Rattle.sled_log.proofs.FirstConclusion.{first_active, ConcludesIn}
-use Rattle.sled_log.proofs.FirstRecovers.{concludes_in, log_read}
+use Rattle.sled_log.proofs.FirstRecovers.{concludes_in}
 use Rattle.sled_log.proofs.RecoveryHolds.{in_first}
 use Rattle.sled_log.proofs.RecoveryMoments.{active_fits, slot_first}
 

@@ -11,13 +11,15 @@ use Rattle.sled_log.specs.Restores.{RecoveryCalls}
 
 -- a flush failed: for the failure that the log kept, for one of this call, which is counted, or for want of memory
 abbrev pub FlushFails : {T : Type 0} → Result T Error → Option IoError → ℕ → ℕ → Type 0
-FlushFails (Err (Io e)) fault before after = ((fault ≡ Some e) × (after ≡ before)) ⊎ ((fault ≡ None) × (after ≡ (before + 1) % 2 ^ 64) × IsTrue (is_fault e))
+FlushFails (Err (Io e)) fault before after =
+    ((fault ≡ Some e) × (after ≡ before)) ⊎ ((fault ≡ None) × (after ≡ (before + 1) % 2 ^ 64) × IsTrue (is_fault e))
 FlushFails (Err OutOfMemory) fault before after = (fault ≡ None) × (after ≡ before)
 FlushFails (Err _) fault before after = ⊥
 FlushFails (Ok _) fault before after = ⊥
 
--- The flush failed, and nothing more was done than its calls, up to one that failed, or none where the log kept a failure. Or all was written, and a recovery was made of that.
-abbrev pub Restarts : {T : Type 0} → (List ℕ → ℕ) → ℕ → List Event → Option IoError → Result T Error → (old new : Trace) (before after : ℕ) → Type 0
+-- The flush failed, and nothing was done but its calls, up to one that failed, or none where the log kept a failure. Or all was written, and recovered.
+abbrev pub Restarts : {T : Type 0} → (List ℕ → ℕ) → ℕ → List Event → Option IoError → Result T Error → (old new : Trace) (before after : ℕ)
+    → Type 0
 Restarts sum size flushes fault result old new before after =
     (Performs flushes old new × (IsSome fault → new ≡ old) × FlushFails result fault before after)
     ⊎ ((fault ≡ None) × RecoveryCalls sum size (after_all flushes old) new × DeviceAnswers result before after)

@@ -1,9 +1,6 @@
 -- What stands in each phase of a run.
-use Rattle.std.specs.Prelude.{◌≡◌, ◌^◌, ◌-◌, ◌<◌, ◌⊎◌, ℕ, List, length, Option, None, Some, MatchOption, Contains, Bool}
+use Rattle.std.specs.Prelude.{◌≡◌, ◌^◌, ◌-◌, ◌<◌, ◌⊎◌, ℕ, List, length, Option, None, Some, Contains, Bool}
 use Rattle.std.specs.List.{All}
-use Rattle.std.specs.declared.io.Error.{Error as IoError}
-use Rattle.sled_codec.specs.declared.result.Error.{Error}
-use Rattle.sled_codec.specs.declared.result.Error.TheVariants.{Io}
 use Rattle.sled_codec.specs.declared.serialization.message.LogKind.TheVariants.{Replace}
 use Rattle.sled_codec.specs.History.{Message, History}
 use Rattle.sled_codec.specs.WellFormed.{LieApart}
@@ -11,9 +8,8 @@ use Rattle.sled_codec.specs.Snapshots.{Shot, shot_of}
 use Rattle.sled_store.specs.Device.{Trace, state_of}
 use Rattle.sled_store.specs.Moments.{IsLater}
 use Rattle.sled_store.specs.SnapshotFiles.{stable_place}
-use Rattle.sled_store.specs.declared.config.Config.{Config}
 use Rattle.sled_store.specs.declared.config.RunningConfig.{RunningConfig}
-use Rattle.sled_core.specs.Fits.{AllEnded, Awaits, IsOnlyOpen, IsOpen, config_of, fault_of, next_place, pins_of, segment_size_of, synced_end}
+use Rattle.sled_core.specs.Fits.{AllEnded, Awaits, IsOnlyOpen, IsOpen, config_of, fault_of, next_place, pins_of, synced_end}
 use Rattle.sled_core.specs.Keeps.{ConfigKept}
 use Rattle.sled_core.specs.Recoverable.{LeavesRecoverable}
 use Rattle.sled_core.specs.Running.{Fits, Ready}
@@ -25,7 +21,7 @@ use Rattle.sled_log.specs.declared.run.Command.{Command}
 use Rattle.sled_log.specs.declared.run.Reply.{Reply}
 use Rattle.sled_log.specs.declared.run.Reply.TheVariants as reply
 use Rattle.sled_log.specs.RunStates.{DeviceView, LogView, RunState, started_on}
-use Rattle.sled_log.specs.Runs.{IsOwn, IsOutOfTurn, IsRefusedWhere, IsCause, StartActs, Acts, IsStep}
+use Rattle.sled_log.specs.Runs.{IsOwn, IsOutOfTurn, IsRefusedWhere, IsCause, Acts, IsStep}
 
 -- a message of a page lies below a place
 pub record HasBelow (messages : List Message) (page place : ℕ) : Type 0 where
@@ -65,7 +61,8 @@ traces view device = (view device).trace
 
 -- what is seen of a log that is open, with the message of its reservation
 abbrev pub seen : {D C : Type 0} → Opened D C → Option Message → LogView
-seen opened reserved = record { next = next_place opened.log; stable = synced_end opened.log; begun = opened.begun; fault = fault_of opened.log; reserved = reserved }
+seen opened reserved =
+    record { next = next_place opened.log; stable = synced_end opened.log; begun = opened.begun; fault = fault_of opened.log; reserved = reserved }
 
 -- What a run keeps in mind that its code doesn't store.
 pub record Unstored : Type 0 where
@@ -92,7 +89,8 @@ device_in view phase = view (running phase).device
 
 -- where a run stands in a phase
 abbrev pub stands : {D C : Type 0} → (D → DeviceView) → Phase D C → Unstored → RunState
-stands view phase k = record { device = device_in view phase; history = k.history; acknowledged = k.acknowledged; floor = k.floor; log = log_in phase k.reserved }
+stands view phase k =
+    record { device = device_in view phase; history = k.history; acknowledged = k.acknowledged; floor = k.floor; log = log_in phase k.reserved }
 
 -- the size of its segments
 abbrev pub size_of : {D C : Type 0} → Phase D C → ℕ
@@ -127,16 +125,16 @@ IsAt trace sum (Closed config) k = IsClosedAt sum config.config.segment_size (tr
 IsAt trace sum (Open opened) k = IsOpenAt trace sum opened k
 IsAt trace sum (Waiting opened ticket) k = IsOpenAt trace sum opened k × IsWaitingFor opened ticket k
 
--- no reservation of the log is open, or the log keeps the failure with which the last one was given up
+-- no reservation of the log is open
 abbrev pub HasNoneOpen : {D C : Type 0} → Opened D C → Type 0
-HasNoneOpen opened = MatchOption opened.lost (AllEnded opened.log) (λ e. fault_of opened.log ≡ Some e)
+HasNoneOpen opened = AllEnded opened.log
 
--- the ticket is for the one reservation of the log that is open
+-- the ticket is for the one reservation of the log that is open, and the log keeps no failure
 pub record HasOneOpen {D C : Type 0} (opened : Opened D C) (ticket : Ticket) : Type 0 where
   pub open_yet : IsOpen opened.log ticket.reservation
   pub only : IsOnlyOpen opened.log ticket.reservation
   pub page : ticket.page < 2 ^ 64 - 1
-  pub none_lost : opened.lost ≡ None
+  pub fault : fault_of opened.log ≡ None
 
 -- whatever happened, the phase is one in which calls can be made
 abbrev pub CanGoOn : {D C : Type 0} → Phase D C → Type 0
@@ -144,17 +142,14 @@ CanGoOn (Closed config) = Unit {0}
 CanGoOn (Open opened) = HasNoneOpen opened
 CanGoOn (Waiting opened ticket) = HasOneOpen opened ticket
 
--- the failure of the device that an error tells of
-abbrev pub failure_told : Error → Option IoError
-failure_told (Io e) = Some e
-failure_told _ = None
-
--- A command is answered in its turn, and what it does leads from a phase to the next one: what holds there holds again, unless what is foreign was read or left.
-pub record CarriesOutAt {D C : Type 0} (view : D → DeviceView) (sum : List ℕ → ℕ) (phase : Phase D C) (command : Command) (result : Phase D C × Reply) (k : Unstored) : Type 0 where
+-- A command is answered in its turn, and leads from a phase to the next one: what holds there holds again, unless what is foreign was read or left.
+pub record CarriesOutAt {D C : Type 0} (view : D → DeviceView) (sum : List ℕ → ℕ) (phase : Phase D C) (command : Command) (result : Phase D C × Reply)
+    (k : Unstored) : Type 0 where
   pub turn : IsRefusedWhere (IsOutOfTurn (size_of phase) (log_in phase k.reserved) command) result.1
   pub acts : Acts sum (size_of phase) (stands view phase k) command result.1 (device_in view result.0)
   pub step : IsOwn sum (size_of phase) (state_of (device_in view phase).trace) command result.1
-      → (l : Unstored) × IsStep sum (size_of phase) (stands view phase k) command result.1 (device_in view result.0) (stands view result.0 l) × IsAt (traces view) sum result.0 l
+      → (l : Unstored) × IsStep sum (size_of phase) (stands view phase k) command result.1 (device_in view result.0) (stands view result.0 l)
+      × IsAt (traces view) sum result.0 l
 
 abbrev pub CarriesOut : {D C : Type 0} → (D → DeviceView) → (List ℕ → ℕ) → Phase D C → Command → Phase D C × Reply → Type 0
 CarriesOut view sum phase command result = (k : Unstored) → IsAt (traces view) sum phase k → CarriesOutAt view sum phase command result k
@@ -172,7 +167,8 @@ pub record Continues {D C : Type 0} (trace : D → Trace) (phase next : Phase D 
 -- A recovery has left this: a table of which each page has a message, and where its place lies in the segment, a log can be started on it.
 pub record IsRecoveredAt {D C : Type 0} (trace : D → Trace) (sum : List ℕ → ℕ) (config : RunningConfig D C) (s : Shot) (k : Unstored) : Type 0 where
   pub closed : IsClosedAt sum config.config.segment_size (trace config.device) k
-  pub ready : stable_place s.stable < config.config.segment_size → Ready sum config.config.segment_size (state_of (trace config.device)) s k.history k.acknowledged k.floor
+  pub ready : stable_place s.stable < config.config.segment_size
+      → Ready sum config.config.segment_size (state_of (trace config.device)) s k.history k.acknowledged k.floor
   pub begun : (page : ℕ) → page < length s.pages → HasMessageOf k.history.messages page
 
 -- a reply that shows this recovered table
@@ -191,7 +187,8 @@ SaysWhy (reply.Recovered t (Some e)) before after = IsCause e before after
 SaysWhy _ before after = Unit {0}
 
 -- What a start makes of a table that was recovered.
-pub record HasStarted {D C : Type 0} (view : D → DeviceView) (sum : List ℕ → ℕ) (config : RunningConfig D C) (s : Shot) (result : Phase D C × Reply) (k : Unstored) : Type 0 where
+pub record HasStarted {D C : Type 0} (view : D → DeviceView) (sum : List ℕ → ℕ) (config : RunningConfig D C) (s : Shot) (result : Phase D C × Reply)
+    (k : Unstored) : Type 0 where
   pub log : log_in result.0 None ≡ log_shown s result.1
   pub at : IsAt (traces view) sum result.0 k
   pub why : SaysWhy result.1 (view config.device).failures (device_in view result.0).failures

@@ -1,9 +1,9 @@
 -- What runs of commands over a log of one segment come to: what each command does to the device, what it is answered, and where the run stands then.
-use Rattle.std.specs.Prelude.{◌≡◌, ◌≢◌, ◌⊎◌, ◌↔◌, ◌+◌, ◌-◌, ◌%◌, ◌^◌, ◌==◌, ◌<◌, ◌≤◌, ◌∷◌, ◌++◌, ℕ, ℤ, pos, if◌then◌else◌, IsTrue, IsSome, List, [], length, Option, None, Some, false}
+use Rattle.std.specs.Prelude.{◌≡◌, ◌⊎◌, ◌↔◌, ◌+◌, ◌-◌, ◌%◌, ◌^◌, ◌==◌, ◌<◌, ◌≤◌, ◌∷◌, ℕ, ℤ, pos, if◌then◌else◌, IsTrue, IsSome}
+use Rattle.std.specs.Prelude.{List, [], length, Option, None, Some, false}
 use Rattle.std.specs.List.{All}
 use Rattle.std.specs.declared.io.Error.{Error as IoError}
 use Rattle.sled_codec.specs.declared.result.DiskPtr.{DiskPtr}
-use Rattle.sled_codec.specs.declared.result.DiskPtr.TheVariants.{Inline}
 use Rattle.sled_codec.specs.declared.result.Error.{Error}
 use Rattle.sled_codec.specs.declared.result.Error.TheVariants.{Io, OutOfMemory}
 use Rattle.sled_codec.specs.Spelling.{short_bytes}
@@ -26,7 +26,8 @@ use Rattle.sled_log.specs.declared.run.Command.TheVariants as command
 use Rattle.sled_log.specs.declared.run.Reply.{Reply}
 use Rattle.sled_log.specs.declared.run.Reply.TheVariants as reply
 use Rattle.sled_log.specs.Recovery.{Conclusion, Recovered, Recovers}
-use Rattle.sled_log.specs.RunStates.{DeviceView, LogView, RunState, with_log, recovered, started_on, is_pending, end_reserved, replace_at, HasRoomAt, ShowsActive}
+use Rattle.sled_log.specs.RunStates.{DeviceView, LogView, RunState, with_log, recovered, started_on, is_pending, end_reserved, replace_at}
+use Rattle.sled_log.specs.RunStates.{HasRoomAt, ShowsActive}
 use Rattle.sled_log.specs.WritesBack.{HasWrittenBack}
 use Rattle.sled_log.specs.Restores.{RecoveryCalls}
 
@@ -69,7 +70,7 @@ IsRefusedWhere out _ = out → ⊥
 -- A recovery was made that shows this: the device was settled, and what the newest snapshot and the log file come to was written back.
 pub record HasRecovered (sum : List ℕ → ℕ) (size : ℕ) (old new : DeviceView) (s : Shot) : Type 0 where
   pub conclusion : Conclusion
-  pub recovers : Recovers sum size (record { log = (state_of old.trace).log.bytes; blobs = λ _. None }) (state_of old.trace).snapshots.file (Recovered conclusion)
+  pub recovers : let s = state_of old.trace in Recovers sum size (record { log = s.log.bytes; blobs = λ _. None }) s.snapshots.file (Recovered conclusion)
   pub shown : s ≡ conclusion.shot
   pub written : HasWrittenBack sum conclusion (NamesSynced ∷ Synced ∷ old.trace) new.trace
   pub failures : new.failures ≡ old.failures
@@ -80,15 +81,19 @@ starting size trace s = filling size (unused size (slots_of size (length (state_
 
 -- A log was started on what was recovered, or the calls for it were made up to one that failed, or none where the segment is full.
 abbrev pub StartActs : ℕ → DeviceView → Reply → DeviceView → Type 0
-StartActs size old (reply.Opened s) new = (new.trace ≡ after_all (starting size old.trace (shot_of s)) old.trace) × (new.failures ≡ old.failures)
+StartActs size old (reply.Opened s) new =
+    (new.trace ≡ after_all (starting size old.trace (shot_of s)) old.trace) × (new.failures ≡ old.failures)
 StartActs size old (reply.Recovered s None) new = (size ≤ stable_place s.stable_lsn) × (new ≡ old)
-StartActs size old (reply.Recovered s (Some e)) new = (stable_place s.stable_lsn < size) × Performs (starting size old.trace (shot_of s)) old.trace new.trace
+StartActs size old (reply.Recovered s (Some e)) new =
+    (stable_place s.stable_lsn < size) × Performs (starting size old.trace (shot_of s)) old.trace new.trace
 StartActs size old _ new = ⊥
 
 -- A recovery was made and a log started on what it shows, or its calls were made up to one that failed.
 abbrev pub OpenActs : (List ℕ → ℕ) → ℕ → DeviceView → Reply → DeviceView → Type 0
-OpenActs sum size old (reply.Opened s) new = (mid : DeviceView) × HasRecovered sum size old mid (shot_of s) × StartActs size mid (reply.Opened s) new
-OpenActs sum size old (reply.Recovered s e) new = (mid : DeviceView) × HasRecovered sum size old mid (shot_of s) × StartActs size mid (reply.Recovered s e) new
+OpenActs sum size old (reply.Opened s) new =
+    (mid : DeviceView) × HasRecovered sum size old mid (shot_of s) × StartActs size mid (reply.Opened s) new
+OpenActs sum size old (reply.Recovered s e) new =
+    (mid : DeviceView) × HasRecovered sum size old mid (shot_of s) × StartActs size mid (reply.Recovered s e) new
 OpenActs sum size old (reply.Failed e) new = RecoveryCalls sum size old.trace new.trace
 OpenActs sum size old reply.Refused new = new ≡ old
 OpenActs sum size old _ new = ⊥
@@ -105,7 +110,7 @@ FlushActs (Some l) old (reply.Failed e) new =
     (bytes : List ℕ) × (length bytes ≡ l.next - l.stable) × Performs (flush_calls l bytes) old.trace new.trace × (IsSome l.fault → new ≡ old)
 FlushActs log old _ new = new ≡ old
 
--- The device crashed: what was chosen was taken exactly where a crash may leave that, and else what was synced. It is no longer stopped, nor to be.
+-- The device crashed: what was chosen was taken exactly where a crash may leave that, and else what was synced. It is no longer stopped, nor is it to be.
 abbrev pub CrashActs : Choice → DeviceView → Reply → DeviceView → Type 0
 CrashActs choice old (reply.Crashed taken) new =
     (IsTrue taken ↔ MayBeChosen choice (state_of old.trace))
@@ -237,7 +242,7 @@ IsStep sum size a c r new b = TurnStep sum size a a.log c r new b
 
 -- Runs.
 
--- These commands are answered by these replies, from where a run stands on, and leave this of the device. Each command is refused exactly where it is out of its turn.
+-- These commands are answered by these replies, from where a run stands on, and leave this of the device. Each is refused exactly where it is out of its turn.
 -- Where a command reads or leaves what is foreign, nothing more is claimed from there on.
 unfoldable pub Runs : (List ℕ → ℕ) → ℕ → RunState → List Command → List Reply → DeviceView → Type 0
 Runs sum size a [] [] end = a.device ≡ end

@@ -9,7 +9,8 @@ ghost use Rattle.sled_store.specs.Device.{state_of, fresh};
 ghost use Rattle.sled_core.specs.Fits.{config_of};
 ghost use Rattle.sled_log.specs.RunStates.{begins_on};
 ghost use Rattle.sled_log.specs.Runs.{StartActs, Runs};
-ghost use Rattle.sled_log.specs.RunPhases.{HasNoneOpen, HasOneOpen, failure_told, Shows, Starts, RunsOn, view_by, running, device_in, CanGoOn, CarriesOut, Continues};
+ghost use Rattle.sled_log.specs.RunPhases.{HasNoneOpen, HasOneOpen, CanGoOn, Shows, Starts, RunsOn, CarriesOut, Continues};
+ghost use Rattle.sled_log.specs.RunPhases.{view_by, running, device_in};
 
 use crate::snapshot::{Snapshot, read_snapshot_or_default};
 use sled_codec::result::{DiskPtr, Error, Lsn, PageId};
@@ -19,7 +20,6 @@ use sled_core::reservation::{Guard, Reservation};
 use sled_store::snapshot::stable_place;
 use sled_store::{Choice, CrashDevice, RunningConfig};
 use std::alloc::AllocError;
-use std::io;
 
 /// What a run is told to do.
 #[derive(Drop)]
@@ -81,8 +81,6 @@ struct Opened<D, C> {
     guard: Guard,
     /// How many pages have a Replace.
     begun: u64,
-    /// The failure with which the last reservation was given up, which still counts as open in the log.
-    lost: Option<io::Error>,
 }
 
 /// The reservation that is open.
@@ -101,7 +99,8 @@ pub fn run<D: CrashDevice, C: Checksum>(
     ensures refused { IfErr result.1 (λ e. result.0 ≡ config) }
     ensures headline { let view = view_by D.trace D.faults D.is_stopped D.stops_in in
         state_of (D.trace config.device) ≡ fresh
-        → IfOk result.1 (λ replies. Runs C.sum_of config.config.segment_size (begins_on (view config.device)) commands.items replies.items (view result.0.device)) }
+        → IfOk result.1 (λ replies. Runs C.sum_of config.config.segment_size (begins_on (view config.device)) commands.items replies.items
+        (view result.0.device)) }
     ensures runs_on { RunsOn D.trace config result.0 }
 {
     let mut replies = match Vec::with_capacity(config.alloc(), commands.len()) {
@@ -221,13 +220,10 @@ fn start<D: CrashDevice, C: Checksum>(
             let mut log = log;
             let guard = log.pin();
             let begun = snapshot.pt.len() as u64;
-            let opened = Opened {
-                log,
-                guard,
-                begun,
-                lost: None,
-            };
-            (Phase::Open(opened), Reply::Opened(snapshot))
+            (
+                Phase::Open(Opened { log, guard, begun }),
+                Reply::Opened(snapshot),
+            )
         }
         Err((e, config)) => (Phase::Closed(config), Reply::Recovered(snapshot, Some(e))),
     }
@@ -300,20 +296,7 @@ fn complete<D: CrashDevice, C: Checksum>(
             }
             (Phase::Open(opened), Reply::Done(place, pointer))
         }
-        Err(e) => {
-            opened.lost = failure_of(&e);
-            (Phase::Open(opened), Reply::Failed(e))
-        }
-    }
-}
-
-/// The failure of the device that an error tells of.
-fn failure_of(error: &Error) -> Option<io::Error>
-    ensures { result ≡ failure_told error.now }
-{
-    match error {
-        Error::Io(e) => Some(*e),
-        _ => None,
+        Err(e) => (Phase::Open(opened), Reply::Failed(e)),
     }
 }
 
@@ -324,9 +307,6 @@ fn flush<D: CrashDevice, C: Checksum>(opened: Opened<D, C>) -> (Phase<D, C>, Rep
     ensures on { Continues D.trace (Phase.Open opened) result.0 }
 {
     let mut opened = opened;
-    if let Some(e) = opened.lost {
-        return (Phase::Open(opened), Reply::Failed(Error::Io(e)));
-    }
     match opened.log.flush() {
         Ok(grown) => (Phase::Open(opened), Reply::Flushed(grown)),
         Err(e) => (Phase::Open(opened), Reply::Failed(e)),
@@ -341,7 +321,6 @@ fn halt<D: CrashDevice, C: Checksum>(opened: Opened<D, C>) -> RunningConfig<D, C
         log,
         guard,
         begun: _,
-        lost: _,
     } = opened;
     guard.abandon();
     log.halt()

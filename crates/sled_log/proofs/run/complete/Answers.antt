@@ -1,21 +1,19 @@
 -- The message comes to the history, unless the log keeps a failure.
-use Rattle.std.proofs.Common.{rules, pos, ◌≡◌, ◌<◌, ◌+◌, ◌∙◌, ◌∷◌, ◌==◌, ℕ, ℤ, Bool, true, false, None, Some, if◌then◌else◌, refl, sym, ap, subst, arith, inl, inr, eq-eqb}
+use Rattle.std.proofs.Common.{rules, pos, ◌≡◌, ◌<◌, ◌+◌, ◌∙◌, ◌∷◌, ◌==◌, ℕ, ℤ, Bool, None, Some, if◌then◌else◌, sym, ap, subst, arith, inl, inr, eq-eqb}
 use Rattle.std.proofs.lemmas.Bool.{cases_lt, ne_eqb}
 use Rattle.std.proofs.lemmas.List.Elements.{All-contains}
 use Rattle.std.specs.Int.{w64, cast_signed, cast_unsigned}
 use Rattle.sled_codec.specs.declared.result.DiskPtr.{DiskPtr}
 use Rattle.sled_codec.specs.History.{Message, History}
-use Rattle.sled_core.specs.Fits.{pins_of, next_place, synced_end, fault_of}
+use Rattle.sled_core.specs.Fits.{pins_of, next_place, fault_of}
 use Rattle.sled_core.proofs.ReachLemmas.{fits_apart, fits_reach, awaited, next_small}
 use Rattle.sled_log.specs.declared.run.Opened.{Opened}
 use Rattle.sled_log.specs.declared.run.Command.TheVariants as command
 use Rattle.sled_log.specs.declared.run.Phase.TheVariants as phase
 use Rattle.sled_log.specs.declared.run.Reply.TheVariants as reply
-use Rattle.sled_log.specs.RunStates.{RunState, LogView}
-use Rattle.sled_log.specs.Runs.{HasCompleted, IsAnswerFor}
 use Rattle.sled_log.specs.RunPhases.{HasMessageOf, IsOpenAt, CarriesOutAt, Unstored, seen, stands, view_by}
 use Rattle.sled_core.specs.Running.{Fits}
-use Rattle.sled_log.proofs.RunLemmas.{place_back, complete_failed}
+use Rattle.sled_log.proofs.RunLemmas.{place_back, complete_failed, none_failed}
 use Rattle.sled_log.proofs.RunHistories.{completed, still_has, has_new, new_there}
 use Rattle.sled_log.proofs.run.complete.Goals as goal
 use Rattle.sled_log.proofs.run.complete.Goals.{then-page-opened, else-page-opened}
@@ -44,7 +42,7 @@ returns-after-page-opened-clause-step g c = λ k at.
     let device : view new.config.device ≡ view old.config.device = ap (λ x. view x.device) same.config in
     let l : Unstored = record { history = H'; acknowledged = k.acknowledged; floor = k.floor; reserved = None } in
     let out : 0 < pins_of new = subst (λ n. 0 < n) (sym same.pins) opened.pinned in
-    let now : ℕ → Opened _ _ = λ begun. record { log = new; guard = given.guard; begun = begun; lost = given.lost } in
+    let now : ℕ → Opened _ _ = λ begun. record { log = new; guard = given.guard; begun = begun } in
     let opens : (begun : ℕ) → ((page : ℕ) → page < begun → HasMessageOf H'.messages page) → IsOpenAt trace sum (now begun) l = λ begun has.
     record { formed = formed; unmarked = m ∷ opened.unmarked; fits = done.2; pinned = out; begun = has } in
     let still : (page : ℕ) → page < given.begun → HasMessageOf H'.messages page = λ page less. still_has k.history H' m page done.1 (opened.begun page less) in
@@ -119,3 +117,6 @@ returns-in-Err-clause-step g c = λ k at.
         },
       );
     }
+
+pub returns-in-Err-clause-on : goal.returns-in-Err-clause-on
+returns-in-Err-clause-on g c = absurd (none_failed (ℤ × DiskPtr) c.in-Err.e _ c.in-Err.ensures.answers c.requires.one_open.fault)

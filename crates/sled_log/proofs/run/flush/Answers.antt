@@ -1,12 +1,11 @@
 -- All that was reserved is written and synced, and all completed messages are acknowledged, unless memory is refused, the device fails, or the log keeps a failure.
-use Rattle.std.proofs.Common.{refl, ◌≡◌, ◌≤◌, ◌<◌, ◌+◌, ◌-◌, ◌∙◌, ℕ, List, arith, subst, sym, ap, None, Some, inl, inr}
-use Rattle.std.specs.List.{All}
-use Rattle.sled_store.specs.Device.{Event, Trace, state_of}
+use Rattle.std.proofs.Common.{refl, ◌≡◌, ◌<◌, ◌+◌, ◌∙◌, ℕ, List, arith, subst, sym, ap, None, Some, inl}
+use Rattle.sled_store.specs.Device.{Event, state_of}
 use Rattle.sled_store.specs.Script.{Performs, after_all}
 use Rattle.sled_store.proofs.ScriptLemmas.{performs_nothing}
 use Rattle.std.specs.Prelude.{MatchOption}
 use Rattle.sled_core.specs.Recoverable.{first_site}
-use Rattle.sled_core.specs.Fits.{IsKept, AllEnded, synced_end, next_place, fault_of, segment_size_of, device_of}
+use Rattle.sled_core.specs.Fits.{IsKept, AllEnded, synced_end, fault_of, segment_size_of, device_of}
 use Rattle.sled_core.proofs.ReachLemmas.{kept_past, fits_holds, fits_acknowledged}
 use Rattle.sled_log.specs.RunStates.{LogView, end_reserved}
 use Rattle.sled_log.specs.declared.run.Phase.TheVariants as phase
@@ -68,13 +67,13 @@ returns-in-Ok-clause-step g c = λ k at.
 pub returns-in-Ok-clause-on : goal.returns-in-Ok-clause-on
 returns-in-Ok-clause-on g c = record {
   runs_on = record { later = c.flush.ensures.keeps.goes_on.later; kept = c.flush.ensures.keeps.goes_on.config };
-  can_go_on = subst (λ o. MatchOption o (AllEnded c.flush.new.self) (λ e. fault_of c.flush.new.self ≡ Some e)) (sym c.in_default.is) c.flush.ensures.ended;
+  can_go_on = c.flush.ensures.ended;
 }
 
 pub returns-in-Err-clause-on : goal.returns-in-Err-clause-on
 returns-in-Err-clause-on g c = record {
   runs_on = record { later = c.flush.ensures.keeps.goes_on.later; kept = c.flush.ensures.keeps.goes_on.config };
-  can_go_on = subst (λ o. MatchOption o (AllEnded c.flush.new.self) (λ e. fault_of c.flush.new.self ≡ Some e)) (sym c.in_default.is) c.flush.ensures.ended;
+  can_go_on = c.flush.ensures.ended;
 }
 
 -- a flush that failed changes nothing of the history
@@ -113,20 +112,4 @@ returns-in-Err-clause-step g c = λ k at.
           begun = at.begun;
         },
       );
-    }
-
--- a log that lost a reservation answers the failure that it keeps
-pub returns-in-Some-clause-step : goal.returns-in-Some-clause-step
-returns-in-Some-clause-step g c = λ k at.
-    let trace = g.D.Device.trace in
-    let sum = g.C.Checksum.sum_of in
-    let view = view_by g.D.Device.trace g.D.Device.faults g.D.CrashDevice.is_stopped g.D.CrashDevice.stops_in in
-    let old = c.args.opened.log in
-    let l : LogView = seen c.args.opened None in
-    let asked = fits_flushing trace sum old k.history k.acknowledged k.floor at.unmarked at.fits l refl refl in
-    let kept : fault_of old ≡ Some c.in-Some.e = subst (λ o. MatchOption o (AllEnded old) (λ e. fault_of old ≡ Some e)) c.in-Some.is c.requires.none_open in
-    record {
-      turn = λ out. cc;
-      acts = (asked.0, asked.1, performs_nothing (flush_calls l asked.0) _ _ refl, λ some. refl);
-      step = λ own. (k, (inl (kept, refl, refl), (λ i. record (stands view (phase.Open c.args.opened) k) { log = Some (record l { fault = kept i }) })), at);
     }

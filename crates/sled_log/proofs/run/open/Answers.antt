@@ -1,5 +1,5 @@
 -- An opening goes on from what the recovery gave.
-use Rattle.std.proofs.Common.{◌≡◌, ◌∙◌, ◌<◌, ◌^◌, ℕ, List, refl, sym, ap, subst, arith, None}
+use Rattle.std.proofs.Common.{◌≡◌, ◌<◌, ℕ, refl, sym, ap, subst, arith, None}
 use Rattle.sled_codec.specs.declared.serialization.snapshot.Snapshot.{Snapshot}
 use Rattle.sled_codec.specs.History.{below}
 use Rattle.sled_codec.specs.Snapshots.{Shot, shot_of}
@@ -7,7 +7,7 @@ use Rattle.sled_store.specs.declared.config.Config.{Config}
 use Rattle.sled_store.specs.Device.{Trace, state_of}
 use Rattle.sled_store.specs.SnapshotFiles.{stable_place}
 use Rattle.sled_store.proofs.MomentLemmas.{at_last}
-use Rattle.sled_core.specs.Recoverable.{LeavesRecoverable, NoForeign}
+use Rattle.sled_core.specs.Recoverable.{LeavesRecoverable}
 use Rattle.sled_core.specs.Running.{Ready}
 use Rattle.sled_log.specs.Orderly.{CanRecover}
 use Rattle.sled_log.specs.RunStates.{DeviceView, ShowsActive}
@@ -51,8 +51,7 @@ returns-in-Ok-clause-step g c = λ k at.
           let started = c.start.ensures.starts l recovered in
           let active : ShowsActive size cut s.active = subst (λ (x : Shot). ShowsActive size (stable_place x.stable) x.active) (sym ok.2)
           (shows_active sum size given.least (let most = given.most in omega (arith, most)) old.trace k.history k.acknowledged k.floor can ok.0 ok.1) in
-          let why = subst (λ n. SaysWhy c.start.result.1 n new.failures) c.in-Ok.ensures.answers started.why in
-          (
+          let why = subst (λ n. SaysWhy c.start.result.1 n new.failures) c.in-Ok.ensures.answers started.why in (
             l,
             open_step sum size old new k.history k.acknowledged k.floor s c.start.result.1 _ c.start.ensures.shows
                 (record { good = good_moves sum size mid.trace new.trace k.history k.acknowledged k.floor s good started.reads; active = active }) why

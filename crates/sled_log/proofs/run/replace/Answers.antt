@@ -1,14 +1,13 @@
 -- A place is kept for a message, behind one of each lower page, unless the command is out of its turn, memory is refused or the log keeps a failure.
-use Rattle.std.proofs.Common.{rules, ◌≡◌, ◌⊎◌, ◌≤◌, ◌<◌, ◌+◌, ◌-◌, ◌∙◌, ◌^◌, ◌||◌, ℕ, ℤ, pos, Bool, true, false, length, refl, sym, ap, subst, arith, None, Some, inl, inr}
+use Rattle.std.proofs.Common.{rules, ◌≡◌, ◌≤◌, ◌<◌, ◌+◌, ◌-◌, ◌∙◌, ◌^◌, ℕ, pos, length, refl, sym, ap, subst, arith, None, Some, inl, inr}
 use Rattle.std.proofs.lemmas.List.Elements.{All-contains}
-use Rattle.std.specs.Int.{w64, cast_signed, cast_unsigned}
 use Rattle.sled_codec.specs.declared.serialization.message.LogKind.TheVariants.{Replace}
 use Rattle.sled_codec.specs.Spelling.{short_bytes}
 use Rattle.sled_codec.specs.History.{Message}
 use Rattle.sled_core.specs.declared.reservation.Reservation.{Reservation}
-use Rattle.sled_core.specs.Fits.{Awaits, message_for, next_place, synced_end, fault_of}
+use Rattle.sled_core.specs.Fits.{Awaits, message_for, next_place, fault_of}
 use Rattle.sled_core.proofs.ReachLemmas.{fits_reach, awaited, next_small}
-use Rattle.sled_log.specs.RunStates.{LogView, replace_at, HasRoomAt}
+use Rattle.sled_log.specs.RunStates.{replace_at}
 use Rattle.sled_log.specs.declared.run.Phase.TheVariants as phase
 use Rattle.sled_log.specs.RunPhases.{Unstored, seen, stands, view_by}
 use Rattle.sled_log.proofs.RunLemmas.{place_back, replace_failed}

@@ -3,13 +3,12 @@ use Rattle.std.proofs.Common.{rules, reverse, ◌≡◌, ◌∙◌, ◌∷◌, �
 use Rattle.std.proofs.lemmas.List.{reverse-reverse, append-nil}
 use Rattle.sled_codec.specs.History.{no_history}
 use Rattle.sled_store.specs.declared.config.Config.{Config}
-use Rattle.sled_store.specs.Device.{Trace}
 use Rattle.sled_log.specs.declared.run.Command.{Command}
 use Rattle.sled_log.specs.declared.run.Reply.{Reply}
 use Rattle.sled_log.specs.RunStates.{DeviceView, begins_on}
 use Rattle.sled_log.specs.Runs.{Runs}
-use Rattle.sled_log.specs.RunPhases.{CarriesOut, Unstored, device_in, stands, size_of, view_by}
-use Rattle.sled_log.proofs.RunLemmas.{runs_on_same, runs_on_both, runs_more, runs_none, fresh_closed, next_of, carried_next}
+use Rattle.sled_log.specs.RunPhases.{Unstored, stands, size_of, view_by}
+use Rattle.sled_log.proofs.RunLemmas.{runs_on_same, runs_on_both, runs_none, fresh_closed, next_of, carried_next}
 use Rattle.sled_log.proofs.run.run.Goals as goal
 
 -- Nothing was carried out yet.

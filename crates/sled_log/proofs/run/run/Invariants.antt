@@ -19,7 +19,7 @@ invariant-loop-command g l =
       room : length l.replies.items + length l.rest.items ≤ vec_capacity l.replies;
       runs : state_of (g.D.Device.trace l.fn.config.device) ≡ fresh → (done : List Command) × (l.fn.commands.items ≡ done ++ reverse l.rest.items)
           × ((cs : List Command) (rs : List Reply) (end : DeviceView) → ((k : Unstored) → IsAt g.D.Device.trace sum l.phase k → Runs sum size (stands view l.phase k) cs rs end)
-              → Runs sum size (begins_on (view l.fn.config.device)) (done ++ cs) (l.replies.items ++ rs) end);
+          → Runs sum size (begins_on (view l.fn.config.device)) (done ++ cs) (l.replies.items ++ rs) end);
     }
 
 abbrev pub decreases-loop-command : goal.decreases-loop-command

@@ -1,7 +1,7 @@
 -- A log that is started goes on where the recovered table ends, and a start that fails leaves what can be recovered.
-use Rattle.std.proofs.Common.{◌≡◌, ◌⊎◌, ◌<◌, ◌≤◌, ◌+◌, ◌∙◌, ℕ, List, [], None, Some, length, refl, sym, ap, subst, arith, rules, inl, inr}
+use Rattle.std.proofs.Common.{◌≡◌, ◌<◌, ◌+◌, ◌∙◌, ℕ, List, [], None, Some, length, refl, sym, ap, subst, arith, rules, inl, inr}
 use Rattle.std.proofs.lemmas.List.{length-map}
-use Rattle.sled_codec.specs.Snapshots.{Shot, page_of, shot_of}
+use Rattle.sled_codec.specs.Snapshots.{Shot, shot_of}
 use Rattle.sled_store.specs.Device.{Event, Trace, state_of}
 use Rattle.sled_store.specs.Script.{Performs, after_all}
 use Rattle.sled_store.specs.SnapshotFiles.{stable_place}
