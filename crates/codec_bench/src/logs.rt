@@ -3,7 +3,8 @@ ghost use Rattle.std.specs.Prelude.{◌≡◌, ◌<◌, ◌^◌, length, IfOk};
 ghost use Rattle.sled_core.specs.Fits.{IsOpen, pins_of};
 
 use crate::figure::{RUNS, Shortest};
-use sled_core::iterator::{read_slot, scan};
+use sled_core::iterator::read_slot;
+use sled_core::iterator::scan::scan;
 use sled_log::config::{Config, RunningConfig};
 use sled_log::device::{MemDevice, PlaceSum};
 use sled_log::logger::{Log, LogKind, PageId};
@@ -95,7 +96,7 @@ fn complete(log: &mut MemoryLog, ticket: Reservation) -> io::Result<()>
 
 /// Settles what was completed.
 fn flush(log: &mut MemoryLog) -> io::Result<()> {
-    if !log.all_ended() {
+    if !log.none_open() {
         return Err(io::Error::other("a message isn't completed"));
     }
     match log.flush() {

@@ -53,7 +53,7 @@ fn put(
     ensure!(log.has_room(page, item), "the segment is full");
     let ticket = log.reserve(LogKind::Replace, page, item, guard)?;
     let (place, pointer) = log.complete(ticket)?;
-    ensure!(log.all_ended(), "another reservation is open");
+    ensure!(log.none_open(), "another reservation is open");
     log.flush()?;
     ensure!(place <= log.stable_offset(), "not durable");
     match log.read(page, place, pointer)? {

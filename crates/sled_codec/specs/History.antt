@@ -97,15 +97,15 @@ below H cut = record { messages = filter (λ m. nat_lt m.place cut) H.messages; 
 -- Steps.
 
 -- What may happen to a history. Whatever else is called or befalls the device changes nothing.
-pub data Happening : Type 0 where
+pub data HistoryEvent : Type 0 where
   -- a message was completed
-  Completed : (m : Message) → Happening
+  Completed : (m : Message) → HistoryEvent
   -- a batch was ended, with a peg above its own place
-  Batched : (b : Batch) → Happening
+  Batched : (b : Batch) → HistoryEvent
   -- a recovery succeeded, with this cut
-  Recovered : (cut : ℕ) → Happening
+  Recovered : (cut : ℕ) → HistoryEvent
   -- an abort, a refusal, a write, a read, a mark, a halt, a crash, a recovery that failed
-  Nothing : Happening
+  Nothing : HistoryEvent
 
 -- the kind is one that changes a page
 abbrev pub ChangesPage : LogKind → Type 0
@@ -129,13 +129,13 @@ pub record AddsBatch (H : History) (b : Batch) (H' : History) : Type 0 where
   pub batches : H'.batches ≡ H.batches ++ b ∷ []
 
 -- One history becomes another by this happening.
-unfoldable pub Step : History → Happening → History → Type 0
+unfoldable pub Step : History → HistoryEvent → History → Type 0
 Step H (Completed m) H' = AddsMessage H m H'
 Step H (Batched b) H' = AddsBatch H b H'
 Step H (Recovered cut) H' = H' ≡ below H cut
 Step H Nothing H' = H' ≡ H
 
 -- A run is a list of steps, the first one first.
-unfoldable pub Run : History → List Happening → History → Type 0
+unfoldable pub Run : History → List HistoryEvent → History → Type 0
 Run H [] H' = H' ≡ H
 Run H (h ∷ hs) H' = (mid : History) × Step H h mid × Run mid hs H'

@@ -11,7 +11,7 @@ use Rattle.sled_codec.specs.PointerLaws.{short_spells-pointer, one_value-pointer
 use Rattle.sled_codec.specs.PairLaws.{OneValue, NoFront, no_front-pair, one_first-pair, one_second-pair, no_front-triple, one_value-triple, no_front-both, one_value-both}
 use Rattle.sled_codec.specs.OptionLaws.{one_value-option, one_value-option_signed}
 use Rattle.sled_codec.specs.EachLaws.{NoneEmpty, short_spells-each, no_front-each, one_value-each, one_value-all}
-use Rattle.sled_codec.specs.Snapshots.{Entry, Page, Present, Free, Uninitialized, Shot, SpellsEntry, FitsEntry, short_entry, SpellsPage, FitsPage, short_page, SpellsSnapshot, FitsSnapshot, short_snapshot}
+use Rattle.sled_codec.specs.Snapshots.{Entry, Page, Present, Free, Uninitialized, SnapshotModel, SpellsEntry, FitsEntry, short_entry, SpellsPage, FitsPage, short_page, SpellsSnapshot, FitsSnapshot, short_snapshot}
 
 -- Entries.
 
@@ -146,7 +146,7 @@ length-short_entries (e ∷ es) all =
 
 -- Snapshots.
 
-pub short_spells-snapshot : (s : Shot) → FitsSnapshot s → SpellsSnapshot (short_snapshot s) s
+pub short_spells-snapshot : (s : SnapshotModel) → FitsSnapshot s → SpellsSnapshot (short_snapshot s) s
 unfolding short_snapshot
 short_spells-snapshot s fits = record {
   first = short_signed (or_zero_signed s.stable) ++ short_number (or_zero s.active);
@@ -164,15 +164,15 @@ short_spells-snapshot s fits = record {
 
 -- the place and the segment, as they stand in front
 
-abbrev pub short_coords : Shot → List ℕ
+abbrev pub short_coords : SnapshotModel → List ℕ
 short_coords s = short_signed (or_zero_signed s.stable) ++ short_number (or_zero s.active)
 
-pub length-short_snapshot : (s : Shot) → length (short_snapshot s) ≡ length (short_coords s) + length (flat_map short_page s.pages)
+pub length-short_snapshot : (s : SnapshotModel) → length (short_snapshot s) ≡ length (short_coords s) + length (flat_map short_page s.pages)
 unfolding short_snapshot
 length-short_snapshot s = length-append (short_coords s) (flat_map short_page s.pages)
 
 -- the pair of them has a spelling
-pub fits_coords : (s : Shot) → FitsSigned w64 (or_zero_signed s.stable) → or_zero s.active < 2 ^ 64 → FitsSigned w64 (or_zero_signed s.stable) × (or_zero s.active < 2 ^ 64) × (length (short_signed (or_zero_signed s.stable)) + length (short_number (or_zero s.active)) < 2 ^ 64)
+pub fits_coords : (s : SnapshotModel) → FitsSigned w64 (or_zero_signed s.stable) → or_zero s.active < 2 ^ 64 → FitsSigned w64 (or_zero_signed s.stable) × (or_zero s.active < 2 ^ 64) × (length (short_signed (or_zero_signed s.stable)) + length (short_number (or_zero s.active)) < 2 ^ 64)
 fits_coords s stable active =
     let long = length-short_number (or_zero s.active) active in
     (stable, active, omega (arith, long.1, length-short_signed (or_zero_signed s.stable)))

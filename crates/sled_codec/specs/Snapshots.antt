@@ -1,5 +1,5 @@
 -- Tables of pages: what a snapshot says, and its spelling.
-use Rattle.std.specs.Prelude.{◌+◌, ◌^◌, ◌<◌, ℕ, ℤ, Option, List, [], ◌∷◌, ◌++◌, length, map, FitsSigned}
+use Rattle.std.specs.Prelude.{◌+◌, ◌^◌, ◌<◌, ℕ, ℤ, Option, List, [], ◌∷◌, ◌++◌, length, map, FitsSigned, pos, negsuc, Bool, true, false, Some, None}
 use Rattle.std.specs.Int.{w64}
 use Rattle.std.specs.List.{All, flat_map}
 use Rattle.sled_codec.specs.declared.result.DiskPtr.{DiskPtr}
@@ -19,7 +19,7 @@ pub data Page : Type 0 where
   Uninitialized : Page
 
 -- A table up to a place, the segment that holds that place, and the pages by their number.
-pub record Shot : Type 0 where
+pub record SnapshotModel : Type 0 where
   pub stable : Option ℤ
   pub active : Option ℕ
   pub pages : List Page
@@ -31,8 +31,8 @@ page_of (state.Present base frags) = Present base frags.items
 page_of (state.Free place pointer) = Free place pointer
 page_of state.Uninitialized = Uninitialized
 
-abbrev pub shot_of : Snapshot → Shot
-shot_of s = record { stable = s.stable_lsn; active = s.active_segment; pages = map page_of s.pt.items }
+abbrev pub model_of : Snapshot → SnapshotModel
+model_of s = record { stable = s.stable_lsn; active = s.active_segment; pages = map page_of s.pt.items }
 
 -- An entry: its parts, one behind another.
 
@@ -64,15 +64,36 @@ short_page Uninitialized = []
 
 -- A snapshot: the place and the segment as numbers that may be missing, and the pages up to the end of the text.
 
-abbrev pub SpellsSnapshot : List ℕ → Shot → Type 0
+abbrev pub SpellsSnapshot : List ℕ → SnapshotModel → Type 0
 SpellsSnapshot text s = SpellsTriple (λ t v. SpellsSigned t (or_zero_signed v)) (λ t v. SpellsNumber t (or_zero v)) (SpellsEach SpellsPage) text s.stable s.active s.pages
 
-unfoldable pub short_snapshot : Shot → List ℕ
+unfoldable pub short_snapshot : SnapshotModel → List ℕ
 short_snapshot s = short_signed (or_zero_signed s.stable) ++ short_number (or_zero s.active) ++ flat_map short_page s.pages
 
 -- its parts have spellings, and the length of all is a `u64`
-pub record FitsSnapshot (s : Shot) : Type 0 where
+pub record FitsSnapshot (s : SnapshotModel) : Type 0 where
   pub stable : FitsSigned w64 (or_zero_signed s.stable)
   pub active : or_zero s.active < 2 ^ 64
   pub pages : All FitsPage s.pages
   pub small : length (short_snapshot s) < 2 ^ 64
+
+-- the snapshot of a log that was never begun
+abbrev pub empty_model : SnapshotModel
+empty_model = record { stable = None; active = None; pages = [] }
+
+abbrev pub sound_parts : Option ℤ → Option ℕ → List Page → Bool
+sound_parts (Some (pos n)) active pages = true
+sound_parts (Some (negsuc n)) active pages = false
+sound_parts None None [] = true
+sound_parts None None (p ∷ ps) = false
+sound_parts None (Some a) pages = false
+
+-- it has a stable place that is not negative, or it is the snapshot of a log that was never begun
+abbrev pub is_sound : SnapshotModel → Bool
+is_sound s = sound_parts s.stable s.active s.pages
+
+-- the place that it ends with, 0 where there is none
+abbrev pub stable_place : Option ℤ → ℕ
+stable_place (Some (pos n)) = n
+stable_place (Some (negsuc n)) = 0
+stable_place None = 0

@@ -8,33 +8,33 @@ use Rattle.sled_codec.specs.History.{Message, History, no_history}
 use Rattle.sled_codec.specs.Record.{IsHeader}
 use Rattle.sled_codec.specs.WellFormed.{LieApart}
 use Rattle.sled_store.specs.Device.{Trace, State, Content, Left, Leaves, Crashed, state_of, content_of, content_left, at_rest, fresh, names_at_rest, step}
-use Rattle.sled_store.specs.SnapshotFiles.{empty_shot}
-use Rattle.sled_store.proofs.LogLemmas.{at_rest_left}
-use Rattle.sled_store.proofs.NamesLemmas.{settled_name_left, settled_name_at_rest}
-use Rattle.sled_store.proofs.SettledLemmas.{read_left}
+use Rattle.sled_codec.specs.Snapshots.{empty_model}
+use Rattle.sled_store.proofs.LogFile.LogLemmas.{at_rest_left}
+use Rattle.sled_store.proofs.Names.NamesLemmas.{settled_name_left, settled_name_at_rest}
+use Rattle.sled_store.proofs.Crashes.SettledLemmas.{read_left}
 use Rattle.sled_core.specs.declared.logger.Log.{Log}
-use Rattle.sled_core.specs.Fits.{Holds, AllEnded, IsUnchanged, IsWritten, fault_of, next_place, synced_end, device_of, segment_size_of}
-use Rattle.sled_core.specs.Buffers.{all_ended}
+use Rattle.sled_core.specs.Fits.{Holds, NoneOpen, IsUnchanged, IsWritten, fault_of, next_place, synced_end, device_of, segment_size_of}
+use Rattle.sled_core.specs.Buffers.{none_open}
 use Rattle.sled_core.specs.Reading.{IsInline}
 use Rattle.sled_core.specs.Ready.{IsReady}
 use Rattle.sled_core.specs.Recoverable.{NoForeign, Recoverable, LeavesRecoverable}
 use Rattle.sled_core.specs.Running.{Fits, Ready}
-use Rattle.sled_core.proofs.CallMoments.{own_after_crash}
-use Rattle.sled_core.proofs.FirstSegment.{nothing_recoverable}
-use Rattle.sled_core.proofs.FreshLemmas.{ready_fresh}
-use Rattle.sled_core.proofs.HeldPointers.{LiesInline, fits_lie}
-use Rattle.sled_core.proofs.ReachLemmas.{fits_reach, fits_apart, kept_past}
-pub use Rattle.sled_core.proofs.FreshReady.{fresh_leaves, fresh_ready}
-pub use Rattle.sled_core.proofs.KeptCalls.{goes_on_still, goes_on_further, kept_still, kept_further}
-pub use Rattle.sled_core.proofs.ReachLemmas.{fits_holds, fits_acknowledged, fits_reach, fits_apart, fits_leaves, awaited, next_small}
+use Rattle.sled_core.proofs.Holds.CallMoments.{own_after_crash}
+use Rattle.sled_core.proofs.Read.FirstSegment.{nothing_recoverable}
+use Rattle.sled_core.proofs.Start.FreshLemmas.{ready_fresh}
+use Rattle.sled_core.proofs.Holds.HeldPointers.{LiesInline, fits_lie}
+use Rattle.sled_core.proofs.Holds.ReachLemmas.{fits_reach, fits_apart, kept_past}
+pub use Rattle.sled_core.proofs.Start.FreshReady.{fresh_leaves, fresh_ready}
+pub use Rattle.sled_core.proofs.Holds.KeptCalls.{goes_on_still, goes_on_further, kept_still, kept_further}
+pub use Rattle.sled_core.proofs.Holds.ReachLemmas.{fits_holds, fits_acknowledged, fits_reach, fits_apart, fits_leaves, awaited, next_small}
 
 -- Messages that a log fits have inline pointers.
 pub fits_inline : {D C : Type 0} (trace : D → Trace) (sum : List ℕ → ℕ) (log : Log D C) (H : History) (A f : ℕ) (U : List Message) → Fits trace sum log H A f U → fault_of log ≡ None → All (λ m. IsInline m.pointer) H.messages
 fits_inline trace sum log H A f U fits none = λ k d lt. let lies = fits_lie trace sum log H A f U fits none k d lt in subst IsInline (sym lies.pointer) tt
 
 -- Where no reservation was open, none is as long as nothing is another.
-pub unchanged_ended : {D C : Type 0} (old new : Log D C) → IsUnchanged old new → AllEnded old → AllEnded new
-unchanged_ended old new unchanged ended = ap all_ended unchanged.reserved ∙ ended
+pub unchanged_ended : {D C : Type 0} (old new : Log D C) → IsUnchanged old new → NoneOpen old → NoneOpen new
+unchanged_ended old new unchanged ended = ap none_open unchanged.reserved ∙ ended
 
 -- A place, as code holds it and gives it back.
 pub place_back : (z : ℤ) (n : ℕ) → z ≡ pos n → n < 2 ^ 63 → pos n ≡ cast_signed w64 (cast_unsigned w64 z)
@@ -42,10 +42,10 @@ place_back z n is small = let fits : FitsSigned w64 (pos n) = search rules in sy
 
 -- What was written ends at the stable end at most.
 pub written_past : {D C : Type 0} (trace : D → Trace) (sum : List ℕ → ℕ) (log : Log D C) (H : History) → IsWritten trace sum log H → All (λ m. m.place + m.size ≤ synced_end log) H.messages
-written_past trace sum log H written = kept_past sum (segment_size_of log) log.site log.buffer.from _ H written
+written_past trace sum log H written = kept_past sum (segment_size_of log) log.site log.buffer.written_len _ H written
 
 -- An empty log file without a snapshot is ready, whatever blobs there are.
-pub empty_ready : (sum : List ℕ → ℕ) (size : ℕ) (device : State) → device.log ≡ at_rest [] → ((n : ℤ) → device.snapshots.file n ≡ None) → IsReady sum size device empty_shot no_history
+pub empty_ready : (sum : List ℕ → ℕ) (size : ℕ) (device : State) → device.log ≡ at_rest [] → ((n : ℤ) → device.snapshots.file n ≡ None) → IsReady sum size device empty_model no_history
 empty_ready sum size device empty none = ready_fresh sum size device empty none
 
 -- A recovery can go on from nothing.

@@ -9,8 +9,8 @@ use Rattle.sled_codec.specs.Places.{part}
 use Rattle.sled_codec.specs.Record.{record_sum, short_record}
 use Rattle.sled_codec.specs.History.{Message}
 use Rattle.sled_core.specs.declared.iobuf.Reserved.{Reserved}
-use Rattle.sled_core.specs.declared.iobuf.Kept.{Kept}
-use Rattle.sled_core.specs.declared.iobuf.Site.{Site}
+use Rattle.sled_core.specs.declared.iobuf.Purpose.{Purpose}
+use Rattle.sled_core.specs.declared.iobuf.SegmentPosition.{SegmentPosition}
 
 -- the bytes that a reservation has in its segment
 abbrev pub text_in : List ℕ → Reserved → List ℕ
@@ -21,7 +21,7 @@ abbrev pub body_in : List ℕ → Reserved → List ℕ
 body_in bytes r = part bytes (r.from + r.header_len) (r.len - r.header_len)
 
 -- the message that it is for, in a segment that lies there
-abbrev pub message_in : Site → List ℕ → Reserved → Message
+abbrev pub message_in : SegmentPosition → List ℕ → Reserved → Message
 message_in site bytes r = record { kind = r.log_kind; page = r.page; place = site.place + r.from; pointer = Inline (site.slot + r.from); size = r.len; bytes = body_in bytes r }
 
 -- a header with zeros in place of its sum and its kind
@@ -48,7 +48,7 @@ abbrev pub Stands : (List ℕ → ℕ) → ℕ → List ℕ → Reserved → Typ
 Stands sum number bytes r = StandsAs sum number (text_in bytes r) (body_in bytes r) r
 
 -- the reservation that is made at an offset for a message, with this sum
-abbrev pub reserved_for : Kept → ℕ → ℕ → ℕ → ℕ → Reserved
+abbrev pub reserved_for : Purpose → ℕ → ℕ → ℕ → ℕ → Reserved
 reserved_for kept at header_len item_len sum = record { from = at; header_len = header_len; len = header_len + item_len; log_kind = kept.log_kind; kind = kept.kind; page = kept.page; sum = sum; is_open = true }
 
 -- the sum and the kind that complete a reservation
@@ -65,14 +65,14 @@ IsChain from [] end = from ≡ end
 IsChain from (r ∷ rs) end = (r.from ≡ from) × IsChain (from + r.len) rs end
 
 -- the messages of the reservations that were completed, by place
-abbrev pub completed_in : Site → List ℕ → List Reserved → List Message
+abbrev pub completed_in : SegmentPosition → List ℕ → List Reserved → List Message
 completed_in site bytes [] = []
 completed_in site bytes (r ∷ rs) = if r.is_open then completed_in site bytes rs else message_in site bytes r ∷ completed_in site bytes rs
 
 -- none of them is open
-abbrev pub all_ended : List Reserved → Bool
-all_ended [] = true
-all_ended (r ∷ rs) = if r.is_open then false else all_ended rs
+abbrev pub none_open : List Reserved → Bool
+none_open [] = true
+none_open (r ∷ rs) = if r.is_open then false else none_open rs
 
 -- how many of them are open
 abbrev pub open_in : List Reserved → ℕ

@@ -33,28 +33,12 @@ ReserveAnswers (Err (Unsupported text)) fault kind = (fault ≡ None) × (kind �
 ReserveAnswers (Err OutOfMemory) fault kind = (fault ≡ None) × IsSome kind
 ReserveAnswers (Err _) fault kind = ⊥
 
--- A call that reads: a failure of the device is counted, and nothing else is.
-abbrev pub DeviceAnswers : {T : Type 0} → Result T Error → ℕ → ℕ → Type 0
-DeviceAnswers (Ok _) before after = after ≡ before
-DeviceAnswers (Err (Io e)) before after = IsTrue (is_fault e) × (after ≡ (before + 1) % 2 ^ 64)
-DeviceAnswers (Err OutOfMemory) before after = after ≡ before
-DeviceAnswers (Err (Corruption at)) before after = (after ≡ before) × (at ≡ None)
-DeviceAnswers (Err _) before after = ⊥
-
 -- A call that reads bytes: it wants no memory, a failure of the device is counted and answered, and damage comes only where this is so.
 abbrev pub ReaderAnswers : {T : Type 0} → Result T Error → Type 0 → ℕ → ℕ → Type 0
 ReaderAnswers (Ok _) early before after = after ≡ before
 ReaderAnswers (Err (Io e)) early before after = IsTrue (is_fault e) × (after ≡ (before + 1) % 2 ^ 64)
 ReaderAnswers (Err (Corruption at)) early before after = (after ≡ before) × (at ≡ None) × early
 ReaderAnswers (Err _) early before after = ⊥
-
--- What is asked of a snapshot before a log begins on it, without the device.
-abbrev pub SurveyAnswers : {T : Type 0} → Result T Error → Type 0 → Type 0
-SurveyAnswers (Ok _) in_reach = in_reach
-SurveyAnswers (Err OutOfMemory) in_reach = Unit {0}
-SurveyAnswers (Err (Corruption at)) in_reach = at ≡ None
-SurveyAnswers (Err PlacesUsedUp) in_reach = in_reach → ⊥
-SurveyAnswers (Err _) in_reach = ⊥
 
 -- a log can't begin on the snapshot, or no further segment is in reach
 abbrev pub IsUnfit : {T : Type 0} → Result T Error → Type 0

@@ -5,16 +5,16 @@ use Rattle.sled_codec.specs.declared.result.DiskPtr.TheVariants.{Inline}
 use Rattle.sled_codec.specs.declared.serialization.message.LogKind.{LogKind}
 use Rattle.sled_codec.specs.Record.{short_header}
 use Rattle.sled_codec.specs.History.{Message, History, CutFits}
-use Rattle.sled_codec.specs.Snapshots.{Shot}
+use Rattle.sled_codec.specs.Snapshots.{SnapshotModel, stable_place}
 use Rattle.sled_codec.specs.PageTables.{IsTable}
 use Rattle.sled_store.specs.Device.{Event, Wrote, Synced, Trace, LogState, State, state_of, at_rest}
-use Rattle.sled_store.specs.SnapshotFiles.{BeginsFrom, stable_place}
+use Rattle.sled_store.specs.SnapshotFiles.{BeginsFrom}
 use Rattle.sled_core.specs.declared.iobuf.Reserved.{Reserved}
-use Rattle.sled_core.specs.declared.iobuf.Site.{Site}
+use Rattle.sled_core.specs.declared.iobuf.SegmentPosition.{SegmentPosition}
 use Rattle.sled_core.specs.declared.reservation.Reservation.{Reservation}
 use Rattle.sled_core.specs.declared.logger.Log.{Log}
 use Rattle.sled_store.specs.declared.config.RunningConfig.{RunningConfig}
-use Rattle.sled_core.specs.Buffers.{Stands, IsChain, completed_in, message_in, all_ended, end_reserved, record_size}
+use Rattle.sled_core.specs.Buffers.{Stands, IsChain, completed_in, message_in, none_open, end_reserved, record_size}
 use Rattle.sled_core.specs.LogFile.{IsLogFile}
 use Rattle.sled_core.specs.Tickets.{index_of, IsFor}
 
@@ -25,12 +25,12 @@ abbrev pub fault_of : {D C : Type 0} → Log D C → Option IoError
 fault_of log = log.fault
 
 -- where the current segment lies
-abbrev pub site_of : {D C : Type 0} → Log D C → Site
+abbrev pub site_of : {D C : Type 0} → Log D C → SegmentPosition
 site_of log = log.site
 
 -- the number of the current segment
-abbrev pub number_of : {D C : Type 0} → Log D C → ℕ
-number_of log = log.site.place / log.config.config.segment_size
+abbrev pub current_segment : {D C : Type 0} → Log D C → ℕ
+current_segment log = log.site.place / log.config.config.segment_size
 
 -- where the next record begins
 abbrev pub next_place : {D C : Type 0} → Log D C → ℕ
@@ -38,11 +38,11 @@ next_place log = log.site.place + length log.buffer.bytes.items
 
 -- the place behind the stable end
 abbrev pub synced_end : {D C : Type 0} → Log D C → ℕ
-synced_end log = log.site.place + log.buffer.from
+synced_end log = log.site.place + log.buffer.written_len
 
 -- the place behind the greatest reserved one; before the first reservation that is the place behind the stable end
 abbrev pub reserved_end : {D C : Type 0} → Log D C → ℕ
-reserved_end log = log.site.place + end_reserved log.buffer.from (length log.buffer.bytes.items) log.buffer.reserved.items
+reserved_end log = log.site.place + end_reserved log.buffer.written_len (length log.buffer.bytes.items) log.buffer.reserved.items
 
 -- how many pins are out
 abbrev pub pins_of : {D C : Type 0} → Log D C → ℕ
@@ -54,7 +54,7 @@ segment_size_of log = log.config.config.segment_size
 
 -- how long the record is of a page's message with an item of n bytes
 abbrev pub size_for : {D C : Type 0} → Log D C → ℕ → ℕ → ℕ
-size_for log page n = record_size (number_of log) page n
+size_for log page n = record_size (current_segment log) page n
 
 -- the message that is reserved next for an item of these bytes
 abbrev pub message_for : {D C : Type 0} → Log D C → LogKind → ℕ → List ℕ → Message
@@ -82,22 +82,22 @@ abbrev pub IsOpen : {D C : Type 0} → Log D C → Reservation → Type 0
 IsOpen log ticket = (m : Message) × Awaits log ticket m
 
 -- no reservation of the log is open or abandoned
-abbrev pub AllEnded : {D C : Type 0} → Log D C → Type 0
-AllEnded log = all_ended log.buffer.reserved.items ≡ true
+abbrev pub NoneOpen : {D C : Type 0} → Log D C → Type 0
+NoneOpen log = none_open log.buffer.reserved.items ≡ true
 
 -- no reservation of the log is open or abandoned, but for the one that the ticket is for
 abbrev pub IsOnlyOpen : {D C : Type 0} → Log D C → Reservation → Type 0
 IsOnlyOpen log ticket = (i : ℕ) (r : Reserved) → slice_get log.buffer.reserved.items i ≡ Some r → r.is_open ≡ true → i ≡ index_of ticket
 
 -- The log file holds this history, and all of it is settled, so that a crash leaves just that: the header of the current segment and its records by place, nothing behind them, and the records of earlier segments.
-pub record IsOnDevice (sum : List ℕ → ℕ) (size : ℕ) (device : LogState) (site : Site) (from : ℕ) (messages : List Message) : Type 0 where
+pub record IsOnDevice (sum : List ℕ → ℕ) (size : ℕ) (device : LogState) (site : SegmentPosition) (from : ℕ) (messages : List Message) : Type 0 where
   pub log : List ℕ
   pub settled : device ≡ at_rest log
   pub file : IsLogFile sum size log site from messages
 
 -- The newest snapshot on the device is the table of the history below its own place. That is where the current segment begins, or in it.
-pub record IsBegunFrom (sum : List ℕ → ℕ) (size : ℕ) (snapshots : ℤ → Option (List ℕ)) (site : Site) (from : ℕ) (H : History) : Type 0 where
-  pub first : Shot
+pub record IsBegunFrom (sum : List ℕ → ℕ) (size : ℕ) (snapshots : ℤ → Option (List ℕ)) (site : SegmentPosition) (from : ℕ) (H : History) : Type 0 where
+  pub first : SnapshotModel
   pub begins : BeginsFrom sum snapshots first
   pub table : IsTable first.pages H (stable_place first.stable)
   pub fits : CutFits H (stable_place first.stable)
@@ -107,7 +107,7 @@ pub record IsBegunFrom (sum : List ℕ → ℕ) (size : ℕ) (snapshots : ℤ �
   pub none_active : stable_place first.stable % size ≡ 0 → first.active ≡ None
 
 -- A history, and the bytes and reservations of a log's current segment over a device: what was written is settled there, and what was completed since stands in the buffer.
-pub record HoldsIn (sum : List ℕ → ℕ) (size : ℕ) (site : Site) (device : State) (fault : Option IoError) (bytes : List ℕ) (from : ℕ) (reserved : List Reserved) (H : History) : Type 0 where
+pub record HoldsIn (sum : List ℕ → ℕ) (size : ℕ) (site : SegmentPosition) (device : State) (fault : Option IoError) (bytes : List ℕ) (from : ℕ) (reserved : List Reserved) (H : History) : Type 0 where
   -- the messages that were written
   pub earlier : List Message
   pub messages : H.messages ≡ earlier ++ completed_in site bytes reserved
@@ -124,10 +124,10 @@ pub record HoldsIn (sum : List ℕ → ℕ) (size : ℕ) (site : Site) (device :
 
 -- The log holds this history.
 unfoldable pub Holds : {D C : Type 0} → (D → Trace) → (List ℕ → ℕ) → Log D C → History → Type 0
-Holds trace sum log H = HoldsIn sum log.config.config.segment_size log.site (state_of (trace log.config.device)) log.fault log.buffer.bytes.items log.buffer.from log.buffer.reserved.items H
+Holds trace sum log H = HoldsIn sum log.config.config.segment_size log.site (state_of (trace log.config.device)) log.fault log.buffer.bytes.items log.buffer.written_len log.buffer.reserved.items H
 
 -- All of a history is on the device and settled: the log file has its messages, and the newest snapshot is its table below the place where the log began.
-pub record IsKept (sum : List ℕ → ℕ) (size : ℕ) (site : Site) (from : ℕ) (device : State) (H : History) : Type 0 where
+pub record IsKept (sum : List ℕ → ℕ) (size : ℕ) (site : SegmentPosition) (from : ℕ) (device : State) (H : History) : Type 0 where
   pub on_device : IsOnDevice sum size device.log site from H.messages
   pub begun : IsBegunFrom sum size device.snapshots.file site from H
   pub batches : H.batches ≡ []
@@ -138,7 +138,7 @@ pub record IsKept (sum : List ℕ → ℕ) (size : ℕ) (site : Site) (from : �
 
 -- all that a log holds is on its device, and settled
 abbrev pub IsWritten : {D C : Type 0} → (D → Trace) → (List ℕ → ℕ) → Log D C → History → Type 0
-IsWritten trace sum log H = IsKept sum log.config.config.segment_size log.site log.buffer.from (state_of (trace log.config.device)) H
+IsWritten trace sum log H = IsKept sum log.config.config.segment_size log.site log.buffer.written_len (state_of (trace log.config.device)) H
 
 -- the calls that write what is not written yet and settle it; where nothing was reserved there are none
 abbrev pub flushing_of : ℕ → List ℕ → List Reserved → List Event
@@ -146,12 +146,12 @@ flushing_of at bytes [] = []
 flushing_of at bytes (r ∷ rs) = Wrote at bytes bytes ∷ Synced ∷ []
 
 abbrev pub flushing : {D C : Type 0} → Log D C → List Event
-flushing log = flushing_of (log.site.slot + log.buffer.from) (drop log.buffer.from log.buffer.bytes.items) log.buffer.reserved.items
+flushing log = flushing_of (log.site.slot + log.buffer.written_len) (drop log.buffer.written_len log.buffer.bytes.items) log.buffer.reserved.items
 
 -- nothing that a caller sees of the log is another
 pub record IsUnchanged {D C : Type 0} (old new : Log D C) : Type 0 where
   pub bytes : new.buffer.bytes.items ≡ old.buffer.bytes.items
-  pub from : new.buffer.from ≡ old.buffer.from
+  pub from : new.buffer.written_len ≡ old.buffer.written_len
   pub reserved : new.buffer.reserved.items ≡ old.buffer.reserved.items
   pub fault : new.fault ≡ old.fault
   pub pins : new.pins ≡ old.pins

@@ -6,9 +6,8 @@ use Rattle.sled_codec.specs.declared.serialization.message.MessageKind.{MessageK
 use Rattle.sled_codec.specs.Kinds.{kind_written}
 use Rattle.sled_codec.specs.History.{Message, History, table, CutFits}
 use Rattle.sled_codec.specs.PageTables.{IsTable}
-use Rattle.sled_codec.specs.Snapshots.{Shot}
+use Rattle.sled_codec.specs.Snapshots.{SnapshotModel, stable_place}
 use Rattle.sled_store.specs.Device.{Content}
-use Rattle.sled_store.specs.SnapshotFiles.{stable_place}
 use Rattle.sled_core.specs.LogFile.{MessageStands}
 use Rattle.sled_core.specs.Scan.{IsBlob}
 
@@ -29,7 +28,7 @@ abbrev pub Reads : (List ℕ → ℕ) → ℕ → Content → Message → Type 0
 Reads sum size content m = ReadsAt sum size content m m.pointer
 
 -- A snapshot is good for a history, the end of what was acknowledged, and a floor: with its stable place for the cut, which splits no batch, passes what was acknowledged and isn't below the floor, it is the table below the cut, and each entry reads its own bytes.
-pub record IsGood (sum : List ℕ → ℕ) (size : ℕ) (content : Content) (H : History) (A f : ℕ) (s : Shot) : Type 0 where
+pub record IsGood (sum : List ℕ → ℕ) (size : ℕ) (content : Content) (H : History) (A f : ℕ) (s : SnapshotModel) : Type 0 where
   pub fits : CutFits H (stable_place s.stable)
   pub passes : A ≤ stable_place s.stable
   pub not_below : f ≤ stable_place s.stable

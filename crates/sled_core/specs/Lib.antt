@@ -1,7 +1,6 @@
-pub mod Begin
-pub mod Booked
 pub mod Buffers
 pub mod Causes
+pub mod FirstBuffer
 pub mod Fits
 pub mod Good
 pub mod Keeps

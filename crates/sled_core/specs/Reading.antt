@@ -11,10 +11,10 @@ use Rattle.sled_codec.specs.History.{Message}
 use Rattle.sled_codec.specs.Sums.{flipped}
 use Rattle.sled_codec.specs.Spelling.{SpellsMessageHeader, SpellsSigned}
 use Rattle.sled_codec.specs.Places.{part, MayBegin}
-use Rattle.sled_core.specs.declared.read_at.BasedBuf.{BasedBuf}
-use Rattle.sled_core.specs.declared.found.Found.{Found}
-use Rattle.sled_core.specs.declared.reading.LogRead.{LogRead}
-use Rattle.sled_core.specs.declared.reading.LogRead.TheVariants.{Inline, Blob, Canceled, Cap, Corrupted, DanglingBlob, BatchManifest}
+use Rattle.sled_core.specs.declared.logger.read_at.BasedBuf.{BasedBuf}
+use Rattle.sled_core.specs.declared.logger.unverified_record.UnverifiedRecord.{UnverifiedRecord}
+use Rattle.sled_core.specs.declared.logger.read_message.LogRead.{LogRead}
+use Rattle.sled_core.specs.declared.logger.read_message.LogRead.TheVariants.{Inline, Blob, Canceled, Cap, Corrupted, DanglingBlob, BatchManifest}
 
 -- A record of this header and this body stands at an offset of the log, whole within its slot and the file, and it is of this segment.
 pub record StandsAt (sum : List ℕ → ℕ) (size : ℕ) (log : List ℕ) (lid number : ℕ) (h : MessageHeader) (body : List ℕ) (len : ℕ) : Type 0 where
@@ -42,7 +42,7 @@ pub record IsLaid (size : ℕ) (log : List ℕ) (lid number : ℕ) (header : Lis
   pub small : lid + (length header + length body) < 2 ^ 64
 
 -- what was found is laid there
-abbrev pub IsFound : ℕ → List ℕ → ℕ → ℕ → Found → Type 0
+abbrev pub IsFound : ℕ → List ℕ → ℕ → ℕ → UnverifiedRecord → Type 0
 IsFound size log lid number f = IsLaid size log lid number (take f.header_len f.head) f.header f.body.items
 
 -- no record of this segment stands there, by whichever checksum

@@ -9,16 +9,16 @@ use Rattle.sled_codec.specs.Pointers.{lid_of}
 use Rattle.sled_codec.specs.Record.{IsHeader}
 use Rattle.sled_codec.specs.History.{Message, Batch, History, table, CutFits}
 use Rattle.sled_codec.specs.PageTables.{IsTable}
-use Rattle.sled_codec.specs.Snapshots.{Shot}
+use Rattle.sled_codec.specs.Snapshots.{SnapshotModel, is_sound, stable_place}
 use Rattle.sled_store.specs.Device.{Content, State}
 use Rattle.sled_store.specs.Foreign.{NoForeignLog, NoForeignNames}
 use Rattle.sled_store.specs.Moments.{AllLeft}
-use Rattle.sled_store.specs.SnapshotFiles.{IsSnapshotFile, is_sound, stable_place, BeginsFrom}
-use Rattle.sled_core.specs.declared.iobuf.Site.{Site}
-use Rattle.sled_core.specs.declared.met.Met.{Met}
-use Rattle.sled_core.specs.declared.met.What.TheVariants.{Gives, Passed, Begins}
-use Rattle.sled_core.specs.declared.met.Ending.TheVariants.{Capped}
-use Rattle.sled_core.specs.declared.met.Segment.{Segment}
+use Rattle.sled_store.specs.SnapshotFiles.{IsSnapshotFile, BeginsFrom}
+use Rattle.sled_core.specs.declared.iobuf.SegmentPosition.{SegmentPosition}
+use Rattle.sled_core.specs.declared.iterator.scan.ScannedRecord.{ScannedRecord}
+use Rattle.sled_core.specs.declared.iterator.scan.RecordContent.TheVariants.{Gives, Skipped, BatchStart}
+use Rattle.sled_core.specs.declared.iterator.scan.ScanEnd.TheVariants.{Capped}
+use Rattle.sled_core.specs.declared.iterator.Segment.{Segment}
 use Rattle.sled_core.specs.Scan.{Readable, IsFoundSegment, IsBlob, IsMet, IsPath}
 use Rattle.sled_core.specs.Tail.{IsOrdering, Scanned, AreScanned, IsTail, tail_begins, tail_end, open_at, stops_in, cut_of, least_place}
 use Rattle.sled_core.specs.LogFile.{MessageStands, StandIn, HasHeader, IsEmpty}
@@ -34,19 +34,19 @@ NoHeaderOfZeros sum = (lsn mark : ℤ) → IsHeader sum (replicate 20 0) lsn mar
 pub record NoForeign (sum : List ℕ → ℕ) (size : ℕ) (past : State) (left : Content) : Type 0 where
   pub log : NoForeignLog sum size past.log past.placed left.log
   pub blobs : NoForeignNames (λ bytes. (k : MessageKind) × (item : List ℕ) × IsBlob sum bytes k item) past.blobs left.blobs
-  pub snapshots : NoForeignNames (λ bytes. (s : Shot) × IsSnapshotFile sum bytes s) past.snapshots left.snapshots
+  pub snapshots : NoForeignNames (λ bytes. (s : SnapshotModel) × IsSnapshotFile sum bytes s) past.snapshots left.snapshots
   pub zeros : NoHeaderOfZeros sum
 
 -- The snapshots.
 
 -- The file of a snapshot passes, its number is its stable place, and it is the table of a history below that.
 pub record IsTableFile (sum : List ℕ → ℕ) (H : History) (number : ℤ) (bytes : List ℕ) : Type 0 where
-  pub shot : Shot
-  pub file : IsSnapshotFile sum bytes shot
-  pub sound : is_sound shot ≡ true
-  pub named : shot.stable ≡ Some number
-  pub table : IsTable shot.pages H (stable_place shot.stable)
-  pub fits : CutFits H (stable_place shot.stable)
+  pub model : SnapshotModel
+  pub file : IsSnapshotFile sum bytes model
+  pub sound : is_sound model ≡ true
+  pub named : model.stable ≡ Some number
+  pub table : IsTable model.pages H (stable_place model.stable)
+  pub fits : CutFits H (stable_place model.stable)
 
 -- a stable place is where a record can begin in its active segment, or where a segment begins if there is none
 abbrev pub ActiveFits : ℕ → ℕ → Option ℕ → Type 0
@@ -54,7 +54,7 @@ ActiveFits size place None = place % size ≡ 0
 ActiveFits size place (Some slot) = (20 ≤ place % size) × (place % size + 32 ≤ size)
 
 -- each snapshot that is listed is a table of the history, and the one that recovery begins from isn't below the floor
-pub record AreRecoverableSnapshots (sum : List ℕ → ℕ) (size : ℕ) (snapshots : ℤ → Option (List ℕ)) (H : History) (f : ℕ) (first : Shot) : Type 0 where
+pub record AreRecoverableSnapshots (sum : List ℕ → ℕ) (size : ℕ) (snapshots : ℤ → Option (List ℕ)) (H : History) (f : ℕ) (first : SnapshotModel) : Type 0 where
   pub begins : BeginsFrom sum snapshots first
   pub listed : (n : ℤ) (bytes : List ℕ) → snapshots n ≡ Some bytes → IsTableFile sum H n bytes
   pub not_below : f ≤ stable_place first.stable
@@ -73,10 +73,10 @@ abbrev pub NoBatchBegins : History → ℕ → ℕ → Type 0
 NoBatchBegins H from to = (b : Batch) → Contains H.batches b → (b.low < from) ⊎ (to ≤ b.low)
 
 -- what a reader meets is a message, whose blob may be gone
-pub record MeetsMessage (x : Met) (m : Message) : Type 0 where
+pub record MeetsMessage (x : ScannedRecord) (m : Message) : Type 0 where
   pub place : x.place ≡ m.place
   pub len : x.len ≡ m.size
-  pub what : (x.what ≡ Gives m.kind m.page m.pointer) ⊎ (x.what ≡ Passed)
+  pub what : (x.what ≡ Gives m.kind m.page m.pointer) ⊎ (x.what ≡ Skipped)
 
 -- the bytes that the pointer of a message reads are its own, or its blob is gone
 abbrev pub ReadsOrDangles : (List ℕ → ℕ) → ℕ → Content → Message → DiskPtr → Type 0
@@ -84,21 +84,21 @@ ReadsOrDangles sum size content m (Inline lid) = MessageStands sum size content.
 ReadsOrDangles sum size content m (Blob lid place) = (content.blobs place ≡ None) ⊎ HasOwnBlob sum (content.blobs place) m
 
 -- What a reader meets is of the history: a message, the beginning of a batch, or a record that was given up. Nothing else of the history begins within its bytes.
-abbrev pub IsOfHistory : (List ℕ → ℕ) → ℕ → Content → History → Met → Type 0
+abbrev pub IsOfHistory : (List ℕ → ℕ) → ℕ → Content → History → ScannedRecord → Type 0
 IsOfHistory sum size content H x =
     ((m : Message) × Contains H.messages m × MeetsMessage x m × ReadsOrDangles sum size content m m.pointer × NoMessageBegins H (x.place + 1) (x.place + x.len) × NoBatchBegins H x.place (x.place + x.len))
-    ⊎ ((b : Batch) × Contains H.batches b × (x.place ≡ b.low) × (x.what ≡ Begins (pos b.peg)) × NoMessageBegins H x.place (x.place + x.len) × NoBatchBegins H (x.place + 1) (x.place + x.len))
-    ⊎ ((x.what ≡ Passed) × NoMessageBegins H x.place (x.place + x.len) × NoBatchBegins H x.place (x.place + x.len))
+    ⊎ ((b : Batch) × Contains H.batches b × (x.place ≡ b.low) × (x.what ≡ BatchStart (pos b.peg)) × NoMessageBegins H x.place (x.place + x.len) × NoBatchBegins H (x.place + 1) (x.place + x.len))
+    ⊎ ((x.what ≡ Skipped) × NoMessageBegins H x.place (x.place + x.len) × NoBatchBegins H x.place (x.place + x.len))
 
 -- a reader that begins behind the header of a segment comes to a message
 pub record IsReachedIn (sum : List ℕ → ℕ) (size : ℕ) (r : Readable) (s : Segment) (m : Message) : Type 0 where
-  pub before : List Met
+  pub before : List ScannedRecord
   pub at : ℕ
   pub path : IsPath sum size r s.slot s.place 20 before at
   pub room : at + 32 ≤ size
   pub place : m.place ≡ s.place + at
   pub lid : lid_of m.pointer ≡ s.slot + at
-  pub met : Met
+  pub met : ScannedRecord
   pub is_met : IsMet sum size r (s.slot + at) (s.place / size) met
   pub meets : MeetsMessage met m
 
@@ -122,17 +122,17 @@ scanned_below end [] = []
 scanned_below end (s ∷ ss) = if nat_lt s.segment.place end then s ∷ scanned_below end ss else scanned_below end ss
 
 -- the cut of a pass over these; over none, that of the snapshot
-abbrev pub cut_over : ℕ → Shot → ℕ → List Scanned → ℕ × Option ℕ
+abbrev pub cut_over : ℕ → SnapshotModel → ℕ → List Scanned → ℕ × Option ℕ
 cut_over size first end [] = (stable_place first.stable, first.active)
 cut_over size first end (s ∷ ss) = cut_of size (stops_in end s (open_at end s.met) ss)
 
 -- the cut, where the tail ends there
-abbrev pub cut_from : ℕ → Shot → List Scanned → Option ℕ → ℕ × Option ℕ
+abbrev pub cut_from : ℕ → SnapshotModel → List Scanned → Option ℕ → ℕ × Option ℕ
 cut_from size first scanned None = (stable_place first.stable, first.active)
 cut_from size first scanned (Some end) = cut_over size first end (scanned_below end scanned)
 
 -- The segments that are found are of the history, and those that a table below the cut needs are there. The cut passes what was acknowledged.
-pub record IsRecoverableLog (sum : List ℕ → ℕ) (size : ℕ) (content : Content) (H : History) (A : ℕ) (first : Shot) : Type 0 where
+pub record IsRecoverableLog (sum : List ℕ → ℕ) (size : ℕ) (content : Content) (H : History) (A : ℕ) (first : SnapshotModel) : Type 0 where
   pub ordering : List Segment
   pub numbers : IsOrdering sum size content.log (least_place size first) ordering
   pub scanned : List Scanned
@@ -140,7 +140,7 @@ pub record IsRecoverableLog (sum : List ℕ → ℕ) (size : ℕ) (content : Con
   pub tail : List Scanned
   pub is_tail : IsTail sum size (readable content) ordering (tail_begins size (least_place size first) ordering) tail
   pub marks : (s : Segment) → Contains ordering s → IsMarkOf H s
-  pub truth : (s : Scanned) (x : Met) → Contains scanned s → Contains s.met x → IsOfHistory sum size content H x
+  pub truth : (s : Scanned) (x : ScannedRecord) → Contains scanned s → Contains s.met x → IsOfHistory sum size content H x
   pub caps : (s : Scanned) → Contains scanned s → s.why ≡ Capped → NoMessageBegins H (s.segment.place + s.stop) (s.segment.place + size) × NoBatchBegins H (s.segment.place + s.stop) (s.segment.place + size)
   pub tail_there : ((s : Segment) × Contains ordering s × (s.place ≡ tail_begins size (least_place size first) ordering)) ⊎ (tail_begins size (least_place size first) ordering ≡ stable_place first.stable)
   pub cut : ℕ × Option ℕ
@@ -153,7 +153,7 @@ pub record IsRecoverableLog (sum : List ℕ → ℕ) (size : ℕ) (content : Con
 -- One segment.
 
 -- where the first segment lies
-abbrev pub first_site : Site
+abbrev pub first_site : SegmentPosition
 first_site = record { place = 0; slot = 0 }
 
 -- the cut where reading ends at an offset of the first segment: the end of the segment where no further record has room
@@ -181,7 +181,7 @@ pub record IsBegun (sum : List ℕ → ℕ) (size : ℕ) (log : List ℕ) (H : H
   pub passes : A ≤ first_cut size stop
 
 -- All of the log is in its first segment, with neither batches nor blobs.
-pub record IsInFirstSegment (sum : List ℕ → ℕ) (size : ℕ) (content : Content) (H : History) (A : ℕ) (first : Shot) : Type 0 where
+pub record IsInFirstSegment (sum : List ℕ → ℕ) (size : ℕ) (content : Content) (H : History) (A : ℕ) (first : SnapshotModel) : Type 0 where
   pub batches : H.batches ≡ []
   pub blobs : (n : ℤ) → content.blobs n ≡ None
   pub short : length content.log ≤ size
@@ -190,7 +190,7 @@ pub record IsInFirstSegment (sum : List ℕ → ℕ) (size : ℕ) (content : Con
 
 -- a content of which all of the log is in its first segment
 pub record IsRecoverableInFirst (sum : List ℕ → ℕ) (size : ℕ) (content : Content) (H : History) (A f : ℕ) : Type 0 where
-  pub first : Shot
+  pub first : SnapshotModel
   pub snapshots : AreRecoverableSnapshots sum size content.snapshots H f first
   pub segment : IsInFirstSegment sum size content H A first
 
@@ -198,7 +198,7 @@ pub record IsRecoverableInFirst (sum : List ℕ → ℕ) (size : ℕ) (content :
 
 -- A recovery can go on from this content, for this history, the end of what was acknowledged, and the floor. (The last part goes when there are several segments.)
 pub record IsRecoverable (sum : List ℕ → ℕ) (size : ℕ) (content : Content) (H : History) (A f : ℕ) : Type 0 where
-  pub first : Shot
+  pub first : SnapshotModel
   pub snapshots : AreRecoverableSnapshots sum size content.snapshots H f first
   pub log : IsRecoverableLog sum size content H A first
   pub one_segment : IsInFirstSegment sum size content H A first

@@ -4,13 +4,13 @@ use Rattle.std.specs.Prelude.{◌≡◌, ◌≢◌, ◌⊎◌, ◌≤◌, ◌<�
 use Rattle.std.specs.declared.io.Error.{Error as IoError}
 use Rattle.sled_codec.specs.Places.{part}
 use Rattle.sled_codec.specs.History.{Message, History}
-use Rattle.sled_codec.specs.Snapshots.{Shot}
+use Rattle.sled_codec.specs.Snapshots.{SnapshotModel, stable_place}
 use Rattle.sled_store.specs.Device.{Trace, NamesState, State, state_of, LeavesName}
 use Rattle.sled_store.specs.Foreign.{NoForeignNames}
-use Rattle.sled_store.specs.SnapshotFiles.{IsSnapshotFile, stable_place}
+use Rattle.sled_store.specs.SnapshotFiles.{IsSnapshotFile}
 use Rattle.sled_core.specs.declared.iobuf.Reserved.{Reserved}
-use Rattle.sled_core.specs.declared.iobuf.Site.{Site}
-use Rattle.sled_core.specs.declared.met.Segment.{Segment}
+use Rattle.sled_core.specs.declared.iobuf.SegmentPosition.{SegmentPosition}
+use Rattle.sled_core.specs.declared.iterator.Segment.{Segment}
 use Rattle.sled_core.specs.declared.logger.Log.{Log}
 use Rattle.sled_core.specs.Scan.{IsFoundSegment}
 use Rattle.sled_core.specs.Fits.{HoldsIn}
@@ -23,7 +23,7 @@ NoneBegun sum size log = (s : Segment) → IsFoundSegment sum size log 0 s → p
 
 -- recovery can begin from these snapshots, at a place that was reached, in the first segment
 pub record CanBegin (sum : List ℕ → ℕ) (size : ℕ) (snapshots : ℤ → Option (List ℕ)) (H : History) (f reached : ℕ) : Type 0 where
-  pub first : Shot
+  pub first : SnapshotModel
   pub tables : AreRecoverableSnapshots sum size snapshots H f first
   pub slot : (slot : ℕ) → first.active ≡ Some slot → slot ≡ 0
   pub not_above : stable_place first.stable ≤ reached
@@ -31,14 +31,14 @@ pub record CanBegin (sum : List ℕ → ℕ) (size : ℕ) (snapshots : ℤ → O
 -- whatever snapshots a crash leaves of which only those pass that the log wrote, recovery can begin from them
 abbrev pub NamesFit : (List ℕ → ℕ) → ℕ → NamesState → History → ℕ → ℕ → Type 0
 NamesFit sum size names H f reached =
-    (left : ℤ → Option (List ℕ)) → ((n : ℤ) → LeavesName names n (left n)) → NoForeignNames (λ bytes. (s : Shot) × IsSnapshotFile sum bytes s) names left → CanBegin sum size left H f reached
+    (left : ℤ → Option (List ℕ)) → ((n : ℤ) → LeavesName names n (left n)) → NoForeignNames (λ bytes. (s : SnapshotModel) × IsSnapshotFile sum bytes s) names left → CanBegin sum size left H f reached
 
 -- no crash leaves a blob
 abbrev pub NoBlobs : NamesState → Type 0
 NoBlobs blobs = (n : ℤ) (left : Option (List ℕ)) → LeavesName blobs n left → left ≡ None
 
 -- What a log of these bytes and reservations over a device has to do with a history, the end of what was acknowledged, the floor and the messages that were not marked yet.
-pub record FitsIn (sum : List ℕ → ℕ) (size : ℕ) (site : Site) (device : State) (fault : Option IoError) (bytes : List ℕ) (from : ℕ) (reserved : List Reserved) (pins : ℕ) (H : History) (A f : ℕ) (U : List Message) : Type 0 where
+pub record FitsIn (sum : List ℕ → ℕ) (size : ℕ) (site : SegmentPosition) (device : State) (fault : Option IoError) (bytes : List ℕ) (from : ℕ) (reserved : List Reserved) (pins : ℕ) (H : History) (A f : ℕ) (U : List Message) : Type 0 where
   pub holds : HoldsIn sum size site device fault bytes from reserved H
   pub one_segment : site ≡ first_site
   pub short : fault ≡ None → length device.log.bytes ≤ size
@@ -54,10 +54,10 @@ pub record FitsIn (sum : List ℕ → ℕ) (size : ℕ) (site : Site) (device : 
 
 -- The log fits this history, the end of what was acknowledged, the floor and the messages that were not marked yet.
 unfoldable pub Fits : {D C : Type 0} → (D → Trace) → (List ℕ → ℕ) → Log D C → History → ℕ → ℕ → List Message → Type 0
-Fits trace sum log H A f U = FitsIn sum log.config.config.segment_size log.site (state_of (trace log.config.device)) log.fault log.buffer.bytes.items log.buffer.from log.buffer.reserved.items log.pins H A f U
+Fits trace sum log H A f U = FitsIn sum log.config.config.segment_size log.site (state_of (trace log.config.device)) log.fault log.buffer.bytes.items log.buffer.written_len log.buffer.reserved.items log.pins H A f U
 
 -- Snapshot and device are ready for a log that fits this history, the end of what was acknowledged and the floor.
-pub record IsReadyFor (sum : List ℕ → ℕ) (size : ℕ) (device : State) (s : Shot) (H : History) (A f : ℕ) : Type 0 where
+pub record IsReadyFor (sum : List ℕ → ℕ) (size : ℕ) (device : State) (s : SnapshotModel) (H : History) (A f : ℕ) : Type 0 where
   pub ready : IsReady sum size device s H
   -- the log goes on in the first segment, where one more record has room, or begins it
   pub one_segment : ((s.active ≡ Some 0) × (stable_place s.stable + 32 ≤ size)) ⊎ ((s.active ≡ None) × (stable_place s.stable ≡ 0) × NoneBegun sum size device.log.bytes)
@@ -67,5 +67,5 @@ pub record IsReadyFor (sum : List ℕ → ℕ) (size : ℕ) (device : State) (s 
   pub passes : A ≤ stable_place s.stable
   pub left : LeavesRecoverable sum size H A f device
 
-unfoldable pub Ready : (List ℕ → ℕ) → ℕ → State → Shot → History → ℕ → ℕ → Type 0
+unfoldable pub Ready : (List ℕ → ℕ) → ℕ → State → SnapshotModel → History → ℕ → ℕ → Type 0
 Ready sum size device s H A f = IsReadyFor sum size device s H A f

@@ -1,13 +1,12 @@
 -- What the start of a log leaves.
 use Rattle.std.specs.Prelude.{◌≡◌, ◌+◌, ℕ, max, None, Result, Ok, Err}
 use Rattle.sled_codec.specs.declared.result.Error.{Error}
-use Rattle.sled_codec.specs.Snapshots.{Shot}
+use Rattle.sled_codec.specs.Snapshots.{SnapshotModel, stable_place}
 use Rattle.sled_store.specs.declared.config.RunningConfig.{RunningConfig}
-use Rattle.sled_store.specs.SnapshotFiles.{stable_place}
 use Rattle.sled_core.specs.declared.logger.Log.{Log}
-use Rattle.sled_core.specs.Begin.{offset_at, place_at}
+use Rattle.sled_store.specs.Begin.{offset_at, place_at}
 use Rattle.sled_core.specs.Causes.{StartRefuses}
-use Rattle.sled_core.specs.Fits.{AllEnded, config_of, fault_of, next_place, pins_of, segment_size_of, synced_end}
+use Rattle.sled_core.specs.Fits.{NoneOpen, config_of, fault_of, next_place, pins_of, segment_size_of, synced_end}
 
 -- what the log that was started runs on, or what came back where none was
 abbrev pub config_left : {D C : Type 0} → Result (Log D C) (Error × RunningConfig D C) → RunningConfig D C
@@ -15,11 +14,11 @@ config_left (Ok log) = config_of log
 config_left (Err e) = e.1
 
 -- The log begins behind what the snapshot has: nothing is reserved in it, no pin is out, and it keeps no failure.
-pub record BeginsBehind {D C : Type 0} (size : ℕ) (s : Shot) (log : Log D C) : Type 0 where
+pub record BeginsBehind {D C : Type 0} (size : ℕ) (s : SnapshotModel) (log : Log D C) : Type 0 where
   pub synced : synced_end log ≡ place_at size (stable_place s.stable) s.active + offset_at size (stable_place s.stable) s.active
   -- behind the header of its segment at least
   pub next : next_place log ≡ place_at size (stable_place s.stable) s.active + max 20 (offset_at size (stable_place s.stable) s.active)
-  pub ended : AllEnded log
+  pub ended : NoneOpen log
   pub pins : pins_of log ≡ 0
   pub fault : fault_of log ≡ None
   pub sized : segment_size_of log ≡ size

@@ -1,14 +1,13 @@
 -- What a reader finds of a log in its file: the segments from a place on, the tail of the log, and where a pass over all of it stops.
 -- Stated for any number of segments and for all kinds of messages.
 use Rattle.std.specs.Prelude.{◌≡◌, ◌≢◌, ◌⊎◌, ◌↔◌, ◌+◌, ◌*◌, ◌/◌, ℕ, ℤ, pos, negsuc, max, nat_lt, int_le, Bool, true, false, ◌&&◌, if◌then◌else◌, List, [], ◌∷◌, Option, Some, None, Contains}
-use Rattle.sled_codec.specs.Snapshots.{Shot}
-use Rattle.sled_store.specs.SnapshotFiles.{stable_place}
-use Rattle.sled_core.specs.declared.met.Met.{Met}
-use Rattle.sled_core.specs.declared.met.What.{What}
-use Rattle.sled_core.specs.declared.met.What.TheVariants.{Gives, Passed, Begins}
-use Rattle.sled_core.specs.declared.met.Ending.{Ending}
-use Rattle.sled_core.specs.declared.met.Ending.TheVariants.{Full, Capped, Broken}
-use Rattle.sled_core.specs.declared.met.Segment.{Segment}
+use Rattle.sled_codec.specs.Snapshots.{SnapshotModel, stable_place}
+use Rattle.sled_core.specs.declared.iterator.scan.ScannedRecord.{ScannedRecord}
+use Rattle.sled_core.specs.declared.iterator.scan.RecordContent.{RecordContent}
+use Rattle.sled_core.specs.declared.iterator.scan.RecordContent.TheVariants.{Gives, Skipped, BatchStart}
+use Rattle.sled_core.specs.declared.iterator.scan.ScanEnd.{ScanEnd}
+use Rattle.sled_core.specs.declared.iterator.scan.ScanEnd.TheVariants.{Full, Capped, Broken}
+use Rattle.sled_core.specs.declared.iterator.Segment.{Segment}
 use Rattle.sled_core.specs.Scan.{Readable, IsFoundSegment, IsMisplaced, IsScan}
 
 -- The segments that it finds.
@@ -36,9 +35,9 @@ pub record IsOrdering (sum : List ℕ → ℕ) (size : ℕ) (log : List ℕ) (le
 -- a segment and all that is met in it, where the reading ends and why
 pub record Scanned : Type 0 where
   pub segment : Segment
-  pub met : List Met
+  pub met : List ScannedRecord
   pub stop : ℕ
-  pub why : Ending
+  pub why : ScanEnd
 
 -- these are found in a segment
 abbrev pub IsScanned : (List ℕ → ℕ) → ℕ → Readable → Scanned → Type 0
@@ -59,7 +58,7 @@ abbrev pub tail_begins : ℕ → ℕ → List Segment → ℕ
 tail_begins size least ordering = greatest_mark least ordering / size * size
 
 -- behind a broken segment nothing is read, and behind another one this
-abbrev pub GoesOn : Ending → List Scanned → Type 0 → Type 0
+abbrev pub GoesOn : ScanEnd → List Scanned → Type 0 → Type 0
 GoesOn Broken rest on = rest ≡ []
 GoesOn Full rest on = on
 GoesOn Capped rest on = on
@@ -91,18 +90,18 @@ AreScanned sum size r (s ∷ ss) [] = ⊥
 AreScanned sum size r (s ∷ ss) (x ∷ xs) = (x.segment ≡ s) × IsScanned sum size r x × AreScanned sum size r ss xs
 
 -- the beginning of a batch that does not end below this place
-abbrev pub opens : ℕ → What → Bool
+abbrev pub opens : ℕ → RecordContent → Bool
 opens end (Gives kind page pointer) = false
-opens end Passed = false
-opens end (Begins peg) = int_le (pos end) peg
+opens end Skipped = false
+opens end (BatchStart peg) = int_le (pos end) peg
 
 -- what is met before the first such beginning
-abbrev pub before_open : ℕ → List Met → List Met
+abbrev pub before_open : ℕ → List ScannedRecord → List ScannedRecord
 before_open end [] = []
 before_open end (m ∷ ms) = if opens end m.what then [] else m ∷ before_open end ms
 
 -- where that begins
-abbrev pub open_at : ℕ → List Met → Option ℕ
+abbrev pub open_at : ℕ → List ScannedRecord → Option ℕ
 open_at end [] = None
 open_at end (m ∷ ms) = if opens end m.what then Some m.place else open_at end ms
 
@@ -127,5 +126,5 @@ IsTailPart sum size r ordering place (s ∷ ss) next =
     Contains ordering s.segment × (s.segment.place ≡ place) × IsScanned sum size r s × (s.why ≢ Broken) × IsTailPart sum size r ordering (place + size) ss next
 
 -- the segment that holds the place with which a snapshot ends
-abbrev pub least_place : ℕ → Shot → ℕ
+abbrev pub least_place : ℕ → SnapshotModel → ℕ
 least_place size s = stable_place s.stable / size * size

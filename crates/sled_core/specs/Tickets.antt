@@ -2,7 +2,7 @@
 use Rattle.std.specs.Prelude.{◌≡◌, ◌+◌, ℕ, ℤ, pos, true}
 use Rattle.sled_codec.specs.declared.result.DiskPtr.TheVariants.{Inline}
 use Rattle.sled_core.specs.declared.iobuf.Reserved.{Reserved}
-use Rattle.sled_core.specs.declared.iobuf.Site.{Site}
+use Rattle.sled_core.specs.declared.iobuf.SegmentPosition.{SegmentPosition}
 use Rattle.sled_codec.specs.declared.result.DiskPtr.{DiskPtr}
 use Rattle.sled_core.specs.declared.reservation.Reservation.{Reservation}
 
@@ -19,7 +19,7 @@ abbrev pub index_of : Reservation → ℕ
 index_of ticket = ticket.index
 
 -- a ticket is for this reservation in the segment that lies there, and that is open
-pub record IsFor (site : Site) (r : Reserved) (ticket : Reservation) : Type 0 where
+pub record IsFor (site : SegmentPosition) (r : Reserved) (ticket : Reservation) : Type 0 where
   pub open_yet : r.is_open ≡ true
   pub place : place_of ticket ≡ pos (site.place + r.from)
   pub pointer : pointer_of ticket ≡ Inline (site.slot + r.from)

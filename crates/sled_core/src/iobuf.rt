@@ -5,23 +5,18 @@ ghost use Rattle.sled_codec.specs.Written.{written};
 ghost use Rattle.sled_core.specs.declared.iobuf.Reserved.{Reserved};
 ghost use Rattle.sled_core.specs.Buffers.{completing, closed, open_in, placeholder_head, reserved_for};
 
-use crate::record::{Head, push_item, push_placeholder, sum_behind};
+pub(crate) mod record;
+pub(crate) mod start;
+
+use crate::iobuf::record::{Head, push_item, push_placeholder, sum_behind};
 use sled_codec::result::{Error, LogOffset, PageId, Result};
 use sled_codec::serialization::{Checksum, LogKind, MessageKind, Serialize};
+use sled_store::segment::MAX_MSG_HEADER_LEN;
 use std::alloc::Global;
-
-/// The longest header of a message, in bytes.
-pub const MAX_MSG_HEADER_LEN: usize = 32;
-
-/// The header of a segment, in bytes.
-pub const SEG_HEADER_LEN: usize = 20;
-
-/// The sum and the kind in the header of a message: what completes a record.
-pub(crate) const COMPLETING_LEN: usize = 5;
 
 /// Where a segment lies.
 #[derive(Debug, Clone, Copy)]
-pub(crate) struct Site {
+pub(crate) struct SegmentPosition {
     /// Where it begins in the log.
     pub(crate) place: u64,
     /// Where its slot begins in the file.
@@ -30,7 +25,7 @@ pub(crate) struct Site {
 
 /// What a reservation is for.
 #[derive(Clone, Copy)]
-pub(crate) struct Kept {
+pub(crate) struct Purpose {
     pub(crate) log_kind: LogKind,
     pub(crate) kind: MessageKind,
     pub(crate) page: PageId,
@@ -58,61 +53,61 @@ pub(crate) struct Reserved {
 /// A segment's bytes from its beginning on. Those of a segment that a log goes on in are zeros as far as
 /// they were on the device before, since nothing looks at them.
 #[derive(Drop)]
-pub(crate) struct Buffer {
+pub(crate) struct IoBuf {
     pub(crate) bytes: Vec<u8>,
     /// Where the current buffer begins: all before it is on the device.
-    pub(crate) from: usize,
+    pub(crate) written_len: usize,
     /// The reservations of the current buffer, by place.
     pub(crate) reserved: Vec<Reserved>,
     /// How many of them are open.
     pub(crate) open_count: usize,
     ghost begun: { 20 ≤ length bytes.items },
-    ghost behind: { from ≤ length bytes.items },
+    ghost behind: { written_len ≤ length bytes.items },
     ghost within: { All (λ r. r.from + r.len ≤ length bytes.items) reserved.items },
     ghost headed: { All (λ r. (5 ≤ r.header_len) × (r.header_len ≤ r.len)) reserved.items },
     ghost counted: { open_count ≡ open_in reserved.items },
 }
 
-impl Buffer {
-    ghost use Rattle.sled_core.specs.Buffers.{all_ended};
+impl IoBuf {
+    ghost use Rattle.sled_core.specs.Buffers.{none_open};
 
     /// The bytes of a segment that has its header alone, with room for so many.
-    pub(crate) fn new(alloc: Global, header: &[u8; 20], room: usize) -> Result<Buffer>
+    pub(crate) fn new(alloc: Global, header: &[u8; 20], room: usize) -> Result<IoBuf>
         ensures bytes { IfOk result (λ b. b.bytes.items ≡ header.now) }
-        ensures from { IfOk result (λ b. b.from ≡ 0) }
+        ensures from { IfOk result (λ b. b.written_len ≡ 0) }
         ensures reserved { IfOk result (λ b. b.reserved.items ≡ []) }
         ensures err { IsOkUnless result Error.OutOfMemory }
     {
         let mut bytes = Vec::with_capacity(alloc, room)?;
         bytes.extend_from_slice(header)?;
-        Ok(Buffer {
+        Ok(IoBuf {
             bytes,
-            from: 0,
+            written_len: 0,
             reserved: Vec::new(alloc),
             open_count: 0,
         })
     }
 
     /// The buffer of a segment of which so many bytes are on the device.
-    pub(crate) fn resumed(alloc: Global, from: usize) -> Result<Buffer>
+    pub(crate) fn resumed(alloc: Global, from: usize) -> Result<IoBuf>
         requires begun { 20 ≤ from }
         requires small { from < 2 ^ 63 }
         ensures len { IfOk result (λ b. length b.bytes.items ≡ from) }
-        ensures from { IfOk result (λ b. b.from ≡ from) }
+        ensures from { IfOk result (λ b. b.written_len ≡ from) }
         ensures reserved { IfOk result (λ b. b.reserved.items ≡ []) }
         ensures err { IsOkUnless result Error.OutOfMemory }
     {
-        Ok(Buffer {
+        Ok(IoBuf {
             bytes: vec![in alloc; 0; from]?,
-            from,
+            written_len: from,
             reserved: Vec::new(alloc),
             open_count: 0,
         })
     }
 
     /// None of the reservations is open.
-    pub(crate) fn all_ended(&self) -> bool
-        ensures { result ≡ all_ended self.now.reserved.items }
+    pub(crate) fn none_open(&self) -> bool
+        ensures { result ≡ none_open self.now.reserved.items }
     {
         self.open_count == 0
     }
@@ -121,7 +116,7 @@ impl Buffer {
     pub(crate) fn make_room(&mut self, len: usize) -> Result<()>
         requires { len < 2 ^ 32 }
         ensures bytes { self.new.bytes.items ≡ self.old.bytes.items }
-        ensures from { self.new.from ≡ self.old.from }
+        ensures from { self.new.written_len ≡ self.old.written_len }
         ensures reserved { self.new.reserved.items ≡ self.old.reserved.items }
         ensures room { OnOk result (length self.old.bytes.items + len + 32 ≤ vec_capacity self.new.bytes) }
         ensures place { OnOk result (vec_len self.new.reserved < vec_capacity self.new.reserved) }
@@ -137,7 +132,7 @@ impl Buffer {
         &mut self,
         checksum: &C,
         head: &Head,
-        message: &Kept,
+        message: &Purpose,
         item: &T,
         item_len: usize,
     )
@@ -148,7 +143,7 @@ impl Buffer {
         ensures bytes { self.new.bytes.items ≡ self.old.bytes.items ++ placeholder_head (take head.now.len head.now.bytes) ++ T.short (T.meaning item.now) }
         ensures len { length self.new.bytes.items ≡ length self.old.bytes.items + head.now.len + item_len }
         ensures reserved { self.new.reserved.items ≡ self.old.reserved.items ++ reserved_for message.now (length self.old.bytes.items) head.now.len item_len (C.sum_of (T.short (T.meaning item.now) ++ drop 4 (take head.now.len head.now.bytes))) ∷ [] }
-        ensures from { self.new.from ≡ self.old.from }
+        ensures from { self.new.written_len ≡ self.old.written_len }
     {
         let from = self.bytes.len();
         push_placeholder(&mut self.bytes, head);
@@ -176,7 +171,7 @@ impl Buffer {
         requires awaited { (r : Reserved) → slice_get self.old.reserved.items index ≡ Some r → r.is_open ≡ true }
         ensures bytes { (r : Reserved) → slice_get self.old.reserved.items index ≡ Some r → self.new.bytes.items ≡ written self.old.bytes.items r.from (completing r) }
         ensures reserved { (r : Reserved) → slice_get self.old.reserved.items index ≡ Some r → self.new.reserved.items ≡ set self.old.reserved.items index (closed r) }
-        ensures from { self.new.from ≡ self.old.from }
+        ensures from { self.new.written_len ≡ self.old.written_len }
         ensures len { length self.new.bytes.items ≡ length self.old.bytes.items }
     {
         let r = self.reserved[index];
@@ -193,10 +188,10 @@ impl Buffer {
     /// All bytes are on the device now.
     pub(crate) fn advance(&mut self)
         ensures bytes { self.new.bytes.items ≡ self.old.bytes.items }
-        ensures from { self.new.from ≡ length self.old.bytes.items }
+        ensures from { self.new.written_len ≡ length self.old.bytes.items }
         ensures reserved { self.new.reserved.items ≡ [] }
     {
-        self.from = self.bytes.len();
+        self.written_len = self.bytes.len();
         self.reserved.clear();
         self.open_count = 0;
     }

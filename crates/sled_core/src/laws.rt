@@ -7,7 +7,7 @@ ghost use Rattle.sled_codec.specs.Record.{IsHeader};
 ghost use Rattle.sled_codec.specs.WellFormed.{LieApart};
 ghost use Rattle.sled_store.specs.Device.{Trace, State, Content, Left, Leaves, Crashed, state_of, content_of, content_left, at_rest, fresh, Settled, Wrote, Synced, step};
 ghost use Rattle.sled_store.specs.Moments.{IsLater, LeavesOnly};
-ghost use Rattle.sled_store.specs.SnapshotFiles.{empty_shot};
+ghost use Rattle.sled_codec.specs.Snapshots.{empty_model};
 ghost use Rattle.sled_core.specs.Fits.{Holds, Awaits, IsWritten, fault_of, next_place, synced_end, device_of, segment_size_of};
 ghost use Rattle.sled_core.specs.Keeps.{GoesOn, Preserves};
 ghost use Rattle.sled_core.specs.Reading.{IsInline};
@@ -78,12 +78,12 @@ pub fn moments_follow_one_another<C: Checksum>()
 /// A log can be started on an empty device, with nothing in its history, and a recovery can go on from what a
 /// crash leaves of it.
 pub fn an_empty_device_is_ready<C: Checksum>()
-    ensures ready { (size : ℕ) → 256 ≤ size → size < 2 ^ 63 → Ready C.sum_of size fresh empty_shot no_history 0 0 }
+    ensures ready { (size : ℕ) → 256 ≤ size → size < 2 ^ 63 → Ready C.sum_of size fresh empty_model no_history 0 0 }
     ensures leaves { (size : ℕ) → 256 ≤ size → size < 2 ^ 63 → LeavesRecoverable C.sum_of size no_history 0 0 fresh }
     ensures recoverable { (size : ℕ) → 256 ≤ size → size < 2 ^ 63
         → Recoverable C.sum_of size (record { log = []; blobs = λ n. None; snapshots = λ n. None }) no_history 0 0 }
     ensures no_log { (size : ℕ) (device : State) → device.log ≡ at_rest [] → ((n : ℤ) → device.snapshots.file n ≡ None)
-        → IsReady C.sum_of size device empty_shot no_history }
+        → IsReady C.sum_of size device empty_model no_history }
 {}
 
 /// What a crash leaves can be recovered, and so can what the next crash leaves; and what is read behind a

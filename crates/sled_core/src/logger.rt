@@ -2,7 +2,7 @@
 //!
 //! A log keeps the bytes of its segment, the reservations in them, the count of pins, and the first
 //! failure of its device, which it answers from then on. `specs/Fits.antt` says which history it holds.
-ghost use Rattle.std.specs.Prelude.{List, ◌≡◌, ◌≢◌, ◌↔◌, ◌+◌, ◌-◌, ◌<◌, ◌≤◌, ◌^◌, ◌∷◌, ◌-ℤ◌, ◌<ℤ◌, ◌≤ℤ◌, pos, [], ℕ, length, drop, true, false, IsTrue, IfOk, IfErr, OnOk, OnErr, Contains, None, Some, ◌⊎◌, ◌/◌, unsigned_abs, max, ℤ};
+ghost use Rattle.std.specs.Prelude.{List, ◌≡◌, ◌≢◌, ◌↔◌, ◌+◌, ◌-◌, ◌<◌, ◌≤◌, ◌^◌, ◌∷◌, ◌-ℤ◌, ◌<ℤ◌, ◌≤ℤ◌, pos, [], ℕ, length, drop, false, IsTrue, IfOk, IfErr, OnOk, OnErr, Contains, None, Some, ◌⊎◌, ◌/◌, unsigned_abs, ℤ};
 ghost use Rattle.std.specs.declared.io.Error.{Error as IoError};
 ghost use Rattle.sled_codec.specs.Kinds.{kind_written};
 ghost use Rattle.sled_codec.specs.History.{History, Message, Completed, Step};
@@ -16,24 +16,27 @@ ghost use Rattle.sled_core.specs.Reading.{GivesMessage, IsInline, IsReading, IsM
 ghost use Rattle.sled_codec.specs.Places.{MayBegin};
 ghost use Rattle.sled_codec.specs.Pointers.{lid_of};
 ghost use Rattle.sled_core.specs.Buffers.{record_size};
-ghost use Rattle.sled_codec.specs.Snapshots.{shot_of};
+ghost use Rattle.sled_codec.specs.Snapshots.{model_of};
 ghost use Rattle.sled_store.specs.Script.{after_all, Performs};
 ghost use Rattle.sled_store.specs.Moments.{IsLater, LeavesOnly};
-ghost use Rattle.sled_core.specs.Begin.{IsStartable, IsInReach, slots_of, unused, filling};
+ghost use Rattle.sled_store.specs.Begin.{IsStartable, IsInReach, slots_of, unused, filling};
 ghost use Rattle.sled_core.specs.Ready.{IsReady};
 ghost use Rattle.sled_core.specs.Recoverable.{LeavesRecoverable, RecoverableIfOwn};
 ghost use Rattle.sled_core.specs.Causes.{Answers, FaultAnswers, ReserveAnswers, ReadAnswers, failure_in};
 
-use crate::begin::begin;
-use crate::iobuf::{Buffer, Kept, MAX_MSG_HEADER_LEN, Reserved, SEG_HEADER_LEN, Site};
-use crate::reading::{LogRead, read_message};
-use crate::record::head_of;
+pub mod read_at;
+pub mod read_message;
+pub(crate) mod unverified_record;
+
+use crate::iobuf::record::head_of;
+use crate::iobuf::start::begin;
+use crate::iobuf::{IoBuf, Purpose, Reserved, SegmentPosition};
+use crate::logger::read_message::{LogRead, read_message};
 use crate::reservation::{Guard, Reservation};
 use sled_codec::result::{DiskPtr, Error, LogOffset, Lsn, PageId, Result};
 use sled_codec::serialization::message::message_kind;
-use sled_codec::serialization::{
-    Checksum, LogKind, SegmentHeader, SegmentNumber, Serialize, Snapshot,
-};
+use sled_codec::serialization::{Checksum, LogKind, SegmentNumber, Serialize, Snapshot};
+use sled_store::segment::may_begin;
 use sled_store::{Device, RunningConfig};
 use std::io;
 
@@ -41,8 +44,8 @@ use std::io;
 pub struct Log<D, C> {
     config: RunningConfig<D, C>,
     /// Where the current segment lies.
-    site: Site,
-    buffer: Buffer,
+    site: SegmentPosition,
+    buffer: IoBuf,
     /// The first failure of the device in this log.
     fault: Option<io::Error>,
     pins: u32,
@@ -52,7 +55,7 @@ pub struct Log<D, C> {
 }
 
 impl<D: Device, C: Checksum> Log<D, C> {
-    ghost use Rattle.sled_core.specs.Fits.{Holds, AllEnded, Awaits, IsOpen, IsOnlyOpen, HasRoom, IsUnchanged, fault_of, next_place, synced_end, reserved_end, pins_of, config_of, device_of, IsWritten, flushing, manifest_page, segment_size_of, size_for, message_for, KeepsAll};
+    ghost use Rattle.sled_core.specs.Fits.{Holds, NoneOpen, Awaits, IsOpen, IsOnlyOpen, HasRoom, IsUnchanged, fault_of, next_place, synced_end, reserved_end, pins_of, config_of, device_of, IsWritten, flushing, manifest_page, segment_size_of, size_for, message_for, KeepsAll};
     ghost use Rattle.sled_core.specs.Keeps.{ConfigKept, GoesOn, Preserves, SamePosition};
     ghost use Rattle.sled_core.specs.Running.{Fits, Ready};
     ghost use Rattle.sled_core.specs.Starts.{BeginsBehind, StartsOrRefuses, config_left};
@@ -69,22 +72,22 @@ impl<D: Device, C: Checksum> Log<D, C> {
         config: RunningConfig<D, C>,
         snapshot: &Snapshot,
     ) -> std::result::Result<Log<D, C>, (Error, RunningConfig<D, C>)>
-        ensures history { (H : History) → IsReady C.sum_of config.config.segment_size (state_of (D.trace config.device)) (shot_of snapshot.now) H
+        ensures history { (H : History) → IsReady C.sum_of config.config.segment_size (state_of (D.trace config.device)) (model_of snapshot.now) H
             → IfOk result (λ log. Holds D.trace C.sum_of log H) }
-        ensures fits { (H : History) (A f : ℕ) → Ready C.sum_of config.config.segment_size (state_of (D.trace config.device)) (shot_of snapshot.now) H A f
+        ensures fits { (H : History) (A f : ℕ) → Ready C.sum_of config.config.segment_size (state_of (D.trace config.device)) (model_of snapshot.now) H A f
             → IfOk result (λ log. Fits D.trace C.sum_of log H A f []) }
-        ensures crash { (H : History) (A f : ℕ) → Ready C.sum_of config.config.segment_size (state_of (D.trace config.device)) (shot_of snapshot.now) H A f
+        ensures crash { (H : History) (A f : ℕ) → Ready C.sum_of config.config.segment_size (state_of (D.trace config.device)) (model_of snapshot.now) H A f
             → LeavesOnly (RecoverableIfOwn C.sum_of config.config.segment_size H A f) (D.trace config.device) (D.trace (config_left result).device) }
-        ensures starts { (H : History) (A f : ℕ) → Ready C.sum_of config.config.segment_size (state_of (D.trace config.device)) (shot_of snapshot.now) H A f
+        ensures starts { (H : History) (A f : ℕ) → Ready C.sum_of config.config.segment_size (state_of (D.trace config.device)) (model_of snapshot.now) H A f
             → IfErr result (λ e. (IsCorrupt e.0 → ⊥) × (e.0 ≢ Error.PlacesUsedUp)) }
-        ensures begins { IfOk result (λ log. BeginsBehind config.config.segment_size (shot_of snapshot.now) log) }
+        ensures begins { IfOk result (λ log. BeginsBehind config.config.segment_size (model_of snapshot.now) log) }
         ensures config { ConfigKept config (config_left result) }
         ensures later { IsLater (D.trace config.device) (D.trace (config_left result).device) }
-        ensures filled { let size = config.config.segment_size in let s = shot_of snapshot.now in let old = D.trace config.device in
+        ensures filled { let size = config.config.segment_size in let s = model_of snapshot.now in let old = D.trace config.device in
             OnOk result (D.trace (config_left result).device ≡ after_all (filling size (unused size (slots_of size (length (state_of old).log.bytes)) s)) old) }
-        ensures calls { let size = config.config.segment_size in let s = shot_of snapshot.now in let old = D.trace config.device in
+        ensures calls { let size = config.config.segment_size in let s = model_of snapshot.now in let old = D.trace config.device in
             Performs (filling size (unused size (slots_of size (length (state_of old).log.bytes)) s)) old (D.trace (config_left result).device) }
-        ensures answers { let size = config.config.segment_size in let s = shot_of snapshot.now in
+        ensures answers { let size = config.config.segment_size in let s = model_of snapshot.now in
             let len = length (state_of (D.trace config.device)).log.bytes in let device = (config_left result).device in
             StartsOrRefuses result (IsStartable size len s) (IsInReach size len s) (D.trace device ≡ D.trace config.device)
             (D.faults config.device) (D.faults device) }
@@ -93,7 +96,7 @@ impl<D: Device, C: Checksum> Log<D, C> {
         match begin(&mut config, snapshot) {
             Ok((beginning, buffer)) => Ok(Log {
                 config,
-                site: Site {
+                site: SegmentPosition {
                     place: beginning.place,
                     slot: beginning.slot,
                 },
@@ -140,7 +143,7 @@ impl<D: Device, C: Checksum> Log<D, C> {
         ensures acknowledges { (H : History) (A f : ℕ) (U : List Message) → Fits D.trace C.sum_of self.now H A f U
             → Fits D.trace C.sum_of self.now H (synced_end self.now) f U }
     {
-        (self.site.place + self.buffer.from as u64) as i64 - 1
+        (self.site.place + self.buffer.written_len as u64) as i64 - 1
     }
 
     /// Keeps a place for a message of this page, at the end of what was reserved. The guard shows that
@@ -159,7 +162,7 @@ impl<D: Device, C: Checksum> Log<D, C> {
         ensures ticket { IfOk result (λ ticket. Awaits self.new ticket (message_for self.old kind pid (T.short (T.meaning item.now)))) }
         ensures next { OnOk result (next_place self.new ≡ next_place self.old + size_for self.old pid (length (T.short (T.meaning item.now)))) }
         ensures others { (ticket : Reservation) (m : Message) → Awaits self.old ticket m → Awaits self.new ticket m }
-        ensures open { AllEnded self.old → IfOk result (IsOnlyOpen self.new) }
+        ensures open { NoneOpen self.old → IfOk result (IsOnlyOpen self.new) }
         ensures answers { ReserveAnswers result (fault_of self.old) (kind_written kind pid false) }
         ensures keeps { Preserves D.trace C.sum_of self.old self.new }
         ensures same { KeepsAll self.old self.new }
@@ -177,7 +180,7 @@ impl<D: Device, C: Checksum> Log<D, C> {
         self.buffer.make_room(head.len + item_len)?;
         let at = self.buffer.bytes.len() as u64;
         let index = self.buffer.reserved.len();
-        let kept = Kept {
+        let kept = Purpose {
             log_kind: kind,
             kind: message_kind,
             page: pid,
@@ -198,7 +201,7 @@ impl<D: Device, C: Checksum> Log<D, C> {
             → OnOk result ((H' : History) × Step H (Completed m) H' × Holds D.trace C.sum_of self.new H') }
         ensures others { (H : History) (other : Reservation) (m : Message) → Holds D.trace C.sum_of self.old H
             → Awaits self.old other m → place_of other ≢ place_of ticket → Awaits self.new other m }
-        ensures ended { IsOnlyOpen self.old ticket → OnOk result (AllEnded self.new) }
+        ensures ended { IsOnlyOpen self.old ticket → OnOk result (NoneOpen self.new) }
         ensures answers { FaultAnswers result (fault_of self.old) }
         ensures fits { (H : History) (A f : ℕ) (U : List Message) (m : Message)
             → Fits D.trace C.sum_of self.old H A f U → Awaits self.old ticket m → 0 < pins_of self.old
@@ -223,7 +226,7 @@ impl<D: Device, C: Checksum> Log<D, C> {
     /// grew. Where nothing was reserved since the last write it does nothing. What a crash leaves at any
     /// moment of it can be recovered.
     pub fn flush(&mut self) -> Result<usize>
-        requires { AllEnded self.old }
+        requires { NoneOpen self.old }
         ensures answer { IfOk result (λ n. synced_end self.new ≡ synced_end self.old + n) }
         ensures whole { OnOk result (synced_end self.new ≡ reserved_end self.old) }
         ensures records { (H : History) → Holds D.trace C.sum_of self.old H → OnOk result (IsWritten D.trace C.sum_of self.new H) }
@@ -232,7 +235,7 @@ impl<D: Device, C: Checksum> Log<D, C> {
         ensures keeps { Preserves D.trace C.sum_of self.old self.new }
         ensures acknowledges { (H : History) (A f : ℕ) (U : List Message) → Fits D.trace C.sum_of self.old H A f U
             → OnOk result (Fits D.trace C.sum_of self.new H (synced_end self.new) f U) }
-        ensures ended { AllEnded self.new }
+        ensures ended { NoneOpen self.new }
         ensures position { SamePosition self.old self.new }
         ensures answers { Answers result (fault_of self.old) (fault_of self.new) (D.faults (device_of self.old)) (D.faults (device_of self.new)) }
         ensures faulty { (e : IoError) → fault_of self.old ≡ Some e → self.new ≡ self.old }
@@ -244,7 +247,7 @@ impl<D: Device, C: Checksum> Log<D, C> {
         if self.buffer.reserved.is_empty() {
             return Ok(0);
         }
-        let grown = self.buffer.bytes.len() - self.buffer.from;
+        let grown = self.buffer.bytes.len() - self.buffer.written_len;
         if let Err(e) = write_out(&mut self.config.device, self.site.slot, &self.buffer) {
             return Err(keep_fault(&mut self.fault, e));
         }
@@ -257,7 +260,7 @@ impl<D: Device, C: Checksum> Log<D, C> {
     /// be open. `Corruption` comes for a negative place, for an offset at which no record begins, and for a
     /// record that has to hold a place and does not.
     pub fn read(&mut self, _pid: PageId, lsn: Lsn, ptr: DiskPtr) -> Result<LogRead>
-        requires ended { pos (synced_end self.old) ≤ℤ lsn → AllEnded self.old }
+        requires ended { pos (synced_end self.old) ≤ℤ lsn → NoneOpen self.old }
         requires inline { IsInline ptr }
         requires reserved { lsn <ℤ pos (reserved_end self.old) }
         ensures message { (H : History) (m : Message) → Holds D.trace C.sum_of self.old H → Contains H.messages m
@@ -268,10 +271,10 @@ impl<D: Device, C: Checksum> Log<D, C> {
             IfOk result (IsReading C.sum_of size log (lid_of ptr) (unsigned_abs lsn / size)) }
         ensures corrupt { let log = (state_of (D.trace (device_of self.new))).log.bytes in let size = segment_size_of self.old in
             IsCorruption result → IsNoPlace size lsn (lid_of ptr) ⊎ IsMalformed C.sum_of size log (lid_of ptr) (unsigned_abs lsn / size) }
-        ensures calm { lsn <ℤ pos (synced_end self.old) → D.trace (device_of self.new) ≡ D.trace (device_of self.old) }
+        ensures unwritten { lsn <ℤ pos (synced_end self.old) → D.trace (device_of self.new) ≡ D.trace (device_of self.old) }
         ensures refused { fault_of self.old ≡ None → IsNoPlace (segment_size_of self.old) lsn (lid_of ptr) → IsCorruption result × (self.new ≡ self.old) }
         ensures keeps { Preserves D.trace C.sum_of self.old self.new }
-        ensures ended { AllEnded self.old → AllEnded self.new }
+        ensures ended { NoneOpen self.old → NoneOpen self.new }
         ensures position { SamePosition self.old self.new }
         ensures answers { ReadAnswers result (fault_of self.old) (fault_of self.new) (D.faults (device_of self.old)) (D.faults (device_of self.new)) }
         ensures faulty { (e : IoError) → fault_of self.old ≡ Some e → self.new ≡ self.old }
@@ -291,17 +294,17 @@ impl<D: Device, C: Checksum> Log<D, C> {
 
     /// Writes what was completed where this place is not written yet.
     fn settle(&mut self, place: u64) -> Result<()>
-        requires ended { synced_end self.old ≤ place → AllEnded self.old }
+        requires ended { synced_end self.old ≤ place → NoneOpen self.old }
         requires reserved { place < reserved_end self.old }
         requires fault { fault_of self.old ≡ None }
         ensures written { OnOk result (place < synced_end self.new) }
-        ensures calm { place < synced_end self.old → D.trace (device_of self.new) ≡ D.trace (device_of self.old) }
+        ensures unwritten { place < synced_end self.old → D.trace (device_of self.new) ≡ D.trace (device_of self.old) }
         ensures keeps { Preserves D.trace C.sum_of self.old self.new }
-        ensures ended { AllEnded self.old → AllEnded self.new }
+        ensures ended { NoneOpen self.old → NoneOpen self.new }
         ensures position { SamePosition self.old self.new }
         ensures answers { Answers result (fault_of self.old) (fault_of self.new) (D.faults (device_of self.old)) (D.faults (device_of self.new)) }
     {
-        if place >= self.site.place + self.buffer.from as u64 {
+        if place >= self.site.place + self.buffer.written_len as u64 {
             self.flush()?;
         }
         Ok(())
@@ -316,7 +319,7 @@ impl<D: Device, C: Checksum> Log<D, C> {
         ensures malformed { let log = (state_of (D.trace (device_of self.old))).log.bytes in
             IsCorruption result → IsMalformed C.sum_of (segment_size_of self.old) log lid number.0 }
         ensures keeps { Preserves D.trace C.sum_of self.old self.new }
-        ensures ended { AllEnded self.old → AllEnded self.new }
+        ensures ended { NoneOpen self.old → NoneOpen self.new }
         ensures position { SamePosition self.old self.new }
         ensures trace { D.trace (device_of self.new) ≡ D.trace (device_of self.old) }
         ensures answers { ReadAnswers result None (fault_of self.new) (D.faults (device_of self.old)) (D.faults (device_of self.new)) }
@@ -351,10 +354,10 @@ impl<D: Device, C: Checksum> Log<D, C> {
     }
 
     /// Whether no reservation is open. One whose ticket was abandoned is.
-    pub fn all_ended(&self) -> bool
-        ensures { IsTrue result ↔ AllEnded self.now }
+    pub fn none_open(&self) -> bool
+        ensures { IsTrue result ↔ NoneOpen self.now }
     {
-        self.buffer.all_ended()
+        self.buffer.none_open()
     }
 
     /// Gives the log up, and writes nothing.
@@ -375,7 +378,7 @@ impl<D: Device, C: Checksum> Log<D, C> {
 }
 
 /// Whether a ticket is for this reservation in a segment, and it is open.
-fn is_for(site: &Site, r: &Reserved, ticket: &Reservation) -> bool
+fn is_for(site: &SegmentPosition, r: &Reserved, ticket: &Reservation) -> bool
     requires place { site.now.place + r.now.from < 2 ^ 64 }
     requires slot { site.now.slot + r.now.from < 2 ^ 64 }
     ensures { IsTrue result ↔ IsFor site.now r.now ticket.now }
@@ -388,15 +391,6 @@ fn is_for(site: &Site, r: &Reserved, ticket: &Reservation) -> bool
     r.is_open && same_place && same_pointer
 }
 
-/// Whether a record may begin at an offset of the log file.
-fn may_begin(lid: LogOffset, segment_size: u64) -> bool
-    requires { 256 ≤ segment_size }
-    ensures { IsTrue result ↔ MayBegin segment_size lid }
-{
-    let offset = lid % segment_size;
-    offset >= SEG_HEADER_LEN as u64 && offset <= segment_size - MAX_MSG_HEADER_LEN as u64
-}
-
 /// How long the record is of a message of this page in a segment of this number, whose item has so many
 /// bytes.
 fn record_size(number: u64, pid: PageId, item_len: u64) -> u64
@@ -407,18 +401,21 @@ fn record_size(number: u64, pid: PageId, item_len: u64) -> u64
 }
 
 /// Writes what was not written yet of the segment in a slot, and syncs it.
-fn write_out<D: Device>(device: &mut D, slot: LogOffset, buffer: &Buffer) -> io::Result<()>
+fn write_out<D: Device>(device: &mut D, slot: LogOffset, buffer: &IoBuf) -> io::Result<()>
     requires { slot + length buffer.now.bytes.items < 2 ^ 63 }
-    ensures done { let at = slot + buffer.now.from in let bytes = drop buffer.now.from buffer.now.bytes.items in
+    ensures done { let at = slot + buffer.now.written_len in let bytes = drop buffer.now.written_len buffer.now.bytes.items in
         OnOk result (D.trace device.new ≡ Synced ∷ Wrote at bytes bytes ∷ D.trace device.old) }
     ensures refused { IfErr result (λ e. error_kind e ≡ OutOfMemory → D.trace device.new ≡ D.trace device.old) }
     ensures faults { Counts result (D.faults device.old) (D.faults device.new) }
     ensures error { FailsOr OutOfMemory result }
     ensures names { (state_of (D.trace device.new)).snapshots ≡ (state_of (D.trace device.old)).snapshots }
-    ensures calls { let at = slot + buffer.now.from in let bytes = drop buffer.now.from buffer.now.bytes.items in
+    ensures calls { let at = slot + buffer.now.written_len in let bytes = drop buffer.now.written_len buffer.now.bytes.items in
         Performs (Wrote at bytes bytes ∷ Synced ∷ []) (D.trace device.old) (D.trace device.new) }
 {
-    device.write_at(slot + buffer.from as u64, &buffer.bytes[buffer.from..])?;
+    device.write_at(
+        slot + buffer.written_len as u64,
+        &buffer.bytes[buffer.written_len..],
+    )?;
     device.sync()
 }
 

@@ -8,14 +8,14 @@ use Rattle.sled_codec.specs.declared.serialization.message.LogKind.TheVariants.{
 use Rattle.sled_codec.specs.History.{Message, History, Completed, Step, begins_page, is_replace, is_link, later_or, last_beginning, entries_from, page_state, of_page, table, below, HasPage}
 use Rattle.sled_codec.specs.PageTables.{IsTable, entry_of, page_with}
 use Rattle.sled_codec.specs.Snapshots.{Page, Present, Free, Uninitialized}
-use Rattle.sled_core.proofs.Elements.{no_element}
+use Rattle.sled_store.proofs.Segments.Elements.{no_element}
 use Rattle.sled_log.specs.Replaces.{HasLast, IsLastOf, IsOfReplaces}
-use Rattle.sled_log.proofs.Ascending.{Ascends, apart_ascends, in_first, in_rest, in_cases, in_nothing, later_above}
-use Rattle.sled_log.proofs.PageRuns.{links_behind}
-use Rattle.sled_log.proofs.TableParts.{in_page, page_ascends, has_page}
-pub use Rattle.sled_log.proofs.RunHistories.{orderly, none_orderly, completed, forgotten, new_there}
-pub use Rattle.sled_log.proofs.TableCuts.{table_below}
-pub use Rattle.sled_log.proofs.TableParts.{from_page, from_table}
+use Rattle.sled_log.proofs.PageTable.Ascending.{Ascends, apart_ascends, in_first, in_rest, in_cases, in_nothing, later_above}
+use Rattle.sled_log.proofs.PageTable.PageRuns.{links_behind}
+use Rattle.sled_log.proofs.PageTable.TableParts.{in_page, page_ascends, has_page}
+pub use Rattle.sled_log.proofs.Sessions.RunHistories.{orderly, none_orderly, completed, forgotten, new_there}
+pub use Rattle.sled_log.proofs.PageTable.TableCuts.{table_below}
+pub use Rattle.sled_log.proofs.PageTable.TableParts.{from_page, from_table}
 
 -- A message behind all others is appended.
 pub appended : (H H' : History) (m : Message) → Step H (Completed m) H' → All (λ x. x.place < m.place) H.messages → (H'.messages ≡ H.messages ++ m ∷ []) × (H'.batches ≡ H.batches)

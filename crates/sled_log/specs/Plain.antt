@@ -1,10 +1,10 @@
 -- What the plain recovery speaks of, beside what recovery makes of a log file.
 use Rattle.std.specs.Prelude.{◌≡◌, ◌↔◌, Contains, ◌+◌, ◌/◌, ◌%◌, ◌^◌, ◌≤◌, ◌<◌, ℕ, nat_lt, suc, List, [], ◌∷◌, length, Option, Some, None, if◌then◌else◌}
 use Rattle.std.specs.List.{All}
-use Rattle.sled_core.specs.declared.met.Met.{Met}
-use Rattle.sled_core.specs.declared.met.Segment.{Segment}
+use Rattle.sled_core.specs.declared.iterator.scan.ScannedRecord.{ScannedRecord}
+use Rattle.sled_core.specs.declared.iterator.Segment.{Segment}
 use Rattle.sled_core.specs.Scan.{Readable, IsFoundSegment, IsMisplaced, IsPath, IsDamagedAt}
-use Rattle.sled_log.specs.declared.plain.Pass.{Pass}
+use Rattle.sled_log.specs.declared.snapshot.reference.Pass.{Pass}
 use Rattle.sled_log.specs.Recovery.{Scanned, open_at, passed_in, stops_in, scanned_of}
 
 -- a log file, where there are no blobs
@@ -46,7 +46,7 @@ pub record IsPass (size : ℕ) (p : Pass) : Type 0 where
   pub places : All (λ m. m.place < p.segment.place + size) p.scan.met.items
 
 -- all that the pass meets in these segments
-abbrev pub passed_all : ℕ → List Scanned → List Met
+abbrev pub passed_all : ℕ → List Scanned → List ScannedRecord
 passed_all end [] = []
 passed_all end (s ∷ ss) = passed_in end s (open_at end s.met) ss
 
@@ -57,7 +57,7 @@ stop_of end last (s ∷ ss) = Some (stops_in end s (open_at end s.met) ss)
 
 -- A damaged record is met in a segment of the pass, before a batch that is open.
 pub record IsDamagedBefore (sum : List ℕ → ℕ) (size : ℕ) (r : Readable) (end : ℕ) (segment : Segment) : Type 0 where
-  pub met : List Met
+  pub met : List ScannedRecord
   pub next : ℕ
   pub path : IsPath sum size r segment.slot segment.place 20 met next
   pub not_open : open_at end met ≡ None

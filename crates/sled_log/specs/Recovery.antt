@@ -5,21 +5,21 @@ use Rattle.sled_codec.specs.declared.serialization.message.LogKind.{LogKind}
 use Rattle.sled_codec.specs.declared.serialization.message.LogKind.TheVariants as does
 use Rattle.sled_codec.specs.History.{Message}
 use Rattle.sled_codec.specs.PageTables.{entry_of}
-use Rattle.sled_codec.specs.Snapshots.{Entry, Page, Present, Free, Uninitialized, Shot}
-use Rattle.sled_store.specs.SnapshotFiles.{stable_place, BeginsFrom, IsDamagedSnapshot}
-use Rattle.sled_core.specs.declared.met.Met.{Met}
-use Rattle.sled_core.specs.declared.met.What.{What}
-use Rattle.sled_core.specs.declared.met.What.TheVariants.{Gives, Passed, Begins}
-use Rattle.sled_core.specs.declared.met.Segment.{Segment}
-use Rattle.sled_core.specs.declared.met.Scan.{Scan}
+use Rattle.sled_codec.specs.Snapshots.{Entry, Page, Present, Free, Uninitialized, SnapshotModel, stable_place}
+use Rattle.sled_store.specs.SnapshotFiles.{BeginsFrom, IsDamagedSnapshot}
+use Rattle.sled_core.specs.declared.iterator.scan.ScannedRecord.{ScannedRecord}
+use Rattle.sled_core.specs.declared.iterator.scan.RecordContent.{RecordContent}
+use Rattle.sled_core.specs.declared.iterator.scan.RecordContent.TheVariants.{Gives, Skipped, BatchStart}
+use Rattle.sled_core.specs.declared.iterator.Segment.{Segment}
+use Rattle.sled_core.specs.declared.iterator.scan.SegmentScan.{SegmentScan}
 use Rattle.sled_core.specs.Scan.{Readable, IsDamagedIn, IsPath, IsEnd, IsDamagedAt}
 pub use Rattle.sled_core.specs.Tail.{IsUnordered, is_ascending, IsOrdering, Scanned, IsScanned, place_of_mark, greatest_mark, tail_begins, GoesOn, IsTail, tail_end, begun_below, AreScanned, opens, before_open, open_at, stops_in, is_filled, cut_of, IsTailPart, least_place}
 
 -- The pass over the messages.
 
 -- A segment as the pass reads it: to its end, or to any place behind a batch that is open. What stands behind that batch is neither asked for nor looked at.
-abbrev pub IsPassed : (List ℕ → ℕ) → ℕ → Readable → ℕ → Scanned → Type 0
-IsPassed sum size r end s =
+abbrev pub IsReplayed : (List ℕ → ℕ) → ℕ → Readable → ℕ → Scanned → Type 0
+IsReplayed sum size r end s =
     IsPath sum size r s.segment.slot s.segment.place 20 s.met s.stop × IfNone (open_at end s.met) (IsEnd sum size r s.segment.slot s.segment.place s.stop s.why)
 
 -- behind a segment with a batch that is open nothing is read, and behind another one this
@@ -28,11 +28,11 @@ StopsOrGoesOn (Some place) rest on = rest ≡ []
 StopsOrGoesOn None rest on = on
 
 -- these segments as the pass reads them, up to the first one with a batch that is open
-abbrev pub ArePassed : (List ℕ → ℕ) → ℕ → Readable → ℕ → List Segment → List Scanned → Type 0
-ArePassed sum size r end [] [] = Unit {0}
-ArePassed sum size r end [] (x ∷ xs) = ⊥
-ArePassed sum size r end (s ∷ ss) [] = ⊥
-ArePassed sum size r end (s ∷ ss) (x ∷ xs) = (x.segment ≡ s) × IsPassed sum size r end x × StopsOrGoesOn (open_at end x.met) xs (ArePassed sum size r end ss xs)
+abbrev pub AreReplayed : (List ℕ → ℕ) → ℕ → Readable → ℕ → List Segment → List Scanned → Type 0
+AreReplayed sum size r end [] [] = Unit {0}
+AreReplayed sum size r end [] (x ∷ xs) = ⊥
+AreReplayed sum size r end (s ∷ ss) [] = ⊥
+AreReplayed sum size r end (s ∷ ss) (x ∷ xs) = (x.segment ≡ s) × IsReplayed sum size r end x × StopsOrGoesOn (open_at end x.met) xs (AreReplayed sum size r end ss xs)
 
 -- A message that is applied: what it does, to which page, and its entry.
 pub record Applied : Type 0 where
@@ -50,13 +50,13 @@ IsSublist [] ys = Unit {0}
 IsSublist (x ∷ xs) [] = ⊥
 IsSublist (x ∷ xs) (y ∷ ys) = (x ≡ y) × IsSublist xs ys ⊎ IsSublist (x ∷ xs) ys
 
-abbrev pub applied_of : Met → What → List Applied
+abbrev pub applied_of : ScannedRecord → RecordContent → List Applied
 applied_of m (Gives kind page pointer) = record { kind = kind; page = page; entry = (pos m.place, pointer, m.len) } ∷ []
-applied_of m Passed = []
-applied_of m (Begins peg) = []
+applied_of m Skipped = []
+applied_of m (BatchStart peg) = []
 
 -- the messages among what is met that don't lie below a place
-abbrev pub given : ℕ → List Met → List Applied
+abbrev pub given : ℕ → List ScannedRecord → List Applied
 given least [] = []
 given least (m ∷ ms) = if nat_lt m.place least then given least ms else applied_of m m.what ++ given least ms
 
@@ -105,28 +105,28 @@ are_whole (p ∷ ps) = is_whole_page p && are_whole ps
 -- The cut.
 
 -- all that the pass meets up to there
-abbrev pub passed_in : ℕ → Scanned → Option ℕ → List Scanned → List Met
+abbrev pub passed_in : ℕ → Scanned → Option ℕ → List Scanned → List ScannedRecord
 passed_in end s (Some place) rest = before_open end s.met
 passed_in end s None [] = s.met
 passed_in end s None (t ∷ ts) = s.met ++ passed_in end t (open_at end t.met) ts
 
 -- What recovery concludes: the table, and what is left to be written.
-pub record Conclusion : Type 0 where
-  pub shot : Shot
+pub record RecoveryResult : Type 0 where
+  pub model : SnapshotModel
   -- the rest of the active segment behind the cut, where one was read: an offset of the file, and how many bytes
-  pub tip : Option (ℕ × ℕ)
+  pub shred_range : Option (ℕ × ℕ)
   -- the table ends above the snapshot that it began from, or that had no place
   pub is_new : Bool
 
 -- what recovery answers
 pub data Outcome : Type 0 where
   Damaged : Outcome
-  Recovered : (x : Conclusion) → Outcome
+  Recovered : (x : RecoveryResult) → Outcome
 
 -- The rest of the active segment behind a cut.
-abbrev pub tip_of : ℕ → ℕ → Option ℕ → Option (ℕ × ℕ)
-tip_of size cut None = None
-tip_of size cut (Some slot) = Some (slot + cut % size, size - cut % size)
+abbrev pub shred_range_of : ℕ → ℕ → Option ℕ → Option (ℕ × ℕ)
+shred_range_of size cut None = None
+shred_range_of size cut (Some slot) = Some (slot + cut % size, size - cut % size)
 
 -- a cut lies above the place of a snapshot, or that has none
 abbrev pub is_beyond : Option ℤ → ℕ → Bool
@@ -134,21 +134,21 @@ is_beyond None cut = true
 is_beyond (Some place) cut = int_lt place (pos cut)
 
 -- A table with this cut, unless it can't be one.
-abbrev pub concluded : ℕ → Shot → List Applied → ℕ × Option ℕ → Outcome
+abbrev pub concluded : ℕ → SnapshotModel → List Applied → ℕ × Option ℕ → Outcome
 concluded size first messages cut =
     if has_no_table messages || nat_lt cut.0 (stable_place first.stable) || not (are_whole (table_of first.pages messages)) then Damaged
     else Recovered (record {
-      shot = record { stable = Some (pos cut.0); active = cut.1; pages = table_of first.pages messages };
-      tip = tip_of size cut.0 cut.1;
+      model = record { stable = Some (pos cut.0); active = cut.1; pages = table_of first.pages messages };
+      shred_range = shred_range_of size cut.0 cut.1;
       is_new = is_beyond first.stable cut.0;
     })
 
 -- the snapshot stays as it was, and nothing is left to be written
-abbrev pub unchanged : Shot → Conclusion
-unchanged first = record { shot = first; tip = None; is_new = false }
+abbrev pub unchanged : SnapshotModel → RecoveryResult
+unchanged first = record { model = first; shred_range = None; is_new = false }
 
 -- What comes of the segments that the pass reads. Where it reads none, the snapshot stays as it was.
-abbrev pub outcome_of : ℕ → Shot → ℕ → List Scanned → Outcome
+abbrev pub outcome_of : ℕ → SnapshotModel → ℕ → List Scanned → Outcome
 outcome_of size first end [] = Recovered (unchanged first)
 outcome_of size first end (s ∷ ss) = concluded size first (given (stable_place first.stable) (passed_in end s (open_at end s.met) ss)) (cut_of size (stops_in end s (open_at end s.met) ss))
 
@@ -178,7 +178,7 @@ pub record IsDamagedPass (sum : List ℕ → ℕ) (size : ℕ) (r : Readable) (e
   pub before : List Scanned
   pub scanned : AreScanned sum size r first before
   pub closed : AreClosed end before
-  pub met : List Met
+  pub met : List ScannedRecord
   pub next : ℕ
   pub path : IsPath sum size r segment.slot segment.place 20 met next
   pub not_open : open_at end met ≡ None
@@ -186,20 +186,20 @@ pub record IsDamagedPass (sum : List ℕ → ℕ) (size : ℕ) (r : Readable) (e
   pub damaged : IsDamagedAt sum size r (segment.slot + next) (segment.place / size)
 
 -- what comes of a tail that ends there
-abbrev pub Passes : (List ℕ → ℕ) → ℕ → Readable → Shot → List Segment → Option ℕ → Outcome → Type 0
+abbrev pub Passes : (List ℕ → ℕ) → ℕ → Readable → SnapshotModel → List Segment → Option ℕ → Outcome → Type 0
 Passes sum size r first ordering None o = o ≡ Recovered (unchanged first)
 Passes sum size r first ordering (Some end) o =
     ((o ≡ Damaged) × IsDamagedPass sum size r end (begun_below end ordering))
-    ⊎ ((passes : List Scanned) × ArePassed sum size r end (begun_below end ordering) passes × (o ≡ outcome_of size first end passes))
+    ⊎ ((passes : List Scanned) × AreReplayed sum size r end (begun_below end ordering) passes × (o ≡ outcome_of size first end passes))
 
 -- what comes of the segments that are found
-abbrev pub Replays : (List ℕ → ℕ) → ℕ → Readable → Shot → List Segment → ℕ → Outcome → Type 0
+abbrev pub Replays : (List ℕ → ℕ) → ℕ → Readable → SnapshotModel → List Segment → ℕ → Outcome → Type 0
 Replays sum size r first ordering tail o =
     ((o ≡ Damaged) × IsDamagedTail sum size r ordering tail)
     ⊎ ((scanned : List Scanned) × IsTail sum size r ordering tail scanned × Passes sum size r first ordering (tail_end scanned) o)
 
 -- What recovery makes of a log file from a snapshot on.
-unfoldable pub ContinuesFrom : (List ℕ → ℕ) → ℕ → Readable → Shot → Outcome → Type 0
+unfoldable pub ContinuesFrom : (List ℕ → ℕ) → ℕ → Readable → SnapshotModel → Outcome → Type 0
 ContinuesFrom sum size r first o =
     let least = least_place size first in
     ((o ≡ Damaged) × IsUnordered sum size r.log least)
@@ -209,8 +209,8 @@ ContinuesFrom sum size r first o =
 unfoldable pub Recovers : (List ℕ → ℕ) → ℕ → Readable → (ℤ → Option (List ℕ)) → Outcome → Type 0
 Recovers sum size r snapshots o =
     ((o ≡ Damaged) × IsDamagedSnapshot sum snapshots)
-    ⊎ ((first : Shot) × BeginsFrom sum snapshots first × ContinuesFrom sum size r first o)
+    ⊎ ((first : SnapshotModel) × BeginsFrom sum snapshots first × ContinuesFrom sum size r first o)
 
 -- a segment as code has it, and what is met in it
-abbrev pub scanned_of : Segment → Scan → Scanned
+abbrev pub scanned_of : Segment → SegmentScan → Scanned
 scanned_of segment scan = record { segment = segment; met = scan.met.items; stop = scan.stop; why = scan.ending }

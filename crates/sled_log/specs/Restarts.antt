@@ -6,7 +6,7 @@ use Rattle.sled_codec.specs.declared.result.Error.TheVariants.{Io, OutOfMemory}
 use Rattle.sled_store.specs.Answers.{is_fault}
 use Rattle.sled_store.specs.Device.{Event, Trace}
 use Rattle.sled_store.specs.Script.{Performs, after_all}
-use Rattle.sled_core.specs.Causes.{DeviceAnswers}
+use Rattle.sled_store.specs.Causes.{DeviceAnswers}
 use Rattle.sled_log.specs.Restores.{RecoveryCalls}
 
 -- a flush failed: for the failure that the log kept, for one of this call, which is counted, or for want of memory

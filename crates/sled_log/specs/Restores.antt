@@ -3,42 +3,42 @@ use Rattle.std.specs.Prelude.{◌≡◌, ◌⊎◌, ◌≤◌, ◌<◌, ℕ, ℤ
 use Rattle.sled_codec.specs.declared.result.Error.{Error}
 use Rattle.sled_codec.specs.declared.serialization.snapshot.Snapshot.{Snapshot}
 use Rattle.sled_codec.specs.Errors.{IsCorruption}
-use Rattle.sled_codec.specs.Snapshots.{Shot, shot_of, FitsSnapshot}
+use Rattle.sled_codec.specs.Snapshots.{SnapshotModel, model_of, FitsSnapshot}
 use Rattle.sled_store.specs.Device.{Trace, State, Synced, NamesSynced, state_of}
 use Rattle.sled_store.specs.Script.{Performs}
 use Rattle.sled_store.specs.SnapshotFiles.{BeginsFrom}
 use Rattle.sled_log.specs.Plain.{log_alone}
-use Rattle.sled_log.specs.Recovery.{Conclusion, Damaged, Recovered, Recovers}
-use Rattle.sled_log.specs.WritesBack.{HasWrittenBack, IsWrittenBack, MayBeRemoved, WritesBehind, number_of}
+use Rattle.sled_log.specs.Recovery.{RecoveryResult, Damaged, Recovered, Recovers}
+use Rattle.sled_log.specs.WritesBack.{HasWrittenBack, IsWrittenBack, MayBeRemoved, WritesBehind, snapshot_number_of}
 
 -- The newest snapshot now has the table of this one, and is this one or was there before.
-abbrev pub BeginsAgain : (List ℕ → ℕ) → (ℤ → Option (List ℕ)) → State → Shot → Type 0
-BeginsAgain sum snapshots new s = (first : Shot) × BeginsFrom sum new.snapshots.file first × (first.stable ≡ s.stable) × (first.pages ≡ s.pages) × ((first ≡ s) ⊎ BeginsFrom sum snapshots first)
+abbrev pub BeginsAgain : (List ℕ → ℕ) → (ℤ → Option (List ℕ)) → State → SnapshotModel → Type 0
+BeginsAgain sum snapshots new s = (first : SnapshotModel) × BeginsFrom sum new.snapshots.file first × (first.stable ≡ s.stable) × (first.pages ≡ s.pages) × ((first ≡ s) ⊎ BeginsFrom sum snapshots first)
 
 -- The calls of a recovery: it settles the device, and where it comes to a conclusion writes that back; all of them or up to one that failed.
 abbrev pub RecoveryCalls : (List ℕ → ℕ) → ℕ → Trace → Trace → Type 0
 RecoveryCalls sum size old new =
     Performs (Synced ∷ NamesSynced ∷ []) old new
-    ⊎ ((x : Conclusion) × Recovers sum size (log_alone (state_of old).log.bytes) (state_of old).snapshots.file (Recovered x)
-    × (numbers : List ℤ) × MayBeRemoved (state_of old).snapshots.file (number_of x.shot) numbers × WritesBehind (Synced ∷ NamesSynced ∷ []) sum x numbers old new)
+    ⊎ ((x : RecoveryResult) × Recovers sum size (log_alone (state_of old).log.bytes) (state_of old).snapshots.file (Recovered x)
+    × (numbers : List ℤ) × MayBeRemoved (state_of old).snapshots.file (snapshot_number_of x.model) numbers × WritesBehind (Synced ∷ NamesSynced ∷ []) sum x numbers old new)
 
 -- The log file of a device is longer than a segment, or what the device has is damaged.
 abbrev pub IsBeyondRecovery : (List ℕ → ℕ) → ℕ → State → Type 0
 IsBeyondRecovery sum size device = (size < length device.log.bytes) ⊎ Recovers sum size (log_alone device.log.bytes) device.snapshots.file Damaged
 
 -- A recovery came to a conclusion, wrote it back, and gives its snapshot.
-pub record Restores (sum : List ℕ → ℕ) (size : ℕ) (old new : Trace) (s : Shot) : Type 0 where
-  pub conclusion : Conclusion
+pub record Restores (sum : List ℕ → ℕ) (size : ℕ) (old new : Trace) (s : SnapshotModel) : Type 0 where
+  pub conclusion : RecoveryResult
   pub recovers : Recovers sum size (log_alone (state_of old).log.bytes) (state_of old).snapshots.file (Recovered conclusion)
-  pub shot : s ≡ conclusion.shot
+  pub model : s ≡ conclusion.model
   pub written : IsWrittenBack sum conclusion (state_of (NamesSynced ∷ Synced ∷ old)) (state_of new)
   pub done : HasWrittenBack sum conclusion (NamesSynced ∷ Synced ∷ old) new
-  pub fits : conclusion.is_new ≡ true → FitsSnapshot conclusion.shot
+  pub fits : conclusion.is_new ≡ true → FitsSnapshot conclusion.model
   pub newest : BeginsAgain sum (state_of old).snapshots.file (state_of new) s
   pub short : length (state_of old).log.bytes ≤ size
 
 -- What came of a recovery, whatever it answers: the calls that it made, what it gives, and that it wrote nothing where it met damage.
 pub record ComesOf (sum : List ℕ → ℕ) (size : ℕ) (old new : Trace) (result : Result Snapshot Error) : Type 0 where
   pub calls : RecoveryCalls sum size old new
-  pub ok : IfOk result (λ s. Restores sum size old new (shot_of s))
+  pub ok : IfOk result (λ s. Restores sum size old new (model_of s))
   pub corrupt : IsCorruption result → IsBeyondRecovery sum size (state_of old) × (new ≡ NamesSynced ∷ Synced ∷ old)

@@ -4,22 +4,21 @@ use Rattle.std.specs.List.{All}
 use Rattle.sled_codec.specs.declared.serialization.message.LogKind.TheVariants.{Replace}
 use Rattle.sled_codec.specs.History.{Message, History}
 use Rattle.sled_codec.specs.WellFormed.{LieApart}
-use Rattle.sled_codec.specs.Snapshots.{Shot, shot_of}
+use Rattle.sled_codec.specs.Snapshots.{SnapshotModel, model_of, stable_place}
 use Rattle.sled_store.specs.Device.{Trace, state_of}
 use Rattle.sled_store.specs.Moments.{IsLater}
-use Rattle.sled_store.specs.SnapshotFiles.{stable_place}
 use Rattle.sled_store.specs.declared.config.RunningConfig.{RunningConfig}
-use Rattle.sled_core.specs.Fits.{AllEnded, Awaits, IsOnlyOpen, IsOpen, config_of, fault_of, next_place, pins_of, synced_end}
+use Rattle.sled_core.specs.Fits.{NoneOpen, Awaits, IsOnlyOpen, IsOpen, config_of, fault_of, next_place, pins_of, synced_end}
 use Rattle.sled_core.specs.Keeps.{ConfigKept}
 use Rattle.sled_core.specs.Recoverable.{LeavesRecoverable}
 use Rattle.sled_core.specs.Running.{Fits, Ready}
-use Rattle.sled_log.specs.declared.run.Phase.{Phase}
-use Rattle.sled_log.specs.declared.run.Phase.TheVariants.{Closed, Open, Waiting}
-use Rattle.sled_log.specs.declared.run.Opened.{Opened}
-use Rattle.sled_log.specs.declared.run.Ticket.{Ticket}
-use Rattle.sled_log.specs.declared.run.Command.{Command}
-use Rattle.sled_log.specs.declared.run.Reply.{Reply}
-use Rattle.sled_log.specs.declared.run.Reply.TheVariants as reply
+use Rattle.sled_log.specs.declared.session.step.Phase.{Phase}
+use Rattle.sled_log.specs.declared.session.step.Phase.TheVariants.{Closed, Open, Waiting}
+use Rattle.sled_log.specs.declared.session.step.Opened.{Opened}
+use Rattle.sled_log.specs.declared.session.step.Ticket.{Ticket}
+use Rattle.sled_log.specs.declared.session.command.Command.{Command}
+use Rattle.sled_log.specs.declared.session.command.Reply.{Reply}
+use Rattle.sled_log.specs.declared.session.command.Reply.TheVariants as reply
 use Rattle.sled_log.specs.RunStates.{DeviceView, LogView, RunState, started_on}
 use Rattle.sled_log.specs.Runs.{IsOwn, IsOutOfTurn, IsRefusedWhere, IsCause, Acts, IsStep}
 
@@ -127,7 +126,7 @@ IsAt trace sum (Waiting opened ticket) k = IsOpenAt trace sum opened k × IsWait
 
 -- no reservation of the log is open
 abbrev pub HasNoneOpen : {D C : Type 0} → Opened D C → Type 0
-HasNoneOpen opened = AllEnded opened.log
+HasNoneOpen opened = NoneOpen opened.log
 
 -- the ticket is for the one reservation of the log that is open, and the log keeps no failure
 pub record HasOneOpen {D C : Type 0} (opened : Opened D C) (ticket : Ticket) : Type 0 where
@@ -165,20 +164,20 @@ pub record Continues {D C : Type 0} (trace : D → Trace) (phase next : Phase D 
   pub can_go_on : CanGoOn next
 
 -- A recovery has left this: a table of which each page has a message, and where its place lies in the segment, a log can be started on it.
-pub record IsRecoveredAt {D C : Type 0} (trace : D → Trace) (sum : List ℕ → ℕ) (config : RunningConfig D C) (s : Shot) (k : Unstored) : Type 0 where
+pub record IsRecoveredAt {D C : Type 0} (trace : D → Trace) (sum : List ℕ → ℕ) (config : RunningConfig D C) (s : SnapshotModel) (k : Unstored) : Type 0 where
   pub closed : IsClosedAt sum config.config.segment_size (trace config.device) k
   pub ready : stable_place s.stable < config.config.segment_size
       → Ready sum config.config.segment_size (state_of (trace config.device)) s k.history k.acknowledged k.floor
   pub begun : (page : ℕ) → page < length s.pages → HasMessageOf k.history.messages page
 
 -- a reply that shows this recovered table
-abbrev pub Shows : Shot → Reply → Type 0
-Shows s (reply.Opened t) = shot_of t ≡ s
-Shows s (reply.Recovered t e) = shot_of t ≡ s
+abbrev pub Shows : SnapshotModel → Reply → Type 0
+Shows s (reply.Opened t) = model_of t ≡ s
+Shows s (reply.Recovered t e) = model_of t ≡ s
 Shows s _ = ⊥
 
 -- the log that a reply shows, and why none is open
-abbrev pub log_shown : Shot → Reply → Option LogView
+abbrev pub log_shown : SnapshotModel → Reply → Option LogView
 log_shown s (reply.Opened t) = Some (started_on s)
 log_shown s _ = None
 
@@ -187,7 +186,7 @@ SaysWhy (reply.Recovered t (Some e)) before after = IsCause e before after
 SaysWhy _ before after = Unit {0}
 
 -- What a start makes of a table that was recovered.
-pub record HasStarted {D C : Type 0} (view : D → DeviceView) (sum : List ℕ → ℕ) (config : RunningConfig D C) (s : Shot) (result : Phase D C × Reply)
+pub record HasStarted {D C : Type 0} (view : D → DeviceView) (sum : List ℕ → ℕ) (config : RunningConfig D C) (s : SnapshotModel) (result : Phase D C × Reply)
     (k : Unstored) : Type 0 where
   pub log : log_in result.0 None ≡ log_shown s result.1
   pub at : IsAt (traces view) sum result.0 k
@@ -195,5 +194,5 @@ pub record HasStarted {D C : Type 0} (view : D → DeviceView) (sum : List ℕ �
   -- what was written is nothing that an entry reads
   pub reads : (stable_place s.stable ≡ 0) ⊎ ((device_in view result.0).trace ≡ (view config.device).trace)
 
-abbrev pub Starts : {D C : Type 0} → (D → DeviceView) → (List ℕ → ℕ) → RunningConfig D C → Shot → Phase D C × Reply → Type 0
+abbrev pub Starts : {D C : Type 0} → (D → DeviceView) → (List ℕ → ℕ) → RunningConfig D C → SnapshotModel → Phase D C × Reply → Type 0
 Starts view sum config s result = (k : Unstored) → IsRecoveredAt (traces view) sum config s k → HasStarted view sum config s result k

@@ -3,10 +3,9 @@ use Rattle.std.specs.Prelude.{◌≡◌, ◌≤◌, ◌+◌, ◌-◌, ◌/◌, �
 use Rattle.std.specs.declared.io.Error.{Error as IoError}
 use Rattle.sled_codec.specs.declared.result.DiskPtr.TheVariants.{Inline}
 use Rattle.sled_codec.specs.declared.serialization.message.LogKind.TheVariants as does
-use Rattle.sled_codec.specs.Snapshots.{Shot}
+use Rattle.sled_codec.specs.Snapshots.{SnapshotModel, stable_place}
 use Rattle.sled_codec.specs.History.{Message, History, no_history, below}
 use Rattle.sled_store.specs.Device.{Trace}
-use Rattle.sled_store.specs.SnapshotFiles.{stable_place}
 use Rattle.sled_core.specs.Buffers.{record_size}
 
 -- What is seen of a device between two commands.
@@ -50,7 +49,7 @@ abbrev pub with_log : RunState → DeviceView → Option LogView → RunState
 with_log a now log = record { device = now; history = a.history; acknowledged = a.acknowledged; floor = a.floor; log = log }
 
 -- the run behind a recovery: what lies past the cut is forgotten, and the cut is the floor
-abbrev pub recovered : RunState → DeviceView → Shot → Option LogView → RunState
+abbrev pub recovered : RunState → DeviceView → SnapshotModel → Option LogView → RunState
 recovered a now s log =
     record { device = now; history = below a.history (stable_place s.stable); acknowledged = a.acknowledged; floor = stable_place s.stable; log = log }
 
@@ -62,7 +61,7 @@ next_behind place None = place + 20
 next_behind place (Some slot) = place
 
 -- a log that was started on a snapshot
-abbrev pub started_on : Shot → LogView
+abbrev pub started_on : SnapshotModel → LogView
 started_on s = record {
   next = next_behind (stable_place s.stable) s.active;
   stable = stable_place s.stable;

@@ -1,13 +1,12 @@
 -- What runs of commands over a log of one segment come to: what each command does to the device, what it is answered, and where the run stands then.
-use Rattle.std.specs.Prelude.{◌≡◌, ◌⊎◌, ◌↔◌, ◌+◌, ◌-◌, ◌%◌, ◌^◌, ◌==◌, ◌<◌, ◌≤◌, ◌∷◌, ℕ, ℤ, pos, if◌then◌else◌, IsTrue, IsSome}
-use Rattle.std.specs.Prelude.{List, [], length, Option, None, Some, false}
+use Rattle.std.specs.Prelude.{◌≡◌, ◌⊎◌, ◌↔◌, ◌+◌, ◌-◌, ◌%◌, ◌^◌, ◌==◌, ◌<◌, ◌≤◌, ◌∷◌, ℕ, ℤ, pos, if◌then◌else◌, IsTrue, IsSome, List, [], length, Option, None, Some, false}
 use Rattle.std.specs.List.{All}
 use Rattle.std.specs.declared.io.Error.{Error as IoError}
 use Rattle.sled_codec.specs.declared.result.DiskPtr.{DiskPtr}
 use Rattle.sled_codec.specs.declared.result.Error.{Error}
 use Rattle.sled_codec.specs.declared.result.Error.TheVariants.{Io, OutOfMemory}
 use Rattle.sled_codec.specs.Spelling.{short_bytes}
-use Rattle.sled_codec.specs.Snapshots.{Shot, shot_of}
+use Rattle.sled_codec.specs.Snapshots.{SnapshotModel, model_of, stable_place}
 use Rattle.sled_codec.specs.History.{Message, History, Step, Completed}
 use Rattle.sled_store.specs.declared.device.choice.Choice.{Choice}
 use Rattle.sled_store.specs.Device.{Event, Left, Trace, State, Wrote, Synced, NamesSynced, Crashed, Settled, state_of, content_of, content_left}
@@ -15,19 +14,17 @@ use Rattle.sled_store.specs.Answers.{is_fault}
 use Rattle.sled_store.specs.Chosen.{MayBeChosen}
 use Rattle.sled_store.specs.Noted.{left_of}
 use Rattle.sled_store.specs.Script.{Performs, after_all}
-use Rattle.sled_store.specs.SnapshotFiles.{stable_place}
-use Rattle.sled_core.specs.Begin.{slots_of, unused, filling}
+use Rattle.sled_store.specs.Begin.{slots_of, unused, filling}
 use Rattle.sled_core.specs.Causes.{IsFault}
 use Rattle.sled_core.specs.Fits.{IsKept}
 use Rattle.sled_core.specs.Good.{IsGood}
 use Rattle.sled_core.specs.Recoverable.{NoForeign, first_site}
-use Rattle.sled_log.specs.declared.run.Command.{Command}
-use Rattle.sled_log.specs.declared.run.Command.TheVariants as command
-use Rattle.sled_log.specs.declared.run.Reply.{Reply}
-use Rattle.sled_log.specs.declared.run.Reply.TheVariants as reply
-use Rattle.sled_log.specs.Recovery.{Conclusion, Recovered, Recovers}
-use Rattle.sled_log.specs.RunStates.{DeviceView, LogView, RunState, with_log, recovered, started_on, is_pending, end_reserved, replace_at}
-use Rattle.sled_log.specs.RunStates.{HasRoomAt, ShowsActive}
+use Rattle.sled_log.specs.declared.session.command.Command.{Command}
+use Rattle.sled_log.specs.declared.session.command.Command.TheVariants as command
+use Rattle.sled_log.specs.declared.session.command.Reply.{Reply}
+use Rattle.sled_log.specs.declared.session.command.Reply.TheVariants as reply
+use Rattle.sled_log.specs.Recovery.{RecoveryResult, Recovered, Recovers}
+use Rattle.sled_log.specs.RunStates.{DeviceView, LogView, RunState, with_log, recovered, started_on, is_pending, end_reserved, replace_at, HasRoomAt, ShowsActive}
 use Rattle.sled_log.specs.WritesBack.{HasWrittenBack}
 use Rattle.sled_log.specs.Restores.{RecoveryCalls}
 
@@ -68,32 +65,32 @@ IsRefusedWhere out _ = out → ⊥
 -- What a command does to the device, whatever that has.
 
 -- A recovery was made that shows this: the device was settled, and what the newest snapshot and the log file come to was written back.
-pub record HasRecovered (sum : List ℕ → ℕ) (size : ℕ) (old new : DeviceView) (s : Shot) : Type 0 where
-  pub conclusion : Conclusion
+pub record HasRecovered (sum : List ℕ → ℕ) (size : ℕ) (old new : DeviceView) (s : SnapshotModel) : Type 0 where
+  pub conclusion : RecoveryResult
   pub recovers : let s = state_of old.trace in Recovers sum size (record { log = s.log.bytes; blobs = λ _. None }) s.snapshots.file (Recovered conclusion)
-  pub shown : s ≡ conclusion.shot
+  pub shown : s ≡ conclusion.model
   pub written : HasWrittenBack sum conclusion (NamesSynced ∷ Synced ∷ old.trace) new.trace
   pub failures : new.failures ≡ old.failures
 
 -- the calls that the start of a log makes: the slots of the file that the snapshot doesn't use are filled with zeros
-abbrev pub starting : ℕ → Trace → Shot → List Event
+abbrev pub starting : ℕ → Trace → SnapshotModel → List Event
 starting size trace s = filling size (unused size (slots_of size (length (state_of trace).log.bytes)) s)
 
 -- A log was started on what was recovered, or the calls for it were made up to one that failed, or none where the segment is full.
 abbrev pub StartActs : ℕ → DeviceView → Reply → DeviceView → Type 0
 StartActs size old (reply.Opened s) new =
-    (new.trace ≡ after_all (starting size old.trace (shot_of s)) old.trace) × (new.failures ≡ old.failures)
+    (new.trace ≡ after_all (starting size old.trace (model_of s)) old.trace) × (new.failures ≡ old.failures)
 StartActs size old (reply.Recovered s None) new = (size ≤ stable_place s.stable_lsn) × (new ≡ old)
 StartActs size old (reply.Recovered s (Some e)) new =
-    (stable_place s.stable_lsn < size) × Performs (starting size old.trace (shot_of s)) old.trace new.trace
+    (stable_place s.stable_lsn < size) × Performs (starting size old.trace (model_of s)) old.trace new.trace
 StartActs size old _ new = ⊥
 
 -- A recovery was made and a log started on what it shows, or its calls were made up to one that failed.
 abbrev pub OpenActs : (List ℕ → ℕ) → ℕ → DeviceView → Reply → DeviceView → Type 0
 OpenActs sum size old (reply.Opened s) new =
-    (mid : DeviceView) × HasRecovered sum size old mid (shot_of s) × StartActs size mid (reply.Opened s) new
+    (mid : DeviceView) × HasRecovered sum size old mid (model_of s) × StartActs size mid (reply.Opened s) new
 OpenActs sum size old (reply.Recovered s e) new =
-    (mid : DeviceView) × HasRecovered sum size old mid (shot_of s) × StartActs size mid (reply.Recovered s e) new
+    (mid : DeviceView) × HasRecovered sum size old mid (model_of s) × StartActs size mid (reply.Recovered s e) new
 OpenActs sum size old (reply.Failed e) new = RecoveryCalls sum size old.trace new.trace
 OpenActs sum size old reply.Refused new = new ≡ old
 OpenActs sum size old _ new = ⊥
@@ -139,15 +136,15 @@ IsCause OutOfMemory before after = after ≡ before
 IsCause _ before after = ⊥
 
 -- The snapshot is good for the run on what is left, and shows the segment in which a log goes on.
-pub record IsGoodFor (sum : List ℕ → ℕ) (size : ℕ) (a : RunState) (new : DeviceView) (s : Shot) : Type 0 where
+pub record IsGoodFor (sum : List ℕ → ℕ) (size : ℕ) (a : RunState) (new : DeviceView) (s : SnapshotModel) : Type 0 where
   pub good : IsGood sum size (content_of (state_of new.trace)) a.history a.acknowledged a.floor s
   pub active : ShowsActive size (stable_place s.stable) s.active
 
 abbrev pub OpenStep : (List ℕ → ℕ) → ℕ → RunState → Reply → DeviceView → RunState → Type 0
-OpenStep sum size a (reply.Opened s) new b = IsGoodFor sum size a new (shot_of s) × (b ≡ recovered a new (shot_of s) (Some (started_on (shot_of s))))
-OpenStep sum size a (reply.Recovered s None) new b = IsGoodFor sum size a new (shot_of s) × (b ≡ recovered a new (shot_of s) None)
+OpenStep sum size a (reply.Opened s) new b = IsGoodFor sum size a new (model_of s) × (b ≡ recovered a new (model_of s) (Some (started_on (model_of s))))
+OpenStep sum size a (reply.Recovered s None) new b = IsGoodFor sum size a new (model_of s) × (b ≡ recovered a new (model_of s) None)
 OpenStep sum size a (reply.Recovered s (Some e)) new b =
-    IsGoodFor sum size a new (shot_of s) × IsCause e a.device.failures new.failures × (b ≡ recovered a new (shot_of s) None)
+    IsGoodFor sum size a new (model_of s) × IsCause e a.device.failures new.failures × (b ≡ recovered a new (model_of s) None)
 OpenStep sum size a (reply.Failed e) new b = IsCause e a.device.failures new.failures × (b ≡ with_log a new None)
 OpenStep sum size a _ new b = ⊥
 

@@ -5,39 +5,39 @@ use Rattle.std.specs.List.{filter}
 use Rattle.std.specs.Ordering.{int_cmp, int_eq}
 use Rattle.std.specs.Option.{unwrap_or}
 use Rattle.std.specs.List.Sorted.{IsStrictlySortedBy}
-use Rattle.sled_codec.specs.Snapshots.{Shot, shot_of, short_snapshot, FitsSnapshot}
+use Rattle.sled_codec.specs.Snapshots.{SnapshotModel, model_of, short_snapshot, FitsSnapshot}
 use Rattle.sled_codec.specs.Spelling.{low_bytes}
 use Rattle.sled_store.specs.Device.{Event, Wrote, Synced, SnapshotFilled, SnapshotPublished, SnapshotRemoved, NamesSynced, Trace, State, state_of, at_rest, overwritten}
 use Rattle.sled_store.specs.Script.{Performs, after_all}
-use Rattle.sled_log.specs.Recovery.{Conclusion, Recovered, Recovers}
-use Rattle.sled_log.specs.declared.conclusion.Recovery.{Recovery}
-use Rattle.sled_log.specs.declared.conclusion.Tip.{Tip}
+use Rattle.sled_log.specs.Recovery.{RecoveryResult, Recovered, Recovers}
+use Rattle.sled_log.specs.declared.snapshot.recovery.Recovery.{Recovery}
+use Rattle.sled_log.specs.declared.snapshot.recovery.ShredRange.{ShredRange}
 
 -- What code concludes.
 
 -- a range of the log file as code holds it
-abbrev pub range_of : Option Tip → Option (ℕ × ℕ)
+abbrev pub range_of : Option ShredRange → Option (ℕ × ℕ)
 range_of None = None
-range_of (Some tip) = Some (tip.at, tip.len)
+range_of (Some shred_range) = Some (shred_range.at, shred_range.len)
 
 -- what recovery concludes, as code holds it
-abbrev pub conclusion_of : Recovery → Conclusion
-conclusion_of x = record { shot = shot_of x.snapshot; tip = range_of x.tip; is_new = x.is_new }
+abbrev pub result_of : Recovery → RecoveryResult
+result_of x = record { model = model_of x.snapshot; shred_range = range_of x.shred_range; is_new = x.is_new }
 
 -- The calls.
 
 -- the calls that fill a range with zeros and settle it
 abbrev pub shredding : Option (ℕ × ℕ) → List Event
 shredding None = []
-shredding (Some tip) = Wrote tip.0 (replicate tip.1 0) (replicate tip.1 0) ∷ Synced ∷ []
+shredding (Some shred_range) = Wrote shred_range.0 (replicate shred_range.1 0) (replicate shred_range.1 0) ∷ Synced ∷ []
 
 -- the bytes of the file of a snapshot as it is written
-abbrev pub short_file : (List ℕ → ℕ) → Shot → List ℕ
+abbrev pub short_file : (List ℕ → ℕ) → SnapshotModel → List ℕ
 short_file sum s = short_snapshot s ++ low_bytes 8 (length (short_snapshot s)) ++ low_bytes 4 (sum (short_snapshot s))
 
 -- the number that a snapshot is published under: its stable place, and 0 where it has none
-abbrev pub number_of : Shot → ℤ
-number_of s = unwrap_or s.stable (pos 0)
+abbrev pub snapshot_number_of : SnapshotModel → ℤ
+snapshot_number_of s = unwrap_or s.stable (pos 0)
 
 -- the calls that remove the snapshots of these numbers
 abbrev pub removing : List ℤ → List Event
@@ -48,8 +48,8 @@ abbrev pub publishing_file : List ℕ → ℤ → List Event
 publishing_file bytes number = SnapshotFilled bytes bytes ∷ SnapshotPublished number true ∷ NamesSynced ∷ []
 
 -- the calls that publish a table and remove the snapshots of these numbers
-abbrev pub publishing : (List ℕ → ℕ) → Shot → List ℤ → List Event
-publishing sum s numbers = publishing_file (short_file sum s) (number_of s) ++ removing numbers
+abbrev pub publishing : (List ℕ → ℕ) → SnapshotModel → List ℤ → List Event
+publishing sum s numbers = publishing_file (short_file sum s) (snapshot_number_of s) ++ removing numbers
 
 -- a number is another one than the one that is kept
 abbrev pub is_other : ℤ → ℤ → Bool
@@ -69,29 +69,29 @@ abbrev pub MayBeRemoved : (ℤ → Option (List ℕ)) → ℤ → List ℤ → T
 MayBeRemoved file kept numbers = (numbers ≡ []) ⊎ AreOthers file kept numbers
 
 -- the calls that write back what recovery concludes
-abbrev pub writing_back : (List ℕ → ℕ) → Conclusion → List ℤ → List Event
-writing_back sum x numbers = shredding x.tip ++ (if x.is_new then publishing sum x.shot numbers else [])
+abbrev pub writing_back : (List ℕ → ℕ) → RecoveryResult → List ℤ → List Event
+writing_back sum x numbers = shredding x.shred_range ++ (if x.is_new then publishing sum x.model numbers else [])
 
 -- a table was published, and then all other snapshots were removed
-abbrev pub HasPublished : (List ℕ → ℕ) → Shot → Trace → Trace → Type 0
-HasPublished sum s old new = (numbers : List ℤ) × AreOthers (state_of old).snapshots.file (number_of s) numbers × (new ≡ after_all (publishing sum s numbers) old)
+abbrev pub HasPublished : (List ℕ → ℕ) → SnapshotModel → Trace → Trace → Type 0
+HasPublished sum s old new = (numbers : List ℤ) × AreOthers (state_of old).snapshots.file (snapshot_number_of s) numbers × (new ≡ after_all (publishing sum s numbers) old)
 
 -- the same calls, all of them or up to one that failed; none of them where the table has no spelling
-abbrev pub Publishes : (List ℕ → ℕ) → Shot → Trace → Trace → Type 0
-Publishes sum s old new = (new ≡ old) ⊎ (FitsSnapshot s × (numbers : List ℤ) × MayBeRemoved (state_of old).snapshots.file (number_of s) numbers × Performs (publishing sum s numbers) old new)
+abbrev pub Publishes : (List ℕ → ℕ) → SnapshotModel → Trace → Trace → Type 0
+Publishes sum s old new = (new ≡ old) ⊎ (FitsSnapshot s × (numbers : List ℤ) × MayBeRemoved (state_of old).snapshots.file (snapshot_number_of s) numbers × Performs (publishing sum s numbers) old new)
 
 -- all calls were made that write back what recovery concludes
-abbrev pub HasWrittenBack : (List ℕ → ℕ) → Conclusion → Trace → Trace → Type 0
-HasWrittenBack sum x old new = (numbers : List ℤ) × (x.is_new ≡ true → AreOthers (state_of old).snapshots.file (number_of x.shot) numbers) × (new ≡ after_all (writing_back sum x numbers) old)
+abbrev pub HasWrittenBack : (List ℕ → ℕ) → RecoveryResult → Trace → Trace → Type 0
+HasWrittenBack sum x old new = (numbers : List ℤ) × (x.is_new ≡ true → AreOthers (state_of old).snapshots.file (snapshot_number_of x.model) numbers) × (new ≡ after_all (writing_back sum x numbers) old)
 
 -- The same calls behind these ones, all of them or up to one that failed. Nothing is published where a table that is new has no spelling.
-abbrev pub WritesBehind : List Event → (List ℕ → ℕ) → Conclusion → List ℤ → Trace → Trace → Type 0
+abbrev pub WritesBehind : List Event → (List ℕ → ℕ) → RecoveryResult → List ℤ → Trace → Trace → Type 0
 WritesBehind first sum x numbers old new =
-    Performs (first ++ shredding x.tip) old new ⊎ ((x.is_new ≡ true → FitsSnapshot x.shot) × Performs (first ++ writing_back sum x numbers) old new)
+    Performs (first ++ shredding x.shred_range) old new ⊎ ((x.is_new ≡ true → FitsSnapshot x.model) × Performs (first ++ writing_back sum x numbers) old new)
 
 -- so it is with no calls before them
-abbrev pub WritesBack : (List ℕ → ℕ) → Conclusion → Trace → Trace → Type 0
-WritesBack sum x old new = (numbers : List ℤ) × MayBeRemoved (state_of old).snapshots.file (number_of x.shot) numbers × WritesBehind [] sum x numbers old new
+abbrev pub WritesBack : (List ℕ → ℕ) → RecoveryResult → Trace → Trace → Type 0
+WritesBack sum x old new = (numbers : List ℤ) × MayBeRemoved (state_of old).snapshots.file (snapshot_number_of x.model) numbers × WritesBehind [] sum x numbers old new
 
 -- What is read afterwards.
 
@@ -101,9 +101,9 @@ pub record IsOnlySnapshot (file : ℤ → Option (List ℕ)) (number : ℤ) (byt
   pub others : (n : ℤ) → n ≢ number → file n ≡ None
 
 -- What recovery concludes was written back, and nothing else was changed.
-pub record IsWrittenBack (sum : List ℕ → ℕ) (x : Conclusion) (old new : State) : Type 0 where
+pub record IsWrittenBack (sum : List ℕ → ℕ) (x : RecoveryResult) (old new : State) : Type 0 where
   -- the rest of the active segment is filled with zeros, and all of the log file is settled
-  pub log : MatchOption x.tip (new.log ≡ old.log) (λ tip. new.log ≡ at_rest (overwritten old.log.bytes tip.0 (replicate tip.1 0)))
+  pub log : MatchOption x.shred_range (new.log ≡ old.log) (λ shred_range. new.log ≡ at_rest (overwritten old.log.bytes shred_range.0 (replicate shred_range.1 0)))
   -- a table that is new is the one snapshot there is
-  pub snapshots : MatchBool x.is_new (IsOnlySnapshot new.snapshots.file (number_of x.shot) (short_file sum x.shot)) (new.snapshots ≡ old.snapshots)
+  pub snapshots : MatchBool x.is_new (IsOnlySnapshot new.snapshots.file (snapshot_number_of x.model) (short_file sum x.model)) (new.snapshots ≡ old.snapshots)
   pub blobs : (n : ℤ) → new.blobs.file n ≡ old.blobs.file n

@@ -7,16 +7,54 @@
 
 pub use sled_codec::{result as result, serialization as serialization};
 
-mod conclusion;
-pub mod config;
-pub mod device;
-pub mod iobuf;
 pub mod laws;
-pub mod logger;
-pub mod plain;
-pub mod reservation;
 pub mod restart;
-pub mod run;
+pub mod session;
 pub mod snapshot;
-mod snapshot_file;
-mod table;
+
+/// How a log is kept: the size of its segments, its device and its checksum.
+///
+/// One device has one configuration and one checksum throughout.
+pub mod config {
+    pub use sled_store::config::{Config, RunningConfig};
+}
+
+/// What holds a log: the trait of devices, and the one in memory.
+///
+/// What a device does, and what a crash may leave of it, stands in `docs/DEVICE.md`.
+pub mod device {
+    pub use sled_codec::serialization::{Checksum, PlaceSum};
+    pub use sled_store::device::Device;
+    pub use sled_store::device::choice::{Choice, Offer};
+    pub use sled_store::device::crash_device::CrashDevice;
+    pub use sled_store::device::memory::MemDevice;
+}
+
+/// The sizes that the bytes of a segment are laid out by.
+///
+/// A segment begins with its header, and a message with one of its own.
+pub mod iobuf {
+    pub use sled_store::segment::{MAX_MSG_HEADER_LEN, SEG_HEADER_LEN};
+}
+
+/// The log, what is read of it, and the kinds and headers of messages.
+///
+/// A message is reserved, then completed, and settled on the device by a flush.
+pub mod logger {
+    pub use sled_codec::result::{DiskPtr, LogOffset, Lsn, PageId};
+    pub use sled_codec::serialization::message::{BATCH_MANIFEST_PID, COUNTER_PID, META_PID};
+    pub use sled_codec::serialization::{
+        LogKind, MessageHeader, MessageKind, SegmentHeader, SegmentNumber,
+    };
+    pub use sled_core::logger::Log;
+    pub use sled_core::logger::read_at::{BasedBuf, ReadAt};
+    pub use sled_core::logger::read_message::{LogRead, read_message};
+    pub use sled_store::segment::{MAX_MSG_HEADER_LEN, SEG_HEADER_LEN};
+}
+
+/// Tickets: what a caller holds for a place that is kept for it, and for a pin.
+///
+/// Neither can be dropped: each is handed back to its log, or abandoned on purpose.
+pub mod reservation {
+    pub use sled_core::reservation::{Guard, Reservation};
+}

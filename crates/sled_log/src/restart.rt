@@ -6,13 +6,12 @@ ghost use Rattle.std.specs.Prelude.{◌+◌, ◌≤◌, ℕ, List, IfOk};
 ghost use Rattle.std.specs.List.{All};
 ghost use Rattle.sled_codec.specs.History.{History, Message};
 ghost use Rattle.sled_codec.specs.PageTables.{IsTable};
-ghost use Rattle.sled_codec.specs.Snapshots.{shot_of};
+ghost use Rattle.sled_codec.specs.Snapshots.{model_of, stable_place};
 ghost use Rattle.sled_codec.specs.WellFormed.{IsWellFormed};
 ghost use Rattle.sled_store.specs.Device.{state_of, content_of};
 ghost use Rattle.sled_store.specs.Moments.{LeavesOnly};
 ghost use Rattle.sled_store.specs.Script.{after_all};
-ghost use Rattle.sled_store.specs.SnapshotFiles.{stable_place};
-ghost use Rattle.sled_core.specs.Fits.{Holds, AllEnded, config_of, device_of, fault_of, flushing, segment_size_of};
+ghost use Rattle.sled_core.specs.Fits.{Holds, NoneOpen, config_of, device_of, fault_of, flushing, segment_size_of};
 ghost use Rattle.sled_core.specs.Keeps.{ConfigKept};
 ghost use Rattle.sled_core.specs.Ready.{IsReady};
 ghost use Rattle.sled_core.specs.Recoverable.{NoForeign, RecoverableIfOwn};
@@ -33,13 +32,13 @@ use sled_store::{Device, RunningConfig};
 /// The errors are those of `Log::flush` and of `read_snapshot_or_default`; the configuration comes back with each
 /// of them.
 pub fn restart<D: Device, C: Checksum>(log: Log<D, C>) -> (RunningConfig<D, C>, Result<Snapshot>)
-    requires ended { AllEnded log }
+    requires ended { NoneOpen log }
     ensures table { (H : History) → Holds D.trace C.sum_of log H → IsWellFormed H
-        → IfOk result.1 (λ s. IsTable (shot_of s).pages H (stable_place s.stable_lsn)) }
+        → IfOk result.1 (λ s. IsTable (model_of s).pages H (stable_place s.stable_lsn)) }
     ensures past { (H : History) → Holds D.trace C.sum_of log H → IsWellFormed H
         → IfOk result.1 (λ s. All (λ m. m.place + m.size ≤ stable_place s.stable_lsn) H.messages) }
     ensures ready { (H : History) → Holds D.trace C.sum_of log H → IsWellFormed H
-        → IfOk result.1 (λ s. IsReady C.sum_of (segment_size_of log) (state_of (D.trace result.0.device)) (shot_of s) H) }
+        → IfOk result.1 (λ s. IsReady C.sum_of (segment_size_of log) (state_of (D.trace result.0.device)) (model_of s) H) }
     ensures did { let old = device_of log in let new = result.0.device in
         Restarts C.sum_of (segment_size_of log) (flushing log) (fault_of log) result.1 (D.trace old) (D.trace new) (D.faults old) (D.faults new) }
     ensures crash { (H : History) (A f : ℕ) (U : List Message) → Fits D.trace C.sum_of log H A f U → IsOrderly H

@@ -2,7 +2,7 @@
 use Rattle.std.proofs.Common.{◌≡◌, ◌∙◌, List, [], ◌++◌, refl, ap, sym, append_assoc}
 use Rattle.sled_store.specs.Device.{Trace, State, Content, state_of}
 use Rattle.sled_store.specs.Moments.{AllLeft, IsLater, LeavesOnly}
-use Rattle.sled_store.proofs.MomentLemmas.{started, joined, at_first, at_last, weaker}
+use Rattle.sled_store.proofs.Traces.MomentLemmas.{started, joined, at_first, at_last, weaker}
 
 -- Each trace goes on from itself.
 pub later_same : (trace : Trace) → IsLater trace trace

@@ -42,7 +42,7 @@ pub record LogState : Type 0 where
   pub least : ℕ
   pub most : ℕ
   -- the byte at this offset was written, grown or cut off since then
-  pub is_loose : ℕ → Bool
+  pub is_unsynced : ℕ → Bool
   -- the bytes at that sync, and what was asked to be written since then, the newest first
   pub settled : List ℕ
   pub asked : List (ℕ × List ℕ)
@@ -58,17 +58,17 @@ end_of at zero = 0
 end_of at (suc n) = at + suc n
 
 -- bytes with others at these offsets; the last of a repeated offset counts
-abbrev pub poked : List ℕ → List (ℕ × ℕ) → List ℕ
-poked bytes [] = bytes
-poked bytes (p ∷ patch) = poked (set bytes p.0 p.1) patch
+abbrev pub patched : List ℕ → List (ℕ × ℕ) → List ℕ
+patched bytes [] = bytes
+patched bytes (p ∷ patch) = patched (set bytes p.0 p.1) patch
 
 -- a log file of these bytes, all of them settled
 abbrev pub at_rest : List ℕ → LogState
-at_rest bytes = record { bytes = bytes; least = length bytes; most = length bytes; is_loose = λ _. false; settled = bytes; asked = [] }
+at_rest bytes = record { bytes = bytes; least = length bytes; most = length bytes; is_unsynced = λ _. false; settled = bytes; asked = [] }
 
 abbrev pub log_left : Left → LogState → List ℕ
-log_left (Settled patch) s = poked s.settled patch
-log_left (Latest patch) s = poked s.bytes patch
+log_left (Settled patch) s = patched s.settled patch
+log_left (Latest patch) s = patched s.bytes patch
 log_left (Given log blobs snapshots) s = log
 
 abbrev pub log_step : Event → LogState → LogState
@@ -78,7 +78,7 @@ log_step (Wrote at asked now) s =
       bytes = overwritten s.bytes at now;
       least = s.least;
       most = max s.most end;
-      is_loose = λ i. s.is_loose i || (nat_le (min at (length s.bytes)) i && nat_lt i end);
+      is_unsynced = λ i. s.is_unsynced i || (nat_le (min at (length s.bytes)) i && nat_lt i end);
       settled = s.settled;
       asked = (at, asked) ∷ s.asked;
     }
@@ -86,7 +86,7 @@ log_step (Cut asked now) s = record {
   bytes = take now s.bytes;
   least = min s.least (min asked now);
   most = s.most;
-  is_loose = λ i. s.is_loose i || nat_le (min asked now) i;
+  is_unsynced = λ i. s.is_unsynced i || nat_le (min asked now) i;
   settled = s.settled;
   asked = s.asked;
 }
@@ -98,18 +98,18 @@ log_step _ s = s
 pub record LeavesLog (s : LogState) (left : List ℕ) : Type 0 where
   pub no_shorter : s.least ≤ length left
   pub no_longer : length left ≤ s.most
-  pub kept : (i : ℕ) → i < length left → s.is_loose i ≡ false → slice_index left i ≡ slice_index s.bytes i
+  pub kept : (i : ℕ) → i < length left → s.is_unsynced i ≡ false → slice_index left i ≡ slice_index s.bytes i
 
 -- Blobs by place, and snapshots by number: files under names.
 
 pub record NameState : Type 0 where
   -- the file under the name, where there is one, and whether its bytes may still be lost
   pub file : Option (List ℕ)
-  pub is_loose : Bool
+  pub is_unsynced : Bool
 
 pub record NamesState : Type 0 where
   pub file : ℤ → Option (List ℕ)
-  pub is_loose : ℤ → Bool
+  pub is_unsynced : ℤ → Bool
   -- what the name was since the last sync of names, the latest first, and what calls that failed might have made of it
   pub earlier : ℤ → List NameState
   pub half_done : ℤ → List NameState
@@ -117,39 +117,39 @@ pub record NamesState : Type 0 where
   pub asked : ℤ → List (List ℕ)
 
 abbrev pub names_at_rest : (ℤ → Option (List ℕ)) → NamesState
-names_at_rest file = record { file = file; is_loose = λ _. false; earlier = λ _. []; half_done = λ _. []; asked = λ _. [] }
+names_at_rest file = record { file = file; is_unsynced = λ _. false; earlier = λ _. []; half_done = λ _. []; asked = λ _. [] }
 
 -- a name changes, or may have
 abbrev pub renamed : NamesState → ℤ → Bool → NameState → List (List ℕ) → NamesState
 renamed s name done new asked = record {
   file = λ n. if done && int_eq name n then new.file else s.file n;
-  is_loose = λ n. if done && int_eq name n then new.is_loose else s.is_loose n;
-  earlier = λ n. if done && int_eq name n then record { file = s.file n; is_loose = s.is_loose n } ∷ s.earlier n else s.earlier n;
+  is_unsynced = λ n. if done && int_eq name n then new.is_unsynced else s.is_unsynced n;
+  earlier = λ n. if done && int_eq name n then record { file = s.file n; is_unsynced = s.is_unsynced n } ∷ s.earlier n else s.earlier n;
   half_done = λ n. if not done && int_eq name n then new ∷ s.half_done n else s.half_done n;
   asked = λ n. if int_eq name n then asked ++ s.asked n else s.asked n;
 }
 
 -- a removal of a name that isn't there changes nothing
 abbrev pub unnamed : NamesState → ℤ → Bool → NamesState
-unnamed s name done = if is_some (s.file name) then renamed s name done (record { file = None; is_loose = false }) [] else s
+unnamed s name done = if is_some (s.file name) then renamed s name done (record { file = None; is_unsynced = false }) [] else s
 
 -- All names are settled. What was asked of a file whose bytes may still be lost isn't yet.
 abbrev pub names_synced : NamesState → NamesState
-names_synced s = record { file = s.file; is_loose = s.is_loose; earlier = λ _. []; half_done = λ _. []; asked = λ n. if s.is_loose n then s.asked n else [] }
+names_synced s = record { file = s.file; is_unsynced = s.is_unsynced; earlier = λ _. []; half_done = λ _. []; asked = λ n. if s.is_unsynced n then s.asked n else [] }
 
 -- the bytes of one file are settled
 abbrev pub file_synced : NamesState → ℤ → NamesState
-file_synced s name = record { file = s.file; is_loose = λ n. not (int_eq name n) && s.is_loose n; earlier = s.earlier; half_done = s.half_done; asked = s.asked }
+file_synced s name = record { file = s.file; is_unsynced = λ n. not (int_eq name n) && s.is_unsynced n; earlier = s.earlier; half_done = s.half_done; asked = s.asked }
 
 -- the file that stood under a name when names were last synced; bytes that were never synced are lost
 abbrev pub settled_file : Option (List ℕ) → Bool → List NameState → Option (List ℕ)
-settled_file None loose [] = None
+settled_file None unsynced [] = None
 settled_file (Some bytes) true [] = Some []
 settled_file (Some bytes) false [] = Some bytes
-settled_file file loose (s ∷ earlier) = settled_file s.file s.is_loose earlier
+settled_file file unsynced (s ∷ earlier) = settled_file s.file s.is_unsynced earlier
 
 abbrev pub settled_files : NamesState → ℤ → Option (List ℕ)
-settled_files s n = settled_file (s.file n) (s.is_loose n) (s.earlier n)
+settled_files s n = settled_file (s.file n) (s.is_unsynced n) (s.earlier n)
 
 -- the file of a list under a name
 abbrev pub file_named : List (ℤ × List ℕ) → ℤ → Option (List ℕ)
@@ -167,7 +167,7 @@ snapshots_left (Latest patch) s = s.file
 snapshots_left (Given log blobs snapshots) s = file_named snapshots
 
 abbrev pub blob_step : Event → NamesState → NamesState
-blob_step (BlobMade place asked now done) s = renamed s place done (record { file = Some now; is_loose = true }) (asked ∷ [])
+blob_step (BlobMade place asked now done) s = renamed s place done (record { file = Some now; is_unsynced = true }) (asked ∷ [])
 blob_step (BlobSynced place) s = file_synced s place
 blob_step (BlobRemoved place done) s = unnamed s place done
 blob_step NamesSynced s = names_synced s
@@ -180,7 +180,7 @@ pub record Temporary : Type 0 where
   pub asked : List ℕ
 
 abbrev pub snapshot_step : Event → Temporary → NamesState → NamesState
-snapshot_step (SnapshotPublished number done) temporary s = renamed s number done (record { file = Some temporary.bytes; is_loose = false }) (temporary.asked ∷ [])
+snapshot_step (SnapshotPublished number done) temporary s = renamed s number done (record { file = Some temporary.bytes; is_unsynced = false }) (temporary.asked ∷ [])
 snapshot_step (SnapshotRemoved number done) temporary s = unnamed s number done
 snapshot_step NamesSynced temporary s = names_synced s
 snapshot_step (Crashed left) temporary s = names_at_rest (snapshots_left left s)
@@ -192,17 +192,17 @@ temporary_step _ was = was
 
 -- what a file may be after a crash: none stays none, and one whose bytes may be lost has any bytes
 abbrev pub LeavesFile : Option (List ℕ) → Bool → Option (List ℕ) → Type 0
-LeavesFile None loose left = left ≡ None
+LeavesFile None unsynced left = left ≡ None
 LeavesFile (Some bytes) true left = IsSome left
 LeavesFile (Some bytes) false left = left ≡ Some bytes
 
 abbrev pub LeavesOneOf : List NameState → Option (List ℕ) → Type 0
 LeavesOneOf [] left = ⊥
-LeavesOneOf (s ∷ others) left = LeavesFile s.file s.is_loose left ⊎ LeavesOneOf others left
+LeavesOneOf (s ∷ others) left = LeavesFile s.file s.is_unsynced left ⊎ LeavesOneOf others left
 
 -- What a crash may leave under a name: what it is now, or was since the last sync of names, or what a call that failed might have made of it.
 abbrev pub LeavesName : NamesState → ℤ → Option (List ℕ) → Type 0
-LeavesName s n left = LeavesFile (s.file n) (s.is_loose n) left ⊎ LeavesOneOf (s.earlier n) left ⊎ LeavesOneOf (s.half_done n) left
+LeavesName s n left = LeavesFile (s.file n) (s.is_unsynced n) left ⊎ LeavesOneOf (s.earlier n) left ⊎ LeavesOneOf (s.half_done n) left
 
 -- what was ever asked to be written to the log file, the newest first; neither a sync nor a crash forgets it
 abbrev pub placed_step : Event → List (ℕ × List ℕ) → List (ℕ × List ℕ)

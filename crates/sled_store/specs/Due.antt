@@ -35,7 +35,7 @@ one_fewer (Some n) = Some (n - 1)
 
 -- what it did so far
 abbrev pub trace_of : MemDevice → Trace
-trace_of device = device.story.events
+trace_of device = device.ghost_trace.events
 
 -- What a call leaves that fails since it was due: of a write the first half of its bytes, rounded down, unless the device was stopped or memory
 -- had to be taken; of any other nothing.

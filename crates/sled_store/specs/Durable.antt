@@ -6,11 +6,11 @@ use Rattle.sled_store.specs.Device.{LogState, NamesState, Content}
 pub record IsDurable (s : LogState) (from to : ℕ) : Type 0 where
   pub within : to ≤ s.least
   pub there : to ≤ length s.bytes
-  pub firm : (i : ℕ) → from ≤ i → i < to → s.is_loose i ≡ false
+  pub firm : (i : ℕ) → from ≤ i → i < to → s.is_unsynced i ≡ false
 
 -- a name is settled: it didn't change since names were last synced, and nor did the bytes of its file
 pub record IsSettledName (s : NamesState) (n : ℤ) : Type 0 where
-  pub firm : s.is_loose n ≡ false
+  pub firm : s.is_unsynced n ≡ false
   pub alone : s.earlier n ≡ []
   pub whole : s.half_done n ≡ []
 

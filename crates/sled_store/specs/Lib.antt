@@ -1,5 +1,7 @@
 pub mod Answers
+pub mod Begin
 pub mod Blobs
+pub mod Causes
 pub mod Chosen
 pub mod Device
 pub mod Due
@@ -11,5 +13,6 @@ pub mod Moments
 pub mod Noted
 pub mod Script
 pub mod Segments
+pub mod SlotTables
 pub mod SnapshotFiles
 pub mod Words

@@ -5,8 +5,8 @@ use Rattle.sled_store.specs.Device.{Event, Left, Wrote, Cut, Synced, BlobMade, B
 use Rattle.sled_store.specs.declared.device.choice.Offer.{Offer}
 use Rattle.sled_store.specs.declared.device.choice.Choice.{Choice}
 use Rattle.sled_store.specs.declared.device.choice.Choice.TheVariants as choice
-use Rattle.sled_store.specs.declared.device.story.Note.{Note}
-use Rattle.sled_store.specs.declared.device.story.Note.TheVariants as note
+use Rattle.sled_store.specs.declared.device.memory.trace.Note.{Note}
+use Rattle.sled_store.specs.declared.device.memory.trace.Note.TheVariants as note
 
 -- files under names, each with its bytes
 abbrev pub files_of : List (ℤ × Vec ℕ Global) → List (ℤ × List ℕ)

@@ -9,18 +9,8 @@ ghost use Rattle.sled_store.specs.Answers.{Counts, kind_in, Fails, FailsOr, Fail
 
 pub mod choice;
 pub mod crash_device;
-mod crash_log;
-mod crash_memory;
-mod crash_names;
-mod faults;
-mod kept;
 pub mod laws;
-mod mem_log;
-mod mem_names;
 pub mod memory;
-mod offer;
-mod story;
-mod taken;
 
 use std::io;
 

@@ -10,7 +10,7 @@ pub mod config;
 pub mod device;
 pub mod header;
 pub mod laws;
-pub mod snapshot;
+pub mod segment;
 
 pub use config::{Config, RunningConfig};
 pub use device::Device;

@@ -391,7 +391,7 @@ impl Opened {
 
     // Writes what was completed, and syncs it. An open ticket holds it up.
     fn flush(&mut self) -> Reply {
-        if !self.log.all_ended() {
+        if !self.log.none_open() {
             return self.held_up();
         }
         match self.log.flush() {

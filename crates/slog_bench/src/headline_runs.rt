@@ -7,7 +7,7 @@ use crate::headline::{Left, choice, comes_back, item_of};
 use crate::support::{Running, empty, item};
 use sled_log::logger::{DiskPtr, PageId};
 use sled_log::result::Error;
-use sled_log::run::{Command, Reply, run};
+use sled_log::session::{Command, Reply, run};
 use sled_log::snapshot::Snapshot;
 use std::alloc::Global;
 use std::process::Abort;

@@ -70,7 +70,7 @@ fn completed_out_of_order(rt: HostRuntime) {
     let (first, first_pin) = reserve(&rt, &mut log, 2, &one);
     let (second, second_pin) = reserve(&rt, &mut log, 3, &two);
     let (third, third_pin) = reserve(&rt, &mut log, 300, &none);
-    assert!(rt; !log.all_ended());
+    assert!(rt; !log.none_open());
     assert_eq!(rt; log.pins(), 3);
     let at_third = complete(&rt, &mut log, third, third_pin);
     let at_first = complete(&rt, &mut log, first, first_pin);
@@ -97,7 +97,7 @@ fn an_abandoned_ticket_stays_open(rt: HostRuntime) {
     assert_eq!(rt; ticket.pointer(), DiskPtr::Inline(20));
     ticket.abandon();
     guard.abandon();
-    assert!(rt; !log.all_ended());
+    assert!(rt; !log.none_open());
     assert_eq!(rt; log.pins(), 1);
     let _ = log.halt();
 }

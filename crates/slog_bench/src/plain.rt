@@ -6,8 +6,8 @@
 use crate::support::{Running, empty};
 use sled_log::device::Device;
 use sled_log::logger::DiskPtr;
-use sled_log::plain::recovered_plainly;
 use sled_log::result::{Error, Result};
+use sled_log::snapshot::reference::reference_recovery;
 use sled_log::snapshot::{PageState, Snapshot, read_snapshot_or_default};
 use std::alloc::Global;
 use std::process::Abort;
@@ -105,7 +105,7 @@ fn lay<R: Abort>(rt: &R, config: &mut Running, slot: u32, header: &[u8; 20], rec
 
 // Whether the two recoveries answer the same: one snapshot, or damage.
 fn agree(config: &mut Running) -> bool {
-    let plain = recovered_plainly(config);
+    let plain = reference_recovery(config);
     let called = read_snapshot_or_default(config);
     match (plain, called) {
         (Ok(Some(a)), Ok(b)) => a == b,
@@ -193,7 +193,7 @@ fn a_snapshot_whole_and_damaged(rt: HostRuntime) {
         let mut bytes = SNAPSHOT;
         bytes[i] = bytes[i].wrapping_add(1);
         let mut config = with_snapshot(&rt, rt.alloc(), bytes.as_slice());
-        assert!(rt; is_damaged(&recovered_plainly(&mut config)));
+        assert!(rt; is_damaged(&reference_recovery(&mut config)));
         assert!(rt; agree(&mut config));
     }
 }
@@ -205,7 +205,7 @@ fn a_longer_file_without_segments(rt: HostRuntime) {
         .device
         .write_at(0, &[0; 257])
         .expect(&rt, "it is written");
-    assert!(rt; is_bare(&recovered_plainly(&mut config), None, None));
+    assert!(rt; is_bare(&reference_recovery(&mut config), None, None));
 }
 
 #[test]
@@ -213,11 +213,11 @@ fn a_failing_recovery(rt: HostRuntime) {
     for n in 1..9 {
         let mut config = with_snapshot(&rt, rt.alloc(), &SNAPSHOT);
         config.device.fail_at(n);
-        match recovered_plainly(&mut config) {
+        match reference_recovery(&mut config) {
             Err(Error::Io(_)) => (),
             _ => panic!(rt; "the call fails"),
         }
-        let again = recovered_plainly(&mut config);
+        let again = reference_recovery(&mut config);
         assert!(rt; has_page(&again, 32, Some(0), (20, DiskPtr::Inline(20), 12)));
     }
 }
@@ -233,7 +233,7 @@ fn two_segments_in_order(rt: HostRuntime) {
         &[&WIDE, &WIDE, &WIDE, &WIDE, &WIDE, &WIDE, &WIDE],
     );
     lay(&rt, &mut config, 256, &SECOND, &[&META_OF_1]);
-    let answer = recovered_plainly(&mut config);
+    let answer = reference_recovery(&mut config);
     assert!(rt; has_page(&answer, 288, Some(256), (276, DiskPtr::Inline(276), 12)));
     lay(
         &rt,
@@ -244,7 +244,7 @@ fn two_segments_in_order(rt: HostRuntime) {
             &WIDE_OF_1, &WIDE_OF_1, &WIDE_OF_1, &WIDE_OF_1, &WIDE_OF_1, &WIDE_OF_1, &WIDE_OF_1,
         ],
     );
-    let answer = recovered_plainly(&mut config);
+    let answer = reference_recovery(&mut config);
     assert!(rt; has_page(&answer, 512, None, (468, DiskPtr::Inline(468), 32)));
 }
 
@@ -262,7 +262,7 @@ fn a_torn_header_ends_the_tail(rt: HostRuntime) {
         let mut header = SECOND;
         header[i] = header[i].wrapping_add(1);
         lay(&rt, &mut config, 256, &header, &[&META_OF_1]);
-        let answer = recovered_plainly(&mut config);
+        let answer = reference_recovery(&mut config);
         assert!(rt; has_page(&answer, 256, None, (212, DiskPtr::Inline(212), 32)));
     }
 }
@@ -272,7 +272,7 @@ fn a_broken_segment_ends_the_tail(rt: HostRuntime) {
     let mut config = empty(&rt, rt.alloc());
     lay(&rt, &mut config, 0, &FIRST, &[&META]);
     lay(&rt, &mut config, 256, &SECOND, &[&META_OF_1]);
-    let answer = recovered_plainly(&mut config);
+    let answer = reference_recovery(&mut config);
     assert!(rt; has_page(&answer, 32, Some(0), (20, DiskPtr::Inline(20), 12)));
 }
 
@@ -287,7 +287,7 @@ fn swapped_slots(rt: HostRuntime) {
         &[&WIDE, &WIDE, &WIDE, &WIDE, &WIDE, &WIDE, &WIDE],
     );
     lay(&rt, &mut config, 0, &SECOND, &[&META_OF_1]);
-    let answer = recovered_plainly(&mut config);
+    let answer = reference_recovery(&mut config);
     assert!(rt; has_page(&answer, 288, Some(0), (276, DiskPtr::Inline(20), 12)));
 }
 
@@ -296,7 +296,7 @@ fn two_segments_at_one_place(rt: HostRuntime) {
     let mut config = empty(&rt, rt.alloc());
     lay(&rt, &mut config, 0, &FIRST, &[&META]);
     lay(&rt, &mut config, 512, &FIRST, &[&META]);
-    assert!(rt; is_damaged(&recovered_plainly(&mut config)));
+    assert!(rt; is_damaged(&reference_recovery(&mut config)));
 }
 
 #[test]
@@ -304,10 +304,10 @@ fn the_tail_begins_at_the_greatest_mark(rt: HostRuntime) {
     let mut config = empty(&rt, rt.alloc());
     lay(&rt, &mut config, 0, &FIRST, &[&META]);
     lay(&rt, &mut config, 256, &SECOND_LATE, &[&META_OF_1]);
-    let answer = recovered_plainly(&mut config);
+    let answer = reference_recovery(&mut config);
     assert!(rt; has_page(&answer, 288, Some(256), (276, DiskPtr::Inline(276), 12)));
     lay(&rt, &mut config, 256, &SECOND_LATE, &[]);
-    let answer = recovered_plainly(&mut config);
+    let answer = reference_recovery(&mut config);
     assert!(rt; has_page(&answer, 276, Some(256), (20, DiskPtr::Inline(20), 12)));
 }
 
@@ -316,7 +316,7 @@ fn the_pass_stops_at_an_open_batch(rt: HostRuntime) {
     let mut config = empty(&rt, rt.alloc());
     lay(&rt, &mut config, 0, &FIRST, &[&META, &MANIFEST, &META]);
     lay(&rt, &mut config, 256, &SECOND_LATE, &[&META_OF_1]);
-    let answer = recovered_plainly(&mut config);
+    let answer = reference_recovery(&mut config);
     assert!(rt; has_page(&answer, 32, Some(0), (20, DiskPtr::Inline(20), 12)));
 }
 
@@ -325,7 +325,7 @@ fn a_damaged_record_in_the_pass(rt: HostRuntime) {
     let mut config = empty(&rt, rt.alloc());
     lay(&rt, &mut config, 0, &FIRST, &[&NO_PLACE]);
     lay(&rt, &mut config, 256, &SECOND_LATE, &[&META_OF_1]);
-    assert!(rt; is_damaged(&recovered_plainly(&mut config)));
+    assert!(rt; is_damaged(&reference_recovery(&mut config)));
 }
 
 // The tail is the segment at 256 alone, and ends at 288. The batch at 20 ends at 339, so the pass stops there: what
@@ -335,9 +335,9 @@ fn a_damaged_record_behind_an_open_batch(rt: HostRuntime) {
     let mut config = empty(&rt, rt.alloc());
     lay(&rt, &mut config, 0, &FIRST, &[&MANIFEST, &NO_PLACE]);
     lay(&rt, &mut config, 256, &SECOND_LATE, &[&META_OF_1]);
-    assert!(rt; is_bare(&recovered_plainly(&mut config), Some(20), Some(0)));
+    assert!(rt; is_bare(&reference_recovery(&mut config), Some(20), Some(0)));
     lay(&rt, &mut config, 0, &FIRST, &[&META, &MANIFEST, &NO_PLACE]);
-    let answer = recovered_plainly(&mut config);
+    let answer = reference_recovery(&mut config);
     assert!(rt; has_page(&answer, 32, Some(0), (20, DiskPtr::Inline(20), 12)));
 }
 
@@ -349,8 +349,8 @@ fn a_damaged_segment_behind_an_open_batch(rt: HostRuntime) {
     lay(&rt, &mut config, 0, &FIRST, &[&META, &LONG_MANIFEST]);
     lay(&rt, &mut config, 256, &SECOND, &[&NO_PLACE_OF_1]);
     lay(&rt, &mut config, 512, &THIRD_LATE, &[&META_OF_2]);
-    let answer = recovered_plainly(&mut config);
+    let answer = reference_recovery(&mut config);
     assert!(rt; has_page(&answer, 32, Some(0), (20, DiskPtr::Inline(20), 12)));
     lay(&rt, &mut config, 0, &FIRST, &[&META]);
-    assert!(rt; is_damaged(&recovered_plainly(&mut config)));
+    assert!(rt; is_damaged(&reference_recovery(&mut config)));
 }

@@ -5,8 +5,8 @@
 ghost use Rattle.std.specs.Prelude.{◌≤◌};
 
 use crate::support::{is_io, item};
-use sled_core::iterator::{read_slot, scan, segment_in};
-use sled_core::met::{Ending, Met, Scan, What};
+use sled_core::iterator::scan::{RecordContent, ScanEnd, ScannedRecord, SegmentScan, scan};
+use sled_core::iterator::{read_slot, segment_in};
 use sled_core::{BasedBuf, ReadAt, read_message};
 use sled_log::config::{Config, RunningConfig};
 use sled_log::device::{Device, MemDevice, PlaceSum};
@@ -379,22 +379,23 @@ fn segments_in_slots(rt: HostRuntime) {
 #[derive(Clone, Copy)]
 enum Wants {
     Message(u64, u64, u64, u64),
-    Passed(u64, u64),
-    Begins(u64, u64, i64),
+    Skipped(u64, u64),
+    BatchStart(u64, u64, i64),
 }
 
 // Whether this is met.
-fn is_met(met: &Met, want: &Wants) -> bool {
+fn is_met(met: &ScannedRecord, want: &Wants) -> bool {
     match (met.what, want) {
-        (What::Gives(kind, page, pointer), Wants::Message(place, len, pid, lid)) => {
+        (RecordContent::Gives(kind, page, pointer), Wants::Message(place, len, pid, lid)) => {
             met.place == *place
                 && met.len == *len
                 && kind == LogKind::Replace
                 && page == *pid
                 && pointer == DiskPtr::Inline(*lid)
         }
-        (What::Passed, Wants::Passed(place, len)) => met.place == *place && met.len == *len,
-        (What::Begins(peg), Wants::Begins(place, len, last)) => {
+        (RecordContent::Skipped, Wants::Skipped(place, len)) => met.place == *place
+            && met.len == *len,
+        (RecordContent::BatchStart(peg), Wants::BatchStart(place, len, last)) => {
             met.place == *place && met.len == *len && peg == *last
         }
         _ => false,
@@ -402,7 +403,13 @@ fn is_met(met: &Met, want: &Wants) -> bool {
 }
 
 // All that is met in a slot of these bytes.
-fn scan_of<R: Abort>(rt: &R, alloc: Global, bytes: &[u8], slot: u64, place: u64) -> Result<Scan> {
+fn scan_of<R: Abort>(
+    rt: &R,
+    alloc: Global,
+    bytes: &[u8],
+    slot: u64,
+    place: u64,
+) -> Result<SegmentScan> {
     let mut config = running(rt, alloc, &[], 0);
     assert!(rt; config.config.segment_size == 256);
     assert!(rt; place < 1000);
@@ -416,7 +423,7 @@ fn scan_of<R: Abort>(rt: &R, alloc: Global, bytes: &[u8], slot: u64, place: u64)
 }
 
 // Asserts what is met, where the reading stops, and why.
-fn scans<R: Abort>(rt: &R, scan: Result<Scan>, met: &[Wants], stop: u64, ending: Ending) {
+fn scans<R: Abort>(rt: &R, scan: Result<SegmentScan>, met: &[Wants], stop: u64, ending: ScanEnd) {
     let scan = scan.expect(rt, "no record is damaged");
     assert_eq!(rt; scan.stop, stop);
     assert_eq!(rt; scan.ending, ending);
@@ -435,13 +442,13 @@ fn a_segment_with_one_message(rt: HostRuntime) {
         found,
         &[Wants::Message(20, 12, 0, 20)],
         32,
-        Ending::Broken,
+        ScanEnd::Broken,
     );
     let none = scan_of(&rt, rt.alloc(), &HEADER, 0, 0);
-    scans(&rt, none, &[], 20, Ending::Broken);
+    scans(&rt, none, &[], 20, ScanEnd::Broken);
     // read as the segment of another number
     let other = scan_of(&rt, rt.alloc(), &bytes, 0, 256);
-    scans(&rt, other, &[], 20, Ending::Broken);
+    scans(&rt, other, &[], 20, ScanEnd::Broken);
 }
 
 // The segment of place 256 lies in the slot of offset 512.
@@ -454,7 +461,7 @@ fn a_segment_in_another_slot(rt: HostRuntime) {
         found,
         &[Wants::Message(276, 12, 0, 532)],
         32,
-        Ending::Broken,
+        ScanEnd::Broken,
     );
 }
 
@@ -462,16 +469,16 @@ fn a_segment_in_another_slot(rt: HostRuntime) {
 fn a_segment_with_all_records(rt: HostRuntime) {
     let capped = file(&rt, rt.alloc(), &[&HEADER, &META, &CANCELED, &CAP, &META]);
     let found = scan_of(&rt, rt.alloc(), &capped, 0, 0);
-    let met = [Wants::Message(20, 12, 0, 20), Wants::Passed(32, 12)];
-    scans(&rt, found, &met, 44, Ending::Capped);
+    let met = [Wants::Message(20, 12, 0, 20), Wants::Skipped(32, 12)];
+    scans(&rt, found, &met, 44, ScanEnd::Capped);
     let batch = file(&rt, rt.alloc(), &[&HEADER, &META, &MANIFEST, &BLOB]);
     let found = scan_of(&rt, rt.alloc(), &batch, 0, 0);
     let met = [
         Wants::Message(20, 12, 0, 20),
-        Wants::Begins(32, 24, 83),
-        Wants::Passed(56, 16),
+        Wants::BatchStart(32, 24, 83),
+        Wants::Skipped(56, 16),
     ];
-    scans(&rt, found, &met, 72, Ending::Broken);
+    scans(&rt, found, &met, 72, ScanEnd::Broken);
 }
 
 #[test]
@@ -501,18 +508,18 @@ fn a_full_segment(rt: HostRuntime) {
     let met = places.map(|place| Wants::Message(place, 20, 2, place));
     let ten = filled(&rt, rt.alloc(), &ELEVEN, 10);
     let found = scan_of(&rt, rt.alloc(), &ten, 0, 0);
-    scans(&rt, found, &met[..10], 220, Ending::Broken);
+    scans(&rt, found, &met[..10], 220, ScanEnd::Broken);
     let eleven = filled(&rt, rt.alloc(), &ELEVEN, 11);
     let found = scan_of(&rt, rt.alloc(), &eleven, 0, 0);
-    scans(&rt, found, &met, 240, Ending::Full);
+    scans(&rt, found, &met, 240, ScanEnd::Full);
     let places = [
         20, 32, 44, 56, 68, 80, 92, 104, 116, 128, 140, 152, 164, 176, 188, 200, 212, 224,
     ];
     let met = places.map(|place| Wants::Message(place, 12, 0, place));
     let up_to_224 = filled(&rt, rt.alloc(), &META, 17);
     let found = scan_of(&rt, rt.alloc(), &up_to_224, 0, 0);
-    scans(&rt, found, &met[..17], 224, Ending::Broken);
+    scans(&rt, found, &met[..17], 224, ScanEnd::Broken);
     let from_224 = filled(&rt, rt.alloc(), &META, 18);
     let found = scan_of(&rt, rt.alloc(), &from_224, 0, 0);
-    scans(&rt, found, &met, 236, Ending::Full);
+    scans(&rt, found, &met, 236, ScanEnd::Full);
 }

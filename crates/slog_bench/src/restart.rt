@@ -130,7 +130,7 @@ fn a_restart_in_order(rt: HostRuntime) {
     let sevens = item(&rt, rt.alloc(), &[7, 7, 7]);
     put(&rt, &mut log, 0, &sevens);
     put(&rt, &mut log, 1, &sevens);
-    assert!(rt; log.all_ended());
+    assert!(rt; log.none_open());
     let (config, answer) = restart(log);
     let snapshot = answer.expect(&rt, "it is recovered");
     assert!(rt; is_table(&snapshot, 44, Some(0), 2));
@@ -146,7 +146,7 @@ fn a_restart_whose_flush_fails(rt: HostRuntime) {
     let mut log = fresh(&rt, rt.alloc(), 1);
     let sevens = item(&rt, rt.alloc(), &[7, 7, 7]);
     put(&rt, &mut log, 0, &sevens);
-    assert!(rt; log.all_ended());
+    assert!(rt; log.none_open());
     let (mut config, answer) = restart(log);
     assert!(rt; is_io(answer));
     let numbers = config.device.snapshots().expect(&rt, "the device stands");

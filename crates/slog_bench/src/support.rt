@@ -3,7 +3,7 @@
 //!
 //! A failed condition ends the test.
 ghost use Rattle.std.specs.Prelude.{◌≡◌};
-ghost use Rattle.sled_core.specs.Fits.{AllEnded};
+ghost use Rattle.sled_core.specs.Fits.{NoneOpen};
 
 use sled_log::config::{Config, RunningConfig};
 use sled_log::device::{Device, MemDevice, PlaceSum};
@@ -101,13 +101,13 @@ pub fn put<R: Abort>(rt: &R, log: &mut TestLog, page: PageId, item: &Vec<u8>) ->
 
 /// Writes what was completed, and settles it.
 pub fn flush(rt: &impl Abort, log: &mut TestLog) -> Result<usize> {
-    assert!(rt; log.all_ended());
+    assert!(rt; log.none_open());
     log.flush()
 }
 
 /// Reads the message of a page at a place, which is settled and lies inline at the same offset.
 pub fn read<R: Abort>(rt: &R, log: &mut TestLog, page: PageId, place: u32) -> Result<LogRead> {
-    assert!(rt; log.all_ended());
+    assert!(rt; log.none_open());
     assert!(rt; i64::from(place) <= log.stable_offset());
     log.read(page, i64::from(place), DiskPtr::Inline(u64::from(place)))
 }

@@ -6,7 +6,7 @@ ghost use Rattle.sled_codec.specs.declared.serialization.message.MessageKind.The
 ghost use Rattle.sled_codec.specs.Metas.{Numbers, SpellsMeta, FitsMeta, short_meta};
 ghost use Rattle.sled_codec.specs.Record.{IsRecord, short_record};
 ghost use Rattle.sled_codec.specs.Spelling.{SpellsNumber, short_number, SpellsMessageHeader};
-ghost use Rattle.sled_codec.specs.Snapshots.{Shot, SpellsSnapshot, FitsSnapshot, short_snapshot};
+ghost use Rattle.sled_codec.specs.Snapshots.{SnapshotModel, SpellsSnapshot, FitsSnapshot, short_snapshot};
 
 use crate::serialization::{Checksum, Delimited};
 
@@ -28,8 +28,8 @@ pub fn lengths()
 /// What was written for a snapshot is read as that snapshot and no other, and bytes are one snapshot at
 /// most.
 pub fn snapshot_again()
-    ensures one { (text : List ℕ) (s w : Shot) → SpellsSnapshot text s → SpellsSnapshot text w → w ≡ s }
-    ensures again { (s w : Shot) → FitsSnapshot s → SpellsSnapshot (short_snapshot s) w → w ≡ s }
+    ensures one { (text : List ℕ) (s w : SnapshotModel) → SpellsSnapshot text s → SpellsSnapshot text w → w ≡ s }
+    ensures again { (s w : SnapshotModel) → FitsSnapshot s → SpellsSnapshot (short_snapshot s) w → w ≡ s }
 {}
 
 /// What was written for a meta is read as that meta and no other, and bytes are one meta at most.

@@ -1,6 +1,7 @@
 //! Snapshots of the page table (`docs/FORMATS.md`, "Snapshots").
 ghost use Rattle.std.specs.Prelude.{◌≡◌, ◌+◌, ◌-◌, ◌^◌, ◌<◌, [], None, true};
 ghost use Rattle.sled_codec.specs.Coords.{coords_of, HasCoords, raised};
+ghost use Rattle.sled_codec.specs.Snapshots.{model_of, is_sound, stable_place};
 
 use crate::result::{DiskPtr, LogOffset, Lsn, Result};
 use crate::serialization::each::{
@@ -130,12 +131,12 @@ pub struct Snapshot {
 /// bytes. Each page has to have a spelling, and the length of the whole fits in a `u64`.
 impl Serialize for Snapshot {
     ghost use Rattle.std.specs.Prelude.{List, ℕ};
-    ghost use Rattle.sled_codec.specs.Snapshots.{Shot, shot_of, SpellsSnapshot, FitsSnapshot, short_snapshot};
+    ghost use Rattle.sled_codec.specs.Snapshots.{SnapshotModel, model_of, SpellsSnapshot, FitsSnapshot, short_snapshot};
     ghost use Rattle.sled_codec.specs.SnapshotLaws.{short_spells-snapshot};
 
-    ghost Meaning = { Shot };
+    ghost Meaning = { SnapshotModel };
 
-    ghost meaning = { shot_of };
+    ghost meaning = { model_of };
 
     ghost Spells = { SpellsSnapshot };
 
@@ -214,6 +215,28 @@ impl Snapshot {
                 let raised = raised(stable.unsigned_abs(), segment_size);
                 (None, Some(raised as i64))
             }
+        }
+    }
+
+    /// Returns whether a log can have it: it has a stable place that is not negative, or it is the one of a log that
+    /// was never begun.
+    pub fn is_sound(&self) -> bool
+        ensures { result ≡ is_sound (model_of self.now) }
+    {
+        match self.stable_lsn {
+            Some(place) => place >= 0,
+            None => self.active_segment.is_none() && self.pt.is_empty(),
+        }
+    }
+
+    /// Returns the place that it ends with; 0 where there is none, or a negative one.
+    pub fn stable_place(&self) -> u64
+        ensures place { result ≡ stable_place self.now.stable_lsn }
+        ensures small { result < 2 ^ 63 }
+    {
+        match self.stable_lsn {
+            Some(place) => u64::try_from(place).unwrap_or(0),
+            None => 0,
         }
     }
 }

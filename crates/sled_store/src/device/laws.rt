@@ -17,6 +17,6 @@ pub fn what_is_settled_may_be_left()
 /// After a sync and a sync of names, where every blob's bytes were synced, a crash leaves exactly what
 /// is read.
 pub fn what_is_synced_is_left()
-    ensures { (trace : Trace) (left : Content) → ((n : ℤ) → (state_of trace).blobs.is_loose n ≡ false)
+    ensures { (trace : Trace) (left : Content) → ((n : ℤ) → (state_of trace).blobs.is_unsynced n ≡ false)
         → Leaves (state_of (NamesSynced ∷ Synced ∷ trace)) left → SameContent left (content_of (state_of trace)) }
 {}

@@ -7,18 +7,24 @@ ghost use Rattle.sled_store.specs.Device.{state_of, Wrote};
 ghost use Rattle.sled_store.specs.Memory.{Stands};
 ghost use Rattle.sled_store.specs.MemoryNames.{Keeps};
 
-use super::faults::Faults;
-use super::mem_log::MemLog;
-use super::mem_names::MemNames;
-use super::story::{Note, Story};
+mod crash;
+mod faults;
+mod log_file;
+mod named_files;
+mod trace;
+
 use crate::Device;
+use crate::device::memory::faults::Faults;
+use crate::device::memory::log_file::MemLog;
+use crate::device::memory::named_files::MemNames;
+use crate::device::memory::trace::{GhostTrace, Note};
 use std::alloc::Global;
 use std::io;
 
 /// A device in memory. Any call of it can be made to fail.
 #[derive(Drop)]
 pub struct MemDevice {
-    pub(crate) story: Story,
+    pub(crate) ghost_trace: GhostTrace,
     pub(crate) log: MemLog,
     pub(crate) blobs: MemNames,
     pub(crate) snapshots: MemNames,
@@ -26,10 +32,10 @@ pub struct MemDevice {
     pub(crate) temporary: Vec<u8>,
     pub(crate) faults: Faults,
     alloc: Global,
-    ghost stands: { Stands log (state_of story.events).log },
-    ghost keeps_blobs: { Keeps blobs (state_of story.events).blobs },
-    ghost keeps_snapshots: { Keeps snapshots (state_of story.events).snapshots },
-    ghost keeps_temporary: { temporary.items ≡ (state_of story.events).temporary.bytes },
+    ghost stands: { Stands log (state_of ghost_trace.events).log },
+    ghost keeps_blobs: { Keeps blobs (state_of ghost_trace.events).blobs },
+    ghost keeps_snapshots: { Keeps snapshots (state_of ghost_trace.events).snapshots },
+    ghost keeps_temporary: { temporary.items ≡ (state_of ghost_trace.events).temporary.bytes },
 }
 
 impl MemDevice {
@@ -43,7 +49,7 @@ impl MemDevice {
         ensures awaits { Awaits result 0 None false }
     {
         MemDevice {
-            story: Story::new(),
+            ghost_trace: GhostTrace::new(),
             log: MemLog::new(alloc),
             blobs: MemNames::new(alloc),
             snapshots: MemNames::new(alloc),
@@ -69,13 +75,13 @@ impl MemDevice {
     // What a write does that is to fail: the first half of its bytes is written, or nothing where there is no
     // memory for that.
     fn write_half(&mut self, at: u64, bytes: &[u8])
-        ensures left { (self.new.story.events ≡ Wrote at bytes.now (take (length bytes.now / 2) bytes.now) ∷ self.old.story.events)
-            ⊎ ((self.new.story.events ≡ self.old.story.events) × (has_room self.old.log (at + length bytes.now) ≡ false)) }
+        ensures left { (self.new.ghost_trace.events ≡ Wrote at bytes.now (take (length bytes.now / 2) bytes.now) ∷ self.old.ghost_trace.events)
+            ⊎ ((self.new.ghost_trace.events ≡ self.old.ghost_trace.events) × (has_room self.old.log (at + length bytes.now) ≡ false)) }
         ensures faults { self.new.faults ≡ self.old.faults }
     {
         let half = bytes.len() / 2;
         if self.log.write(at as usize, bytes, half).is_ok() {
-            self.story = self.story.then(&Note::Wrote {
+            self.ghost_trace = self.ghost_trace.then(&Note::Wrote {
                 at,
                 asked: bytes,
                 now: &bytes[..half],
@@ -87,7 +93,7 @@ impl MemDevice {
 impl Device for MemDevice {
     ghost use Rattle.sled_store.specs.Due.{Obeys};
 
-    ghost trace = { λ device. device.story.events };
+    ghost trace = { λ device. device.ghost_trace.events };
 
     ghost faults = { λ device. device.faults.count };
 
@@ -115,7 +121,7 @@ impl Device for MemDevice {
             return Err(e);
         }
         self.log.write(at as usize, bytes, bytes.len())?;
-        self.story = self.story.then(&Note::Wrote {
+        self.ghost_trace = self.ghost_trace.then(&Note::Wrote {
             at,
             asked: bytes,
             now: bytes,
@@ -126,7 +132,7 @@ impl Device for MemDevice {
     fn cut(&mut self, len: u64) -> io::Result<()> {
         self.faults.begin()?;
         self.log.cut(len as usize);
-        self.story = self.story.then(&Note::Cut {
+        self.ghost_trace = self.ghost_trace.then(&Note::Cut {
             asked: len,
             now: len,
         });
@@ -137,7 +143,7 @@ impl Device for MemDevice {
         self.faults.begin()?;
         self.faults.end()?;
         self.log.sync();
-        self.story = self.story.then(&Note::Synced);
+        self.ghost_trace = self.ghost_trace.then(&Note::Synced);
         Ok(())
     }
 
@@ -148,7 +154,7 @@ impl Device for MemDevice {
         }
         let copy = bytes.to_vec(self.alloc)?;
         self.blobs.make(self.alloc, place, copy, true)?;
-        self.story = self.story.then(&Note::BlobMade {
+        self.ghost_trace = self.ghost_trace.then(&Note::BlobMade {
             place,
             asked: bytes,
             now: bytes,
@@ -164,7 +170,7 @@ impl Device for MemDevice {
         }
         self.faults.end()?;
         self.blobs.sync(place);
-        self.story = self.story.then(&Note::BlobSynced { place });
+        self.ghost_trace = self.ghost_trace.then(&Note::BlobSynced { place });
         Ok(())
     }
 
@@ -176,7 +182,9 @@ impl Device for MemDevice {
     fn blob_remove(&mut self, place: i64) -> io::Result<()> {
         self.faults.begin()?;
         self.blobs.remove(place);
-        self.story = self.story.then(&Note::BlobRemoved { place, done: true });
+        self.ghost_trace = self
+            .ghost_trace
+            .then(&Note::BlobRemoved { place, done: true });
         self.faults.end()
     }
 
@@ -188,7 +196,7 @@ impl Device for MemDevice {
     fn snapshot_write(&mut self, bytes: &[u8]) -> io::Result<()> {
         self.faults.begin()?;
         self.temporary = bytes.to_vec(self.alloc)?;
-        self.story = self.story.then(&Note::SnapshotFilled {
+        self.ghost_trace = self.ghost_trace.then(&Note::SnapshotFilled {
             asked: bytes,
             now: bytes,
         });
@@ -199,8 +207,8 @@ impl Device for MemDevice {
         self.faults.begin()?;
         let copy = self.temporary.to_vec(self.alloc)?;
         self.snapshots.make(self.alloc, number, copy, false)?;
-        self.story = self
-            .story
+        self.ghost_trace = self
+            .ghost_trace
             .then(&Note::SnapshotPublished { number, done: true });
         self.faults.end()
     }
@@ -213,8 +221,8 @@ impl Device for MemDevice {
     fn snapshot_remove(&mut self, number: i64) -> io::Result<()> {
         self.faults.begin()?;
         self.snapshots.remove(number);
-        self.story = self
-            .story
+        self.ghost_trace = self
+            .ghost_trace
             .then(&Note::SnapshotRemoved { number, done: true });
         self.faults.end()
     }
@@ -229,7 +237,7 @@ impl Device for MemDevice {
         self.faults.end()?;
         self.blobs.settle();
         self.snapshots.settle();
-        self.story = self.story.then(&Note::NamesSynced);
+        self.ghost_trace = self.ghost_trace.then(&Note::NamesSynced);
         Ok(())
     }
 

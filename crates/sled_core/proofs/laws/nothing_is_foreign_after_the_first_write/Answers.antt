@@ -1,7 +1,7 @@
 -- Nothing is foreign in what is read after the first write, nor where that was lost.
 use Rattle.sled_store.specs.Device.{Wrote, state_of}
 use Rattle.std.specs.Prelude.{[], ◌∷◌}
-use Rattle.sled_core.proofs.OwnLemmas.{written_own, lost_own, synced_own}
+use Rattle.sled_core.proofs.Crash.OwnLemmas.{written_own, lost_own, synced_own}
 use Rattle.sled_core.proofs.laws.nothing_is_foreign_after_the_first_write.Goals as goal
 
 pub returns-clause-read : goal.returns-clause-read

@@ -1,5 +1,5 @@
 -- Nothing is foreign where a record was written before the one in front of it.
-use Rattle.sled_core.proofs.OwnRecords.{out_of_order_own}
+use Rattle.sled_core.proofs.Crash.OwnRecords.{out_of_order_own}
 use Rattle.sled_core.proofs.laws.nothing_is_foreign_where_records_come_out_of_order.Goals as goal
 
 pub returns : goal.returns

@@ -1,5 +1,5 @@
 -- Zeros pass as no header.
-use Rattle.sled_core.proofs.OwnLemmas.{zeros_no_header, zeros_by_place}
+use Rattle.sled_core.proofs.Crash.OwnLemmas.{zeros_no_header, zeros_by_place}
 use Rattle.sled_core.proofs.laws.zeros_are_no_header.Goals as goal
 
 pub returns-clause-general : goal.returns-clause-general

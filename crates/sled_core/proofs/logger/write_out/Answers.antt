@@ -5,7 +5,7 @@ use Rattle.std.specs.Prelude.{Result, Ok, Err}
 use Rattle.sled_store.specs.Answers.{Does}
 use Rattle.sled_store.specs.Device.{Event, Trace, Wrote, Synced}
 use Rattle.sled_store.specs.Script.{Performs}
-use Rattle.sled_store.proofs.ScriptLemmas.{performs_all, stop_call, performs_none}
+use Rattle.sled_store.proofs.Traces.ScriptLemmas.{performs_all, stop_call, performs_none}
 use Rattle.sled_core.proofs.logger.write_out.Goals as goal
 
 -- one call, whatever it answered
@@ -24,7 +24,7 @@ on_bytes at xs ys old new same came = subst (λ (x : List ℕ). Performs (Wrote 
 pub returns-in_err-write_at-clause-calls : goal.returns-in_err-write_at-clause-calls
 returns-in_err-write_at-clause-calls g c =
     let whole : List ℕ = c.deref.result.now in
-    let from : ℕ = c.args.buffer.now.from in
+    let from : ℕ = c.args.buffer.now.written_len in
     let xs : List ℕ = take (length whole - from) (drop from whole) in
     let at : ℕ = c.args.slot + from in
     on_bytes at xs _ _ _ (behind whole c.args.buffer.now.bytes.items from c.deref.ensures.value) (stop_call (Wrote at xs xs) (Synced ∷ []) _ _ c.in_err-write_at.ensures.trace)
@@ -32,7 +32,7 @@ returns-in_err-write_at-clause-calls g c =
 pub returns-clause-calls : goal.returns-clause-calls
 returns-clause-calls g c =
     let whole : List ℕ = c.deref.result.now in
-    let from : ℕ = c.args.buffer.now.from in
+    let from : ℕ = c.args.buffer.now.written_len in
     let xs : List ℕ = take (length whole - from) (drop from whole) in
     let at : ℕ = c.args.slot + from in
     on_bytes at xs _ _ _ (behind whole c.args.buffer.now.bytes.items from c.deref.ensures.value)

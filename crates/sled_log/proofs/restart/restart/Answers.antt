@@ -1,28 +1,26 @@
 use Rattle.std.proofs.Common.{◌≡◌, ◌∙◌, ◌≤◌, ◌+◌, ℕ, sym, ap, subst, inl, inr}
-use Rattle.std.specs.Prelude.{Err}
+use Rattle.std.specs.Prelude.{Err, IfOk}
 use Rattle.sled_codec.specs.declared.serialization.snapshot.Snapshot.{Snapshot}
 use Rattle.sled_store.specs.Moments.{LeavesOnly}
 use Rattle.sled_store.specs.Script.{Performs, after_all}
-use Rattle.sled_store.proofs.MomentLemmas.{joined}
-use Rattle.sled_core.specs.Causes.{DeviceAnswers}
+use Rattle.sled_store.proofs.Traces.MomentLemmas.{joined}
+use Rattle.sled_store.specs.Causes.{DeviceAnswers}
 use Rattle.sled_core.specs.Recoverable.{LeavesRecoverable, NoForeign, RecoverableIfOwn}
-use Rattle.sled_core.proofs.ReachLemmas.{fits_leaves}
+use Rattle.sled_core.proofs.Holds.ReachLemmas.{fits_leaves}
 use Rattle.sled_log.specs.Orderly.{CanRecover}
 use Rattle.sled_log.specs.Restarts.{FlushFails}
 use Rattle.sled_log.specs.Restores.{RecoveryCalls}
-use Rattle.sled_log.proofs.RestartCauses.{flush_fails, some_of}
+use Rattle.sled_log.proofs.WriteBack.RestartCauses.{flush_fails, some_of}
 use Rattle.std.specs.List.{All}
-use Rattle.std.specs.Prelude.{IfOk}
 use Rattle.sled_codec.specs.History.{Message}
 use Rattle.sled_codec.specs.PageTables.{IsTable}
-use Rattle.sled_codec.specs.Snapshots.{shot_of}
+use Rattle.sled_codec.specs.Snapshots.{model_of, stable_place}
 use Rattle.sled_store.specs.declared.config.RunningConfig.{RunningConfig}
 use Rattle.sled_store.specs.Device.{State, Trace, state_of, content_of}
-use Rattle.sled_store.specs.SnapshotFiles.{stable_place}
 use Rattle.sled_core.specs.Fits.{IsKept, device_of, fault_of, flushing, segment_size_of}
 use Rattle.sled_core.specs.Ready.{IsReady}
-use Rattle.sled_core.proofs.ReadingLemmas.{if_ok}
-use Rattle.sled_log.proofs.RestartLemmas.{ready_kept, if_all}
+use Rattle.sled_core.proofs.Read.ReadingLemmas.{if_ok}
+use Rattle.sled_log.proofs.WriteBack.RestartLemmas.{ready_kept, if_all}
 use Rattle.sled_log.proofs.restart.restart.Goals as goal
 
 pub returns-in-Ok-clause-ready : goal.returns-in-Ok-clause-ready
@@ -31,18 +29,18 @@ returns-in-Ok-clause-ready g c = λ H holds formed.
     let size : ℕ = c.halt-config.result.config.segment_size in
     let device : State = state_of (g.D.Device.trace c.halt-config.result.device) in
     let new : State = state_of (g.D.Device.trace c.read_snapshot_or_default-snapshot.new.config.device) in
-    let kept : IsKept g.C.Checksum.sum_of size log.site log.buffer.from device H =
-    subst (λ (x : RunningConfig _ _). IsKept g.C.Checksum.sum_of x.config.segment_size log.site log.buffer.from (state_of (g.D.Device.trace x.device)) H) (sym c.halt-config.ensures.config) (c.in-Ok.ensures.records H holds) in
+    let kept : IsKept g.C.Checksum.sum_of size log.site log.buffer.written_len device H =
+    subst (λ (x : RunningConfig _ _). IsKept g.C.Checksum.sum_of x.config.segment_size log.site log.buffer.written_len (state_of (g.D.Device.trace x.device)) H) (sym c.halt-config.ensures.config) (c.in-Ok.ensures.records H holds) in
     let sizes : size ≡ segment_size_of c.args.log = ap (λ (x : RunningConfig _ _). x.config.segment_size) c.halt-config.ensures.config ∙ c.flush-flushed.ensures.position.size in
     let many = c.halt-config.result.config.least in
-    subst (λ (n : ℕ). IfOk c.read_snapshot_or_default-snapshot.result (λ s. IsReady g.C.Checksum.sum_of n new (shot_of s) H)) sizes
-    (if_all c.read_snapshot_or_default-snapshot.result _ _ _ (λ s. IsReady g.C.Checksum.sum_of size new (shot_of s) H)
-    (λ s ok newest short. ready_kept g.C.Checksum.sum_of size log.site log.buffer.from device new H kept formed many short (shot_of s) ok.0 ok.1 ok.2 ok.3 newest)
+    subst (λ (n : ℕ). IfOk c.read_snapshot_or_default-snapshot.result (λ s. IsReady g.C.Checksum.sum_of n new (model_of s) H)) sizes
+    (if_all c.read_snapshot_or_default-snapshot.result _ _ _ (λ s. IsReady g.C.Checksum.sum_of size new (model_of s) H)
+    (λ s ok newest short. ready_kept g.C.Checksum.sum_of size log.site log.buffer.written_len device new H kept formed many short (model_of s) ok.0 ok.1 ok.2 ok.3 newest)
     c.read_snapshot_or_default-snapshot.ensures.ok c.read_snapshot_or_default-snapshot.ensures.newest c.read_snapshot_or_default-snapshot.ensures.short)
 
 pub returns-in-Ok-clause-table : goal.returns-in-Ok-clause-table
 returns-in-Ok-clause-table g c = λ H holds formed.
-    if_ok c.read_snapshot_or_default-snapshot.result _ (λ s. IsTable (shot_of s).pages H (stable_place s.stable_lsn)) (λ s ready. ready.table) (returns-in-Ok-clause-ready g c H holds formed)
+    if_ok c.read_snapshot_or_default-snapshot.result _ (λ s. IsTable (model_of s).pages H (stable_place s.stable_lsn)) (λ s ready. ready.table) (returns-in-Ok-clause-ready g c H holds formed)
 
 pub returns-in-Ok-clause-past : goal.returns-in-Ok-clause-past
 returns-in-Ok-clause-past g c = λ H holds formed.

@@ -2,13 +2,13 @@ use Rattle.std.proofs.Common.{◌≡◌, ◌⊎◌, ◌∙◌, ◌≤◌, ℕ, L
 use Rattle.sled_core.specs.Scan.{Readable}
 use Rattle.sled_store.specs.Device.{Trace, Synced, NamesSynced, state_of}
 use Rattle.sled_store.specs.SnapshotFiles.{BeginsFrom}
-use Rattle.sled_store.proofs.ScriptLemmas.{performs_whole}
+use Rattle.sled_store.proofs.Traces.ScriptLemmas.{performs_whole}
 use Rattle.sled_log.specs.Plain.{log_alone}
-use Rattle.sled_log.specs.Recovery.{Conclusion, Recovered, Recovers}
+use Rattle.sled_log.specs.Recovery.{RecoveryResult, Recovered, Recovers}
 use Rattle.sled_log.specs.Restores.{IsBeyondRecovery}
-use Rattle.sled_log.specs.WritesBack.{HasWrittenBack, IsWrittenBack, conclusion_of}
-use Rattle.sled_log.proofs.NewestLemmas.{begins_again}
-use Rattle.sled_log.proofs.WriteLemmas.{recovers_settled, writes_settled}
+use Rattle.sled_log.specs.WritesBack.{HasWrittenBack, IsWrittenBack, result_of}
+use Rattle.sled_log.proofs.SnapshotFile.NewestLemmas.{begins_again}
+use Rattle.sled_log.proofs.WriteBack.WriteLemmas.{recovers_settled, writes_settled}
 use Rattle.sled_log.proofs.snapshot.read_and_write_back.Goals as goal
 
 -- what is beyond recovery once it is settled was so before
@@ -24,7 +24,7 @@ returns-in-Ok-write_back-clause-comes g c =
     let mid : Trace = g.D.Device.trace c.recover.new.config.device in
     let new : Trace = g.D.Device.trace c.write_back.new.config.device in
     let size : ℕ = c.args.config.now.config.segment_size in
-    let x : Conclusion = conclusion_of c.in-Ok.recovery in
+    let x : RecoveryResult = result_of c.in-Ok.recovery in
     let is_mid : mid ≡ NamesSynced ∷ Synced ∷ old = c.in-Ok.ensures.reads.unwritten ∙ c.in_ok-settle.ensures.done in
     let recovers = recovers_settled sum old settled c.in_ok-settle.ensures.done size (Recovered x) c.in-Ok.ensures.ok in
     let writes = writes_settled sum old mid is_mid x new c.write_back.ensures.calls in
@@ -32,13 +32,13 @@ returns-in-Ok-write_back-clause-comes g c =
     let r : Readable = log_alone (state_of settled).log.bytes in
     let met = subst (λ (h : Trace). Recovers sum size r (state_of h).snapshots.file (Recovered x)) (sym c.in-Ok.ensures.reads.unwritten) c.in-Ok.ensures.ok in
     let again = begins_again sum size r (omega (arith, c.args.config.now.config.least)) x (state_of mid) (state_of new) back.written met back.fits in
-    let as_before = subst (λ (h : Trace). (again.0 ≡ x.shot) ⊎ BeginsFrom sum (state_of h).snapshots.file again.0) is_mid again.4 in
+    let as_before = subst (λ (h : Trace). (again.0 ≡ x.model) ⊎ BeginsFrom sum (state_of h).snapshots.file again.0) is_mid again.4 in
     record {
       calls = inr (x, recovers, writes.0, writes.1, writes.2);
       ok = record {
         conclusion = x;
         recovers = recovers;
-        shot = refl;
+        model = refl;
         written = subst (λ (h : Trace). IsWrittenBack sum x (state_of h) (state_of new)) is_mid back.written;
         done = subst (λ (h : Trace). HasWrittenBack sum x h new) is_mid back.done;
         fits = back.fits;
@@ -53,7 +53,7 @@ pub returns-in-Err-write_back-clause-comes : goal.returns-in-Err-write_back-clau
 returns-in-Err-write_back-clause-comes g c =
     let sum = g.C.Checksum.sum_of in
     let old : Trace = g.D.Device.trace c.args.config.now.device in
-    let x : Conclusion = conclusion_of c.in-Ok.recovery in
+    let x : RecoveryResult = result_of c.in-Ok.recovery in
     let recovers = recovers_settled sum old (g.D.Device.trace c.settle.new.device) c.in_ok-settle.ensures.done c.args.config.now.config.segment_size (Recovered x) c.in-Ok.ensures.ok in
     let writes = writes_settled sum old (g.D.Device.trace c.recover.new.config.device) (c.in-Ok.ensures.reads.unwritten ∙ c.in_ok-settle.ensures.done) x (g.D.Device.trace c.write_back.new.config.device) c.write_back.ensures.calls in
     record { calls = inr (x, recovers, writes.0, writes.1, writes.2); ok = tt; corrupt = λ damaged. absurd (c.in-Err-write_back.ensures.readable damaged) }

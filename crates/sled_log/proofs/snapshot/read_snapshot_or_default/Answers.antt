@@ -1,17 +1,16 @@
 use Rattle.std.proofs.Common.{◌<◌, ◌≤◌, ◌^◌, ℕ, sym, subst, arith}
 use Rattle.sled_codec.specs.History.{below}
-use Rattle.sled_codec.specs.Snapshots.{Shot, shot_of}
+use Rattle.sled_codec.specs.Snapshots.{SnapshotModel, model_of, stable_place}
 use Rattle.sled_store.specs.Device.{Trace, state_of, content_of}
-use Rattle.sled_store.specs.SnapshotFiles.{stable_place}
 use Rattle.sled_core.specs.Good.{IsGood}
 use Rattle.sled_core.specs.Recoverable.{LeavesRecoverable}
-use Rattle.sled_core.proofs.ReadingLemmas.{if_ok}
-use Rattle.sled_log.proofs.RecoveryHolds.{holds_throughout, meets_no_damage, is_good, is_cut_off, is_ready}
-use Rattle.sled_log.proofs.RestartLemmas.{BeginsAgain}
+use Rattle.sled_core.proofs.Read.ReadingLemmas.{if_ok}
+use Rattle.sled_log.proofs.WriteBack.RecoveryHolds.{holds_throughout, meets_no_damage, is_good, is_cut_off, is_ready}
+use Rattle.sled_log.proofs.WriteBack.RestartLemmas.{BeginsAgain}
 use Rattle.sled_core.specs.Running.{Ready}
 use Rattle.sled_codec.specs.PageTables.{IsTable}
-use Rattle.sled_log.proofs.RecoveryLater.{recovery_later}
-use Rattle.sled_log.proofs.TableCuts.{table_below}
+use Rattle.sled_log.proofs.WriteBack.RecoveryLater.{recovery_later}
+use Rattle.sled_log.proofs.PageTable.TableCuts.{table_below}
 use Rattle.sled_log.proofs.snapshot.read_snapshot_or_default.Goals as goal
 
 -- the size of a segment is no longer than offsets in a file
@@ -33,8 +32,8 @@ returns-clause-good g c = λ H A f can.
     let config = c.args.config.now.config in
     let sum = g.C.Checksum.sum_of in
     let new : Trace = g.D.Device.trace c.read_and_write_back.new.config.device in
-    if_ok c.read_and_write_back.result _ (λ s. IsGood sum config.segment_size (content_of (state_of new)) H A f (shot_of s)) (λ s ok.
-    subst (λ (x : Shot). IsGood sum config.segment_size (content_of (state_of new)) H A f x) (sym ok.shot)
+    if_ok c.read_and_write_back.result _ (λ s. IsGood sum config.segment_size (content_of (state_of new)) H A f (model_of s)) (λ s ok.
+    subst (λ (x : SnapshotModel). IsGood sum config.segment_size (content_of (state_of new)) H A f x) (sym ok.model)
     (is_good sum config.segment_size config.least (small config.segment_size config.most) (g.D.Device.trace c.args.config.now.device) H A f can new ok.conclusion ok.recovers ok.written ok.done ok.fits))
     c.read_and_write_back.ensures.comes.ok
 
@@ -43,9 +42,9 @@ returns-clause-kept g c = λ H A f can.
     let config = c.args.config.now.config in
     let sum = g.C.Checksum.sum_of in
     let new : Trace = g.D.Device.trace c.read_and_write_back.new.config.device in
-    let Kept : Shot → Type 0 = λ x. LeavesRecoverable sum config.segment_size (below H (stable_place x.stable)) A (stable_place x.stable) (state_of new) in
-    if_ok c.read_and_write_back.result _ (λ s. Kept (shot_of s)) (λ s ok.
-    subst Kept (sym ok.shot)
+    let Kept : SnapshotModel → Type 0 = λ x. LeavesRecoverable sum config.segment_size (below H (stable_place x.stable)) A (stable_place x.stable) (state_of new) in
+    if_ok c.read_and_write_back.result _ (λ s. Kept (model_of s)) (λ s ok.
+    subst Kept (sym ok.model)
     (is_cut_off sum config.segment_size config.least (small config.segment_size config.most) (g.D.Device.trace c.args.config.now.device) H A f can new ok.conclusion ok.recovers ok.written ok.done ok.fits).left)
     c.read_and_write_back.ensures.comes.ok
 
@@ -56,16 +55,16 @@ returns-clause-ready g c = λ H A f can.
     let size : ℕ = config.segment_size in
     let old : Trace = g.D.Device.trace c.args.config.now.device in
     let new : Trace = g.D.Device.trace c.read_and_write_back.new.config.device in
-    let Is : Shot → Type 0 = λ x. stable_place x.stable < size → Ready sum size (state_of new) x (below H (stable_place x.stable)) A (stable_place x.stable) in
-    if_ok c.read_and_write_back.result _ (λ s. Is (shot_of s)) (λ s ok.
-    subst Is (sym ok.shot)
+    let Is : SnapshotModel → Type 0 = λ x. stable_place x.stable < size → Ready sum size (state_of new) x (below H (stable_place x.stable)) A (stable_place x.stable) in
+    if_ok c.read_and_write_back.result _ (λ s. Is (model_of s)) (λ s ok.
+    subst Is (sym ok.model)
     (is_ready sum size config.least (small size config.most) old H A f can new ok.conclusion ok.recovers ok.written ok.done ok.fits
-    (subst (λ (x : Shot). BeginsAgain sum (state_of old).snapshots.file (state_of new) x) ok.shot ok.newest)))
+    (subst (λ (x : SnapshotModel). BeginsAgain sum (state_of old).snapshots.file (state_of new) x) ok.model ok.newest)))
     c.read_and_write_back.ensures.comes.ok
 
 pub returns-clause-table : goal.returns-clause-table
 returns-clause-table g c = λ H A f can.
-    if_ok c.read_and_write_back.result _ (λ s. IsTable (shot_of s).pages (below H (stable_place s.stable_lsn)) (stable_place s.stable_lsn)) (λ s good. (table_below H (stable_place s.stable_lsn) (shot_of s).pages).1 good.table) (returns-clause-good g c H A f can)
+    if_ok c.read_and_write_back.result _ (λ s. IsTable (model_of s).pages (below H (stable_place s.stable_lsn)) (stable_place s.stable_lsn)) (λ s good. (table_below H (stable_place s.stable_lsn) (model_of s).pages).1 good.table) (returns-clause-good g c H A f can)
 
 pub returns-clause-later : goal.returns-clause-later
 returns-clause-later g c = recovery_later g.C.Checksum.sum_of c.args.config.now.config.segment_size _ _ c.read_and_write_back.ensures.comes.calls

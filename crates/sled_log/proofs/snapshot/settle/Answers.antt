@@ -1,6 +1,6 @@
 use Rattle.std.proofs.Common.{[], ◌∷◌, rules}
 use Rattle.sled_store.specs.Device.{Synced, NamesSynced}
-use Rattle.sled_store.proofs.ScriptLemmas.{performs_all, stop_call, performs_whole}
+use Rattle.sled_store.proofs.Traces.ScriptLemmas.{performs_all, stop_call, performs_whole}
 use Rattle.sled_log.proofs.snapshot.settle.Goals as goal
 
 pub returns-in_err-sync-clause-calls : goal.returns-in_err-sync-clause-calls

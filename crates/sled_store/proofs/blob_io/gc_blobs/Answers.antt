@@ -4,8 +4,8 @@ use Rattle.std.proofs.lemmas.Int.{to_z-of_z}
 use Rattle.sled_store.specs.Blobs.{removing_blobs, from_place}
 use Rattle.sled_store.specs.Device.{Trace, state_of}
 use Rattle.sled_store.specs.Script.{Performs, after_all}
-use Rattle.sled_store.proofs.BlobLemmas.{are_from}
-use Rattle.sled_store.proofs.ScriptLemmas.{performs_nothing}
+use Rattle.sled_store.proofs.Names.BlobLemmas.{are_from}
+use Rattle.sled_store.proofs.Traces.ScriptLemmas.{performs_nothing}
 use Rattle.sled_store.proofs.blob_io.gc_blobs.Goals as goal
 
 -- what is so of a place, a list and a trace is so of those that they are

@@ -4,7 +4,7 @@ use Rattle.std.proofs.lemmas.Int.{to_z-of_z}
 use Rattle.sled_store.specs.Blobs.{making}
 use Rattle.sled_store.specs.Device.{BlobMade, BlobSynced, NamesSynced}
 use Rattle.sled_store.specs.Script.{Performs}
-use Rattle.sled_store.proofs.ScriptLemmas.{performs_all, stop_call, performs_none}
+use Rattle.sled_store.proofs.Traces.ScriptLemmas.{performs_all, stop_call, performs_none}
 use Rattle.sled_store.proofs.blob_io.make_blob.Goals as goal
 
 pub returns-in_err-blob_create-clause-calls : goal.returns-in_err-blob_create-clause-calls

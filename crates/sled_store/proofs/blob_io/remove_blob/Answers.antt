@@ -4,7 +4,7 @@ use Rattle.std.proofs.lemmas.Int.{to_z-of_z}
 use Rattle.sled_store.specs.Blobs.{removing_blobs}
 use Rattle.sled_store.specs.Device.{BlobRemoved}
 use Rattle.sled_store.specs.Script.{Performs}
-use Rattle.sled_store.proofs.ScriptLemmas.{performs_all, stop_call, performs_none}
+use Rattle.sled_store.proofs.Traces.ScriptLemmas.{performs_all, stop_call, performs_none}
 use Rattle.sled_store.proofs.blob_io.remove_blob.Goals as goal
 
 pub returns-in_err-blob_remove-clause-calls : goal.returns-in_err-blob_remove-clause-calls

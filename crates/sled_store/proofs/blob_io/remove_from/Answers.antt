@@ -4,8 +4,8 @@ use Rattle.std.proofs.lemmas.Int.{to_z-of_z}
 use Rattle.sled_store.specs.Blobs.{removing_blobs}
 use Rattle.sled_store.specs.Device.{BlobRemoved}
 use Rattle.sled_store.specs.Script.{Performs, after_all}
-use Rattle.sled_store.proofs.BlobLemmas.{one_from, none_from, same_test}
-use Rattle.sled_store.proofs.ScriptLemmas.{performs_all, stop_call, performs_none}
+use Rattle.sled_store.proofs.Names.BlobLemmas.{one_from, none_from, same_test}
+use Rattle.sled_store.proofs.Traces.ScriptLemmas.{performs_all, stop_call, performs_none}
 use Rattle.sled_store.proofs.blob_io.remove_from.Goals as goal
 
 pub returns-then-place-least-clause-calls : goal.returns-then-place-least-clause-calls

@@ -5,8 +5,8 @@ use Rattle.std.proofs.lemmas.Int.{to_z-of_z}
 use Rattle.sled_store.specs.Blobs.{removing_blobs, from_place}
 use Rattle.sled_store.specs.Device.{Trace}
 use Rattle.sled_store.specs.Script.{Performs, after_all}
-use Rattle.sled_store.proofs.BlobLemmas.{removed_more, removals_begun}
-use Rattle.sled_store.proofs.ScriptLemmas.{performs_whole}
+use Rattle.sled_store.proofs.Names.BlobLemmas.{removed_more, removals_begun}
+use Rattle.sled_store.proofs.Traces.ScriptLemmas.{performs_whole}
 use Rattle.sled_store.proofs.blob_io.remove_listed.Goals as goal
 
 pub returns-in_err-remove_from-clause-calls : goal.returns-in_err-remove_from-clause-calls

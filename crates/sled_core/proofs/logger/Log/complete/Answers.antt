@@ -5,16 +5,16 @@ use Rattle.std.specs.List.{slice_get}
 use Rattle.sled_codec.specs.History.{Message, AddsMessage, Step}
 use Rattle.sled_store.specs.Device.{state_of}
 use Rattle.sled_core.specs.declared.iobuf.Reserved.{Reserved}
-use Rattle.sled_core.specs.Buffers.{message_in, all_ended, closed}
+use Rattle.sled_core.specs.Buffers.{message_in, none_open, closed}
 use Rattle.sled_core.specs.Tickets.{index_of}
 use Rattle.sled_core.specs.Fits.{Holds}
 use Rattle.sled_core.specs.Running.{Fits}
-use Rattle.sled_core.proofs.Ranges.{at_there, chain_within}
-use Rattle.sled_core.proofs.RunningLemmas.{fits-completed}
-use Rattle.sled_core.proofs.HoldsLemmas.{holds-same}
-use Rattle.sled_core.proofs.KeptCalls.{goes_on_still, goes_on_quietly}
-use Rattle.sled_core.proofs.OpenTickets.{only_closed}
-use Rattle.sled_core.proofs.CompletesLemmas.{holds-complete, others_stay}
+use Rattle.sled_core.proofs.Reserve.Ranges.{at_there, chain_within}
+use Rattle.sled_core.proofs.Holds.RunningLemmas.{fits-completed}
+use Rattle.sled_core.proofs.Holds.HoldsLemmas.{holds-same}
+use Rattle.sled_core.proofs.Holds.KeptCalls.{goes_on_still, goes_on_quietly}
+use Rattle.sled_core.proofs.Holds.OpenTickets.{only_closed}
+use Rattle.sled_core.proofs.Reserve.CompletesLemmas.{holds-complete, others_stay}
 use Rattle.sled_core.proofs.logger.Log.complete.Goals as goal
 
 pub returns-clause-history : goal.returns-clause-history
@@ -23,7 +23,7 @@ returns-clause-history g c = λ H m holds awaits.
     let old = c.args.self.now.buffer in
     let r : Reserved = awaits.reserved in
     let there : slice_get old.reserved.items c.index-index.result ≡ Some r = ap (slice_get old.reserved.items) c.index-index.ensures ∙ awaits.there in
-    let done = holds-complete g.C.Checksum.sum_of c.args.self.now.config.config.segment_size c.args.self.now.site (state_of (g.D.Device.trace c.args.self.now.config.device)) c.args.self.now.fault old.bytes.items old.from old.reserved.items c.index-index.result r H holds there awaits.own.open_yet old.behind in (
+    let done = holds-complete g.C.Checksum.sum_of c.args.self.now.config.config.segment_size c.args.self.now.site (state_of (g.D.Device.trace c.args.self.now.config.device)) c.args.self.now.fault old.bytes.items old.written_len old.reserved.items c.index-index.result r H holds there awaits.own.open_yet old.behind in (
       done.0,
       subst (λ (x : Message). AddsMessage H x done.0) (sym awaits.message) done.1,
       holds-same _ _ _ _ _ _ _ _ _ _ _ done.0 (c.complete.ensures.bytes r there) c.complete.ensures.from (c.complete.ensures.reserved r there) done.2,
@@ -38,7 +38,7 @@ returns-clause-others g c = λ H other m holds awaits apart.
     let x : Reserved = awaits.reserved in
     let there : slice_get old.reserved.items c.index-index.result ≡ Some r = ap (slice_get old.reserved.items) c.index-index.ensures ∙ own.there in
     let elsewhere : x.from ≡ r.from → ⊥ = λ same. apart (awaits.own.place ∙ ap (λ n. pos (c.args.self.now.site.place + n)) same ∙ sym own.own.place) in
-    let stay = others_stay g.C.Checksum.sum_of c.args.self.now.config.config.segment_size c.args.self.now.site (state_of (g.D.Device.trace c.args.self.now.config.device)) c.args.self.now.fault old.bytes.items old.from old.reserved.items c.index-index.result (index_of other) r x H holds there own.own.open_yet awaits.there elsewhere in
+    let stay = others_stay g.C.Checksum.sum_of c.args.self.now.config.config.segment_size c.args.self.now.site (state_of (g.D.Device.trace c.args.self.now.config.device)) c.args.self.now.fault old.bytes.items old.written_len old.reserved.items c.index-index.result (index_of other) r x H holds there own.own.open_yet awaits.there elsewhere in
     record {
       reserved = x;
       there = ap (λ (l : List Reserved). slice_get l (index_of other)) (c.complete.ensures.reserved r there) ∙ stay.0;
@@ -68,7 +68,7 @@ returns-clause-ended g c = λ only.
     let rs : List Reserved = c.args.self.now.buffer.reserved.items in
     let own = c.requires.1 in
     let there : slice_get rs c.index-index.result ≡ Some own.reserved = ap (slice_get rs) c.index-index.ensures ∙ own.there in
-    ap all_ended (c.complete.ensures.reserved own.reserved there)
+    ap none_open (c.complete.ensures.reserved own.reserved there)
     ∙ only_closed rs c.index-index.result (closed own.reserved) refl (λ j r at is. only j r at is ∙ sym c.index-index.ensures)
 
 pub returns-clause-fits : goal.returns-clause-fits
@@ -76,12 +76,12 @@ unfolding Fits Holds Step
 returns-clause-fits g c = λ H A f U m fits awaits out.
     let old = c.args.self.now in
     let done = returns-clause-history g c H m fits.holds awaits in
-    let inside = at_there (λ x. (max 20 old.buffer.from ≤ x.from) × (x.from + x.len ≤ length old.buffer.bytes.items)) old.buffer.reserved.items (index_of c.args.ticket) awaits.reserved awaits.there
-    (chain_within (max 20 old.buffer.from) (length old.buffer.bytes.items) old.buffer.reserved.items fits.holds.chain) in
+    let inside = at_there (λ x. (max 20 old.buffer.written_len ≤ x.from) × (x.from + x.len ≤ length old.buffer.bytes.items)) old.buffer.reserved.items (index_of c.args.ticket) awaits.reserved awaits.there
+    (chain_within (max 20 old.buffer.written_len) (length old.buffer.bytes.items) old.buffer.reserved.items fits.holds.chain) in
     let place : m.place ≡ old.site.place + awaits.reserved.from = ap (λ (x : Message). x.place) awaits.message in (
       done.0,
       done.1,
-      fits-completed g.C.Checksum.sum_of old.config.config.segment_size old.site _ old.fault old.buffer.bytes.items old.buffer.from old.buffer.reserved.items old.pins H A f U fits _ _ _ done.0 m c.complete.ensures.from
+      fits-completed g.C.Checksum.sum_of old.config.config.segment_size old.site _ old.fault old.buffer.bytes.items old.buffer.written_len old.buffer.reserved.items old.pins H A f U fits _ _ _ done.0 m c.complete.ensures.from
           old.config.config.least (let reach = old.place_in_reach in omega (arith, reach)) (omega (arith, c.complete.ensures.from, c.complete.ensures.len, old.buffer.behind)) (omega (arith, c.complete.ensures.len, old.in_segment)) c.in_default.is
           done.2 done.1 (omega (arith, inside.0, place)) out,
     )

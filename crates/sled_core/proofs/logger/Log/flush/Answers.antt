@@ -1,15 +1,15 @@
 use Rattle.std.proofs.Common.{◌≡◌, ◌∙◌, ◌<◌, ◌+◌, ℕ, ap, sym, subst, refl, arith, [], length, rules, inl, inr}
 use Rattle.sled_store.specs.Device.{Trace, NamesState, state_of}
-use Rattle.sled_store.proofs.MomentLemmas.{at_last}
+use Rattle.sled_store.proofs.Traces.MomentLemmas.{at_last}
 use Rattle.sled_core.specs.Running.{Fits}
-use Rattle.sled_core.proofs.FlushFits.{fits_faulty, fits_same_device, flush_crash, flush_left, fits_written, flush_names}
+use Rattle.sled_core.proofs.Flush.FlushFits.{fits_faulty, fits_same_device, flush_crash, flush_left, fits_written, flush_names}
 use Rattle.sled_core.specs.Fits.{Holds, IsKept, flushing, synced_end}
-use Rattle.sled_store.proofs.ScriptLemmas.{performs_nothing, later_performed}
-use Rattle.sled_core.proofs.Parts.{none_there}
-use Rattle.sled_core.proofs.FlushLemmas.{holds-flush, holds-faulty, holds-moved, all_kept, memory_or_fault}
-use Rattle.sled_core.proofs.HoldsLemmas.{holds-same}
-use Rattle.sled_core.proofs.KeptCalls.{kept_still}
-use Rattle.sled_core.proofs.RunningLemmas.{fits-synced}
+use Rattle.sled_store.proofs.Traces.ScriptLemmas.{performs_nothing, later_performed}
+use Rattle.sled_core.proofs.Reserve.Parts.{none_there}
+use Rattle.sled_core.proofs.Flush.FlushLemmas.{holds-flush, holds-faulty, holds-moved, all_kept, memory_or_fault}
+use Rattle.sled_core.proofs.Holds.HoldsLemmas.{holds-same}
+use Rattle.sled_core.proofs.Holds.KeptCalls.{kept_still}
+use Rattle.sled_core.proofs.Holds.RunningLemmas.{fits-synced}
 use Rattle.sled_core.proofs.logger.Log.flush.Goals as goal
 
 pub returns-then-is_empty-clause-records : goal.returns-then-is_empty-clause-records
@@ -56,7 +56,7 @@ pub returns-clause-acknowledges : goal.returns-clause-acknowledges
 unfolding Fits
 returns-clause-acknowledges g c = λ H A f U fits.
     fits_written g.D.Device.trace g.C.Checksum.sum_of c.args.self.now H A f U fits c.requires (search rules) c.in_default.is _ c.in_default-write_out.ensures.done
-    _ _ _ c.advance.ensures.bytes c.advance.ensures.from c.advance.ensures.reserved (c.args.self.now.site.place + c.advance.new.self.from) (omega arith)
+    _ _ _ c.advance.ensures.bytes c.advance.ensures.from c.advance.ensures.reserved (c.args.self.now.site.place + c.advance.new.self.written_len) (omega arith)
 
 pub returns-in-Err-clause-keeps : goal.returns-in-Err-clause-keeps
 unfolding Holds Fits

@@ -1,6 +1,6 @@
 use Rattle.std.proofs.Common.{arith}
 use Rattle.sled_core.specs.Running.{Fits}
-use Rattle.sled_core.proofs.RunningLemmas.{fits-leaves}
+use Rattle.sled_core.proofs.Holds.RunningLemmas.{fits-leaves}
 use Rattle.sled_core.proofs.logger.Log.halt.Goals as goal
 
 pub returns-clause-recoverable : goal.returns-clause-recoverable

@@ -4,7 +4,7 @@ use Rattle.std.proofs.lemmas.Option.{slice_get_within}
 use Rattle.sled_core.specs.declared.iobuf.Reserved.{Reserved}
 use Rattle.sled_core.specs.Buffers.{message_in}
 use Rattle.sled_core.specs.Tickets.{IsFor, index_of}
-use Rattle.sled_core.proofs.Parts.{there_is}
+use Rattle.sled_core.proofs.Reserve.Parts.{there_is}
 use Rattle.sled_core.proofs.logger.Log.is_open.Goals as goal
 
 pub returns-in-Some : goal.returns-in-Some

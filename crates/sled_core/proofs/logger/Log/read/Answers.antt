@@ -13,13 +13,13 @@ use Rattle.sled_store.specs.Device.{State, Trace, state_of}
 use Rattle.sled_core.specs.Reading.{IsReading, IsMalformed, GivesMessage}
 use Rattle.sled_core.specs.Fits.{Holds, HoldsIn, segment_size_of}
 use Rattle.sled_core.specs.Running.{Fits}
-use Rattle.sled_core.specs.declared.reading.LogRead.{LogRead}
-use Rattle.sled_core.proofs.Parts.{moved}
-use Rattle.sled_core.proofs.ReadingLemmas.{if_ok}
-use Rattle.sled_core.proofs.GivesLemmas.{gives, message_found}
-use Rattle.sled_core.proofs.HeldPointers.{LiesInline, fits_lie, stands_formed}
-use Rattle.sled_core.proofs.KeptCalls.{kept_still, kept_further}
-use Rattle.sled_core.proofs.ReachLemmas.{fits_holds}
+use Rattle.sled_core.specs.declared.logger.read_message.LogRead.{LogRead}
+use Rattle.sled_core.proofs.Reserve.Parts.{moved}
+use Rattle.sled_core.proofs.Read.ReadingLemmas.{if_ok}
+use Rattle.sled_core.proofs.Read.GivesLemmas.{gives, message_found}
+use Rattle.sled_core.proofs.Holds.HeldPointers.{LiesInline, fits_lie, stands_formed}
+use Rattle.sled_core.proofs.Holds.KeptCalls.{kept_still, kept_further}
+use Rattle.sled_core.proofs.Holds.ReachLemmas.{fits_holds}
 use Rattle.sled_core.proofs.logger.Log.read.Given as given
 use Rattle.sled_core.proofs.logger.Log.read.Goals.{then-lsn-lt0-via-then-lsn-lt0, then-lsn-lt0-via-else-lsn-lt0+then-not-may_begin}
 use Rattle.sled_core.proofs.logger.Log.read.Goals as goal
@@ -43,9 +43,9 @@ stands_there g c H m holds there at pointer =
     let device : State = state_of (g.D.Device.trace log.config.device) in
     let size : ℕ = log.config.config.segment_size in
     let place : c.unsigned_abs-place.result ≡ m.place = place_is g c ∙ ap unsigned_abs (sym at) in
-    let after = subst (λ (o : Option IoError). HoldsIn g.C.Checksum.sum_of size log.site device o log.buffer.bytes.items log.buffer.from log.buffer.reserved.items H) c.in_ok-settle.ensures.answers.1 (c.in_ok-settle.ensures.keeps.history H holds) in
-    let written : m.place < log.site.place + log.buffer.from = omega (arith, c.in_ok-settle.ensures.written, place) in
-    let found = message_found g.C.Checksum.sum_of size log.site device log.buffer.bytes.items log.buffer.from log.buffer.reserved.items H m after there written in
+    let after = subst (λ (o : Option IoError). HoldsIn g.C.Checksum.sum_of size log.site device o log.buffer.bytes.items log.buffer.written_len log.buffer.reserved.items H) c.in_ok-settle.ensures.answers.1 (c.in_ok-settle.ensures.keeps.history H holds) in
+    let written : m.place < log.site.place + log.buffer.written_len = omega (arith, c.in_ok-settle.ensures.written, place) in
+    let found = message_found g.C.Checksum.sum_of size log.site device log.buffer.bytes.items log.buffer.written_len log.buffer.reserved.items H m after there written in
     let lid : c.lid-lid.result ≡ found.0 = c.lid-lid.ensures ∙ ap lid_of (sym pointer ∙ found.1) in
     let number : c.unsigned_abs-place.result / c.args.self.now.config.config.segment_size ≡ m.place / size =
     ap (λ n. n / c.args.self.now.config.config.segment_size) place ∙ ap (λ n. m.place / n) (sym c.in_ok-settle.ensures.position.size) in

@@ -5,19 +5,19 @@ use Rattle.sled_codec.specs.Kinds.{kind_written}
 use Rattle.sled_codec.specs.Spelling.{short_number, short_header_tail}
 use Rattle.sled_store.specs.Device.{state_of}
 use Rattle.sled_core.specs.declared.iobuf.Reserved.{Reserved}
-use Rattle.sled_core.specs.declared.iobuf.Kept.{Kept}
+use Rattle.sled_core.specs.declared.iobuf.Purpose.{Purpose}
 use Rattle.sled_core.specs.Buffers.{placeholder_head, reserved_for, message_in}
 use Rattle.sled_core.specs.Tickets.{place_of, index_of}
 use Rattle.sled_codec.specs.History.{History}
 use Rattle.sled_core.specs.Fits.{Holds, HoldsIn}
 use Rattle.sled_core.specs.Running.{Fits}
-use Rattle.sled_core.proofs.RunningLemmas.{fits-moved}
-use Rattle.sled_core.proofs.KeptCalls.{kept_still, goes_on_quietly}
-use Rattle.sled_core.proofs.OpenTickets.{only_new}
-use Rattle.sled_core.proofs.HoldsLemmas.{holds-same, holds-append, body-append}
-use Rattle.sled_core.proofs.ReserveLemmas.{there_last, there_append, stands, message_is, more_long, head_whole}
-use Rattle.sled_core.proofs.Heads.{length-short_header_tail}
-use Rattle.sled_core.proofs.Ranges.{at_there}
+use Rattle.sled_core.proofs.Holds.RunningLemmas.{fits-moved}
+use Rattle.sled_core.proofs.Holds.KeptCalls.{kept_still, goes_on_quietly}
+use Rattle.sled_core.proofs.Holds.OpenTickets.{only_new}
+use Rattle.sled_core.proofs.Holds.HoldsLemmas.{holds-same, holds-append, body-append}
+use Rattle.sled_core.proofs.Reserve.ReserveLemmas.{there_last, there_append, stands, message_is, more_long, head_whole}
+use Rattle.sled_core.proofs.Reserve.Heads.{length-short_header_tail}
+use Rattle.sled_core.proofs.Reserve.Ranges.{at_there}
 use Rattle.sled_core.proofs.logger.Log.reserve.Given as given
 use Rattle.sled_core.proofs.logger.Log.reserve.Goals as goal
 
@@ -32,7 +32,7 @@ item g c = g.T.Serialize.short (g.T.Serialize.meaning c.args.item.now)
 abbrev head : (g : given.Over) → goal.After-new-2 g → List ℕ
 head g c = take c.head_of-head.result.len c.head_of-head.result.bytes
 
-abbrev kept : (g : given.Over) → goal.After-new-2 g → Kept
+abbrev kept : (g : given.Over) → goal.After-new-2 g → Purpose
 kept g c = record { log_kind = c.args.kind; kind = c.in-Some-message_kind.message_kind; page = c.args.pid }
 
 abbrev reserved : (g : given.Over) → goal.After-new-2 g → Reserved
@@ -85,15 +85,15 @@ returns-clause-next g c =
 
 -- what the log held it still holds
 held_still : (g : given.Over) (c : goal.After-new-2 g) (H : History)
-    → HoldsIn g.C.Checksum.sum_of c.args.self.now.config.config.segment_size c.args.self.now.site (state_of (g.D.Device.trace c.args.self.now.config.device)) c.args.self.now.fault c.args.self.now.buffer.bytes.items c.args.self.now.buffer.from c.args.self.now.buffer.reserved.items H
-    → HoldsIn g.C.Checksum.sum_of c.args.self.now.config.config.segment_size c.args.self.now.site (state_of (g.D.Device.trace c.args.self.now.config.device)) c.args.self.now.fault c.append.new.self.bytes.items c.append.new.self.from c.append.new.self.reserved.items H
+    → HoldsIn g.C.Checksum.sum_of c.args.self.now.config.config.segment_size c.args.self.now.site (state_of (g.D.Device.trace c.args.self.now.config.device)) c.args.self.now.fault c.args.self.now.buffer.bytes.items c.args.self.now.buffer.written_len c.args.self.now.buffer.reserved.items H
+    → HoldsIn g.C.Checksum.sum_of c.args.self.now.config.config.segment_size c.args.self.now.site (state_of (g.D.Device.trace c.args.self.now.config.device)) c.args.self.now.fault c.append.new.self.bytes.items c.append.new.self.written_len c.append.new.self.reserved.items H
 held_still g c H holds =
     let old = c.args.self.now.buffer in
     let more : List ℕ = placeholder_head (head g c) ++ item g c in
     let long = more_long g.C.Checksum.sum_of (number g c) old.bytes.items (head g c) (item g c) (kept g c) (known g c) c.ranges.pid.fits (tail_is g c) (whole g c) in
     let stand = stands g.C.Checksum.sum_of (number g c) old.bytes.items (head g c) (item g c) (kept g c) (known g c) c.ranges.pid.fits (tail_is g c) (whole g c) in
-    holds-same g.C.Checksum.sum_of _ _ _ _ (old.bytes.items ++ more) _ old.from _ (old.reserved.items ++ reserved g c ∷ []) _ H (bytes_are g c) (c.append.ensures.from ∙ c.make_room.ensures.from) (reserved_are g c)
-    (holds-append g.C.Checksum.sum_of _ c.args.self.now.site (state_of (g.D.Device.trace c.args.self.now.config.device)) c.args.self.now.fault old.bytes.items old.from old.reserved.items H holds more (reserved g c)
+    holds-same g.C.Checksum.sum_of _ _ _ _ (old.bytes.items ++ more) _ old.written_len _ (old.reserved.items ++ reserved g c ∷ []) _ H (bytes_are g c) (c.append.ensures.from ∙ c.make_room.ensures.from) (reserved_are g c)
+    (holds-append g.C.Checksum.sum_of _ c.args.self.now.site (state_of (g.D.Device.trace c.args.self.now.config.device)) c.args.self.now.fault old.bytes.items old.written_len old.reserved.items H holds more (reserved g c)
     old.begun old.within refl (sym long) refl (omega (arith, c.requires.room.not_used_up)) stand)
 
 pub returns-clause-ticket : goal.returns-clause-ticket
@@ -146,8 +146,8 @@ returns-in_err-make_room-clause-keeps g c =
     let same = c.make_room.ensures in
     record {
       goes_on = goes_on_quietly g.D.Device.trace g.C.Checksum.sum_of c.args.self.now _ (record { config = refl; checksum = refl }) refl (omega (arith, same.from));
-      history = λ H holds. holds-same g.C.Checksum.sum_of _ _ _ _ old.bytes.items _ old.from _ old.reserved.items _ H same.bytes same.from same.reserved holds;
-      fits = λ H A f U fits. fits-moved _ _ _ _ _ _ _ _ _ H A f U fits _ _ _ same.from (holds-same g.C.Checksum.sum_of _ _ _ _ old.bytes.items _ old.from _ old.reserved.items _ H same.bytes same.from same.reserved fits.holds);
+      history = λ H holds. holds-same g.C.Checksum.sum_of _ _ _ _ old.bytes.items _ old.written_len _ old.reserved.items _ H same.bytes same.from same.reserved holds;
+      fits = λ H A f U fits. fits-moved _ _ _ _ _ _ _ _ _ H A f U fits _ _ _ same.from (holds-same g.C.Checksum.sum_of _ _ _ _ old.bytes.items _ old.written_len _ old.reserved.items _ H same.bytes same.from same.reserved fits.holds);
     }
 
 pub returns-clause-keeps : goal.returns-clause-keeps

@@ -1,6 +1,6 @@
 use Rattle.std.proofs.Common.{sym, subst}
 use Rattle.sled_core.specs.Keeps.{Preserves}
-use Rattle.sled_core.proofs.KeptCalls.{kept_still}
+use Rattle.sled_core.proofs.Holds.KeptCalls.{kept_still}
 use Rattle.sled_core.proofs.logger.Log.settle.Goals.{then-place-self+in_ok-flush, else-place-self}
 use Rattle.sled_core.proofs.logger.Log.settle.Goals as goal
 

@@ -1,6 +1,6 @@
 use Rattle.std.proofs.Common.{refl}
 use Rattle.sled_core.specs.Running.{Fits}
-use Rattle.sled_core.proofs.RunningLemmas.{fits-synced}
+use Rattle.sled_core.proofs.Holds.RunningLemmas.{fits-synced}
 use Rattle.sled_core.proofs.logger.Log.stable_offset.Goals as goal
 
 pub returns-clause-acknowledges : goal.returns-clause-acknowledges

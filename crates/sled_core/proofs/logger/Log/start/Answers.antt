@@ -2,34 +2,33 @@ use Rattle.std.proofs.Common.{◌≡◌, ◌≢◌, Err, ◌∙◌, ◌+◌, ◌
 use Rattle.sled_codec.specs.declared.result.Error.{Error}
 use Rattle.sled_codec.specs.declared.result.Error.TheVariants.{PlacesUsedUp}
 use Rattle.sled_codec.specs.Errors.{IsCorrupt, IsCorruption}
-use Rattle.sled_codec.specs.Snapshots.{Shot, shot_of}
+use Rattle.sled_codec.specs.Snapshots.{SnapshotModel, model_of, stable_place}
 use Rattle.sled_store.specs.declared.config.Config.{Config}
 use Rattle.sled_store.specs.Device.{State, LogState, NamesState, Trace, state_of, at_rest}
-use Rattle.sled_store.specs.SnapshotFiles.{stable_place}
-use Rattle.sled_core.specs.declared.begin.Beginning.{Beginning}
+use Rattle.sled_store.specs.declared.segment.start.Beginning.{Beginning}
 use Rattle.sled_store.specs.Script.{after_all}
-use Rattle.sled_core.specs.Begin.{unused, slots_of, place_at, filling, IsStartable, IsInReach}
-use Rattle.sled_core.specs.declared.iobuf.Buffer.{Buffer}
+use Rattle.sled_store.specs.Begin.{unused, slots_of, place_at, filling, IsStartable, IsInReach}
+use Rattle.sled_core.specs.declared.iobuf.IoBuf.{IoBuf}
 use Rattle.sled_core.specs.Causes.{StartAnswers}
 use Rattle.sled_core.specs.Fits.{Holds, HoldsIn}
-use Rattle.sled_core.specs.declared.iobuf.Site.{Site}
+use Rattle.sled_core.specs.declared.iobuf.SegmentPosition.{SegmentPosition}
 use Rattle.sled_core.specs.Running.{Ready, Fits, FitsIn}
-use Rattle.sled_core.proofs.HoldsLemmas.{holds-same}
-use Rattle.sled_core.proofs.FilledLemmas.{filled, filling-log, filling-snapshots, filling-blobs}
-use Rattle.sled_core.proofs.FilledMoments.{filled_throughout}
-use Rattle.sled_core.proofs.ReadyStarts.{ready_starts, ready_in_reach}
-use Rattle.sled_core.proofs.StartFits.{start_fits}
-use Rattle.sled_core.proofs.OpenLemmas.{in_segment, place_in_reach, slot_in_reach, first_next, begins_place}
-use Rattle.sled_core.proofs.ReadyLemmas.{begins_ready}
-use Rattle.sled_store.proofs.ScriptLemmas.{later_performed}
-use Rattle.sled_core.specs.Buffers.{all_ended}
+use Rattle.sled_core.proofs.Holds.HoldsLemmas.{holds-same}
+use Rattle.sled_store.proofs.Segments.FilledLemmas.{filled, filling-log, filling-snapshots, filling-blobs}
+use Rattle.sled_core.proofs.Start.FilledMoments.{filled_throughout}
+use Rattle.sled_core.proofs.Start.ReadyStarts.{ready_starts, ready_in_reach}
+use Rattle.sled_core.proofs.Start.StartFits.{start_fits}
+use Rattle.sled_core.proofs.Start.OpenLemmas.{in_segment, place_in_reach, slot_in_reach, first_next, begins_place}
+use Rattle.sled_core.proofs.Start.ReadyLemmas.{begins_ready}
+use Rattle.sled_store.proofs.Traces.ScriptLemmas.{later_performed}
+use Rattle.sled_core.specs.Buffers.{none_open}
 use Rattle.sled_core.proofs.logger.Log.start.Goals as goal
 
 pub invariant_of-result : goal.invariant_of-result
 invariant_of-result g c =
     let len : ℕ = length (state_of (g.D.Device.trace c.args.config.device)).log.bytes in
     let same : c.begin.new.config.config.segment_size ≡ c.args.config.config.segment_size = ap (λ (x : Config). x.segment_size) c.begin.ensures.config in
-    let s : Shot = shot_of c.args.snapshot.now in
+    let s : SnapshotModel = model_of c.args.snapshot.now in
     let long = c.args.config.config.least in
     let inside = in_segment c.args.config.config.segment_size len s c.in-Ok.beginning c.in-Ok.ensures.beginning c.in-Ok.ensures.startable c.in-Ok.ensures.answers.1 g.C.Checksum.sum_of c.in-Ok.buffer long c.in-Ok.ensures.buffer in
     let place = place_in_reach c.args.config.config.segment_size len s c.in-Ok.beginning c.in-Ok.ensures.beginning c.in-Ok.ensures.startable c.in-Ok.ensures.answers.1 in
@@ -49,7 +48,7 @@ pub returns-in-Ok-clause-history : goal.returns-in-Ok-clause-history
 unfolding Holds
 returns-in-Ok-clause-history g c = λ H ready.
     let size : ℕ = c.args.config.config.segment_size in
-    let s : Shot = shot_of c.args.snapshot.now in
+    let s : SnapshotModel = model_of c.args.snapshot.now in
     let old : State = state_of (g.D.Device.trace c.args.config.device) in
     let ks : List ℕ = unused size (slots_of size (length old.log.bytes)) s in
     let now : State = state_of (g.D.Device.trace c.begin.new.config.device) in
@@ -57,17 +56,17 @@ returns-in-Ok-clause-history g c = λ H ready.
     let names_now = ap (λ (t : Trace). (state_of t).snapshots.file) c.in-Ok.ensures.done ∙ ap (λ (n : NamesState). n.file) (filling-snapshots size ks (g.D.Device.trace c.args.config.device)) in
     let first = c.in-Ok.ensures.buffer in
     let holds = begins_ready g.C.Checksum.sum_of size old now s H c.in-Ok.buffer.bytes.items c.args.config.config.least ready c.in-Ok.ensures.startable log_now names_now c.in-Ok.beginning c.in-Ok.ensures.beginning first.header first.resumed in
-    subst (λ (n : ℕ). HoldsIn g.C.Checksum.sum_of n (record { place = c.in-Ok.beginning.place; slot = c.in-Ok.beginning.slot }) now None c.in-Ok.buffer.bytes.items c.in-Ok.buffer.from c.in-Ok.buffer.reserved.items H)
+    subst (λ (n : ℕ). HoldsIn g.C.Checksum.sum_of n (record { place = c.in-Ok.beginning.place; slot = c.in-Ok.beginning.slot }) now None c.in-Ok.buffer.bytes.items c.in-Ok.buffer.written_len c.in-Ok.buffer.reserved.items H)
     (sym (ap (λ (x : Config). x.segment_size) c.begin.ensures.config))
-    (holds-same g.C.Checksum.sum_of size (record { place = c.in-Ok.beginning.place; slot = c.in-Ok.beginning.slot }) now None c.in-Ok.buffer.bytes.items c.in-Ok.buffer.bytes.items c.in-Ok.beginning.offset c.in-Ok.buffer.from [] c.in-Ok.buffer.reserved.items H
+    (holds-same g.C.Checksum.sum_of size (record { place = c.in-Ok.beginning.place; slot = c.in-Ok.beginning.slot }) now None c.in-Ok.buffer.bytes.items c.in-Ok.buffer.bytes.items c.in-Ok.beginning.offset c.in-Ok.buffer.written_len [] c.in-Ok.buffer.reserved.items H
     refl first.from first.reserved holds)
 
 pub returns-in-Ok-clause-crash : goal.returns-in-Ok-clause-crash
-returns-in-Ok-clause-crash g c = λ H A f ready. filled_throughout g.C.Checksum.sum_of c.args.config.config.segment_size (shot_of c.args.snapshot.now) H A f c.args.config.config.least (in_reach c.args.config.config.segment_size c.args.config.config.most)
+returns-in-Ok-clause-crash g c = λ H A f ready. filled_throughout g.C.Checksum.sum_of c.args.config.config.segment_size (model_of c.args.snapshot.now) H A f c.args.config.config.least (in_reach c.args.config.config.segment_size c.args.config.config.most)
     (g.D.Device.trace c.args.config.device) (g.D.Device.trace c.begin.new.config.device) ready c.begin.ensures.calls
 
 pub returns-in-Err-clause-crash : goal.returns-in-Err-clause-crash
-returns-in-Err-clause-crash g c = λ H A f ready. filled_throughout g.C.Checksum.sum_of c.args.config.config.segment_size (shot_of c.args.snapshot.now) H A f c.args.config.config.least (in_reach c.args.config.config.segment_size c.args.config.config.most)
+returns-in-Err-clause-crash g c = λ H A f ready. filled_throughout g.C.Checksum.sum_of c.args.config.config.segment_size (model_of c.args.snapshot.now) H A f c.args.config.config.least (in_reach c.args.config.config.segment_size c.args.config.config.most)
     (g.D.Device.trace c.args.config.device) (g.D.Device.trace c.begin.new.config.device) ready c.begin.ensures.calls
 
 pub returns-in-Ok-clause-fits : goal.returns-in-Ok-clause-fits
@@ -75,26 +74,26 @@ unfolding Ready Fits Holds
 returns-in-Ok-clause-fits g c = λ H A f ready.
     let size : ℕ = c.args.config.config.segment_size in
     let old : Trace = g.D.Device.trace c.args.config.device in
-    let s : Shot = shot_of c.args.snapshot.now in
+    let s : SnapshotModel = model_of c.args.snapshot.now in
     let ks : List ℕ = unused size (slots_of size (length (state_of old).log.bytes)) s in
     let now : State = state_of (g.D.Device.trace c.begin.new.config.device) in
     let same : c.begin.new.config.config.segment_size ≡ size = ap (λ (x : Config). x.segment_size) c.begin.ensures.config in
-    let site : Site = record { place = c.in-Ok.beginning.place; slot = c.in-Ok.beginning.slot } in
+    let site : SegmentPosition = record { place = c.in-Ok.beginning.place; slot = c.in-Ok.beginning.slot } in
     let first = c.in-Ok.ensures.buffer in
-    let holds : HoldsIn g.C.Checksum.sum_of size site now None c.in-Ok.buffer.bytes.items c.in-Ok.buffer.from c.in-Ok.buffer.reserved.items H =
-    subst (λ n. HoldsIn g.C.Checksum.sum_of n site now None c.in-Ok.buffer.bytes.items c.in-Ok.buffer.from c.in-Ok.buffer.reserved.items H) same (returns-in-Ok-clause-history g c H ready.ready) in
-    subst (λ n. FitsIn g.C.Checksum.sum_of n site now None c.in-Ok.buffer.bytes.items c.in-Ok.buffer.from c.in-Ok.buffer.reserved.items 0 H A f []) (sym same)
+    let holds : HoldsIn g.C.Checksum.sum_of size site now None c.in-Ok.buffer.bytes.items c.in-Ok.buffer.written_len c.in-Ok.buffer.reserved.items H =
+    subst (λ n. HoldsIn g.C.Checksum.sum_of n site now None c.in-Ok.buffer.bytes.items c.in-Ok.buffer.written_len c.in-Ok.buffer.reserved.items H) same (returns-in-Ok-clause-history g c H ready.ready) in
+    subst (λ n. FitsIn g.C.Checksum.sum_of n site now None c.in-Ok.buffer.bytes.items c.in-Ok.buffer.written_len c.in-Ok.buffer.reserved.items 0 H A f []) (sym same)
     (start_fits g.C.Checksum.sum_of size (state_of old) now s H A f c.args.config.config.least (in_reach size c.args.config.config.most) ready c.in-Ok.ensures.startable c.in-Ok.beginning c.in-Ok.ensures.beginning
-    c.in-Ok.buffer.bytes.items c.in-Ok.buffer.from c.in-Ok.buffer.reserved.items first.from holds c.in-Ok.buffer.behind
+    c.in-Ok.buffer.bytes.items c.in-Ok.buffer.written_len c.in-Ok.buffer.reserved.items first.from holds c.in-Ok.buffer.behind
     (in_segment size (length (state_of old).log.bytes) s c.in-Ok.beginning c.in-Ok.ensures.beginning c.in-Ok.ensures.startable c.in-Ok.ensures.answers.1 g.C.Checksum.sum_of c.in-Ok.buffer c.args.config.config.least first)
     (filled_log size ks old (g.D.Device.trace c.begin.new.config.device) c.in-Ok.ensures.done ready.ready.log ready.ready.settled) (ap (λ (t : Trace). (state_of t).blobs) c.in-Ok.ensures.done ∙ filling-blobs size ks old) (ap (λ (t : Trace). (state_of t).snapshots) c.in-Ok.ensures.done ∙ filling-snapshots size ks old))
 
 -- a log that can begin is refused for no damage, and not where a further segment is in reach
-not_refused : (startable in_reach : Type 0) (e : Error) (before after : ℕ) → startable → in_reach → (IsCorruption {T = Beginning × Buffer} (Err e) → startable → ⊥) → StartAnswers {T = Beginning × Buffer} (Err e) in_reach before after
+not_refused : (startable in_reach : Type 0) (e : Error) (before after : ℕ) → startable → in_reach → (IsCorruption {T = Beginning × IoBuf} (Err e) → startable → ⊥) → StartAnswers {T = Beginning × IoBuf} (Err e) in_reach before after
     → (IsCorrupt e → ⊥) × (e ≢ PlacesUsedUp)
 not_refused startable in_reach e before after can reach corrupt answers = (
   λ damaged. corrupt damaged can,
-  λ used_up. (subst (λ (x : Error). StartAnswers {T = Beginning × Buffer} (Err x) in_reach before after) used_up answers).1 reach,
+  λ used_up. (subst (λ (x : Error). StartAnswers {T = Beginning × IoBuf} (Err x) in_reach before after) used_up answers).1 reach,
 )
 
 pub returns-in-Err-clause-starts : goal.returns-in-Err-clause-starts
@@ -102,7 +101,7 @@ unfolding Ready
 returns-in-Err-clause-starts g c = λ H A f ready.
     let size : ℕ = c.args.config.config.segment_size in
     let old : State = state_of (g.D.Device.trace c.args.config.device) in
-    let s : Shot = shot_of c.args.snapshot.now in
+    let s : SnapshotModel = model_of c.args.snapshot.now in
     let long = c.args.config.config.least in
     let most = c.args.config.config.most in
     not_refused (IsStartable size (length old.log.bytes) s) (IsInReach size (length old.log.bytes) s) c.in-Err.e (g.D.Device.faults c.args.config.device) (g.D.Device.faults c.begin.new.config.device)
@@ -113,13 +112,13 @@ pub returns-in-Ok-clause-begins : goal.returns-in-Ok-clause-begins
 returns-in-Ok-clause-begins g c =
     let size : ℕ = c.args.config.config.segment_size in
     let len : ℕ = length (state_of (g.D.Device.trace c.args.config.device)).log.bytes in
-    let s : Shot = shot_of c.args.snapshot.now in
+    let s : SnapshotModel = model_of c.args.snapshot.now in
     let long = first_next size len s c.in-Ok.beginning c.in-Ok.ensures.beginning c.in-Ok.ensures.startable c.in-Ok.ensures.answers.1 g.C.Checksum.sum_of c.in-Ok.buffer c.in-Ok.ensures.buffer in
     let place = ap (λ (x : Beginning). x.place) c.in-Ok.ensures.beginning ∙ begins_place size (slots_of size len) (stable_place s.stable) (unused size (slots_of size len) s) s.active in
     record {
       synced = search rules;
       next = ap (λ n. n + length c.in-Ok.buffer.bytes.items) place ∙ ap (λ n. place_at size (stable_place s.stable) s.active + n) long;
-      ended = ap all_ended c.in-Ok.ensures.buffer.reserved;
+      ended = ap none_open c.in-Ok.ensures.buffer.reserved;
       pins = refl;
       fault = refl;
       sized = ap (λ (x : Config). x.segment_size) c.begin.ensures.config;

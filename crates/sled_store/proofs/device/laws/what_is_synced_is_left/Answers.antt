@@ -1,5 +1,5 @@
 -- Where all is synced a crash leaves what is read.
-use Rattle.sled_store.proofs.SyncedLemmas.{synced_left}
+use Rattle.sled_store.proofs.Crashes.SyncedLemmas.{synced_left}
 use Rattle.sled_store.proofs.device.laws.what_is_synced_is_left.Goals as goal
 
 pub returns : goal.returns

@@ -4,7 +4,7 @@ use Rattle.std.specs.Option.{SomeIff}
 use Rattle.std.specs.List.{flat_map}
 use Rattle.sled_codec.specs.Spelling.{FitsEach}
 use Rattle.sled_codec.specs.declared.serialization.snapshot.PageState.{PageState}
-use Rattle.sled_codec.specs.Snapshots.{shot_of, page_of, FitsPage, short_page, short_snapshot}
+use Rattle.sled_codec.specs.Snapshots.{model_of, page_of, FitsPage, short_page, short_snapshot}
 use Rattle.sled_codec.specs.SnapshotLaws.{short_coords, length-short_snapshot, fits_coords}
 use Rattle.sled_codec.proofs.serialization.snapshot.SnapshotSerialize.can_serialize.Goals as goal
 use Rattle.sled_codec.proofs.serialization.snapshot.SnapshotSerialize.can_serialize.Goals.{then-not-can_serialize-via-then-not-can_serialize, then-not-can_serialize-via-else-not-can_serialize+then-not-can_serialize_each}
@@ -15,14 +15,14 @@ returns-then-not-can_serialize c =
       | then-not-can_serialize-via-then-not-can_serialize w ↦ (
         λ t. cc,
         λ fits.
-            let yes = c.can_serialize.ensures.1 (fits_coords (shot_of c.args.self.now) fits.stable fits.active) in
+            let yes = c.can_serialize.ensures.1 (fits_coords (model_of c.args.self.now) fits.stable fits.active) in
             let off = w.if-not-can_serialize.true in
             cc,
       )
       | then-not-can_serialize-via-else-not-can_serialize+then-not-can_serialize_each w ↦ (
         λ t. cc,
         λ fits.
-            let long = length-short_snapshot (shot_of c.args.self.now) in
+            let long = length-short_snapshot (model_of c.args.self.now) in
             let each : FitsEach FitsPage short_page (map page_of c.args.self.now.pt.items) = (fits.pages, omega (arith, long, fits.small)) in
             let yes = w.can_serialize_each.ensures.1 (subst (λ (ps : List PageState). FitsEach FitsPage short_page (map page_of ps)) (sym w.deref.ensures.value) each) in
             let off = w.if-not-can_serialize_each.true in
@@ -37,7 +37,7 @@ fits_iff P v (Some x) some = (λ t. some.0, λ p. refl)
 
 pub returns : goal.returns
 returns c =
-    let s = shot_of c.args.self.now in
+    let s = model_of c.args.self.now in
     let long = length-short_snapshot s in
     let front : c.serialized_size-front.result ≡ length (short_coords s) = c.serialized_size-front.ensures in
     let back : c.size_of_each.result ≡ length (flat_map short_page s.pages) = c.size_of_each.ensures ∙ ap (λ (ps : List PageState). length (flat_map short_page (map page_of ps))) c.deref-2.ensures.value in

@@ -1,0 +1,219 @@
+-- A write at the end of the records of the first segment makes nothing foreign.
+use Rattle.std.proofs.Common.{◌≡◌, ◌⊎◌, ◌≤◌, ◌<◌, ◌+◌, ◌-◌, ◌/◌, ◌∙◌, ℕ, zero, suc, ℤ, pos, List, [], ◌∷◌, ◌++◌, length, take, drop, refl, sym, ap, subst, arith, inl, inr, length-append, length-take, length-drop}
+use Rattle.std.specs.List.{Contains}
+use Rattle.std.proofs.lemmas.Bool.{cases_lt}
+use Rattle.std.proofs.lemmas.List.{take-append-drop, take-append-le, drop-append-le}
+use Rattle.sled_codec.specs.declared.serialization.message.MessageKind.{MessageKind}
+use Rattle.sled_codec.specs.Places.{part}
+use Rattle.sled_codec.specs.Record.{IsRecord, IsHeader}
+use Rattle.sled_codec.proofs.Records.{one_record}
+use Rattle.sled_store.specs.Device.{LogState, State, Wrote, Synced, Settled, step, content_of, content_left, at_rest}
+use Rattle.sled_store.specs.Foreign.{IsReached, at_first, behind, first_record, Covers, IsWhole, HeaderWasPlaced, RecordWasPlaced, NoForeignLog}
+use Rattle.sled_store.proofs.Crashes.ForeignLemmas.{Knows, LogKnows, before_knows, own_log, own_log_at_rest, take_again}
+use Rattle.sled_store.proofs.Crashes.LeavesLemmas.{write}
+use Rattle.sled_store.proofs.LogFile.OverwrittenLemmas.{overwritten-end}
+use Rattle.sled_core.specs.Own.{IsReachedToEnd}
+use Rattle.sled_core.specs.Recoverable.{NoForeign}
+use Rattle.sled_core.proofs.Crash.OwnLemmas.{FirstOwn, first_own, own_first, record_some, part_within}
+use Rattle.sled_core.proofs.Crash.OwnRecords.{begins_inside}
+
+-- Text is appended: what was there reads as before, and the rest as the text.
+module _ (old text : List ℕ) where
+  in_old : (at len : ℕ) → at + len ≤ length old → part (old ++ text) at len ≡ part old at len
+  in_old at len fits =
+      ap (take len) (drop-append-le at old text (omega (arith, fits))) ∙ take-append-le len (drop at old) text (omega (arith, fits, length-drop at old))
+
+  in_text : (at len : ℕ) → length old ≤ at → part (old ++ text) at len ≡ part text (at - length old) len
+  in_text at len past = ap (take len) (drop_past at old text past)
+    where
+      drop_past : (n : ℕ) (xs ys : List ℕ) → length xs ≤ n → drop n (xs ++ ys) ≡ drop (n - length xs) ys
+      drop_past n [] ys le = let same : n - 0 ≡ n = omega arith in ap (λ (k : ℕ). drop k ys) (sym same)
+      drop_past zero (x ∷ xs) ys le = absurd (omega (arith, le))
+      drop_past (suc n) (x ∷ xs) ys le = let same : suc n - length (x ∷ xs) ≡ n - length xs = omega arith in drop_past n xs ys (omega (arith, le)) ∙ ap (λ (k : ℕ). drop k ys) (sym same)
+
+module _ (sum : List ℕ → ℕ) (size number : ℕ) where
+  -- a record of this number begins a text and has this length
+  pub record BeginsAt (text : List ℕ) (at len : ℕ) : Type 0 where
+    pub kind : MessageKind
+    pub page : ℕ
+    pub body : List ℕ
+    pub is : IsRecord sum (part text at len) kind page number body
+    pub some : 0 < len
+    pub inside : at + len ≤ length text
+
+  begins : (text : List ℕ) (at len : ℕ) (kind : MessageKind) (page : ℕ) (body : List ℕ) → at + len ≤ length text → IsRecord sum (part text at len) kind page number body → BeginsAt text at len
+  begins text at len kind page body fits rec =
+      let some = record_some sum (part text at len) kind page number body rec in
+      record { kind = kind; page = page; body = body; is = rec; some = omega (arith, some, length-take len (drop at text)); inside = fits }
+
+  -- records at one offset are one
+  pub same_record : (text : List ℕ) (at len len' : ℕ) (kind : MessageKind) (page : ℕ) (body : List ℕ) (kind' : MessageKind) (page' : ℕ) (body' : List ℕ)
+      → IsRecord sum (part text at len) kind page number body → IsRecord sum (part text at len') kind' page' number body' → part text at len ≡ part text at len'
+  same_record text at len len' kind page body kind' page' body' p q =
+      one_record sum (part text at len) (part text at len') (drop len (drop at text)) (drop len' (drop at text)) kind kind' page page' number number body body' p q
+      (take-append-drop len (drop at text) ∙ sym (take-append-drop len' (drop at text)))
+
+  same_len : (text : List ℕ) (at len len' : ℕ) → BeginsAt text at len → BeginsAt text at len' → len ≡ len'
+  same_len text at len len' a b =
+      let same = ap length (same_record text at len len' a.kind a.page a.body b.kind b.page b.body a.is b.is) in
+      omega (arith, same, a.inside, b.inside, length-take len (drop at text), length-take len' (drop at text), length-drop at text)
+
+  no_less : (text : List ℕ) (first at : ℕ) → IsReached sum size number text first at → first ≤ at
+  no_less text first at at_first = omega arith
+  no_less text first at (behind from len kind page body reached fits rec) = let le = no_less text first from reached in omega (arith, le)
+
+  -- a reader that goes on from an offset finds a record there first
+  first_step : (text : List ℕ) (first at : ℕ) → IsReached sum size number text first at → first < at → (len : ℕ) × BeginsAt text first len × (first + len ≤ at)
+  first_step text first at at_first less = absurd (omega (arith, less))
+  first_step text first at (behind from len kind page body reached fits rec) less = elim (cases_lt first from) [
+    | inl more ↦ (let found = first_step text first from reached more in (found.0, found.1, let le = found.2 in omega (arith, le)))
+    | inr last ↦ (
+        let le = no_less text first from reached in
+        let here : from ≡ first = omega (arith, le, last) in
+        (len, subst (λ n. BeginsAt text n len) here (begins text from len kind page body fits rec), omega (arith, here)))
+  ]
+
+  -- Of two offsets that a reader comes to, it comes from the lower one to the other.
+  goes_on : (fuel : ℕ) (text : List ℕ) (first a b : ℕ) → a + b < fuel → IsReached sum size number text first a → IsReached sum size number text first b → a ≤ b → IsReached sum size number text a b
+  goes_on zero text first a b less ra rb le = absurd (omega (arith, less))
+  goes_on (suc fuel) text first a b less ra at_first le =
+      let low = no_less text first a ra in
+      let here : a ≡ b = omega (arith, low, le) in
+      subst (λ n. IsReached sum size number text a n) here at_first
+  goes_on (suc fuel) text first a b less ra (behind from len kind page body reached fits rec) le =
+      let here = begins text from len kind page body fits rec in
+      let some = here.some in
+      elim (cases_lt from a) [
+        | inl passed ↦ (
+            let found = first_step text from a (goes_on fuel text first from a (omega (arith, less, some)) reached ra (omega (arith, passed))) passed in
+            let step_le = found.2 in
+            let same = same_len text from len found.0 here found.1 in
+            let is : a ≡ from + len = omega (arith, le, step_le, same) in
+            subst (λ n. IsReached sum size number text a n) is at_first)
+        | inr before ↦ behind from len kind page body (goes_on fuel text first a from (omega (arith, less, some)) ra reached (omega (arith, before))) fits rec
+      ]
+
+  -- What was read ends where a reader comes to, and more follows.
+  module _ (old text : List ℕ) (twenty : 20 ≤ length old) (end : IsReached sum size number old 20 (length old)) where
+    abbrev new : List ℕ
+    new = old ++ text
+
+    -- below the end a reader comes to what it came to before
+    pub old_record : (at : ℕ) → IsReached sum size number old 20 at → at < length old → (len : ℕ) × BeginsAt old at len × (at + len ≤ length old)
+    old_record at reached below = first_step old at (length old) (goes_on (suc (at + length old)) old 20 at (length old) (omega arith) reached end (omega (arith, below))) below
+
+    -- from there on to what a reader of the text comes to
+    abbrev Splits : ℕ → Type 0
+    Splits at = (IsReached sum size number old 20 at × (at < length old)) ⊎ (IsReached sum size number text 0 (at - length old) × (length old ≤ at))
+
+    split : (at : ℕ) → IsReached sum size number old 20 at → at ≤ length old → Splits at
+    split at reached le = elim (cases_lt at (length old)) [
+      | inl below ↦ inl (reached, below)
+      | inr last ↦ (let none : at - length old ≡ 0 = omega (arith, le) in inr (subst (λ n. IsReached sum size number text 0 n) (sym none) at_first, last))
+    ]
+
+    pub splits : (at : ℕ) → IsReached sum size number new 20 at → Splits at
+    splits at at_first = split 20 at_first twenty
+    splits at (behind from len kind page body reached fits rec) = elim (splits from reached) [
+      | inl (before, below) ↦ (
+          let found = old_record from before below in
+          let there = found.1 in
+          let len' : ℕ = found.0 in
+          let inside : from + len' ≤ length old = found.2 in
+          let old_is : IsRecord sum (part new from len') there.kind there.page number there.body = subst (λ (l : List ℕ). IsRecord sum l there.kind there.page number there.body) (sym (in_old old text from len' inside)) there.is in
+          let longer : from + len' ≤ length new = omega (arith, inside, length-append old text) in
+          let same : len ≡ len' = same_len new from len len' (begins new from len kind page body fits rec) (begins new from len' there.kind there.page there.body longer old_is) in
+          split (from + len) (subst (λ n. IsReached sum size number old 20 (from + n)) (sym same) (behind from len' there.kind there.page there.body before inside there.is)) (omega (arith, same, inside)))
+      | inr (after, past) ↦ (
+          let there : from - length old + len ≡ from + len - length old = omega (arith, past) in
+          inr (
+            subst (λ n. IsReached sum size number text 0 n) there
+                (behind (from - length old) len kind page body after (omega (arith, past, fits, length-append old text)) (subst (λ (l : List ℕ). IsRecord sum l kind page number body) (in_text old text from len past) rec)),
+            omega (arith, past),
+          ))
+    ]
+
+-- The write at the end of the log file.
+module _ (sum : List ℕ → ℕ) (size : ℕ) (before after : LogState) (placed : List (ℕ × List ℕ)) (old text : List ℕ) (twenty : 20 ≤ length old) (short : length old + length text ≤ size) (end : IsReachedToEnd sum size old)
+    (own : NoForeignLog sum size before placed old) (knows : LogKnows before after) (asked : Contains after.asked (length old, text)) where
+  abbrev writes : List (ℕ × List ℕ)
+  writes = (length old, text) ∷ placed
+
+  -- what was there is still the log's own
+  was_own : FirstOwn sum size after writes old
+  was_own = own_first sum size old (omega (arith, short)) after writes (own_log sum size before after placed writes old knows (λ w there. (suc there.0, let le = there.1 in omega (arith, le), there.2)) own)
+
+  header_same : part (old ++ text) 0 20 ≡ part old 0 20
+  header_same = in_old old text 0 20 (omega (arith, twenty))
+
+  -- and so is what was written
+  text_own : (number at len : ℕ) (kind : MessageKind) (page : ℕ) (body : List ℕ) → IsReached sum size number text 0 (at - length old) → length old ≤ at → IsRecord sum (part text (at - length old) len) kind page number body
+      → RecordWasPlaced sum size writes number at (part text (at - length old) len) × IsWhole after at (part text (at - length old) len)
+  unfolding RecordWasPlaced IsWhole
+  text_own number at len kind page body reached past rec =
+      let some = record_some sum (part text (at - length old) len) kind page number body rec in
+      let within = part_within text (at - length old) len (omega (arith, some)) in
+      let covers : Covers (length old, text) at (part text (at - length old) len) = record {
+        begins = past;
+        ends = omega (arith, past, within, length-take len (drop (at - length old) text), length-drop (at - length old) text);
+        same = take_again len (drop (at - length old) text);
+      } in
+      let room : length old < size = omega (arith, short, some, length-take len (drop (at - length old) text), length-drop (at - length old) text) in
+      let none : first_record size (length old) ≡ 0 = begins_inside size (length old) (omega (arith, twenty)) room in
+      (((length old, text), (0, omega arith, refl), covers, subst (λ n. IsReached sum size number text n (at - length old)) (sym none) reached), inr ((length old, text), asked, covers))
+
+  behind_own : NoForeignLog sum size after writes (old ++ text)
+  behind_own = first_own sum size (old ++ text) (omega (arith, short, length-append old text)) after writes (record {
+    headers = λ lsn mark is.
+        subst (λ (l : List ℕ). HeaderWasPlaced writes 0 l × IsWhole after 0 l) (sym header_same) (was_own.headers lsn mark (subst (λ (l : List ℕ). IsHeader sum l lsn mark) header_same is));
+    records = λ lsn mark at len kind page body is reached fits rec.
+        let header : IsHeader sum (part old 0 20) (pos lsn) mark = subst (λ (l : List ℕ). IsHeader sum l (pos lsn) mark) header_same is in
+        elim (splits sum size (lsn / size) old text twenty (end lsn mark header) at reached) [
+          | inl (reached_old, below) ↦ old_own lsn mark at len kind page body header reached_old below rec
+          | inr (reached_text, past) ↦ (
+              let moved : part (old ++ text) at len ≡ part text (at - length old) len = in_text old text at len past in
+              subst (λ (l : List ℕ). RecordWasPlaced sum size writes (lsn / size) at l × IsWhole after at l) (sym moved)
+              (text_own (lsn / size) at len kind page body reached_text past (subst (λ (l : List ℕ). IsRecord sum l kind page (lsn / size) body) moved rec)))
+        ];
+  })
+    where
+      old_own : (lsn : ℕ) (mark : ℤ) (at len : ℕ) (kind : MessageKind) (page : ℕ) (body : List ℕ) → IsHeader sum (part old 0 20) (pos lsn) mark → IsReached sum size (lsn / size) old 20 at → at < length old
+          → IsRecord sum (part (old ++ text) at len) kind page (lsn / size) body
+          → RecordWasPlaced sum size writes (lsn / size) at (part (old ++ text) at len) × IsWhole after at (part (old ++ text) at len)
+      old_own lsn mark at len kind page body header reached below rec =
+          let found = old_record sum size (lsn / size) old text twenty (end lsn mark header) at reached below in
+          let there = found.1 in
+          let inside : at + found.0 ≤ length old = found.2 in
+          let kept : part (old ++ text) at found.0 ≡ part old at found.0 = in_old old text at found.0 inside in
+          let same : part (old ++ text) at len ≡ part (old ++ text) at found.0 =
+          same_record sum size (lsn / size) (old ++ text) at len found.0 kind page body there.kind there.page there.body rec (subst (λ (l : List ℕ). IsRecord sum l there.kind there.page (lsn / size) there.body) (sym kept) there.is) in
+          subst (λ (l : List ℕ). RecordWasPlaced sum size writes (lsn / size) at l × IsWhole after at l) (sym (same ∙ kept))
+          (was_own.records lsn mark at found.0 there.kind there.page there.body header reached (omega (arith, inside, short)) there.is)
+
+-- So nothing is foreign in what is read behind it.
+pub read_own : (sum : List ℕ → ℕ) (size : ℕ) (s : State) (text : List ℕ) → NoForeign sum size s (content_of s) → 20 ≤ length s.log.bytes → length s.log.bytes + length text ≤ size → IsReachedToEnd sum size s.log.bytes
+    → NoForeign sum size (step (Wrote (length s.log.bytes) text text) s) (content_of (step (Wrote (length s.log.bytes) text text) s))
+read_own sum size s text own twenty short end =
+    let t : State = step (Wrote (length s.log.bytes) text text) s in
+    let knows : Knows s t = before_knows (Wrote (length s.log.bytes) text text) s (write (length s.log.bytes) text) in
+    record {
+      log = subst (λ (l : List ℕ). NoForeignLog sum size t.log t.placed l) (sym (overwritten-end s.log.bytes text)) (behind_own sum size s.log t.log s.placed s.log.bytes text twenty short end own.log knows.log (0, omega arith, refl));
+      blobs = own.blobs;
+      snapshots = own.snapshots;
+      zeros = own.zeros;
+    }
+
+-- Nor where a write was lost that followed a sync.
+pub lost_behind : (sum : List ℕ → ℕ) (size : ℕ) (s : State) (at : ℕ) (asked now : List ℕ) → NoForeign sum size s (content_of s)
+    → NoForeign sum size (step (Wrote at asked now) (step Synced s)) (content_left (Settled []) (step (Wrote at asked now) (step Synced s)))
+lost_behind sum size s at asked now own =
+    let t : State = step (Wrote at asked now) (step Synced s) in
+    record {
+      log = own_log sum size (at_rest s.log.bytes) t.log s.placed t.placed s.log.bytes
+          (record { settled = refl; asked = λ w none. (suc none.0, let le = none.1 in omega (arith, le), none.2) })
+          (λ w there. (suc there.0, let le = there.1 in omega (arith, le), there.2))
+          (own_log_at_rest sum size s.log s.placed s.log.bytes own.log);
+      blobs = record { own = λ n bytes there is. inl there };
+      snapshots = record { own = λ n bytes there is. inl there };
+      zeros = own.zeros;
+    }

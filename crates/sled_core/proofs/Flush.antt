@@ -1,0 +1,3 @@
+pub mod FlushFits
+pub mod FlushLemmas
+pub mod LogFileLemmas

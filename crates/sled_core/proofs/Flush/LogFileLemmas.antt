@@ -1,0 +1,209 @@
+-- What stands in a log file stays where it is when the rest of the current segment is written.
+use Rattle.std.proofs.Common.{◌≡◌, ◌⊎◌, ◌≤◌, ◌<◌, ◌+◌, ◌-◌, ◌/◌, ℕ, zero, suc, pos, max, List, [], ◌∷◌, ◌++◌, length, take, drop, sym, ◌∙◌, ap, arith, refl, subst, length-take, length-drop, inl, inr, get_or}
+use Rattle.std.specs.List.{All}
+use Rattle.std.proofs.lemmas.Bool.{cases_lt}
+use Rattle.std.proofs.lemmas.List.{drop-drop, drop-take, take-take}
+use Rattle.std.proofs.lemmas.List.Elements.{All-cons, All-contains}
+use Rattle.sled_codec.specs.declared.serialization.message.MessageHeader.{MessageHeader}
+use Rattle.sled_codec.specs.Places.{part}
+use Rattle.sled_codec.specs.Record.{IsHeader}
+use Rattle.sled_codec.specs.History.{Message}
+use Rattle.sled_codec.specs.WellFormed.{LieApart}
+use Rattle.sled_codec.proofs.Segments.{length-short_header}
+use Rattle.sled_store.specs.Device.{overwritten}
+use Rattle.sled_store.proofs.LogFile.OverwrittenLemmas.{length-overwritten, overwritten-part, overwritten-above}
+use Rattle.sled_store.proofs.LogFile.LogLemmas.{part_written}
+use Rattle.sled_store.proofs.LogFile.LooseLemmas.{end_of-some}
+use Rattle.sled_core.specs.declared.iobuf.SegmentPosition.{SegmentPosition}
+use Rattle.sled_core.specs.Reading.{StandsAt}
+use Rattle.sled_core.specs.LogFile.{MessageStands, StandIn, StandsElsewhere, HasHeader}
+use Rattle.sled_core.specs.Recoverable.{first_site}
+use Rattle.sled_core.proofs.Read.ReadingLemmas.{header_some, laid_of}
+use Rattle.sled_store.proofs.Segments.Elements.{no_element}
+
+-- a record that stands somewhere is not shorter than a header
+pub stands_some : (sum : List ℕ → ℕ) (size : ℕ) (log : List ℕ) (lid number : ℕ) (m : Message) → MessageStands sum size log lid number m → 8 ≤ m.size
+stands_some sum size log lid number m s =
+    let some = header_some s.stands.header s.header s.stands.spelled in
+    omega (arith, some, (laid_of sum size log lid number s.header m.bytes m.size s.stands).1)
+
+-- records don't go back
+pub stand_grows : (sum : List ℕ → ℕ) (size : ℕ) (log : List ℕ) (site : SegmentPosition) (at : ℕ) (ms : List Message) (end : ℕ) → StandIn sum size log site at ms end → at ≤ end
+stand_grows sum size log site at [] end stand = omega (arith, stand)
+stand_grows sum size log site at (m ∷ ms) end stand = let rest = stand_grows sum size log site (at + m.size) ms end stand.4 in omega (arith, rest)
+
+-- between an offset and itself there are none
+pub stand_none : (sum : List ℕ → ℕ) (size : ℕ) (log : List ℕ) (site : SegmentPosition) (at : ℕ) (ms : List Message) → StandIn sum size log site at ms at → ms ≡ []
+stand_none sum size log site at [] stand = refl
+stand_none sum size log site at (m ∷ ms) stand =
+    let rest = stand_grows sum size log site (at + m.size) ms at stand.4 in
+    let some = stands_some sum size log (site.slot + at) (site.place / size) m stand.3 in
+    absurd (omega (arith, rest, some))
+
+-- records behind records
+pub stand-append : (sum : List ℕ → ℕ) (size : ℕ) (log : List ℕ) (site : SegmentPosition) (at : ℕ) (ms : List Message) (mid : ℕ) (more : List Message) (end : ℕ)
+    → StandIn sum size log site at ms mid → StandIn sum size log site mid more end → StandIn sum size log site at (ms ++ more) end
+stand-append sum size log site at [] mid more end stand rest = subst (λ n. StandIn sum size log site n more end) stand rest
+stand-append sum size log site at (m ∷ ms) mid more end stand rest =
+    (stand.0, stand.1, stand.2, stand.3, stand-append sum size log site (at + m.size) ms mid more end stand.4 rest)
+
+-- what is left of records that stand in one file, behind the first ones, which stand in another
+pub stand_rest : (sum : List ℕ → ℕ) (size : ℕ) (log log' : List ℕ) (site : SegmentPosition) (at : ℕ) (ms : List Message) (mid : ℕ) (more : List Message) (end : ℕ)
+    → StandIn sum size log' site at ms mid → StandIn sum size log site at (ms ++ more) end → StandIn sum size log site mid more end
+stand_rest sum size log log' site at [] mid more end first whole = subst (λ n. StandIn sum size log site n more end) (sym first) whole
+stand_rest sum size log log' site at (m ∷ ms) mid more end first whole = stand_rest sum size log log' site (at + m.size) ms mid more end first.4 whole.4
+
+-- records from an offset on lie there or behind it, where there is room
+pub stand_above : (sum : List ℕ → ℕ) (size : ℕ) (log : List ℕ) (site : SegmentPosition) (at : ℕ) (ms : List Message) (end : ℕ) → StandIn sum size log site at ms end → All (λ m. (site.place + at ≤ m.place) × (at + 32 ≤ size)) ms
+stand_above sum size log site at [] end stand k d lt = absurd (omega (arith, lt))
+stand_above sum size log site at (m ∷ ms) end stand zero d lt = (omega (arith, stand.1), stand.0)
+stand_above sum size log site at (m ∷ ms) end stand (suc k) d lt =
+    let rest = stand_above sum size log site (at + m.size) ms end stand.4 k d (omega (arith, lt)) in
+    (let above = rest.0 in omega (arith, above), stand.0)
+
+-- and below where they end
+pub stand_below : (sum : List ℕ → ℕ) (size : ℕ) (log : List ℕ) (site : SegmentPosition) (at : ℕ) (ms : List Message) (end : ℕ) → StandIn sum size log site at ms end
+    → All (λ m. (m.place < site.place + end) × (m.place + m.size ≤ site.place + end)) ms
+stand_below sum size log site at [] end stand = λ k d lt. absurd (omega arith)
+stand_below sum size log site at (m ∷ ms) end stand =
+    let Below : Message → Type 0 = λ x. (x.place < site.place + end) × (x.place + x.size ≤ site.place + end) in
+    let rest = stand_grows sum size log site (at + m.size) ms end stand.4 in
+    let some = stands_some sum size log (site.slot + at) (site.place / size) m stand.3 in
+    let place : m.place ≡ site.place + at = stand.1 in
+    All-cons Below m ms (omega (arith, rest, some, place), omega (arith, rest, place)) (stand_below sum size log site (at + m.size) ms end stand.4)
+
+-- so that their messages lie apart
+pub stand_apart : (sum : List ℕ → ℕ) (size : ℕ) (log : List ℕ) (site : SegmentPosition) (at : ℕ) (ms : List Message) (end : ℕ) → StandIn sum size log site at ms end → LieApart ms
+stand_apart sum size log site at [] end stand = tt
+stand_apart sum size log site at (m ∷ ms) end stand =
+    let place : m.place ≡ site.place + at = stand.1 in
+    let some = stands_some sum size log (site.slot + at) (site.place / size) m stand.3 in
+    let rest = stand_above sum size log site (at + m.size) ms end stand.4 in
+    (omega (arith, some), (λ k d lt. let b = rest k d lt in omega (arith, b.0, place)), stand_apart sum size log site (at + m.size) ms end stand.4)
+
+-- nothing lies before the first segment
+pub none_older : (sum : List ℕ → ℕ) (size : ℕ) (log : List ℕ) (older : List Message) → All (StandsElsewhere sum size log first_site) older → older ≡ []
+none_older sum size log older all = no_element older (λ m there.
+    let s = All-contains (StandsElsewhere sum size log first_site) older m all there in
+    let some = stands_some sum size log s.lid (m.place / size) m s.stands in
+    let below = s.below in
+    omega (arith, some, below))
+
+-- the header of a segment lies in the file
+pub header_there : (sum : List ℕ → ℕ) (log : List ℕ) (site : SegmentPosition) → HasHeader sum log site → site.slot + 20 ≤ length log
+header_there sum log site h =
+    let long : length (part log site.slot 20) ≡ 20 = ap length h.header.is ∙ length-short_header sum (pos site.place) h.mark in
+    omega (arith, long, length-take 20 (drop site.slot log), length-drop site.slot log)
+
+-- a record that stands in a file stands in each other one that has the same bytes there
+pub record_moved : (sum : List ℕ → ℕ) (size : ℕ) (log log' : List ℕ) (lid number : ℕ) (h : MessageHeader) (body : List ℕ) (len : ℕ) → part log' lid len ≡ part log lid len → lid + len ≤ length log'
+    → StandsAt sum size log lid number h body len → StandsAt sum size log' lid number h body len
+record_moved sum size log log' lid number h body len same there s = record {
+  header = s.header;
+  spelled = s.spelled;
+  is = same ∙ s.is;
+  counted = s.counted;
+  numbered = s.numbered;
+  summed = s.summed;
+  valid = s.valid;
+  in_file = there;
+  in_slot = s.in_slot;
+  small = s.small;
+}
+
+-- What stands outside a range of a file stands in another one too that has the same bytes there.
+module _ (sum : List ℕ → ℕ) (size : ℕ) (old new : List ℕ) (at n : ℕ) (grows : length old ≤ length new)
+    (same : (lid len : ℕ) → lid + len ≤ length old → (lid + len ≤ at) ⊎ (at + n ≤ lid) → part new lid len ≡ part old lid len) where
+  record_stays : (lid number : ℕ) (h : MessageHeader) (body : List ℕ) (len : ℕ) → (lid + len ≤ at) ⊎ (at + n ≤ lid) → StandsAt sum size old lid number h body len → StandsAt sum size new lid number h body len
+  record_stays lid number h body len apart s =
+      let end = s.in_file in record_moved sum size old new lid number h body len (same lid len end apart) (omega (arith, end, grows)) s
+
+  message_stays : (lid number : ℕ) (m : Message) → (lid + m.size ≤ at) ⊎ (at + n ≤ lid) → MessageStands sum size old lid number m → MessageStands sum size new lid number m
+  message_stays lid number m apart s = record { header = s.header; stands = record_stays lid number s.header m.bytes m.size apart s.stands; known = s.known; short = (let end = s.stands.in_file in same lid m.size end apart) ∙ s.short; page = s.page }
+
+  -- the records of a segment up to the beginning of the range
+  pub stand_stays : (site : SegmentPosition) (from : ℕ) (ms : List Message) (end : ℕ) → site.slot + end ≤ at → StandIn sum size old site from ms end → StandIn sum size new site from ms end
+  stand_stays site from [] end before stand = stand
+  stand_stays site from (m ∷ ms) end before stand =
+      let rest = stand_grows sum size old site (from + m.size) ms end stand.4 in (
+        stand.0,
+        stand.1,
+        stand.2,
+        message_stays (site.slot + from) (site.place / size) m (inl (omega (arith, rest, before))) stand.3,
+        stand_stays site (from + m.size) ms end before stand.4,
+      )
+
+  -- those behind a header; there are none where the range begins within it
+  pub first_stay : (site : SegmentPosition) (from : ℕ) (ms : List Message) → site.slot + from ≤ at → StandIn sum size old site 20 ms (max 20 from) → StandIn sum size new site 20 ms (max 20 from)
+  first_stay site from ms before stand = elim (cases_lt from 20) [
+    | inl less ↦ (
+        let start : max 20 from ≡ 20 = omega (arith, less) in
+        let empty : ms ≡ [] = stand_none sum size old site 20 ms (subst (λ k. StandIn sum size old site 20 ms k) start stand) in
+        subst (λ (l : List Message). StandIn sum size new site 20 l (max 20 from)) (sym empty) start)
+    | inr long ↦ stand_stays site 20 ms (max 20 from) (omega (arith, long, before)) stand
+  ]
+
+  -- records in other slots
+  pub elsewhere_stays : (site : SegmentPosition) (m : Message) → site.slot ≤ at → at + n ≤ site.slot + size → StandsElsewhere sum size old site m → StandsElsewhere sum size new site m
+  elsewhere_stays site m begins ends s = record {
+    lid = s.lid;
+    pointer = s.pointer;
+    stands = message_stays s.lid (m.place / size) m (elim s.apart [ inl below ↦ inl (omega (arith, below, begins)) | inr above ↦ inr (omega (arith, above, ends)) ]) s.stands;
+    apart = s.apart;
+    below = s.below;
+  }
+
+  -- a header before the range
+  pub header_stays : (site : SegmentPosition) → site.slot + 20 ≤ at → HasHeader sum old site → HasHeader sum new site
+  header_stays site before h =
+      let there : site.slot + 20 ≤ length old = header_there sum old site h in
+      record { mark = h.mark; header = subst (λ (l : List ℕ). IsHeader sum l (pos site.place) h.mark) (sym (same site.slot 20 there (inl before))) h.header; below = h.below; before = h.before }
+
+module _ (sum : List ℕ → ℕ) (size : ℕ) (old : List ℕ) (at : ℕ) (xs : List ℕ) where
+  abbrev new : List ℕ
+  new = overwritten old at xs
+
+  pub file_grows : length old ≤ length new
+  file_grows = omega (arith, length-overwritten old at xs)
+
+  -- a part that isn't written to
+  pub part_kept : (lid n : ℕ) → lid + n ≤ length old → (lid + n ≤ at) ⊎ (at + length xs ≤ lid) → part new lid n ≡ part old lid n
+  part_kept lid n there apart =
+      let count : lid + n - lid ≡ n = omega arith in
+      ap (λ k. take k (drop lid new)) (sym count) ∙ part_written old at xs lid (lid + n) there apart ∙ ap (λ k. take k (drop lid old)) count
+
+  pub message_kept : (lid number : ℕ) (m : Message) → (lid + m.size ≤ at) ⊎ (at + length xs ≤ lid) → MessageStands sum size old lid number m → MessageStands sum size new lid number m
+  message_kept = message_stays sum size old new at (length xs) file_grows part_kept
+
+  -- the records of a segment up to the beginning of the write
+  pub stand_kept : (site : SegmentPosition) (from : ℕ) (ms : List Message) (end : ℕ) → site.slot + end ≤ at → StandIn sum size old site from ms end → StandIn sum size new site from ms end
+  stand_kept = stand_stays sum size old new at (length xs) file_grows part_kept
+
+  -- those behind its header
+  pub first_kept : (site : SegmentPosition) (from : ℕ) (ms : List Message) → site.slot + from ≤ at → StandIn sum size old site 20 ms (max 20 from) → StandIn sum size new site 20 ms (max 20 from)
+  first_kept = first_stay sum size old new at (length xs) file_grows part_kept
+
+  -- records in other slots
+  pub elsewhere_kept : (site : SegmentPosition) (m : Message) → site.slot ≤ at → at + length xs ≤ site.slot + size → StandsElsewhere sum size old site m → StandsElsewhere sum size new site m
+  elsewhere_kept = elsewhere_stays sum size old new at (length xs) file_grows part_kept
+
+  -- a header before the write
+  pub header_kept : (site : SegmentPosition) → site.slot + 20 ≤ at → HasHeader sum old site → HasHeader sum new site
+  header_kept = header_stays sum size old new at (length xs) file_grows part_kept
+
+  -- what was written stands there
+  pub part_laid : (k n : ℕ) → k + n ≤ length xs → part new (at + k) n ≡ part xs k n
+  part_laid k n within =
+      let behind : List ℕ = drop at new in
+      let fronts : take (k + n) behind ≡ take (k + n) xs = sym (take-take (k + n) (length xs) behind within) ∙ ap (take (k + n)) (overwritten-part old at xs) in
+      ap (take n) (sym (drop-drop k at new))
+      ∙ sym (drop-take k n behind)
+      ∙ ap (drop k) fronts
+      ∙ drop-take k n xs
+
+  pub laid_within : 0 < length xs → at + length xs ≤ length new
+  laid_within some = omega (arith, length-overwritten old at xs, end_of-some at (length xs) some)
+
+  -- and what comes behind it is as it was
+  pub behind_write : (i : ℕ) → 0 < length xs → at + length xs ≤ i → get_or new i 0 ≡ get_or old i 0
+  behind_write i some behind = overwritten-above old at xs i (omega (arith, behind, end_of-some at (length xs) some))

@@ -1,0 +1,81 @@
+-- What a crash leaves stays recoverable over a call, also where that is torn, if it is recoverable behind the whole call.
+use Rattle.std.proofs.Common.{◌≡◌, ◌⊎◌, ◌≤◌, ◌<◌, ◌^◌, ℕ, List, [], ◌∷◌, length}
+use Rattle.sled_codec.specs.History.{History}
+use Rattle.sled_store.specs.Device.{Event, State, Content, step, Synced, NamesSynced, Crashed, LeavesLog, Left, content_of, content_left, log_left, blobs_left, snapshots_left}
+use Rattle.sled_store.specs.Answers.{Tears}
+use Rattle.sled_store.specs.Foreign.{NoForeignLog}
+use Rattle.sled_store.specs.Script.{Along}
+use Rattle.sled_store.proofs.Crashes.LeavesLemmas.{Asked, before_leaves, torn_leaves}
+use Rattle.sled_store.proofs.Crashes.ForeignLemmas.{Knows, own_log, own_names, before_knows, torn_knows, own_log_at_rest, own_names_at_rest}
+use Rattle.sled_store.proofs.Traces.ScriptLemmas.{along_first}
+use Rattle.sled_core.specs.Recoverable.{NoForeign, IsUnbegun, IsBegun, LeavesRecoverable}
+use Rattle.sled_core.specs.Running.{NoBlobs, NamesFit}
+use Rattle.sled_core.proofs.Read.FirstSegment.{recoverable_in_first}
+
+-- A content in which only the log's own writes pass by one state is such a one by each that knows more.
+own_still : (sum : List ℕ → ℕ) (size : ℕ) (s t : State) (left : Content) → Knows s t → NoForeign sum size s left → NoForeign sum size t left
+own_still sum size s t left knows own = record {
+  log = own_log sum size s.log t.log s.placed t.placed left.log knows.log knows.placed own.log;
+  blobs = own_names _ s.blobs t.blobs left.blobs knows.blobs own.blobs;
+  snapshots = own_names _ s.snapshots t.snapshots left.snapshots knows.snapshots own.snapshots;
+  zeros = own.zeros;
+}
+
+-- What a crash left is settled behind it, so what was the log's own in it is so still.
+pub own_after_crash : (sum : List ℕ → ℕ) (size : ℕ) (left : Left) (s : State) → NoForeign sum size s (content_left left s) → NoForeign sum size (step (Crashed left) s) (content_of (step (Crashed left) s))
+own_after_crash sum size left s own = record {
+  log = own_log_at_rest sum size s.log s.placed (log_left left s.log) own.log;
+  blobs = own_names_at_rest _ (blobs_left left s.blobs);
+  snapshots = own_names_at_rest _ (snapshots_left left s.snapshots);
+  zeros = own.zeros;
+}
+
+module _ (sum : List ℕ → ℕ) (size : ℕ) (H : History) (A f : ℕ) where
+  -- what a crash leaves is recoverable
+  abbrev P : State → Type 0
+  P = LeavesRecoverable sum size H A f
+
+  -- before the call
+  pub recoverable_before : (e : Event) (s : State) → Asked e → P (step e s) → P s
+  recoverable_before e s asked after left leaves own = after left (before_leaves e s left asked leaves) (own_still sum size s (step e s) left (before_knows e s asked) own)
+
+  -- where it was torn
+  pub recoverable_torn : (e torn : Event) (s : State) → Asked e → Tears e torn → P (step e s) → P (step torn s)
+  recoverable_torn e torn s asked tears after left leaves own = after left (torn_leaves e torn s left asked tears leaves) (own_still sum size (step torn s) (step e s) left (torn_knows e torn s asked tears) own)
+
+  -- So it is recoverable along a list of calls that begins with this one, if it is along the rest.
+  pub along_call : (e : Event) (es : List Event) (s : State) → Asked e → Along P es (step e s) → Along P (e ∷ es) s
+  along_call e es s asked rest =
+      let after = along_first P es (step e s) rest in
+      (recoverable_before e s asked after, λ torn tears. recoverable_torn e torn s asked tears after, rest)
+
+  -- a sync is not torn
+  pub along_synced : (es : List Event) (s : State) → P s → Along P es (step Synced s) → Along P (Synced ∷ es) s
+  along_synced es s here rest = (here, λ torn tears. absurd tears, rest)
+
+  pub along_names_synced : (es : List Event) (s : State) → P s → Along P es (step NamesSynced s) → Along P (NamesSynced ∷ es) s
+  along_names_synced es s here rest = (here, λ torn tears. absurd tears, rest)
+
+-- All of the log is in its first segment, with what was acknowledged, and reaches so far at least.
+pub record Reaches (sum : List ℕ → ℕ) (size : ℕ) (log : List ℕ) (H : History) (A reached : ℕ) : Type 0 where
+  pub short : length log ≤ size
+  pub parts : (place : ℕ) → place ≤ reached → IsUnbegun sum size log A place ⊎ IsBegun sum size log H A place
+
+-- A state whose parts leave such a log file, no blob, and snapshots from which recovery can begin no further than that.
+pub parts_recoverable : (sum : List ℕ → ℕ) (size : ℕ) (H : History) (A f reached : ℕ) (s : State) → 256 ≤ size → size < 2 ^ 63 → H.batches ≡ []
+    → ((left : List ℕ) → LeavesLog s.log left → NoForeignLog sum size s.log s.placed left → Reaches sum size left H A reached) → NoBlobs s.blobs → NamesFit sum size s.snapshots H f reached
+    → LeavesRecoverable sum size H A f s
+parts_recoverable sum size H A f reached s large small batches log blobs names left leaves own =
+    let reaches = log left.log leaves.log own.log in
+    let can = names left.snapshots leaves.snapshots own.snapshots in
+    recoverable_in_first sum size left H A f large small (record {
+      first = can.first;
+      snapshots = can.tables;
+      segment = record {
+        batches = batches;
+        blobs = λ n. blobs n (left.blobs n) (leaves.blobs n);
+        short = reaches.short;
+        slot = can.slot;
+        log = reaches.parts _ can.not_above;
+      };
+    })

@@ -1,0 +1,71 @@
+-- How a log goes on holding a history: when a place is reserved, and when a message is completed.
+use Rattle.std.proofs.Common.{◌≡◌, ◌≤◌, ◌+◌, ◌-◌, ◌/◌, ℕ, zero, suc, max, List, [], ◌∷◌, ◌++◌, length, sym, ◌∙◌, ap, arith, subst, length-append, true, Bool, if◌then◌else◌, Option, get_or}
+use Rattle.std.specs.List.{All}
+use Rattle.std.specs.declared.io.Error.{Error as IoError}
+use Rattle.std.proofs.lemmas.List.{append-nil, take-append-le}
+use Rattle.std.proofs.lemmas.List.Elements.{All-append}
+use Rattle.sled_codec.specs.History.{Message, History}
+use Rattle.sled_store.specs.Device.{State}
+use Rattle.sled_core.specs.declared.iobuf.Reserved.{Reserved}
+use Rattle.sled_core.specs.declared.iobuf.SegmentPosition.{SegmentPosition}
+use Rattle.sled_core.specs.Buffers.{text_in, body_in, message_in, IsChain, completed_in, StandsAs, Stands}
+use Rattle.sled_core.specs.Fits.{HoldsIn}
+use Rattle.sled_core.proofs.Reserve.Ranges.{part-append, completed-same, completed-append, chain-append}
+
+-- Where a text and a body are the same, what stands there is.
+pub stands-same : (sum : List ℕ → ℕ) (number : ℕ) (old new : List ℕ) (r : Reserved) → text_in new r ≡ text_in old r → body_in new r ≡ body_in old r → Stands sum number old r → Stands sum number new r
+stands-same sum number old new r text body stands =
+    subst (λ (t : List ℕ). StandsAs sum number t (body_in new r) r) (sym text) (subst (λ (b : List ℕ). StandsAs sum number (text_in old r) b r) (sym body) stands)
+
+-- Bytes behind the text leave each reservation in it as it was.
+
+pub body-append : (bytes more : List ℕ) (r : Reserved) → r.from + r.len ≤ length bytes → r.header_len ≤ r.len → body_in (bytes ++ more) r ≡ body_in bytes r
+body-append bytes more r within long = part-append bytes more (r.from + r.header_len) (r.len - r.header_len) (omega arith)
+
+stands-append : (sum : List ℕ → ℕ) (number : ℕ) (bytes more : List ℕ) (r : Reserved) → r.from + r.len ≤ length bytes → Stands sum number bytes r → Stands sum number (bytes ++ more) r
+stands-append sum number bytes more r within stands =
+    stands-same sum number bytes (bytes ++ more) r (part-append bytes more r.from r.len within) (body-append bytes more r within stands.long) stands
+
+one : {X : Type 0} (P : X → Type 0) (x : X) → P x → All P (x ∷ [])
+one P x here zero d lt = here
+one P x here (suc k) d lt = absurd (omega arith)
+
+-- an open reservation is no message yet
+pub completed_open : (site : SegmentPosition) (bytes : List ℕ) (r : Reserved) (rs : List Reserved) → r.is_open ≡ true → completed_in site bytes (r ∷ rs) ≡ completed_in site bytes rs
+completed_open site bytes r rs is = ap (λ (o : Bool). if o then completed_in site bytes rs else message_in site bytes r ∷ completed_in site bytes rs) is
+
+module _ (sum : List ℕ → ℕ) (size : ℕ) (site : SegmentPosition) (device : State) (fault : Option IoError) (bytes : List ℕ) (from : ℕ) (rs : List Reserved) (H : History)
+    (holds : HoldsIn sum size site device fault bytes from rs H) where
+  -- A place is reserved: its placeholder stands behind what is there.
+  pub holds-append : (more : List ℕ) (r : Reserved) → 20 ≤ length bytes → All (λ x. x.from + x.len ≤ length bytes) rs
+      → r.from ≡ length bytes → r.len ≡ length more → r.is_open ≡ true → r.from + 32 ≤ size → Stands sum (site.place / size) (bytes ++ more) r
+      → HoldsIn sum size site device fault (bytes ++ more) from (rs ++ r ∷ []) H
+  holds-append more r begun within at long is_open has_room stands =
+      let number : ℕ = site.place / size in
+      let new : List ℕ = bytes ++ more in
+      let bodies : All (λ x. body_in new x ≡ body_in bytes x) rs = λ k d lt. body-append bytes more (get_or rs k d) (within k d lt) (holds.stand k d lt).long in
+      let none : completed_in site new (r ∷ []) ≡ [] = completed_open site new r [] is_open in
+      let end : length bytes + r.len ≡ length new = omega (arith, length-append bytes more) in
+      record {
+        earlier = holds.earlier;
+        messages = holds.messages ∙ ap (λ (ms : List Message). holds.earlier ++ ms) (sym (
+            completed-append site new rs (r ∷ []) ∙ ap (λ (ms : List Message). completed_in site new rs ++ ms) none ∙ append-nil (completed_in site new rs) ∙ completed-same site bytes new rs bodies));
+        batches = holds.batches;
+        place_begins = holds.place_begins;
+        slot_begins = holds.slot_begins;
+        below = holds.below;
+        header = λ first. take-append-le 20 bytes more begun ∙ holds.header first;
+        chain = subst (λ (n : ℕ). IsChain (max 20 from) (rs ++ r ∷ []) n) end (chain-append (max 20 from) (length bytes) rs r holds.chain at);
+        stand = All-append (Stands sum number new) rs (r ∷ []) (λ k d lt. stands-append sum number bytes more (get_or rs k d) (within k d lt) (holds.stand k d lt)) (one (Stands sum number new) r stands);
+        room = All-append (λ (x : Reserved). x.from + 32 ≤ size) rs (r ∷ []) holds.room (one (λ (x : Reserved). x.from + 32 ≤ size) r has_room);
+        written = holds.written;
+        begun = holds.begun;
+      }
+
+-- The same bytes, from the same offset, and the same reservations hold the same.
+pub holds-same : (sum : List ℕ → ℕ) (size : ℕ) (site : SegmentPosition) (device : State) (fault : Option IoError) (bytes bytes' : List ℕ) (from from' : ℕ) (rs rs' : List Reserved) (H : History)
+    → bytes' ≡ bytes → from' ≡ from → rs' ≡ rs → HoldsIn sum size site device fault bytes from rs H → HoldsIn sum size site device fault bytes' from' rs' H
+holds-same sum size site device fault bytes bytes' from from' rs rs' H b f r holds =
+    subst (λ (l : List ℕ). HoldsIn sum size site device fault l from' rs' H) (sym b)
+    (subst (λ n. HoldsIn sum size site device fault bytes n rs' H) (sym f)
+    (subst (λ (l : List Reserved). HoldsIn sum size site device fault bytes from l H) (sym r) holds))

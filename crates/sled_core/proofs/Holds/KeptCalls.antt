@@ -1,0 +1,48 @@
+-- A call keeps what a log held and fitted where it leaves its device and what is written alone, and where it is two such calls in a row.
+use Rattle.std.proofs.Common.{◌≡◌, ◌∙◌, ◌≤◌, ℕ, List, [], refl, ap, subst, arith}
+use Rattle.sled_codec.specs.History.{Message, History}
+use Rattle.sled_store.specs.declared.config.Config.{Config}
+use Rattle.sled_store.specs.Device.{Trace}
+use Rattle.sled_store.specs.Moments.{LeavesOnly}
+use Rattle.sled_store.proofs.PublicLaws.{later_both}
+use Rattle.sled_store.proofs.Traces.MomentLemmas.{started, stays, joined}
+use Rattle.sled_core.specs.declared.logger.Log.{Log}
+use Rattle.sled_core.specs.Fits.{Holds, config_of, device_of, segment_size_of, synced_end}
+use Rattle.sled_core.specs.Keeps.{ConfigKept, GoesOn, Preserves}
+use Rattle.sled_core.specs.Recoverable.{RecoverableIfOwn}
+use Rattle.sled_core.specs.Running.{Fits}
+use Rattle.sled_core.proofs.Holds.ReachLemmas.{fits_leaves}
+
+module _ {D C : Type 0} (trace : D → Trace) (sum : List ℕ → ℕ) where
+  -- a device that was left alone has no other moment
+  pub no_moments : (old new : Log D C) → trace (device_of new) ≡ trace (device_of old) → (H : History) (A f : ℕ) (U : List Message) → Fits trace sum old H A f U
+      → LeavesOnly (RecoverableIfOwn sum (segment_size_of old) H A f) (trace (device_of old)) (trace (device_of new))
+  no_moments old new same H A f U fits = stays _ _ _ _ (started _ _ (fits_leaves trace sum old H A f U fits)) same
+
+  pub goes_on_quietly : (old new : Log D C) → ConfigKept (config_of old) (config_of new) → trace (device_of new) ≡ trace (device_of old) → synced_end old ≤ synced_end new → GoesOn trace sum old new
+  goes_on_quietly old new config same stable = record { config = config; later = ([], same); stable = stable; crash = no_moments old new same }
+
+  pub goes_on_still : (log : Log D C) → GoesOn trace sum log log
+  goes_on_still log = goes_on_quietly log log (record { config = refl; checksum = refl }) refl (omega arith)
+
+  -- nothing was done
+  pub kept_still : (log : Log D C) → Preserves trace sum log log
+  kept_still log = record { goes_on = goes_on_still log; history = λ H holds. holds; fits = λ H A f U fits. fits }
+
+  pub goes_on_further : (old mid new : Log D C) → Preserves trace sum old mid → GoesOn trace sum mid new → GoesOn trace sum old new
+  goes_on_further old mid new first then = record {
+    config = record { config = then.config.config ∙ first.goes_on.config.config; checksum = then.config.checksum ∙ first.goes_on.config.checksum };
+    later = later_both _ _ _ first.goes_on.later then.later;
+    stable = omega (arith, first.goes_on.stable, then.stable);
+    crash = λ H A f U fits. joined _ _ _ _ (first.goes_on.crash H A f U fits)
+        (subst (λ n. LeavesOnly (RecoverableIfOwn sum n H A f) (trace (device_of mid)) (trace (device_of new))) (ap (λ (x : Config). x.segment_size) first.goes_on.config.config)
+        (then.crash H A f U (first.fits H A f U fits)));
+  }
+
+  -- one call, and then another
+  pub kept_further : (old mid new : Log D C) → Preserves trace sum old mid → Preserves trace sum mid new → Preserves trace sum old new
+  kept_further old mid new first then = record {
+    goes_on = goes_on_further old mid new first then.goes_on;
+    history = λ H holds. then.history H (first.history H holds);
+    fits = λ H A f U fits. then.fits H A f U (first.fits H A f U fits);
+  }

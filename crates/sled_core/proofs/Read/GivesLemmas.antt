@@ -1,0 +1,118 @@
+-- Where the record of a message stands, what is read is that message.
+use Rattle.std.proofs.Common.{◌≡◌, ◌≤◌, ◌<◌, ◌+◌, ◌/◌, ◌%◌, ℕ, List, [], ◌∷◌, length, sym, ◌∙◌, ap, arith, refl, subst, true, false, Bool, if◌then◌else◌, ◌==◌, None, Some, max, inl, inr}
+use Rattle.std.specs.List.{All, Contains}
+use Rattle.std.proofs.lemmas.List.Elements.{Contains-append_cases, All-contains, All-cons}
+use Rattle.sled_codec.specs.declared.result.DiskPtr.TheVariants as ptr
+use Rattle.sled_codec.specs.declared.serialization.message.LogKind.{LogKind}
+use Rattle.sled_codec.specs.declared.serialization.message.LogKind.TheVariants as does
+use Rattle.sled_codec.specs.declared.serialization.message.MessageKind.{MessageKind}
+use Rattle.sled_codec.specs.declared.serialization.message.MessageKind.TheVariants as kind
+use Rattle.sled_codec.specs.declared.serialization.message.MessageHeader.{MessageHeader}
+use Rattle.sled_codec.specs.Kinds.{kind_written}
+use Rattle.sled_codec.specs.History.{Message, History}
+use Rattle.sled_store.specs.Device.{LogState, State}
+use Rattle.sled_core.specs.declared.iobuf.Reserved.{Reserved}
+use Rattle.sled_core.specs.declared.iobuf.SegmentPosition.{SegmentPosition}
+use Rattle.sled_core.specs.Buffers.{completed_in}
+use Rattle.sled_core.specs.LogFile.{MessageStands, StandIn, StandsElsewhere, IsLogFile}
+use Rattle.sled_core.specs.Fits.{HoldsIn, IsOnDevice}
+use Rattle.sled_core.proofs.Reserve.Ranges.{completed_between}
+use Rattle.sled_core.proofs.Reserve.CompletesLemmas.{some_long}
+use Rattle.sled_core.proofs.Read.ReadingLemmas.{laid_of, one_head, one_laid, one_text}
+use Rattle.sled_core.proofs.Read.ScanLemmas.{aligned_number}
+use Rattle.sled_core.specs.declared.logger.read_message.LogRead.{LogRead}
+use Rattle.sled_core.specs.declared.logger.read_message.LogRead.TheVariants.{Inline, Blob, Canceled, Cap, Corrupted, DanglingBlob, BatchManifest}
+use Rattle.sled_core.specs.Reading.{StandsAt, IsReading, GivesMessage, is_inline, is_blob}
+
+-- the record of a message stands at its pointer, in the segment of its place
+abbrev pub StandsWhole : (List ℕ → ℕ) → ℕ → List ℕ → Message → Type 0
+StandsWhole sum size log m = (lid : ℕ) × (m.pointer ≡ ptr.Inline lid) × MessageStands sum size log lid (m.place / size) m
+
+-- At one offset one record stands.
+
+module _ (sum : List ℕ → ℕ) (size : ℕ) (log : List ℕ) (lid number : ℕ) (h h' : MessageHeader) (body body' : List ℕ) (len len' : ℕ)
+    (a : StandsAt sum size log lid number h body len) (b : StandsAt sum size log lid number h' body' len') where
+  pub one_header : h ≡ h'
+  one_header = one_laid size log lid number a.header b.header h h' body body' (laid_of sum size log lid number h body len a).0 (laid_of sum size log lid number h' body' len' b).0
+
+  pub one_body : body ≡ body'
+  one_body = one_text size log lid number a.header b.header h h' body body' (laid_of sum size log lid number h body len a).0 (laid_of sum size log lid number h' body' len' b).0
+
+  pub one_len : len ≡ len'
+  one_len =
+      let heads = one_head size log lid number a.header b.header h h' body body' (laid_of sum size log lid number h body len a).0 (laid_of sum size log lid number h' body' len' b).0 in
+      omega (arith, (laid_of sum size log lid number h body len a).1, (laid_of sum size log lid number h' body' len' b).1, ap length heads, ap length one_body)
+
+-- a message that holds its item is of a kind that does
+inline_if : (b c : Bool) (x y z k : MessageKind) → is_inline x ≡ true → is_inline y ≡ true → is_inline z ≡ true → (if b then Some x else if c then Some y else Some z) ≡ Some k → is_inline k ≡ true
+inline_if true c x y z k ix iy iz is = let same : x ≡ k = cc in sym (ap is_inline same) ∙ ix
+inline_if false true x y z k ix iy iz is = let same : y ≡ k = cc in sym (ap is_inline same) ∙ iy
+inline_if false false x y z k ix iy iz is = let same : z ≡ k = cc in sym (ap is_inline same) ∙ iz
+
+pub kind_inline : (does_it : LogKind) (page : ℕ) (k : MessageKind) → kind_written does_it page false ≡ Some k → is_inline k ≡ true
+kind_inline does.Replace page k is = inline_if (page == 1) (page == 0) _ _ _ k refl refl refl is
+kind_inline does.Link page k is = let same : kind.InlineLink ≡ k = cc in sym (ap is_inline same)
+kind_inline does.Free page k is = let same : kind.Free ≡ k = cc in sym (ap is_inline same)
+kind_inline does.Skip page k is = cc
+kind_inline does.Corrupted page k is = cc
+
+pub blob_apart : (k : MessageKind) → is_blob k ≡ true → is_inline k ≡ true → ⊥
+blob_apart kind.BlobMeta blob inline = cc
+blob_apart kind.BlobNode blob inline = cc
+blob_apart kind.BlobLink blob inline = cc
+blob_apart _ blob inline = cc
+
+-- What is read where a message's record stands gives that message.
+pub gives : (sum : List ℕ → ℕ) (size : ℕ) (log : List ℕ) (lid number : ℕ) (m : Message) (h : MessageHeader) (r : LogRead)
+    → StandsAt sum size log lid number h m.bytes m.size → kind_written m.kind m.page false ≡ Some h.kind → h.pid ≡ m.page → IsReading sum size log lid number r → GivesMessage m r
+gives sum size log lid number m h (Inline h' bytes n) stands known page reads =
+    let same = one_header sum size log lid number h h' m.bytes bytes.items m.size n stands reads.0 in (
+      known ∙ ap (λ (x : MessageHeader). Some x.kind) same,
+      sym (ap (λ (x : MessageHeader). x.pid) same) ∙ page,
+      sym (one_body sum size log lid number h h' m.bytes bytes.items m.size n stands reads.0),
+      sym (one_len sum size log lid number h h' m.bytes bytes.items m.size n stands reads.0),
+    )
+gives sum size log lid number m h (Blob h' bytes place n) stands known page reads = reads
+gives sum size log lid number m h (Canceled n) stands known page reads =
+    let same = one_header sum size log lid number h reads.0 m.bytes reads.1 m.size n stands reads.2 in
+    let inline : is_inline reads.0.kind ≡ true = ap (λ (x : MessageHeader). is_inline x.kind) (sym same) ∙ kind_inline m.kind m.page h.kind known in
+    let not_so : is_inline kind.Canceled ≡ true = ap is_inline (sym reads.3) ∙ inline in cc
+gives sum size log lid number m h (Cap segment) stands known page reads =
+    let same = one_header sum size log lid number h reads.0 m.bytes reads.1 m.size reads.2 stands reads.3 in
+    let inline : is_inline reads.0.kind ≡ true = ap (λ (x : MessageHeader). is_inline x.kind) (sym same) ∙ kind_inline m.kind m.page h.kind known in
+    let not_so : is_inline kind.Cap ≡ true = ap is_inline (sym reads.4) ∙ inline in cc
+gives sum size log lid number m h Corrupted stands known page reads = reads h m.bytes m.size stands
+gives sum size log lid number m h (DanglingBlob h' place n) stands known page reads =
+    let same = one_header sum size log lid number h h' m.bytes reads.0 m.size n stands reads.1 in
+    let inline : is_inline h'.kind ≡ true = ap (λ (x : MessageHeader). is_inline x.kind) (sym same) ∙ kind_inline m.kind m.page h.kind known in
+    absurd (blob_apart h'.kind reads.2 inline)
+gives sum size log lid number m h (BatchManifest peg n) stands known page reads =
+    let same = one_header sum size log lid number h reads.0 m.bytes reads.1 m.size n stands reads.2 in
+    let inline : is_inline reads.0.kind ≡ true = ap (λ (x : MessageHeader). is_inline x.kind) (sym same) ∙ kind_inline m.kind m.page h.kind known in
+    let not_so : is_inline kind.BatchManifest ≡ true = ap is_inline (sym reads.3) ∙ inline in cc
+
+-- the messages of a segment stand at their pointers
+pub own_stands : (sum : List ℕ → ℕ) (size : ℕ) (log : List ℕ) (site : SegmentPosition) (at : ℕ) (ms : List Message) (end : ℕ) → site.place % size ≡ 0 → StandIn sum size log site at ms end → All (StandsWhole sum size log) ms
+own_stands sum size log site at [] end aligned stand = λ k d lt. absurd (omega arith)
+own_stands sum size log site at (m ∷ ms) end aligned stand =
+    let below : at < size = omega (arith, stand.0) in
+    let number : site.place / size ≡ m.place / size = sym (ap (λ n. n / size) stand.1 ∙ aligned_number site.place at size aligned below) in
+    All-cons (StandsWhole sum size log) m ms (site.slot + at, stand.2, subst (λ n. MessageStands sum size log (site.slot + at) n m) number stand.3) (own_stands sum size log site (at + m.size) ms end aligned stand.4)
+
+-- A message that was written stands where it lies, in the segment of its place.
+pub message_found : (sum : List ℕ → ℕ) (size : ℕ) (site : SegmentPosition) (device : State) (bytes : List ℕ) (from : ℕ) (rs : List Reserved) (H : History) (m : Message)
+    → HoldsIn sum size site device None bytes from rs H → Contains H.messages m → m.place < site.place + from → StandsWhole sum size device.log.bytes m
+message_found sum size site device bytes from rs H m holds there written =
+    let on : IsOnDevice sum size device.log site from holds.earlier = holds.written refl in
+    let file : IsLogFile sum size on.log site from holds.earlier = on.file in
+    let early : Contains holds.earlier m = elim (Contains-append_cases holds.earlier (completed_in site bytes rs) m (subst (λ (ms : List Message). Contains ms m) holds.messages there)) [
+      | inl first ↦ first
+      | inr later ↦ (
+          let between = All-contains (λ x. (site.place + max 20 from ≤ x.place) × (x.place < site.place + length bytes) × (x.place + x.size ≤ site.place + length bytes)) (completed_in site bytes rs) m (completed_between site bytes (max 20 from) (length bytes) rs holds.chain (some_long sum (site.place / size) bytes rs holds.stand)) later in
+          absurd (omega (arith, between.0, written)))
+    ] in
+    let stands : StandsWhole sum size on.log m = elim (Contains-append_cases file.older file.own m (subst (λ (ms : List Message). Contains ms m) file.parts early)) [
+      | inl older ↦ (let s = All-contains (StandsElsewhere sum size on.log site) file.older m file.elsewhere older in (s.lid, s.pointer, s.stands))
+      | inr own ↦ All-contains (StandsWhole sum size on.log) file.own m (own_stands sum size on.log site 20 file.own (max 20 from) holds.place_begins file.stand) own
+    ] in
+    subst (λ (l : List ℕ). StandsWhole sum size l m) (sym (ap (λ (s : LogState). s.bytes) on.settled)) stands

@@ -1,0 +1,6 @@
+pub mod CompletesLemmas
+pub mod Heads
+pub mod OpenCounts
+pub mod Parts
+pub mod Ranges
+pub mod ReserveLemmas

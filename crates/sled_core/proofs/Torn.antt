@@ -1,0 +1,4 @@
+pub mod TornFlush
+pub mod TornLemmas
+pub mod TornRecords
+pub mod TornZeros

@@ -1,5 +1,0 @@
--- An entry that is within the limits can't be booked only where it can't lie beside the others.
-use Rattle.sled_core.proofs.begin.book.Book.put.Goals as goal
-
-pub returns-clause-corrupt : goal.returns-clause-corrupt
-returns-clause-corrupt c = λ es booked corrupt _ fit. c.note.ensures.corrupt es booked corrupt fit

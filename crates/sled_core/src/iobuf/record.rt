@@ -1,0 +1,104 @@
+//! How a record is laid out at the end of a segment's bytes. Until it is completed it has zeros in place
+//! of its sum and its kind.
+ghost use Rattle.std.specs.Prelude.{◌≡◌, ◌+◌, ◌-◌, ◌≤◌, ◌<◌, ◌^◌, ◌++◌, ◌∷◌, [], length, take, drop, vec_capacity};
+ghost use Rattle.sled_codec.specs.Spelling.{low_bytes, short_header_tail};
+ghost use Rattle.sled_core.specs.Buffers.{placeholder_head};
+
+use sled_codec::result::PageId;
+use sled_codec::serialization::{Checksum, MessageHeader, MessageKind, SegmentNumber, Serialize};
+use sled_store::segment::MAX_MSG_HEADER_LEN;
+
+/// The sum and the kind in the header of a message: what completes a record.
+pub(crate) const COMPLETING_LEN: usize = 5;
+
+/// The header of a message as it is written, but for its sum.
+#[derive(Clone, Copy)]
+pub(crate) struct Head {
+    pub(crate) bytes: [u8; 32],
+    pub(crate) len: usize,
+    ghost within: { len ≤ 32 },
+    ghost long: { 5 ≤ len },
+}
+
+impl Head {
+    /// What stands behind the sum.
+    pub(crate) fn tail(&self) -> &[u8]
+        ensures tail { result.now ≡ drop 4 (take self.now.len self.now.bytes) }
+        ensures len { length result.now + 4 ≡ self.now.len }
+    {
+        &self.bytes[4..self.len]
+    }
+}
+
+/// The header of a message of a segment whose body is this long.
+pub(crate) fn head_of(kind: MessageKind, number: SegmentNumber, pid: PageId, len: u64) -> Head
+    ensures bytes { drop 4 (take result.len result.bytes) ≡ short_header_tail kind len number.0 pid }
+    ensures len { result.len ≡ 4 + length (short_header_tail kind len number.0 pid) }
+{
+    let header = MessageHeader {
+        crc32: 0,
+        kind,
+        segment_number: number,
+        pid,
+        len,
+    };
+    let mut bytes = [0; MAX_MSG_HEADER_LEN];
+    let len = header.serialize_into(&mut bytes, 0);
+    Head { bytes, len }
+}
+
+/// Puts bytes behind what is there, where there is room for them.
+pub(crate) fn push_bytes(bytes: &mut Vec<u8>, more: &[u8])
+    requires { length bytes.old.items + length more.now ≤ vec_capacity bytes.old }
+    ensures bytes { bytes.new.items ≡ bytes.old.items ++ more.now }
+    ensures len { length bytes.new.items ≡ length bytes.old.items + length more.now }
+    ensures capacity { vec_capacity bytes.old ≤ vec_capacity bytes.new }
+{
+    let _ = bytes.extend_from_slice(more);
+}
+
+/// Puts a header behind what is there, with zeros in place of its sum and its kind.
+pub(crate) fn push_placeholder(bytes: &mut Vec<u8>, head: &Head)
+    requires { length bytes.old.items + head.now.len ≤ vec_capacity bytes.old }
+    ensures bytes { bytes.new.items ≡ bytes.old.items ++ placeholder_head (take head.now.len head.now.bytes) }
+    ensures len { length bytes.new.items ≡ length bytes.old.items + head.now.len }
+    ensures capacity { vec_capacity bytes.old ≤ vec_capacity bytes.new }
+{
+    push_bytes(bytes, &[0; COMPLETING_LEN]);
+    push_bytes(bytes, &head.bytes[COMPLETING_LEN..head.len]);
+}
+
+/// Puts an item behind what is there.
+pub(crate) fn push_item<T: Serialize>(bytes: &mut Vec<u8>, item: &T, len: usize)
+    requires fits { T.fits (T.meaning item.now) }
+    requires len { len ≡ length (T.short (T.meaning item.now)) }
+    requires room { length bytes.old.items + len ≤ vec_capacity bytes.old }
+    ensures bytes { bytes.new.items ≡ bytes.old.items ++ T.short (T.meaning item.now) }
+    ensures len { length bytes.new.items ≡ length bytes.old.items + len }
+    ensures capacity { vec_capacity bytes.old ≤ vec_capacity bytes.new }
+{
+    let at = bytes.len();
+    let _ = bytes.resize(at + len, 0);
+    item.serialize_into(bytes, at);
+}
+
+/// The sum of the bytes from an offset on and of a header behind its sum. That is put behind the bytes
+/// for it, so that nothing else is copied, and taken away again.
+pub(crate) fn sum_behind<C: Checksum>(
+    checksum: &C,
+    bytes: &mut Vec<u8>,
+    from: usize,
+    tail: &[u8],
+) -> u32
+    requires from { from ≤ length bytes.old.items }
+    requires room { length bytes.old.items + length tail.now ≤ vec_capacity bytes.old }
+    ensures sum { result ≡ C.sum_of (drop from bytes.old.items ++ tail.now) }
+    ensures bytes { bytes.new.items ≡ bytes.old.items }
+    ensures capacity { vec_capacity bytes.old ≤ vec_capacity bytes.new }
+{
+    let end = bytes.len();
+    push_bytes(bytes, tail);
+    let sum = checksum.sum(&bytes[from..]);
+    bytes.truncate(end);
+    sum
+}

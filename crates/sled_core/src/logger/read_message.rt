@@ -1,0 +1,339 @@
+//! Reading a message from the device: which bytes pass as its record, and what that holds.
+ghost use Rattle.std.specs.Prelude.{IfSome, IfNone, None, Some, is_some, ◌≡◌, ◌≢◌, ◌≤◌, ◌<◌, ◌+◌, ◌-◌, ◌%◌, ◌^◌, ◌++◌, ◌↔◌, ℕ, List, length, take, drop, min, vec_capacity, IfOk, IfErr, OnOk, IsTrue, IsErr, slice_index, MatchOption, ◌⊎◌, true};
+ghost use Rattle.std.specs.declared.io.ErrorKind.TheVariants.{OutOfMemory};
+ghost use Rattle.sled_codec.specs.declared.serialization.message.MessageHeader.{MessageHeader};
+ghost use Rattle.sled_codec.specs.declared.serialization.message.MessageKind.TheVariants as kind;
+ghost use Rattle.sled_codec.specs.Errors.{IsCorruption, IsDecodeError};
+ghost use Rattle.sled_codec.specs.Places.{part, MayBegin};
+ghost use Rattle.sled_codec.specs.Spelling.{SpellsMessageHeader, SpellsSigned};
+ghost use Rattle.sled_codec.specs.Sums.{flipped};
+ghost use Rattle.sled_store.specs.Device.{state_of};
+ghost use Rattle.sled_store.specs.Answers.{Counts, Fails};
+ghost use Rattle.sled_store.specs.Causes.{DeviceAnswers};
+ghost use Rattle.sled_core.specs.Causes.{ReaderAnswers};
+ghost use Rattle.sled_core.specs.Reading.{HoldsAs, IsReading, IsMalformed, IsFound, IsBare, file_read, data_of, is_blob};
+
+use crate::iobuf::record::sum_behind;
+use crate::logger::read_at::{BasedBuf, ReadAt};
+use crate::logger::unverified_record::{READ_AHEAD, UnverifiedRecord};
+use sled_codec::result::{BlobPointer, Error, LogOffset, Lsn, Result};
+use sled_codec::serialization::{Checksum, MessageHeader, MessageKind, SegmentNumber, Serialize};
+use sled_store::segment::MAX_MSG_HEADER_LEN;
+use sled_store::{Device, RunningConfig};
+use std::alloc::Global;
+use std::io;
+
+/// What stands at an offset of the log.
+#[derive(Debug, Drop)]
+pub enum LogRead {
+    /// A message whose item stands in its record: its header, the item's bytes, and how long the
+    /// record is.
+    Inline(MessageHeader, Vec<u8>, u32),
+    /// A message whose item is a blob: its header, the item's bytes, the blob's place, and how long
+    /// the record is.
+    Blob(MessageHeader, Vec<u8>, BlobPointer, u32),
+    /// A message that was aborted, and how long its record is.
+    Canceled(u32),
+    /// The rest of the segment of this number was given up.
+    Cap(SegmentNumber),
+    /// No record of the segment stands there.
+    Corrupted,
+    /// A message whose blob is gone: its header, the blob's place, and how long the record is.
+    DanglingBlob(MessageHeader, BlobPointer, u32),
+    /// The beginning of a batch: the place of the batch's last byte, and how long the record is.
+    BatchManifest(Lsn, u32),
+}
+
+impl LogRead {
+    /// Whether it is a message with its item.
+    pub fn is_successful(&self) -> bool
+        ensures { result ≡ is_some (data_of self.now) }
+    {
+        match self {
+            LogRead::Inline(_, _, _) | LogRead::Blob(_, _, _, _) => true,
+            _ => false,
+        }
+    }
+
+    /// The item's bytes, where it is a message with its item.
+    pub fn into_data(self) -> Option<Vec<u8>>
+        ensures { MatchOption result (data_of self ≡ None) (λ bytes. data_of self ≡ Some bytes.items) }
+    {
+        match self {
+            LogRead::Inline(_, bytes, _) | LogRead::Blob(_, bytes, _, _) => Some(bytes),
+            _ => None,
+        }
+    }
+}
+
+/// Reads what stands at an offset, for a segment of this number: from a buffer, whose end then is that of
+/// the file, or from the device. It asks for an offset at which a record may begin, and that lies in the
+/// buffer. `Corruption` comes where a record stands there that has to hold a place and does not.
+pub fn read_message<D: Device, C: Checksum>(
+    config: &mut RunningConfig<D, C>,
+    buf: Option<&BasedBuf>,
+    lid: LogOffset,
+    number: SegmentNumber,
+) -> Result<LogRead>
+    requires begin { MayBegin config.old.config.segment_size lid }
+    requires behind { IfSome buf (λ b. b.now.offset ≤ lid) }
+    ensures reading { IfOk result (IsReading C.sum_of config.old.config.segment_size (file_read buf.entry (state_of (D.trace config.old.device)).log.bytes) lid number.0) }
+    ensures malformed { IsCorruption result → IsMalformed C.sum_of config.old.config.segment_size (file_read buf.entry (state_of (D.trace config.old.device)).log.bytes) lid number.0 }
+    ensures answers { DeviceAnswers result (D.faults config.old.device) (D.faults config.new.device) }
+    ensures trace { D.trace config.new.device ≡ D.trace config.old.device }
+    ensures config { config.new.config ≡ config.old.config }
+    ensures checksum { config.new.checksum ≡ config.old.checksum }
+{
+    match find_in(config, buf, lid, number)? {
+        Some(found) => read_found(&config.checksum, found),
+        None => Ok(LogRead::Corrupted),
+    }
+}
+
+/// What is laid at an offset of the buffer, or of the device's log.
+fn find_in<D: Device, C: Checksum>(
+    config: &mut RunningConfig<D, C>,
+    buf: Option<&BasedBuf>,
+    lid: LogOffset,
+    number: SegmentNumber,
+) -> Result<Option<UnverifiedRecord>>
+    requires behind { IfSome buf (λ b. b.now.offset ≤ lid) }
+    ensures found { IfOk result (λ o. IfSome o (IsFound config.old.config.segment_size (file_read buf.entry (state_of (D.trace config.old.device)).log.bytes) lid number.0)) }
+    ensures none { IfOk result (λ o. IfNone o (IsBare config.old.config.segment_size (file_read buf.entry (state_of (D.trace config.old.device)).log.bytes) lid number.0)) }
+    ensures valid { IfOk result (λ o. IfSome o (λ f. f.header.kind ≢ kind.Corrupted)) }
+    ensures answers { DeviceAnswers result (D.faults config.old.device) (D.faults config.new.device) }
+    ensures readable { IsCorruption result → ⊥ }
+    ensures trace { D.trace config.new.device ≡ D.trace config.old.device }
+    ensures config { config.new.config ≡ config.old.config }
+    ensures checksum { config.new.checksum ≡ config.old.checksum }
+{
+    let alloc = config.alloc();
+    let size = config.config.segment_size;
+    match buf {
+        Some(mut buf) => find_record(alloc, &mut buf, size, lid, number),
+        None => find_record(alloc, config, size, lid, number),
+    }
+}
+
+/// What a record holds, where its sum is right.
+fn read_found<C: Checksum>(checksum: &C, found: UnverifiedRecord) -> Result<LogRead>
+    requires { found.header.kind ≢ kind.Corrupted }
+    ensures reading { (size : ℕ) (log : List ℕ) (lid number : ℕ) → IsFound size log lid number found → IfOk result (IsReading C.sum_of size log lid number) }
+    ensures malformed { (size : ℕ) (log : List ℕ) (lid number : ℕ) → IsFound size log lid number found → IsCorruption result → IsMalformed C.sum_of size log lid number }
+    ensures errors { IfErr result IsDecodeError }
+{
+    let UnverifiedRecord {
+        header,
+        head,
+        header_len,
+        mut body,
+    } = found;
+    if !passes(checksum, &header, &mut body, &head[4..header_len]) {
+        return Ok(LogRead::Corrupted);
+    }
+    let len = header_len + body.len();
+    reading_of(header, body, len as u32)
+}
+
+/// What is laid at an offset for a segment of this number, if it is a record but for its sum.
+fn find_record<R: ReadAt>(
+    alloc: Global,
+    reader: &mut R,
+    size: u64,
+    lid: LogOffset,
+    number: SegmentNumber,
+) -> Result<Option<UnverifiedRecord>>
+    requires size { (0 < size) × (size < 2 ^ 32) }
+    requires behind { R.begins reader.old ≤ lid }
+    ensures found { IfOk result (λ o. IfSome o (IsFound size (R.file reader.old) lid number.0)) }
+    ensures none { IfOk result (λ o. IfNone o (IsBare size (R.file reader.old) lid number.0)) }
+    ensures valid { IfOk result (λ o. IfSome o (λ f. f.header.kind ≢ kind.Corrupted)) }
+    ensures answers { DeviceAnswers result (R.faults reader.old) (R.faults reader.new) }
+    ensures readable { IsCorruption result → ⊥ }
+    ensures rest { R.rest reader.new ≡ R.rest reader.old }
+{
+    let (head, count) = read_head(reader, lid)?;
+    match decode_head(alloc, &head[..])? {
+        Some((header, header_len)) => {
+            if header_len > count {
+                return Ok(None);
+            }
+            find_announced(alloc, reader, size, lid, number, head, header, header_len)
+        }
+        None => Ok(None),
+    }
+}
+
+/// The same, where the first bytes at the offset begin with this header.
+fn find_announced<R: ReadAt>(
+    alloc: Global,
+    reader: &mut R,
+    size: u64,
+    lid: LogOffset,
+    number: SegmentNumber,
+    head: [u8; READ_AHEAD],
+    header: MessageHeader,
+    header_len: usize,
+) -> Result<Option<UnverifiedRecord>>
+    requires size { (0 < size) × (size < 2 ^ 32) }
+    requires behind { R.begins reader.old ≤ lid }
+    requires head { (k : ℕ) → k ≤ 32 → lid + k ≤ length (R.file reader.old) → take k head ≡ part (R.file reader.old) lid k }
+    requires long { length head ≡ 32 }
+    requires bytes { (i : ℕ) → slice_index head i < 256 }
+    requires found { SpellsMessageHeader (take header_len head) header }
+    requires some { 8 ≤ header_len }
+    requires short { header_len ≤ 32 }
+    requires there { lid + header_len ≤ length (R.file reader.old) }
+    ensures found { IfOk result (λ o. IfSome o (IsFound size (R.file reader.old) lid number.0)) }
+    ensures none { IfOk result (λ o. IfNone o (IsBare size (R.file reader.old) lid number.0)) }
+    ensures valid { IfOk result (λ o. IfSome o (λ f. f.header.kind ≢ kind.Corrupted)) }
+    ensures answers { DeviceAnswers result (R.faults reader.old) (R.faults reader.new) }
+    ensures readable { IsCorruption result → ⊥ }
+    ensures rest { R.rest reader.new ≡ R.rest reader.old }
+{
+    if !may_be(&header, header_len, number, size - lid % size) {
+        return Ok(None);
+    }
+    if !is_offset(lid, header_len as u64 + header.len) {
+        return Ok(None);
+    }
+    let at = lid + header_len as u64;
+    match read_body(alloc, reader, at, header.len as usize)? {
+        Some(body) => Ok(Some(UnverifiedRecord {
+            header,
+            head,
+            header_len,
+            body,
+        })),
+        None => Ok(None),
+    }
+}
+
+/// The first bytes from an offset on, and how many of them the file has. The others are anything.
+fn read_head<R: ReadAt>(reader: &mut R, lid: LogOffset) -> Result<([u8; READ_AHEAD], usize)>
+    requires { R.begins reader.old ≤ lid }
+    ensures head { IfOk result (λ read. (k : ℕ) → k ≤ 32 → lid + k ≤ length (R.file reader.old) → take k read.0 ≡ part (R.file reader.old) lid k) }
+    ensures long { IfOk result (λ read. length read.0 ≡ 32) }
+    ensures count { IfOk result (λ read. read.1 ≡ min 32 (length (R.file reader.old) - lid)) }
+    ensures answers { ReaderAnswers result ⊥ (R.faults reader.old) (R.faults reader.new) }
+    ensures file { R.file reader.new ≡ R.file reader.old }
+    ensures begins { R.begins reader.new ≡ R.begins reader.old }
+    ensures rest { R.rest reader.new ≡ R.rest reader.old }
+{
+    let mut head = blank();
+    let count = reader.pread_exact_or_eof(&mut head, lid)?;
+    Ok((head, count))
+}
+
+/// Bytes to read into.
+fn blank() -> [u8; READ_AHEAD] {
+    [0; READ_AHEAD]
+}
+
+/// The header that these bytes begin with, and how long its spelling is.
+fn decode_head(alloc: Global, head: &[u8]) -> Result<Option<(MessageHeader, usize)>>
+    requires { length head.now ≡ 32 }
+    ensures found { IfOk result (λ found. MatchOption found
+        ((front rest : List ℕ) (h : MessageHeader) → head.now ≡ front ++ rest → SpellsMessageHeader front h → ⊥)
+        (λ x. SpellsMessageHeader (take x.1 head.now) x.0 × (x.1 ≤ 32) × (8 ≤ x.1))) }
+    ensures bytes { (i : ℕ) → slice_index head.now i < 256 }
+    ensures errors { IfErr result (λ e. e ≡ Error.OutOfMemory) }
+{
+    let mut rest = head;
+    match MessageHeader::deserialize(alloc, &mut rest) {
+        Ok(header) => Ok(Some((header, head.len() - rest.len()))),
+        Err(Error::Corruption { at: _ }) => Ok(None),
+        Err(e) => Err(e),
+    }
+}
+
+/// Whether a record of this header may stand where there are so many bytes, for a segment.
+fn may_be(header: &MessageHeader, header_len: usize, number: SegmentNumber, room: u64) -> bool
+    ensures { IsTrue result ↔ ((header.now.kind ≢ kind.Corrupted) × (header.now.segment_number ≡ number) × (header_len + header.now.len ≤ room)) }
+{
+    let header_len = header_len as u64;
+    header.kind != MessageKind::Corrupted
+        && header.segment_number == number
+        && header_len <= room
+        && header.len <= room - header_len
+}
+
+/// Whether the end of so many bytes from an offset on is an offset.
+fn is_offset(lid: LogOffset, len: u64) -> bool
+    ensures { IsTrue result ↔ (lid + len < 2 ^ 64) }
+{
+    lid.checked_add(len).is_some()
+}
+
+/// So many bytes from an offset on, with room for a header behind them, where the file has them.
+fn read_body<R: ReadAt>(
+    alloc: Global,
+    reader: &mut R,
+    at: u64,
+    len: usize,
+) -> Result<Option<Vec<u8>>>
+    requires small { len < 2 ^ 32 }
+    requires behind { R.begins reader.old ≤ at }
+    requires there { at ≤ length (R.file reader.old) }
+    ensures body { IfOk result (λ body. MatchOption body (length (R.file reader.old) < at + len) (λ b. (b.items ≡ part (R.file reader.old) at len) × (at + len ≤ length (R.file reader.old)))) }
+    ensures room { IfOk result (λ o. IfSome o (λ b. len + 32 ≤ vec_capacity b)) }
+    ensures len { IfOk result (λ o. IfSome o (λ b. length b.items ≡ len)) }
+    ensures answers { DeviceAnswers result (R.faults reader.old) (R.faults reader.new) }
+    ensures readable { IsCorruption result → ⊥ }
+    ensures rest { R.rest reader.new ≡ R.rest reader.old }
+{
+    let mut body = Vec::with_capacity(alloc, len + READ_AHEAD)?;
+    body.resize(len, 0)?;
+    let count = reader.pread_exact_or_eof(&mut body, at)?;
+    if count < len {
+        return Ok(None);
+    }
+    Ok(Some(body))
+}
+
+/// Whether a header carries the sum of this body and of what stands behind the sum.
+fn passes<C: Checksum>(
+    checksum: &C,
+    header: &MessageHeader,
+    body: &mut Vec<u8>,
+    tail: &[u8],
+) -> bool
+    requires { length body.old.items + length tail.now ≤ vec_capacity body.old }
+    ensures passes { IsTrue result ↔ (header.now.crc32 ≡ flipped (C.sum_of (body.old.items ++ tail.now))) }
+    ensures body { body.new.items ≡ body.old.items }
+{
+    let sum = sum_behind(checksum, body, 0, tail);
+    header.crc32 == u32::MAX - sum
+}
+
+/// What a record holds, by its kind.
+fn reading_of(header: MessageHeader, body: Vec<u8>, len: u32) -> Result<LogRead>
+    requires { header.kind ≢ kind.Corrupted }
+    ensures reading { IfOk result (HoldsAs header body.items len) }
+    ensures malformed { IsCorruption result → ((is_blob header.kind ≡ true) ⊎ (header.kind ≡ kind.BatchManifest)) × (length body.items ≢ 8) }
+    ensures errors { IfErr result IsDecodeError }
+{
+    match header.kind {
+        MessageKind::Canceled => Ok(LogRead::Canceled(len)),
+        MessageKind::Cap => Ok(LogRead::Cap(header.segment_number)),
+        MessageKind::BatchManifest => Ok(LogRead::BatchManifest(place_of(&body)?, len)),
+        MessageKind::BlobMeta | MessageKind::BlobNode | MessageKind::BlobLink => {
+            Ok(LogRead::DanglingBlob(header, place_of(&body)?, len))
+        }
+        _ => Ok(LogRead::Inline(header, body, len)),
+    }
+}
+
+/// The place that these bytes are, where there are eight.
+fn place_of(body: &[u8]) -> Result<Lsn>
+    ensures place { IfOk result (SpellsSigned body.now) }
+    ensures malformed { IsCorruption result → length body.now ≢ 8 }
+    ensures errors { IfErr result IsDecodeError }
+{
+    if body.len() != 8 {
+        return Err(Error::Corruption { at: None });
+    }
+    let mut bytes = [0; 8];
+    bytes.copy_from_slice(body);
+    Ok(u64::from_le_bytes(bytes).cast_signed())
+}

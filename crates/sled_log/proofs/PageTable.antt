@@ -1,0 +1,10 @@
+pub mod Ascending
+pub mod BelowLemmas
+pub mod FoldLemmas
+pub mod PageRuns
+pub mod PageStates
+pub mod PageWise
+pub mod TableCuts
+pub mod TableLemmas
+pub mod TableParts
+pub mod WholeTables

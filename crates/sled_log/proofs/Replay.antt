@@ -1,0 +1,15 @@
+pub mod FindLemmas
+pub mod FirstConclusion
+pub mod FirstRecovers
+pub mod FirstSnapshot
+pub mod FirstUndamaged
+pub mod GoodLemmas
+pub mod KeptRecovers
+pub mod LineLemmas
+pub mod OneSegment
+pub mod OnlySegment
+pub mod PassedLemmas
+pub mod RecoveryLemmas
+pub mod SegmentRecovers
+pub mod SegmentUndamaged
+pub mod ShownLemmas

@@ -1,0 +1,91 @@
+-- What comes of a pass.
+use Rattle.std.proofs.Common.{◌≡◌, ◌∙◌, ◌+◌, ◌<◌, ◌≤◌, ℕ, Bool, true, false, ◌||◌, not, nat_lt, List, [], ◌∷◌, Option, Some, None, if◌then◌else◌, refl, sym, ap, arith, pos}
+use Rattle.std.specs.Option.{unwrap_or}
+use Rattle.std.specs.List.{All, AllByRecursion}
+use Rattle.std.proofs.lemmas.List.Elements.{recursion_from_All}
+use Rattle.std.proofs.lemmas.Bool.Decides.{nat_tests}
+use Rattle.std.specs.Prelude.{Result, Ok, Err, IfOk, OnOk}
+use Rattle.sled_codec.specs.declared.result.Error.{Error}
+use Rattle.sled_log.specs.declared.snapshot.recovery.Recovery.{Recovery}
+use Rattle.sled_codec.specs.Snapshots.{SnapshotModel, stable_place}
+use Rattle.sled_core.specs.declared.iterator.scan.ScannedRecord.{ScannedRecord}
+use Rattle.sled_core.specs.declared.iterator.Segment.{Segment}
+use Rattle.sled_log.specs.WritesBack.{result_of}
+use Rattle.sled_log.specs.Recovery.{Scanned, Applied, Outcome, Recovered, Damaged, RecoveryResult, shred_range_of, is_beyond, opens, before_open, open_at, passed_in, stops_in, concluded, outcome_of, given, cut_of, has_no_table, are_whole, table_of}
+
+-- where no batch is open, all that is met lies before one
+pub before_none : (end : ℕ) (ms : List ScannedRecord) → open_at end ms ≡ None → before_open end ms ≡ ms
+before_none end [] none = refl
+before_none end (m ∷ ms) none = by_test (opens end m.what) (before_none end ms) none where
+  by_test : (b : Bool) → (open_at end ms ≡ None → before_open end ms ≡ ms) → (if b then Some m.place else open_at end ms) ≡ None → (if b then [] else m ∷ before_open end ms) ≡ m ∷ ms
+  by_test true rest none = cc
+  by_test false rest none = ap (λ (l : List ScannedRecord). m ∷ l) (rest none)
+
+-- The outcome of a pass over one segment.
+module _ (size : ℕ) (first : SnapshotModel) (end : ℕ) (s : Scanned) where
+  one_stop : (o : Option ℕ) → stops_in end s o [] ≡ (s.segment, unwrap_or o (s.segment.place + s.stop))
+  one_stop None = refl
+  one_stop (Some place) = refl
+
+  one_passed : (o : Option ℕ) → open_at end s.met ≡ o → passed_in end s o [] ≡ before_open end s.met
+  one_passed None is = sym (before_none end s.met is)
+  one_passed (Some place) is = refl
+
+  pub one_outcome : outcome_of size first end (s ∷ []) ≡ concluded size first (given (stable_place first.stable) (before_open end s.met)) (cut_of size (s.segment, unwrap_or (open_at end s.met) (s.segment.place + s.stop)))
+  one_outcome =
+      ap (λ (ms : List ScannedRecord). concluded size first (given (stable_place first.stable) ms) (cut_of size (stops_in end s (open_at end s.met) []))) (one_passed (open_at end s.met) refl)
+      ∙ ap (λ (at : Segment × ℕ). concluded size first (given (stable_place first.stable) (before_open end s.met)) (cut_of size at)) (one_stop (open_at end s.met))
+
+-- When a pass gives a snapshot, and when the content is damaged.
+module _ (size : ℕ) (first : SnapshotModel) (messages : List Applied) (cut : ℕ × Option ℕ) where
+  abbrev pub made : RecoveryResult
+  made = record {
+    model = record { stable = Some (pos cut.0); active = cut.1; pages = table_of first.pages messages };
+    shred_range = shred_range_of size cut.0 cut.1;
+    is_new = is_beyond first.stable cut.0;
+  }
+
+  abbrev chosen : Bool → Bool → Bool → Outcome
+  chosen a b c = if a || b || not c then Damaged else Recovered made
+
+  pub concluded_well : has_no_table messages ≡ false → stable_place first.stable ≤ cut.0 → are_whole (table_of first.pages messages) ≡ true → concluded size first messages cut ≡ Recovered made
+  concluded_well is le whole =
+      let above : nat_lt cut.0 (stable_place first.stable) ≡ false = grind (arith, nat_tests, le) in
+      ap (λ a. chosen a (nat_lt cut.0 (stable_place first.stable)) (are_whole (table_of first.pages messages))) is
+      ∙ ap (λ b. chosen false b (are_whole (table_of first.pages messages))) above ∙ ap (chosen false false) whole
+
+  pub no_table_damaged : has_no_table messages ≡ true → concluded size first messages cut ≡ Damaged
+  no_table_damaged is = ap (λ a. chosen a (nat_lt cut.0 (stable_place first.stable)) (are_whole (table_of first.pages messages))) is
+
+  low_cut : (a : Bool) → chosen a true (are_whole (table_of first.pages messages)) ≡ Damaged
+  low_cut true = refl
+  low_cut false = refl
+
+  pub low_cut_damaged : cut.0 < stable_place first.stable → concluded size first messages cut ≡ Damaged
+  low_cut_damaged lt =
+      let below : nat_lt cut.0 (stable_place first.stable) ≡ true = grind (arith, nat_tests, lt) in
+      ap (λ b. chosen (has_no_table messages) b (are_whole (table_of first.pages messages))) below ∙ low_cut (has_no_table messages)
+
+  not_whole : (a b : Bool) → chosen a b false ≡ Damaged
+  not_whole true b = refl
+  not_whole false true = refl
+  not_whole false false = refl
+
+  pub not_whole_damaged : are_whole (table_of first.pages messages) ≡ false → concluded size first messages cut ≡ Damaged
+  not_whole_damaged is = ap (chosen (has_no_table messages) (nat_lt cut.0 (stable_place first.stable))) is ∙ not_whole (has_no_table messages) (nat_lt cut.0 (stable_place first.stable))
+
+-- where a batch is open lies a record that is met
+open_in : (end limit : ℕ) (ms : List ScannedRecord) (else_at : ℕ) → AllByRecursion (λ m. m.place < limit) ms → else_at ≤ limit → unwrap_or (open_at end ms) else_at ≤ limit
+open_in end limit [] else_at small le = le
+open_in end limit (m ∷ ms) else_at small le = by_test (opens end m.what) small.0 (open_in end limit ms else_at small.1 le) where
+  by_test : (b : Bool) → m.place < limit → unwrap_or (open_at end ms) else_at ≤ limit → unwrap_or (if b then Some m.place else open_at end ms) else_at ≤ limit
+  by_test true lt rest = omega (arith, lt)
+  by_test false lt rest = rest
+
+pub open_below : (end limit : ℕ) (ms : List ScannedRecord) (else_at : ℕ) → All (λ m. m.place < limit) ms → else_at ≤ limit → unwrap_or (open_at end ms) else_at ≤ limit
+open_below end limit ms else_at small le = open_in end limit ms else_at (recursion_from_All (λ m. m.place < limit) ms small) le
+
+-- where a snapshot is made, and this is so of it, that is the outcome
+pub made_well : (r : Result Recovery Error) (made_of : RecoveryResult) (A : Type 0) (o : Outcome) → IfOk r (λ x. result_of x ≡ made_of) → OnOk r A → (A → o ≡ Recovered made_of) → IfOk r (λ x. o ≡ Recovered (result_of x))
+made_well (Ok x) made_of A o is holds leads = leads holds ∙ ap Recovered (sym is)
+made_well (Err e) made_of A o is holds leads = tt

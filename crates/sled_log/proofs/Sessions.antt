@@ -1,0 +1,3 @@
+pub mod RunHistories
+pub mod RunLemmas
+pub mod RunLogs

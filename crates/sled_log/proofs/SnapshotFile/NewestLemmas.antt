@@ -1,0 +1,129 @@
+-- A recovery would begin from what one answered before, once that is written back.
+use Rattle.std.proofs.Common.{◌≡◌, ◌≢◌, ◌⊎◌, ◌∙◌, ◌||◌, ◌≤◌, ◌%◌, ◌≤ℤ◌, ◌<◌, ℕ, ℤ, zero, suc, pos, negsuc, Bool, true, false, not, nat_lt, if◌then◌else◌, List, [], ◌∷◌, Option, Some, None, IsSome, refl, sym, ap, subst, arith, inl, inr}
+use Rattle.std.specs.Bool.{MatchBool}
+use Rattle.std.specs.Ordering.{int_eq}
+use Rattle.std.specs.Cmp.{signed_Decides}
+use Rattle.std.specs.Int.Signed.{≤ℤ_refl}
+use Rattle.std.proofs.lemmas.Bool.Decides.{nat_tests}
+use Rattle.sled_codec.specs.Snapshots.{SnapshotModel, FitsSnapshot, short_snapshot, stable_place, is_sound, sound_parts}
+use Rattle.sled_codec.specs.SnapshotLaws.{short_spells-snapshot}
+use Rattle.sled_core.specs.declared.iterator.scan.ScannedRecord.{ScannedRecord}
+use Rattle.sled_core.specs.declared.iterator.Segment.{Segment}
+use Rattle.sled_core.specs.Scan.{Readable}
+use Rattle.sled_store.specs.Device.{State}
+use Rattle.sled_store.specs.SnapshotFiles.{BeginsFrom}
+use Rattle.sled_log.specs.Recovery.{RecoveryResult, Scanned, Recovered, Damaged, unchanged, concluded, outcome_of, given, has_no_table, are_whole, table_of, is_beyond, cut_of, stops_in, passed_in, open_at, begun_below, AreReplayed, IsOrdering, Passes, ContinuesFrom, Recovers}
+use Rattle.sled_log.specs.WritesBack.{short_file, snapshot_number_of, IsOnlySnapshot, IsWrittenBack}
+use Rattle.sled_log.proofs.Replay.LineLemmas.{LieBelow, none_given, all_below, chain_of, chain_begun, line_of}
+
+-- a table of messages that lie below its cut
+abbrev IsConcluded : ℕ → SnapshotModel → RecoveryResult → Type 0
+IsConcluded size first x = (met : List ScannedRecord) × (cut : ℕ × Option ℕ) × LieBelow cut.0 met × (concluded size first (given (stable_place first.stable) met) cut ≡ Recovered x)
+
+-- recovery concludes that the snapshot stays, or such a table
+abbrev Comes : ℕ → SnapshotModel → RecoveryResult → Type 0
+Comes size first x = (x ≡ unchanged first) ⊎ IsConcluded size first x
+
+-- a number that cannot be other than 0
+not_none : (n : ℕ) → (n ≢ 0 → ⊥) → n ≡ 0
+not_none zero h = refl
+not_none (suc n) h = absurd (h (λ e. omega (arith, e)))
+
+module _ (sum : List ℕ → ℕ) (size : ℕ) (r : Readable) (large : 20 ≤ size) (first : SnapshotModel) (x : RecoveryResult) where
+  -- of segments that are read
+  from_passes : (ordering : List Segment) (least end : ℕ) (passes : List Scanned) → IsOrdering sum size r.log least ordering → AreReplayed sum size r end (begun_below end ordering) passes
+      → Recovered x ≡ outcome_of size first end passes → Comes size first x
+  from_passes ordering least end [] is are comes = inl (cc)
+  from_passes ordering least end (s ∷ ss) is are comes =
+      let some : 0 < size = omega (arith, large) in
+      let chain = chain_begun size some end ordering (chain_of size some ordering is.ascending (λ t there. (not_none (t.place % size) (λ odd. is.placed t there (inl odd)), ((is.found t).0 there).slot))) in
+      let line = line_of size some sum r large end (begun_below end ordering) (s ∷ ss) chain are in
+      inr (passed_in end s (open_at end s.met) ss, cut_of size (stops_in end s (open_at end s.met) ss), all_below sum size r large end s ss line, sym comes)
+
+  by_end : (ordering : List Segment) (least : ℕ) → IsOrdering sum size r.log least ordering → (end : Option ℕ) → Passes sum size r first ordering end (Recovered x) → Comes size first x
+  by_end ordering least is None comes = inl (cc)
+  by_end ordering least is (Some end) (inl damaged) = let no = damaged.0 in absurd (cc)
+  by_end ordering least is (Some end) (inr (passes, are, comes)) = from_passes ordering least end passes is are comes
+
+  comes_of : ContinuesFrom sum size r first (Recovered x) → Comes size first x
+  unfolding ContinuesFrom
+  comes_of (inl damaged) = let no = damaged.0 in absurd (cc)
+  comes_of (inr (ordering, is, inl damaged)) = let no = damaged.0 in absurd (cc)
+  comes_of (inr (ordering, is, inr (scanned, tail, passes))) = by_end ordering _ is _ passes
+
+-- What is known of a table that was concluded.
+
+pub chosen_well : (a b c : Bool) (made x : RecoveryResult) → (if a || b || not c then Damaged else Recovered made) ≡ Recovered x → (b ≡ false) × (made ≡ x)
+chosen_well true b c made x is = absurd (cc)
+chosen_well false true c made x is = absurd (cc)
+chosen_well false false false made x is = absurd (cc)
+chosen_well false false true made x is = (refl, cc)
+
+-- a cut that does not lie above a place and not below it is at it
+at_place : (stable : Option ℤ) (cut : ℕ) → is_beyond stable cut ≡ false → nat_lt cut (stable_place stable) ≡ false → (stable ≡ Some (pos cut)) × (stable_place stable ≡ cut)
+at_place None cut beyond low = absurd (cc)
+at_place (Some (negsuc n)) cut beyond low = absurd (cc)
+at_place (Some (pos n)) cut beyond low =
+    let above : cut ≤ n = grind (arith, nat_tests, beyond) in
+    let below : n ≤ cut = grind (arith, nat_tests, low) in
+    let same : n ≡ cut = omega (arith, above, below) in
+    (ap (λ k. Some (pos k)) same, same)
+
+module _ (size : ℕ) (first : SnapshotModel) (x : RecoveryResult) where
+  -- where it is not new, the snapshot has the same place and the same pages
+  stays_old : Comes size first x → x.is_new ≡ false → (first.stable ≡ x.model.stable) × (first.pages ≡ x.model.pages)
+  stays_old (inl same) is_old = (ap (λ (y : RecoveryResult). y.model.stable) (sym same), ap (λ (y : RecoveryResult). y.model.pages) (sym same))
+  stays_old (inr (met, cut, lie, is)) is_old =
+      let messages = given (stable_place first.stable) met in
+      let parts = chosen_well (has_no_table messages) (nat_lt cut.0 (stable_place first.stable)) (are_whole (table_of first.pages messages)) _ x is in
+      let there = at_place first.stable cut.0 (ap (λ (y : RecoveryResult). y.is_new) parts.1 ∙ is_old) parts.0 in
+      let none : messages ≡ [] = none_given (stable_place first.stable) met (subst (λ n. LieBelow n met) (sym there.1) lie) in
+      (there.0 ∙ ap (λ (y : RecoveryResult). y.model.stable) parts.1, sym (ap (table_of first.pages) none) ∙ ap (λ (y : RecoveryResult). y.model.pages) parts.1)
+
+  -- where it is new, the table has a place
+  new_place : Comes size first x → x.is_new ≡ true → (cut : ℕ) × (x.model.stable ≡ Some (pos cut))
+  new_place (inl same) is_new = let no : x.is_new ≡ false = ap (λ (y : RecoveryResult). y.is_new) same in absurd (cc)
+  new_place (inr (met, cut, lie, is)) is_new =
+      let messages = given (stable_place first.stable) met in
+      let parts = chosen_well (has_no_table messages) (nat_lt cut.0 (stable_place first.stable)) (are_whole (table_of first.pages messages)) _ x is in
+      (cut.0, sym (ap (λ (y : RecoveryResult). y.model.stable) parts.1))
+
+-- A recovery begins from the one snapshot that there is.
+pub sound_at : (s : SnapshotModel) (cut : ℕ) → s.stable ≡ Some (pos cut) → is_sound s ≡ true
+sound_at s cut is = subst (λ (o : Option ℤ). sound_parts o s.active s.pages ≡ true) (sym is) refl
+
+begins_from_only : (sum : List ℕ → ℕ) (file : ℤ → Option (List ℕ)) (s : SnapshotModel) (cut : ℕ) → s.stable ≡ Some (pos cut) → FitsSnapshot s → IsOnlySnapshot file (snapshot_number_of s) (short_file sum s) → BeginsFrom sum file s
+begins_from_only sum file s cut place fits only = inr (
+  snapshot_number_of s,
+  short_file sum s,
+  record { there = only.own; greatest = λ n there. by_test n there (int_eq n (snapshot_number_of s)) refl },
+  record { text = short_snapshot s; spelled = short_spells-snapshot s fits; is = refl; small = fits.small },
+  sound_at s cut place,
+)
+  where
+    by_test : (n : ℤ) → IsSome (file n) → (b : Bool) → int_eq n (snapshot_number_of s) ≡ b → n ≤ℤ snapshot_number_of s
+    by_test n there true is = subst (λ (m : ℤ). m ≤ℤ snapshot_number_of s) (sym ((signed_Decides n (snapshot_number_of s)).0 is)) (≤ℤ_refl (snapshot_number_of s))
+    by_test n there false is =
+        let none : file n ≡ None = only.others n (λ same. let yes = (signed_Decides n (snapshot_number_of s)).1 same in cc) in
+        absurd (cc)
+
+-- The whole.
+module _ (sum : List ℕ → ℕ) (size : ℕ) (r : Readable) (large : 20 ≤ size) (x : RecoveryResult) (old new : State) (back : IsWrittenBack sum x old new) where
+  -- a recovery of the new state begins from the same place and the same pages: from the table, or from the snapshot from which that began
+  abbrev pub BeginsThere : Type 0
+  BeginsThere = (first : SnapshotModel) × BeginsFrom sum new.snapshots.file first × (first.stable ≡ x.model.stable) × (first.pages ≡ x.model.pages) × ((first ≡ x.model) ⊎ BeginsFrom sum old.snapshots.file first)
+
+  by_new : (first : SnapshotModel) → BeginsFrom sum old.snapshots.file first → Comes size first x → (x.is_new ≡ true → FitsSnapshot x.model) → (b : Bool) → x.is_new ≡ b
+      → MatchBool b (IsOnlySnapshot new.snapshots.file (snapshot_number_of x.model) (short_file sum x.model)) (new.snapshots ≡ old.snapshots) → BeginsThere
+  by_new first begins comes fits true is only =
+      let place = new_place size first x comes is in
+      (x.model, begins_from_only sum new.snapshots.file x.model place.0 place.1 (fits is) only, refl, refl, inl refl)
+  by_new first begins comes fits false is same =
+      let stays = stays_old size first x comes is in
+      (first, subst (λ s. BeginsFrom sum s.file first) (sym same) begins, stays.0, stays.1, inr begins)
+
+  -- so it does where the conclusion was written back
+  pub begins_again : Recovers sum size r old.snapshots.file (Recovered x) → (x.is_new ≡ true → FitsSnapshot x.model) → BeginsThere
+  unfolding Recovers
+  begins_again (inl damaged) fits = let no = damaged.0 in absurd (cc)
+  begins_again (inr (first, begins, comes)) fits = by_new first begins (comes_of sum size r large first x comes) fits x.is_new refl back.snapshots

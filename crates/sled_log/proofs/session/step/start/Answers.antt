@@ -1,0 +1,98 @@
+-- A log that is started goes on where the recovered table ends, and a start that fails leaves what can be recovered.
+use Rattle.std.proofs.Common.{◌≡◌, ◌<◌, ◌+◌, ◌∙◌, ℕ, List, [], None, Some, length, refl, sym, ap, subst, arith, rules, inl, inr}
+use Rattle.std.proofs.lemmas.List.{length-map}
+use Rattle.sled_codec.specs.Snapshots.{SnapshotModel, model_of, stable_place}
+use Rattle.sled_store.specs.Device.{Event, Trace, state_of}
+use Rattle.sled_store.specs.Script.{Performs, after_all}
+use Rattle.sled_store.proofs.Traces.MomentLemmas.{at_last}
+use Rattle.sled_core.specs.Fits.{NoneOpen, next_place, synced_end, pins_of, fault_of, device_of}
+use Rattle.sled_core.specs.Recoverable.{LeavesRecoverable}
+use Rattle.sled_log.specs.Runs.{starting}
+use Rattle.sled_log.proofs.Sessions.RunLemmas.{later_is, later_both, start_cause}
+use Rattle.sled_log.proofs.Sessions.RunLogs.{starts_at, starts_idle, performed_nothing}
+use Rattle.sled_log.proofs.session.step.start.Goals as goal
+
+pub returns-in-Ok-clause-acts : goal.returns-in-Ok-clause-acts
+returns-in-Ok-clause-acts g c = (
+  ap (λ l. g.D.Device.trace l.config.device) c.pin-guard.ensures.taken ∙ c.in-Ok.ensures.filled,
+  ap (λ l. g.D.Device.faults l.config.device) c.pin-guard.ensures.taken ∙ c.in-Ok.ensures.answers.2,
+)
+
+pub returns-in-Ok-clause-starts : goal.returns-in-Ok-clause-starts
+returns-in-Ok-clause-starts g c = λ k at.
+    let trace = g.D.Device.trace in
+    let sum = g.C.Checksum.sum_of in
+    let size : ℕ = c.args.config.config.segment_size in
+    let old : Trace = trace c.args.config.device in
+    let s : SnapshotModel = model_of c.args.snapshot in
+    let below : stable_place s.stable < size = search rules in
+    let ready = at.ready below in
+    let begins = c.in-Ok.ensures.begins in
+    let taken = c.pin-guard.ensures.taken in
+    let new = c.pin-guard.new.self in
+    let place = starts_at sum size old s k.history k.acknowledged k.floor c.args.config.config.least ready in
+    let next : next_place new ≡ _ = ap next_place taken ∙ begins.next ∙ place.1 in
+    let stable : synced_end new ≡ _ = ap synced_end taken ∙ begins.synced ∙ place.0 in
+    let fault : fault_of new ≡ None = ap fault_of taken ∙ begins.fault in
+    let pages : length c.args.snapshot.pt.items ≡ length s.pages = simp length-map in
+    let begun : c.len-begun.result ≡ length s.pages = search rules ∙ pages in
+    let pinned : pins_of new ≡ 1 = ap pins_of taken ∙ ap (λ n. n + 1) begins.pins in
+    let filled : trace (device_of new) ≡ after_all (starting size old s) old = ap (λ l. trace l.config.device) taken ∙ c.in-Ok.ensures.filled in
+    record {
+      log = λ i. Some (record { next = next i; stable = stable i; begun = begun i; fault = fault i; reserved = None });
+      at = record {
+        formed = at.closed.formed;
+        unmarked = [];
+        fits = c.pin-guard.ensures.keeps.fits k.history k.acknowledged k.floor [] (c.in-Ok.ensures.fits k.history k.acknowledged k.floor ready);
+        pinned = omega (arith, pinned);
+        begun = λ page less. at.begun page (omega (arith, less, begun));
+      };
+      why = tt;
+      reads = elim (starts_idle sum size old s k.history k.acknowledged k.floor c.args.config.config.least ready) [
+        | inl none ↦ inl none
+        | inr idle ↦ inr (filled ∙ ap (λ (es : List Event). after_all es old) idle)
+      ];
+    }
+
+pub returns-in-Ok-clause-on : goal.returns-in-Ok-clause-on
+returns-in-Ok-clause-on g c =
+    let trace = g.D.Device.trace in
+    let taken = c.pin-guard.ensures.taken in
+    record {
+      runs_on = record {
+        later = later_both (trace c.args.config.device) (trace c.in-Ok.log.config.device) (trace c.pin-guard.new.self.config.device) c.in-Ok.ensures.later (later_is _ _ (ap (λ l. trace l.config.device) taken));
+        kept = record { config = ap (λ l. l.config.config) taken ∙ c.in-Ok.ensures.config.config; checksum = ap (λ l. l.config.checksum) taken ∙ c.in-Ok.ensures.config.checksum };
+      };
+      can_go_on = subst (λ l. NoneOpen l) (sym taken) c.in-Ok.ensures.begins.ended;
+    }
+
+-- a start that was refused left what can be recovered
+pub returns-in-Err-clause-starts : goal.returns-in-Err-clause-starts
+returns-in-Err-clause-starts g c = λ k at.
+    let trace = g.D.Device.trace in
+    let sum = g.C.Checksum.sum_of in
+    let size : ℕ = c.args.config.config.segment_size in
+    let old : Trace = trace c.args.config.device in
+    let s : SnapshotModel = model_of c.args.snapshot in
+    let below : stable_place s.stable < size = search rules in
+    let ready = at.ready below in
+    let starts = c.in-Err.ensures.starts k.history k.acknowledged k.floor ready in
+    record {
+      log = refl;
+      at = record {
+        formed = at.closed.formed;
+        left = subst (λ n. LeavesRecoverable sum n k.history k.acknowledged k.floor (state_of (trace c.in-Err.config.device))) (sym (ap (λ x. x.segment_size) c.in-Err.ensures.config.config))
+            (at_last (LeavesRecoverable sum size k.history k.acknowledged k.floor) old (trace c.in-Err.config.device) (c.in-Err.ensures.crash k.history k.acknowledged k.floor ready));
+      };
+      why = start_cause c.in-Err.e _ _ _ _ _ c.in-Err.ensures.answers starts.0 starts.1;
+      reads = elim (starts_idle sum size old s k.history k.acknowledged k.floor c.args.config.config.least ready) [
+        | inl none ↦ inl none
+        | inr idle ↦ inr (performed_nothing old (trace c.in-Err.config.device) (subst (λ (es : List Event). Performs es old (trace c.in-Err.config.device)) idle c.in-Err.ensures.calls))
+      ];
+    }
+
+pub returns-in-Err-clause-acts : goal.returns-in-Err-clause-acts
+returns-in-Err-clause-acts g c = (search rules, c.in-Err.ensures.calls)
+
+pub returns-in-Err-clause-on : goal.returns-in-Err-clause-on
+returns-in-Err-clause-on g c = record { runs_on = record { later = c.in-Err.ensures.later; kept = c.in-Err.ensures.config }; can_go_on = tt }

@@ -1,0 +1,81 @@
+use Rattle.std.proofs.Common.{◌≡◌, ◌∙◌, ◌⊎◌, ℕ, List, subst}
+use Rattle.std.specs.List.{Contains}
+use Rattle.sled_core.proofs.Read.ReadingLemmas.{if_ok}
+use Rattle.sled_core.specs.declared.iterator.Segment.{Segment}
+use Rattle.sled_codec.specs.Snapshots.{SnapshotModel, model_of}
+use Rattle.sled_store.specs.declared.config.Config.{Config}
+use Rattle.sled_store.specs.Device.{Trace, state_of}
+use Rattle.sled_log.specs.Recovery.{Scanned, IsTail, IsDamagedTail, begun_below, AreReplayed, IsDamagedPass, outcome_of, Recovered, Damaged, least_place}
+use Rattle.sled_log.specs.Plain.{log_alone, CanBeRead}
+use Rattle.sled_log.specs.WritesBack.{result_of}
+use Rattle.sled_log.proofs.Reference.PlainSame.{was_so, still_so}
+use Rattle.sled_log.proofs.Reference.PlainFound.{all_ready}
+use Rattle.sled_log.proofs.Reference.PlainWhole.{begins_there, comes_damaged, comes_unchanged, comes_passed, comes_corrupt}
+use Rattle.sled_log.proofs.snapshot.reference.replay_by_definition.Goals as goal
+
+pub tail_end-requires : goal.tail_end-requires
+tail_end-requires g c =
+    let cfg : Config = c.args.config.now.config in
+    let log : List ℕ = (state_of (g.D.Device.trace c.args.config.now.device)).log.bytes in
+    record { ready = all_ready g.C.Checksum.sum_of cfg.segment_size log (least_place cfg.segment_size (model_of c.args.first)) c.args.segments.now c.requires.small c.requires.ordering }
+
+pub pass_over-requires-clause-ready : goal.pass_over-requires-clause-ready
+pass_over-requires-clause-ready g c =
+    let cfg : Config = c.args.config.now.config in
+    let before : Trace = g.D.Device.trace c.args.config.now.device in
+    still_so (λ n l. (s : Segment) → Contains c.args.segments.now s → CanBeRead n l s) cfg c.tail_end.new.config.config before (g.D.Device.trace c.tail_end.new.config.device) c.in-Ok-Some.ensures.reads.config c.in-Ok-Some.ensures.reads.unwritten
+    (all_ready g.C.Checksum.sum_of cfg.segment_size (state_of before).log.bytes (least_place cfg.segment_size (model_of c.args.first)) c.args.segments.now c.requires.small c.requires.ordering)
+
+pub returns-in-Ok-Some-clause-ok : goal.returns-in-Ok-Some-clause-ok
+returns-in-Ok-Some-clause-ok g c =
+    let cfg : Config = c.args.config.now.config in
+    let size : ℕ = cfg.segment_size in
+    let before : Trace = g.D.Device.trace c.args.config.now.device in
+    let log : List ℕ = (state_of before).log.bytes in
+    let ss : List Segment = c.args.segments.now in
+    let first : SnapshotModel = model_of c.args.first in
+    let end : ℕ = c.in-Ok-Some.end in
+    let begins = begins_there size c.stable_place.result c.tail_begins.result first ss c.tail_begins.ensures c.stable_place.ensures.place in
+    let tail = c.in-Ok-Some.ensures.end in
+    if_ok c.pass_over.result _ _ (λ x passed.
+    let passes = was_so (λ n l. (xs : List Scanned) × AreReplayed g.C.Checksum.sum_of n (log_alone l) end (begun_below end ss) xs × (outcome_of n first end xs ≡ Recovered (result_of x))) cfg c.tail_end.new.config.config before (g.D.Device.trace c.tail_end.new.config.device)
+    c.in-Ok-Some.ensures.reads.config c.in-Ok-Some.ensures.reads.unwritten passed in
+    comes_passed g.C.Checksum.sum_of size (log_alone log) first ss c.requires.ordering tail.0 (subst (λ n. IsTail g.C.Checksum.sum_of size (log_alone log) ss n tail.0) begins tail.1) end (tail.2 ∙ c.in-Ok-Some.field-0-is)
+    (Recovered (result_of x)) passes.0 passes.1 passes.2)
+    c.pass_over.ensures.ok
+
+pub returns-in-Ok-Some-clause-corrupt : goal.returns-in-Ok-Some-clause-corrupt
+returns-in-Ok-Some-clause-corrupt g c = λ corrupt.
+    let cfg : Config = c.args.config.now.config in
+    let size : ℕ = cfg.segment_size in
+    let before : Trace = g.D.Device.trace c.args.config.now.device in
+    let log : List ℕ = (state_of before).log.bytes in
+    let ss : List Segment = c.args.segments.now in
+    let first : SnapshotModel = model_of c.args.first in
+    let end : ℕ = c.in-Ok-Some.end in
+    let begins = begins_there size c.stable_place.result c.tail_begins.result first ss c.tail_begins.ensures c.stable_place.ensures.place in
+    let tail = c.in-Ok-Some.ensures.end in
+    comes_corrupt g.C.Checksum.sum_of size (log_alone log) first ss c.requires.ordering tail.0 (subst (λ n. IsTail g.C.Checksum.sum_of size (log_alone log) ss n tail.0) begins tail.1) end (tail.2 ∙ c.in-Ok-Some.field-0-is)
+    (was_so (λ n l. IsDamagedPass g.C.Checksum.sum_of n (log_alone l) end (begun_below end ss) ⊎ ((xs : List Scanned) × AreReplayed g.C.Checksum.sum_of n (log_alone l) end (begun_below end ss) xs × (outcome_of n first end xs ≡ Damaged))) cfg c.tail_end.new.config.config before (g.D.Device.trace c.tail_end.new.config.device)
+    c.in-Ok-Some.ensures.reads.config c.in-Ok-Some.ensures.reads.unwritten (c.pass_over.ensures.corrupt corrupt))
+
+pub returns-in-Ok-None-clause-ok : goal.returns-in-Ok-None-clause-ok
+returns-in-Ok-None-clause-ok g c =
+    let cfg : Config = c.args.config.now.config in
+    let size : ℕ = cfg.segment_size in
+    let log : List ℕ = (state_of (g.D.Device.trace c.args.config.now.device)).log.bytes in
+    let ss : List Segment = c.args.segments.now in
+    let first : SnapshotModel = model_of c.args.first in
+    let begins = begins_there size c.stable_place.result c.tail_begins.result first ss c.tail_begins.ensures c.stable_place.ensures.place in
+    let tail = c.in-Ok-None.ensures.end in
+    comes_unchanged g.C.Checksum.sum_of size (log_alone log) first ss c.requires.ordering tail.0 (subst (λ n. IsTail g.C.Checksum.sum_of size (log_alone log) ss n tail.0) begins tail.1) (tail.2 ∙ c.in-Ok-None.field-0-is)
+
+pub returns-in-Err-clause-corrupt : goal.returns-in-Err-clause-corrupt
+returns-in-Err-clause-corrupt g c = λ corrupt.
+    let cfg : Config = c.args.config.now.config in
+    let size : ℕ = cfg.segment_size in
+    let log : List ℕ = (state_of (g.D.Device.trace c.args.config.now.device)).log.bytes in
+    let ss : List Segment = c.args.segments.now in
+    let first : SnapshotModel = model_of c.args.first in
+    let begins = begins_there size c.stable_place.result c.tail_begins.result first ss c.tail_begins.ensures c.stable_place.ensures.place in
+    comes_damaged g.C.Checksum.sum_of size (log_alone log) first ss c.requires.ordering (subst (λ n. IsDamagedTail g.C.Checksum.sum_of size (log_alone log) ss n) begins (c.in-Err.ensures.damaged corrupt))

@@ -1,0 +1,6 @@
+pub mod CrashLemmas
+pub mod CrashLogLemmas
+pub mod ForeignLemmas
+pub mod LeavesLemmas
+pub mod SettledLemmas
+pub mod SyncedLemmas

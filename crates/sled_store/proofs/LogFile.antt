@@ -1,0 +1,4 @@
+pub mod LogLemmas
+pub mod LooseLemmas
+pub mod OverwrittenLemmas
+pub mod StandsLemmas

@@ -1,0 +1,7 @@
+pub mod BlobLemmas
+pub mod KeepsLemmas
+pub mod KeptLemmas
+pub mod NamesLemmas
+pub mod OfferLemmas
+pub mod TakenLemmas
+pub mod Trailers

@@ -1,0 +1,10 @@
+pub mod Elements
+pub mod EntryLemmas
+pub mod FillLemmas
+pub mod FilledLemmas
+pub mod FitLemmas
+pub mod SlotTableLemmas
+pub mod SnapshotEntries
+pub mod StartLemmas
+pub mod TableEntries
+pub mod TableWeights

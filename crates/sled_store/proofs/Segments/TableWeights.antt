@@ -1,0 +1,137 @@
+-- What the entries of a snapshot sum up to is no more than the sizes of the history's messages, and 32 bytes for each of them.
+use Rattle.std.proofs.Common.{◌≡◌, ◌≤◌, ◌<◌, ◌+◌, ◌∙◌, ◌&&◌, ◌==◌, ℕ, suc, pos, Bool, true, false, cond, if◌then◌else◌, nat_lt, nat_le, List, [], ◌∷◌, length, map, get_or, Option, Some, None, refl, sym, ap, subst, arith, inl, inr}
+use Rattle.std.specs.List.{Contains, filter, sum_by}
+use Rattle.std.proofs.lemmas.Bool.Decides.{nat_tests}
+use Rattle.std.proofs.lemmas.List.Concat.{flat_map-cons}
+use Rattle.std.proofs.lemmas.List.Sums.{sum_by-cons, sum_by-append}
+use Rattle.sled_codec.specs.declared.serialization.message.LogKind.{LogKind}
+use Rattle.sled_codec.specs.declared.serialization.message.LogKind.TheVariants.{Replace, Link, Free, Skip, Corrupted}
+use Rattle.sled_codec.specs.History.{Message, History, is_replace, is_link, last_beginning, entries_from, page_state, of_page, table}
+use Rattle.sled_codec.specs.PageTables.{entry_of, page_with, IsTable}
+use Rattle.sled_codec.specs.Snapshots.{Entry, Page, Present, Free as FreePage, Uninitialized}
+use Rattle.sled_store.specs.Begin.{entries_in, entries_of, slot_of, sizes_in}
+use Rattle.sled_store.proofs.Segments.Elements.{in_cases, in_nothing}
+use Rattle.sled_store.proofs.Segments.TableEntries.{beginning_there}
+
+-- what an entry of a message may count as
+abbrev pub weight : Message → ℕ
+weight m = m.size + 32
+
+-- the sum of the sizes of entries
+abbrev pub sizes_of : List Entry → ℕ
+sizes_of es = sum_by (λ e. e.2) es
+
+-- Messages that are kept weigh no more than all.
+
+module _ {X : Type 0} (w : X → ℕ) where
+  kept_one : (b : Bool) (x : X) (xs : List X) → sum_by w (cond b (x ∷ xs) xs) ≤ w x + sum_by w xs
+  kept_one true x xs = omega (arith, sum_by-cons w x xs)
+  kept_one false x xs = omega arith
+
+  pub kept_less : (p : X → Bool) (xs : List X) → sum_by w (filter p xs) ≤ sum_by w xs
+  kept_less p [] = omega arith
+  kept_less p (x ∷ xs) = omega (arith, kept_one (p x) x (filter p xs), kept_less p xs, sum_by-cons w x xs)
+
+  -- one that isn't kept, and those that are
+  left_and_kept : (p : X → Bool) (xs : List X) (y : X) → Contains xs y → p y ≡ false → w y + sum_by w (filter p xs) ≤ sum_by w xs
+  left_and_kept p [] y there left = absurd (in_nothing y there)
+  left_and_kept p (x ∷ xs) y there left = elim (in_cases x y xs there) [
+    | inl same ↦ (
+        let dropped : filter p (x ∷ xs) ≡ filter p xs = ap (λ (b : Bool). cond b (x ∷ filter p xs) (filter p xs)) (ap p same ∙ left) in
+        omega (arith, ap (sum_by w) dropped, ap w same, kept_less p xs, sum_by-cons w x xs))
+    | inr rest ↦ omega (arith, kept_one (p x) x (filter p xs), left_and_kept p xs y rest left, sum_by-cons w x xs)
+  ]
+
+  -- two filters that keep different ones of those that a third keeps
+  kept_apart : (p q r : X → Bool) → ((x : X) → p x ≡ true → r x ≡ true) → ((x : X) → q x ≡ true → (r x ≡ true) × (p x ≡ false)) → (xs : List X)
+      → sum_by w (filter p xs) + sum_by w (filter q xs) ≤ sum_by w (filter r xs)
+  kept_apart p q r first second [] = omega arith
+  kept_apart p q r first second (x ∷ xs) = by (p x) (q x) (r x) (first x) (second x) (kept_apart p q r first second xs)
+    where
+      by : (a b c : Bool) → (a ≡ true → c ≡ true) → (b ≡ true → (c ≡ true) × (a ≡ false)) → sum_by w (filter p xs) + sum_by w (filter q xs) ≤ sum_by w (filter r xs)
+          → sum_by w (cond a (x ∷ filter p xs) (filter p xs)) + sum_by w (cond b (x ∷ filter q xs) (filter q xs)) ≤ sum_by w (cond c (x ∷ filter r xs) (filter r xs))
+      by true true c one two rest = absurd (let no = (two refl).1 in cc)
+      by true false true one two rest = omega (arith, rest, sum_by-cons w x (filter p xs), sum_by-cons w x (filter r xs))
+      by true false false one two rest = absurd (let no = one refl in cc)
+      by false true true one two rest = omega (arith, rest, sum_by-cons w x (filter q xs), sum_by-cons w x (filter r xs))
+      by false true false one two rest = absurd (let no = (two refl).0 in cc)
+      by false false true one two rest = omega (arith, rest, sum_by-cons w x (filter r xs))
+      by false false false one two rest = rest
+
+-- The entries of one page.
+
+map_sizes : (ms : List Message) → sizes_of (map entry_of ms) ≤ sum_by weight ms
+map_sizes [] = omega arith
+map_sizes (m ∷ ms) = omega (arith, map_sizes ms, sum_by-cons (λ (e : Entry). e.2) (entry_of m) (map entry_of ms), sum_by-cons weight m ms)
+
+page_sizes : (ms : List Message) → sizes_of (entries_in (page_with ms)) ≤ sum_by weight ms
+page_sizes [] = omega arith
+page_sizes (b ∷ ms) = by (is_replace b.kind)
+  where
+    by : (t : Bool) → sizes_of (entries_in (if t then Present (entry_of b) (map entry_of ms) else FreePage (pos b.place) b.pointer)) ≤ sum_by weight (b ∷ ms)
+    by true = map_sizes (b ∷ ms)
+    by false = omega (arith, sum_by-cons weight b ms, sum_by-cons (λ (e : Entry). e.2) (pos b.place, b.pointer, 32) [])
+
+-- the messages behind a beginning that are links on it
+abbrev links_on : Message → Message → Bool
+links_on b m = is_link m.kind && nat_lt b.place m.place
+
+-- a message that replaces its page is no link on it
+not_link : (b : Message) → is_replace b.kind ≡ true → links_on b b ≡ false
+not_link b replaces = by b.kind replaces
+  where
+    by : (k : LogKind) → is_replace k ≡ true → is_link k && nat_lt b.place b.place ≡ false
+    by Replace is = refl
+    by Link is = absurd (let no : false ≡ true = is in cc)
+    by Free is = refl
+    by Skip is = refl
+    by Corrupted is = refl
+
+-- the state of a page is some of its messages
+state_less : (ms : List Message) → sum_by weight (page_state ms) ≤ sum_by weight ms
+unfolding page_state
+state_less ms = by (last_beginning ms) refl
+  where
+    some : (b : Message) → Contains ms b → (t : Bool) → is_replace b.kind ≡ t → sum_by weight (b ∷ (if t then filter (links_on b) ms else [])) ≤ sum_by weight ms
+    some b here true is = omega (arith, sum_by-cons weight b (filter (links_on b) ms), left_and_kept weight (links_on b) ms b here (not_link b is))
+    some b here false is = omega (arith, sum_by-cons weight b [], left_and_kept weight (λ _. false) ms b here refl)
+
+    by : (o : Option Message) → last_beginning ms ≡ o → sum_by weight (entries_from o ms) ≤ sum_by weight ms
+    by None none = omega arith
+    by (Some b) is = some b (beginning_there ms b is) (is_replace b.kind) refl
+
+-- The entries of all pages.
+
+page_within : (ms : List Message) → sizes_of (entries_in (page_with (page_state ms))) ≤ sum_by weight ms
+page_within ms = omega (arith, page_sizes (page_state ms), state_less ms)
+
+-- the messages of the pages from one on
+abbrev from_page : ℕ → Message → Bool
+from_page first m = nat_le first m.page
+
+pages_sizes : (H : History) (cut : ℕ) (pages : List Page) (first : ℕ) → ((k : ℕ) → k < length pages → get_or pages k Uninitialized ≡ page_with (table H cut (first + k)))
+    → sizes_of (entries_of pages) ≤ sum_by weight (filter (from_page first) H.messages)
+unfolding table of_page
+pages_sizes H cut [] first states = omega arith
+pages_sizes H cut (p ∷ ps) first states =
+    let here : p ≡ page_with (table H cut first) = states 0 (omega arith) ∙ ap (λ n. page_with (table H cut n)) (omega arith) in
+    let rest = pages_sizes H cut ps (suc first) (λ k lt. states (suc k) (omega (arith, lt)) ∙ ap (λ n. page_with (table H cut n)) (omega arith)) in
+    let one : sizes_of (entries_in p) ≤ sum_by weight (of_page H.messages cut first) = subst (λ (x : Page). sizes_of (entries_in x) ≤ sum_by weight (of_page H.messages cut first)) (sym here) (page_within (of_page H.messages cut first)) in
+    let all = ap sizes_of (flat_map-cons entries_in p ps) ∙ sum_by-append (λ (e : Entry). e.2) (entries_in p) (entries_of ps) in
+    let apart = kept_apart weight (λ m. (m.page == first) && nat_lt m.place cut) (from_page (suc first)) (from_page first)
+    (λ m of. grind (arith, nat_tests)) (λ m later. (grind (arith, nat_tests), grind (arith, nat_tests))) H.messages in
+    omega (arith, all, one, rest, apart)
+
+-- What the entries of a table sum up to.
+pub table_sizes : (pages : List Page) (H : History) (cut : ℕ) → IsTable pages H cut → sizes_of (entries_of pages) ≤ sum_by weight H.messages
+table_sizes pages H cut is = omega (arith, pages_sizes H cut pages 0 (λ k lt. is.states k ∙ ap (λ n. page_with (table H cut n)) (omega arith)), kept_less weight (from_page 0) H.messages)
+
+-- and those in one slot to no more
+pub slot_sizes : (size k : ℕ) (es : List Entry) → sizes_in size k es ≤ sizes_of es
+slot_sizes size k [] = omega arith
+slot_sizes size k (e ∷ es) =
+    omega (arith, slot_sizes size k es, sum_by-cons (λ (d : Entry). if slot_of size d == k then d.2 else 0) e es, sum_by-cons (λ (d : Entry). d.2) e es, one (slot_of size e == k))
+  where
+    one : (b : Bool) → (if b then e.2 else 0) ≤ e.2
+    one true = omega arith
+    one false = omega arith

@@ -1,7 +1,0 @@
--- So far: it is in one of the ranges where it is in one of those from here on.
-use Rattle.std.proofs.Common.{◌≡◌, drop}
-use Rattle.sled_store.specs.Memory.{is_within}
-use Rattle.sled_store.proofs.device.crash_log.is_lost.Given as goal
-
-abbrev pub invariant-loop-range : goal.invariant-loop-range
-invariant-loop-range l = is_within (drop l.range-index l.loose.items) l.at ≡ is_within l.loose.items l.at
