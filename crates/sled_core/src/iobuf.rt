@@ -40,12 +40,12 @@ pub(crate) struct Reserved {
     pub(crate) header_len: usize,
     /// How long the record is.
     pub(crate) len: usize,
+    pub(crate) page: PageId,
+    /// The sum and the kind that complete the record.
+    pub(crate) sum: u32,
+    pub(crate) kind: MessageKind,
     /// What the message does to its page.
     pub(crate) log_kind: LogKind,
-    /// The kind and the sum that complete the record.
-    pub(crate) kind: MessageKind,
-    pub(crate) page: PageId,
-    pub(crate) sum: u32,
     /// It was neither completed nor aborted. It counts as open too where its ticket was abandoned.
     pub(crate) is_open: bool,
 }

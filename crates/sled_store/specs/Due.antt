@@ -20,7 +20,7 @@ stops_in device = device.faults.stops_after
 abbrev pub is_stopped : MemDevice → Bool
 is_stopped device = device.faults.is_stopped
 
--- all three at once
+-- these three, each by its value
 abbrev pub Awaits : MemDevice → ℕ → Option ℕ → Bool → Type 0
 Awaits device fails stops stopped = (fails_in device ≡ fails) × (stops_in device ≡ stops) × (is_stopped device ≡ stopped)
 
@@ -64,10 +64,11 @@ Stopped None old new = ⊥
 Stopped (Some event) old new =
     (is_due old ≡ false) × (stops_in old ≡ Some 0) × Awaits new (fails_in old - 1) (Some 0) true × (trace_of new ≡ left_by_stop event (trace_of old))
 
--- It fails since it was due, or is refused.
+-- A call fails that was due.
 abbrev pub Failed : Option Event → MemDevice → MemDevice → Type 0
 Failed event old new = (is_due old ≡ true) × Awaits new (fails_in old - 1) (stops_in old) (is_stopped old) × LeftByFailure event old new
 
+-- Memory was refused, or a name is missing or there.
 abbrev pub Refused : MemDevice → MemDevice → Type 0
 Refused old new = (is_due old ≡ false) × Awaits new (fails_in old - 1) (stops_in old) (is_stopped old)
 
