@@ -1,6 +1,6 @@
 -- What holds at the joints of a run: one trace behind another, what a crash leaves, and how a phase leads to the next one.
 use Rattle.std.proofs.Common.{◌≢◌, rules, reverse, ◌≤◌, ◌≡◌, ◌∙◌, ◌<◌, ◌^◌, ℕ, ℤ, pos, Bool, true, false, if◌then◌else◌, IsTrue, List, [], ◌∷◌, ◌++◌, Option, None, Some, refl, sym, ap, subst, append_assoc, inl, inr}
-use Rattle.std.specs.Prelude.{FitsSigned, Err, MatchOption, ◌==◌}
+use Rattle.std.specs.Prelude.{FitsSigned, Err, ◌==◌}
 use Rattle.std.specs.declared.io.Error.{Error as IoError}
 use Rattle.std.specs.Int.{w64, cast_signed, cast_unsigned}
 use Rattle.std.proofs.lemmas.Int.{to_z-of_z}

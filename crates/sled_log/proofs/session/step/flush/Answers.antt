@@ -1,15 +1,12 @@
 -- All that was reserved is written and synced, and all completed messages are acknowledged, unless memory is refused, the device fails, or the log keeps a failure.
-use Rattle.std.proofs.Common.{refl, ◌≡◌, ◌<◌, ◌+◌, ◌∙◌, ℕ, List, arith, subst, sym, ap, None, Some, inl}
+use Rattle.std.proofs.Common.{refl, ◌≡◌, ◌<◌, ◌+◌, ◌∙◌, ℕ, List, arith, subst, sym, ap, None, Some}
 use Rattle.sled_store.specs.Device.{Event, state_of}
 use Rattle.sled_store.specs.Script.{Performs, after_all}
-use Rattle.sled_store.proofs.Traces.ScriptLemmas.{performs_nothing}
-use Rattle.std.specs.Prelude.{MatchOption}
 use Rattle.sled_core.specs.Recoverable.{first_site}
-use Rattle.sled_core.specs.Fits.{IsKept, NoneOpen, synced_end, fault_of, segment_size_of, device_of}
+use Rattle.sled_core.specs.Fits.{IsKept, synced_end, fault_of, segment_size_of, device_of}
 use Rattle.sled_core.proofs.Holds.ReachLemmas.{kept_past, fits_holds, fits_acknowledged}
 use Rattle.sled_log.specs.RunStates.{LogView, end_reserved}
 use Rattle.sled_log.specs.declared.session.step.Phase.TheVariants as phase
-use Rattle.sled_log.specs.Runs.{flush_calls}
 use Rattle.sled_log.specs.RunPhases.{Unstored, seen, stands, view_by}
 use Rattle.sled_log.proofs.Sessions.RunLemmas.{flush_failed}
 use Rattle.sled_log.proofs.WriteBack.RestartCauses.{some_of}
