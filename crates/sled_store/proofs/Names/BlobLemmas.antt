@@ -8,7 +8,7 @@ use Rattle.std.specs.Ordering.{int_eq, int_cmp}
 use Rattle.std.specs.List.Sorted.{IsStrictlySortedBy}
 use Rattle.std.proofs.lemmas.Bool.Decides.{Decides-int_eq}
 use Rattle.std.proofs.lemmas.List.Elements.{filter-append, filter_more, filter_passes}
-use Rattle.std.proofs.lemmas.List.FileVersion.{IsStrictlySortedBy-filter}
+use Rattle.std.proofs.lemmas.List.Kept.{IsStrictlySortedBy-filter}
 use Rattle.sled_store.specs.Blobs.{making, removing_blobs, from_place, AreFrom, KeepsBlob}
 use Rattle.sled_store.specs.Device.{Content, Event, Trace, NameState, NamesState, state_of, BlobMade, BlobSynced, BlobRemoved, NamesSynced, file_synced}
 use Rattle.sled_store.specs.Script.{Performs, after_all}
