@@ -72,6 +72,7 @@ module _ (sum : List ℕ → ℕ) (size : ℕ) (H : History) (A f : ℕ) where
       → Recoverable sum size (content_left left (state_of trace)) H A f × LeavesRecoverable sum size H A f (state_of (Crashed left ∷ trace))
   crash_recoverable trace left leaves may own = let can = leaves (content_left left (state_of trace)) may own in (can, crashed_leaves left (state_of trace) can)
 
--- What is read behind a crash was settled by it, so it is the log's own.
-pub own_behind_crash : (sum : List ℕ → ℕ) (size : ℕ) (left : Left) (trace : Trace) → ((lsn mark : ℤ) → IsHeader sum (replicate 20 0) lsn mark → ⊥) → NoForeign sum size (state_of (Crashed left ∷ trace)) (content_of (state_of (Crashed left ∷ trace)))
-own_behind_crash sum size left trace zeros = own_after_crash sum size left (state_of trace) zeros
+-- What a crash left stays the log's own once it is what is read.
+pub own_behind_crash : (sum : List ℕ → ℕ) (size : ℕ) (left : Left) (trace : Trace) → NoForeign sum size (state_of trace) (content_left left (state_of trace))
+    → NoForeign sum size (state_of (Crashed left ∷ trace)) (content_of (state_of (Crashed left ∷ trace)))
+own_behind_crash sum size left trace own = own_after_crash sum size left (state_of trace) own

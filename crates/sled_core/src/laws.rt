@@ -1,14 +1,15 @@
 //! Laws of logs, each the contract of a function that does nothing. A proof cites them by the lemmas of
 //! `proofs/PublicLaws.antt`.
 ghost use Rattle.std.specs.Prelude.{◌≡◌, ◌≤◌, ◌<◌, ◌+◌, ◌^◌, ◌∷◌, ℕ, ℤ, pos, List, [], replicate, None, length, ◌-◌};
+ghost use Rattle.std.specs.Int.{w64, cast_signed, cast_unsigned};
 ghost use Rattle.std.specs.List.{All};
 ghost use Rattle.sled_codec.specs.History.{Message, History, no_history};
 ghost use Rattle.sled_codec.specs.Record.{IsHeader};
 ghost use Rattle.sled_codec.specs.WellFormed.{LieApart};
-ghost use Rattle.sled_store.specs.Device.{Trace, State, Content, Left, Leaves, Crashed, state_of, content_of, content_left, at_rest, fresh, Settled, Wrote, Synced, step};
+ghost use Rattle.sled_store.specs.Device.{Trace, State, Left, Leaves, Crashed, state_of, content_of, content_left, at_rest, fresh, Content, Settled, Wrote, Synced, step};
 ghost use Rattle.sled_store.specs.Moments.{IsLater, LeavesOnly};
 ghost use Rattle.sled_codec.specs.Snapshots.{empty_model};
-ghost use Rattle.sled_core.specs.Fits.{Holds, Awaits, IsWritten, fault_of, next_place, synced_end, device_of, segment_size_of};
+ghost use Rattle.sled_core.specs.Fits.{Holds, NoneOpen, Awaits, IsUnchanged, IsWritten, fault_of, next_place, synced_end, device_of, segment_size_of};
 ghost use Rattle.sled_core.specs.Keeps.{GoesOn, Preserves};
 ghost use Rattle.sled_core.specs.Reading.{IsInline};
 ghost use Rattle.sled_core.specs.Ready.{IsReady};
@@ -44,6 +45,16 @@ pub fn messages_lie_in_order<D: Device, C: Checksum>()
 /// What a flush wrote ends at the stable end at most.
 pub fn written_messages_are_stable<D: Device, C: Checksum>()
     ensures { (log : Log D C) (H : History) → IsWritten D.trace C.sum_of log H → All (λ m. m.place + m.size ≤ synced_end log) H.messages }
+{}
+
+/// Where no reservation was open, none is as long as nothing of the log is another.
+pub fn an_unchanged_log_has_none_open<D: Device, C: Checksum>()
+    ensures { (old new : Log D C) → IsUnchanged old new → NoneOpen old → NoneOpen new }
+{}
+
+/// A place that code keeps in a value of its own, and so casts to a word and back, is that place.
+pub fn a_place_comes_back()
+    ensures { (z : ℤ) (n : ℕ) → z ≡ pos n → n < 2 ^ 63 → pos n ≡ cast_signed w64 (cast_unsigned w64 z) }
 {}
 
 /// A ticket says where its message lies.
@@ -94,8 +105,6 @@ pub fn a_crash_leaves_what_can_be_recovered<C: Checksum>()
     ensures crash { (size : ℕ) (H : History) (A f : ℕ) (trace : Trace) (left : Left) → LeavesRecoverable C.sum_of size H A f (state_of trace)
         → Leaves (state_of trace) (content_left left (state_of trace)) → NoForeign C.sum_of size (state_of trace) (content_left left (state_of trace))
         → Recoverable C.sum_of size (content_left left (state_of trace)) H A f × LeavesRecoverable C.sum_of size H A f (state_of (Crashed left ∷ trace)) }
-    ensures own { (size : ℕ) (left : Left) (trace : Trace) → ((lsn mark : ℤ) → IsHeader C.sum_of (replicate 20 0) lsn mark → ⊥)
-        → NoForeign C.sum_of size (state_of (Crashed left ∷ trace)) (content_of (state_of (Crashed left ∷ trace))) }
 {}
 
 /// On an empty device nothing is foreign.

@@ -1,4 +1,4 @@
-use Rattle.sled_core.proofs.PublicLaws.{reads_recoverable, crash_recoverable, own_behind_crash}
+use Rattle.sled_core.proofs.PublicLaws.{reads_recoverable, crash_recoverable}
 use Rattle.sled_core.proofs.laws.a_crash_leaves_what_can_be_recovered.Goals as goal
 
 pub returns-clause-now : goal.returns-clause-now
@@ -6,6 +6,3 @@ returns-clause-now g c = λ size H A f trace leaves own. reads_recoverable g.C.C
 
 pub returns-clause-crash : goal.returns-clause-crash
 returns-clause-crash g c = λ size H A f trace left leaves may own. crash_recoverable g.C.Checksum.sum_of size H A f trace left leaves may own
-
-pub returns-clause-own : goal.returns-clause-own
-returns-clause-own g c = λ size left trace zeros. own_behind_crash g.C.Checksum.sum_of size left trace zeros
