@@ -149,6 +149,9 @@ impl<D: Device, C: Checksum> Log<D, C> {
     /// Keeps a place for a message of this page, at the end of what was reserved. The guard shows that
     /// a pin is out. `Unsupported` comes where a page has no messages of this kind, `Io` where the log
     /// keeps a failure of its device, and `OutOfMemory`; after each of them the log is as it was.
+    ///
+    /// The caller owes the log an order of pages, which is not tested here: a page gets a Replace only once
+    /// all lower pages have one, or a recovery finds damage (`docs/USING.md`, "Write").
     pub fn reserve<T: Serialize>(
         &mut self,
         kind: LogKind,
