@@ -1,143 +1,277 @@
-//! Recovery of a log file of one segment, worked out by hand: the table, the cut, and the snapshot that is
-//! published.
+//! Devices with their recovery: the table that is answered, the calls that are made, and whether a log starts on
+//! the answer. The same reader also compares the answers of the plain recovery, which makes no calls.
 //!
-//! Segments have 256 bytes, and the sum is the one for tests.
+//! A case begins with `case`, then `size N`, `log N`, and where they are there `slot K N HEX`,
+//! `blob PLACE N HEX`, `snapshot NUMBER N HEX`, each of N bytes with the zeros at the end left out. Then come
+//! `answer recovered PLACE SEGMENT PAGES` with a line a page, or `answer corruption`; the `call` lines; `start ok`,
+//! or `start` with an error; and `end`.
 
-use crate::support::{flush, fresh, item, log_bytes, put, running};
-use sled_log::config::RunningConfig;
+use crate::lines::{Fault, Outcome, Words};
+use crate::noted::{Calls, Noted};
+use crate::tally::Tally;
+use crate::texts::{OrDash, push_error, push_page};
+use sled_log::config::{Config, RunningConfig};
 use sled_log::device::{Device, MemDevice, PlaceSum};
-use sled_log::logger::DiskPtr;
-use sled_log::result::{Error, Result};
-use sled_log::snapshot::{PageState, Snapshot, read_snapshot_or_default};
-use std::alloc::Global;
-use std::process::Abort;
-use std::test::Fail;
+use sled_log::logger::Log;
+use sled_log::snapshot::reference::reference_recovery;
+use sled_log::snapshot::{Snapshot, read_snapshot_or_default};
+use std::alloc::{AllocError, Global};
+use std::{io, mem};
 
-// The header of the first segment, and the record of page 0 replaced by three sevens.
-const LOG: [u8; 32] = [
-    35, 216, 255, 255, 255, 255, 255, 255, 255, 255, 255, 127, 0, 0, 0, 0, 0, 0, 0, 128, 135, 255,
-    255, 255, 6, 4, 0, 0, 3, 7, 7, 7,
-];
-
-// The snapshot of that log: its spelling, its length and its sum.
-const SNAPSHOT: [u8; 33] = [
-    33, 0, 0, 0, 0, 0, 0, 0, 1, 1, 20, 0, 0, 0, 0, 0, 0, 0, 0, 20, 12, 21, 0, 0, 0, 0, 0, 0, 0,
-    156, 3, 0, 0,
-];
-
-// Whether a table ends with this place, in this slot, and has no pages.
-fn is_bare(snapshot: &Result<Snapshot>, stable: Option<i64>, active: Option<u64>) -> bool {
-    match snapshot {
-        Ok(s) => s.stable_lsn == stable && s.active_segment == active && s.pt.is_empty(),
-        Err(_) => false,
-    }
+/// Which recovery answers.
+#[derive(Debug, Clone, Copy, PartialEq)]
+pub enum By {
+    /// The one that users call.
+    Call,
+    /// The plain one. The lines of calls and of the start aren't compared.
+    Plain,
 }
 
-// Whether damage was answered.
-fn is_corruption(answer: &Result<Snapshot>) -> bool {
-    match answer {
-        Err(Error::Corruption { at: None }) => true,
-        _ => false,
-    }
-}
-
-#[test]
-fn no_log_is_recovered_as_none(rt: HostRuntime) {
-    let mut config = running(&rt, rt.alloc(), &[]);
-    assert!(rt; is_bare(&read_snapshot_or_default(&mut config), None, None));
-    let mut config = running(&rt, rt.alloc(), &LOG[..19]);
-    assert!(rt; is_bare(&read_snapshot_or_default(&mut config), None, None));
-    let numbers = config.device.snapshots().expect(&rt, "the device stands");
-    assert_eq!(rt; numbers.len(), 0);
-}
-
-#[test]
-fn a_segment_without_messages(rt: HostRuntime) {
-    let mut config = running(&rt, rt.alloc(), &LOG[..20]);
-    assert!(rt; is_bare(&read_snapshot_or_default(&mut config), Some(20), Some(0)));
-    assert_eq!(rt; log_bytes(&rt, rt.alloc(), &mut config.device).len(), 256);
-}
-
-#[test]
-fn a_message_is_recovered(rt: HostRuntime) {
-    let mut log = fresh(&rt, rt.alloc(), 0);
-    let sevens = item(&rt, rt.alloc(), &[7, 7, 7]);
-    put(&rt, &mut log, 0, &sevens);
-    flush(&rt, &mut log).expect(&rt, "it is written");
-    let mut config = log.halt();
-    let snapshot = read_snapshot_or_default(&mut config).expect(&rt, "it is recovered");
-    assert_eq!(rt; snapshot.stable_lsn, Some(32));
-    assert_eq!(rt; snapshot.active_segment, Some(0));
-    assert_eq!(rt; snapshot.pt.len(), 1);
-    match snapshot.pt.first() {
-        Some(PageState::Present { base, frags }) => {
-            assert_eq!(rt; *base, (20, DiskPtr::Inline(20), 12));
-            assert!(rt; frags.is_empty());
+/// Runs the cases of a file.
+///
+/// # Errors
+///
+/// `OutOfMemory`.
+pub fn run(alloc: Global, text: &str, by: By, tally: &mut Tally) -> Outcome<()> {
+    let mut case = Case::new(alloc, by);
+    for (number, line) in text.lines().enumerate() {
+        let number = number.wrapping_add(1);
+        match case.line(line) {
+            Ok(Some(came)) => case.compare(number, line, &came, tally)?,
+            Ok(None) => {}
+            Err(Fault::Bad(why)) => case.compare(number, line, why, tally)?,
+            Err(Fault::OutOfMemory) => return Err(Fault::OutOfMemory),
         }
-        _ => panic!(rt; "page 0 was begun"),
+        if line == "end" {
+            tally.count(case.differs);
+        }
     }
-    let numbers = config.device.snapshots().expect(&rt, "the device stands");
-    assert_eq!(rt; numbers.as_slice(), [32].as_slice());
-    let bytes = config.device.snapshot_read(32).expect(&rt, "it is there");
-    assert_eq!(rt; bytes.as_slice(), SNAPSHOT.as_slice());
-    let log = log_bytes(&rt, rt.alloc(), &mut config.device);
-    assert_eq!(rt; log.len(), 256);
-    assert!(rt; log.starts_with(LOG.as_slice()));
+    Ok(())
 }
 
-#[test]
-fn a_torn_message_is_forgotten(rt: HostRuntime) {
-    for len in 20..32 {
-        let mut config = running(&rt, rt.alloc(), &LOG[..len]);
-        assert!(rt; is_bare(&read_snapshot_or_default(&mut config), Some(20), Some(0)));
-    }
-}
-
-// What a log runs on whose newest snapshot has these bytes.
-fn with_snapshot<R: Abort>(
-    rt: &R,
+// A device, and what came of its recovery so far.
+#[derive(Drop)]
+struct Case {
     alloc: Global,
-    bytes: &[u8],
-) -> RunningConfig<MemDevice, PlaceSum> {
-    let mut config = running(rt, alloc, LOG.as_slice());
-    config
-        .device
-        .snapshot_write(bytes)
-        .expect(rt, "it is written");
-    config.device.snapshot_publish(32).expect(rt, "it is named");
-    config
+    by: By,
+    size: u64,
+    device: MemDevice,
+    // The lines that come, the next one last.
+    coming: Vec<String>,
+    is_answered: bool,
+    differs: bool,
 }
 
-#[test]
-fn a_damaged_snapshot(rt: HostRuntime) {
-    let mut config = with_snapshot(&rt, rt.alloc(), &SNAPSHOT[..12]);
-    assert!(rt; is_corruption(&read_snapshot_or_default(&mut config)));
-    for i in 0..33 {
-        let mut bytes = SNAPSHOT;
-        bytes[i] = bytes[i].wrapping_add(1);
-        let mut config = with_snapshot(&rt, rt.alloc(), bytes.as_slice());
-        assert!(rt; is_corruption(&read_snapshot_or_default(&mut config)));
-        assert_eq!(rt; log_bytes(&rt, rt.alloc(), &mut config.device).len(), 32);
+impl Case {
+    fn new(alloc: Global, by: By) -> Case {
+        Case {
+            alloc,
+            by,
+            size: 0,
+            device: MemDevice::new(alloc),
+            coming: Vec::new(alloc),
+            is_answered: false,
+            differs: false,
+        }
+    }
+
+    // Compares a line with what came. Of a case the first difference alone is noted.
+    fn compare(&mut self, number: usize, line: &str, came: &str, tally: &mut Tally) -> Outcome<()> {
+        if line != came && !self.differs {
+            self.differs = true;
+            tally.note(number, line, came)?;
+        }
+        Ok(())
+    }
+
+    // Reads a line; what came, where it says what is wanted.
+    fn line(&mut self, line: &str) -> Outcome<Option<String>> {
+        if line.is_empty() || line.starts_with('#') {
+            return Ok(None);
+        }
+        let mut words = Words::new(line);
+        match words.word()? {
+            "case" => *self = Case::new(self.alloc, self.by),
+            "size" => self.size = words.number()?,
+            "log" | "slot" | "blob" | "snapshot" => self.content(line)?,
+            "answer" => {
+                self.recover()?;
+                return Ok(self.coming.pop());
+            }
+            "page" => return self.next_line(),
+            "call" | "start" if self.by == By::Call => return self.next_line(),
+            "call" | "start" => {}
+            "end" => return self.end(),
+            _ => return Err(Fault::Bad("no such line")),
+        }
+        Ok(None)
+    }
+
+    // The line that comes next.
+    fn next_line(&mut self) -> Outcome<Option<String>> {
+        match self.coming.pop() {
+            Some(line) => Ok(Some(line)),
+            None => Err(Fault::Bad("nothing more")),
+        }
+    }
+
+    // The line that comes in place of the end, or the end.
+    fn end(&mut self) -> Outcome<Option<String>> {
+        match self.coming.pop() {
+            Some(line) => Ok(Some(line)),
+            None if self.is_answered => Ok(None),
+            None => Err(Fault::Bad("no answer was compared")),
+        }
+    }
+
+    // Puts on the device what a line says that it has.
+    fn content(&mut self, line: &str) -> Outcome<()> {
+        let mut words = Words::new(line);
+        let (kind, number, size) = (words.word()?, words.signed()?, self.size);
+        let device = &mut self.device;
+        match kind {
+            "log" => {
+                let zeros = filled(self.alloc, Vec::new(self.alloc), number.unsigned_abs())?;
+                done(write(device, 0, &zeros)?)
+            }
+            "slot" => {
+                let bytes = content_of(self.alloc, &mut words)?;
+                done(write(device, number.unsigned_abs().saturating_mul(size), &bytes)?)
+            }
+            "blob" => {
+                let bytes = content_of(self.alloc, &mut words)?;
+                done(device.blob_create(number, &bytes))?;
+                done(device.blob_sync(number))
+            }
+            _ => {
+                let bytes = content_of(self.alloc, &mut words)?;
+                done(device.snapshot_write(&bytes))?;
+                done(device.snapshot_publish(number))
+            }
+        }
+    }
+
+    // Recovers the device, and notes the lines that come of it.
+    fn recover(&mut self) -> Outcome<()> {
+        let mut device = mem::replace(&mut self.device, MemDevice::new(self.alloc));
+        done(device.sync())?;
+        done(device.sync_names())?;
+        let Some(config) = Config::new(self.size) else {
+            return Err(Fault::Bad("no size of segments"));
+        };
+        let mut lines = match self.by {
+            By::Call => called(self.alloc, config, device)?,
+            By::Plain => plain(self.alloc, config, device)?,
+        };
+        lines.reverse();
+        self.coming = lines;
+        self.is_answered = true;
+        Ok(())
     }
 }
 
-#[test]
-fn a_longer_file_is_refused(rt: HostRuntime) {
-    let mut config = running(&rt, rt.alloc(), &[0; 257]);
-    assert!(rt; is_corruption(&read_snapshot_or_default(&mut config)));
+// A call that fails on a device in memory found no memory.
+fn done<T>(answer: io::Result<T>) -> Outcome<T> {
+    match answer {
+        Ok(value) => Ok(value),
+        Err(_) => Err(Fault::OutOfMemory),
+    }
 }
 
-#[test]
-fn a_failing_recovery(rt: HostRuntime) {
-    for n in 1..12 {
-        let mut config = running(&rt, rt.alloc(), LOG.as_slice());
-        config.device.fail_at(n);
-        match read_snapshot_or_default(&mut config) {
-            Err(Error::Io(_)) => (),
-            _ => panic!(rt; "the call fails"),
+// Writes at an offset of the log file.
+fn write(device: &mut MemDevice, at: u64, bytes: &[u8]) -> Outcome<io::Result<()>> {
+    if at >= 1 << 40 || bytes.len() >= 1 << 40 {
+        return Err(Fault::Bad("the log file is too long"));
+    }
+    Ok(device.write_at(at, bytes))
+}
+
+// The bytes with zeros behind them, up to this length.
+fn filled(_alloc: Global, bytes: Vec<u8>, len: u64) -> Outcome<Vec<u8>> {
+    if len >= 1 << 30 {
+        return Err(Fault::Bad("this is too long"));
+    }
+    let mut bytes = bytes;
+    bytes.resize(len as usize, 0)?;
+    Ok(bytes)
+}
+
+// The bytes of a length and of digits, without which zeros stand at the end.
+fn content_of(alloc: Global, words: &mut Words<'_>) -> Outcome<Vec<u8>> {
+    let len = words.number()?;
+    filled(alloc, words.bytes(alloc)?, len)
+}
+
+// The lines that come of a recovery.
+fn called(alloc: Global, config: Config, device: MemDevice) -> Outcome<Vec<String>> {
+    let noted = Noted {
+        device,
+        calls: Calls::new(alloc),
+    };
+    let mut config = RunningConfig::new(alloc, config, noted, PlaceSum);
+    let answer = read_snapshot_or_default(&mut config);
+    let calls = mem::replace(&mut config.device.calls, Calls::new(alloc));
+    if !calls.is_complete {
+        return Err(Fault::OutOfMemory);
+    }
+    let mut lines = Vec::new(alloc);
+    match answer {
+        Ok(snapshot) => {
+            push_table(alloc, &mut lines, &snapshot)?;
+            lines.extend(calls.lines)?;
+            lines.push(started(alloc, config, &snapshot)?)?;
         }
-        let again = read_snapshot_or_default(&mut config).expect(&rt, "it is recovered");
-        assert_eq!(rt; again.stable_lsn, Some(32));
-        assert_eq!(rt; again.pt.len(), 1);
+        Err(e) => {
+            lines.push(named(alloc, "answer ", &e)?)?;
+            lines.extend(calls.lines)?;
+        }
+    }
+    Ok(lines)
+}
+
+// The lines that come of a plain recovery.
+fn plain(alloc: Global, config: Config, device: MemDevice) -> Outcome<Vec<String>> {
+    let mut config = RunningConfig::new(alloc, config, device, PlaceSum);
+    let mut lines = Vec::new(alloc);
+    match reference_recovery(&mut config) {
+        Ok(Some(snapshot)) => push_table(alloc, &mut lines, &snapshot)?,
+        Ok(None) => lines.push(String::from_str(alloc, "answer corruption")?)?,
+        Err(e) => lines.push(named(alloc, "answer ", &e)?)?,
+    }
+    Ok(lines)
+}
+
+// A line with an error.
+fn named(alloc: Global, start: &str, e: &sled_log::result::Error) -> Result<String, AllocError> {
+    let mut line = String::from_str(alloc, start)?;
+    push_error(&mut line, e)?;
+    Ok(line)
+}
+
+// Adds the lines of a table.
+fn push_table(alloc: Global, lines: &mut Vec<String>, snapshot: &Snapshot) -> Outcome<()> {
+    let (stable, active) = (OrDash(snapshot.stable_lsn), OrDash(snapshot.active_segment));
+    let pages = snapshot.pt.len();
+    lines.push(format!(in alloc; "answer recovered {stable} {active} {pages}")?)?;
+    for (number, page) in snapshot.pt.iter().enumerate() {
+        let mut line = format!(in alloc; "page {number} ")?;
+        push_page(&mut line, page)?;
+        lines.push(line)?;
+    }
+    Ok(())
+}
+
+// The line that says whether a log starts on a table.
+fn started(
+    alloc: Global,
+    config: RunningConfig<Noted<MemDevice>, PlaceSum>,
+    snapshot: &Snapshot,
+) -> Result<String, AllocError> {
+    match Log::start(config, snapshot) {
+        Ok(log) => {
+            let _ = log.halt();
+            String::from_str(alloc, "start ok")
+        }
+        Err((e, _)) => named(alloc, "start ", &e),
     }
 }

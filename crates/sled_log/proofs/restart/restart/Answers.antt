@@ -34,9 +34,9 @@ returns-in-Ok-clause-ready g c = λ H holds formed.
     let sizes : size ≡ segment_size_of c.args.log = ap (λ (x : RunningConfig _ _). x.config.segment_size) c.halt-config.ensures.config ∙ c.flush-flushed.ensures.position.size in
     let many = c.halt-config.result.config.least in
     subst (λ (n : ℕ). IfOk c.read_snapshot_or_default-snapshot.result (λ s. IsReady g.C.Checksum.sum_of n new (model_of s) H)) sizes
-    (if_all c.read_snapshot_or_default-snapshot.result _ _ _ (λ s. IsReady g.C.Checksum.sum_of size new (model_of s) H)
-    (λ s ok newest short. ready_kept g.C.Checksum.sum_of size log.site log.buffer.written_len device new H kept formed many short (model_of s) ok.0 ok.1 ok.2 ok.3 newest)
-    c.read_snapshot_or_default-snapshot.ensures.ok c.read_snapshot_or_default-snapshot.ensures.newest c.read_snapshot_or_default-snapshot.ensures.short)
+    (if_ok c.read_snapshot_or_default-snapshot.result _ (λ s. IsReady g.C.Checksum.sum_of size new (model_of s) H)
+    (λ s ok. ready_kept g.C.Checksum.sum_of size log.site log.buffer.written_len device new H kept formed many ok.short (model_of s) ok.conclusion ok.recovers ok.model ok.written ok.newest)
+    c.read_snapshot_or_default-snapshot.ensures.ok)
 
 pub returns-in-Ok-clause-table : goal.returns-in-Ok-clause-table
 returns-in-Ok-clause-table g c = λ H holds formed.
@@ -91,7 +91,7 @@ pub returns-in-Ok-clause-kept : goal.returns-in-Ok-clause-kept
 returns-in-Ok-clause-kept g c =
     let is = c.halt-config.ensures.config in
     let kept = c.flush-flushed.ensures.keeps.goes_on.config in
-    let recovery = c.read_snapshot_or_default-snapshot.ensures in
+    let recovery = c.read_snapshot_or_default-snapshot.ensures.config in
     record { config = recovery.config ∙ ap (λ (x : RunningConfig _ _). x.config) is ∙ kept.config; checksum = recovery.checksum ∙ ap (λ (x : RunningConfig _ _). x.checksum) is ∙ kept.checksum }
 
 -- A flush that failed was the last call.

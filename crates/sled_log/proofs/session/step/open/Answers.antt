@@ -31,8 +31,8 @@ returns-in-Ok-clause-step g c = λ k at.
     let new : DeviceView = device_in view c.start.result.0 in
     let s : SnapshotModel = model_of c.in-Ok.snapshot in
     let ok = c.in-Ok.ensures.ok in
-    let sizes : config.config.segment_size ≡ size = ap (λ (x : Config). x.segment_size) c.read_snapshot_or_default.ensures.config in
-    let has : HasRecovered sum size old mid s = record { conclusion = ok.0; recovers = ok.1; shown = ok.2; written = ok.4; failures = c.in-Ok.ensures.answers } in
+    let sizes : config.config.segment_size ≡ size = ap (λ (x : Config). x.segment_size) c.read_snapshot_or_default.ensures.config.config in
+    let has : HasRecovered sum size old mid s = record { conclusion = ok.conclusion; recovers = ok.recovers; shown = ok.model; written = ok.done; failures = c.in-Ok.ensures.answers } in
     let acts = subst (λ n. StartActs n mid c.start.result.1 new) sizes c.start.ensures.acts in
     record {
       turn = open_turn s c.start.result.1 c.start.ensures.shows;
@@ -48,8 +48,8 @@ returns-in-Ok-clause-step g c = λ k at.
             begun = has_of_table k.history cut s.pages good.table;
           } in
           let started = c.start.ensures.starts l recovered in
-          let active : ShowsActive size cut s.active = subst (λ (x : SnapshotModel). ShowsActive size (stable_place x.stable) x.active) (sym ok.2)
-          (shows_active sum size given.least (let most = given.most in omega (arith, most)) old.trace k.history k.acknowledged k.floor can ok.0 ok.1) in
+          let active : ShowsActive size cut s.active = subst (λ (x : SnapshotModel). ShowsActive size (stable_place x.stable) x.active) (sym ok.model)
+          (shows_active sum size given.least (let most = given.most in omega (arith, most)) old.trace k.history k.acknowledged k.floor can ok.conclusion ok.recovers) in
           let why = subst (λ n. SaysWhy c.start.result.1 n new.failures) c.in-Ok.ensures.answers started.why in (
             l,
             open_step sum size old new k.history k.acknowledged k.floor s c.start.result.1 _ c.start.ensures.shows
@@ -66,7 +66,7 @@ returns-in-Ok-clause-on g c =
       runs_on = runs_on_both g.D.Device.trace c.args.config config _
           (record {
             later = later_recovered g.C.Checksum.sum_of c.args.config.config.segment_size _ _ c.read_snapshot_or_default.ensures.calls;
-            kept = record { config = c.read_snapshot_or_default.ensures.config; checksum = c.read_snapshot_or_default.ensures.checksum };
+            kept = c.read_snapshot_or_default.ensures.config;
           })
           c.start.ensures.on.runs_on;
       can_go_on = c.start.ensures.on.can_go_on;
@@ -86,7 +86,7 @@ returns-in-Err-clause-step g c = λ k at.
       step = λ own.
           let can : CanRecover sum size (state_of old) k.history k.acknowledged k.floor = record { orderly = orderly k.history at.formed; left = at.left; own = own } in
           let whole = c.in-Err.ensures.undamaged k.history k.acknowledged k.floor can in
-          let sizes : c.read_snapshot_or_default.new.config.config.segment_size ≡ size = ap (λ (x : Config). x.segment_size) c.read_snapshot_or_default.ensures.config in (
+          let sizes : c.read_snapshot_or_default.new.config.config.segment_size ≡ size = ap (λ (x : Config). x.segment_size) c.read_snapshot_or_default.ensures.config.config in (
             k,
             (cause_of Snapshot c.in-Err.e _ _ c.in-Err.ensures.answers whole, refl),
             record {
@@ -101,7 +101,7 @@ pub returns-in-Err-clause-on : goal.returns-in-Err-clause-on
 returns-in-Err-clause-on g c = record {
   runs_on = record {
     later = later_recovered g.C.Checksum.sum_of c.args.config.config.segment_size _ _ c.read_snapshot_or_default.ensures.calls;
-    kept = record { config = c.read_snapshot_or_default.ensures.config; checksum = c.read_snapshot_or_default.ensures.checksum };
+    kept = c.read_snapshot_or_default.ensures.config;
   };
   can_go_on = tt;
 }

@@ -1,0 +1,315 @@
+//! What a line of a file can't say: equality and conversion of errors, constants, functions over a format that answer
+//! no value of their own, and laws.
+
+use crate::lines::{Fault, Outcome};
+use crate::tally::Tally;
+use sled_codec::history::{Message, entries_of_page};
+use sled_codec::serialization::bytes::copy_in;
+use sled_codec::serialization::laws;
+use sled_codec::serialization::record::{is_record, sum_in_place};
+use sled_core::laws as core_laws;
+use sled_log::config::{Config, RunningConfig};
+use sled_log::device::{Device, MemDevice, PlaceSum};
+use sled_log::laws as log_laws;
+use sled_log::logger::{
+    BATCH_MANIFEST_PID, COUNTER_PID, DiskPtr, LogKind, MAX_MSG_HEADER_LEN, META_PID, MessageKind,
+    PageId, SEG_HEADER_LEN, SegmentNumber,
+};
+use sled_log::result::{Error, Result};
+use sled_log::serialization::{MessageHeader, Serialize};
+use sled_store::blob_io::{gc_blobs, read_blob, remove_blob, write_blob};
+use sled_store::device::laws as device_laws;
+use sled_store::header::{bump_offset, incr_writers, n_writers, offset};
+use sled_store::laws as store_laws;
+use std::alloc::{AllocError, Global};
+use std::io::{self, ErrorKind};
+
+/// Runs all of them.
+///
+/// # Errors
+///
+/// `OutOfMemory`.
+pub fn run(alloc: Global, tally: &mut Tally) -> Outcome<()> {
+    device_laws::what_is_read_may_be_left();
+    device_laws::what_is_settled_may_be_left();
+    device_laws::what_is_synced_is_left();
+    laws::read_again::<u64>();
+    laws::read_again::<Vec<u8>>();
+    laws::read_again::<MessageHeader>();
+    laws::written_is_record::<PlaceSum>();
+    laws::one_record::<PlaceSum>();
+    laws::lengths();
+    laws_of_logs();
+    holds(tally, 1, "constants", has_constants())?;
+    holds(tally, 2, "errors are equal", are_equal(alloc)?)?;
+    holds(tally, 3, "errors from std", are_from_std())?;
+    holds(tally, 4, "errors for std", are_for_std())?;
+    holds(tally, 5, "records", known(tells_records(alloc))?)?;
+    holds(tally, 6, "entries of pages", known(lists_entries(alloc))?)?;
+    holds(tally, 7, "the sum of a record", sums_in_place())?;
+    holds(tally, 8, "bytes over others", copies())?;
+    holds(tally, 9, "the tail of a header", writes_tail(alloc)?)?;
+    holds(tally, 10, "bytes behind a word's", bumps())?;
+    holds(tally, 11, "a blob", known(keeps_blob(alloc))?)?;
+    holds(
+        tally,
+        12,
+        "blobs from a place on",
+        known(collects_blobs(alloc))?,
+    )?;
+    holds(
+        tally,
+        13,
+        "a place that no memory holds",
+        refuses_place(alloc),
+    )
+}
+
+// The laws of histories, devices and logs, each called at one type.
+fn laws_of_logs() {
+    store_laws::traces_go_on();
+    core_laws::a_fitting_log_holds::<MemDevice, PlaceSum>();
+    core_laws::messages_lie_in_order::<MemDevice, PlaceSum>();
+    core_laws::written_messages_are_stable::<MemDevice, PlaceSum>();
+    core_laws::an_unchanged_log_has_none_open::<MemDevice, PlaceSum>();
+    core_laws::a_place_comes_back();
+    core_laws::a_ticket_says_the_place::<MemDevice, PlaceSum>();
+    core_laws::a_crash_now_loses_nothing::<MemDevice, PlaceSum>();
+    core_laws::calls_keep_together::<MemDevice, PlaceSum>();
+    core_laws::moments_follow_one_another::<PlaceSum>();
+    core_laws::an_empty_device_is_ready::<PlaceSum>();
+    core_laws::a_crash_leaves_what_can_be_recovered::<PlaceSum>();
+    core_laws::nothing_is_foreign_on_an_empty_device();
+    core_laws::nothing_is_foreign_after_the_first_write();
+    core_laws::nothing_is_foreign_where_records_come_out_of_order();
+    core_laws::nothing_becomes_foreign_by_a_sync();
+    core_laws::nothing_becomes_foreign_after_a_crash();
+    core_laws::nothing_becomes_foreign_by_a_write_behind();
+    core_laws::zeros_are_no_header();
+    log_laws::histories_of_replaces_are_orderly();
+    log_laws::a_later_message_is_appended();
+    log_laws::entries_stand_for_messages();
+    log_laws::a_table_has_the_last_messages();
+}
+
+// Counts a case.
+fn holds(tally: &mut Tally, number: usize, name: &str, is_so: bool) -> Outcome<()> {
+    let came = if is_so { name } else { "not so" };
+    Ok(tally.case(number, name, came)?)
+}
+
+// An answer whose one error is that memory was refused.
+fn known(answer: Result<bool>) -> Outcome<bool> {
+    match answer {
+        Ok(is_so) => Ok(is_so),
+        Err(_) => Err(Fault::OutOfMemory),
+    }
+}
+
+fn has_constants() -> bool {
+    META_PID == 0
+        && COUNTER_PID == 1
+        && BATCH_MANIFEST_PID == 18446744073709550949
+        && MAX_MSG_HEADER_LEN == 32
+        && SEG_HEADER_LEN == 20
+}
+
+// An error is equal to its copy, and to no other one.
+fn are_equal(alloc: Global) -> Outcome<bool> {
+    let held = Error::Held(20);
+    let missing = Error::Io(io::Error::new(ErrorKind::NotFound, "one text"));
+    let other = Error::Io(io::Error::new(ErrorKind::NotFound, "another text"));
+    let name = Error::CollectionNotFound([7].to_vec(alloc)?);
+    Ok(
+        held.clone()? == held
+            && name.clone()? == name
+            && held != Error::Held(21)
+            && held != Error::NotReserved(20)
+            && missing == other
+            && missing != Error::Io(io::Error::from(ErrorKind::Other)),
+    )
+}
+
+// Out of memory is an error of its own.
+fn are_from_std() -> bool {
+    Error::from(AllocError) == Error::OutOfMemory
+        && Error::from(io::Error::from(ErrorKind::OutOfMemory)) == Error::OutOfMemory
+        && Error::from(io::Error::other("it broke")) != Error::OutOfMemory
+}
+
+// What std knows of an error is its kind alone.
+fn are_for_std() -> bool {
+    io::Error::from(Error::Corruption { at: None }).kind() == ErrorKind::InvalidData
+        && io::Error::from(Error::Held(20)).kind() == ErrorKind::WouldBlock
+        && io::Error::from(Error::NotReserved(5)).kind() == ErrorKind::InvalidInput
+        && io::Error::from(Error::PlacesUsedUp).kind() == ErrorKind::Other
+        && io::Error::from(Error::OutOfMemory).kind() == ErrorKind::OutOfMemory
+}
+
+// Page 0 replaced by three sevens, in the first segment: the sum is 66 over the body and 54 over the header, and is
+// stored flipped.
+const RECORD: [u8; 12] = [135, 255, 255, 255, 6, 4, 0, 0, 3, 7, 7, 7];
+
+// The record is one of its own message alone.
+fn tells_records(alloc: Global) -> Result<bool> {
+    let body = [3, 7, 7, 7];
+    let is = |text: &[u8], page: PageId, number: u64, body: &[u8]| {
+        let (kind, number) = (MessageKind::InlineMeta, SegmentNumber(number));
+        is_record(alloc, &PlaceSum, text, kind, page, number, body)
+    };
+    let torn = [135, 255, 255, 255, 6, 4, 0, 0, 3, 7, 7, 6];
+    let short = [135, 255, 255, 255, 6, 4, 0, 0, 3, 7, 7];
+    Ok(
+        is(&RECORD, 0, 0, &body)?
+            && !is(&RECORD, 1, 0, &body)?
+            && !is(&RECORD, 0, 1, &body)?
+            && !is(&short, 0, 0, &body)?
+            && !is(&torn, 0, 0, &[3, 7, 7, 6])?,
+    )
+}
+
+// A message of a page at a place.
+fn message(kind: LogKind, page: PageId, place: u64) -> Message<'static> {
+    Message {
+        kind,
+        page,
+        place,
+        pointer: DiskPtr::Inline(place),
+        size: 10,
+        bytes: &[],
+    }
+}
+
+// The messages that make a page up to a cut: how many they are, and the last one.
+fn lists_entries(alloc: Global) -> Result<bool> {
+    let messages = [
+        message(LogKind::Replace, 5, 20),
+        message(LogKind::Link, 5, 30),
+        message(LogKind::Replace, 6, 40),
+        message(LogKind::Free, 5, 50),
+        message(LogKind::Replace, 5, 60),
+    ];
+    let rows = [
+        (20, 5, 0, None),
+        (30, 5, 1, Some(0)),
+        (50, 5, 2, Some(1)),
+        (60, 5, 1, Some(3)),
+        (61, 5, 1, Some(4)),
+        (61, 6, 1, Some(2)),
+        (61, 7, 0, None),
+    ];
+    for (cut, page, count, last) in rows {
+        let entries = entries_of_page(alloc, &messages, cut, page)?;
+        let wanted = match last {
+            Some(i) => messages.get(i),
+            None => None,
+        };
+        if entries.len() != count || entries.last() != wanted {
+            return Ok(false);
+        }
+    }
+    Ok(true)
+}
+
+// Of a record whose sum is not written yet.
+fn sums_in_place() -> bool {
+    let mut bytes = [0, 0, 0, 0, 6, 4, 0, 0, 3, 7, 7, 7];
+    sum_in_place(&PlaceSum, &mut bytes, 8) == u32::MAX - 120
+        && bytes == [0, 0, 0, 0, 6, 4, 0, 0, 3, 7, 7, 7]
+}
+
+fn copies() -> bool {
+    let mut bytes = [1, 2, 3, 4, 5];
+    let one = copy_in(&[7, 8], &mut bytes, 2);
+    let none = copy_in(&[], &mut bytes, 5);
+    one == 4 && none == 5 && bytes == [1, 2, 7, 8, 5]
+}
+
+#[tactic(auto, using(sled_codec::specs::HeaderLaws::header_lengths))]
+fn writes_tail(alloc: Global) -> Outcome<bool> {
+    let header = MessageHeader {
+        crc32: 0,
+        kind: MessageKind::InlineMeta,
+        len: 4,
+        segment_number: SegmentNumber(0),
+        pid: 0,
+    };
+    let mut bytes = Vec::new(alloc);
+    bytes.resize(header.serialized_size() as usize, 9)?;
+    let end = header.serialize_tail(&mut bytes, 4);
+    Ok(end == 8 && bytes.as_slice() == [9, 9, 9, 9, 6, 4, 0, 0].as_slice())
+}
+
+// Twenty bytes, and then a writer.
+fn bumps() -> bool {
+    let word = bump_offset(0, 20);
+    offset(word) == 20 && n_writers(word) == 0 && incr_writers(word) == 16777236
+}
+
+// A device in memory with segments of 256 bytes.
+fn empty(alloc: Global) -> Result<RunningConfig<MemDevice, PlaceSum>> {
+    match Config::new(256) {
+        Some(config) => Ok(RunningConfig::new(alloc, config, MemDevice::new(alloc), PlaceSum)),
+        None => Err(Error::Corruption { at: None }),
+    }
+}
+
+// Twelve ones as a blob: the checksum is 7 and twice 12, and then 3 to 14.
+const BLOB: [u8; 18] = [133, 0, 0, 0, 7, 12, 1, 1, 1, 1, 1, 1, 1, 1, 1, 1, 1, 1];
+
+// A blob is made once, read, found to be damaged, and removed.
+fn keeps_blob(alloc: Global) -> Result<bool> {
+    let mut config = empty(alloc)?;
+    let item = vec![in alloc; 1u8; 12]?;
+    write_blob(&mut config, MessageKind::BlobMeta, 20, &item)?;
+    let is_there = config.device.blob_read(20)?.as_slice() == BLOB.as_slice();
+    let (kind, bytes) = read_blob(&mut config, 20)?;
+    let is_read = kind == MessageKind::BlobMeta && bytes.as_slice() == &BLOB[5..];
+    let is_made_once = is_io(
+        &write_blob(&mut config, kind, 20, &item),
+        ErrorKind::AlreadyExists,
+    );
+    remove_blob(&mut config, 20)?;
+    remove_blob(&mut config, 20)?;
+    let is_gone = is_io(&read_blob(&mut config, 20), ErrorKind::NotFound);
+    config.device.blob_create(36, &BLOB[..4])?;
+    config.device.blob_create(52, &BLOB[..17])?;
+    let is_short = is_damage(&read_blob(&mut config, 36), None);
+    let is_torn = is_damage(&read_blob(&mut config, 52), Some(DiskPtr::Blob(0, 52)));
+    Ok(is_there && is_read && is_made_once && is_gone && is_short && is_torn)
+}
+
+// Blobs 20, 36 and 300 from 36 on.
+fn collects_blobs(alloc: Global) -> Result<bool> {
+    let mut config = empty(alloc)?;
+    for place in [20, 36, 300] {
+        write_blob(&mut config, MessageKind::BlobNode, place, &())?;
+    }
+    gc_blobs(&mut config, 36)?;
+    Ok(config.device.blobs()?.as_slice() == [20].as_slice())
+}
+
+// A write that no memory holds.
+fn refuses_place(alloc: Global) -> bool {
+    let mut device = MemDevice::new(alloc);
+    match device.write_at(u64::MAX, &[1]) {
+        Ok(()) => false,
+        Err(e) => e.kind() == ErrorKind::OutOfMemory && device.failures() == 0,
+    }
+}
+
+// The answer is an error of the device, of this kind.
+fn is_io<T>(answer: &Result<T>, kind: ErrorKind) -> bool {
+    match answer {
+        Err(Error::Io(e)) => e.kind() == kind,
+        _ => false,
+    }
+}
+
+// The answer is damage, of this blob or of none.
+fn is_damage<T>(answer: &Result<T>, blob: Option<DiskPtr>) -> bool {
+    match answer {
+        Err(Error::Corruption { at }) => *at == blob,
+        _ => false,
+    }
+}
