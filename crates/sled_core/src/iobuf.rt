@@ -142,7 +142,9 @@ impl IoBuf {
         requires place { vec_len self.old.reserved < vec_capacity self.old.reserved }
         ensures bytes { self.new.bytes.items ≡ self.old.bytes.items ++ placeholder_head (take head.now.len head.now.bytes) ++ T.short (T.meaning item.now) }
         ensures len { length self.new.bytes.items ≡ length self.old.bytes.items + head.now.len + item_len }
-        ensures reserved { self.new.reserved.items ≡ self.old.reserved.items ++ reserved_for message.now (length self.old.bytes.items) head.now.len item_len (C.sum_of (T.short (T.meaning item.now) ++ drop 4 (take head.now.len head.now.bytes))) ∷ [] }
+        ensures reserved { self.new.reserved.items ≡ self.old.reserved.items
+            ++ reserved_for message.now (length self.old.bytes.items) head.now.len item_len (C.sum_of (T.short (T.meaning item.now)
+            ++ drop 4 (take head.now.len head.now.bytes))) ∷ [] }
         ensures from { self.new.written_len ≡ self.old.written_len }
     {
         let from = self.bytes.len();
@@ -169,8 +171,10 @@ impl IoBuf {
     pub(crate) fn complete(&mut self, index: usize)
         requires within { index < vec_len self.old.reserved }
         requires awaited { (r : Reserved) → slice_get self.old.reserved.items index ≡ Some r → r.is_open ≡ true }
-        ensures bytes { (r : Reserved) → slice_get self.old.reserved.items index ≡ Some r → self.new.bytes.items ≡ written self.old.bytes.items r.from (completing r) }
-        ensures reserved { (r : Reserved) → slice_get self.old.reserved.items index ≡ Some r → self.new.reserved.items ≡ set self.old.reserved.items index (closed r) }
+        ensures bytes { (r : Reserved) → slice_get self.old.reserved.items index ≡ Some r
+            → self.new.bytes.items ≡ written self.old.bytes.items r.from (completing r) }
+        ensures reserved { (r : Reserved) → slice_get self.old.reserved.items index ≡ Some r
+            → self.new.reserved.items ≡ set self.old.reserved.items index (closed r) }
         ensures from { self.new.written_len ≡ self.old.written_len }
         ensures len { length self.new.bytes.items ≡ length self.old.bytes.items }
     {

@@ -165,7 +165,8 @@ fn continue_in<D: Device, C: Checksum>(
 ) -> Result<Recovery>
     requires slot { buf.now.offset ≡ 0 }
     requires own { segment.now.slot ≡ 0 }
-    requires found { let size = config.old.config.segment_size in IsFoundSegment C.sum_of size (file_of buf.now) (least_place size (model_of first)) segment.now }
+    requires found { let size = config.old.config.segment_size in
+        IsFoundSegment C.sum_of size (file_of buf.now) (least_place size (model_of first)) segment.now }
     requires only { let size = config.old.config.segment_size in
         (IsMisplaced size segment.now → ⊥) → IsOrdering C.sum_of size (file_of buf.now) (least_place size (model_of first)) (segment.now ∷ []) }
     ensures ok { IfOk result (λ x. ContinuesFrom C.sum_of config.old.config.segment_size (read_of buf.now) (model_of first) (Recovered (result_of x))) }

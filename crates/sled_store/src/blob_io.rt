@@ -166,7 +166,8 @@ pub fn remove_blob<D: Device, C: Checksum>(
 /// be left.
 pub fn gc_blobs<D: Device, C: Checksum>(config: &mut RunningConfig<D, C>, least: Lsn) -> Result<()>
     ensures done { let file = (state_of (D.trace config.old.device)).blobs.file in
-        OnOk result ((places : List ℤ) × AreFrom file least places × (D.trace config.new.device ≡ after_all (removing_blobs places) (D.trace config.old.device))) }
+        OnOk result ((places : List ℤ) × AreFrom file least places
+        × (D.trace config.new.device ≡ after_all (removing_blobs places) (D.trace config.old.device))) }
     ensures calls { let file = (state_of (D.trace config.old.device)).blobs.file in
         (places : List ℤ) × MayGo file least places × Performs (removing_blobs places) (D.trace config.old.device) (D.trace config.new.device) }
     ensures answers { RemoveAnswers result (D.faults config.old.device) (D.faults config.new.device) }

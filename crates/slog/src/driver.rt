@@ -207,7 +207,8 @@ impl Driver {
         snapshot: &Snapshot,
     ) -> Result<Reply, Stop>
         ensures kept { OnOk result (self.new.opened ≡ None → IsSome self.new.halted) }
-        ensures pages { self.old.opened ≡ None → OnOk result (IfSome self.new.opened (λ opened. map last_of_page opened.pages.items ≡ map last_of (map page_of snapshot.now.pt.items))) }
+        ensures pages { self.old.opened ≡ None → OnOk result (IfSome self.new.opened
+            (λ opened. map last_of_page opened.pages.items ≡ map last_of (map page_of snapshot.now.pt.items))) }
     {
         let recovered = Recovered {
             stable: snapshot.stable_lsn,

@@ -34,9 +34,12 @@ fn stored_run(rt: HostRuntime) -> Result<(), Fail> {
 #[test]
 fn a_log_that_was_halted_goes_on(rt: HostRuntime) -> Result<(), Fail> {
     let lines =
-        b"size 256\nopen\nreplace 0 070707\ncomplete 0\nflush\nhalt\nopen\nread 0\nreplace 1 07\ncomplete 0\nflush\nread 0\nread 1\nhalt\nopen\nread 1\n";
+        b"size 256\nopen\nreplace 0 070707\ncomplete 0\nflush\nhalt\nopen\nread 0\nreplace 1 07\ncomplete 0\n\
+         flush\nread 0\nread 1\nhalt\nopen\nread 1\n";
     let text =
-        "opened - - 0\nreserved 0 20 I:20\ndone 20 I:20\nflushed 32\nhalted\nopened 32 0 1\npage 03070707\nreserved 0 32 I:32\ndone 32 I:32\nflushed 10\npage 03070707\npage 0107\nhalted\nopened 42 0 2\npage 0107\n";
+        "opened - - 0\nreserved 0 20 I:20\ndone 20 I:20\nflushed 32\nhalted\nopened 32 0 1\npage 03070707\n\
+         reserved 0 32 I:32\ndone 32 I:32\nflushed 10\npage 03070707\npage 0107\nhalted\nopened 42 0 2\n\
+         page 0107\n";
     assert!(rt; prints(rt.alloc(), lines, text, 0)?);
     Ok(())
 }
@@ -47,7 +50,8 @@ fn a_page_that_was_recovered_is_replaced(rt: HostRuntime) -> Result<(), Fail> {
     let lines =
         b"size 256\nopen\nreplace 0 070707\ncomplete 0\nflush\nhalt\nopen\nreplace 0 ff\ncomplete 0\nread 0\nhalt\nopen\nread 0\n";
     let text =
-        "opened - - 0\nreserved 0 20 I:20\ndone 20 I:20\nflushed 32\nhalted\nopened 32 0 1\nreserved 0 32 I:32\ndone 32 I:32\npage 01ff\nhalted\nopened 42 0 1\npage 01ff\n";
+        "opened - - 0\nreserved 0 20 I:20\ndone 20 I:20\nflushed 32\nhalted\nopened 32 0 1\nreserved 0 32 I:32\n\
+         done 32 I:32\npage 01ff\nhalted\nopened 42 0 1\npage 01ff\n";
     assert!(rt; prints(rt.alloc(), lines, text, 0)?);
     Ok(())
 }
@@ -82,7 +86,8 @@ fn out_of_turn(rt: HostRuntime) -> Result<(), Fail> {
     let lines =
         b"size 256\nhalt\nopen\nopen\nhalt\nhalt\nflush\nread 0\nreplace 0 07\ncomplete 0\nopen\n";
     let text =
-        "refused closed\nopened - - 0\nrefused open\nhalted\nrefused closed\nrefused closed\nrefused closed\nrefused closed\nrefused closed\nopened - - 0\n";
+        "refused closed\nopened - - 0\nrefused open\nhalted\nrefused closed\nrefused closed\nrefused closed\n\
+         refused closed\nrefused closed\nopened - - 0\n";
     assert!(rt; prints(rt.alloc(), lines, text, 0)?);
     Ok(())
 }
@@ -91,9 +96,13 @@ fn out_of_turn(rt: HostRuntime) -> Result<(), Fail> {
 #[test]
 fn pages_are_begun_in_order(rt: HostRuntime) -> Result<(), Fail> {
     let lines =
-        b"size 256\nopen\nreplace 1 07\nread 0\nreplace 0 07\nreplace 1 07\nread 0\ncomplete 0\nreplace 2 07\nreplace 18446744073709551615 07\nreplace 1 07\ncomplete 1\nflush\nhalt\nopen\nread 1\nread 2\nreplace 3 07\nreplace 2 07\n";
+        b"size 256\nopen\nreplace 1 07\nread 0\nreplace 0 07\nreplace 1 07\nread 0\ncomplete 0\nreplace 2 07\n\
+         replace 18446744073709551615 07\nreplace 1 07\ncomplete 1\nflush\nhalt\nopen\nread 1\nread 2\n\
+         replace 3 07\nreplace 2 07\n";
     let text =
-        "opened - - 0\nrefused page\nrefused page\nreserved 0 20 I:20\nrefused page\nrefused page\ndone 20 I:20\nrefused page\nrefused page\nreserved 1 30 I:30\ndone 30 I:30\nflushed 40\nhalted\nopened 40 0 2\npage 0107\nrefused page\nrefused page\nreserved 0 40 I:40\n";
+        "opened - - 0\nrefused page\nrefused page\nreserved 0 20 I:20\nrefused page\nrefused page\n\
+         done 20 I:20\nrefused page\nrefused page\nreserved 1 30 I:30\ndone 30 I:30\nflushed 40\nhalted\n\
+         opened 40 0 2\npage 0107\nrefused page\nrefused page\nreserved 0 40 I:40\n";
     assert!(rt; prints(rt.alloc(), lines, text, 0)?);
     Ok(())
 }
@@ -102,9 +111,11 @@ fn pages_are_begun_in_order(rt: HostRuntime) -> Result<(), Fail> {
 #[test]
 fn a_page_has_one_open_ticket(rt: HostRuntime) -> Result<(), Fail> {
     let lines =
-        b"size 256\nopen\nreplace 0 01\nreplace 0 02\ncomplete 0\nflush\nreplace 0 02\nreplace 0 03\nread 0\ncomplete 1\nread 0\nhalt\nopen\nread 0\n";
+        b"size 256\nopen\nreplace 0 01\nreplace 0 02\ncomplete 0\nflush\nreplace 0 02\nreplace 0 03\nread 0\n\
+         complete 1\nread 0\nhalt\nopen\nread 0\n";
     let text =
-        "opened - - 0\nreserved 0 20 I:20\nrefused busy\ndone 20 I:20\nflushed 30\nreserved 1 30 I:30\nrefused busy\npage 0101\ndone 30 I:30\npage 0102\nhalted\nopened 40 0 1\npage 0102\n";
+        "opened - - 0\nreserved 0 20 I:20\nrefused busy\ndone 20 I:20\nflushed 30\nreserved 1 30 I:30\n\
+         refused busy\npage 0101\ndone 30 I:30\npage 0102\nhalted\nopened 40 0 1\npage 0102\n";
     assert!(rt; prints(rt.alloc(), lines, text, 0)?);
     Ok(())
 }
@@ -208,9 +219,11 @@ fn bad_third_lines(rt: HostRuntime) -> Result<(), Fail> {
 #[test]
 fn an_open_ticket_holds_up(rt: HostRuntime) -> Result<(), Fail> {
     let lines =
-        b"size 256\nopen\nreplace 0 07\nflush\ncomplete 0\nreplace 0 08\nreplace 1 07\nread 0\nflush\ncomplete 1\nflush\ncomplete 2\nread 0\nread 1\n";
+        b"size 256\nopen\nreplace 0 07\nflush\ncomplete 0\nreplace 0 08\nreplace 1 07\nread 0\nflush\n\
+         complete 1\nflush\ncomplete 2\nread 0\nread 1\n";
     let text =
-        "opened - - 0\nreserved 0 20 I:20\nerror held 20\ndone 20 I:20\nreserved 1 30 I:30\nreserved 2 40 I:40\nerror held 30\nerror held 30\ndone 30 I:30\nerror held 40\ndone 40 I:40\npage 0108\npage 0107\n";
+        "opened - - 0\nreserved 0 20 I:20\nerror held 20\ndone 20 I:20\nreserved 1 30 I:30\nreserved 2 40 I:40\n\
+         error held 30\nerror held 30\ndone 30 I:30\nerror held 40\ndone 40 I:40\npage 0108\npage 0107\n";
     assert!(rt; prints(rt.alloc(), lines, text, 0)?);
     Ok(())
 }

@@ -27,14 +27,22 @@ pub(crate) fn begin<D: Device, C: Checksum>(
     config: &mut RunningConfig<D, C>,
     snapshot: &Snapshot,
 ) -> Result<(Beginning, IoBuf)>
-    ensures startable { OnOk result (IsStartable config.old.config.segment_size (length (state_of (D.trace config.old.device)).log.bytes) (model_of snapshot.now)) }
-    ensures corrupt { IsCorruption result → IsStartable config.old.config.segment_size (length (state_of (D.trace config.old.device)).log.bytes) (model_of snapshot.now) → ⊥ }
-    ensures beginning { IfOk result (λ b. b.0 ≡ beginning_of config.old.config.segment_size (length (state_of (D.trace config.old.device)).log.bytes) (model_of snapshot.now)) }
+    ensures startable { OnOk result (IsStartable config.old.config.segment_size (length (state_of (D.trace config.old.device)).log.bytes)
+        (model_of snapshot.now)) }
+    ensures corrupt { IsCorruption result → IsStartable config.old.config.segment_size (length (state_of (D.trace config.old.device)).log.bytes)
+        (model_of snapshot.now) → ⊥ }
+    ensures beginning { IfOk result (λ b. b.0 ≡ beginning_of config.old.config.segment_size (length (state_of (D.trace config.old.device)).log.bytes)
+        (model_of snapshot.now)) }
     ensures buffer { IfOk result (λ b. IsFirstBuffer C.sum_of b.0.place b.0.offset b.1) }
-    ensures done { let size = config.old.config.segment_size in OnOk result (D.trace config.new.device ≡ after_all (filling size (unused size (slots_of size (length (state_of (D.trace config.old.device)).log.bytes)) (model_of snapshot.now))) (D.trace config.old.device)) }
-    ensures calls { let size = config.old.config.segment_size in Performs (filling size (unused size (slots_of size (length (state_of (D.trace config.old.device)).log.bytes)) (model_of snapshot.now))) (D.trace config.old.device) (D.trace config.new.device) }
+    ensures done { let size = config.old.config.segment_size in
+        OnOk result (D.trace config.new.device ≡ after_all (filling size
+        (unused size (slots_of size (length (state_of (D.trace config.old.device)).log.bytes)) (model_of snapshot.now))) (D.trace config.old.device)) }
+    ensures calls { let size = config.old.config.segment_size in
+        Performs (filling size (unused size (slots_of size (length (state_of (D.trace config.old.device)).log.bytes)) (model_of snapshot.now)))
+        (D.trace config.old.device) (D.trace config.new.device) }
     ensures unwritten { IsUnfit result → D.trace config.new.device ≡ D.trace config.old.device }
-    ensures answers { StartAnswers result (IsInReach config.old.config.segment_size (length (state_of (D.trace config.old.device)).log.bytes) (model_of snapshot.now)) (D.faults config.old.device) (D.faults config.new.device) }
+    ensures answers { StartAnswers result (IsInReach config.old.config.segment_size (length (state_of (D.trace config.old.device)).log.bytes)
+        (model_of snapshot.now)) (D.faults config.old.device) (D.faults config.new.device) }
     ensures config { config.new.config ≡ config.old.config }
     ensures checksum { config.new.checksum ≡ config.old.checksum }
 {

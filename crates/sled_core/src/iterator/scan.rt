@@ -119,9 +119,11 @@ fn meet<D: Device, C: Checksum>(
     requires place { place + config.old.config.segment_size < 2 ^ 63 }
     requires slot { buf.now.offset + config.old.config.segment_size < 2 ^ 63 }
     requires aligned { buf.now.offset % config.old.config.segment_size ≡ 0 }
-    ensures step { IfOk result (IsStep C.sum_of config.old.config.segment_size (read_of buf.now) (buf.now.offset + at) (place + at) (place / config.old.config.segment_size)) }
+    ensures step { IfOk result (IsStep C.sum_of config.old.config.segment_size (read_of buf.now) (buf.now.offset + at) (place + at)
+        (place / config.old.config.segment_size)) }
     ensures room { IfOk result (HasPlace config.old.config.segment_size at) }
-    ensures damaged { IsCorruption result → IsDamagedAt C.sum_of config.old.config.segment_size (read_of buf.now) (buf.now.offset + at) (place / config.old.config.segment_size) }
+    ensures damaged { IsCorruption result → IsDamagedAt C.sum_of config.old.config.segment_size (read_of buf.now) (buf.now.offset + at)
+        (place / config.old.config.segment_size) }
     ensures answers { DeviceAnswers result (D.faults config.old.device) (D.faults config.new.device) }
     ensures trace { D.trace config.new.device ≡ D.trace config.old.device }
     ensures config { config.new.config ≡ config.old.config }
@@ -136,7 +138,8 @@ fn meet<D: Device, C: Checksum>(
 /// What was read, as it is met.
 #[tactic(auto, unfolding(crate::specs::Scan::IsMet, crate::specs::Scan::EndsThere))]
 pub fn step_of(place: u64, lid: LogOffset, read: LogRead) -> Step
-    ensures { (sum : List ℕ → ℕ) (size : ℕ) (log : List ℕ) (number : ℕ) → IsReading sum size log lid number read → IsStep sum size (record { log = log; blobs = λ _. None }) lid place number result }
+    ensures { (sum : List ℕ → ℕ) (size : ℕ) (log : List ℕ) (number : ℕ) → IsReading sum size log lid number read
+        → IsStep sum size (record { log = log; blobs = λ _. None }) lid place number result }
 {
     let (what, len) = match read {
         LogRead::Inline(header, _, len) => {

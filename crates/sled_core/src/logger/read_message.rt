@@ -77,8 +77,10 @@ pub fn read_message<D: Device, C: Checksum>(
 ) -> Result<LogRead>
     requires begin { MayBegin config.old.config.segment_size lid }
     requires behind { IfSome buf (λ b. b.now.offset ≤ lid) }
-    ensures reading { IfOk result (IsReading C.sum_of config.old.config.segment_size (file_read buf.entry (state_of (D.trace config.old.device)).log.bytes) lid number.0) }
-    ensures malformed { IsCorruption result → IsMalformed C.sum_of config.old.config.segment_size (file_read buf.entry (state_of (D.trace config.old.device)).log.bytes) lid number.0 }
+    ensures reading { IfOk result (IsReading C.sum_of config.old.config.segment_size
+        (file_read buf.entry (state_of (D.trace config.old.device)).log.bytes) lid number.0) }
+    ensures malformed { IsCorruption result → IsMalformed C.sum_of config.old.config.segment_size
+        (file_read buf.entry (state_of (D.trace config.old.device)).log.bytes) lid number.0 }
     ensures answers { DeviceAnswers result (D.faults config.old.device) (D.faults config.new.device) }
     ensures trace { D.trace config.new.device ≡ D.trace config.old.device }
     ensures config { config.new.config ≡ config.old.config }
@@ -98,8 +100,10 @@ fn find_in<D: Device, C: Checksum>(
     number: SegmentNumber,
 ) -> Result<Option<UnverifiedRecord>>
     requires behind { IfSome buf (λ b. b.now.offset ≤ lid) }
-    ensures found { IfOk result (λ o. IfSome o (IsFound config.old.config.segment_size (file_read buf.entry (state_of (D.trace config.old.device)).log.bytes) lid number.0)) }
-    ensures none { IfOk result (λ o. IfNone o (IsBare config.old.config.segment_size (file_read buf.entry (state_of (D.trace config.old.device)).log.bytes) lid number.0)) }
+    ensures found { IfOk result (λ o. IfSome o (IsFound config.old.config.segment_size
+        (file_read buf.entry (state_of (D.trace config.old.device)).log.bytes) lid number.0)) }
+    ensures none { IfOk result (λ o. IfNone o (IsBare config.old.config.segment_size
+        (file_read buf.entry (state_of (D.trace config.old.device)).log.bytes) lid number.0)) }
     ensures valid { IfOk result (λ o. IfSome o (λ f. f.header.kind ≢ kind.Corrupted)) }
     ensures answers { DeviceAnswers result (D.faults config.old.device) (D.faults config.new.device) }
     ensures readable { IsCorruption result → ⊥ }
@@ -119,7 +123,8 @@ fn find_in<D: Device, C: Checksum>(
 fn read_found<C: Checksum>(checksum: &C, found: UnverifiedRecord) -> Result<LogRead>
     requires { found.header.kind ≢ kind.Corrupted }
     ensures reading { (size : ℕ) (log : List ℕ) (lid number : ℕ) → IsFound size log lid number found → IfOk result (IsReading C.sum_of size log lid number) }
-    ensures malformed { (size : ℕ) (log : List ℕ) (lid number : ℕ) → IsFound size log lid number found → IsCorruption result → IsMalformed C.sum_of size log lid number }
+    ensures malformed { (size : ℕ) (log : List ℕ) (lid number : ℕ) → IsFound size log lid number found → IsCorruption result
+        → IsMalformed C.sum_of size log lid number }
     ensures errors { IfErr result IsDecodeError }
 {
     let UnverifiedRecord {
@@ -275,7 +280,8 @@ fn read_body<R: ReadAt>(
     requires small { len < 2 ^ 32 }
     requires behind { R.begins reader.old ≤ at }
     requires there { at ≤ length (R.file reader.old) }
-    ensures body { IfOk result (λ body. MatchOption body (length (R.file reader.old) < at + len) (λ b. (b.items ≡ part (R.file reader.old) at len) × (at + len ≤ length (R.file reader.old)))) }
+    ensures body { IfOk result (λ body. MatchOption body (length (R.file reader.old) < at + len) (λ b. (b.items ≡ part (R.file reader.old) at len)
+        × (at + len ≤ length (R.file reader.old)))) }
     ensures room { IfOk result (λ o. IfSome o (λ b. len + 32 ≤ vec_capacity b)) }
     ensures len { IfOk result (λ o. IfSome o (λ b. length b.items ≡ len)) }
     ensures answers { DeviceAnswers result (R.faults reader.old) (R.faults reader.new) }

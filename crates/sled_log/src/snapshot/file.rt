@@ -169,8 +169,10 @@ pub(crate) fn publish<D: Device>(device: &mut D, bytes: &[u8], number: i64) -> R
 
 /// Removes all snapshots but the one of a number. After a failure some of them may be left.
 pub(crate) fn remove_others<D: Device>(device: &mut D, kept: i64) -> Result<()>
-    ensures done { OnOk result ((numbers : List ℤ) × AreOthers (state_of (D.trace device.old)).snapshots.file kept numbers × (D.trace device.new ≡ after_all (removing numbers) (D.trace device.old))) }
-    ensures calls { (numbers : List ℤ) × MayBeRemoved (state_of (D.trace device.old)).snapshots.file kept numbers × Performs (removing numbers) (D.trace device.old) (D.trace device.new) }
+    ensures done { OnOk result ((numbers : List ℤ) × AreOthers (state_of (D.trace device.old)).snapshots.file kept numbers
+        × (D.trace device.new ≡ after_all (removing numbers) (D.trace device.old))) }
+    ensures calls { (numbers : List ℤ) × MayBeRemoved (state_of (D.trace device.old)).snapshots.file kept numbers
+        × Performs (removing numbers) (D.trace device.old) (D.trace device.new) }
     ensures answers { DeviceAnswers result (D.faults device.old) (D.faults device.new) }
     ensures readable { IsCorruption result → ⊥ }
 {

@@ -118,7 +118,8 @@ fn grow(pages: &mut Vec<PageState>, len: usize) -> Result<()>
 
 /// Puts a Link on a page, where it has one.
 fn link(pages: &mut Vec<PageState>, page: PageId, entry: Entry) -> Result<()>
-    ensures table { OnOk result (map page_of pages.new.items ≡ grown (set (map page_of pages.old.items) page (linked (get_or (map page_of pages.old.items) page Uninitialized) entry)) page) }
+    ensures table { OnOk result (map page_of pages.new.items ≡ grown
+        (set (map page_of pages.old.items) page (linked (get_or (map page_of pages.old.items) page Uninitialized) entry)) page) }
     ensures err { IsOkUnless result Error.OutOfMemory }
 {
     match pages.get_mut(page as usize) {

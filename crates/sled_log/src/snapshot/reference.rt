@@ -45,7 +45,8 @@ pub fn reference_recovery<D: Device, C: Checksum>(
     config: &mut RunningConfig<D, C>,
 ) -> Result<Option<Snapshot>>
     ensures some { let old = state_of (D.trace config.old.device) in
-        IfOk result (λ o. IfSome o (λ s. (x : RecoveryResult) × Recovers C.sum_of config.old.config.segment_size (log_alone old.log.bytes) old.snapshots.file (Recovered x) × (model_of s ≡ x.model))) }
+        IfOk result (λ o. IfSome o (λ s. (x : RecoveryResult)
+        × Recovers C.sum_of config.old.config.segment_size (log_alone old.log.bytes) old.snapshots.file (Recovered x) × (model_of s ≡ x.model))) }
     ensures none { let old = state_of (D.trace config.old.device) in
         IfOk result (λ o. IfNone o (Recovers C.sum_of config.old.config.segment_size (log_alone old.log.bytes) old.snapshots.file Damaged)) }
     ensures readable { IsCorruption result → ⊥ }
@@ -63,8 +64,10 @@ pub fn reference_recovery<D: Device, C: Checksum>(
 fn recover_by_definition<D: Device, C: Checksum>(
     config: &mut RunningConfig<D, C>,
 ) -> Result<Recovery>
-    ensures ok { IfOk result (λ x. Recovers C.sum_of config.old.config.segment_size (log_alone (state_of (D.trace config.old.device)).log.bytes) (state_of (D.trace config.old.device)).snapshots.file (Recovered (result_of x))) }
-    ensures corrupt { IsCorruption result → Recovers C.sum_of config.old.config.segment_size (log_alone (state_of (D.trace config.old.device)).log.bytes) (state_of (D.trace config.old.device)).snapshots.file Damaged }
+    ensures ok { IfOk result (λ x. Recovers C.sum_of config.old.config.segment_size (log_alone (state_of (D.trace config.old.device)).log.bytes)
+        (state_of (D.trace config.old.device)).snapshots.file (Recovered (result_of x))) }
+    ensures corrupt { IsCorruption result → Recovers C.sum_of config.old.config.segment_size (log_alone (state_of (D.trace config.old.device)).log.bytes)
+        (state_of (D.trace config.old.device)).snapshots.file Damaged }
     ensures answers { DeviceAnswers result (D.faults config.old.device) (D.faults config.new.device) }
     ensures reads { OnlyReads D.trace config.old config.new }
 {
@@ -79,8 +82,10 @@ fn continue_by_definition<D: Device, C: Checksum>(
     config: &mut RunningConfig<D, C>,
     first: Snapshot,
 ) -> Result<Recovery>
-    ensures ok { IfOk result (λ x. ContinuesFrom C.sum_of config.old.config.segment_size (log_alone (state_of (D.trace config.old.device)).log.bytes) (model_of first) (Recovered (result_of x))) }
-    ensures corrupt { IsCorruption result → ContinuesFrom C.sum_of config.old.config.segment_size (log_alone (state_of (D.trace config.old.device)).log.bytes) (model_of first) Damaged }
+    ensures ok { IfOk result (λ x. ContinuesFrom C.sum_of config.old.config.segment_size (log_alone (state_of (D.trace config.old.device)).log.bytes)
+        (model_of first) (Recovered (result_of x))) }
+    ensures corrupt { IsCorruption result → ContinuesFrom C.sum_of config.old.config.segment_size (log_alone (state_of (D.trace config.old.device)).log.bytes)
+        (model_of first) Damaged }
     ensures answers { DeviceAnswers result (D.faults config.old.device) (D.faults config.new.device) }
     ensures reads { OnlyReads D.trace config.old config.new }
 {
@@ -98,10 +103,13 @@ fn replay_by_definition<D: Device, C: Checksum>(
     segments: &[Segment],
     first: Snapshot,
 ) -> Result<Recovery>
-    requires ordering { IsOrdering C.sum_of config.old.config.segment_size (state_of (D.trace config.old.device)).log.bytes (least_place config.old.config.segment_size (model_of first)) segments.now }
+    requires ordering { IsOrdering C.sum_of config.old.config.segment_size (state_of (D.trace config.old.device)).log.bytes
+        (least_place config.old.config.segment_size (model_of first)) segments.now }
     requires small { length (state_of (D.trace config.old.device)).log.bytes + config.old.config.segment_size < 2 ^ 63 }
-    ensures ok { IfOk result (λ x. ContinuesFrom C.sum_of config.old.config.segment_size (log_alone (state_of (D.trace config.old.device)).log.bytes) (model_of first) (Recovered (result_of x))) }
-    ensures corrupt { IsCorruption result → ContinuesFrom C.sum_of config.old.config.segment_size (log_alone (state_of (D.trace config.old.device)).log.bytes) (model_of first) Damaged }
+    ensures ok { IfOk result (λ x. ContinuesFrom C.sum_of config.old.config.segment_size (log_alone (state_of (D.trace config.old.device)).log.bytes)
+        (model_of first) (Recovered (result_of x))) }
+    ensures corrupt { IsCorruption result → ContinuesFrom C.sum_of config.old.config.segment_size (log_alone (state_of (D.trace config.old.device)).log.bytes)
+        (model_of first) Damaged }
     ensures answers { DeviceAnswers result (D.faults config.old.device) (D.faults config.new.device) }
     ensures reads { OnlyReads D.trace config.old config.new }
 {
@@ -127,10 +135,13 @@ fn pass_over<D: Device, C: Checksum>(
 ) -> Result<Recovery>
     requires ready { (s : Segment) → Contains segments.now s → CanBeRead config.old.config.segment_size (state_of (D.trace config.old.device)).log.bytes s }
     requires end { end < 2 ^ 63 }
-    ensures ok { IfOk result (λ x. (passes : List Scanned) × AreReplayed C.sum_of config.old.config.segment_size (log_alone (state_of (D.trace config.old.device)).log.bytes) end (begun_below end segments.now) passes × (outcome_of config.old.config.segment_size (model_of first) end passes ≡ Recovered (result_of x))) }
+    ensures ok { IfOk result (λ x. (passes : List Scanned) × AreReplayed C.sum_of config.old.config.segment_size
+        (log_alone (state_of (D.trace config.old.device)).log.bytes) end (begun_below end segments.now) passes
+        × (outcome_of config.old.config.segment_size (model_of first) end passes ≡ Recovered (result_of x))) }
     ensures corrupt { IsCorruption result →
         IsDamagedPass C.sum_of config.old.config.segment_size (log_alone (state_of (D.trace config.old.device)).log.bytes) end (begun_below end segments.now)
-        ⊎ ((passes : List Scanned) × AreReplayed C.sum_of config.old.config.segment_size (log_alone (state_of (D.trace config.old.device)).log.bytes) end (begun_below end segments.now) passes × (outcome_of config.old.config.segment_size (model_of first) end passes ≡ Damaged)) }
+        ⊎ ((passes : List Scanned) × AreReplayed C.sum_of config.old.config.segment_size (log_alone (state_of (D.trace config.old.device)).log.bytes) end
+        (begun_below end segments.now) passes × (outcome_of config.old.config.segment_size (model_of first) end passes ≡ Damaged)) }
     ensures answers { DeviceAnswers result (D.faults config.old.device) (D.faults config.new.device) }
     ensures reads { OnlyReads D.trace config.old config.new }
 {
@@ -183,7 +194,8 @@ fn look_in<D: Device, C: Checksum>(
 ) -> Result<()>
     requires slot { slot % config.old.config.segment_size ≡ 0 }
     requires found { AreFound C.sum_of config.old.config.segment_size (state_of (D.trace config.old.device)).log.bytes least segments.old.items slot }
-    ensures found { OnOk result (AreFound C.sum_of config.old.config.segment_size (state_of (D.trace config.old.device)).log.bytes least segments.new.items (slot + config.old.config.segment_size)) }
+    ensures found { OnOk result (AreFound C.sum_of config.old.config.segment_size (state_of (D.trace config.old.device)).log.bytes least segments.new.items
+        (slot + config.old.config.segment_size)) }
     ensures corrupt { IsCorruption result → IsUnordered C.sum_of config.old.config.segment_size (state_of (D.trace config.old.device)).log.bytes least }
     ensures answers { DeviceAnswers result (D.faults config.old.device) (D.faults config.new.device) }
     ensures reads { OnlyReads D.trace config.old config.new }
@@ -202,8 +214,10 @@ fn found_in<D: Device, C: Checksum>(
     least: u64,
 ) -> Result<Option<Segment>>
     requires { slot % config.old.config.segment_size ≡ 0 }
-    ensures some { IfOk result (λ o. IfSome o (λ s. IsFoundSegment C.sum_of config.old.config.segment_size (state_of (D.trace config.old.device)).log.bytes least s × (s.slot ≡ slot))) }
-    ensures none { IfOk result (λ o. IfNone o ((s : Segment) → IsFoundSegment C.sum_of config.old.config.segment_size (state_of (D.trace config.old.device)).log.bytes least s → s.slot ≡ slot → ⊥)) }
+    ensures some { IfOk result (λ o. IfSome o (λ s. IsFoundSegment C.sum_of config.old.config.segment_size
+        (state_of (D.trace config.old.device)).log.bytes least s × (s.slot ≡ slot))) }
+    ensures none { IfOk result (λ o. IfNone o ((s : Segment) → IsFoundSegment C.sum_of config.old.config.segment_size
+        (state_of (D.trace config.old.device)).log.bytes least s → s.slot ≡ slot → ⊥)) }
     ensures answers { DeviceAnswers result (D.faults config.old.device) (D.faults config.new.device) }
     ensures readable { IsCorruption result → ⊥ }
     ensures reads { OnlyReads D.trace config.old config.new }
@@ -285,10 +299,12 @@ fn scan_of<D: Device, C: Checksum>(
     segment: &Segment,
 ) -> Result<SegmentScan>
     requires { CanBeRead config.old.config.segment_size (state_of (D.trace config.old.device)).log.bytes segment.now }
-    ensures scan { IfOk result (λ s. IsScanned C.sum_of config.old.config.segment_size (log_alone (state_of (D.trace config.old.device)).log.bytes) (scanned_of segment.now s)) }
+    ensures scan { IfOk result (λ s. IsScanned C.sum_of config.old.config.segment_size (log_alone (state_of (D.trace config.old.device)).log.bytes)
+        (scanned_of segment.now s)) }
     ensures stop { IfOk result (λ s. (20 ≤ s.stop) × (s.stop ≤ config.old.config.segment_size)) }
     ensures places { IfOk result (λ s. All (λ m. m.place < segment.now.place + config.old.config.segment_size) s.met.items) }
-    ensures damaged { IsCorruption result → IsDamagedIn C.sum_of config.old.config.segment_size (log_alone (state_of (D.trace config.old.device)).log.bytes) segment.now.slot segment.now.place }
+    ensures damaged { IsCorruption result → IsDamagedIn C.sum_of config.old.config.segment_size
+        (log_alone (state_of (D.trace config.old.device)).log.bytes) segment.now.slot segment.now.place }
     ensures answers { DeviceAnswers result (D.faults config.old.device) (D.faults config.new.device) }
     ensures reads { OnlyReads D.trace config.old config.new }
 {
@@ -306,9 +322,11 @@ fn tail_end<D: Device, C: Checksum>(
     begin: u64,
 ) -> Result<Option<u64>>
     requires ready { (s : Segment) → Contains segments.now s → CanBeRead config.old.config.segment_size (state_of (D.trace config.old.device)).log.bytes s }
-    ensures end { IfOk result (λ o. (scanned : List Scanned) × IsTail C.sum_of config.old.config.segment_size (log_alone (state_of (D.trace config.old.device)).log.bytes) segments.now begin scanned × (tail_end scanned ≡ o)) }
+    ensures end { IfOk result (λ o. (scanned : List Scanned) × IsTail C.sum_of config.old.config.segment_size
+        (log_alone (state_of (D.trace config.old.device)).log.bytes) segments.now begin scanned × (tail_end scanned ≡ o)) }
     ensures small { IfOk result (λ o. IfSome o (λ end. end < 2 ^ 63)) }
-    ensures damaged { IsCorruption result → IsDamagedTail C.sum_of config.old.config.segment_size (log_alone (state_of (D.trace config.old.device)).log.bytes) segments.now begin }
+    ensures damaged { IsCorruption result → IsDamagedTail C.sum_of config.old.config.segment_size
+        (log_alone (state_of (D.trace config.old.device)).log.bytes) segments.now begin }
     ensures answers { DeviceAnswers result (D.faults config.old.device) (D.faults config.new.device) }
     ensures reads { OnlyReads D.trace config.old config.new }
 {
@@ -351,9 +369,11 @@ fn passes_below<D: Device, C: Checksum>(
 ) -> Result<Vec<Pass>>
     requires ready { (s : Segment) → Contains segments.now s → CanBeRead config.old.config.segment_size (state_of (D.trace config.old.device)).log.bytes s }
     requires end { end < 2 ^ 63 }
-    ensures passed { IfOk result (λ v. AreReplayed C.sum_of config.old.config.segment_size (log_alone (state_of (D.trace config.old.device)).log.bytes) end (begun_below end segments.now) (map pass_of v.items)) }
+    ensures passed { IfOk result (λ v. AreReplayed C.sum_of config.old.config.segment_size (log_alone (state_of (D.trace config.old.device)).log.bytes) end
+        (begun_below end segments.now) (map pass_of v.items)) }
     ensures fits { IfOk result (λ v. All (IsPass config.old.config.segment_size) v.items) }
-    ensures damaged { IsCorruption result → IsDamagedPass C.sum_of config.old.config.segment_size (log_alone (state_of (D.trace config.old.device)).log.bytes) end (begun_below end segments.now) }
+    ensures damaged { IsCorruption result → IsDamagedPass C.sum_of config.old.config.segment_size
+        (log_alone (state_of (D.trace config.old.device)).log.bytes) end (begun_below end segments.now) }
     ensures answers { DeviceAnswers result (D.faults config.old.device) (D.faults config.new.device) }
     ensures reads { OnlyReads D.trace config.old config.new }
 {

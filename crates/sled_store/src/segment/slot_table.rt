@@ -149,7 +149,8 @@ impl SlotTable {
     fn put(&mut self, limits: Limits, entry: &Entry) -> Result<()>
         ensures ok { (es : List Entry) → IsSlotTable limits.size self.old es → OnOk result (IsSlotTable limits.size self.new (es ++ entry.now ∷ [])) }
         ensures placed { OnOk result (IsPlacedIn limits.size limits.slots limits.stable entry.now) }
-        ensures corrupt { (es : List Entry) → IsSlotTable limits.size self.old es → IsCorruption result → IsPlacedIn limits.size limits.slots limits.stable entry.now → AreFit limits.size (es ++ entry.now ∷ []) → ⊥ }
+        ensures corrupt { (es : List Entry) → IsSlotTable limits.size self.old es → IsCorruption result
+            → IsPlacedIn limits.size limits.slots limits.stable entry.now → AreFit limits.size (es ++ entry.now ∷ []) → ⊥ }
         ensures errors { IfErr result IsDecodeError }
     {
         if !limits.hold(entry) {
@@ -162,7 +163,8 @@ impl SlotTable {
     fn put_all(&mut self, limits: Limits, entries: &[Entry]) -> Result<()>
         ensures ok { (es : List Entry) → IsSlotTable limits.size self.old es → OnOk result (IsSlotTable limits.size self.new (es ++ entries.now)) }
         ensures placed { OnOk result (All (IsPlacedIn limits.size limits.slots limits.stable) entries.now) }
-        ensures corrupt { (es : List Entry) → IsSlotTable limits.size self.old es → IsCorruption result → All (IsPlacedIn limits.size limits.slots limits.stable) entries.now → AreFit limits.size (es ++ entries.now) → ⊥ }
+        ensures corrupt { (es : List Entry) → IsSlotTable limits.size self.old es → IsCorruption result
+            → All (IsPlacedIn limits.size limits.slots limits.stable) entries.now → AreFit limits.size (es ++ entries.now) → ⊥ }
         ensures errors { IfErr result IsDecodeError }
     {
         for entry in entries {
@@ -176,10 +178,13 @@ impl SlotTable {
 
     /// The entries of a page. `Corruption` comes for one that was not seen, too.
     fn put_page(&mut self, limits: Limits, page: &PageState) -> Result<()>
-        ensures ok { (es : List Entry) → IsSlotTable limits.size self.old es → OnOk result (IsSlotTable limits.size self.new (es ++ entries_in (page_of page.now))) }
+        ensures ok { (es : List Entry) → IsSlotTable limits.size self.old es
+            → OnOk result (IsSlotTable limits.size self.new (es ++ entries_in (page_of page.now))) }
         ensures placed { OnOk result (All (IsPlacedIn limits.size limits.slots limits.stable) (entries_in (page_of page.now))) }
         ensures seen { OnOk result (page_of page.now ≢ Uninitialized) }
-        ensures corrupt { (es : List Entry) → IsSlotTable limits.size self.old es → IsCorruption result → page_of page.now ≢ Uninitialized → All (IsPlacedIn limits.size limits.slots limits.stable) (entries_in (page_of page.now)) → AreFit limits.size (es ++ entries_in (page_of page.now)) → ⊥ }
+        ensures corrupt { (es : List Entry) → IsSlotTable limits.size self.old es → IsCorruption result → page_of page.now ≢ Uninitialized
+            → All (IsPlacedIn limits.size limits.slots limits.stable) (entries_in (page_of page.now))
+            → AreFit limits.size (es ++ entries_in (page_of page.now)) → ⊥ }
         ensures errors { IfErr result IsDecodeError }
     {
         match page {
@@ -196,10 +201,13 @@ impl SlotTable {
 
     /// The entries of all pages.
     pub(crate) fn put_pages(&mut self, limits: Limits, pages: &[PageState]) -> Result<()>
-        ensures ok { (es : List Entry) → IsSlotTable limits.size self.old es → OnOk result (IsSlotTable limits.size self.new (es ++ entries_of (map page_of pages.now))) }
+        ensures ok { (es : List Entry) → IsSlotTable limits.size self.old es
+            → OnOk result (IsSlotTable limits.size self.new (es ++ entries_of (map page_of pages.now))) }
         ensures placed { OnOk result (All (IsPlacedIn limits.size limits.slots limits.stable) (entries_of (map page_of pages.now))) }
         ensures seen { OnOk result (All (λ p. p ≢ Uninitialized) (map page_of pages.now)) }
-        ensures corrupt { (es : List Entry) → IsSlotTable limits.size self.old es → IsCorruption result → All (λ p. p ≢ Uninitialized) (map page_of pages.now) → All (IsPlacedIn limits.size limits.slots limits.stable) (entries_of (map page_of pages.now)) → AreFit limits.size (es ++ entries_of (map page_of pages.now)) → ⊥ }
+        ensures corrupt { (es : List Entry) → IsSlotTable limits.size self.old es → IsCorruption result → All (λ p. p ≢ Uninitialized) (map page_of pages.now)
+            → All (IsPlacedIn limits.size limits.slots limits.stable) (entries_of (map page_of pages.now))
+            → AreFit limits.size (es ++ entries_of (map page_of pages.now)) → ⊥ }
         ensures errors { IfErr result IsDecodeError }
     {
         for page in pages {

@@ -76,7 +76,8 @@ pub fn beginning_at(size: u64, slots: u64, first: Option<u64>, snapshot: &Snapsh
     requires small { size < 2 ^ 32 }
     requires first { IfSome first (λ k. k < slots) }
     requires slots { slots * size + size < 2 ^ 63 }
-    ensures { (free : List ℕ) → first ≡ first_of free → result ≡ beginning_at size slots (stable_place (model_of snapshot.now).stable) free (model_of snapshot.now).active }
+    ensures { (free : List ℕ) → first ≡ first_of free → result ≡ beginning_at size slots (stable_place (model_of snapshot.now).stable) free
+        (model_of snapshot.now).active }
 {
     let place = place_at(size, snapshot);
     match snapshot.active_segment {
@@ -130,8 +131,10 @@ pub fn fill_unused<D: Device, C: Checksum>(
 ) -> Result<Option<u64>>
     requires { slots * config.old.config.segment_size + config.old.config.segment_size < 2 ^ 63 }
     ensures first { IfOk result (λ first. first ≡ first_of (not_below (λ k. is_some (get nat_cmp table.now.held k)) slots)) }
-    ensures done { OnOk result (D.trace config.new.device ≡ after_all (filling config.old.config.segment_size (not_below (λ k. is_some (get nat_cmp table.now.held k)) slots)) (D.trace config.old.device)) }
-    ensures calls { Performs (filling config.old.config.segment_size (not_below (λ k. is_some (get nat_cmp table.now.held k)) slots)) (D.trace config.old.device) (D.trace config.new.device) }
+    ensures done { OnOk result (D.trace config.new.device ≡ after_all
+        (filling config.old.config.segment_size (not_below (λ k. is_some (get nat_cmp table.now.held k)) slots)) (D.trace config.old.device)) }
+    ensures calls { Performs (filling config.old.config.segment_size (not_below (λ k. is_some (get nat_cmp table.now.held k)) slots))
+        (D.trace config.old.device) (D.trace config.new.device) }
     ensures answers { DeviceAnswers result (D.faults config.old.device) (D.faults config.new.device) }
     ensures readable { IsCorruption result → ⊥ }
     ensures config { config.new.config ≡ config.old.config }
@@ -173,8 +176,10 @@ fn write_unused<D: Device, C: Checksum>(
     requires zeros { zeros.now ≡ replicate config.old.config.segment_size 0 }
     requires room { slots * config.old.config.segment_size + config.old.config.segment_size < 2 ^ 63 }
     ensures first { IfOk result (λ first. first ≡ first_of (not_below (λ k. is_some (get nat_cmp table.now.held k)) slots)) }
-    ensures done { OnOk result (D.trace config.new.device ≡ after_all (map (fill config.old.config.segment_size) (not_below (λ k. is_some (get nat_cmp table.now.held k)) slots)) (D.trace config.old.device)) }
-    ensures failed { OnErr result (Performs (map (fill config.old.config.segment_size) (not_below (λ k. is_some (get nat_cmp table.now.held k)) slots)) (D.trace config.old.device) (D.trace config.new.device)) }
+    ensures done { OnOk result (D.trace config.new.device ≡ after_all
+        (map (fill config.old.config.segment_size) (not_below (λ k. is_some (get nat_cmp table.now.held k)) slots)) (D.trace config.old.device)) }
+    ensures failed { OnErr result (Performs (map (fill config.old.config.segment_size) (not_below (λ k. is_some (get nat_cmp table.now.held k)) slots))
+        (D.trace config.old.device) (D.trace config.new.device)) }
     ensures answers { DeviceAnswers result (D.faults config.old.device) (D.faults config.new.device) }
     ensures readable { IsCorruption result → ⊥ }
     ensures config { config.new.config ≡ config.old.config }

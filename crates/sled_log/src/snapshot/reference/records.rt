@@ -28,10 +28,12 @@ pub(crate) fn scan_up_to<D: Device, C: Checksum>(
 ) -> Result<SegmentScan>
     requires ready { CanBeRead config.old.config.segment_size (state_of (D.trace config.old.device)).log.bytes segment.now }
     requires end { end < 2 ^ 63 }
-    ensures passed { IfOk result (λ s. IsReplayed C.sum_of config.old.config.segment_size (log_alone (state_of (D.trace config.old.device)).log.bytes) end (scanned_of segment.now s)) }
+    ensures passed { IfOk result (λ s. IsReplayed C.sum_of config.old.config.segment_size (log_alone (state_of (D.trace config.old.device)).log.bytes) end
+        (scanned_of segment.now s)) }
     ensures stop { IfOk result (λ s. s.stop ≤ config.old.config.segment_size) }
     ensures places { IfOk result (λ s. All (λ m. m.place < segment.now.place + config.old.config.segment_size) s.met.items) }
-    ensures damaged { IsCorruption result → IsDamagedBefore C.sum_of config.old.config.segment_size (log_alone (state_of (D.trace config.old.device)).log.bytes) end segment.now }
+    ensures damaged { IsCorruption result → IsDamagedBefore C.sum_of config.old.config.segment_size
+        (log_alone (state_of (D.trace config.old.device)).log.bytes) end segment.now }
     ensures answers { DeviceAnswers result (D.faults config.old.device) (D.faults config.new.device) }
     ensures reads { OnlyReads D.trace config.old config.new }
 {
@@ -84,9 +86,11 @@ fn step_at<D: Device, C: Checksum>(
 ) -> Result<Step>
     requires begin { (20 ≤ at) × (at + 32 ≤ config.old.config.segment_size) }
     requires ready { CanBeRead config.old.config.segment_size (state_of (D.trace config.old.device)).log.bytes segment.now }
-    ensures step { IfOk result (IsStep C.sum_of config.old.config.segment_size (log_alone (state_of (D.trace config.old.device)).log.bytes) (segment.now.slot + at) (segment.now.place + at) (segment.now.place / config.old.config.segment_size)) }
+    ensures step { IfOk result (IsStep C.sum_of config.old.config.segment_size (log_alone (state_of (D.trace config.old.device)).log.bytes)
+        (segment.now.slot + at) (segment.now.place + at) (segment.now.place / config.old.config.segment_size)) }
     ensures room { IfOk result (HasPlace config.old.config.segment_size at) }
-    ensures damaged { IsCorruption result → IsDamagedAt C.sum_of config.old.config.segment_size (log_alone (state_of (D.trace config.old.device)).log.bytes) (segment.now.slot + at) (segment.now.place / config.old.config.segment_size) }
+    ensures damaged { IsCorruption result → IsDamagedAt C.sum_of config.old.config.segment_size (log_alone (state_of (D.trace config.old.device)).log.bytes)
+        (segment.now.slot + at) (segment.now.place / config.old.config.segment_size) }
     ensures answers { DeviceAnswers result (D.faults config.old.device) (D.faults config.new.device) }
     ensures reads { OnlyReads D.trace config.old config.new }
 {

@@ -192,7 +192,8 @@ fn are_firm(bytes: &Vec<u8>, unsynced: &Vec<(usize, usize)>, cut: usize, offered
     requires { cut ≤ length bytes.now.items }
     ensures { MatchBool result
         ((i : ℕ) → i < length offered.now → (is_unsynced_at unsynced.now.items cut i || slice_index offered.now i == slice_index bytes.now.items i) ≡ true)
-        ((i : ℕ) × (i < length offered.now) × ((is_unsynced_at unsynced.now.items cut i || slice_index offered.now i == slice_index bytes.now.items i) ≡ false)) }
+        ((i : ℕ) × (i < length offered.now)
+            × ((is_unsynced_at unsynced.now.items cut i || slice_index offered.now i == slice_index bytes.now.items i) ≡ false)) }
 {
     for i in 0..offered.len() {
         if !is_firm(bytes, unsynced, cut, offered, i) {
