@@ -106,25 +106,43 @@ pub record IsBegunFrom (sum : List ℕ → ℕ) (size : ℕ) (snapshots : ℤ �
   pub active : 0 < stable_place first.stable % size → first.active ≡ Some site.slot
   pub none_active : stable_place first.stable % size ≡ 0 → first.active ≡ None
 
+-- What a log has of its current segment over its device: the size of segments, where this one lies, what is on the device, the failure that the log keeps, the bytes, how many of them were written, and the reservations since.
+pub record LogParts : Type 0 where
+  pub size : ℕ
+  pub site : SegmentPosition
+  pub device : State
+  pub fault : Option IoError
+  pub bytes : List ℕ
+  pub written_len : ℕ
+  pub reserved : List Reserved
+
+-- the view with these parts
+abbrev pub log_parts : ℕ → SegmentPosition → State → Option IoError → List ℕ → ℕ → List Reserved → LogParts
+log_parts size site device fault bytes written_len reserved = record { size = size; site = site; device = device; fault = fault; bytes = bytes; written_len = written_len; reserved = reserved }
+
+-- what a log has, where its device has this trace
+abbrev pub parts_of : {D C : Type 0} → (D → Trace) → Log D C → LogParts
+parts_of trace log = log_parts log.config.config.segment_size log.site (state_of (trace log.config.device)) log.fault log.buffer.bytes.items log.buffer.written_len log.buffer.reserved.items
+
 -- A history, and the bytes and reservations of a log's current segment over a device: what was written is settled there, and what was completed since stands in the buffer.
-pub record HoldsIn (sum : List ℕ → ℕ) (size : ℕ) (site : SegmentPosition) (device : State) (fault : Option IoError) (bytes : List ℕ) (from : ℕ) (reserved : List Reserved) (H : History) : Type 0 where
+pub record HoldsIn (sum : List ℕ → ℕ) (parts : LogParts) (H : History) : Type 0 where
   -- the messages that were written
   pub earlier : List Message
-  pub messages : H.messages ≡ earlier ++ completed_in site bytes reserved
+  pub messages : H.messages ≡ earlier ++ completed_in parts.site parts.bytes parts.reserved
   pub batches : H.batches ≡ []
-  pub place_begins : site.place % size ≡ 0
-  pub slot_begins : site.slot % size ≡ 0
-  pub below : All (λ m. (m.place < site.place + from) × (m.place + m.size ≤ site.place + from)) earlier
-  pub header : from ≡ 0 → take 20 bytes ≡ short_header sum (pos site.place) (pos site.place -ℤ pos 1)
-  pub chain : IsChain (max 20 from) reserved (length bytes)
-  pub stand : All (Stands sum (site.place / size) bytes) reserved
-  pub room : All (λ r. r.from + 32 ≤ size) reserved
-  pub written : fault ≡ None → IsOnDevice sum size device.log site from earlier
-  pub begun : IsBegunFrom sum size device.snapshots.file site from H
+  pub place_begins : parts.site.place % parts.size ≡ 0
+  pub slot_begins : parts.site.slot % parts.size ≡ 0
+  pub below : All (λ m. (m.place < parts.site.place + parts.written_len) × (m.place + m.size ≤ parts.site.place + parts.written_len)) earlier
+  pub header : parts.written_len ≡ 0 → take 20 parts.bytes ≡ short_header sum (pos parts.site.place) (pos parts.site.place -ℤ pos 1)
+  pub chain : IsChain (max 20 parts.written_len) parts.reserved (length parts.bytes)
+  pub stand : All (Stands sum (parts.site.place / parts.size) parts.bytes) parts.reserved
+  pub room : All (λ r. r.from + 32 ≤ parts.size) parts.reserved
+  pub written : parts.fault ≡ None → IsOnDevice sum parts.size parts.device.log parts.site parts.written_len earlier
+  pub begun : IsBegunFrom sum parts.size parts.device.snapshots.file parts.site parts.written_len H
 
 -- The log holds this history.
 unfoldable pub Holds : {D C : Type 0} → (D → Trace) → (List ℕ → ℕ) → Log D C → History → Type 0
-Holds trace sum log H = HoldsIn sum log.config.config.segment_size log.site (state_of (trace log.config.device)) log.fault log.buffer.bytes.items log.buffer.written_len log.buffer.reserved.items H
+Holds trace sum log H = HoldsIn sum (parts_of trace log) H
 
 -- All of a history is on the device and settled: the log file has its messages, and the newest snapshot is its table below the place where the log began.
 pub record IsKept (sum : List ℕ → ℕ) (size : ℕ) (site : SegmentPosition) (from : ℕ) (device : State) (H : History) : Type 0 where

@@ -13,7 +13,7 @@ use Rattle.sled_core.specs.declared.iobuf.SegmentPosition.{SegmentPosition}
 use Rattle.sled_core.specs.declared.iterator.Segment.{Segment}
 use Rattle.sled_core.specs.declared.logger.Log.{Log}
 use Rattle.sled_core.specs.Scan.{IsFoundSegment}
-use Rattle.sled_core.specs.Fits.{HoldsIn}
+use Rattle.sled_core.specs.Fits.{HoldsIn, LogParts, parts_of}
 use Rattle.sled_core.specs.Ready.{IsReady}
 use Rattle.sled_core.specs.Recoverable.{AreRecoverableSnapshots, LeavesRecoverable, first_site}
 
@@ -38,23 +38,23 @@ abbrev pub NoBlobs : NamesState → Type 0
 NoBlobs blobs = (n : ℤ) (left : Option (List ℕ)) → LeavesName blobs n left → left ≡ None
 
 -- What a log of these bytes and reservations over a device has to do with a history, the end of what was acknowledged, the floor and the messages that were not marked yet.
-pub record FitsIn (sum : List ℕ → ℕ) (size : ℕ) (site : SegmentPosition) (device : State) (fault : Option IoError) (bytes : List ℕ) (from : ℕ) (reserved : List Reserved) (pins : ℕ) (H : History) (A f : ℕ) (U : List Message) : Type 0 where
-  pub holds : HoldsIn sum size site device fault bytes from reserved H
-  pub one_segment : site ≡ first_site
-  pub short : fault ≡ None → length device.log.bytes ≤ size
-  pub unbegun : fault ≡ None → from ≡ 0 → NoneBegun sum size device.log.bytes
-  pub blobs : NoBlobs device.blobs
-  pub names : NamesFit sum size device.snapshots H f from
+pub record FitsIn (sum : List ℕ → ℕ) (parts : LogParts) (pins : ℕ) (H : History) (A f : ℕ) (U : List Message) : Type 0 where
+  pub holds : HoldsIn sum parts H
+  pub one_segment : parts.site ≡ first_site
+  pub short : parts.fault ≡ None → length parts.device.log.bytes ≤ parts.size
+  pub unbegun : parts.fault ≡ None → parts.written_len ≡ 0 → NoneBegun sum parts.size parts.device.log.bytes
+  pub blobs : NoBlobs parts.device.blobs
+  pub names : NamesFit sum parts.size parts.device.snapshots H f parts.written_len
   -- all that was acknowledged is written
-  pub passes : A ≤ from
+  pub passes : A ≤ parts.written_len
   -- a pin is out while a completed message is not marked
   pub pinned : U ≢ [] → 0 < pins
   -- what a crash leaves now can be recovered, with all that is written counted as acknowledged
-  pub left : LeavesRecoverable sum size H from f device
+  pub left : LeavesRecoverable sum parts.size H parts.written_len f parts.device
 
 -- The log fits this history, the end of what was acknowledged, the floor and the messages that were not marked yet.
 unfoldable pub Fits : {D C : Type 0} → (D → Trace) → (List ℕ → ℕ) → Log D C → History → ℕ → ℕ → List Message → Type 0
-Fits trace sum log H A f U = FitsIn sum log.config.config.segment_size log.site (state_of (trace log.config.device)) log.fault log.buffer.bytes.items log.buffer.written_len log.buffer.reserved.items log.pins H A f U
+Fits trace sum log H A f U = FitsIn sum (parts_of trace log) log.pins H A f U
 
 -- Snapshot and device are ready for a log that fits this history, the end of what was acknowledged and the floor.
 pub record IsReadyFor (sum : List ℕ → ℕ) (size : ℕ) (device : State) (s : SnapshotModel) (H : History) (A f : ℕ) : Type 0 where

@@ -16,7 +16,7 @@ use Rattle.sled_core.specs.declared.iterator.Segment.{Segment}
 use Rattle.sled_core.specs.Buffers.{completed_in, none_open}
 use Rattle.sled_core.specs.Scan.{IsFoundSegment}
 use Rattle.sled_core.specs.LogFile.{StandIn, HasHeader, IsEmpty, IsLogFile}
-use Rattle.sled_core.specs.Fits.{HoldsIn}
+use Rattle.sled_core.specs.Fits.{HoldsIn, log_parts}
 use Rattle.sled_core.specs.Recoverable.{NoForeign, IsUnbegun, IsBegun, IsInFirstSegment, IsRecoverableInFirst, first_site, first_cut}
 use Rattle.sled_core.specs.Running.{FitsIn, CanBegin}
 use Rattle.sled_core.proofs.Flush.LogFileLemmas.{stand_rest, stand_above, none_older}
@@ -29,9 +29,9 @@ use Rattle.sled_core.proofs.Read.FirstBegun.{first_cut_within}
 
 -- A log in the first segment, with something to write.
 module _ (sum : List ℕ → ℕ) (size : ℕ) (device : State) (fault : Option IoError) (bytes : List ℕ) (from : ℕ) (rs : List Reserved) (pins : ℕ) (H : History) (A f : ℕ) (U : List Message)
-    (fits : FitsIn sum size first_site device fault bytes from rs pins H A f U)
+    (fits : FitsIn sum (log_parts size first_site device fault bytes from rs) pins H A f U)
     (begun : 20 ≤ length bytes) (behind : from ≤ length bytes) (short : length bytes ≤ size) (small : size < 2 ^ 63) (ended : none_open rs ≡ true) (some : 0 < length rs) (whole : fault ≡ None) where
-  holds : HoldsIn sum size first_site device fault bytes from rs H
+  holds : HoldsIn sum (log_parts size first_site device fault bytes from rs) H
   holds = fits.holds
 
   -- what stood in the log file

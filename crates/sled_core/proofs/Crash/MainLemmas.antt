@@ -12,7 +12,7 @@ use Rattle.sled_core.specs.declared.iobuf.Reserved.{Reserved}
 use Rattle.sled_core.specs.declared.iobuf.SegmentPosition.{SegmentPosition}
 use Rattle.sled_core.specs.Buffers.{IsChain, Stands, completed_in}
 use Rattle.sled_core.specs.LogFile.{IsLogFile, StandIn}
-use Rattle.sled_core.specs.Fits.{HoldsIn}
+use Rattle.sled_core.specs.Fits.{HoldsIn, log_parts}
 use Rattle.sled_core.specs.Recoverable.{Recoverable, NoForeign, IsRecoverableInFirst, IsUnbegun, IsBegun, LeavesRecoverable, first_site, first_cut}
 use Rattle.sled_core.specs.Running.{NoneBegun, CanBegin, NoBlobs, NamesFit}
 use Rattle.sled_core.proofs.Reserve.CompletesLemmas.{some_long}
@@ -37,7 +37,7 @@ completed_later sum size from bytes (r ∷ rs) chain stand room =
     λ k d lt. let b = completed_between first_site bytes (max 20 from) (length bytes) (r ∷ rs) chain (some_long sum (0 / size) bytes (r ∷ rs) stand) k d lt in omega (arith, b.0, cut)
 
 module _ (sum : List ℕ → ℕ) (size : ℕ) (device : State) (bytes : List ℕ) (from : ℕ) (reserved : List Reserved) (H : History) (A f : ℕ)
-    (holds : HoldsIn sum size first_site device None bytes from reserved H) (inside : from ≤ size) (passes : A ≤ from) where
+    (holds : HoldsIn sum (log_parts size first_site device None bytes from reserved) H) (inside : from ≤ size) (passes : A ≤ from) where
   -- nothing was written yet
   unbegun : (left : Content) (place : ℕ) → from ≡ 0 → NoneBegun sum size left.log → NoForeign sum size device left → place ≤ from → IsUnbegun sum size left.log A place
   unbegun left place first none only_own reached = record {
@@ -117,8 +117,8 @@ leaves_less sum size H A B f device least most le leaves = λ left may only_own.
 
 -- Each content that a crash leaves can be recovered: it has just what was written, and what was completed since comes later.
 pub settled_recoverable : (sum : List ℕ → ℕ) (size : ℕ) (site : SegmentPosition) (device : State) (bytes : List ℕ) (from : ℕ) (reserved : List Reserved) (H : History) (A f : ℕ) → 256 ≤ size → size < 2 ^ 63 → from ≤ length bytes → length bytes ≤ size
-    → HoldsIn sum size site device None bytes from reserved H → site ≡ first_site → length device.log.bytes ≤ size → (from ≡ 0 → NoneBegun sum size device.log.bytes) → NoBlobs device.blobs → NamesFit sum size device.snapshots H f from → A ≤ from
+    → HoldsIn sum (log_parts size site device None bytes from reserved) H → site ≡ first_site → length device.log.bytes ≤ size → (from ≡ 0 → NoneBegun sum size device.log.bytes) → NoBlobs device.blobs → NamesFit sum size device.snapshots H f from → A ≤ from
     → LeavesRecoverable sum size H A f device
 settled_recoverable sum size site device bytes from reserved H A f least most behind in_segment holds first short none no_blobs names passes = λ left leaves only_own.
     recoverable_in_first sum size left H A f least most
-    (left_in_first sum size device bytes from reserved H A f (subst (λ (s : SegmentPosition). HoldsIn sum size s device None bytes from reserved H) first holds) (omega (arith, behind, in_segment)) passes left leaves only_own short none no_blobs names)
+    (left_in_first sum size device bytes from reserved H A f (subst (λ (s : SegmentPosition). HoldsIn sum (log_parts size s device None bytes from reserved) H) first holds) (omega (arith, behind, in_segment)) passes left leaves only_own short none no_blobs names)

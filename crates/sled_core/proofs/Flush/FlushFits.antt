@@ -13,7 +13,7 @@ use Rattle.sled_core.specs.declared.iobuf.Reserved.{Reserved}
 use Rattle.sled_core.specs.declared.iobuf.SegmentPosition.{SegmentPosition}
 use Rattle.sled_core.specs.declared.logger.Log.{Log}
 use Rattle.sled_core.specs.Buffers.{none_open}
-use Rattle.sled_core.specs.Fits.{HoldsIn, NoneOpen, fault_of, device_of, segment_size_of}
+use Rattle.sled_core.specs.Fits.{HoldsIn, NoneOpen, fault_of, device_of, segment_size_of, log_parts}
 use Rattle.sled_core.specs.Recoverable.{LeavesRecoverable, first_site}
 use Rattle.sled_core.specs.Running.{FitsIn, Fits, NamesFit}
 use Rattle.sled_core.proofs.Crash.CrashLemmas.{write_recoverable}
@@ -29,10 +29,10 @@ names_reached sum size names H f from to more fit left leaves only_own =
     record { first = can.first; tables = can.tables; slot = can.slot; not_above = let reached = can.not_above in omega (arith, reached, more) }
 
 module _ (sum : List ℕ → ℕ) (size : ℕ) (site : SegmentPosition) (device : State) (fault : Option IoError) (bytes : List ℕ) (from : ℕ) (rs : List Reserved) (pins : ℕ) (H : History) (A f : ℕ) (U : List Message)
-    (fits : FitsIn sum size site device fault bytes from rs pins H A f U) where
+    (fits : FitsIn sum (log_parts size site device fault bytes from rs) pins H A f U) where
   -- A log that keeps a failure of its device fits what it fitted, where a crash leaves what can be recovered.
   pub fits_faulty : (new : State) (e : IoError) (now : Option IoError) → now ≡ Some e → new.blobs ≡ device.blobs → new.snapshots ≡ device.snapshots → LeavesRecoverable sum size H from f new
-      → FitsIn sum size site new now bytes from rs pins H A f U
+      → FitsIn sum (log_parts size site new now bytes from rs) pins H A f U
   fits_faulty new e now is blobs snapshots left = record {
     holds = holds-faulty sum size site device fault bytes from rs H fits.holds new e now is (ap (λ (s : NamesState). s.file) snapshots);
     one_segment = fits.one_segment;
@@ -46,29 +46,29 @@ module _ (sum : List ℕ → ℕ) (size : ℕ) (site : SegmentPosition) (device 
   }
 
   -- The same device and the same failure fit the same.
-  pub fits_same_device : (after : State) (now : Option IoError) → after ≡ device → now ≡ fault → FitsIn sum size site after now bytes from rs pins H A f U
-  fits_same_device after now d o = subst (λ (s : State). FitsIn sum size site s now bytes from rs pins H A f U) (sym d) (subst (λ (x : Option IoError). FitsIn sum size site device x bytes from rs pins H A f U) (sym o) fits)
+  pub fits_same_device : (after : State) (now : Option IoError) → after ≡ device → now ≡ fault → FitsIn sum (log_parts size site after now bytes from rs) pins H A f U
+  fits_same_device after now d o = subst (λ (s : State). FitsIn sum (log_parts size site s now bytes from rs) pins H A f U) (sym d) (subst (λ (x : Option IoError). FitsIn sum (log_parts size site device x bytes from rs) pins H A f U) (sym o) fits)
 
   -- A call that changed nothing of the device fits the same, whether or not the device failed in it.
-  pub fits_answered : (size' : ℕ) (after : State) (now : Option IoError) → size' ≡ size → after ≡ device → fault ≡ None → FitsIn sum size' site after now bytes from rs pins H A f U
+  pub fits_answered : (size' : ℕ) (after : State) (now : Option IoError) → size' ≡ size → after ≡ device → fault ≡ None → FitsIn sum (log_parts size' site after now bytes from rs) pins H A f U
   fits_answered size' after now sizes same none =
-      let here : FitsIn sum size site after now bytes from rs pins H A f U = elim (fault_or_none now) [
+      let here : FitsIn sum (log_parts size site after now bytes from rs) pins H A f U = elim (fault_or_none now) [
         | inl is ↦ fits_same_device after now same (is ∙ sym none)
         | inr is ↦ fits_faulty after is.0 now is.1 (ap (λ (s : State). s.blobs) same) (ap (λ (s : State). s.snapshots) same) (subst (λ (s : State). LeavesRecoverable sum size H from f s) (sym same) fits.left)
       ] in
-      subst (λ n. FitsIn sum n site after now bytes from rs pins H A f U) (sym sizes) here
+      subst (λ n. FitsIn sum (log_parts n site after now bytes from rs) pins H A f U) (sym sizes) here
 
 -- The same bytes, from the same offset, and the same reservations fit the same.
 pub fits_same_buffer : (sum : List ℕ → ℕ) (size : ℕ) (site : SegmentPosition) (device : State) (fault : Option IoError) (bytes bytes' : List ℕ) (from from' : ℕ) (rs rs' : List Reserved) (pins : ℕ) (H : History) (A f : ℕ) (U : List Message)
-    → bytes' ≡ bytes → from' ≡ from → rs' ≡ rs → FitsIn sum size site device fault bytes from rs pins H A f U → FitsIn sum size site device fault bytes' from' rs' pins H A f U
+    → bytes' ≡ bytes → from' ≡ from → rs' ≡ rs → FitsIn sum (log_parts size site device fault bytes from rs) pins H A f U → FitsIn sum (log_parts size site device fault bytes' from' rs') pins H A f U
 fits_same_buffer sum size site device fault bytes bytes' from from' rs rs' pins H A f U b n r fits =
-    subst (λ (l : List ℕ). FitsIn sum size site device fault l from' rs' pins H A f U) (sym b)
-    (subst (λ k. FitsIn sum size site device fault bytes k rs' pins H A f U) (sym n)
-    (subst (λ (l : List Reserved). FitsIn sum size site device fault bytes from l pins H A f U) (sym r) fits))
+    subst (λ (l : List ℕ). FitsIn sum (log_parts size site device fault l from' rs') pins H A f U) (sym b)
+    (subst (λ k. FitsIn sum (log_parts size site device fault bytes k rs') pins H A f U) (sym n)
+    (subst (λ (l : List Reserved). FitsIn sum (log_parts size site device fault bytes from l) pins H A f U) (sym r) fits))
 
 -- The calls of a flush, on a log in the first segment with something to write.
 module _ (sum : List ℕ → ℕ) (size : ℕ) (device : State) (fault : Option IoError) (bytes : List ℕ) (from : ℕ) (rs : List Reserved) (pins : ℕ) (H : History) (A f : ℕ) (U : List Message)
-    (fits : FitsIn sum size first_site device fault bytes from rs pins H A f U)
+    (fits : FitsIn sum (log_parts size first_site device fault bytes from rs) pins H A f U)
     (begun : 20 ≤ length bytes) (behind : from ≤ length bytes) (short : length bytes ≤ size) (big : 256 ≤ size) (small : size < 2 ^ 63) (ended : none_open rs ≡ true) (some : 0 < length rs) (whole : fault ≡ None) where
   abbrev asked : List ℕ
   asked = drop from bytes
@@ -84,7 +84,7 @@ module _ (sum : List ℕ → ℕ) (size : ℕ) (device : State) (fault : Option 
   -- within the write, and behind it
   write_leaves : (now : List ℕ) → length now ≤ length asked → LeavesRecoverable sum size H from f (after_write now)
   write_leaves now no_more = λ left leaves only_own.
-      let synced : FitsIn sum size first_site device fault bytes from rs pins H from f U = fits-synced sum size first_site device fault bytes from rs pins H A f U fits from (omega arith) in
+      let synced : FitsIn sum (log_parts size first_site device fault bytes from rs) pins H from f U = fits-synced sum size first_site device fault bytes from rs pins H A f U fits from (omega arith) in
       recoverable_in_first sum size left H from f big small (write_recoverable sum size device fault bytes from rs pins H from f U synced begun behind short small ended some whole now no_more left leaves only_own)
 
   in_reach : first_site.place + size < 2 ^ 63
@@ -95,11 +95,11 @@ module _ (sum : List ℕ → ℕ) (size : ℕ) (device : State) (fault : Option 
       omega (arith, length-overwritten device.log.bytes (first_site.slot + from) asked, fits.short whole, end_of-le (first_site.slot + from) (length asked) (length asked) (omega arith), length-drop from bytes, behind, short)
 
   -- Behind the sync the log fits with all that was written for what was acknowledged.
-  pub fits_flushed : (A' : ℕ) → A' ≤ length bytes → FitsIn sum size first_site after_sync None bytes (length bytes) [] pins H A' f U
+  pub fits_flushed : (A' : ℕ) → A' ≤ length bytes → FitsIn sum (log_parts size first_site after_sync None bytes (length bytes) []) pins H A' f U
   fits_flushed A' passes =
-      let kept : HoldsIn sum size first_site after_sync fault bytes (length bytes) [] H =
+      let kept : HoldsIn sum (log_parts size first_site after_sync fault bytes (length bytes) []) H =
       holds-flush sum size first_site device fault bytes from rs H fits.holds begun behind short in_reach in_reach ended some whole after_sync refl refl in
-      let held : HoldsIn sum size first_site after_sync None bytes (length bytes) [] H = subst (λ (o : Option IoError). HoldsIn sum size first_site after_sync o bytes (length bytes) [] H) whole kept in
+      let held : HoldsIn sum (log_parts size first_site after_sync None bytes (length bytes) []) H = subst (λ (o : Option IoError). HoldsIn sum (log_parts size first_site after_sync o bytes (length bytes) []) H) whole kept in
       let names : NamesFit sum size device.snapshots H f (length bytes) = names_reached sum size device.snapshots H f from (length bytes) behind fits.names in
       record {
         holds = held;
@@ -144,9 +144,9 @@ module _ {D C : Type 0} (trace : D → Trace) (sum : List ℕ → ℕ) (log : Lo
   unfolding Fits
   is_first = fits.one_segment
 
-  in_first : FitsIn sum size first_site (state_of old) log.fault bytes log.buffer.written_len log.buffer.reserved.items log.pins H A f U
+  in_first : FitsIn sum (log_parts size first_site (state_of old) log.fault bytes log.buffer.written_len log.buffer.reserved.items) log.pins H A f U
   unfolding Fits
-  in_first = subst (λ (x : SegmentPosition). FitsIn sum size x (state_of old) log.fault bytes log.buffer.written_len log.buffer.reserved.items log.pins H A f U) fits.one_segment fits
+  in_first = subst (λ (x : SegmentPosition). FitsIn sum (log_parts size x (state_of old) log.fault bytes log.buffer.written_len log.buffer.reserved.items) log.pins H A f U) fits.one_segment fits
 
   -- at each moment of the calls, with all that was written before counted as acknowledged
   pub flush_left : (new : Trace) → Performs (calls_at log.site) old new → Throughout (LeavesRecoverable sum size H log.buffer.written_len f) old new
@@ -160,16 +160,16 @@ module _ {D C : Type 0} (trace : D → Trace) (sum : List ℕ → ℕ) (log : Lo
 
   -- behind both, with all that was written for what was acknowledged
   pub fits_written : (new : Trace) → new ≡ after_all (calls_at log.site) old → (bytes' : List ℕ) (from' : ℕ) (rs' : List Reserved) → bytes' ≡ bytes → from' ≡ length bytes → rs' ≡ [] → (A' : ℕ) → A' ≤ log.site.place + from'
-      → FitsIn sum size log.site (state_of new) log.fault bytes' from' rs' log.pins H A' f U
+      → FitsIn sum (log_parts size log.site (state_of new) log.fault bytes' from' rs') log.pins H A' f U
   fits_written new came bytes' from' rs' is_bytes is_from is_rs A' passes =
       let here : A' ≤ first_site.place + from' = subst (λ (x : SegmentPosition). A' ≤ x.place + from') is_first passes in
-      let after : FitsIn sum size first_site (state_of (after_all (calls_at first_site) old)) None bytes (length bytes) [] log.pins H A' f U =
+      let after : FitsIn sum (log_parts size first_site (state_of (after_all (calls_at first_site) old)) None bytes (length bytes) []) log.pins H A' f U =
       fits_flushed sum size (state_of old) log.fault bytes log.buffer.written_len log.buffer.reserved.items log.pins H A f U in_first log.buffer.begun log.buffer.behind log.in_segment log.config.config.least small ended some whole A'
       (omega (arith, here, is_from)) in
       fits_same_buffer sum size log.site (state_of new) log.fault bytes bytes' (length bytes) from' [] rs' log.pins H A' f U is_bytes is_from is_rs
-      (subst (λ (o : Option IoError). FitsIn sum size log.site (state_of new) o bytes (length bytes) [] log.pins H A' f U) (sym whole)
-      (subst (λ (t : Trace). FitsIn sum size log.site (state_of t) None bytes (length bytes) [] log.pins H A' f U) (sym came)
-      (subst (λ (x : SegmentPosition). FitsIn sum size x (state_of (after_all (calls_at x) old)) None bytes (length bytes) [] log.pins H A' f U) (sym is_first) after)))
+      (subst (λ (o : Option IoError). FitsIn sum (log_parts size log.site (state_of new) o bytes (length bytes) []) log.pins H A' f U) (sym whole)
+      (subst (λ (t : Trace). FitsIn sum (log_parts size log.site (state_of t) None bytes (length bytes) []) log.pins H A' f U) (sym came)
+      (subst (λ (x : SegmentPosition). FitsIn sum (log_parts size x (state_of (after_all (calls_at x) old)) None bytes (length bytes) []) log.pins H A' f U) (sym is_first) after)))
 
 -- A write and a sync of the log file leave blobs and snapshots as they were.
 pub flush_names : (at : ℕ) (xs : List ℕ) (old new : Trace) → Performs (Wrote at xs xs ∷ Synced ∷ []) old new → ((state_of new).blobs ≡ (state_of old).blobs) × ((state_of new).snapshots ≡ (state_of old).snapshots)

@@ -25,7 +25,7 @@ use Rattle.sled_core.specs.declared.iobuf.Reserved.{Reserved}
 use Rattle.sled_core.specs.declared.iobuf.SegmentPosition.{SegmentPosition}
 use Rattle.sled_core.specs.Buffers.{text_in, body_in, message_in, placeholder, IsChain, completed_in, none_open, Stands}
 use Rattle.sled_core.specs.LogFile.{MessageStands, StandIn, HasHeader, IsLogFile}
-use Rattle.sled_core.specs.Fits.{HoldsIn, IsOnDevice, IsBegunFrom, IsKept}
+use Rattle.sled_core.specs.Fits.{HoldsIn, IsOnDevice, IsBegunFrom, IsKept, log_parts}
 use Rattle.sled_core.proofs.Reserve.Ranges.{chain_grows, completed_between}
 use Rattle.sled_core.proofs.Reserve.CompletesLemmas.{some_long}
 use Rattle.sled_core.proofs.Read.ScanLemmas.{aligned_offset}
@@ -212,7 +212,7 @@ chain_some sum number bytes from end (r ∷ rs) some stand chain =
     omega (arith, h, l, rest)
 
 module _ (sum : List ℕ → ℕ) (size : ℕ) (site : SegmentPosition) (device : State) (fault : Option IoError) (bytes : List ℕ) (from : ℕ) (rs : List Reserved) (H : History)
-    (holds : HoldsIn sum size site device fault bytes from rs H) where
+    (holds : HoldsIn sum (log_parts size site device fault bytes from rs) H) where
   module _ (begun : 20 ≤ length bytes) (behind : from ≤ length bytes) (short : length bytes ≤ size) (place_small : site.place + size < 2 ^ 63) (slot_small : site.slot + size < 2 ^ 63)
       (ended : none_open rs ≡ true) (some : 0 < length rs) (whole : fault ≡ None) where
     -- something was reserved, so there is something to write
@@ -241,7 +241,7 @@ module _ (sum : List ℕ → ℕ) (size : ℕ) (site : SegmentPosition) (device 
 
     -- Once they are written and settled, the log holds the same.
     pub holds-flush : (new : State) → new.log ≡ at_rest (overwritten device.log.bytes (site.slot + from) (drop from bytes)) → new.snapshots.file ≡ device.snapshots.file
-        → HoldsIn sum size site new fault bytes (length bytes) [] H
+        → HoldsIn sum (log_parts size site new fault bytes (length bytes) []) H
     holds-flush new is names = record {
       earlier = H.messages;
       messages = sym (append-nil H.messages);
@@ -258,7 +258,7 @@ module _ (sum : List ℕ → ℕ) (size : ℕ) (site : SegmentPosition) (device 
     }
 
   -- A log that keeps a failure of its device holds what it held, whatever the log file is now.
-  pub holds-faulty : (new : State) (e : IoError) (now : Option IoError) → now ≡ Some e → new.snapshots.file ≡ device.snapshots.file → HoldsIn sum size site new now bytes from rs H
+  pub holds-faulty : (new : State) (e : IoError) (now : Option IoError) → now ≡ Some e → new.snapshots.file ≡ device.snapshots.file → HoldsIn sum (log_parts size site new now bytes from rs) H
   holds-faulty new e now is names = record {
     earlier = holds.earlier;
     messages = holds.messages;
@@ -289,17 +289,17 @@ module _ (sum : List ℕ → ℕ) (size : ℕ) (site : SegmentPosition) (device 
       }
 
   -- The same device and the same failure hold the same.
-  pub holds-moved : (after : State) (now : Option IoError) → after ≡ device → now ≡ fault → HoldsIn sum size site after now bytes from rs H
-  holds-moved after now d f = subst (λ (s : State). HoldsIn sum size site s now bytes from rs H) (sym d) (subst (λ (o : Option IoError). HoldsIn sum size site device o bytes from rs H) (sym f) holds)
+  pub holds-moved : (after : State) (now : Option IoError) → after ≡ device → now ≡ fault → HoldsIn sum (log_parts size site after now bytes from rs) H
+  holds-moved after now d f = subst (λ (s : State). HoldsIn sum (log_parts size site s now bytes from rs) H) (sym d) (subst (λ (o : Option IoError). HoldsIn sum (log_parts size site device o bytes from rs) H) (sym f) holds)
 
   -- A call that changed nothing of the device holds the same, whether or not the device failed in it.
-  pub holds-answered : (size' : ℕ) (after : State) (now : Option IoError) → size' ≡ size → after ≡ device → fault ≡ None → HoldsIn sum size' site after now bytes from rs H
+  pub holds-answered : (size' : ℕ) (after : State) (now : Option IoError) → size' ≡ size → after ≡ device → fault ≡ None → HoldsIn sum (log_parts size' site after now bytes from rs) H
   holds-answered size' after now sizes same none =
-      let here : HoldsIn sum size site after now bytes from rs H = elim (fault_or_none now) [
+      let here : HoldsIn sum (log_parts size site after now bytes from rs) H = elim (fault_or_none now) [
         | inl is ↦ holds-moved after now same (is ∙ sym none)
         | inr is ↦ holds-faulty after is.0 now is.1 (ap (λ (s : State). s.snapshots.file) same)
       ] in
-      subst (λ n. HoldsIn sum n site after now bytes from rs H) (sym sizes) here
+      subst (λ n. HoldsIn sum (log_parts n site after now bytes from rs) H) (sym sizes) here
 
 kind_apart : (kind : ErrorKind) → is_fault_kind kind ≡ true → kind ≡ OutOfMemory → ⊥
 kind_apart kind fault is = let not_one : false ≡ true = sym (ap is_fault_kind is) ∙ fault in cc

@@ -9,7 +9,7 @@ use Rattle.sled_store.specs.Device.{State}
 use Rattle.sled_core.specs.declared.iobuf.Reserved.{Reserved}
 use Rattle.sled_core.specs.declared.iobuf.SegmentPosition.{SegmentPosition}
 use Rattle.sled_core.specs.Buffers.{text_in, body_in, message_in, IsChain, completed_in, StandsAs, Stands}
-use Rattle.sled_core.specs.Fits.{HoldsIn}
+use Rattle.sled_core.specs.Fits.{HoldsIn, log_parts}
 use Rattle.sled_core.proofs.Reserve.Ranges.{part-append, completed-same, completed-append, chain-append}
 
 -- Where a text and a body are the same, what stands there is.
@@ -35,11 +35,11 @@ pub completed_open : (site : SegmentPosition) (bytes : List ℕ) (r : Reserved) 
 completed_open site bytes r rs is = ap (λ (o : Bool). if o then completed_in site bytes rs else message_in site bytes r ∷ completed_in site bytes rs) is
 
 module _ (sum : List ℕ → ℕ) (size : ℕ) (site : SegmentPosition) (device : State) (fault : Option IoError) (bytes : List ℕ) (from : ℕ) (rs : List Reserved) (H : History)
-    (holds : HoldsIn sum size site device fault bytes from rs H) where
+    (holds : HoldsIn sum (log_parts size site device fault bytes from rs) H) where
   -- A place is reserved: its placeholder stands behind what is there.
   pub holds-append : (more : List ℕ) (r : Reserved) → 20 ≤ length bytes → All (λ x. x.from + x.len ≤ length bytes) rs
       → r.from ≡ length bytes → r.len ≡ length more → r.is_open ≡ true → r.from + 32 ≤ size → Stands sum (site.place / size) (bytes ++ more) r
-      → HoldsIn sum size site device fault (bytes ++ more) from (rs ++ r ∷ []) H
+      → HoldsIn sum (log_parts size site device fault (bytes ++ more) from (rs ++ r ∷ [])) H
   holds-append more r begun within at long is_open has_room stands =
       let number : ℕ = site.place / size in
       let new : List ℕ = bytes ++ more in
@@ -64,8 +64,8 @@ module _ (sum : List ℕ → ℕ) (size : ℕ) (site : SegmentPosition) (device 
 
 -- The same bytes, from the same offset, and the same reservations hold the same.
 pub holds-same : (sum : List ℕ → ℕ) (size : ℕ) (site : SegmentPosition) (device : State) (fault : Option IoError) (bytes bytes' : List ℕ) (from from' : ℕ) (rs rs' : List Reserved) (H : History)
-    → bytes' ≡ bytes → from' ≡ from → rs' ≡ rs → HoldsIn sum size site device fault bytes from rs H → HoldsIn sum size site device fault bytes' from' rs' H
+    → bytes' ≡ bytes → from' ≡ from → rs' ≡ rs → HoldsIn sum (log_parts size site device fault bytes from rs) H → HoldsIn sum (log_parts size site device fault bytes' from' rs') H
 holds-same sum size site device fault bytes bytes' from from' rs rs' H b f r holds =
-    subst (λ (l : List ℕ). HoldsIn sum size site device fault l from' rs' H) (sym b)
-    (subst (λ n. HoldsIn sum size site device fault bytes n rs' H) (sym f)
-    (subst (λ (l : List Reserved). HoldsIn sum size site device fault bytes from l H) (sym r) holds))
+    subst (λ (l : List ℕ). HoldsIn sum (log_parts size site device fault l from' rs') H) (sym b)
+    (subst (λ n. HoldsIn sum (log_parts size site device fault bytes n rs') H) (sym f)
+    (subst (λ (l : List Reserved). HoldsIn sum (log_parts size site device fault bytes from l) H) (sym r) holds))

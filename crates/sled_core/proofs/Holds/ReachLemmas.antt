@@ -13,7 +13,7 @@ use Rattle.sled_core.specs.declared.reservation.Reservation.{Reservation}
 use Rattle.sled_core.specs.Tickets.{place_of, pointer_of}
 use Rattle.sled_core.specs.Buffers.{IsChain, completed_in, message_in}
 use Rattle.sled_core.specs.LogFile.{StandIn, StandsElsewhere}
-use Rattle.sled_core.specs.Fits.{HoldsIn, Holds, IsKept, Awaits, next_place, synced_end, fault_of, device_of, segment_size_of}
+use Rattle.sled_core.specs.Fits.{HoldsIn, Holds, IsKept, Awaits, next_place, synced_end, fault_of, device_of, segment_size_of, log_parts}
 use Rattle.sled_core.specs.Recoverable.{LeavesRecoverable, first_site}
 use Rattle.sled_core.specs.Running.{Fits}
 use Rattle.sled_core.proofs.Reserve.Ranges.{completed_between, chain_grows}
@@ -41,7 +41,7 @@ completed_apart site bytes from end (r ∷ rs) is some =
     elim r.is_open as (λ o. LieApart (if o then completed_in site bytes rs else message_in site bytes r ∷ completed_in site bytes rs))
     [ true ↦ rest | false ↦ (long, over, rest) ]
 
-module _ (sum : List ℕ → ℕ) (size : ℕ) (site : SegmentPosition) (device : State) (fault : Option IoError) (bytes : List ℕ) (from : ℕ) (rs : List Reserved) (H : History) (holds : HoldsIn sum size site device fault bytes from rs H) where
+module _ (sum : List ℕ → ℕ) (size : ℕ) (site : SegmentPosition) (device : State) (fault : Option IoError) (bytes : List ℕ) (from : ℕ) (rs : List Reserved) (H : History) (holds : HoldsIn sum (log_parts size site device fault bytes from rs) H) where
   abbrev done : List Message
   done = completed_in site bytes rs
 

@@ -5,16 +5,16 @@ use Rattle.sled_codec.specs.History.{Message, History, AddsMessage}
 use Rattle.sled_store.specs.Device.{State}
 use Rattle.sled_core.specs.declared.iobuf.Reserved.{Reserved}
 use Rattle.sled_core.specs.declared.iobuf.SegmentPosition.{SegmentPosition}
-use Rattle.sled_core.specs.Fits.{HoldsIn}
+use Rattle.sled_core.specs.Fits.{HoldsIn, log_parts}
 use Rattle.sled_core.specs.Recoverable.{LeavesRecoverable}
 use Rattle.sled_core.specs.Running.{NamesFit, FitsIn}
 use Rattle.sled_core.proofs.Holds.BegunLemmas.{names-adds}
 use Rattle.sled_core.proofs.Crash.MainLemmas.{settled_recoverable, leaves_less}
 
 module _ (sum : List ℕ → ℕ) (size : ℕ) (site : SegmentPosition) (device : State) (fault : Option IoError) (bytes : List ℕ) (from : ℕ) (rs : List Reserved) (pins : ℕ) (H : History) (A f : ℕ) (U : List Message)
-    (fits : FitsIn sum size site device fault bytes from rs pins H A f U) where
+    (fits : FitsIn sum (log_parts size site device fault bytes from rs) pins H A f U) where
   -- Other bytes and reservations behind what was written fit the history, where they hold it.
-  pub fits-moved : (bytes' : List ℕ) (from' : ℕ) (rs' : List Reserved) → from' ≡ from → HoldsIn sum size site device fault bytes' from' rs' H → FitsIn sum size site device fault bytes' from' rs' pins H A f U
+  pub fits-moved : (bytes' : List ℕ) (from' : ℕ) (rs' : List Reserved) → from' ≡ from → HoldsIn sum (log_parts size site device fault bytes' from' rs') H → FitsIn sum (log_parts size site device fault bytes' from' rs') pins H A f U
   fits-moved bytes' from' rs' is holds = record {
     holds = holds;
     one_segment = fits.one_segment;
@@ -32,7 +32,7 @@ module _ (sum : List ℕ → ℕ) (size : ℕ) (site : SegmentPosition) (device 
   fits-leaves least most = leaves_less sum size H A from f device least most fits.passes fits.left
 
   -- All that is written may count as acknowledged.
-  pub fits-synced : (end : ℕ) → end ≡ site.place + from → FitsIn sum size site device fault bytes from rs pins H end f U
+  pub fits-synced : (end : ℕ) → end ≡ site.place + from → FitsIn sum (log_parts size site device fault bytes from rs) pins H end f U
   fits-synced end is = record {
     holds = fits.holds;
     one_segment = fits.one_segment;
@@ -46,7 +46,7 @@ module _ (sum : List ℕ → ℕ) (size : ℕ) (site : SegmentPosition) (device 
   }
 
   -- Another count of pins fits, where one is out while a completed message is not marked.
-  pub fits-pinned : (pins' : ℕ) → (U ≢ [] → 0 < pins') → FitsIn sum size site device fault bytes from rs pins' H A f U
+  pub fits-pinned : (pins' : ℕ) → (U ≢ [] → 0 < pins') → FitsIn sum (log_parts size site device fault bytes from rs) pins' H A f U
   fits-pinned pins' pinned = record {
     holds = fits.holds;
     one_segment = fits.one_segment;
@@ -61,7 +61,7 @@ module _ (sum : List ℕ → ℕ) (size : ℕ) (site : SegmentPosition) (device 
 
   -- With one more message, which lies behind what was written, it fits the history that has that message.
   pub fits-completed : (bytes' : List ℕ) (from' : ℕ) (rs' : List Reserved) (H' : History) (m : Message) → from' ≡ from → 256 ≤ size → size < 2 ^ 63 → from' ≤ length bytes' → length bytes' ≤ size → fault ≡ None
-      → HoldsIn sum size site device fault bytes' from' rs' H' → AddsMessage H m H' → from ≤ m.place → 0 < pins → FitsIn sum size site device fault bytes' from' rs' pins H' A f (m ∷ U)
+      → HoldsIn sum (log_parts size site device fault bytes' from' rs') H' → AddsMessage H m H' → from ≤ m.place → 0 < pins → FitsIn sum (log_parts size site device fault bytes' from' rs') pins H' A f (m ∷ U)
   fits-completed bytes' from' rs' H' m is least most behind in_segment ok holds adds above out =
       let names : NamesFit sum size device.snapshots H' f from' = subst (λ n. NamesFit sum size device.snapshots H' f n) (sym is) (names-adds sum size device.snapshots H H' m f from adds above fits.names) in
       let passes : A ≤ from' = let le = fits.passes in omega (arith, le, is) in
@@ -74,6 +74,6 @@ module _ (sum : List ℕ → ℕ) (size : ℕ) (site : SegmentPosition) (device 
         names = names;
         passes = passes;
         pinned = λ some. out;
-        left = settled_recoverable sum size site device bytes' from' rs' H' from' f least most behind in_segment (subst (λ (e : Option IoError). HoldsIn sum size site device e bytes' from' rs' H') ok holds)
+        left = settled_recoverable sum size site device bytes' from' rs' H' from' f least most behind in_segment (subst (λ (e : Option IoError). HoldsIn sum (log_parts size site device e bytes' from' rs') H') ok holds)
             fits.one_segment (fits.short ok) (λ none. fits.unbegun ok (sym is ∙ none)) fits.blobs names (omega arith);
       }

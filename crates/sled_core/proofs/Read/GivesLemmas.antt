@@ -15,7 +15,7 @@ use Rattle.sled_core.specs.declared.iobuf.Reserved.{Reserved}
 use Rattle.sled_core.specs.declared.iobuf.SegmentPosition.{SegmentPosition}
 use Rattle.sled_core.specs.Buffers.{completed_in}
 use Rattle.sled_core.specs.LogFile.{MessageStands, StandIn, StandsElsewhere, IsLogFile}
-use Rattle.sled_core.specs.Fits.{HoldsIn, IsOnDevice}
+use Rattle.sled_core.specs.Fits.{HoldsIn, IsOnDevice, log_parts}
 use Rattle.sled_core.proofs.Reserve.Ranges.{completed_between}
 use Rattle.sled_core.proofs.Reserve.CompletesLemmas.{some_long}
 use Rattle.sled_core.proofs.Read.ReadingLemmas.{laid_of, one_head, one_laid, one_text}
@@ -101,7 +101,7 @@ own_stands sum size log site at (m ∷ ms) end aligned stand =
 
 -- A message that was written stands where it lies, in the segment of its place.
 pub message_found : (sum : List ℕ → ℕ) (size : ℕ) (site : SegmentPosition) (device : State) (bytes : List ℕ) (from : ℕ) (rs : List Reserved) (H : History) (m : Message)
-    → HoldsIn sum size site device None bytes from rs H → Contains H.messages m → m.place < site.place + from → StandsWhole sum size device.log.bytes m
+    → HoldsIn sum (log_parts size site device None bytes from rs) H → Contains H.messages m → m.place < site.place + from → StandsWhole sum size device.log.bytes m
 message_found sum size site device bytes from rs H m holds there written =
     let on : IsOnDevice sum size device.log site from holds.earlier = holds.written refl in
     let file : IsLogFile sum size on.log site from holds.earlier = on.file in

@@ -18,7 +18,7 @@ use Rattle.sled_store.specs.Device.{State}
 use Rattle.sled_core.specs.declared.iobuf.Reserved.{Reserved}
 use Rattle.sled_core.specs.declared.iobuf.SegmentPosition.{SegmentPosition}
 use Rattle.sled_core.specs.Buffers.{text_in, body_in, message_in, placeholder, IsChain, completed_in, completing, closed, StandsAs, Stands}
-use Rattle.sled_core.specs.Fits.{HoldsIn}
+use Rattle.sled_core.specs.Fits.{HoldsIn, log_parts}
 use Rattle.sled_core.proofs.Reserve.Ranges.{part-written_before, part-written_behind, part-written_at, length-written, completed-same, completed-append, completed_between, chain-split, chain-joined, chain_grows, chain_within, there_split, all_split, all_joined, at_there, there-set_other, chain_apart}
 use Rattle.sled_core.proofs.Holds.HoldsLemmas.{stands-same, completed_open}
 use Rattle.sled_core.proofs.Holds.BegunLemmas.{begun-adds}
@@ -97,7 +97,7 @@ pub some_long : (sum : List ℕ → ℕ) (number : ℕ) (bytes : List ℕ) (rs :
 some_long sum number bytes rs all k d lt = let s = all k d lt in let a = s.headed in let b = s.long in omega (arith, a, b)
 
 module _ (sum : List ℕ → ℕ) (size : ℕ) (site : SegmentPosition) (device : State) (fault : Option IoError) (bytes : List ℕ) (from : ℕ) (xs ys : List Reserved) (r : Reserved) (H : History)
-    (holds : HoldsIn sum size site device fault bytes from (xs ++ r ∷ ys) H) (is_open : r.is_open ≡ true) (behind : from ≤ length bytes) where
+    (holds : HoldsIn sum (log_parts size site device fault bytes from (xs ++ r ∷ ys)) H) (is_open : r.is_open ≡ true) (behind : from ≤ length bytes) where
   abbrev number : ℕ
   number = site.place / size
 
@@ -162,7 +162,7 @@ module _ (sum : List ℕ → ℕ) (size : ℕ) (site : SegmentPosition) (device 
       ∙ ap (λ (m : Message). completed_in site bytes xs ++ m ∷ completed_in site new ys) own
       ∙ ap (λ (ms : List Message). completed_in site bytes xs ++ message_in site bytes r ∷ ms) back
 
-  holds_new : HoldsIn sum size site device fault new from (xs ++ closed r ∷ ys) history
+  holds_new : HoldsIn sum (log_parts size site device fault new from (xs ++ closed r ∷ ys)) history
   holds_new =
       let fit : r.from + length (completing r) ≤ length bytes = let at_r = stand_all.1 in let h = at_r.headed in let l = at_r.long in omega (arith, h, l, ends) in
       let long : length new ≡ length bytes = length-written bytes (completing r) r.from fit in
@@ -184,22 +184,22 @@ module _ (sum : List ℕ → ℕ) (size : ℕ) (site : SegmentPosition) (device 
 
 -- The message of an open reservation is added at its place, and the log holds that.
 pub holds-complete : (sum : List ℕ → ℕ) (size : ℕ) (site : SegmentPosition) (device : State) (fault : Option IoError) (bytes : List ℕ) (from : ℕ) (rs : List Reserved) (i : ℕ) (r : Reserved) (H : History)
-    → HoldsIn sum size site device fault bytes from rs H → slice_get rs i ≡ Some r → r.is_open ≡ true → from ≤ length bytes
-    → (H' : History) × AddsMessage H (message_in site bytes r) H' × HoldsIn sum size site device fault (written bytes r.from (completing r)) from (set rs i (closed r)) H'
+    → HoldsIn sum (log_parts size site device fault bytes from rs) H → slice_get rs i ≡ Some r → r.is_open ≡ true → from ≤ length bytes
+    → (H' : History) × AddsMessage H (message_in site bytes r) H' × HoldsIn sum (log_parts size site device fault (written bytes r.from (completing r)) from (set rs i (closed r))) H'
 holds-complete sum size site device fault bytes from rs i r H holds there is_open behind =
     let xs : List Reserved = take i rs in
     let ys : List Reserved = drop (suc i) rs in
     let around : rs ≡ xs ++ r ∷ ys = there_split rs i r there in
-    let holds' : HoldsIn sum size site device fault bytes from (xs ++ r ∷ ys) H = subst (λ (l : List Reserved). HoldsIn sum size site device fault bytes from l H) around holds in
+    let holds' : HoldsIn sum (log_parts size site device fault bytes from (xs ++ r ∷ ys)) H = subst (λ (l : List Reserved). HoldsIn sum (log_parts size site device fault bytes from l) H) around holds in
     let set_is : set rs i (closed r) ≡ xs ++ closed r ∷ ys = set_split rs i (closed r) (slice_get_within rs i r there) in (
       history sum size site device fault bytes from xs ys r H holds' is_open behind,
       adds sum size site device fault bytes from xs ys r H holds' is_open behind,
-      subst (λ (l : List Reserved). HoldsIn sum size site device fault (written bytes r.from (completing r)) from l (history sum size site device fault bytes from xs ys r H holds' is_open behind)) (sym set_is) (holds_new sum size site device fault bytes from xs ys r H holds' is_open behind),
+      subst (λ (l : List Reserved). HoldsIn sum (log_parts size site device fault (written bytes r.from (completing r)) from l) (history sum size site device fault bytes from xs ys r H holds' is_open behind)) (sym set_is) (holds_new sum size site device fault bytes from xs ys r H holds' is_open behind),
     )
 
 -- Every other reservation stays where it is, for the same message.
 pub others_stay : (sum : List ℕ → ℕ) (size : ℕ) (site : SegmentPosition) (device : State) (fault : Option IoError) (bytes : List ℕ) (from : ℕ) (rs : List Reserved) (i j : ℕ) (r x : Reserved) (H : History)
-    → HoldsIn sum size site device fault bytes from rs H → slice_get rs i ≡ Some r → r.is_open ≡ true → slice_get rs j ≡ Some x → (x.from ≡ r.from → ⊥)
+    → HoldsIn sum (log_parts size site device fault bytes from rs) H → slice_get rs i ≡ Some r → r.is_open ≡ true → slice_get rs j ≡ Some x → (x.from ≡ r.from → ⊥)
     → (slice_get (set rs i (closed r)) j ≡ Some x) × (message_in site (written bytes r.from (completing r)) x ≡ message_in site bytes x)
 others_stay sum size site device fault bytes from rs i j r x H holds at_i is_open at_j apart =
     let number : ℕ = site.place / size in

@@ -16,7 +16,7 @@ use Rattle.sled_store.specs.SnapshotFiles.{BeginsFrom}
 use Rattle.sled_store.specs.declared.segment.start.Beginning.{Beginning}
 use Rattle.sled_core.specs.declared.iobuf.SegmentPosition.{SegmentPosition}
 use Rattle.sled_store.specs.Begin.{slots_of, unused, first_or, beginning_at, beginning_of, MayBeActive, IsStartable}
-use Rattle.sled_core.specs.Fits.{HoldsIn}
+use Rattle.sled_core.specs.Fits.{HoldsIn, log_parts}
 use Rattle.sled_core.specs.LogFile.{IsLogFile}
 use Rattle.sled_core.specs.Ready.{HasActive, HasNoActive, HasFile, IsReady, active_site}
 use Rattle.sled_store.proofs.Segments.FilledLemmas.{filled}
@@ -50,7 +50,7 @@ module _ (sum : List ℕ → ℕ) (size : ℕ) (device now : State) (s : Snapsho
   holds_at : (site : SegmentPosition) (from : ℕ) → site.place % size ≡ 0 → site.slot % size ≡ 0 → site.place + from ≡ stable → stable / size * size ≡ site.place → (0 < from → 20 ≤ from)
       → (0 < stable % size → s.active ≡ Some site.slot) → (stable % size ≡ 0 → s.active ≡ None)
       → (from ≡ 0 → bytes ≡ short_header sum (pos site.place) (pos site.place -ℤ pos 1)) → (0 < from → length bytes ≡ from)
-      → IsLogFile sum size now_log site from H.messages → HoldsIn sum size site now None bytes from [] H
+      → IsLogFile sum size now_log site from H.messages → HoldsIn sum (log_parts size site now None bytes from []) H
   holds_at site from place_begins slot_begins end least behind active none first more file = record {
     earlier = H.messages;
     messages = sym (append-nil H.messages);
@@ -87,7 +87,7 @@ module _ (sum : List ℕ → ℕ) (size : ℕ) (device now : State) (s : Snapsho
   -- It goes on in the active segment.
   holds_active : (a : ℕ) → s.active ≡ Some a → MayBeActive size (slots_of size (length log)) stable a → HasActive sum size log s a H.messages
       → (stable % size ≡ 0 → bytes ≡ short_header sum (pos (stable / size * size)) (pos (stable / size * size) -ℤ pos 1)) → (0 < stable % size → length bytes ≡ stable % size)
-      → HoldsIn sum size (active_site size stable a) now None bytes (stable % size) [] H
+      → HoldsIn sum (log_parts size (active_site size stable a) now None bytes (stable % size) []) H
   holds_active a active may has first more =
       let inside = has.inside in
       holds_at (active_site size stable a) (stable % size) (mul-mod_left (stable / size) size) may.aligned (omega (arith, mod-add-div' stable size)) refl (λ some. inside) (λ some. active)
@@ -96,25 +96,25 @@ module _ (sum : List ℕ → ℕ) (size : ℕ) (device now : State) (s : Snapsho
 
   -- It begins a segment.
   holds_new : s.active ≡ None → HasNoActive sum size log s H.messages → (site : SegmentPosition) → site ≡ record { place = raised size stable; slot = first_or (slots_of size (length log)) (unused size (slots_of size (length log)) s) * size }
-      → bytes ≡ short_header sum (pos site.place) (pos site.place -ℤ pos 1) → HoldsIn sum size site now None bytes 0 [] H
+      → bytes ≡ short_header sum (pos site.place) (pos site.place -ℤ pos 1) → HoldsIn sum (log_parts size site now None bytes 0 []) H
   holds_new none has site is header =
       let begins = has.begins in
       let place : raised size stable ≡ stable = raised_same size stable (omega (arith, long)) begins in
       let lowest : ℕ = first_or (slots_of size (length log)) (unused size (slots_of size (length log)) s) in
       let moved : site ≡ record { place = stable; slot = lowest * size } = is ∙ ap (λ (n : ℕ). record { place = n; slot = lowest * size }) place in
-      subst (λ (x : SegmentPosition). bytes ≡ short_header sum (pos x.place) (pos x.place -ℤ pos 1) → HoldsIn sum size x now None bytes 0 [] H) (sym moved) (λ header.
+      subst (λ (x : SegmentPosition). bytes ≡ short_header sum (pos x.place) (pos x.place -ℤ pos 1) → HoldsIn sum (log_parts size x now None bytes 0 []) H) (sym moved) (λ header.
       holds_at (record { place = stable; slot = lowest * size }) 0 begins (mul-mod_left lowest size) (omega arith) (omega (arith, mod-add-div' stable size, begins)) (λ some. absurd (omega (arith, some)))
       (λ some. absurd (omega (arith, begins, some))) (λ _. none) (λ _. header) (λ some. absurd (omega (arith, some)))
       (new_file sum size long log s stable has.none H.messages has.used (λ k d lt. (ready.below k d lt).1))) header
 
   -- A log that begins on what a recovery left holds the history.
   pub begins_ready : (b : Beginning) → b ≡ beginning_of size (length device.log.bytes) s → (b.offset ≡ 0 → bytes ≡ short_header sum (pos b.place) (pos b.place -ℤ pos 1)) → (0 < b.offset → length bytes ≡ b.offset)
-      → HoldsIn sum size (record { place = b.place; slot = b.slot }) now None bytes b.offset [] H
+      → HoldsIn sum (log_parts size (record { place = b.place; slot = b.slot }) now None bytes b.offset []) H
   begins_ready b is = subst (λ (x : Beginning). (x.offset ≡ 0 → bytes ≡ short_header sum (pos x.place) (pos x.place -ℤ pos 1)) → (0 < x.offset → length bytes ≡ x.offset)
-      → HoldsIn sum size (record { place = x.place; slot = x.slot }) now None bytes x.offset [] H) (sym is) (by s.active refl file_there startable.active)
+      → HoldsIn sum (log_parts size (record { place = x.place; slot = x.slot }) now None bytes x.offset []) H) (sym is) (by s.active refl file_there startable.active)
     where
       by : (o : Option ℕ) → s.active ≡ o → HasFile sum size log s o H.messages → IfSome o (MayBeActive size (slots_of size (length log)) stable)
           → let x : Beginning = beginning_at size (slots_of size (length log)) stable (unused size (slots_of size (length log)) s) o in
-          (x.offset ≡ 0 → bytes ≡ short_header sum (pos x.place) (pos x.place -ℤ pos 1)) → (0 < x.offset → length bytes ≡ x.offset) → HoldsIn sum size (record { place = x.place; slot = x.slot }) now None bytes x.offset [] H
+          (x.offset ≡ 0 → bytes ≡ short_header sum (pos x.place) (pos x.place -ℤ pos 1)) → (0 < x.offset → length bytes ≡ x.offset) → HoldsIn sum (log_parts size (record { place = x.place; slot = x.slot }) now None bytes x.offset []) H
       by None none has may first more = holds_new none has (record { place = raised size stable; slot = first_or (slots_of size (length log)) (unused size (slots_of size (length log)) s) * size }) refl (first refl)
       by (Some a) active has may first more = holds_active a active may has first more

@@ -8,7 +8,7 @@ use Rattle.sled_store.specs.Device.{LogState, NamesState, State, at_rest}
 use Rattle.sled_store.specs.declared.segment.start.Beginning.{Beginning}
 use Rattle.sled_core.specs.declared.iobuf.Reserved.{Reserved}
 use Rattle.sled_store.specs.Begin.{slots_of, unused, entries_of, first_or, beginning_at, beginning_of, IsPlacedIn, IsStartable}
-use Rattle.sled_core.specs.Fits.{HoldsIn}
+use Rattle.sled_core.specs.Fits.{HoldsIn, log_parts}
 use Rattle.sled_core.specs.Ready.{HasActive, HasFile}
 use Rattle.sled_core.specs.Recoverable.{first_site}
 use Rattle.sled_core.specs.Running.{NoneBegun, NoBlobs, NamesFit, FitsIn, IsReadyFor}
@@ -78,9 +78,9 @@ module _ (sum : List ℕ → ℕ) (size : ℕ) (device now : State) (s : Snapsho
 
   -- The log fits the history that it holds.
   pub start_fits : (b : Beginning) → b ≡ beginning_of size (length log) s → (bytes : List ℕ) (from : ℕ) (reserved : List Reserved) → from ≡ b.offset
-      → HoldsIn sum size (record { place = b.place; slot = b.slot }) now None bytes from reserved H
+      → HoldsIn sum (log_parts size (record { place = b.place; slot = b.slot }) now None bytes from reserved) H
       → from ≤ length bytes → length bytes ≤ size → now.log ≡ at_rest (filled size log free) → now.blobs ≡ device.blobs → now.snapshots ≡ device.snapshots
-      → FitsIn sum size (record { place = b.place; slot = b.slot }) now None bytes from reserved 0 H A f []
+      → FitsIn sum (log_parts size (record { place = b.place; slot = b.slot }) now None bytes from reserved) 0 H A f []
   unfolding AtFirst
   start_fits b is bytes from reserved offset holds behind in_segment log_is same_blobs same_names =
       let first : AtFirst b = subst AtFirst (sym is) begins_first in

@@ -11,7 +11,7 @@ use Rattle.std.proofs.lemmas.Int.{to_z-of_z}
 use Rattle.sled_codec.specs.Pointers.{lid_of}
 use Rattle.sled_store.specs.Device.{State, Trace, state_of}
 use Rattle.sled_core.specs.Reading.{IsReading, IsMalformed, GivesMessage}
-use Rattle.sled_core.specs.Fits.{Holds, HoldsIn, segment_size_of}
+use Rattle.sled_core.specs.Fits.{Holds, HoldsIn, segment_size_of, log_parts}
 use Rattle.sled_core.specs.Running.{Fits}
 use Rattle.sled_core.specs.declared.logger.read_message.LogRead.{LogRead}
 use Rattle.sled_core.proofs.Reserve.Parts.{moved}
@@ -43,7 +43,7 @@ stands_there g c H m holds there at pointer =
     let device : State = state_of (g.D.Device.trace log.config.device) in
     let size : ℕ = log.config.config.segment_size in
     let place : c.unsigned_abs-place.result ≡ m.place = place_is g c ∙ ap unsigned_abs (sym at) in
-    let after = subst (λ (o : Option IoError). HoldsIn g.C.Checksum.sum_of size log.site device o log.buffer.bytes.items log.buffer.written_len log.buffer.reserved.items H) c.in_ok-settle.ensures.answers.1 (c.in_ok-settle.ensures.keeps.history H holds) in
+    let after = subst (λ (o : Option IoError). HoldsIn g.C.Checksum.sum_of (log_parts size log.site device o log.buffer.bytes.items log.buffer.written_len log.buffer.reserved.items) H) c.in_ok-settle.ensures.answers.1 (c.in_ok-settle.ensures.keeps.history H holds) in
     let written : m.place < log.site.place + log.buffer.written_len = omega (arith, c.in_ok-settle.ensures.written, place) in
     let found = message_found g.C.Checksum.sum_of size log.site device log.buffer.bytes.items log.buffer.written_len log.buffer.reserved.items H m after there written in
     let lid : c.lid-lid.result ≡ found.0 = c.lid-lid.ensures ∙ ap lid_of (sym pointer ∙ found.1) in

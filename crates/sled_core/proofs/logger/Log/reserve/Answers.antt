@@ -9,7 +9,7 @@ use Rattle.sled_core.specs.declared.iobuf.Purpose.{Purpose}
 use Rattle.sled_core.specs.Buffers.{placeholder_head, reserved_for, message_in}
 use Rattle.sled_core.specs.Tickets.{place_of, index_of}
 use Rattle.sled_codec.specs.History.{History}
-use Rattle.sled_core.specs.Fits.{Holds, HoldsIn}
+use Rattle.sled_core.specs.Fits.{Holds, HoldsIn, log_parts}
 use Rattle.sled_core.specs.Running.{Fits}
 use Rattle.sled_core.proofs.Holds.RunningLemmas.{fits-moved}
 use Rattle.sled_core.proofs.Holds.KeptCalls.{kept_still, goes_on_quietly}
@@ -85,8 +85,8 @@ returns-clause-next g c =
 
 -- what the log held it still holds
 held_still : (g : given.Over) (c : goal.After-new-2 g) (H : History)
-    → HoldsIn g.C.Checksum.sum_of c.args.self.now.config.config.segment_size c.args.self.now.site (state_of (g.D.Device.trace c.args.self.now.config.device)) c.args.self.now.fault c.args.self.now.buffer.bytes.items c.args.self.now.buffer.written_len c.args.self.now.buffer.reserved.items H
-    → HoldsIn g.C.Checksum.sum_of c.args.self.now.config.config.segment_size c.args.self.now.site (state_of (g.D.Device.trace c.args.self.now.config.device)) c.args.self.now.fault c.append.new.self.bytes.items c.append.new.self.written_len c.append.new.self.reserved.items H
+    → HoldsIn g.C.Checksum.sum_of (log_parts c.args.self.now.config.config.segment_size c.args.self.now.site (state_of (g.D.Device.trace c.args.self.now.config.device)) c.args.self.now.fault c.args.self.now.buffer.bytes.items c.args.self.now.buffer.written_len c.args.self.now.buffer.reserved.items) H
+    → HoldsIn g.C.Checksum.sum_of (log_parts c.args.self.now.config.config.segment_size c.args.self.now.site (state_of (g.D.Device.trace c.args.self.now.config.device)) c.args.self.now.fault c.append.new.self.bytes.items c.append.new.self.written_len c.append.new.self.reserved.items) H
 held_still g c H holds =
     let old = c.args.self.now.buffer in
     let more : List ℕ = placeholder_head (head g c) ++ item g c in

@@ -10,7 +10,7 @@ use Rattle.sled_store.specs.Script.{after_all}
 use Rattle.sled_store.specs.Begin.{unused, slots_of, place_at, filling, IsStartable, IsInReach}
 use Rattle.sled_core.specs.declared.iobuf.IoBuf.{IoBuf}
 use Rattle.sled_core.specs.Causes.{StartAnswers}
-use Rattle.sled_core.specs.Fits.{Holds, HoldsIn}
+use Rattle.sled_core.specs.Fits.{Holds, HoldsIn, log_parts}
 use Rattle.sled_core.specs.declared.iobuf.SegmentPosition.{SegmentPosition}
 use Rattle.sled_core.specs.Running.{Ready, Fits, FitsIn}
 use Rattle.sled_core.proofs.Holds.HoldsLemmas.{holds-same}
@@ -56,7 +56,7 @@ returns-in-Ok-clause-history g c = λ H ready.
     let names_now = ap (λ (t : Trace). (state_of t).snapshots.file) c.in-Ok.ensures.done ∙ ap (λ (n : NamesState). n.file) (filling-snapshots size ks (g.D.Device.trace c.args.config.device)) in
     let first = c.in-Ok.ensures.buffer in
     let holds = begins_ready g.C.Checksum.sum_of size old now s H c.in-Ok.buffer.bytes.items c.args.config.config.least ready c.in-Ok.ensures.startable log_now names_now c.in-Ok.beginning c.in-Ok.ensures.beginning first.header first.resumed in
-    subst (λ (n : ℕ). HoldsIn g.C.Checksum.sum_of n (record { place = c.in-Ok.beginning.place; slot = c.in-Ok.beginning.slot }) now None c.in-Ok.buffer.bytes.items c.in-Ok.buffer.written_len c.in-Ok.buffer.reserved.items H)
+    subst (λ (n : ℕ). HoldsIn g.C.Checksum.sum_of (log_parts n (record { place = c.in-Ok.beginning.place; slot = c.in-Ok.beginning.slot }) now None c.in-Ok.buffer.bytes.items c.in-Ok.buffer.written_len c.in-Ok.buffer.reserved.items) H)
     (sym (ap (λ (x : Config). x.segment_size) c.begin.ensures.config))
     (holds-same g.C.Checksum.sum_of size (record { place = c.in-Ok.beginning.place; slot = c.in-Ok.beginning.slot }) now None c.in-Ok.buffer.bytes.items c.in-Ok.buffer.bytes.items c.in-Ok.beginning.offset c.in-Ok.buffer.written_len [] c.in-Ok.buffer.reserved.items H
     refl first.from first.reserved holds)
@@ -80,9 +80,9 @@ returns-in-Ok-clause-fits g c = λ H A f ready.
     let same : c.begin.new.config.config.segment_size ≡ size = ap (λ (x : Config). x.segment_size) c.begin.ensures.config in
     let site : SegmentPosition = record { place = c.in-Ok.beginning.place; slot = c.in-Ok.beginning.slot } in
     let first = c.in-Ok.ensures.buffer in
-    let holds : HoldsIn g.C.Checksum.sum_of size site now None c.in-Ok.buffer.bytes.items c.in-Ok.buffer.written_len c.in-Ok.buffer.reserved.items H =
-    subst (λ n. HoldsIn g.C.Checksum.sum_of n site now None c.in-Ok.buffer.bytes.items c.in-Ok.buffer.written_len c.in-Ok.buffer.reserved.items H) same (returns-in-Ok-clause-history g c H ready.ready) in
-    subst (λ n. FitsIn g.C.Checksum.sum_of n site now None c.in-Ok.buffer.bytes.items c.in-Ok.buffer.written_len c.in-Ok.buffer.reserved.items 0 H A f []) (sym same)
+    let holds : HoldsIn g.C.Checksum.sum_of (log_parts size site now None c.in-Ok.buffer.bytes.items c.in-Ok.buffer.written_len c.in-Ok.buffer.reserved.items) H =
+    subst (λ n. HoldsIn g.C.Checksum.sum_of (log_parts n site now None c.in-Ok.buffer.bytes.items c.in-Ok.buffer.written_len c.in-Ok.buffer.reserved.items) H) same (returns-in-Ok-clause-history g c H ready.ready) in
+    subst (λ n. FitsIn g.C.Checksum.sum_of (log_parts n site now None c.in-Ok.buffer.bytes.items c.in-Ok.buffer.written_len c.in-Ok.buffer.reserved.items) 0 H A f []) (sym same)
     (start_fits g.C.Checksum.sum_of size (state_of old) now s H A f c.args.config.config.least (in_reach size c.args.config.config.most) ready c.in-Ok.ensures.startable c.in-Ok.beginning c.in-Ok.ensures.beginning
     c.in-Ok.buffer.bytes.items c.in-Ok.buffer.written_len c.in-Ok.buffer.reserved.items first.from holds c.in-Ok.buffer.behind
     (in_segment size (length (state_of old).log.bytes) s c.in-Ok.beginning c.in-Ok.ensures.beginning c.in-Ok.ensures.startable c.in-Ok.ensures.answers.1 g.C.Checksum.sum_of c.in-Ok.buffer c.args.config.config.least first)
