@@ -1,28 +1,26 @@
 -- What a crate above may rely on of logs: where the messages lie that a log fits, what a crash leaves of its device, and that an empty device is ready.
-use Rattle.std.proofs.Common.{◌≡◌, ◌∙◌, ◌≤◌, ◌<◌, ◌+◌, ◌^◌, ℕ, ℤ, pos, List, [], ◌∷◌, replicate, Option, None, refl, rules, sym, ap, subst}
+use Rattle.std.proofs.Common.{◌≡◌, ◌∙◌, ◌≤◌, ◌<◌, ◌+◌, ◌^◌, ℕ, ℤ, pos, List, [], ◌∷◌, None, refl, rules, sym, ap, subst}
 use Rattle.std.specs.Prelude.{FitsSigned}
 use Rattle.std.specs.Int.{w64, cast_signed, cast_unsigned}
 use Rattle.std.specs.List.{All}
 use Rattle.std.proofs.lemmas.Int.{to_z-of_z}
 use Rattle.sled_codec.specs.History.{Message, History, no_history}
-use Rattle.sled_codec.specs.Record.{IsHeader}
-use Rattle.sled_codec.specs.WellFormed.{LieApart}
-use Rattle.sled_store.specs.Device.{Trace, State, Content, Left, Leaves, Crashed, state_of, content_of, content_left, at_rest, fresh, names_at_rest, step}
+use Rattle.sled_store.specs.Device.{Trace, State, Content, Left, Leaves, Crashed, state_of, content_of, content_left, at_rest, names_at_rest, step}
 use Rattle.sled_codec.specs.Snapshots.{empty_model}
 use Rattle.sled_store.proofs.LogFile.LogLemmas.{at_rest_left}
 use Rattle.sled_store.proofs.Names.NamesLemmas.{settled_name_left, settled_name_at_rest}
 use Rattle.sled_store.proofs.Crashes.SettledLemmas.{read_left}
 use Rattle.sled_core.specs.declared.logger.Log.{Log}
-use Rattle.sled_core.specs.Fits.{Holds, NoneOpen, IsUnchanged, IsWritten, fault_of, next_place, synced_end, device_of, segment_size_of}
+use Rattle.sled_core.specs.Fits.{NoneOpen, IsUnchanged, IsWritten, fault_of, synced_end, segment_size_of}
 use Rattle.sled_core.specs.Buffers.{none_open}
 use Rattle.sled_core.specs.Reading.{IsInline}
 use Rattle.sled_core.specs.Ready.{IsReady}
 use Rattle.sled_core.specs.Recoverable.{NoForeign, Recoverable, LeavesRecoverable}
-use Rattle.sled_core.specs.Running.{Fits, Ready}
+use Rattle.sled_core.specs.Running.{Fits}
 use Rattle.sled_core.proofs.Holds.CallMoments.{own_after_crash}
 use Rattle.sled_core.proofs.Read.FirstSegment.{nothing_recoverable}
 use Rattle.sled_core.proofs.Start.FreshLemmas.{ready_fresh}
-use Rattle.sled_core.proofs.Holds.HeldPointers.{LiesInline, fits_lie}
+use Rattle.sled_core.proofs.Holds.HeldPointers.{fits_lie}
 use Rattle.sled_core.proofs.Holds.ReachLemmas.{fits_reach, fits_apart, kept_past}
 pub use Rattle.sled_core.proofs.Start.FreshReady.{fresh_leaves, fresh_ready}
 pub use Rattle.sled_core.proofs.Holds.KeptCalls.{goes_on_still, goes_on_further, kept_still, kept_further}

@@ -1,5 +1,5 @@
 -- The buffer that a log begins with.
-use Rattle.std.specs.Prelude.{◌≡◌, ◌-◌, ◌<◌, ◌-ℤ◌, ℕ, pos, List, [], length}
+use Rattle.std.specs.Prelude.{◌≡◌, ◌<◌, ◌-ℤ◌, ℕ, pos, List, [], length}
 use Rattle.sled_codec.specs.Record.{short_header}
 use Rattle.sled_core.specs.declared.iobuf.IoBuf.{IoBuf}
 

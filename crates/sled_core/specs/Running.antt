@@ -1,15 +1,12 @@
 -- The invariant of a running log, and what a recovery leaves for it: over a history, the end of what was acknowledged, the floor, and the completed messages that were not marked yet.
 -- The log has one segment, the first one.
 use Rattle.std.specs.Prelude.{◌≡◌, ◌≢◌, ◌⊎◌, ◌≤◌, ◌<◌, ◌+◌, ℕ, ℤ, List, [], length, replicate, Option, Some, None}
-use Rattle.std.specs.declared.io.Error.{Error as IoError}
 use Rattle.sled_codec.specs.Places.{part}
 use Rattle.sled_codec.specs.History.{Message, History}
 use Rattle.sled_codec.specs.Snapshots.{SnapshotModel, stable_place}
-use Rattle.sled_store.specs.Device.{Trace, NamesState, State, state_of, LeavesName}
+use Rattle.sled_store.specs.Device.{Trace, NamesState, State, LeavesName}
 use Rattle.sled_store.specs.Foreign.{NoForeignNames}
 use Rattle.sled_store.specs.SnapshotFiles.{IsSnapshotFile}
-use Rattle.sled_core.specs.declared.iobuf.Reserved.{Reserved}
-use Rattle.sled_core.specs.declared.iobuf.SegmentPosition.{SegmentPosition}
 use Rattle.sled_core.specs.declared.iterator.Segment.{Segment}
 use Rattle.sled_core.specs.declared.logger.Log.{Log}
 use Rattle.sled_core.specs.Scan.{IsFoundSegment}

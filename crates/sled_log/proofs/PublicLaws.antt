@@ -1,15 +1,15 @@
 -- What a crate above may rely on of histories and tables: a history of Replaces in the order of pages stays orderly, a message of a greater place is appended, and a table has the last message of each page.
-use Rattle.std.proofs.Common.{⊎_elim, ◌≡◌, ◌∙◌, ◌⊎◌, ◌<◌, ◌≤◌, ◌+◌, ℕ, Bool, true, false, ◌&&◌, if◌then◌else◌, cond, nat_lt, List, [], ◌∷◌, ◌++◌, length, get_or, map, Option, Some, None, refl, sym, ap, subst, arith, pos}
-use Rattle.std.specs.List.{All, Contains, filter}
+use Rattle.std.proofs.Common.{⊎_elim, ◌≡◌, ◌∙◌, ◌<◌, ◌≤◌, ℕ, ◌&&◌, if◌then◌else◌, cond, nat_lt, List, [], ◌∷◌, ◌++◌, length, Option, Some, None, refl, sym, ap, subst, arith, pos}
+use Rattle.std.specs.List.{All, Contains}
 use Rattle.std.proofs.lemmas.List.{append-nil}
 use Rattle.std.proofs.lemmas.List.Elements.{All-head, All-tail, All-filter, All-contains, Contains-append_right}
 use Rattle.sled_codec.specs.declared.serialization.message.LogKind.{LogKind}
 use Rattle.sled_codec.specs.declared.serialization.message.LogKind.TheVariants.{Replace}
-use Rattle.sled_codec.specs.History.{Message, History, Completed, Step, begins_page, is_replace, is_link, later_or, last_beginning, entries_from, page_state, of_page, table, below, HasPage}
+use Rattle.sled_codec.specs.History.{Message, History, Completed, Step, begins_page, is_replace, is_link, later_or, last_beginning, entries_from, page_state, of_page, table, HasPage}
 use Rattle.sled_codec.specs.PageTables.{IsTable, entry_of, page_with}
-use Rattle.sled_codec.specs.Snapshots.{Page, Present, Free, Uninitialized}
+use Rattle.sled_codec.specs.Snapshots.{Page, Present, Free}
 use Rattle.sled_store.proofs.Segments.Elements.{no_element}
-use Rattle.sled_log.specs.Replaces.{HasLast, IsLastOf, IsOfReplaces}
+use Rattle.sled_log.specs.Replaces.{HasLast, IsOfReplaces}
 use Rattle.sled_log.proofs.PageTable.Ascending.{Ascends, apart_ascends, in_first, in_rest, in_cases, in_nothing, later_above}
 use Rattle.sled_log.proofs.PageTable.PageRuns.{links_behind}
 use Rattle.sled_log.proofs.PageTable.TableParts.{in_page, page_ascends, has_page}

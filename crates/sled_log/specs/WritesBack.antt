@@ -9,7 +9,7 @@ use Rattle.sled_codec.specs.Snapshots.{SnapshotModel, model_of, short_snapshot, 
 use Rattle.sled_codec.specs.Spelling.{low_bytes}
 use Rattle.sled_store.specs.Device.{Event, Wrote, Synced, SnapshotFilled, SnapshotPublished, SnapshotRemoved, NamesSynced, Trace, State, state_of, at_rest, overwritten}
 use Rattle.sled_store.specs.Script.{Performs, after_all}
-use Rattle.sled_log.specs.Recovery.{RecoveryResult, Recovered, Recovers}
+use Rattle.sled_log.specs.Recovery.{RecoveryResult}
 use Rattle.sled_log.specs.declared.snapshot.recovery.Recovery.{Recovery}
 use Rattle.sled_log.specs.declared.snapshot.recovery.ShredRange.{ShredRange}
 

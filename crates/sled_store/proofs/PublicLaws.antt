@@ -1,5 +1,5 @@
 -- What a crate above may rely on: traces that go on from one another, and what crashes leave at the moments between them.
-use Rattle.std.proofs.Common.{◌≡◌, ◌∙◌, List, [], ◌++◌, refl, ap, sym, append_assoc}
+use Rattle.std.proofs.Common.{◌∙◌, [], ◌++◌, refl, ap, sym, append_assoc}
 use Rattle.sled_store.specs.Device.{Trace, State, Content, state_of}
 use Rattle.sled_store.specs.Moments.{AllLeft, IsLater, LeavesOnly}
 use Rattle.sled_store.proofs.Traces.MomentLemmas.{started, joined, at_first, at_last, weaker}

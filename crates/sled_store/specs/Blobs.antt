@@ -1,15 +1,14 @@
 -- Items that lie beside the log, each in a file of its own under the place of its message.
-use Rattle.std.specs.Prelude.{◌≡◌, ◌⊎◌, ◌↔◌, ◌≤◌, ◌≤ℤ◌, ◌+◌, ◌%◌, ◌^◌, ◌<◌, ℕ, ℤ, Bool, true, List, [], ◌∷◌, ◌++◌, length, map, filter, int_le, Option, Some, None, IsSome, IsTrue, Result, Ok, Err, Contains}
+use Rattle.std.specs.Prelude.{◌≡◌, ◌⊎◌, ◌↔◌, ◌≤◌, ◌≤ℤ◌, ◌+◌, ◌%◌, ◌^◌, ◌<◌, ℕ, ℤ, true, List, [], ◌∷◌, ◌++◌, length, map, filter, int_le, Option, Some, None, IsSome, IsTrue, Result, Ok, Err, Contains}
 use Rattle.std.specs.IoError.{error_kind}
 use Rattle.std.specs.List.Sorted.{IsStrictlySortedBy}
 use Rattle.std.specs.Ordering.{int_cmp}
-use Rattle.std.specs.declared.io.ErrorKind.{ErrorKind}
 use Rattle.std.specs.declared.io.ErrorKind.TheVariants.{NotFound, AlreadyExists}
 use Rattle.sled_codec.specs.declared.result.DiskPtr.TheVariants.{Blob}
 use Rattle.sled_codec.specs.declared.result.Error.{Error}
 use Rattle.sled_codec.specs.declared.result.Error.TheVariants.{Io, OutOfMemory, Corruption}
 use Rattle.sled_codec.specs.declared.serialization.message.MessageKind.{MessageKind}
-use Rattle.sled_codec.specs.Kinds.{code_of, kind_of}
+use Rattle.sled_codec.specs.Kinds.{kind_of}
 use Rattle.sled_codec.specs.Spelling.{low_bytes}
 use Rattle.sled_store.specs.Answers.{is_fault}
 use Rattle.sled_store.specs.Device.{Content, State, Leaves, Event, BlobMade, BlobSynced, BlobRemoved, NamesSynced}

@@ -1,5 +1,5 @@
 -- What a test asked of a device in memory, and how each of its calls obeys.
-use Rattle.std.specs.Prelude.{◌≡◌, ◌≢◌, ◌⊎◌, ◌+◌, ◌-◌, ◌/◌, ◌||◌, ◌==◌, ℕ, Bool, true, false, List, ◌∷◌, length, take, Option, None, Some}
+use Rattle.std.specs.Prelude.{◌≡◌, ◌≢◌, ◌⊎◌, ◌+◌, ◌-◌, ◌/◌, ◌||◌, ◌==◌, ℕ, Bool, true, false, ◌∷◌, length, take, Option, None, Some}
 use Rattle.std.specs.Bool.{MatchBool}
 use Rattle.std.specs.declared.io.ErrorKind.{ErrorKind}
 use Rattle.std.specs.declared.io.ErrorKind.TheVariants.{Other}

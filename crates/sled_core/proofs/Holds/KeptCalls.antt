@@ -7,7 +7,7 @@ use Rattle.sled_store.specs.Moments.{LeavesOnly}
 use Rattle.sled_store.proofs.PublicLaws.{later_both}
 use Rattle.sled_store.proofs.Traces.MomentLemmas.{started, stays, joined}
 use Rattle.sled_core.specs.declared.logger.Log.{Log}
-use Rattle.sled_core.specs.Fits.{Holds, config_of, device_of, segment_size_of, synced_end}
+use Rattle.sled_core.specs.Fits.{config_of, device_of, segment_size_of, synced_end}
 use Rattle.sled_core.specs.Keeps.{ConfigKept, GoesOn, Preserves}
 use Rattle.sled_core.specs.Recoverable.{RecoverableIfOwn}
 use Rattle.sled_core.specs.Running.{Fits}

@@ -1,5 +1,5 @@
 -- Where no reservation is open, the next one is the only one; and once the only one is completed, none is open.
-use Rattle.std.proofs.Common.{◌≡◌, ◌+◌, ap, refl, ℕ, zero, suc, Bool, true, false, if◌then◌else◌, List, [], ◌∷◌, ◌++◌, length, set, Some, sym, ◌∙◌, arith}
+use Rattle.std.proofs.Common.{◌≡◌, ap, refl, ℕ, zero, suc, Bool, true, false, if◌then◌else◌, List, [], ◌∷◌, ◌++◌, length, set, Some, sym, ◌∙◌, arith}
 use Rattle.std.specs.List.{slice_get}
 use Rattle.sled_core.specs.declared.iobuf.Reserved.{Reserved}
 use Rattle.sled_core.specs.Buffers.{none_open}

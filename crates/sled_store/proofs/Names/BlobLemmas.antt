@@ -1,5 +1,5 @@
 -- A blob that was made, synced and named is kept by every crash; and blobs of a list of places are removed one behind another, from one place on.
-use Rattle.std.proofs.Common.{◌≡◌, ◌≢◌, ◌∙◌, ◌⊎◌, ◌&&◌, T, not, FitsSigned, int_lt, ◌↔◌, ◌+◌, ◌<◌, ◌≤ℤ◌, ◌<ℤ◌, ℕ, ℤ, zero, suc, Bool, true, false, int_le, if◌then◌else◌, List, [], ◌∷◌, ◌++◌, length, get_or, take, drop, filter, Option, Some, IsSome, Contains, refl, sym, ap, subst, inl, inr, arith, take-append-drop}
+use Rattle.std.proofs.Common.{◌≡◌, ◌∙◌, ◌⊎◌, ◌&&◌, T, not, FitsSigned, int_lt, ◌↔◌, ◌+◌, ◌<◌, ◌≤ℤ◌, ℕ, ℤ, zero, suc, Bool, true, false, int_le, if◌then◌else◌, List, [], ◌∷◌, ◌++◌, length, get_or, take, drop, filter, Option, Some, IsSome, Contains, refl, sym, ap, subst, inl, inr, arith, take-append-drop}
 use lib.Signed.{clash_ℤ, lt_z_yes, lt_z_no}
 use Rattle.std.specs.Int.{w64, cast_signed, cast_unsigned}
 use Rattle.std.proofs.lemmas.Int.{to_z-of_z}
@@ -10,7 +10,7 @@ use Rattle.std.proofs.lemmas.Bool.Decides.{Decides-int_eq}
 use Rattle.std.proofs.lemmas.List.Elements.{filter-append, filter_more, filter_passes}
 use Rattle.std.proofs.lemmas.List.Kept.{IsStrictlySortedBy-filter}
 use Rattle.sled_store.specs.Blobs.{making, removing_blobs, from_place, AreFrom, KeepsBlob}
-use Rattle.sled_store.specs.Device.{Content, Event, Trace, NameState, NamesState, state_of, BlobMade, BlobSynced, BlobRemoved, NamesSynced, file_synced}
+use Rattle.sled_store.specs.Device.{Event, Trace, NamesState, state_of, BlobMade, BlobRemoved, file_synced}
 use Rattle.sled_store.specs.Script.{Performs, after_all}
 use Rattle.sled_store.proofs.Names.NamesLemmas.{settled_name_left, settled_name_synced, firm_file_synced}
 use Rattle.sled_store.proofs.Traces.ScriptLemmas.{after_joined, performs_behind, performs_more}

@@ -20,7 +20,7 @@ use Rattle.sled_store.specs.Device.{State, Trace, state_of, content_of}
 use Rattle.sled_core.specs.Fits.{IsKept, device_of, fault_of, flushing, segment_size_of}
 use Rattle.sled_core.specs.Ready.{IsReady}
 use Rattle.sled_core.proofs.Read.ReadingLemmas.{if_ok}
-use Rattle.sled_log.proofs.WriteBack.RestartLemmas.{ready_kept, if_all}
+use Rattle.sled_log.proofs.WriteBack.RestartLemmas.{ready_kept}
 use Rattle.sled_log.proofs.restart.restart.Goals as goal
 
 pub returns-in-Ok-clause-ready : goal.returns-in-Ok-clause-ready

@@ -1,4 +1,4 @@
-use Rattle.std.proofs.Common.{◌≡◌, ◌∙◌, ◌+◌, ◌<◌, ◌/◌, ap, sym, subst, refl, ℕ, List, arith, inr, Option, IsTrue, rules, pos}
+use Rattle.std.proofs.Common.{◌≡◌, ◌∙◌, ◌+◌, ◌<◌, ◌/◌, ap, sym, subst, ℕ, arith, inr, Option, IsTrue, rules, pos}
 use Rattle.std.specs.Int.{w64}
 use Rattle.std.specs.Prelude.{unsigned_abs, ◌<ℤ◌}
 use Rattle.std.specs.List.{Contains}
@@ -10,9 +10,8 @@ use Rattle.std.specs.declared.io.Error.{Error as IoError}
 use Rattle.std.proofs.lemmas.Int.{to_z-of_z}
 use Rattle.sled_codec.specs.Pointers.{lid_of}
 use Rattle.sled_store.specs.Device.{State, Trace, state_of}
-use Rattle.sled_core.specs.Reading.{IsReading, IsMalformed, GivesMessage}
+use Rattle.sled_core.specs.Reading.{IsMalformed, GivesMessage}
 use Rattle.sled_core.specs.Fits.{Holds, HoldsIn, segment_size_of, log_parts}
-use Rattle.sled_core.specs.Running.{Fits}
 use Rattle.sled_core.specs.declared.logger.read_message.LogRead.{LogRead}
 use Rattle.sled_core.proofs.Reserve.Parts.{moved}
 use Rattle.sled_core.proofs.Read.ReadingLemmas.{if_ok}

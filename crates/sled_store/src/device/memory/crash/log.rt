@@ -193,7 +193,7 @@ fn are_firm(bytes: &Vec<u8>, unsynced: &Vec<(usize, usize)>, cut: usize, offered
     ensures { MatchBool result
         ((i : ℕ) → i < length offered.now → (is_unsynced_at unsynced.now.items cut i || slice_index offered.now i == slice_index bytes.now.items i) ≡ true)
         ((i : ℕ) × (i < length offered.now)
-            × ((is_unsynced_at unsynced.now.items cut i || slice_index offered.now i == slice_index bytes.now.items i) ≡ false)) }
+        × ((is_unsynced_at unsynced.now.items cut i || slice_index offered.now i == slice_index bytes.now.items i) ≡ false)) }
 {
     for i in 0..offered.len() {
         if !is_firm(bytes, unsynced, cut, offered, i) {
