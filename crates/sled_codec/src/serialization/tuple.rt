@@ -50,8 +50,13 @@ impl<A: Delimited + Drop, B: Serialize> Serialize for (A, B) {
         Ok((first, second))
     }
 
-    ghost short_spells = { λ v fits. record { first = A.short v.0; second = B.short v.1;
-        front = A.short_spells v.0 fits.0; back = B.short_spells v.1 fits.1; is = refl } };
+    ghost short_spells = { λ v fits. record {
+      first = A.short v.0;
+      second = B.short v.1;
+      front = A.short_spells v.0 fits.0;
+      back = B.short_spells v.1 fits.1;
+      is = refl;
+    } };
 }
 
 impl<A: Delimited + Drop, B: Delimited> Delimited for (A, B) {
