@@ -27,7 +27,11 @@ pub struct Segment {
     pub mark: Lsn,
 }
 
-/// The bytes of a slot of the log file, as far as the file has them.
+/// Returns the bytes of a slot of the log file, as far as the file has them.
+///
+/// # Errors
+///
+/// `Io` where the device failed, and `OutOfMemory`.
 pub fn read_slot<D: Device, C: Checksum>(
     config: &mut RunningConfig<D, C>,
     slot: LogOffset,
@@ -47,7 +51,7 @@ pub fn read_slot<D: Device, C: Checksum>(
     Ok(BasedBuf { buf, offset: slot })
 }
 
-/// The segment whose header stands at the beginning of a slot, where one passes there that begins at
+/// Returns the segment whose header stands at the beginning of a slot, where one passes there that begins at
 /// this place or above it.
 pub fn segment_in<C: Checksum>(checksum: &C, buf: &BasedBuf, least: u64) -> Option<Segment>
     ensures slot { IfSome result (λ s. s.slot ≡ buf.now.offset) }

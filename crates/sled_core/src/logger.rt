@@ -64,10 +64,11 @@ impl<D: Device, C: Checksum> Log<D, C> {
     /// slots of the file that the snapshot does not use with zeros, in ascending order, and syncs the file
     /// where there is one.
     ///
-    /// `Corruption` comes where no log can begin from the snapshot, and `PlacesUsedUp` where one more slot of
-    /// the file, or the segment in which the log goes on, would not end below 2^63; nothing was written then.
-    /// `Io` comes where the device failed, and `OutOfMemory` where memory was refused. With each of them the
-    /// configuration comes back.
+    /// # Errors
+    ///
+    /// `Corruption` where no log can begin from the snapshot, and `PlacesUsedUp` where one more slot of the file,
+    /// or the segment in which the log goes on, would not end below 2^63; nothing was written then. `Io` where the
+    /// device failed, and `OutOfMemory`. With each of them the configuration comes back.
     pub fn start(
         config: RunningConfig<D, C>,
         snapshot: &Snapshot,
@@ -108,7 +109,7 @@ impl<D: Device, C: Checksum> Log<D, C> {
         }
     }
 
-    /// Takes a pin. There may be fewer than 2^32 - 1.
+    /// Takes a pin, and returns the guard that stands for it. There may be fewer than 2^32 - 1.
     pub fn pin(&mut self) -> Guard
         requires { pins_of self.old < 2 ^ 32 - 1 }
         ensures taken { self.new ≡ record self.old { pins = pins_of self.old + 1 } }
@@ -130,14 +131,14 @@ impl<D: Device, C: Checksum> Log<D, C> {
         self.pins -= 1;
     }
 
-    /// How many pins are out. A guard that was abandoned counts too.
+    /// Returns how many pins are out. A guard that was abandoned counts too.
     pub fn pins(&self) -> u64
         ensures { result ≡ pins_of self.now }
     {
         u64::from(self.pins)
     }
 
-    /// The last place of which all up to it is settled on the device; -1 before the first one.
+    /// Returns the last place (log sequence number) of which all up to it is durable; -1 before the first one.
     pub fn stable_offset(&self) -> Lsn
         ensures place { result ≡ pos (synced_end self.now) -ℤ pos 1 }
         ensures acknowledges { (H : History) (A f : ℕ) (U : List Message) → Fits D.trace C.sum_of self.now H A f U
@@ -146,12 +147,16 @@ impl<D: Device, C: Checksum> Log<D, C> {
         (self.site.place + self.buffer.written_len as u64) as i64 - 1
     }
 
-    /// Keeps a place for a message of this page, at the end of what was reserved. The guard shows that
-    /// a pin is out. `Unsupported` comes where a page has no messages of this kind, `Io` where the log
-    /// keeps a failure of its device, and `OutOfMemory`; after each of them the log is as it was.
+    /// Keeps a place for a message of this page, at the end of what was reserved, and returns the ticket for it.
+    /// The guard shows that a pin is out.
     ///
     /// The caller owes the log an order of pages, which is not tested here: a page gets a Replace only once
     /// all lower pages have one, or a recovery finds damage (`docs/USING.md`, "Write").
+    ///
+    /// # Errors
+    ///
+    /// `Io` where the log keeps a failure of its device, `Unsupported` where the page has no messages of this kind,
+    /// and `OutOfMemory`. After each of them the log is as it was.
     pub fn reserve<T: Serialize>(
         &mut self,
         kind: LogKind,
@@ -194,9 +199,13 @@ impl<D: Device, C: Checksum> Log<D, C> {
         Ok(Reservation::new(place, DiskPtr::Inline(self.site.slot + at), index))
     }
 
-    /// Completes a message: from now on it is in the log's history. It takes no memory. It fails where
-    /// the log keeps a failure of its device; the ticket is spent all the same, and its message is not
-    /// in the history.
+    /// Completes a message: from now on it is in the log's history. Returns its place and its pointer. It takes no
+    /// memory.
+    ///
+    /// # Errors
+    ///
+    /// `Io` exactly where the log keeps a failure of its device. The ticket is spent all the same, and its message
+    /// is not in the history.
     pub fn complete(&mut self, ticket: Reservation) -> Result<(Lsn, DiskPtr)>
         requires { IsOpen self.old ticket }
         ensures place { IfOk result (λ at. (at.0 ≡ place_of ticket) × (at.1 ≡ pointer_of ticket)) }
@@ -225,9 +234,13 @@ impl<D: Device, C: Checksum> Log<D, C> {
         Ok((place, pointer))
     }
 
-    /// Writes what was completed and settles it on the device, and answers by how much the stable end
-    /// grew. Where nothing was reserved since the last write it does nothing. What a crash leaves at any
-    /// moment of it can be recovered.
+    /// Writes what was completed and syncs it, and returns by how many bytes the stable end grew. Where nothing
+    /// was reserved since the last write it does nothing. What a crash leaves at any moment of it can be recovered.
+    ///
+    /// # Errors
+    ///
+    /// `Io` where the log keeps a failure of its device, or where the device failed in this call: the log keeps that.
+    /// `OutOfMemory`: the flush can be tried again. After each of them the stable end is where it was.
     pub fn flush(&mut self) -> Result<usize>
         requires { NoneOpen self.old }
         ensures answer { IfOk result (λ n. synced_end self.new ≡ synced_end self.old + n) }
@@ -260,8 +273,12 @@ impl<D: Device, C: Checksum> Log<D, C> {
 
     /// Reads the message of this page and place that lies there, from the device. Where its place is not
     /// written yet, what was completed is written first, as `flush` does; for that alone no reservation may
-    /// be open. `Corruption` comes for a negative place, for an offset at which no record begins, and for a
-    /// record that has to hold a place and does not.
+    /// be open. Returns what stands there.
+    ///
+    /// # Errors
+    ///
+    /// `Corruption` for a negative place, for an offset at which no record begins, and for a record that has to hold
+    /// a place and does not. `Io` and `OutOfMemory` as of `flush`.
     pub fn read(&mut self, _pid: PageId, lsn: Lsn, ptr: DiskPtr) -> Result<LogRead>
         requires ended { pos (synced_end self.old) ≤ℤ lsn → NoneOpen self.old }
         requires inline { IsInline ptr }
@@ -332,7 +349,7 @@ impl<D: Device, C: Checksum> Log<D, C> {
         answer
     }
 
-    /// Whether a message of this page with this item fits inline into what is left of the segment.
+    /// Returns whether a message of this page with this item fits inline into what is left of the segment.
     pub fn has_room<T: Serialize>(&self, pid: PageId, item: &T) -> bool
         requires { T.fits (T.meaning item.now) }
         ensures { IsTrue result ↔ HasRoom self.now pid (length (T.short (T.meaning item.now))) }
@@ -346,7 +363,7 @@ impl<D: Device, C: Checksum> Log<D, C> {
         record_size(self.site.place / size, pid, item_len) <= size - next
     }
 
-    /// Whether this ticket is for an open reservation of the log.
+    /// Returns whether this ticket is for an open reservation of the log.
     pub fn is_open(&self, ticket: &Reservation) -> bool
         ensures { IsTrue result ↔ IsOpen self.now ticket.now }
     {
@@ -356,14 +373,14 @@ impl<D: Device, C: Checksum> Log<D, C> {
         }
     }
 
-    /// Whether no reservation is open. One whose ticket was abandoned is.
+    /// Returns whether no reservation is open. One whose ticket was abandoned is.
     pub fn none_open(&self) -> bool
         ensures { IsTrue result ↔ NoneOpen self.now }
     {
         self.buffer.none_open()
     }
 
-    /// Gives the log up, and writes nothing.
+    /// Gives the log up, and returns what it ran on. It writes nothing.
     pub fn halt(self) -> RunningConfig<D, C>
         ensures config { result ≡ config_of self }
         ensures recoverable { (H : History) (A f : ℕ) (U : List Message) → Fits D.trace C.sum_of self H A f U
@@ -432,7 +449,7 @@ fn failure_of(answer: &Result<LogRead>) -> Option<io::Error>
     }
 }
 
-/// Keeps a failure of the device, and says which error it is. Want of memory is none.
+/// Keeps a failure of the device, and says which error it is. Running out of memory is none.
 fn keep_fault(fault: &mut Option<io::Error>, e: io::Error) -> Error
     requires { fault.old ≡ None }
     ensures error { IsErrorOf e result }

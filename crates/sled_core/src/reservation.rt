@@ -28,14 +28,14 @@ impl Reservation {
         }
     }
 
-    /// Where the record begins in the log.
+    /// Returns where the record begins in the log.
     pub fn lsn(&self) -> Lsn
         ensures { result ≡ place_of self.now }
     {
         self.lsn
     }
 
-    /// Where the message lies on the disk.
+    /// Returns where the message lies on the disk.
     pub fn pointer(&self) -> DiskPtr
         ensures { result ≡ pointer_of self.now }
     {

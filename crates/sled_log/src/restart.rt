@@ -25,12 +25,15 @@ use sled_codec::serialization::Checksum;
 use sled_core::logger::Log;
 use sled_store::{Device, RunningConfig};
 
-/// Writes what a log holds, gives the log up, and recovers its device. Where all of this succeeds, the table is
+/// Writes what a log holds, gives the log up, and recovers its device. Returns what the log ran on, and what was
+/// recovered. Where all of this succeeds, the table is
 /// that of all completed messages, its place lies past each of them, and `Log::start` on the snapshot gives a
 /// log that holds them again. No reservation may be open.
 ///
-/// The errors are those of `Log::flush` and of `read_snapshot_or_default`; the configuration comes back with each
-/// of them.
+/// # Errors
+///
+/// Those of `Log::flush`, and then nothing else was done; else those of `read_snapshot_or_default`. The configuration
+/// comes back with each of them.
 pub fn restart<D: Device, C: Checksum>(log: Log<D, C>) -> (RunningConfig<D, C>, Result<Snapshot>)
     requires ended { NoneOpen log }
     ensures table { (H : History) → Holds D.trace C.sum_of log H → IsWellFormed H

@@ -19,9 +19,12 @@ use sled_codec::serialization::Checksum;
 use sled_store::{CrashDevice, RunningConfig};
 use std::alloc::AllocError;
 
-/// Runs these commands in order on a device that is empty, and answers what came of each. It ends with no log
-/// open, and gives back what it ran on; without replies where memory for them was refused, and then nothing was
-/// done.
+/// Runs these commands in order on a device that is empty, and returns what it ran on, and what came of each. It
+/// ends with no log open.
+///
+/// # Errors
+///
+/// `AllocError` where memory for the replies was refused; nothing was done then. An error of a command is its reply.
 pub fn run<D: CrashDevice, C: Checksum>(
     config: RunningConfig<D, C>,
     commands: Vec<Command>,

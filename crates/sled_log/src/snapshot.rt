@@ -39,19 +39,20 @@ use sled_core::iterator::{Segment, read_slot, segment_in};
 use sled_core::logger::read_at::BasedBuf;
 use sled_store::{Device, RunningConfig};
 
-/// Recovers the table of pages from a device whose log file is no longer than a segment. First it settles
-/// the device. Then it reads the newest snapshot and the log file, and at last it fills the rest of the
+/// Recovers the table of pages from a device whose log file is no longer than a segment, and returns it. First it
+/// syncs the device. Then it reads the newest snapshot and the log file, and at last it fills the rest of the
 /// active segment with zeros and, where the table goes beyond that snapshot, publishes a new one and removes
 /// all others.
-///
-/// `Corruption` comes where the newest snapshot is damaged, where segments are found that can't be of one
-/// log, where a damaged record is met, where the table can't be one, and where the file is longer than a
-/// segment; nothing was written then. `Io` comes where the device failed, and `OutOfMemory` where memory was
-/// refused.
 ///
 /// Where each content that a crash leaves can be recovered, for a history, the end of what was acknowledged and
 /// a floor, that stays so at each moment, the content is no damage, and the snapshot is good for them; then all
 /// of this holds of what lies below its place, with that for the floor.
+///
+/// # Errors
+///
+/// `Corruption` where the newest snapshot is damaged, where segments are found that can't be of one log, where a
+/// damaged record is met, where the table can't be one, and where the file is longer than a segment; nothing was
+/// written then. `Io` where the device failed, and `OutOfMemory`.
 pub fn read_snapshot_or_default<D: Device, C: Checksum>(
     config: &mut RunningConfig<D, C>,
 ) -> Result<Snapshot>

@@ -160,7 +160,7 @@ pub trait Device {
         ensures error { Fails result }
         ensures obeys { Obeys (Some NamesSynced) (kind_in result) self.old self.new };
 
-    /// How many calls failed, modulo 2^64. A refusal isn't counted: want of memory, a name that is
+    /// How many calls failed, modulo 2^64. A refusal isn't counted: out of memory, a name that is
     /// missing, or one that is there already.
     fn failures(&self) -> u64
         ensures { result ≡ faults self.now };

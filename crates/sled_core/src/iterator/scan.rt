@@ -66,10 +66,13 @@ pub struct SegmentScan {
     pub ending: ScanEnd,
 }
 
-/// All that is met in a segment, by place. The buffer has the bytes of its slot, and nothing stands in
-/// the place of blobs. `Corruption` comes where a record is met that has to hold a place and does not.
-/// It asks that the slot begins at a multiple of the size of segments, and that the slot and the segment
-/// end below 2^63. `segment_in` does not test that, so its caller does.
+/// Returns all that is met in a segment, by place. The buffer has the bytes of its slot, and nothing stands in
+/// the place of blobs. It asks that the slot begins at a multiple of the size of segments, and that the slot and
+/// the segment end below 2^63. `segment_in` does not test that, so its caller does.
+///
+/// # Errors
+///
+/// `Corruption` where a record is met that has to hold a place and does not, and `OutOfMemory`.
 pub fn scan<D: Device, C: Checksum>(
     config: &mut RunningConfig<D, C>,
     buf: &BasedBuf,

@@ -36,8 +36,12 @@ pub trait ReadAt {
 
     ghost rest: { Self → Rest };
 
-    /// Reads at an offset up to the end of the file or of `dst`, and answers how many bytes that are. The
-    /// rest of `dst` stays. `Io` comes where the device failed.
+    /// Reads at an offset up to the end of the file or of `dst`, and returns how many bytes that are. The
+    /// rest of `dst` stays.
+    ///
+    /// # Errors
+    ///
+    /// `Io` where the device failed.
     fn pread_exact_or_eof(&mut self, dst: &mut [u8], at: u64) -> Result<usize>
         requires { begins self.old ≤ at }
         ensures count { IfOk result (λ n. n ≡ min (length dst.old) (length (file self.old) - at)) }
@@ -47,8 +51,11 @@ pub trait ReadAt {
         ensures begins { begins self.new ≡ begins self.old }
         ensures rest { rest self.new ≡ rest self.old };
 
-    /// Reads at an offset as many bytes as `dst` has. `Corruption` comes where the bytes end before
-    /// that, and `Io` where the device failed.
+    /// Reads at an offset as many bytes as `dst` has.
+    ///
+    /// # Errors
+    ///
+    /// `Corruption` where the bytes end before that, and `Io` where the device failed.
     final fn pread_exact(&mut self, dst: &mut [u8], at: u64) -> Result<()>
         requires { begins self.old ≤ at }
         ensures bytes { OnOk result (dst.new ≡ part (file self.old) at (length dst.old)) }

@@ -45,7 +45,7 @@ pub enum LogRead {
 }
 
 impl LogRead {
-    /// Whether it is a message with its item.
+    /// Returns whether it is a message with its item.
     pub fn is_successful(&self) -> bool
         ensures { result ≡ is_some (data_of self.now) }
     {
@@ -55,7 +55,7 @@ impl LogRead {
         }
     }
 
-    /// The item's bytes, where it is a message with its item.
+    /// Returns the item's bytes, where it is a message with its item.
     pub fn into_data(self) -> Option<Vec<u8>>
         ensures { MatchOption result (data_of self ≡ None) (λ bytes. data_of self ≡ Some bytes.items) }
     {
@@ -66,9 +66,14 @@ impl LogRead {
     }
 }
 
-/// Reads what stands at an offset, for a segment of this number: from a buffer, whose end then is that of
+/// Returns what stands at an offset, for a segment of this number: read from a buffer, whose end then is that of
 /// the file, or from the device. It asks for an offset at which a record may begin, and that lies in the
-/// buffer. `Corruption` comes where a record stands there that has to hold a place and does not.
+/// buffer.
+///
+/// # Errors
+///
+/// `Corruption` where a record stands there that has to hold a place and does not. `Io` where the device failed,
+/// and `OutOfMemory`.
 pub fn read_message<D: Device, C: Checksum>(
     config: &mut RunningConfig<D, C>,
     buf: Option<&BasedBuf>,

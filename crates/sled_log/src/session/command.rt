@@ -14,14 +14,14 @@ pub enum Command {
     Replace(PageId, Vec<u8>),
     /// Completes the message of the reservation that is open.
     Complete,
-    /// Writes what was completed and settles it, where no reservation is open.
+    /// Writes what was completed and syncs it, where no reservation is open.
     Flush,
     /// Closes the log that is open. What was not flushed is lost.
     Halt,
     /// Has the device stop within a call, after so many more calls that change or sync; where no log is open.
     Stop(u64),
     /// Closes the log, if one is open, and has the device crash and leave this, where it may, and else what was
-    /// settled.
+    /// durable.
     Crash(Choice),
 }
 
@@ -43,7 +43,7 @@ pub enum Reply {
     Halted,
     /// The device will stop.
     Armed,
-    /// The device crashed. It left what was chosen (`true`), or what was settled.
+    /// The device crashed. It left what was chosen (`true`), or what was durable.
     Crashed(bool),
     /// The command failed with this error.
     Failed(Error),

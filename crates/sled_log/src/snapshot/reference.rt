@@ -36,11 +36,13 @@ struct Pass {
     scan: SegmentScan,
 }
 
-/// What recovery makes of what a device has, for any number of segments: the snapshot, or `None` where the
+/// Returns what recovery makes of what a device has, for any number of segments: the snapshot, or `None` where the
 /// content is damaged. It only reads, and is slow: it is for tests.
 ///
-/// `Io` comes where the device failed, and `OutOfMemory` where memory was refused, or where the log file
-/// ends so near to 2^63 that a segment in it could end above that.
+/// # Errors
+///
+/// `Io` where the device failed, and `OutOfMemory` where memory was refused, or where the log file ends so near to
+/// 2^63 that a segment in it could end above that.
 pub fn reference_recovery<D: Device, C: Checksum>(
     config: &mut RunningConfig<D, C>,
 ) -> Result<Option<Snapshot>>
