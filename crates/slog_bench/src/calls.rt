@@ -4,9 +4,10 @@
 //! calls.
 
 use crate::answer::Answer;
-use crate::lines::{Fault, Outcome, Words, number};
+use crate::lines::{Fault, Outcome, bytes, number};
 use crate::runs::{Told, command};
 use crate::tally::Tally;
+use crate::texts::Text;
 use crate::world::World;
 use std::alloc::Global;
 use std::collections::BTreeMap;
@@ -16,43 +17,32 @@ use std::mem;
 ///
 /// # Errors
 ///
-/// `OutOfMemory`.
-pub fn run(alloc: Global, text: &str, tally: &mut Tally) -> Outcome<()> {
+/// The fault, where memory for the lines is refused.
+pub fn run(alloc: Global, text: &str, tally: &mut Tally<'_>) -> Outcome<()> {
     let lines: Vec<&str> = text.lines().collect(alloc)?;
     let mut world = World::new(alloc);
     let mut script = Script::new(alloc);
-    let outcome = run_all(&lines, &mut script, &mut world, tally);
+    run_all(&lines, &mut script, &mut world, tally);
     world.close();
-    outcome
+    Ok(())
 }
 
 // Runs one line after another, up to the last one.
-fn run_all(
-    lines: &[&str],
-    script: &mut Script,
-    world: &mut World,
-    tally: &mut Tally,
-) -> Outcome<()> {
+fn run_all(lines: &[&str], script: &mut Script, world: &mut World, tally: &mut Tally<'_>) {
     for _ in 0..u64::MAX {
         let Some(line) = lines.get(script.at).copied() else {
             break;
         };
         script.at = script.at.wrapping_add(1);
         let number = script.at;
-        match script.run(line, world, tally) {
-            Ok(()) => {}
-            Err(Fault::Bad(why)) => tally.case(number, line, why)?,
-            Err(Fault::OutOfMemory) => return Err(Fault::OutOfMemory),
+        if let Err(Fault(why)) = script.run(line, world, tally) {
+            tally.case(number, line, why);
         }
     }
     if !script.is_ended() {
-        tally.case(
-            script.at,
-            "the end",
-            "an open loop or part, or commands that were not run",
-        )?;
+        let why = "an open loop or part, or commands that were not run";
+        tally.case(script.at, "the end", why);
     }
-    Ok(())
 }
 
 // A loop: the lines behind its first one are run once with each of these words.
@@ -106,7 +96,7 @@ impl Script {
     }
 
     // Runs a line.
-    fn run(&mut self, line: &str, world: &mut World, tally: &mut Tally) -> Outcome<()> {
+    fn run(&mut self, line: &str, world: &mut World, tally: &mut Tally<'_>) -> Outcome<()> {
         let line = line.trim();
         if self.is_part {
             self.is_part = line != "end";
@@ -116,21 +106,22 @@ impl Script {
             return Ok(());
         }
         let line = self.with_words(line)?;
+        let line = line.as_str();
         match line.split_once(' ') {
             Some(("for", text)) => self.begin(text),
             Some(("part", name)) => self.part(name),
             Some(("do", name)) => self.go(name),
-            None if line.as_str() == "next" => self.next_round(),
-            None if line.as_str() == "end" => self.go_back(),
+            None if line == "next" => self.next_round(),
+            None if line == "end" => self.go_back(),
             _ => {
-                let line = self.with_bytes(&line)?;
-                self.run_call(&line, world, tally)
+                let line = self.with_bytes(line)?;
+                self.run_call(line.as_str(), world, tally)
             }
         }
     }
 
     // Runs a line that stands for no other one.
-    fn run_call(&mut self, line: &str, world: &mut World, tally: &mut Tally) -> Outcome<()> {
+    fn run_call(&mut self, line: &str, world: &mut World, tally: &mut Tally<'_>) -> Outcome<()> {
         if let Some(named) = line.strip_prefix("name ") {
             return self.name(named);
         }
@@ -147,12 +138,17 @@ impl Script {
         }
         let mut out = Answer::new(self.alloc);
         world.call(asked, &mut out)?;
+        self.compare(wanted, &out, tally);
+        Ok(())
+    }
+
+    // Compares what a call answered. A call with nothing behind it must not answer an error.
+    fn compare(&self, wanted: Option<&str>, came: &Answer, tally: &mut Tally<'_>) {
         match wanted {
-            Some(wanted) => tally.case(self.at, wanted, &out.text)?,
-            None if out.is_error => tally.case(self.at, "no error", &out.text)?,
+            Some(wanted) => tally.case(self.at, wanted, came.text.as_str()),
+            None if came.is_error => tally.case(self.at, "no error", came.text.as_str()),
             None => tally.count(false),
         }
-        Ok(())
     }
 
     // Keeps a command for the next run.
@@ -169,7 +165,7 @@ impl Script {
     // Gives bytes a name.
     fn name(&mut self, named: &str) -> Outcome<()> {
         let Some((name, bytes)) = named.split_once(' ') else {
-            return Err(Fault::Bad("a name and bytes"));
+            return Err(Fault("a name and bytes"));
         };
         let name = String::from_str(self.alloc, name)?;
         let bytes = String::from_str(self.alloc, bytes)?;
@@ -188,7 +184,7 @@ impl Script {
     // Goes to the lines of this name.
     fn go(&mut self, name: &str) -> Outcome<()> {
         let Some(at) = self.parts.get(name).copied() else {
-            return Err(Fault::Bad("no part has this name"));
+            return Err(Fault("no part has this name"));
         };
         self.callers.push(self.at)?;
         self.at = at;
@@ -198,7 +194,7 @@ impl Script {
     // Goes on behind the line that went to a part.
     fn go_back(&mut self) -> Outcome<()> {
         let Some(at) = self.callers.pop() else {
-            return Err(Fault::Bad("no part is being run"));
+            return Err(Fault("no part is being run"));
         };
         self.at = at;
         Ok(())
@@ -206,25 +202,16 @@ impl Script {
 
     // Begins a loop: `NAME in WORD ..`, where a word `A..B` stands for the numbers from A up to the one before B.
     fn begin(&mut self, text: &str) -> Outcome<()> {
-        let mut words = Words::new(text);
-        let name = String::from_str(self.alloc, words.word()?)?;
-        if words.word()? != "in" {
-            return Err(Fault::Bad("a loop is over words"));
-        }
-        let mut coming = Vec::new(self.alloc);
-        for _ in 0..u64::MAX {
-            match words.next_word() {
-                Some(word) => self.push_words(&mut coming, word)?,
-                None => break,
-            }
-        }
-        coming.reverse();
+        let Some((name, text)) = text.split_once(" in ") else {
+            return Err(Fault("a loop is over words"));
+        };
+        let mut coming = self.words_of(text)?;
         let Some(word) = coming.pop() else {
-            return Err(Fault::Bad("a loop is over words"));
+            return Err(Fault("a loop is over words"));
         };
         let begin = self.at;
         self.loops.push(Loop {
-            name,
+            name: String::from_str(self.alloc, name)?,
             coming,
             word,
             begin,
@@ -232,15 +219,23 @@ impl Script {
         Ok(())
     }
 
-    // Adds a word, or the numbers of a range.
-    fn push_words(&self, words: &mut Vec<String>, word: &str) -> Outcome<()> {
-        match word.split_once("..") {
-            Some((from, to)) => {
-                for n in number(from)?..number(to)? {
-                    words.push(format!(in self.alloc; "{n}")?)?;
-                }
+    // The words of a loop, the first one last.
+    fn words_of(&self, text: &str) -> Outcome<Vec<String>> {
+        let mut words = Vec::new(self.alloc);
+        for word in text.split(' ') {
+            match word.split_once("..") {
+                Some((from, to)) => self.push_numbers(&mut words, from, to)?,
+                None => words.push(String::from_str(self.alloc, word)?)?,
             }
-            None => words.push(String::from_str(self.alloc, word)?)?,
+        }
+        words.reverse();
+        Ok(words)
+    }
+
+    // Adds the numbers from one up to the one before another.
+    fn push_numbers(&self, words: &mut Vec<String>, from: &str, to: &str) -> Outcome<()> {
+        for n in known(number(from))?..known(number(to))? {
+            words.push(format!(in self.alloc; "{n}")?)?;
         }
         Ok(())
     }
@@ -248,7 +243,7 @@ impl Script {
     // Goes to the next round of the inner loop, or on behind it.
     fn next_round(&mut self) -> Outcome<()> {
         let Some(last) = self.loops.last_mut() else {
-            return Err(Fault::Bad("no loop is open"));
+            return Err(Fault("no loop is open"));
         };
         match last.coming.pop() {
             Some(word) => {
@@ -263,20 +258,26 @@ impl Script {
     }
 
     // The line with the word of a loop in place of each `{NAME}`.
-    fn with_words(&self, line: &str) -> Outcome<String> {
-        let mut out = String::new(self.alloc);
+    fn with_words(&self, line: &str) -> Outcome<Text> {
+        let mut out = Text::new(self.alloc);
         for (i, part) in line.split('{').enumerate() {
             if i == 0 {
-                out.push_str(part)?;
-                continue;
+                out.push(part);
+            } else {
+                self.push_word(&mut out, part)?;
             }
-            let Some((name, behind)) = part.split_once('}') else {
-                return Err(Fault::Bad("the name of a loop ends with a brace"));
-            };
-            out.push_str(self.word_of(name)?)?;
-            out.push_str(behind)?;
         }
         Ok(out)
+    }
+
+    // Adds what stands behind a brace: the word of a loop, and then what stands behind its name.
+    fn push_word(&self, out: &mut Text, part: &str) -> Outcome<()> {
+        let Some((name, behind)) = part.split_once('}') else {
+            return Err(Fault("the name of a loop ends with a brace"));
+        };
+        out.push(self.word_of(name)?);
+        out.push(behind);
+        Ok(())
     }
 
     // The word of the loop of this name.
@@ -286,27 +287,27 @@ impl Script {
                 return Ok(one.word.as_str());
             }
         }
-        Err(Fault::Bad("no loop of this name is open"))
+        Err(Fault("no loop of this name is open"))
     }
 
     // The line with digits in place of the words that stand for bytes.
-    fn with_bytes(&self, line: &str) -> Outcome<String> {
-        let mut out = String::new(self.alloc);
+    fn with_bytes(&self, line: &str) -> Outcome<Text> {
+        let mut out = Text::new(self.alloc);
         for (i, word) in line.split(' ').enumerate() {
             if i > 0 {
-                out.push(' ')?;
+                out.push(" ");
             }
             if word.contains(['$', '*', '+', '!', '/']) {
                 self.push_bytes(&mut out, word)?;
             } else {
-                out.push_str(word)?;
+                out.push(word);
             }
         }
         Ok(out)
     }
 
     // Adds the digits of a word: parts with `+` between them.
-    fn push_bytes(&self, out: &mut String, word: &str) -> Outcome<()> {
+    fn push_bytes(&self, out: &mut Text, word: &str) -> Outcome<()> {
         for part in word.split('+') {
             self.push_part(out, part)?;
         }
@@ -314,22 +315,26 @@ impl Script {
     }
 
     // Adds the digits of a part: bytes, `*N` times, or the first N by `/N`, or with byte N one greater by `!N`.
-    fn push_part(&self, out: &mut String, part: &str) -> Outcome<()> {
+    fn push_part(&self, out: &mut Text, part: &str) -> Outcome<()> {
         if let Some((bytes, times)) = part.split_once('*') {
-            for _ in 0..number(times)? {
-                out.push_str(self.digits(bytes)?)?;
-            }
-            return Ok(());
+            return self.push_often(out, bytes, times);
         }
         if let Some((bytes, len)) = part.split_once('/') {
-            let digits = number(len)?.saturating_mul(2) as usize;
-            return push_front(out, self.digits(bytes)?, digits);
+            return push_front(out, self.digits(bytes)?, known(number(len))?);
         }
         if let Some((bytes, at)) = part.split_once('!') {
-            let at = number(at)?.saturating_mul(2) as usize;
-            return push_raised(self.alloc, out, self.digits(bytes)?, at);
+            return push_raised(self.alloc, out, self.digits(bytes)?, known(number(at))?);
         }
-        out.push_str(self.digits(part)?)?;
+        out.push(self.digits(part)?);
+        Ok(())
+    }
+
+    // Adds the digits of bytes so many times.
+    fn push_often(&self, out: &mut Text, bytes: &str, times: &str) -> Outcome<()> {
+        let digits = self.digits(bytes)?;
+        for _ in 0..known(number(times))? {
+            out.push(digits);
+        }
         Ok(())
     }
 
@@ -338,38 +343,55 @@ impl Script {
         match bytes.strip_prefix('$') {
             Some(name) => match self.names.get(name) {
                 Some(digits) => Ok(digits.as_str()),
-                None => Err(Fault::Bad("no bytes have this name")),
+                None => Err(Fault("no bytes have this name")),
             },
             None => Ok(bytes),
         }
     }
 }
 
-// Adds the first digits; a dash where that are none.
-fn push_front(out: &mut String, digits: &str, len: usize) -> Outcome<()> {
+// A value, which has to be there.
+fn known<T>(value: Option<T>) -> Outcome<T> {
+    value.ok_or(Fault("this is no number"))
+}
+
+// Adds the digits of the first bytes; a dash where that are none.
+fn push_front(out: &mut Text, digits: &str, len: u64) -> Outcome<()> {
     if len == 0 {
-        out.push('-')?;
+        out.push("-");
         return Ok(());
     }
-    match digits.split_at_checked(len) {
-        Some((front, _)) => out.push_str(front)?,
-        None => return Err(Fault::Bad("there are fewer bytes")),
+    match digits.split_at_checked(len.saturating_mul(2) as usize) {
+        Some((front, _)) => out.push(front),
+        None => return Err(Fault("there are fewer bytes")),
     }
     Ok(())
 }
 
-// Adds digits, where the byte of the two at this index is one greater, modulo 256.
-fn push_raised(alloc: Global, out: &mut String, digits: &str, at: usize) -> Outcome<()> {
-    let Some((front, behind)) = digits.split_at_checked(at) else {
-        return Err(Fault::Bad("there are fewer bytes"));
-    };
-    let Some((byte, behind)) = behind.split_at_checked(2) else {
-        return Err(Fault::Bad("there are fewer bytes"));
-    };
-    let byte = crate::lines::bytes(alloc, byte)?;
-    let raised = byte.first().copied().unwrap_or(0).wrapping_add(1);
-    out.push_str(front)?;
-    crate::texts::push_hex(out, &[raised])?;
-    out.push_str(behind)?;
-    Ok(())
+// Adds digits, where the byte of this index is one greater, modulo 256.
+fn push_raised(alloc: Global, out: &mut Text, digits: &str, at: u64) -> Outcome<()> {
+    match parted(digits, at.saturating_mul(2) as usize) {
+        Some((front, byte, behind)) => {
+            out.push(front);
+            out.hex(&[raised(alloc, byte)]);
+            out.push(behind);
+            Ok(())
+        }
+        None => Err(Fault("there are fewer bytes")),
+    }
+}
+
+// Two digits at an index, what stands before them and what stands behind them.
+fn parted(digits: &str, at: usize) -> Option<(&str, &str, &str)> {
+    let (front, behind) = digits.split_at_checked(at)?;
+    let (byte, behind) = behind.split_at_checked(2)?;
+    Some((front, byte, behind))
+}
+
+// The byte of two digits, one greater.
+fn raised(alloc: Global, digits: &str) -> u8 {
+    match bytes(alloc, digits) {
+        Some(bytes) => bytes.first().copied().unwrap_or(0).wrapping_add(1),
+        None => 0,
+    }
 }

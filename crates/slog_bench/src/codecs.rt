@@ -1,49 +1,25 @@
 //! The codecs of all types: `TYPE VALUE -> LENGTH HEX` for what is written, `none` for a value without an
 //! encoding, and `TYPE.dec HEX -> VALUE left N`, or `error`, for what is read.
 
-use crate::lines::{
-    Fault, Outcome, Words, asked_and_wanted, bytes, number, number_or_dash, pointer, signed,
-    signed_or_dash,
-};
-use crate::tally::Tally;
-use crate::texts::{OrDash, Pointer, entry, freed, present, push_entries, push_entry, push_hex};
+use crate::lines::{Words, bytes, number, number_or_dash, pointer, signed, signed_or_dash};
+use crate::texts::{Text, entry, freed, present};
 use sled_log::logger::{DiskPtr, MessageHeader, MessageKind, SegmentNumber};
 use sled_log::result::Error;
 use sled_log::serialization::{BatchManifest, Meta, Serialize};
 use sled_log::snapshot::{Entry, PageState, Snapshot};
-use std::alloc::{AllocError, Global};
+use std::alloc::Global;
 use std::collections::BTreeMap;
 use std::num::NonZeroU64;
 
-/// Runs the cases of a file.
-///
-/// # Errors
-///
-/// `OutOfMemory`.
-pub fn run(alloc: Global, text: &str, tally: &mut Tally) -> Outcome<()> {
-    for (number, line) in text.lines().enumerate() {
-        if let Some((asked, wanted)) = asked_and_wanted(line) {
-            let came = answer(alloc, asked)?;
-            tally.case(number.wrapping_add(1), wanted, &came)?;
-        }
-    }
-    Ok(())
-}
-
-// What came of a line.
-fn answer(alloc: Global, asked: &str) -> Outcome<String> {
-    let mut out = String::new(alloc);
+/// Writes what came of a line.
+pub fn answer(alloc: Global, asked: &str, out: &mut Text) {
     let (name, value) = asked.split_once(' ').unwrap_or((asked, ""));
     let case = Case {
         alloc,
         is_read: name.ends_with(".dec"),
         value,
     };
-    match of_numbers(&case, name.strip_suffix(".dec").unwrap_or(name), &mut out) {
-        Err(Fault::Bad(why)) => Ok(String::from_str(alloc, why)?),
-        Err(Fault::OutOfMemory) => Err(Fault::OutOfMemory),
-        Ok(()) => Ok(out),
-    }
+    of_numbers(&case, name.strip_suffix(".dec").unwrap_or(name), out);
 }
 
 // What a line asks for: a value that is written, or bytes that are read.
@@ -54,7 +30,7 @@ struct Case<'a> {
     value: &'a str,
 }
 
-fn of_numbers(case: &Case<'_>, name: &str, out: &mut String) -> Outcome<()> {
+fn of_numbers(case: &Case<'_>, name: &str, out: &mut Text) {
     match name {
         "u64" => both_ways::<u64>(case, out),
         "i64" => both_ways::<i64>(case, out),
@@ -65,13 +41,13 @@ fn of_numbers(case: &Case<'_>, name: &str, out: &mut String) -> Outcome<()> {
         "bytes" => both_ways::<Vec<u8>>(case, out),
         "opt_u64" => both_ways::<Option<u64>>(case, out),
         "opt_i64" => both_ways::<Option<i64>>(case, out),
-        "opt_nz" => both_ways::<Option<NonZeroU64>>(case, out),
         _ => of_parts(case, name, out),
     }
 }
 
-fn of_parts(case: &Case<'_>, name: &str, out: &mut String) -> Outcome<()> {
+fn of_parts(case: &Case<'_>, name: &str, out: &mut Text) {
     match name {
+        "opt_nz" => both_ways::<Option<NonZeroU64>>(case, out),
         "ptr" => both_ways::<DiskPtr>(case, out),
         "manifest" => both_ways::<BatchManifest>(case, out),
         "head" => both_ways::<MessageHeader>(case, out),
@@ -80,252 +56,286 @@ fn of_parts(case: &Case<'_>, name: &str, out: &mut String) -> Outcome<()> {
         "state" => both_ways::<PageState>(case, out),
         "snapshot" => both_ways::<Snapshot>(case, out),
         "meta" => both_ways::<Meta>(case, out),
-        _ => Err(Fault::Bad("no such type")),
+        _ => out.push("no such type"),
     }
 }
 
 /// A type whose values stand in the lines of this file.
-trait Text: Serialize + Drop {
-    /// The value of a text.
-    fn of_text(alloc: Global, text: &str) -> Outcome<Self>;
+trait Shown: Serialize + Drop {
+    /// The value of a text; `None` where it is none, or memory is refused.
+    fn of_text(alloc: Global, text: &str) -> Option<Self>;
 
-    /// Adds the text of the value.
-    fn push_to(&self, out: &mut String) -> Result<(), AllocError>;
+    /// Writes the text of the value.
+    fn show(&self, out: &mut Text);
 }
 
-// Adds what is written for a value, or what is read from bytes.
-fn both_ways<T: Text>(case: &Case<'_>, out: &mut String) -> Outcome<()> {
+// Writes the encoding of a value, or what is read from bytes.
+fn both_ways<T: Shown>(case: &Case<'_>, out: &mut Text) {
     if case.is_read {
-        return read::<T>(case.alloc, &bytes(case.alloc, case.value)?, out);
+        match bytes(case.alloc, case.value) {
+            Some(bytes) => read::<T>(case.alloc, &bytes, out),
+            None => out.push("these are no bytes"),
+        }
+        return;
     }
-    written(case.alloc, &T::of_text(case.alloc, case.value)?, out)
+    match T::of_text(case.alloc, case.value) {
+        Some(value) => written(case.alloc, &value, out),
+        None => out.push("this is no value"),
+    }
 }
 
-// Adds what is written for a value: its length and its bytes.
-fn written<T: Text>(alloc: Global, value: &T, out: &mut String) -> Outcome<()> {
+// Writes the encoding of a value: its length and its bytes.
+fn written<T: Shown>(alloc: Global, value: &T, out: &mut Text) {
     if !value.can_serialize() {
-        out.push_str("none")?;
-        return Ok(());
+        out.push("none");
+        return;
     }
-    let Ok(bytes) = value.serialize(alloc) else {
-        return Err(Fault::OutOfMemory);
-    };
-    write!(out, "{} ", value.serialized_size())?;
-    push_hex(out, &bytes)?;
-    Ok(())
+    match value.serialize(alloc) {
+        Ok(bytes) => {
+            out.number(value.serialized_size());
+            out.push(" ");
+            out.hex(&bytes);
+        }
+        Err(_) => out.push("out of memory"),
+    }
 }
 
-// Adds what is read from bytes, and how many are left. After an error all of them are.
-fn read<T: Text>(alloc: Global, bytes: &[u8], out: &mut String) -> Outcome<()> {
+// Writes what is read from bytes, and how many are left. After an error all of them are.
+fn read<T: Shown>(alloc: Global, bytes: &[u8], out: &mut Text) {
     let mut rest = bytes;
     match T::deserialize(alloc, &mut rest) {
         Ok(value) => {
-            value.push_to(out)?;
-            write!(out, " left {}", rest.len())?;
+            value.show(out);
+            out.push(" left ");
+            out.number(rest.len() as u64);
         }
-        Err(e) => out.push_str(unread(&e, rest.len() == bytes.len())?)?,
+        Err(e) => out.push(unread(&e, rest.len() == bytes.len())),
     }
-    Ok(())
 }
 
 // The name of an error of reading, after which all bytes are left.
-fn unread(e: &Error, is_unmoved: bool) -> Outcome<&'static str> {
+fn unread(e: &Error, is_unmoved: bool) -> &'static str {
     match e {
-        Error::OutOfMemory => Err(Fault::OutOfMemory),
-        Error::Corruption { at: None } if is_unmoved => Ok("error"),
-        _ => Ok("another error"),
+        Error::Corruption { at: None } if is_unmoved => "error",
+        _ => "another error",
     }
 }
 
-impl Text for u64 {
-    fn of_text(_alloc: Global, text: &str) -> Outcome<u64> {
+impl Shown for u64 {
+    fn of_text(_alloc: Global, text: &str) -> Option<u64> {
         number(text)
     }
 
-    fn push_to(&self, out: &mut String) -> Result<(), AllocError> {
-        write!(out, "{self}")
+    fn show(&self, out: &mut Text) {
+        out.number(*self);
     }
 }
 
-impl Text for i64 {
-    fn of_text(_alloc: Global, text: &str) -> Outcome<i64> {
+impl Shown for i64 {
+    fn of_text(_alloc: Global, text: &str) -> Option<i64> {
         signed(text)
     }
 
-    fn push_to(&self, out: &mut String) -> Result<(), AllocError> {
-        write!(out, "{self}")
+    fn show(&self, out: &mut Text) {
+        out.signed(*self);
     }
 }
 
-impl Text for u32 {
-    fn of_text(_alloc: Global, text: &str) -> Outcome<u32> {
-        text.parse().ok().ok_or(Fault::Bad("this is no number"))
+impl Shown for u32 {
+    fn of_text(_alloc: Global, text: &str) -> Option<u32> {
+        text.parse().ok()
     }
 
-    fn push_to(&self, out: &mut String) -> Result<(), AllocError> {
-        write!(out, "{self}")
-    }
-}
-
-impl Text for u8 {
-    fn of_text(_alloc: Global, text: &str) -> Outcome<u8> {
-        text.parse().ok().ok_or(Fault::Bad("this is no number"))
-    }
-
-    fn push_to(&self, out: &mut String) -> Result<(), AllocError> {
-        write!(out, "{self}")
+    fn show(&self, out: &mut Text) {
+        out.number(u64::from(*self));
     }
 }
 
-impl Text for bool {
-    fn of_text(_alloc: Global, text: &str) -> Outcome<bool> {
+impl Shown for u8 {
+    fn of_text(_alloc: Global, text: &str) -> Option<u8> {
+        text.parse().ok()
+    }
+
+    fn show(&self, out: &mut Text) {
+        out.number(u64::from(*self));
+    }
+}
+
+impl Shown for bool {
+    fn of_text(_alloc: Global, text: &str) -> Option<bool> {
         match text {
-            "false" => Ok(false),
-            "true" => Ok(true),
-            _ => Err(Fault::Bad("this is no truth value")),
+            "false" => Some(false),
+            "true" => Some(true),
+            _ => None,
         }
     }
 
-    fn push_to(&self, out: &mut String) -> Result<(), AllocError> {
-        write!(out, "{self}")
+    fn show(&self, out: &mut Text) {
+        out.truth(*self);
     }
 }
 
-impl Text for () {
-    fn of_text(_alloc: Global, _text: &str) -> Outcome<()> {
-        Ok(())
+impl Shown for () {
+    fn of_text(_alloc: Global, _text: &str) -> Option<()> {
+        Some(())
     }
 
-    fn push_to(&self, out: &mut String) -> Result<(), AllocError> {
-        out.push_str("()")
+    fn show(&self, out: &mut Text) {
+        out.push("()");
     }
 }
 
-impl Text for Vec<u8> {
-    fn of_text(alloc: Global, text: &str) -> Outcome<Vec<u8>> {
+impl Shown for Vec<u8> {
+    fn of_text(alloc: Global, text: &str) -> Option<Vec<u8>> {
         bytes(alloc, text)
     }
 
-    fn push_to(&self, out: &mut String) -> Result<(), AllocError> {
-        push_hex(out, self)
+    fn show(&self, out: &mut Text) {
+        out.hex(self);
     }
 }
 
-impl Text for Option<u64> {
-    fn of_text(_alloc: Global, text: &str) -> Outcome<Option<u64>> {
+impl Shown for Option<u64> {
+    fn of_text(_alloc: Global, text: &str) -> Option<Option<u64>> {
         number_or_dash(text)
     }
 
-    fn push_to(&self, out: &mut String) -> Result<(), AllocError> {
-        write!(out, "{}", OrDash(*self))
+    fn show(&self, out: &mut Text) {
+        out.number_or_dash(*self);
     }
 }
 
-impl Text for Option<i64> {
-    fn of_text(_alloc: Global, text: &str) -> Outcome<Option<i64>> {
+impl Shown for Option<i64> {
+    fn of_text(_alloc: Global, text: &str) -> Option<Option<i64>> {
         signed_or_dash(text)
     }
 
-    fn push_to(&self, out: &mut String) -> Result<(), AllocError> {
-        write!(out, "{}", OrDash(*self))
+    fn show(&self, out: &mut Text) {
+        out.signed_or_dash(*self);
     }
 }
 
-impl Text for Option<NonZeroU64> {
-    fn of_text(_alloc: Global, text: &str) -> Outcome<Option<NonZeroU64>> {
+impl Shown for Option<NonZeroU64> {
+    fn of_text(_alloc: Global, text: &str) -> Option<Option<NonZeroU64>> {
         match number_or_dash(text)? {
-            None => Ok(None),
-            Some(n) => Ok(NonZeroU64::new(n)),
+            None => Some(None),
+            Some(n) => Some(NonZeroU64::new(n)),
         }
     }
 
-    fn push_to(&self, out: &mut String) -> Result<(), AllocError> {
+    fn show(&self, out: &mut Text) {
         match self {
-            None => out.push('-'),
-            Some(n) => write!(out, "{}", n.get()),
+            None => out.push("-"),
+            Some(n) => out.number(n.get()),
         }
     }
 }
 
-impl Text for DiskPtr {
-    fn of_text(_alloc: Global, text: &str) -> Outcome<DiskPtr> {
+impl Shown for DiskPtr {
+    fn of_text(_alloc: Global, text: &str) -> Option<DiskPtr> {
         pointer(text)
     }
 
-    fn push_to(&self, out: &mut String) -> Result<(), AllocError> {
-        write!(out, "{}", Pointer(*self))
+    fn show(&self, out: &mut Text) {
+        out.pointer(*self);
     }
 }
 
-impl Text for BatchManifest {
-    fn of_text(_alloc: Global, text: &str) -> Outcome<BatchManifest> {
-        Ok(BatchManifest(signed(text)?))
+impl Shown for BatchManifest {
+    fn of_text(_alloc: Global, text: &str) -> Option<BatchManifest> {
+        match signed(text) {
+            Some(peg) => Some(BatchManifest(peg)),
+            None => None,
+        }
     }
 
-    fn push_to(&self, out: &mut String) -> Result<(), AllocError> {
-        write!(out, "{}", self.0)
+    fn show(&self, out: &mut Text) {
+        out.signed(self.0);
     }
 }
-
-const WIDE: Fault = Fault::Bad("this number is too wide");
 
 // The number behind the name of a field, as in `len=4`.
-fn field(words: &mut Words<'_>) -> Outcome<u64> {
-    match words.word()?.split_once('=') {
-        Some((_, value)) => number(value),
-        None => Err(Fault::Bad("a field has a name and a number")),
+fn field(words: &mut Words<'_>) -> u64 {
+    match words.word().split_once('=') {
+        Some((_, value)) => words.noted(number(value), "this is no number").unwrap_or(0),
+        None => {
+            words.bad("a field has a name and a number");
+            0
+        }
     }
 }
 
-impl Text for MessageHeader {
-    fn of_text(_alloc: Global, text: &str) -> Outcome<MessageHeader> {
+// The number behind the name of a field, where it is of four bytes.
+fn field32(words: &mut Words<'_>) -> u32 {
+    let n = u32::try_from(field(words)).ok();
+    words.noted(n, "this number is too wide").unwrap_or(0)
+}
+
+// The number behind the name of a field, where it is of one byte.
+fn field8(words: &mut Words<'_>) -> u8 {
+    let n = u8::try_from(field(words)).ok();
+    words.noted(n, "this number is too wide").unwrap_or(0)
+}
+
+impl Shown for MessageHeader {
+    fn of_text(_alloc: Global, text: &str) -> Option<MessageHeader> {
         let mut words = Words::new(text);
-        let (crc32, kind) = (field(&mut words)?, field(&mut words)?);
-        let (len, segment, pid) = (field(&mut words)?, field(&mut words)?, field(&mut words)?);
-        Ok(MessageHeader {
-            crc32: u32::try_from(crc32).ok().ok_or(WIDE)?,
-            kind: MessageKind::from(u8::try_from(kind).ok().ok_or(WIDE)?),
-            segment_number: SegmentNumber(segment),
+        let (crc32, kind) = (field32(&mut words), MessageKind::from(field8(&mut words)));
+        let len = field(&mut words);
+        let segment_number = SegmentNumber(field(&mut words));
+        let pid = field(&mut words);
+        words.end().ok()?;
+        Some(MessageHeader {
+            crc32,
+            kind,
+            segment_number,
             pid,
             len,
         })
     }
 
-    fn push_to(&self, out: &mut String) -> Result<(), AllocError> {
-        let (crc, kind, len) = (self.crc32, u8::from(self.kind), self.len);
-        let (num, pid) = (self.segment_number.0, self.pid);
-        write!(out, "crc={crc} kind={kind} len={len} num={num} pid={pid}")
+    fn show(&self, out: &mut Text) {
+        out.push("crc=");
+        out.number(u64::from(self.crc32));
+        out.push(" kind=");
+        out.number(u64::from(u8::from(self.kind)));
+        out.push(" len=");
+        out.number(self.len);
+        out.push(" num=");
+        out.number(self.segment_number.0);
+        out.push(" pid=");
+        out.number(self.pid);
     }
 }
 
-impl Text for Entry {
-    fn of_text(_alloc: Global, text: &str) -> Outcome<Entry> {
+impl Shown for Entry {
+    fn of_text(_alloc: Global, text: &str) -> Option<Entry> {
         entry(text)
     }
 
-    fn push_to(&self, out: &mut String) -> Result<(), AllocError> {
-        push_entry(out, self)
+    fn show(&self, out: &mut Text) {
+        out.entry(self);
     }
 }
 
-impl Text for (bool, u8) {
-    fn of_text(alloc: Global, text: &str) -> Outcome<(bool, u8)> {
-        let Some((flag, byte)) = text.split_once(' ') else {
-            return Err(Fault::Bad("a pair has two parts"));
-        };
-        Ok((bool::of_text(alloc, flag)?, u8::of_text(alloc, byte)?))
+impl Shown for (bool, u8) {
+    fn of_text(alloc: Global, text: &str) -> Option<(bool, u8)> {
+        let (flag, byte) = text.split_once(' ')?;
+        Some((bool::of_text(alloc, flag)?, u8::of_text(alloc, byte)?))
     }
 
-    fn push_to(&self, out: &mut String) -> Result<(), AllocError> {
+    fn show(&self, out: &mut Text) {
         let (flag, byte) = *self;
-        write!(out, "{flag} {byte}")
+        out.truth(flag);
+        out.push(" ");
+        out.number(u64::from(byte));
     }
 }
 
-impl Text for PageState {
-    fn of_text(alloc: Global, text: &str) -> Outcome<PageState> {
+impl Shown for PageState {
+    fn of_text(alloc: Global, text: &str) -> Option<PageState> {
         if text == "uninitialized" {
-            return Ok(PageState::Uninitialized);
+            return Some(PageState::Uninitialized);
         }
         match text.strip_prefix("free(") {
             Some(behind) => freed(behind.strip_suffix(')').unwrap_or(behind)),
@@ -333,82 +343,87 @@ impl Text for PageState {
         }
     }
 
-    fn push_to(&self, out: &mut String) -> Result<(), AllocError> {
+    fn show(&self, out: &mut Text) {
         match self {
-            PageState::Present { base, frags } => push_entries(out, base, frags, "+"),
-            PageState::Free(place, pointer) => {
-                write!(out, "free({place} {})", Pointer(*pointer))
+            PageState::Present { base, frags } => out.entries(base, frags, "+"),
+            PageState::Free(place, at) => {
+                out.push("free(");
+                out.spot(*place, *at);
+                out.push(")");
             }
-            PageState::Uninitialized => out.push_str("uninitialized"),
+            PageState::Uninitialized => out.push("uninitialized"),
         }
     }
 }
 
 // The value behind the name of a field, as in `stable=-`.
-fn value_of(word: &str) -> Outcome<&str> {
-    match word.split_once('=') {
-        Some((_, value)) => Ok(value),
-        None => Err(Fault::Bad("a field has a name and a value")),
-    }
+fn value_of(word: Option<&str>) -> Option<&str> {
+    let (_, value) = word?.split_once('=')?;
+    Some(value)
 }
 
-impl Text for Snapshot {
-    fn of_text(alloc: Global, text: &str) -> Outcome<Snapshot> {
-        let Some((front, pages)) = text.split_once(" [") else {
-            return Err(Fault::Bad("the pages stand in brackets"));
-        };
-        let mut words = Words::new(front);
-        let stable_lsn = signed_or_dash(value_of(words.word()?)?)?;
-        let active_segment = number_or_dash(value_of(words.word()?)?)?;
-        let mut pt = Vec::new(alloc);
-        for page in pages.split(") ") {
-            if page != "]" {
-                let page = page.strip_suffix(']').unwrap_or(page);
-                pt.push(PageState::of_text(alloc, page)?)?;
-            }
+// The pages of a text, each with a space behind it but the last one.
+fn pages_of(alloc: Global, text: &str) -> Option<Vec<PageState>> {
+    let mut pt = Vec::new(alloc);
+    for page in text.split(") ") {
+        if page != "]" {
+            let page = page.strip_suffix(']').unwrap_or(page);
+            pt.push(PageState::of_text(alloc, page)?).ok()?;
         }
-        Ok(Snapshot {
+    }
+    Some(pt)
+}
+
+impl Shown for Snapshot {
+    fn of_text(alloc: Global, text: &str) -> Option<Snapshot> {
+        let (front, pages) = text.split_once(" [")?;
+        let mut words = Words::new(front);
+        let stable_lsn = signed_or_dash(value_of(words.next_word())?)?;
+        let active_segment = number_or_dash(value_of(words.next_word())?)?;
+        Some(Snapshot {
             stable_lsn,
             active_segment,
-            pt,
+            pt: pages_of(alloc, pages)?,
         })
     }
 
-    fn push_to(&self, out: &mut String) -> Result<(), AllocError> {
-        let (stable, active) = (OrDash(self.stable_lsn), OrDash(self.active_segment));
-        write!(
-            out,
-            "stable={stable} active={active} pages={} [",
-            self.pt.len()
-        )?;
+    fn show(&self, out: &mut Text) {
+        out.push("stable=");
+        out.signed_or_dash(self.stable_lsn);
+        out.push(" active=");
+        out.number_or_dash(self.active_segment);
+        out.push(" pages=");
+        out.number(self.pt.len() as u64);
+        out.push(" [");
         for (i, page) in self.pt.iter().enumerate() {
             if i > 0 {
-                out.push(' ')?;
+                out.push(" ");
             }
-            page.push_to(out)?;
+            page.show(out);
         }
-        out.push(']')
+        out.push("]");
     }
 }
 
-impl Text for Meta {
-    fn of_text(alloc: Global, text: &str) -> Outcome<Meta> {
+impl Shown for Meta {
+    fn of_text(alloc: Global, text: &str) -> Option<Meta> {
         let mut inner = BTreeMap::new(alloc);
         for pair in text.split(' ') {
             if let Some((name, page)) = pair.split_once(':') {
-                inner.insert(bytes(alloc, name)?, number(page)?)?;
+                inner.insert(bytes(alloc, name)?, number(page)?).ok()?;
             }
         }
-        Ok(Meta { inner })
+        Some(Meta { inner })
     }
 
-    fn push_to(&self, out: &mut String) -> Result<(), AllocError> {
-        out.push('{')?;
+    fn show(&self, out: &mut Text) {
+        out.push("{");
         for (name, page) in self.inner.iter() {
-            out.push(' ')?;
-            push_hex(out, name)?;
-            write!(out, ":{page}")?;
+            out.push(" ");
+            out.hex(name);
+            out.push(":");
+            out.number(*page);
         }
-        out.push_str(" }")
+        out.push(" }");
     }
 }

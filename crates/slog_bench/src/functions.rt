@@ -1,7 +1,6 @@
 //! What a line of a file can't say: equality and conversion of errors, constants, functions over a format that answer
 //! no value of their own, and laws.
 
-use crate::lines::{Fault, Outcome};
 use crate::tally::Tally;
 use sled_codec::history::{Message, entries_of_page};
 use sled_codec::serialization::bytes::copy_in;
@@ -21,15 +20,12 @@ use sled_store::blob_io::{gc_blobs, read_blob, remove_blob, write_blob};
 use sled_store::device::laws as device_laws;
 use sled_store::header::{bump_offset, incr_writers, n_writers, offset};
 use sled_store::laws as store_laws;
+use slog_lines::run_lines;
 use std::alloc::{AllocError, Global};
-use std::io::{self, ErrorKind};
+use std::io::{self, BufRead, ErrorKind, Read, Write};
 
 /// Runs all of them.
-///
-/// # Errors
-///
-/// `OutOfMemory`.
-pub fn run(alloc: Global, tally: &mut Tally) -> Outcome<()> {
+pub fn run(alloc: Global, tally: &mut Tally<'_>) {
     device_laws::what_is_read_may_be_left();
     device_laws::what_is_settled_may_be_left();
     device_laws::what_is_synced_is_left();
@@ -40,29 +36,28 @@ pub fn run(alloc: Global, tally: &mut Tally) -> Outcome<()> {
     laws::one_record::<PlaceSum>();
     laws::lengths();
     laws_of_logs();
-    holds(tally, 1, "constants", has_constants())?;
-    holds(tally, 2, "errors are equal", are_equal(alloc)?)?;
-    holds(tally, 3, "errors from std", are_from_std())?;
-    holds(tally, 4, "errors for std", are_for_std())?;
-    holds(tally, 5, "records", known(tells_records(alloc))?)?;
-    holds(tally, 6, "entries of pages", known(lists_entries(alloc))?)?;
-    holds(tally, 7, "the sum of a record", sums_in_place())?;
-    holds(tally, 8, "bytes over others", copies())?;
-    holds(tally, 9, "the tail of a header", writes_tail(alloc)?)?;
-    holds(tally, 10, "bytes behind a word's", bumps())?;
-    holds(tally, 11, "a blob", known(keeps_blob(alloc))?)?;
+    holds(tally, 1, "constants", has_constants());
+    holds(tally, 2, "errors are equal", known(are_equal(alloc)));
+    holds(tally, 3, "errors from std", are_from_std());
+    holds(tally, 4, "errors for std", are_for_std());
+    holds(tally, 5, "records", known(tells_records(alloc)));
+    holds(tally, 6, "entries of pages", known(lists_entries(alloc)));
+    holds(tally, 7, "the sum of a record", sums_in_place());
+    holds(tally, 8, "bytes over others", copies());
+    holds(tally, 9, "the tail of a header", known(writes_tail(alloc)));
+    holds(tally, 10, "bytes behind a word's", bumps());
+    holds(tally, 11, "a blob", known(keeps_blob(alloc)));
     holds(
         tally,
         12,
         "blobs from a place on",
-        known(collects_blobs(alloc))?,
-    )?;
-    holds(
-        tally,
-        13,
-        "a place that no memory holds",
-        refuses_place(alloc),
-    )
+        known(collects_blobs(alloc)),
+    );
+    holds(tally, 13, "damaged blobs", known(tells_damage(alloc)));
+    holds(tally, 14, "a place of no memory", refuses_place(alloc));
+    holds(tally, 15, "a reader that fails", ends_with_reader(alloc));
+    holds(tally, 16, "a writer that fails", ends_with_writer(alloc));
+    holds(tally, 17, "replies are flushed", flushes_replies(alloc));
 }
 
 // The laws of histories, devices and logs, each called at one type.
@@ -93,16 +88,16 @@ fn laws_of_logs() {
 }
 
 // Counts a case.
-fn holds(tally: &mut Tally, number: usize, name: &str, is_so: bool) -> Outcome<()> {
+fn holds(tally: &mut Tally<'_>, number: usize, name: &str, is_so: bool) {
     let came = if is_so { name } else { "not so" };
-    Ok(tally.case(number, name, came)?)
+    tally.case(number, name, came);
 }
 
-// An answer whose one error is that memory was refused.
-fn known(answer: Result<bool>) -> Outcome<bool> {
+// An answer that is no error.
+fn known(answer: Result<bool>) -> bool {
     match answer {
-        Ok(is_so) => Ok(is_so),
-        Err(_) => Err(Fault::OutOfMemory),
+        Ok(is_so) => is_so,
+        Err(_) => false,
     }
 }
 
@@ -115,19 +110,20 @@ fn has_constants() -> bool {
 }
 
 // An error is equal to its copy, and to no other one.
-fn are_equal(alloc: Global) -> Outcome<bool> {
+fn are_equal(alloc: Global) -> Result<bool> {
     let held = Error::Held(20);
+    let name = Error::CollectionNotFound([7].to_vec(alloc)?);
+    let copies = (held.clone()?, name.clone()?);
+    Ok(copies.0 == held && copies.1 == name && held != Error::Held(21) && are_of_one_kind())
+}
+
+// Errors of std are equal where their kinds are.
+fn are_of_one_kind() -> bool {
     let missing = Error::Io(io::Error::new(ErrorKind::NotFound, "one text"));
     let other = Error::Io(io::Error::new(ErrorKind::NotFound, "another text"));
-    let name = Error::CollectionNotFound([7].to_vec(alloc)?);
-    Ok(
-        held.clone()? == held
-            && name.clone()? == name
-            && held != Error::Held(21)
-            && held != Error::NotReserved(20)
-            && missing == other
-            && missing != Error::Io(io::Error::from(ErrorKind::Other)),
-    )
+    missing == other
+        && missing != Error::Io(io::Error::from(ErrorKind::Other))
+        && Error::Held(20) != Error::NotReserved(20)
 }
 
 // Out of memory is an error of its own.
@@ -226,7 +222,7 @@ fn copies() -> bool {
 }
 
 #[tactic(auto, using(sled_codec::specs::HeaderLaws::header_lengths))]
-fn writes_tail(alloc: Global) -> Outcome<bool> {
+fn writes_tail(alloc: Global) -> Result<bool> {
     let header = MessageHeader {
         crc32: 0,
         kind: MessageKind::InlineMeta,
@@ -257,7 +253,7 @@ fn empty(alloc: Global) -> Result<RunningConfig<MemDevice, PlaceSum>> {
 // Twelve ones as a blob: the checksum is 7 and twice 12, and then 3 to 14.
 const BLOB: [u8; 18] = [133, 0, 0, 0, 7, 12, 1, 1, 1, 1, 1, 1, 1, 1, 1, 1, 1, 1];
 
-// A blob is made once, read, found to be damaged, and removed.
+// A blob is made once, read, and removed.
 fn keeps_blob(alloc: Global) -> Result<bool> {
     let mut config = empty(alloc)?;
     let item = vec![in alloc; 1u8; 12]?;
@@ -265,18 +261,25 @@ fn keeps_blob(alloc: Global) -> Result<bool> {
     let is_there = config.device.blob_read(20)?.as_slice() == BLOB.as_slice();
     let (kind, bytes) = read_blob(&mut config, 20)?;
     let is_read = kind == MessageKind::BlobMeta && bytes.as_slice() == &BLOB[5..];
-    let is_made_once = is_io(
-        &write_blob(&mut config, kind, 20, &item),
-        ErrorKind::AlreadyExists,
-    );
-    remove_blob(&mut config, 20)?;
-    remove_blob(&mut config, 20)?;
-    let is_gone = is_io(&read_blob(&mut config, 20), ErrorKind::NotFound);
+    let again = write_blob(&mut config, kind, 20, &item);
+    Ok(is_there && is_read && is_io(&again, ErrorKind::AlreadyExists) && is_removed(&mut config)?)
+}
+
+// Blob 20 is removed, and it may be removed again.
+fn is_removed(config: &mut RunningConfig<MemDevice, PlaceSum>) -> Result<bool> {
+    remove_blob(config, 20)?;
+    remove_blob(config, 20)?;
+    Ok(is_io(&read_blob(config, 20), ErrorKind::NotFound))
+}
+
+// Blobs that lack bytes are damage.
+fn tells_damage(alloc: Global) -> Result<bool> {
+    let mut config = empty(alloc)?;
     config.device.blob_create(36, &BLOB[..4])?;
     config.device.blob_create(52, &BLOB[..17])?;
     let is_short = is_damage(&read_blob(&mut config, 36), None);
     let is_torn = is_damage(&read_blob(&mut config, 52), Some(DiskPtr::Blob(0, 52)));
-    Ok(is_there && is_read && is_made_once && is_gone && is_short && is_torn)
+    Ok(is_short && is_torn)
 }
 
 // Blobs 20, 36 and 300 from 36 on.
@@ -312,4 +315,85 @@ fn is_damage<T>(answer: &Result<T>, blob: Option<DiskPtr>) -> bool {
         Err(Error::Corruption { at }) => *at == blob,
         _ => false,
     }
+}
+
+// A reader that gives these bytes, and then fails.
+#[derive(Drop)]
+struct Failing<'a>(&'a [u8]);
+
+impl Read for Failing<'_> {
+    fn read(&mut self, buf: &mut [u8]) -> io::Result<usize> {
+        if self.0.is_empty() {
+            return Err(io::Error::other("no more"));
+        }
+        self.0.read(buf)
+    }
+}
+
+impl BufRead for Failing<'_> {
+    fn fill_buf(&mut self) -> io::Result<&[u8]> {
+        if self.0.is_empty() {
+            return Err(io::Error::other("no more"));
+        }
+        Ok(self.0)
+    }
+
+    fn consume(&mut self, amount: usize) {
+        self.0.consume(amount);
+    }
+}
+
+// `slog` ends where the reader fails, behind what it has printed.
+fn ends_with_reader(alloc: Global) -> bool {
+    let mut printed = Vec::new(alloc);
+    let status = run_lines(alloc, Failing(b"size 256\nopen\nfl"), &mut printed);
+    status == 1 && printed.as_slice() == b"opened - - 0\n".as_slice()
+}
+
+// A writer that takes no bytes.
+#[derive(Drop)]
+struct Full;
+
+impl Write for Full {
+    fn write(&mut self, _buf: &[u8]) -> io::Result<usize> {
+        Err(io::Error::other("no room"))
+    }
+
+    fn flush(&mut self) -> io::Result<()> {
+        Ok(())
+    }
+}
+
+// `slog` ends where the writer fails.
+fn ends_with_writer(alloc: Global) -> bool {
+    let lines: &[u8] = b"size 256\nopen\nflush\n";
+    let bad: &[u8] = b"open\n";
+    run_lines(alloc, lines, Full) == 1 && run_lines(alloc, bad, Full) == 1
+}
+
+// A writer that fails where a line is begun before the one in front of it was flushed.
+#[derive(Drop)]
+struct Prompt {
+    is_due: bool,
+}
+
+impl Write for Prompt {
+    fn write(&mut self, buf: &[u8]) -> io::Result<usize> {
+        if self.is_due {
+            return Err(io::Error::other("the last line was not flushed"));
+        }
+        self.is_due = buf.ends_with(b"\n");
+        Ok(buf.len())
+    }
+
+    fn flush(&mut self) -> io::Result<()> {
+        self.is_due = false;
+        Ok(())
+    }
+}
+
+// `slog` flushes each reply before it begins the next one.
+fn flushes_replies(alloc: Global) -> bool {
+    let lines: &[u8] = b"size 256\nopen\nopen\nreplace 0 07\nflush\ncomplete 0\nread 0\nhalt\n";
+    run_lines(alloc, lines, Prompt { is_due: false }) == 0
 }

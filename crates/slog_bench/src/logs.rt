@@ -2,7 +2,8 @@
 ghost use Rattle.std.specs.Prelude.{◌<◌, vec_len, vec_capacity};
 
 use crate::answer::Answer;
-use crate::lines::{Fault, Outcome, Words};
+use crate::lines::{Words, bytes};
+use crate::texts::Text;
 use crate::values::kind_of;
 use crate::world::Running;
 use sled_log::device::{MemDevice, PlaceSum};
@@ -33,55 +34,43 @@ impl Opened {
     }
 
     /// Makes the call of this name.
-    ///
-    /// # Errors
-    ///
-    /// `Bad` where there is none, or where its words are others, and `OutOfMemory`.
-    pub fn call(
-        &mut self,
-        alloc: Global,
-        name: &str,
-        words: &mut Words<'_>,
-        out: &mut Answer,
-    ) -> Outcome<()> {
+    pub fn call(&mut self, alloc: Global, name: &str, words: &mut Words<'_>, out: &mut Answer) {
         match name {
-            "pin" => self.pin(out)?,
-            "unpin" => self.unpin(out)?,
-            "reserve" | "has_room" => return self.item(alloc, name, words, out),
-            "complete" => return self.complete(words.number()?, out),
-            "is_open" => {
-                let number = words.number()?;
-                let ticket = self.tickets.get(number as usize);
-                match ticket {
-                    Some(Some(ticket)) => out.truth(self.log.is_open(ticket))?,
-                    _ => out.refused()?,
-                }
+            "pin" => self.pin(out),
+            "unpin" => self.unpin(out),
+            "reserve" => {
+                let kind = kind_of(words);
+                self.item(alloc, Some(kind), words, out);
             }
-            "abandon" => return self.abandon(words.number()?, out),
-            "flush" => return self.flush(out),
-            "read" => {
-                let (page, place) = (words.number()?, words.signed()?);
-                return self.read(page, place, words.pointer()?, out);
-            }
-            "pins" => out.number(self.log.pins())?,
-            "stable" => write!(&mut out.text, "{}", self.log.stable_offset())?,
-            "none_open" => out.truth(self.log.none_open())?,
-            _ => return Err(Fault::Bad("no such call of a log")),
+            "has_room" => self.item(alloc, None, words, out),
+            "complete" => self.complete(words.number(), out),
+            "abandon" => self.abandon(words.number(), out),
+            _ => self.call_of_log(name, words, out),
         }
-        Ok(())
+    }
+
+    // Makes a call that neither takes nor spends a ticket.
+    fn call_of_log(&mut self, name: &str, words: &mut Words<'_>, out: &mut Answer) {
+        match name {
+            "is_open" => self.is_open(words.number(), out),
+            "flush" => self.flush(out),
+            "read" => self.read(words.number(), words.signed(), words.pointer(), out),
+            "pins" => out.text.number(self.log.pins()),
+            "stable" => out.text.signed(self.log.stable_offset()),
+            "none_open" => out.text.truth(self.log.none_open()),
+            _ => words.bad("no such call of a log"),
+        }
     }
 
     // Takes a pin.
-    fn pin(&mut self, out: &mut Answer) -> Outcome<()> {
-        if self.log.pins() >= 4294967295 {
-            out.refused()?;
-            return Ok(());
+    fn pin(&mut self, out: &mut Answer) {
+        if self.log.pins() >= 4294967295 || self.guards.reserve(1).is_err() {
+            out.refused();
+            return;
         }
-        out.ok()?;
-        self.guards.reserve(1)?;
         let guard = self.log.pin();
         self.keep_guard(guard);
-        Ok(())
+        out.ok();
     }
 
     // Keeps a guard, where there is room for it.
@@ -92,41 +81,43 @@ impl Opened {
     }
 
     // Gives the latest pin back.
-    fn unpin(&mut self, out: &mut Answer) -> Outcome<()> {
-        match self.guards.pop() {
-            Some(guard) => {
-                if self.log.pins() == 0 {
-                    guard.abandon();
-                } else {
-                    self.log.unpin(guard);
-                }
-                out.ok()?;
-            }
-            None => out.refused()?,
+    fn unpin(&mut self, out: &mut Answer) {
+        let Some(guard) = self.guards.pop() else {
+            out.refused();
+            return;
+        };
+        if self.log.pins() == 0 {
+            guard.abandon();
+        } else {
+            self.log.unpin(guard);
         }
-        Ok(())
+        out.ok();
+    }
+
+    // Whether a ticket is open.
+    fn is_open(&self, number: u64, out: &mut Answer) {
+        match self.tickets.get(number as usize) {
+            Some(Some(ticket)) => out.text.truth(self.log.is_open(ticket)),
+            _ => out.refused(),
+        }
     }
 
     // Makes a call that takes an item: bytes, or nothing.
     fn item(
         &mut self,
         alloc: Global,
-        name: &str,
+        kind: Option<LogKind>,
         words: &mut Words<'_>,
         out: &mut Answer,
-    ) -> Outcome<()> {
-        let kind = if name == "reserve" {
-            Some(kind_of(words.word()?)?)
-        } else {
-            None
-        };
-        let page = words.number()?;
-        match words.word()? {
-            "()" => self.with_item(kind, page, &(), out),
-            word => {
-                let item = crate::lines::bytes(alloc, word)?;
-                self.with_item(kind, page, &item, out)
-            }
+    ) {
+        let (page, item) = (words.number(), words.word());
+        if item == "()" {
+            self.with_item(kind, page, &(), out);
+            return;
+        }
+        match bytes(alloc, item) {
+            Some(item) => self.with_item(kind, page, &item, out),
+            None => words.bad("these are no bytes"),
         }
     }
 
@@ -137,49 +128,37 @@ impl Opened {
         page: PageId,
         item: &T,
         out: &mut Answer,
-    ) -> Outcome<()> {
+    ) {
         if !item.can_serialize() {
-            out.refused()?;
-            return Ok(());
+            out.refused();
+            return;
         }
         match kind {
             Some(kind) => self.reserve(kind, page, item, out),
-            None => {
-                out.truth(self.log.has_room(page, item))?;
-                Ok(())
-            }
+            None => out.text.truth(self.log.has_room(page, item)),
         }
     }
 
     // Keeps a place for a message, behind the latest pin.
-    fn reserve<T: Serialize>(
-        &mut self,
-        kind: LogKind,
-        page: PageId,
-        item: &T,
-        out: &mut Answer,
-    ) -> Outcome<()>
+    fn reserve<T: Serialize>(&mut self, kind: LogKind, page: PageId, item: &T, out: &mut Answer)
         requires { T.fits (T.meaning item.now) }
     {
-        self.tickets.reserve(1)?;
-        let Some(guard) = self.guards.last() else {
-            out.refused()?;
-            return Ok(());
-        };
         let is_manifest = kind == LogKind::Skip && page == BATCH_MANIFEST_PID;
-        if is_manifest || !self.log.has_room(page, item) {
-            out.refused()?;
-            return Ok(());
+        if is_manifest || self.tickets.reserve(1).is_err() || !self.log.has_room(page, item) {
+            out.refused();
+            return;
         }
+        let Some(guard) = self.guards.last() else {
+            out.refused();
+            return;
+        };
         match self.log.reserve(kind, page, item, guard) {
             Ok(ticket) => {
-                let answer = out.spot(ticket.lsn(), ticket.pointer());
+                out.text.spot(ticket.lsn(), ticket.pointer());
                 self.keep_ticket(ticket);
-                answer?;
             }
-            Err(e) => out.error(&e)?,
+            Err(e) => out.error(&e),
         }
-        Ok(())
     }
 
     // Keeps a ticket under the next number, where there is room for it.
@@ -195,57 +174,53 @@ impl Opened {
     }
 
     // Completes the message of a ticket.
-    fn complete(&mut self, number: u64, out: &mut Answer) -> Outcome<()> {
-        match self.take(number) {
-            Some(ticket) => {
-                if self.log.is_open(&ticket) {
-                    out.placed(self.log.complete(ticket))?;
-                } else {
-                    ticket.abandon();
-                    out.refused()?;
-                }
-            }
-            None => out.refused()?,
+    fn complete(&mut self, number: u64, out: &mut Answer) {
+        let Some(ticket) = self.take(number) else {
+            out.refused();
+            return;
+        };
+        if self.log.is_open(&ticket) {
+            out.placed(self.log.complete(ticket));
+        } else {
+            ticket.abandon();
+            out.refused();
         }
-        Ok(())
     }
 
     // Gives a ticket up.
-    fn abandon(&mut self, number: u64, out: &mut Answer) -> Outcome<()> {
+    fn abandon(&mut self, number: u64, out: &mut Answer) {
         match self.take(number) {
             Some(ticket) => {
                 ticket.abandon();
-                out.ok()?;
+                out.ok();
             }
-            None => out.refused()?,
+            None => out.refused(),
         }
-        Ok(())
     }
 
     // Writes what was completed, and syncs it.
-    fn flush(&mut self, out: &mut Answer) -> Outcome<()> {
+    fn flush(&mut self, out: &mut Answer) {
         if !self.log.none_open() {
-            out.refused()?;
-            return Ok(());
+            out.refused();
+            return;
         }
         match self.log.flush() {
-            Ok(grown) => out.number(grown as u64)?,
-            Err(e) => out.error(&e)?,
+            Ok(grown) => out.text.number(grown as u64),
+            Err(e) => out.error(&e),
         }
-        Ok(())
     }
 
     // Reads a message that was written.
-    fn read(&mut self, page: PageId, place: i64, at: DiskPtr, out: &mut Answer) -> Outcome<()> {
+    fn read(&mut self, page: PageId, place: i64, at: DiskPtr, out: &mut Answer) {
         let DiskPtr::Inline(lid) = at else {
-            out.refused()?;
-            return Ok(());
+            out.refused();
+            return;
         };
         if !self.log.none_open() || place > self.log.stable_offset() {
-            out.refused()?;
-            return Ok(());
+            out.refused();
+            return;
         }
-        push_read(self.log.read(page, place, DiskPtr::Inline(lid)), out)
+        push_read(self.log.read(page, place, DiskPtr::Inline(lid)), out);
     }
 
     /// Gives all up, and writes nothing.
@@ -285,37 +260,48 @@ impl Opened {
 }
 
 /// Adds what was read.
-///
-/// # Errors
-///
-/// `OutOfMemory`.
-pub fn push_read(answer: Result<LogRead>, out: &mut Answer) -> Outcome<()> {
+pub fn push_read(answer: Result<LogRead>, out: &mut Answer) {
     match answer {
-        Ok(read) => push_found(&read, out),
-        Err(e) => {
-            out.error(&e)?;
-            Ok(())
-        }
+        Ok(read) => push_found(&read, &mut out.text),
+        Err(e) => out.error(&e),
     }
 }
 
-fn push_found(read: &LogRead, out: &mut Answer) -> Outcome<()> {
+fn push_found(read: &LogRead, out: &mut Text) {
     match read {
         LogRead::Inline(_, bytes, len) => {
-            out.text.push_str("inline ")?;
-            out.bytes(bytes)?;
-            write!(&mut out.text, " {len}")?;
+            out.push("inline ");
+            out.hex(bytes);
+            push_len(*len, out);
         }
         LogRead::Blob(_, bytes, place, len) => {
-            out.text.push_str("blob ")?;
-            out.bytes(bytes)?;
-            write!(&mut out.text, " {place} {len}")?;
+            out.push("blob ");
+            out.hex(bytes);
+            push_place(" ", *place, *len, out);
         }
-        LogRead::Canceled(len) => write!(&mut out.text, "canceled {len}")?,
-        LogRead::Cap(number) => write!(&mut out.text, "cap {}", number.0)?,
-        LogRead::Corrupted => out.text.push_str("corrupted")?,
-        LogRead::DanglingBlob(_, place, len) => write!(&mut out.text, "dangling {place} {len}")?,
-        LogRead::BatchManifest(peg, len) => write!(&mut out.text, "manifest {peg} {len}")?,
+        LogRead::Canceled(len) => {
+            out.push("canceled");
+            push_len(*len, out);
+        }
+        LogRead::Cap(number) => {
+            out.push("cap ");
+            out.number(number.0);
+        }
+        LogRead::Corrupted => out.push("corrupted"),
+        LogRead::DanglingBlob(_, place, len) => push_place("dangling ", *place, *len, out),
+        LogRead::BatchManifest(peg, len) => push_place("manifest ", *peg, *len, out),
     }
-    Ok(())
+}
+
+// Adds a place behind a word, and a length.
+fn push_place(word: &str, place: i64, len: u32, out: &mut Text) {
+    out.push(word);
+    out.signed(place);
+    push_len(len, out);
+}
+
+// Adds the length of a record.
+fn push_len(len: u32, out: &mut Text) {
+    out.push(" ");
+    out.number(u64::from(len));
 }

@@ -15,6 +15,7 @@ mod noted;
 mod reads;
 mod recovery;
 mod runs;
+mod scripts;
 mod segment_headers;
 mod tables;
 mod tally;
@@ -23,21 +24,23 @@ mod values;
 mod words;
 mod world;
 
-use lines::{Fault, Outcome};
+use lines::{Fault, Words, asked_and_wanted};
 use recovery::By;
 use std::alloc::Global;
 use std::fs;
 use std::process::ExitCode;
 use tally::Tally;
+use texts::Text;
 
 // The files under `data/`, one a kind.
-const FILES: [&str; 6] = [
+const FILES: [&str; 7] = [
     "codecs.txt",
     "segment_headers.txt",
     "words.txt",
     "recovery.txt",
     "plain.txt",
     "calls.txt",
+    "slog.txt",
 ];
 
 fn main(rt: HostRuntime) -> ExitCode {
@@ -45,7 +48,7 @@ fn main(rt: HostRuntime) -> ExitCode {
     for name in FILES {
         is_fine &= compare(&rt, name);
     }
-    is_fine &= said(&rt, "functions", called(rt.alloc()));
+    is_fine &= call_functions(&rt);
     if is_fine {
         ExitCode::SUCCESS
     } else {
@@ -55,46 +58,67 @@ fn main(rt: HostRuntime) -> ExitCode {
 
 // Compares the cases of a file, and prints what came of them.
 fn compare(rt: &HostRuntime, name: &str) -> bool {
+    let mut tally = Tally::new(rt.alloc(), name);
     match fs::read_to_string(rt, name) {
-        Ok(text) => said(rt, name, cases(rt.alloc(), name, &text)),
-        Err(_) => {
-            let _ = println!(rt; "{name}: not read");
-            false
-        }
+        Ok(text) => run(rt.alloc(), name, &text, &mut tally),
+        Err(_) => tally.case(0, "a file", "not read"),
     }
+    said(rt, &mut tally)
+}
+
+// Compares what the functions answer that no line of a file can call.
+fn call_functions(rt: &HostRuntime) -> bool {
+    let mut tally = Tally::new(rt.alloc(), "functions");
+    functions::run(rt.alloc(), &mut tally);
+    said(rt, &mut tally)
 }
 
 // Prints what came of some cases; whether none differs.
-fn said(rt: &HostRuntime, name: &str, outcome: Outcome<Tally>) -> bool {
-    match outcome {
-        Ok(tally) => print!(rt; "{}", tally.text).is_ok() && tally.is_fine(),
-        Err(_) => {
-            let _ = println!(rt; "{name}: out of memory");
-            false
+fn said(rt: &HostRuntime, tally: &mut Tally<'_>) -> bool {
+    tally.end();
+    print!(rt; "{}", tally.text.as_str()).is_ok() && tally.is_fine()
+}
+
+// Compares the cases of a file.
+fn run(alloc: Global, name: &str, text: &str, tally: &mut Tally<'_>) {
+    match name {
+        "recovery.txt" => recovery::run(alloc, text, By::Call, tally),
+        "plain.txt" => recovery::run(alloc, text, By::Plain, tally),
+        "calls.txt" => {
+            if let Err(Fault(why)) = calls::run(alloc, text, tally) {
+                tally.case(0, "lines", why);
+            }
+        }
+        "slog.txt" => scripts::run(alloc, text, tally),
+        _ => run_lines(alloc, name, text, tally),
+    }
+}
+
+// Compares the lines `ASKED -> WANTED` of a file.
+fn run_lines(alloc: Global, name: &str, text: &str, tally: &mut Tally<'_>) {
+    for (number, line) in text.lines().enumerate() {
+        if let Some((asked, wanted)) = asked_and_wanted(line) {
+            let came = answer_of(alloc, name, asked);
+            tally.case(number.wrapping_add(1), wanted, came.as_str());
         }
     }
 }
 
-// What came of the functions that no line of a file can call.
-fn called(alloc: Global) -> Outcome<Tally> {
-    let mut tally = Tally::new(alloc, "functions")?;
-    functions::run(alloc, &mut tally)?;
-    tally.end()?;
-    Ok(tally)
-}
-
-// What came of the cases of a file.
-fn cases(alloc: Global, name: &str, text: &str) -> Outcome<Tally> {
-    let mut tally = Tally::new(alloc, name)?;
-    match name {
-        "codecs.txt" => codecs::run(alloc, text, &mut tally)?,
-        "segment_headers.txt" => segment_headers::run(alloc, text, &mut tally)?,
-        "words.txt" => words::run(alloc, text, &mut tally)?,
-        "recovery.txt" => recovery::run(alloc, text, By::Call, &mut tally)?,
-        "plain.txt" => recovery::run(alloc, text, By::Plain, &mut tally)?,
-        "calls.txt" => calls::run(alloc, text, &mut tally)?,
-        _ => return Err(Fault::Bad("no such file")),
+// What came of a line of a file.
+fn answer_of(alloc: Global, name: &str, asked: &str) -> Text {
+    let mut out = Text::new(alloc);
+    if name == "codecs.txt" {
+        codecs::answer(alloc, asked, &mut out);
+        return out;
     }
-    tally.end()?;
-    Ok(tally)
+    let mut words = Words::new(asked);
+    if name == "words.txt" {
+        words::answer(&mut words, &mut out);
+    } else {
+        segment_headers::answer(alloc, &mut words, &mut out);
+    }
+    if let Err(Fault(why)) = words.end() {
+        out.push(why);
+    }
+    out
 }

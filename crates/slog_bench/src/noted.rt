@@ -1,16 +1,16 @@
 //! A device that passes each call on to another one, and notes those that change or sync.
 ghost use Rattle.std.specs.Prelude.{◌≡◌};
 
-use crate::texts::push_hex;
+use crate::texts::Text;
 use sled_log::device::Device;
-use std::alloc::{AllocError, Global};
+use std::alloc::Global;
 use std::io;
 
 /// The calls that were made, in order.
 #[derive(Drop)]
 pub struct Calls {
     /// A line for each.
-    pub lines: Vec<String>,
+    pub lines: Vec<Text>,
     /// Whether there was memory for all of them.
     pub is_complete: bool,
     alloc: Global,
@@ -26,59 +26,68 @@ impl Calls {
         }
     }
 
+    // A line that begins with the name of a call.
+    fn begun(&self, name: &str) -> Text {
+        let mut line = Text::new(self.alloc);
+        line.push("call ");
+        line.push(name);
+        line
+    }
+
     // Notes a call by this name.
     fn note(&mut self, name: &str) {
-        let line = format!(in self.alloc; "call {name}");
+        let line = self.begun(name);
         self.push(line);
     }
 
     // Notes a call of a number.
     fn note_number(&mut self, name: &str, number: u64) {
-        let line = format!(in self.alloc; "call {name} {number}");
+        let mut line = self.begun(name);
+        line.push(" ");
+        line.number(number);
         self.push(line);
     }
 
     // Notes a call of a place or of a snapshot's number.
     fn note_place(&mut self, name: &str, place: i64) {
-        let line = format!(in self.alloc; "call {name} {place}");
+        let mut line = self.begun(name);
+        line.push(" ");
+        line.signed(place);
         self.push(line);
     }
 
     // Notes a write: its offset, its length, and its bytes without the zeros at their end.
     fn note_write(&mut self, at: u64, bytes: &[u8]) {
-        let start = format!(in self.alloc; "call write_at {at} {} ", bytes.len());
-        self.push_with(start, without_zeros(bytes));
+        let mut line = self.begun("write_at ");
+        line.number(at);
+        line.push(" ");
+        line.number(bytes.len() as u64);
+        line.push(" ");
+        line.hex(without_zeros(bytes));
+        self.push(line);
     }
 
     // Notes a call with bytes.
     fn note_bytes(&mut self, name: &str, bytes: &[u8]) {
-        let start = format!(in self.alloc; "call {name} ");
-        self.push_with(start, bytes);
+        let mut line = self.begun(name);
+        line.push(" ");
+        line.hex(bytes);
+        self.push(line);
     }
 
     // Notes a call with bytes for a blob.
     fn note_blob(&mut self, place: i64, bytes: &[u8]) {
-        let start = format!(in self.alloc; "call blob_create {place} ");
-        self.push_with(start, bytes);
+        let mut line = self.begun("blob_create ");
+        line.signed(place);
+        line.push(" ");
+        line.hex(bytes);
+        self.push(line);
     }
 
-    fn push_with(&mut self, start: Result<String, AllocError>, bytes: &[u8]) {
-        self.push(with_bytes(start, bytes));
+    fn push(&mut self, line: Text) {
+        let is_noted = self.lines.push(line).is_ok();
+        self.is_complete &= is_noted;
     }
-
-    fn push(&mut self, line: Result<String, AllocError>) {
-        match line {
-            Ok(line) => self.is_complete &= self.lines.push(line).is_ok(),
-            Err(_) => self.is_complete = false,
-        }
-    }
-}
-
-// A line that goes on with bytes.
-fn with_bytes(start: Result<String, AllocError>, bytes: &[u8]) -> Result<String, AllocError> {
-    let mut line = start?;
-    push_hex(&mut line, bytes)?;
-    Ok(line)
 }
 
 // The bytes up to the last one that isn't zero.

@@ -9,13 +9,14 @@
 use crate::lines::{Fault, Outcome, Words};
 use crate::noted::{Calls, Noted};
 use crate::tally::Tally;
-use crate::texts::{OrDash, push_error, push_page};
+use crate::texts::Text;
 use sled_log::config::{Config, RunningConfig};
 use sled_log::device::{Device, MemDevice, PlaceSum};
 use sled_log::logger::Log;
+use sled_log::result::Error;
 use sled_log::snapshot::reference::reference_recovery;
 use sled_log::snapshot::{Snapshot, read_snapshot_or_default};
-use std::alloc::{AllocError, Global};
+use std::alloc::Global;
 use std::{io, mem};
 
 /// Which recovery answers.
@@ -28,25 +29,19 @@ pub enum By {
 }
 
 /// Runs the cases of a file.
-///
-/// # Errors
-///
-/// `OutOfMemory`.
-pub fn run(alloc: Global, text: &str, by: By, tally: &mut Tally) -> Outcome<()> {
+pub fn run(alloc: Global, text: &str, by: By, tally: &mut Tally<'_>) {
     let mut case = Case::new(alloc, by);
     for (number, line) in text.lines().enumerate() {
         let number = number.wrapping_add(1);
         match case.line(line) {
-            Ok(Some(came)) => case.compare(number, line, &came, tally)?,
+            Ok(Some(came)) => case.compare(number, line, came.as_str(), tally),
             Ok(None) => {}
-            Err(Fault::Bad(why)) => case.compare(number, line, why, tally)?,
-            Err(Fault::OutOfMemory) => return Err(Fault::OutOfMemory),
+            Err(Fault(why)) => case.compare(number, line, why, tally),
         }
         if line == "end" {
             tally.count(case.differs);
         }
     }
-    Ok(())
 }
 
 // A device, and what came of its recovery so far.
@@ -57,7 +52,7 @@ struct Case {
     size: u64,
     device: MemDevice,
     // The lines that come, the next one last.
-    coming: Vec<String>,
+    coming: Vec<Text>,
     is_answered: bool,
     differs: bool,
 }
@@ -76,134 +71,147 @@ impl Case {
     }
 
     // Compares a line with what came. Of a case the first difference alone is noted.
-    fn compare(&mut self, number: usize, line: &str, came: &str, tally: &mut Tally) -> Outcome<()> {
+    fn compare(&mut self, number: usize, line: &str, came: &str, tally: &mut Tally<'_>) {
         if line != came && !self.differs {
             self.differs = true;
-            tally.note(number, line, came)?;
+            tally.note(number, line, came);
         }
-        Ok(())
     }
 
     // Reads a line; what came, where it says what is wanted.
-    fn line(&mut self, line: &str) -> Outcome<Option<String>> {
+    fn line(&mut self, line: &str) -> Outcome<Option<Text>> {
         if line.is_empty() || line.starts_with('#') {
             return Ok(None);
         }
-        let mut words = Words::new(line);
-        match words.word()? {
-            "case" => *self = Case::new(self.alloc, self.by),
-            "size" => self.size = words.number()?,
-            "log" | "slot" | "blob" | "snapshot" => self.content(line)?,
-            "answer" => {
-                self.recover()?;
-                return Ok(self.coming.pop());
+        match line.split_once(' ') {
+            Some(("case", _)) => {
+                *self = Case::new(self.alloc, self.by);
+                Ok(None)
             }
-            "page" => return self.next_line(),
-            "call" | "start" if self.by == By::Call => return self.next_line(),
-            "call" | "start" => {}
-            "end" => return self.end(),
-            _ => return Err(Fault::Bad("no such line")),
+            Some(("answer", _)) => self.recover(),
+            Some(("page", _)) => self.next_line(),
+            Some(("call" | "start", _)) if self.by == By::Call => self.next_line(),
+            Some(("call" | "start", _)) => Ok(None),
+            None if line == "end" => self.end(),
+            _ => self.content(line),
         }
-        Ok(None)
     }
 
     // The line that comes next.
-    fn next_line(&mut self) -> Outcome<Option<String>> {
+    fn next_line(&mut self) -> Outcome<Option<Text>> {
         match self.coming.pop() {
             Some(line) => Ok(Some(line)),
-            None => Err(Fault::Bad("nothing more")),
+            None => Err(Fault("nothing more")),
         }
     }
 
     // The line that comes in place of the end, or the end.
-    fn end(&mut self) -> Outcome<Option<String>> {
+    fn end(&mut self) -> Outcome<Option<Text>> {
         match self.coming.pop() {
             Some(line) => Ok(Some(line)),
             None if self.is_answered => Ok(None),
-            None => Err(Fault::Bad("no answer was compared")),
+            None => Err(Fault("no answer was compared")),
         }
     }
 
     // Puts on the device what a line says that it has.
-    fn content(&mut self, line: &str) -> Outcome<()> {
+    fn content(&mut self, line: &str) -> Outcome<Option<Text>> {
         let mut words = Words::new(line);
-        let (kind, number, size) = (words.word()?, words.signed()?, self.size);
-        let device = &mut self.device;
-        match kind {
-            "log" => {
-                let zeros = filled(self.alloc, Vec::new(self.alloc), number.unsigned_abs())?;
-                done(write(device, 0, &zeros)?)
-            }
-            "slot" => {
-                let bytes = content_of(self.alloc, &mut words)?;
-                done(write(device, number.unsigned_abs().saturating_mul(size), &bytes)?)
-            }
-            "blob" => {
-                let bytes = content_of(self.alloc, &mut words)?;
-                done(device.blob_create(number, &bytes))?;
-                done(device.blob_sync(number))
-            }
-            _ => {
-                let bytes = content_of(self.alloc, &mut words)?;
-                done(device.snapshot_write(&bytes))?;
-                done(device.snapshot_publish(number))
-            }
+        match words.word() {
+            "size" => self.size = words.number(),
+            "log" => self.log(words.number())?,
+            "slot" => self.slot(&mut words)?,
+            "blob" => self.blob(&mut words)?,
+            "snapshot" => self.snapshot(&mut words)?,
+            _ => words.bad("no such line"),
         }
+        words.end()?;
+        Ok(None)
     }
 
-    // Recovers the device, and notes the lines that come of it.
-    fn recover(&mut self) -> Outcome<()> {
+    // A log file of so many zeros.
+    fn log(&mut self, len: u64) -> Outcome<()> {
+        let zeros = filled(Vec::new(self.alloc), len)?;
+        done(self.device.write_at(0, &zeros))
+    }
+
+    // The bytes of a slot.
+    fn slot(&mut self, words: &mut Words<'_>) -> Outcome<()> {
+        let at = words.number().saturating_mul(self.size);
+        let bytes = content_of(self.alloc, words)?;
+        done(self.device.write_at(at, &bytes))
+    }
+
+    // A blob.
+    fn blob(&mut self, words: &mut Words<'_>) -> Outcome<()> {
+        let place = words.signed();
+        let bytes = content_of(self.alloc, words)?;
+        done(self.device.blob_create(place, &bytes))?;
+        done(self.device.blob_sync(place))
+    }
+
+    // A snapshot.
+    fn snapshot(&mut self, words: &mut Words<'_>) -> Outcome<()> {
+        let number = words.signed();
+        let bytes = content_of(self.alloc, words)?;
+        done(self.device.snapshot_write(&bytes))?;
+        done(self.device.snapshot_publish(number))
+    }
+
+    // Recovers the device; the first line that comes of it. The others are kept.
+    fn recover(&mut self) -> Outcome<Option<Text>> {
         let mut device = mem::replace(&mut self.device, MemDevice::new(self.alloc));
         done(device.sync())?;
         done(device.sync_names())?;
         let Some(config) = Config::new(self.size) else {
-            return Err(Fault::Bad("no size of segments"));
+            return Err(Fault("no size of segments"));
         };
-        let mut lines = match self.by {
+        self.coming = match self.by {
             By::Call => called(self.alloc, config, device)?,
             By::Plain => plain(self.alloc, config, device)?,
         };
-        lines.reverse();
-        self.coming = lines;
+        self.coming.reverse();
         self.is_answered = true;
-        Ok(())
+        self.next_line()
     }
 }
 
 // A call that fails on a device in memory found no memory.
-fn done<T>(answer: io::Result<T>) -> Outcome<T> {
+fn done(answer: io::Result<()>) -> Outcome<()> {
     match answer {
-        Ok(value) => Ok(value),
-        Err(_) => Err(Fault::OutOfMemory),
+        Ok(()) => Ok(()),
+        Err(_) => Err(Fault("out of memory")),
     }
-}
-
-// Writes at an offset of the log file.
-fn write(device: &mut MemDevice, at: u64, bytes: &[u8]) -> Outcome<io::Result<()>> {
-    if at >= 1 << 40 || bytes.len() >= 1 << 40 {
-        return Err(Fault::Bad("the log file is too long"));
-    }
-    Ok(device.write_at(at, bytes))
 }
 
 // The bytes with zeros behind them, up to this length.
-fn filled(_alloc: Global, bytes: Vec<u8>, len: u64) -> Outcome<Vec<u8>> {
-    if len >= 1 << 30 {
-        return Err(Fault::Bad("this is too long"));
-    }
-    let mut bytes = bytes;
+fn filled(mut bytes: Vec<u8>, len: u64) -> Outcome<Vec<u8>> {
     bytes.resize(len as usize, 0)?;
     Ok(bytes)
 }
 
 // The bytes of a length and of digits, without which zeros stand at the end.
 fn content_of(alloc: Global, words: &mut Words<'_>) -> Outcome<Vec<u8>> {
-    let len = words.number()?;
-    filled(alloc, words.bytes(alloc)?, len)
+    let len = words.number();
+    filled(words.bytes(alloc), len)
+}
+
+// A line of these words.
+fn line_of(alloc: Global, text: &str) -> Text {
+    let mut line = Text::new(alloc);
+    line.push(text);
+    line
+}
+
+// A line with an error.
+fn line_of_error(alloc: Global, start: &str, e: &Error) -> Text {
+    let mut line = line_of(alloc, start);
+    line.error(e);
+    line
 }
 
 // The lines that come of a recovery.
-fn called(alloc: Global, config: Config, device: MemDevice) -> Outcome<Vec<String>> {
+fn called(alloc: Global, config: Config, device: MemDevice) -> Outcome<Vec<Text>> {
     let noted = Noted {
         device,
         calls: Calls::new(alloc),
@@ -212,17 +220,17 @@ fn called(alloc: Global, config: Config, device: MemDevice) -> Outcome<Vec<Strin
     let answer = read_snapshot_or_default(&mut config);
     let calls = mem::replace(&mut config.device.calls, Calls::new(alloc));
     if !calls.is_complete {
-        return Err(Fault::OutOfMemory);
+        return Err(Fault("out of memory"));
     }
     let mut lines = Vec::new(alloc);
     match answer {
         Ok(snapshot) => {
             push_table(alloc, &mut lines, &snapshot)?;
             lines.extend(calls.lines)?;
-            lines.push(started(alloc, config, &snapshot)?)?;
+            lines.push(started(alloc, config, &snapshot))?;
         }
         Err(e) => {
-            lines.push(named(alloc, "answer ", &e)?)?;
+            lines.push(line_of_error(alloc, "answer ", &e))?;
             lines.extend(calls.lines)?;
         }
     }
@@ -230,32 +238,31 @@ fn called(alloc: Global, config: Config, device: MemDevice) -> Outcome<Vec<Strin
 }
 
 // The lines that come of a plain recovery.
-fn plain(alloc: Global, config: Config, device: MemDevice) -> Outcome<Vec<String>> {
+fn plain(alloc: Global, config: Config, device: MemDevice) -> Outcome<Vec<Text>> {
     let mut config = RunningConfig::new(alloc, config, device, PlaceSum);
     let mut lines = Vec::new(alloc);
     match reference_recovery(&mut config) {
         Ok(Some(snapshot)) => push_table(alloc, &mut lines, &snapshot)?,
-        Ok(None) => lines.push(String::from_str(alloc, "answer corruption")?)?,
-        Err(e) => lines.push(named(alloc, "answer ", &e)?)?,
+        Ok(None) => lines.push(line_of(alloc, "answer corruption"))?,
+        Err(e) => lines.push(line_of_error(alloc, "answer ", &e))?,
     }
     Ok(lines)
 }
 
-// A line with an error.
-fn named(alloc: Global, start: &str, e: &sled_log::result::Error) -> Result<String, AllocError> {
-    let mut line = String::from_str(alloc, start)?;
-    push_error(&mut line, e)?;
-    Ok(line)
-}
-
 // Adds the lines of a table.
-fn push_table(alloc: Global, lines: &mut Vec<String>, snapshot: &Snapshot) -> Outcome<()> {
-    let (stable, active) = (OrDash(snapshot.stable_lsn), OrDash(snapshot.active_segment));
-    let pages = snapshot.pt.len();
-    lines.push(format!(in alloc; "answer recovered {stable} {active} {pages}")?)?;
+fn push_table(alloc: Global, lines: &mut Vec<Text>, snapshot: &Snapshot) -> Outcome<()> {
+    let mut line = line_of(alloc, "answer recovered ");
+    line.table(
+        snapshot.stable_lsn,
+        snapshot.active_segment,
+        snapshot.pt.len(),
+    );
+    lines.push(line)?;
     for (number, page) in snapshot.pt.iter().enumerate() {
-        let mut line = format!(in alloc; "page {number} ")?;
-        push_page(&mut line, page)?;
+        let mut line = line_of(alloc, "page ");
+        line.number(number as u64);
+        line.push(" ");
+        line.page(page);
         lines.push(line)?;
     }
     Ok(())
@@ -266,12 +273,12 @@ fn started(
     alloc: Global,
     config: RunningConfig<Noted<MemDevice>, PlaceSum>,
     snapshot: &Snapshot,
-) -> Result<String, AllocError> {
+) -> Text {
     match Log::start(config, snapshot) {
         Ok(log) => {
             let _ = log.halt();
-            String::from_str(alloc, "start ok")
+            line_of(alloc, "start ok")
         }
-        Err((e, _)) => named(alloc, "start ", &e),
+        Err((e, _)) => line_of_error(alloc, "start ", &e),
     }
 }

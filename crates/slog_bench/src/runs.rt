@@ -3,7 +3,7 @@
 use crate::devices::choice;
 use crate::lines::{Fault, Outcome, Words};
 use crate::tally::Tally;
-use crate::texts::{OrDash, Pointer, push_error};
+use crate::texts::Text;
 use crate::world::Running;
 use sled_log::session::{Command, Reply, run};
 use sled_log::snapshot::Snapshot;
@@ -24,18 +24,27 @@ pub struct Told {
 ///
 /// # Errors
 ///
-/// `Bad` where it is none, and `OutOfMemory`.
+/// The fault of the line, where it is none.
 pub fn command(alloc: Global, line: &str) -> Outcome<Command> {
     let mut words = Words::new(line);
-    match words.word()? {
-        "open" => Ok(Command::Open),
-        "replace" => Ok(Command::Replace(words.number()?, words.bytes(alloc)?)),
-        "complete" => Ok(Command::Complete),
-        "flush" => Ok(Command::Flush),
-        "halt" => Ok(Command::Halt),
-        "stop" => Ok(Command::Stop(words.number()?)),
-        "crash" => Ok(Command::Crash(choice(alloc, &mut words)?)),
-        _ => Err(Fault::Bad("no such command")),
+    let command = command_of(alloc, &mut words);
+    words.end()?;
+    Ok(command)
+}
+
+fn command_of(alloc: Global, words: &mut Words<'_>) -> Command {
+    match words.word() {
+        "open" => Command::Open,
+        "replace" => Command::Replace(words.number(), words.bytes(alloc)),
+        "complete" => Command::Complete,
+        "flush" => Command::Flush,
+        "halt" => Command::Halt,
+        "stop" => Command::Stop(words.number()),
+        "crash" => Command::Crash(choice(alloc, words)),
+        _ => {
+            words.bad("no such command");
+            Command::Halt
+        }
     }
 }
 
@@ -43,21 +52,17 @@ pub fn command(alloc: Global, line: &str) -> Outcome<Command> {
 ///
 /// # Errors
 ///
-/// `OutOfMemory`.
+/// The fault, where memory is refused.
 pub fn compare(
     alloc: Global,
     config: Running,
     told: Vec<Told>,
-    tally: &mut Tally,
+    tally: &mut Tally<'_>,
 ) -> (Running, Outcome<()>) {
     match commands_of(alloc, told) {
         Ok((commands, wanted)) => {
             let (config, answer) = run(config, commands);
-            let outcome = match answer {
-                Ok(replies) => compare_all(alloc, &wanted, &replies, tally),
-                Err(AllocError) => Err(Fault::OutOfMemory),
-            };
-            (config, outcome)
+            (config, compare_answer(alloc, &wanted, answer, tally))
         }
         Err(fault) => (config, Err(fault)),
     }
@@ -76,50 +81,62 @@ fn commands_of(alloc: Global, told: Vec<Told>) -> Outcome<(Vec<Command>, Wanted)
     Ok((commands, wanted))
 }
 
-fn compare_all(
+fn compare_answer(
     alloc: Global,
     wanted: &[(usize, String)],
-    replies: &[Reply],
-    tally: &mut Tally,
+    answer: Result<Vec<Reply>, AllocError>,
+    tally: &mut Tally<'_>,
 ) -> Outcome<()> {
-    for ((line, wanted), reply) in wanted.iter().zip(replies) {
-        let mut came = String::new(alloc);
-        push_reply(&mut came, reply)?;
-        tally.case(*line, wanted, &came)?;
+    let Ok(replies) = answer else {
+        return Err(Fault("out of memory"));
+    };
+    for ((line, wanted), reply) in wanted.iter().zip(&replies) {
+        let mut came = Text::new(alloc);
+        push_reply(&mut came, reply);
+        tally.case(*line, wanted, came.as_str());
     }
     Ok(())
 }
 
 // Adds a reply.
-fn push_reply(out: &mut String, reply: &Reply) -> Result<(), AllocError> {
+fn push_reply(out: &mut Text, reply: &Reply) {
     match reply {
-        Reply::Opened(s) => push_table(out, "opened", s),
+        Reply::Opened(s) => push_table(out, "opened ", s),
         Reply::Recovered(s, error) => {
-            push_table(out, "recovered", s)?;
-            match error {
-                Some(e) => {
-                    out.push(' ')?;
-                    push_error(out, e)
-                }
-                None => Ok(()),
+            push_table(out, "recovered ", s);
+            if let Some(e) = error {
+                out.push(" ");
+                out.error(e);
             }
         }
-        Reply::Reserved(place, at) => write!(out, "reserved {place} {}", Pointer(*at)),
-        Reply::Done(place, at) => write!(out, "done {place} {}", Pointer(*at)),
-        Reply::Flushed(grown) => write!(out, "flushed {grown}"),
-        Reply::Halted => out.push_str("halted"),
-        Reply::Armed => out.push_str("armed"),
-        Reply::Crashed(taken) => write!(out, "crashed {taken}"),
-        Reply::Failed(e) => {
-            out.push_str("failed ")?;
-            push_error(out, e)
+        Reply::Reserved(place, at) => {
+            out.push("reserved ");
+            out.spot(*place, *at);
         }
-        Reply::Refused => out.push_str("refused"),
+        Reply::Done(place, at) => {
+            out.push("done ");
+            out.spot(*place, *at);
+        }
+        Reply::Failed(e) => {
+            out.push("failed ");
+            out.error(e);
+        }
+        Reply::Flushed(grown) => {
+            out.push("flushed ");
+            out.number(*grown as u64);
+        }
+        Reply::Crashed(taken) => {
+            out.push("crashed ");
+            out.truth(*taken);
+        }
+        Reply::Halted => out.push("halted"),
+        Reply::Armed => out.push("armed"),
+        Reply::Refused => out.push("refused"),
     }
 }
 
 // Adds what was recovered.
-fn push_table(out: &mut String, word: &str, s: &Snapshot) -> Result<(), AllocError> {
-    let (stable, active) = (OrDash(s.stable_lsn), OrDash(s.active_segment));
-    write!(out, "{word} {stable} {active} {}", s.pt.len())
+fn push_table(out: &mut Text, word: &str, s: &Snapshot) {
+    out.push(word);
+    out.table(s.stable_lsn, s.active_segment, s.pt.len());
 }

@@ -1,84 +1,92 @@
 //! Tables of pages: what a recovery answers, and tables that are made by hand.
 
 use crate::answer::Answer;
-use crate::lines::{Fault, Outcome, Words, number_or_dash, signed_or_dash};
-use crate::texts::{OrDash, freed, present, push_page};
+use crate::lines::Words;
+use crate::texts::{freed, present};
 use sled_log::result::Result;
 use sled_log::snapshot::{PageState, Snapshot};
 use std::alloc::Global;
 
 /// Makes the call of this name.
-///
-/// # Errors
-///
-/// `Bad` where there is none, or where its words are others, and `OutOfMemory`.
 pub fn call(
     alloc: Global,
     table: &mut Snapshot,
     name: &str,
     words: &mut Words<'_>,
     out: &mut Answer,
-) -> Outcome<()> {
+) {
     match name {
         "table" => {
-            *table = Snapshot {
-                stable_lsn: signed_or_dash(words.word()?)?,
-                active_segment: number_or_dash(words.word()?)?,
-                pt: Vec::new(alloc),
-            };
-            out.ok()?;
+            *table = empty(alloc, words.signed_or_dash(), words.number_or_dash());
+            out.ok();
         }
-        "page" => match table.pt.get(words.number()? as usize) {
-            Some(page) => push_page(&mut out.text, page)?,
-            None => out.text.push('-')?,
+        "page" => match table.pt.get(words.number() as usize) {
+            Some(page) => out.text.page(page),
+            None => out.text.push("-"),
         },
-        "coords" => coords(table, words.number()?, out)?,
-        _ => return Err(Fault::Bad("no such call of a table")),
+        "coords" => coords(table, words.number(), out),
+        _ => words.bad("no such call of a table"),
     }
-    Ok(())
+}
+
+// A table without pages.
+fn empty(alloc: Global, stable_lsn: Option<i64>, active_segment: Option<u64>) -> Snapshot {
+    Snapshot {
+        stable_lsn,
+        active_segment,
+        pt: Vec::new(alloc),
+    }
 }
 
 /// Adds a page to a table: `present ENTRY ..`, `free PLACE POINTER` or `uninitialized`.
-///
-/// # Errors
-///
-/// `Bad` where the text is none, and `OutOfMemory`.
-pub fn add(alloc: Global, table: &mut Snapshot, text: &str) -> Outcome<()> {
+pub fn add(alloc: Global, table: &mut Snapshot, text: &str, out: &mut Answer) {
     let page = match text.split_once(' ') {
-        Some(("present", entries)) => present(alloc, entries, ") ")?,
-        Some(("free", at)) => freed(at)?,
-        _ if text == "uninitialized" => PageState::Uninitialized,
-        _ => return Err(Fault::Bad("this is no page")),
+        Some(("present", entries)) => present(alloc, entries, ") "),
+        Some(("free", at)) => freed(at),
+        _ => uninitialized(text),
     };
-    table.pt.push(page)?;
-    Ok(())
+    match page {
+        Some(page) => add_page(table, page, out),
+        None => out.text.push("this is no page"),
+    }
+}
+
+fn uninitialized(text: &str) -> Option<PageState> {
+    if text == "uninitialized" {
+        return Some(PageState::Uninitialized);
+    }
+    None
+}
+
+fn add_page(table: &mut Snapshot, page: PageState, out: &mut Answer) {
+    match table.pt.push(page) {
+        Ok(()) => out.ok(),
+        Err(_) => out.text.push("out of memory"),
+    }
 }
 
 // Adds where a log goes on.
-fn coords(table: &Snapshot, size: u64, out: &mut Answer) -> Outcome<()> {
+fn coords(table: &Snapshot, size: u64, out: &mut Answer) {
     let stable = table.stable_lsn.unwrap_or(0);
     let active = table.active_segment.unwrap_or(0);
     if size == 0 || size > 1 << 32 || stable < 0 || stable > 1 << 62 || active > 1 << 62 {
-        out.refused()?;
-        return Ok(());
+        out.refused();
+        return;
     }
     let (offset, place) = table.recovered_coords(size);
-    write!(&mut out.text, "{} {}", OrDash(offset), OrDash(place))?;
-    Ok(())
+    out.text.number_or_dash(offset);
+    out.text.push(" ");
+    out.text.signed_or_dash(place);
 }
 
 /// Keeps what was recovered for the table, and adds its place, its segment and how many pages it has.
-///
-/// # Errors
-///
-/// `OutOfMemory`.
-pub fn keep(table: &mut Snapshot, answer: Result<Snapshot>, out: &mut Answer) -> Outcome<()> {
+pub fn keep(table: &mut Snapshot, answer: Result<Snapshot>, out: &mut Answer) {
     match answer {
         Ok(found) => {
-            out.table(found.stable_lsn, found.active_segment, found.pt.len())?;
+            out.text
+                .table(found.stable_lsn, found.active_segment, found.pt.len());
             *table = found;
         }
-        Err(e) => out.error(&e)?,
+        Err(e) => out.error(&e),
     }
-    Ok(())
 }

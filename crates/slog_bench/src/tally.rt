@@ -1,43 +1,36 @@
 //! What came of the cases of a file: how many there were, and each one that differs.
 
-use std::alloc::{AllocError, Global};
+use crate::texts::Text;
+use std::alloc::Global;
 
 /// The cases of a file so far.
 #[derive(Drop)]
-pub struct Tally {
-    name: String,
+pub struct Tally<'a> {
+    name: &'a str,
     cases: u64,
     differ: u64,
     /// A line for each case that differs.
-    pub text: String,
+    pub text: Text,
 }
 
-impl Tally {
+impl<'a> Tally<'a> {
     /// No case of a file of this name.
-    ///
-    /// # Errors
-    ///
-    /// `AllocError` where memory is refused.
-    pub fn new(alloc: Global, name: &str) -> Result<Tally, AllocError> {
-        Ok(Tally {
-            name: String::from_str(alloc, name)?,
+    pub fn new(alloc: Global, name: &'a str) -> Tally<'a> {
+        Tally {
+            name,
             cases: 0,
             differ: 0,
-            text: String::new(alloc),
-        })
+            text: Text::new(alloc),
+        }
     }
 
     /// Counts a case, and notes it where what came isn't what was wanted.
-    ///
-    /// # Errors
-    ///
-    /// `AllocError` where memory is refused.
-    pub fn case(&mut self, line: usize, wanted: &str, came: &str) -> Result<(), AllocError> {
-        self.count(wanted != came);
-        if wanted == came {
-            return Ok(());
+    pub fn case(&mut self, line: usize, wanted: &str, came: &str) {
+        let differs = wanted != came;
+        self.count(differs);
+        if differs {
+            self.note(line, wanted, came);
         }
-        self.note(line, wanted, came)
     }
 
     /// Counts a case.
@@ -49,16 +42,15 @@ impl Tally {
     }
 
     /// Adds a line for a case that differs.
-    ///
-    /// # Errors
-    ///
-    /// `AllocError` where memory is refused.
-    pub fn note(&mut self, line: usize, wanted: &str, came: &str) -> Result<(), AllocError> {
-        let name = &self.name;
-        writeln!(
-            &mut self.text,
-            "{name}:{line}: wanted '{wanted}', came '{came}'"
-        )
+    pub fn note(&mut self, line: usize, wanted: &str, came: &str) {
+        self.text.push(self.name);
+        self.text.push(":");
+        self.text.number(line as u64);
+        self.text.push(": wanted '");
+        self.text.push(wanted);
+        self.text.push("', came '");
+        self.text.push(came);
+        self.text.push("'\n");
     }
 
     /// Whether each case was as it was wanted.
@@ -67,12 +59,12 @@ impl Tally {
     }
 
     /// Adds the line of the counts.
-    ///
-    /// # Errors
-    ///
-    /// `AllocError` where memory is refused.
-    pub fn end(&mut self) -> Result<(), AllocError> {
-        let (name, cases, differ) = (&self.name, self.cases, self.differ);
-        writeln!(&mut self.text, "{name}: {cases} cases, {differ} differ")
+    pub fn end(&mut self) {
+        self.text.push(self.name);
+        self.text.push(": ");
+        self.text.number(self.cases);
+        self.text.push(" cases, ");
+        self.text.number(self.differ);
+        self.text.push(" differ\n");
     }
 }

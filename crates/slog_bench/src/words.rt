@@ -1,71 +1,56 @@
 //! The packed word of a buffer: `WORD -> maxed=BOOL mk_maxed=WORD ..`, each function of it in turn; `-` where a call asks
 //! for what the word hasn't.
 
-use crate::lines::{Fault, Outcome, Words, asked_and_wanted};
-use crate::tally::Tally;
+use crate::lines::Words;
+use crate::texts::Text;
 use sled_store::header::{
     Header, MAX_WRITERS, bump_salt, decr_writers, incr_writers, is_maxed, is_sealed, mk_maxed,
     mk_sealed, n_writers, offset, salt,
 };
-use std::alloc::Global;
 
-/// Runs the cases of a file.
-///
-/// # Errors
-///
-/// `OutOfMemory`.
-pub fn run(alloc: Global, text: &str, tally: &mut Tally) -> Outcome<()> {
-    for (number, line) in text.lines().enumerate() {
-        if let Some((asked, wanted)) = asked_and_wanted(line) {
-            let came = answer(alloc, asked)?;
-            tally.case(number.wrapping_add(1), wanted, &came)?;
-        }
-    }
-    Ok(())
+/// Writes what came of a line.
+pub fn answer(words: &mut Words<'_>, out: &mut Text) {
+    let word = words.number();
+    flags(word, out);
+    counts(word, out);
+    changes(word, out);
 }
 
-// What came of a line.
-fn answer(alloc: Global, asked: &str) -> Outcome<String> {
-    let mut out = String::new(alloc);
-    match Words::new(asked).number() {
-        Ok(word) => {
-            fields(word, &mut out)?;
-            changes(word, &mut out)?;
-            Ok(out)
-        }
-        Err(Fault::Bad(why)) => Ok(String::from_str(alloc, why)?),
-        Err(Fault::OutOfMemory) => Err(Fault::OutOfMemory),
-    }
+// The flags of a word, and the word with one set.
+fn flags(word: Header, out: &mut Text) {
+    out.push("maxed=");
+    out.truth(is_maxed(word));
+    out.push(" mk_maxed=");
+    out.number(mk_maxed(word));
+    out.push(" sealed=");
+    out.truth(is_sealed(word));
+    out.push(" mk_sealed=");
+    out.number(mk_sealed(word));
 }
 
-// What the fields of a word are, and the word with a mark set.
-fn fields(word: Header, out: &mut String) -> Outcome<()> {
-    let (maxed, sealed) = (is_maxed(word), is_sealed(word));
-    let (with_max, with_seal) = (mk_maxed(word), mk_sealed(word));
-    let (writers, end, salt) = (n_writers(word), offset(word), salt(word));
-    write!(
-        out,
-        "maxed={maxed} mk_maxed={with_max} sealed={sealed} mk_sealed={with_seal} "
-    )?;
-    write!(out, "writers={writers} offset={end} salt={salt} ")?;
-    Ok(())
+// The numbers in a word, and the word of the next use.
+fn counts(word: Header, out: &mut Text) {
+    out.push(" writers=");
+    out.number(n_writers(word));
+    out.push(" offset=");
+    out.number(offset(word) as u64);
+    out.push(" salt=");
+    out.number(salt(word));
+    out.push(" bump_salt=");
+    out.number(bump_salt(word));
 }
 
-// The word of the next use, and with a writer more and one fewer.
-fn changes(word: Header, out: &mut String) -> Outcome<()> {
-    let next = bump_salt(word);
-    write!(out, "bump_salt={next} incr=")?;
+// The word with a writer more and one fewer.
+fn changes(word: Header, out: &mut Text) {
+    let (mut more, mut fewer) = (None, None);
     if n_writers(word) < MAX_WRITERS {
-        let more = incr_writers(word);
-        write!(out, "{more} decr=")?;
-    } else {
-        write!(out, "- decr=")?;
+        more = Some(incr_writers(word));
     }
     if n_writers(word) > 0 {
-        let fewer = decr_writers(word);
-        write!(out, "{fewer}")?;
-    } else {
-        write!(out, "-")?;
+        fewer = Some(decr_writers(word));
     }
-    Ok(())
+    out.push(" incr=");
+    out.number_or_dash(more);
+    out.push(" decr=");
+    out.number_or_dash(fewer);
 }

@@ -60,70 +60,54 @@ impl World {
     ///
     /// # Errors
     ///
-    /// `Bad` where there is none, or where its words are others, and `OutOfMemory`.
+    /// The fault of the line, where there is no such call, or where its words are others.
     pub fn call(&mut self, line: &str, out: &mut Answer) -> Outcome<()> {
         if let Some(page) = line.strip_prefix("add ") {
-            tables::add(self.alloc, &mut self.table, page)?;
-            return Ok(out.ok()?);
+            tables::add(self.alloc, &mut self.table, page, out);
+            return Ok(());
         }
         let mut words = Words::new(line);
-        let name = words.word()?;
-        self.call_by(name, &mut words, out)?;
-        match words.next_word() {
-            None => Ok(()),
-            Some(_) => Err(Fault::Bad("a call has fewer words")),
-        }
+        let name = words.word();
+        self.call_by(name, &mut words, out);
+        words.end()
     }
 
     // Makes the call of this name.
-    fn call_by(&mut self, name: &str, words: &mut Words<'_>, out: &mut Answer) -> Outcome<()> {
-        let alloc = self.alloc;
+    fn call_by(&mut self, name: &str, words: &mut Words<'_>, out: &mut Answer) {
         match name {
-            "size" => self.size(words.number()?, out),
+            "size" => self.size(words.number(), out),
             "start" => self.start(out),
             "halt" => self.halt(out),
             "restart" => self.restart(out),
-            "recover" | "plain" => self.recover(name, out),
+            "recover" => self.recover(out),
+            "plain" => self.recover_plainly(out),
             "table" | "page" | "coords" => {
-                tables::call(alloc, &mut self.table, name, words, out)
+                tables::call(self.alloc, &mut self.table, name, words, out);
             }
-            "sum" | "kind" | "kind_written" | "lid" | "shown" | "compared" => {
-                values::call(alloc, name, words, out)
-            }
+            _ if values::has(name) => values::call(self.alloc, name, words, out),
             _ => self.call_on(name, words, out),
         }
     }
 
     // Makes a call of the log that is open, or else of the device.
-    fn call_on(&mut self, name: &str, words: &mut Words<'_>, out: &mut Answer) -> Outcome<()> {
-        let alloc = self.alloc;
+    fn call_on(&mut self, name: &str, words: &mut Words<'_>, out: &mut Answer) {
         if let Some(opened) = &mut self.opened {
-            return opened.call(alloc, name, words, out);
+            opened.call(self.alloc, name, words, out);
+            return;
         }
         let Some(config) = &mut self.config else {
-            return Err(Fault::Bad("no size of segments is known"));
+            words.bad("no size of segments is known");
+            return;
         };
-        match name {
-            "buffer"
-            | "slot"
-            | "segment"
-            | "message"
-            | "message_in"
-            | "scan"
-            | "pread"
-            | "pread_in"
-            | "pread_view"
-            | "pread_exact"
-            | "pread_exact_in"
-            | "pread_exact_view" => {
-                reads::call(alloc, config, &mut self.buffer, name, words, out)
-            }
-            _ => devices::call(alloc, &mut config.device, name, words, out),
+        if reads::has(name) {
+            reads::call(self.alloc, config, &mut self.buffer, name, words, out);
+        } else {
+            devices::call(self.alloc, &mut config.device, name, words, out);
         }
     }
 
     // Begins with an empty device, and segments of this size.
-    fn size(&mut self, size: u64, out: &mut Answer) -> Outcome<()> {
+    fn size(&mut self, size: u64, out: &mut Answer) {
         if let Some(opened) = self.opened.take() {
             let _ = opened.halt();
         }
@@ -133,29 +117,28 @@ impl World {
             Some(config) => {
                 let device = MemDevice::new(self.alloc);
                 self.config = Some(RunningConfig::new(self.alloc, config, device, PlaceSum));
-                out.ok()?;
+                out.ok();
             }
-            None => out.refused()?,
+            None => out.refused(),
         }
-        Ok(())
     }
 
     // Starts a log on the table.
-    fn start(&mut self, out: &mut Answer) -> Outcome<()> {
+    fn start(&mut self, out: &mut Answer) {
         let Some(config) = self.config.take() else {
-            return Ok(out.refused()?);
+            out.refused();
+            return;
         };
         match Log::start(config, &self.table) {
             Ok(log) => {
                 self.open(Opened::new(self.alloc, log));
-                out.ok()?;
+                out.ok();
             }
             Err((e, config)) => {
                 self.config = Some(config);
-                out.error(&e)?;
+                out.error(&e);
             }
         }
-        Ok(())
     }
 
     // Keeps a log that was started.
@@ -166,43 +149,48 @@ impl World {
     }
 
     // Closes the log that is open.
-    fn halt(&mut self, out: &mut Answer) -> Outcome<()> {
+    fn halt(&mut self, out: &mut Answer) {
         match self.opened.take() {
             Some(opened) => {
                 self.config = Some(opened.halt());
-                out.ok()?;
+                out.ok();
             }
-            None => out.refused()?,
+            None => out.refused(),
         }
-        Ok(())
     }
 
     // Flushes and closes the log that is open, and recovers its device.
-    fn restart(&mut self, out: &mut Answer) -> Outcome<()> {
+    fn restart(&mut self, out: &mut Answer) {
         let Some(opened) = self.opened.take() else {
-            return Ok(out.refused()?);
+            out.refused();
+            return;
         };
         let (config, answer) = opened.restart();
         self.config = Some(config);
         match answer {
             Some(answer) => tables::keep(&mut self.table, answer, out),
-            None => Ok(out.refused()?),
+            None => out.refused(),
         }
     }
 
-    // Recovers the device, by the call for users or by the plain one.
-    fn recover(&mut self, name: &str, out: &mut Answer) -> Outcome<()> {
-        let Some(config) = &mut self.config else {
-            return Ok(out.refused()?);
-        };
-        if name == "recover" {
-            let answer = read_snapshot_or_default(config);
-            return tables::keep(&mut self.table, answer, out);
+    // Recovers the device, by the call for users.
+    fn recover(&mut self, out: &mut Answer) {
+        match &mut self.config {
+            Some(config) => tables::keep(&mut self.table, read_snapshot_or_default(config), out),
+            None => out.refused(),
         }
+    }
+
+    // Recovers the device, by the plain recovery.
+    fn recover_plainly(&mut self, out: &mut Answer) {
+        let Some(config) = &mut self.config else {
+            out.refused();
+            return;
+        };
         match reference_recovery(config) {
             Ok(Some(found)) => tables::keep(&mut self.table, Ok(found), out),
-            Ok(None) => Ok(out.text.push_str("corruption")?),
-            Err(e) => Ok(out.error(&e)?),
+            Ok(None) => out.text.push("corruption"),
+            Err(e) => out.error(&e),
         }
     }
 
@@ -210,10 +198,10 @@ impl World {
     ///
     /// # Errors
     ///
-    /// `Bad` where a log is open or there is no device, and `OutOfMemory`.
-    pub fn run(&mut self, told: Vec<Told>, tally: &mut Tally) -> Outcome<()> {
+    /// The fault of the line, where a log is open or there is no device, or where memory is refused.
+    pub fn run(&mut self, told: Vec<Told>, tally: &mut Tally<'_>) -> Outcome<()> {
         let Some(config) = self.config.take() else {
-            return Err(Fault::Bad("no device to run on"));
+            return Err(Fault("no device to run on"));
         };
         let (config, outcome) = runs::compare(self.alloc, config, told, tally);
         self.config = Some(config);
