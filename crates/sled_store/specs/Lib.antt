@@ -11,6 +11,7 @@ pub mod Memory
 pub mod MemoryNames
 pub mod Moments
 pub mod Noted
+pub mod OwnParts
 pub mod Script
 pub mod Segments
 pub mod SlotTables
