@@ -1,1 +1,3 @@
 pub mod ElementLemmas
+pub mod FoundLemmas
+pub mod ReachedLemmas

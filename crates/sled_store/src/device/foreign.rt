@@ -6,8 +6,12 @@
 ghost use Rattle.std.specs.Prelude.{◌≡◌, ◌↔◌, ◌+◌, ◌*◌, ◌/◌, ◌<◌, ◌≤◌, ℕ, List, length, take, drop, IsTrue, IfOk, IsOkUnless, MatchOption};
 ghost use Rattle.sled_codec.specs.Places.{part};
 ghost use Rattle.sled_store.specs.Foreign.{Covers, IsWhole, HeaderWasPlaced};
-ghost use Rattle.sled_store.specs.OwnParts.{IsCovered, synced_then, Lays};
+ghost use Rattle.sled_store.specs.OwnParts.{IsCovered, synced_then, Lays, FindsRecord};
 
+use sled_codec::result::{Error, Result};
+use sled_codec::serialization::record::is_record;
+use sled_codec::serialization::{Checksum, MessageHeader, SegmentNumber, Serialize};
+use std::alloc::Global;
 use std::marker::Model;
 
 /// A write to the log file, as it was asked: these bytes at this offset.
@@ -102,4 +106,50 @@ fn header_was_placed(writes: &[LogWrite], at: usize, text: &[u8]) -> bool
         }
     }
     false
+}
+
+// The length of the record of a number with which bytes begin, where they do.
+fn record_len<C: Checksum>(
+    alloc: Global,
+    checksum: &C,
+    number: SegmentNumber,
+    bytes: &[u8],
+) -> Result<Option<usize>>
+    ensures found { IfOk result (FindsRecord C.sum_of number.0 bytes.now 0) }
+    ensures err { IsOkUnless result Error.OutOfMemory }
+{
+    let mut rest: &[u8] = bytes;
+    let header = match MessageHeader::deserialize(alloc, &mut rest) {
+        Ok(header) => header,
+        Err(Error::Corruption { at: _ }) => return Ok(None),
+        Err(e) => return Err(e),
+    };
+    let len = header.len as usize;
+    if len > rest.len() {
+        return Ok(None);
+    }
+    let whole = bytes.len() - rest.len() + len;
+    let (kind, page) = (header.kind, header.pid);
+    let is_there = is_record(alloc, checksum, &bytes[..whole], kind, page, number, &rest[..len])?;
+    if is_there {
+        return Ok(Some(whole));
+    }
+    Ok(None)
+}
+
+// The length of the record of a number that begins at an offset of a text, where one does.
+fn record_at<C: Checksum>(
+    alloc: Global,
+    checksum: &C,
+    number: SegmentNumber,
+    text: &[u8],
+    at: usize,
+) -> Result<Option<usize>>
+    ensures found { IfOk result (FindsRecord C.sum_of number.0 text.now at) }
+    ensures err { IsOkUnless result Error.OutOfMemory }
+{
+    if at > text.len() {
+        return Ok(None);
+    }
+    record_len(alloc, checksum, number, &text[at..])
 }
