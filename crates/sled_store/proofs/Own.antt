@@ -1,3 +1,6 @@
+pub mod AnswerLemmas
 pub mod ElementLemmas
 pub mod FoundLemmas
 pub mod ReachedLemmas
+pub mod SlotLemmas
+pub mod WalkLemmas
