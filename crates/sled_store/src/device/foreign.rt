@@ -9,6 +9,8 @@ ghost use Rattle.sled_store.specs.Device.{LogState};
 ghost use Rattle.sled_store.specs.Foreign.{Covers, IsWhole, IsReached, HeaderWasPlaced, RecordWasPlaced, NoForeignLog, first_record};
 ghost use Rattle.sled_store.specs.OwnParts.{IsCovered, synced_then, past_of, Lays, LaysRecord, FindsRecord, IsOwnRecord, IsOwnHeader, AreOwnFrom, IsOwnSlot, IsOwnBegun, FindsHeader, IsNoted};
 
+pub mod names;
+
 use sled_codec::result::{Error, Lsn, Result};
 use sled_codec::serialization::record::is_record;
 use sled_codec::serialization::{Checksum, MessageHeader, SegmentHeader, SegmentNumber, Serialize};
