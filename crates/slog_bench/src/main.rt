@@ -12,6 +12,7 @@ mod functions;
 mod lines;
 mod logs;
 mod noted;
+mod own;
 mod reads;
 mod recovery;
 mod runs;
@@ -31,13 +32,14 @@ use std::process::ExitCode;
 use tally::Tally;
 
 // The files under `data/`, one a kind.
-const FILES: [&str; 6] = [
+const FILES: [&str; 7] = [
     "codecs.txt",
     "segment_headers.txt",
     "words.txt",
     "recovery.txt",
     "plain.txt",
     "calls.txt",
+    "own.txt",
 ];
 
 fn main(rt: HostRuntime) -> ExitCode {
@@ -93,6 +95,7 @@ fn cases(alloc: Global, name: &str, text: &str) -> Outcome<Tally> {
         "recovery.txt" => recovery::run(alloc, text, By::Call, &mut tally)?,
         "plain.txt" => recovery::run(alloc, text, By::Plain, &mut tally)?,
         "calls.txt" => calls::run(alloc, text, &mut tally)?,
+        "own.txt" => own::run(alloc, text, &mut tally)?,
         _ => return Err(Fault::Bad("no such file")),
     }
     tally.end()?;
