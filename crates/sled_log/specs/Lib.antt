@@ -1,4 +1,5 @@
 pub mod Orderly
+pub mod OwnPast
 pub mod Plain
 pub mod Recovery
 pub mod Replaces

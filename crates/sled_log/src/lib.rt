@@ -8,6 +8,7 @@
 pub use sled_codec::{result as result, serialization as serialization};
 
 pub mod laws;
+pub mod own;
 pub mod restart;
 pub mod session;
 pub mod snapshot;

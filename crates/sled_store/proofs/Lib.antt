@@ -1,6 +1,7 @@
 pub mod Crashes
 pub mod LogFile
 pub mod Names
+pub mod Own
 pub mod PublicLaws
 pub mod Segments
 pub mod Traces

@@ -11,6 +11,8 @@ pub mod Memory
 pub mod MemoryNames
 pub mod Moments
 pub mod Noted
+pub mod OwnNames
+pub mod OwnParts
 pub mod Script
 pub mod Segments
 pub mod SlotTables

@@ -12,6 +12,7 @@ mod functions;
 mod lines;
 mod logs;
 mod noted;
+mod own;
 mod reads;
 mod recovery;
 mod runs;
@@ -33,7 +34,7 @@ use tally::Tally;
 use texts::Text;
 
 // The files under `data/`, one a kind.
-const FILES: [&str; 7] = [
+const FILES: [&str; 8] = [
     "codecs.txt",
     "segment_headers.txt",
     "words.txt",
@@ -41,6 +42,7 @@ const FILES: [&str; 7] = [
     "plain.txt",
     "calls.txt",
     "slog.txt",
+    "own.txt",
 ];
 
 fn main(rt: HostRuntime) -> ExitCode {
@@ -112,10 +114,10 @@ fn answer_of(alloc: Global, name: &str, asked: &str) -> Text {
         return out;
     }
     let mut words = Words::new(asked);
-    if name == "words.txt" {
-        words::answer(&mut words, &mut out);
-    } else {
-        segment_headers::answer(alloc, &mut words, &mut out);
+    match name {
+        "words.txt" => words::answer(&mut words, &mut out),
+        "own.txt" => own::answer(alloc, &mut words, &mut out),
+        _ => segment_headers::answer(alloc, &mut words, &mut out),
     }
     if let Err(Fault(why)) = words.end() {
         out.push(why);

@@ -1,5 +1,5 @@
 //! Which bytes are a record of a message. A plain, slow reading of `IsRecord` in `specs/Record.antt`.
-ghost use Rattle.std.specs.Prelude.{◌≡◌, ◌≢◌, ◌↔◌, ◌-◌, ◌≤◌, ◌++◌, length, take, drop, IfOk, IsTrue};
+ghost use Rattle.std.specs.Prelude.{◌≡◌, ◌≢◌, ◌↔◌, ◌-◌, ◌≤◌, ◌++◌, length, take, drop, IfOk, IsTrue, IsOkUnless};
 ghost use Rattle.sled_codec.specs.Record.{IsRecord, Announces};
 ghost use Rattle.sled_codec.specs.Sums.{flipped};
 
@@ -22,7 +22,8 @@ pub fn is_record<C: Checksum>(
     number: SegmentNumber,
     body: &[u8],
 ) -> Result<bool>
-    ensures { IfOk result (λ b. IsTrue b ↔ IsRecord C.sum_of text.now kind page number.0 body.now) }
+    ensures decided { IfOk result (λ b. IsTrue b ↔ IsRecord C.sum_of text.now kind page number.0 body.now) }
+    ensures err { IsOkUnless result Error.OutOfMemory }
 {
     let mut rest: &[u8] = text;
     let header = match MessageHeader::deserialize(alloc, &mut rest) {
@@ -59,7 +60,8 @@ fn announces(
 
 // The sum of two parts, flipped.
 fn flipped_sum<C: Checksum>(alloc: Global, checksum: &C, first: &[u8], second: &[u8]) -> Result<u32>
-    ensures { IfOk result (λ sum. sum ≡ flipped (C.sum_of (first.now ++ second.now))) }
+    ensures sum { IfOk result (λ sum. sum ≡ flipped (C.sum_of (first.now ++ second.now))) }
+    ensures err { IsOkUnless result Error.OutOfMemory }
 {
     let mut summed = Vec::new(alloc);
     summed.extend_from_slice(first)?;

@@ -6,15 +6,16 @@ use Rattle.std.proofs.lemmas.List.{take-append-drop, take-append-le, drop-append
 use Rattle.sled_codec.specs.declared.serialization.message.MessageKind.{MessageKind}
 use Rattle.sled_codec.specs.Places.{part}
 use Rattle.sled_codec.specs.Record.{IsRecord, IsHeader}
-use Rattle.sled_codec.proofs.Records.{one_record}
 use Rattle.sled_store.specs.Device.{LogState, State, Wrote, Synced, Settled, step, content_of, content_left, at_rest}
 use Rattle.sled_store.specs.Foreign.{IsReached, at_first, behind, first_record, Covers, IsWhole, HeaderWasPlaced, RecordWasPlaced, NoForeignLog}
 use Rattle.sled_store.proofs.Crashes.ForeignLemmas.{Knows, LogKnows, before_knows, own_log, own_log_at_rest, take_again}
 use Rattle.sled_store.proofs.Crashes.LeavesLemmas.{write}
+use Rattle.sled_store.specs.OwnParts.{BeginsAt}
+use Rattle.sled_store.proofs.Own.ReachedLemmas.{record_some, begins, same_record, same_len, no_less, first_step, goes_on}
 use Rattle.sled_store.proofs.LogFile.OverwrittenLemmas.{overwritten-end}
 use Rattle.sled_core.specs.Own.{IsReachedToEnd}
 use Rattle.sled_core.specs.Recoverable.{NoForeign}
-use Rattle.sled_core.proofs.Crash.OwnLemmas.{FirstOwn, first_own, own_first, record_some, part_within}
+use Rattle.sled_core.proofs.Crash.OwnLemmas.{FirstOwn, first_own, own_first, part_within}
 use Rattle.sled_core.proofs.Crash.OwnRecords.{begins_inside}
 
 -- Text is appended: what was there reads as before, and the rest as the text.
@@ -32,75 +33,14 @@ module _ (old text : List ℕ) where
       drop_past (suc n) (x ∷ xs) ys le = let same : suc n - length (x ∷ xs) ≡ n - length xs = omega arith in drop_past n xs ys (omega (arith, le)) ∙ ap (λ (k : ℕ). drop k ys) (sym same)
 
 module _ (sum : List ℕ → ℕ) (size number : ℕ) where
-  -- a record of this number begins a text and has this length
-  pub record BeginsAt (text : List ℕ) (at len : ℕ) : Type 0 where
-    pub kind : MessageKind
-    pub page : ℕ
-    pub body : List ℕ
-    pub is : IsRecord sum (part text at len) kind page number body
-    pub some : 0 < len
-    pub inside : at + len ≤ length text
-
-  begins : (text : List ℕ) (at len : ℕ) (kind : MessageKind) (page : ℕ) (body : List ℕ) → at + len ≤ length text → IsRecord sum (part text at len) kind page number body → BeginsAt text at len
-  begins text at len kind page body fits rec =
-      let some = record_some sum (part text at len) kind page number body rec in
-      record { kind = kind; page = page; body = body; is = rec; some = omega (arith, some, length-take len (drop at text)); inside = fits }
-
-  -- records at one offset are one
-  pub same_record : (text : List ℕ) (at len len' : ℕ) (kind : MessageKind) (page : ℕ) (body : List ℕ) (kind' : MessageKind) (page' : ℕ) (body' : List ℕ)
-      → IsRecord sum (part text at len) kind page number body → IsRecord sum (part text at len') kind' page' number body' → part text at len ≡ part text at len'
-  same_record text at len len' kind page body kind' page' body' p q =
-      one_record sum (part text at len) (part text at len') (drop len (drop at text)) (drop len' (drop at text)) kind kind' page page' number number body body' p q
-      (take-append-drop len (drop at text) ∙ sym (take-append-drop len' (drop at text)))
-
-  same_len : (text : List ℕ) (at len len' : ℕ) → BeginsAt text at len → BeginsAt text at len' → len ≡ len'
-  same_len text at len len' a b =
-      let same = ap length (same_record text at len len' a.kind a.page a.body b.kind b.page b.body a.is b.is) in
-      omega (arith, same, a.inside, b.inside, length-take len (drop at text), length-take len' (drop at text), length-drop at text)
-
-  no_less : (text : List ℕ) (first at : ℕ) → IsReached sum size number text first at → first ≤ at
-  no_less text first at at_first = omega arith
-  no_less text first at (behind from len kind page body reached fits rec) = let le = no_less text first from reached in omega (arith, le)
-
-  -- a reader that goes on from an offset finds a record there first
-  first_step : (text : List ℕ) (first at : ℕ) → IsReached sum size number text first at → first < at → (len : ℕ) × BeginsAt text first len × (first + len ≤ at)
-  first_step text first at at_first less = absurd (omega (arith, less))
-  first_step text first at (behind from len kind page body reached fits rec) less = elim (cases_lt first from) [
-    | inl more ↦ (let found = first_step text first from reached more in (found.0, found.1, let le = found.2 in omega (arith, le)))
-    | inr last ↦ (
-        let le = no_less text first from reached in
-        let here : from ≡ first = omega (arith, le, last) in
-        (len, subst (λ n. BeginsAt text n len) here (begins text from len kind page body fits rec), omega (arith, here)))
-  ]
-
-  -- Of two offsets that a reader comes to, it comes from the lower one to the other.
-  goes_on : (fuel : ℕ) (text : List ℕ) (first a b : ℕ) → a + b < fuel → IsReached sum size number text first a → IsReached sum size number text first b → a ≤ b → IsReached sum size number text a b
-  goes_on zero text first a b less ra rb le = absurd (omega (arith, less))
-  goes_on (suc fuel) text first a b less ra at_first le =
-      let low = no_less text first a ra in
-      let here : a ≡ b = omega (arith, low, le) in
-      subst (λ n. IsReached sum size number text a n) here at_first
-  goes_on (suc fuel) text first a b less ra (behind from len kind page body reached fits rec) le =
-      let here = begins text from len kind page body fits rec in
-      let some = here.some in
-      elim (cases_lt from a) [
-        | inl passed ↦ (
-            let found = first_step text from a (goes_on fuel text first from a (omega (arith, less, some)) reached ra (omega (arith, passed))) passed in
-            let step_le = found.2 in
-            let same = same_len text from len found.0 here found.1 in
-            let is : a ≡ from + len = omega (arith, le, step_le, same) in
-            subst (λ n. IsReached sum size number text a n) is at_first)
-        | inr before ↦ behind from len kind page body (goes_on fuel text first a from (omega (arith, less, some)) ra reached (omega (arith, before))) fits rec
-      ]
-
   -- What was read ends where a reader comes to, and more follows.
   module _ (old text : List ℕ) (twenty : 20 ≤ length old) (end : IsReached sum size number old 20 (length old)) where
     abbrev new : List ℕ
     new = old ++ text
 
     -- below the end a reader comes to what it came to before
-    pub old_record : (at : ℕ) → IsReached sum size number old 20 at → at < length old → (len : ℕ) × BeginsAt old at len × (at + len ≤ length old)
-    old_record at reached below = first_step old at (length old) (goes_on (suc (at + length old)) old 20 at (length old) (omega arith) reached end (omega (arith, below))) below
+    pub old_record : (at : ℕ) → IsReached sum size number old 20 at → at < length old → (len : ℕ) × BeginsAt sum number old at len × (at + len ≤ length old)
+    old_record at reached below = first_step sum size number old at (length old) (goes_on sum size number (suc (at + length old)) old 20 at (length old) (omega arith) reached end (omega (arith, below))) below
 
     -- from there on to what a reader of the text comes to
     abbrev Splits : ℕ → Type 0
@@ -122,7 +62,7 @@ module _ (sum : List ℕ → ℕ) (size number : ℕ) where
           let inside : from + len' ≤ length old = found.2 in
           let old_is : IsRecord sum (part new from len') there.kind there.page number there.body = subst (λ (l : List ℕ). IsRecord sum l there.kind there.page number there.body) (sym (in_old old text from len' inside)) there.is in
           let longer : from + len' ≤ length new = omega (arith, inside, length-append old text) in
-          let same : len ≡ len' = same_len new from len len' (begins new from len kind page body fits rec) (begins new from len' there.kind there.page there.body longer old_is) in
+          let same : len ≡ len' = same_len sum size number new from len len' (begins sum size number new from len kind page body fits rec) (begins sum size number new from len' there.kind there.page there.body longer old_is) in
           split (from + len) (subst (λ n. IsReached sum size number old 20 (from + n)) (sym same) (behind from len' there.kind there.page there.body before inside there.is)) (omega (arith, same, inside)))
       | inr (after, past) ↦ (
           let there : from - length old + len ≡ from + len - length old = omega (arith, past) in

@@ -13,9 +13,9 @@ use Rattle.sled_codec.proofs.Segments.{length-short_header}
 use Rattle.sled_store.specs.Device.{State, LogState, Wrote, Synced, Settled, fresh, step, state_of, content_of, content_left, overwritten, names_at_rest}
 use Rattle.sled_store.specs.Foreign.{IsReached, first_record, Covers, IsWhole, HeaderWasPlaced, RecordWasPlaced, NoForeignLog, NoForeignNames}
 use Rattle.sled_store.proofs.Crashes.ForeignLemmas.{take_again, own_log_at_rest}
+use Rattle.sled_store.proofs.Own.ReachedLemmas.{record_some}
 use Rattle.sled_store.proofs.LogFile.OverwrittenLemmas.{overwritten-end}
 use Rattle.sled_core.specs.Recoverable.{NoForeign, NoHeaderOfZeros}
-use Rattle.sled_core.proofs.Read.ReadingLemmas.{header_some}
 
 -- Zeros pass as no header, where the sum of sixteen of them isn't all ones.
 pub zeros_no_header : (sum : List ℕ → ℕ) → sum (replicate 16 0) < 2 ^ 32 - 1 → NoHeaderOfZeros sum
@@ -38,10 +38,6 @@ zeros_by_place = zeros_no_header place_sum (omega arith)
 -- where there are no names, nothing is under one
 pub no_names_own : (passes : List ℕ → Type 0) → NoForeignNames passes (names_at_rest (λ _. None)) (λ _. None)
 no_names_own passes = record { own = λ n bytes there is. cc }
-
--- a record is no shorter than the shortest header of one
-pub record_some : (sum : List ℕ → ℕ) (text : List ℕ) (kind : MessageKind) (page number : ℕ) (body : List ℕ) → IsRecord sum text kind page number body → 8 ≤ length text
-record_some sum text kind page number body r = let some = header_some r.header _ r.spelled in omega (arith, some, ap length r.is, length-append r.header body)
 
 -- The header of the first slot is the log's own, and so is each record of its number that a reader comes to.
 pub record FirstOwn (sum : List ℕ → ℕ) (size : ℕ) (past : LogState) (placed : List (ℕ × List ℕ)) (log : List ℕ) : Type 0 where

@@ -12,11 +12,12 @@ use Rattle.sled_codec.proofs.Records.{one_record}
 use Rattle.sled_store.specs.Device.{State, state_of, content_of, overwritten}
 use Rattle.sled_store.specs.Foreign.{IsReached, at_first, behind, first_record, Covers, IsWhole, HeaderWasPlaced, RecordWasPlaced}
 use Rattle.sled_store.proofs.LogFile.LooseLemmas.{end_of-some}
+use Rattle.sled_store.proofs.Own.ReachedLemmas.{record_some}
 use Rattle.sled_store.proofs.LogFile.OverwrittenLemmas.{length-overwritten, overwritten-end, overwritten-part}
 use Rattle.sled_core.specs.Own.{IsSomeRecord, written_out_of_order}
 use Rattle.sled_core.specs.Recoverable.{NoForeign, NoHeaderOfZeros}
 use Rattle.sled_core.proofs.Flush.LogFileLemmas.{part_kept}
-use Rattle.sled_core.proofs.Crash.OwnLemmas.{no_names_own, record_some, first_own, first_of_slot}
+use Rattle.sled_core.proofs.Crash.OwnLemmas.{no_names_own, first_own, first_of_slot}
 
 -- where a record stands no other one does
 one_there : (sum : List ℕ → ℕ) (log : List ℕ) (at len : ℕ) (r : List ℕ) (kind : MessageKind) (page number : ℕ) (body : List ℕ) → part log at (length r) ≡ r → IsSomeRecord sum r → IsRecord sum (part log at len) kind page number body

@@ -1,0 +1,150 @@
+//! What the log wrote itself: what a crash left, and whether nothing in it is foreign. A line is
+//! `SIZE PART WORD .. PART WORD .. -> own` or `-> foreign` (`data/README.md`).
+
+use crate::lines::{Words, bytes, number, signed};
+use crate::texts::Text;
+use sled_log::device::PlaceSum;
+use sled_log::own::{LeftFiles, Past, nothing_is_foreign};
+use sled_store::device::foreign::names::{NamedFile, NamesPast};
+use sled_store::device::foreign::{LogPast, LogWrite};
+use std::alloc::Global;
+
+/// Writes what came of a line.
+pub fn answer(alloc: Global, words: &mut Words<'_>, out: &mut Text) {
+    let size = words.number();
+    let mut case = Case::new(alloc);
+    case.read(alloc, words);
+    if size == 0 {
+        words.bad("a segment has bytes");
+        return;
+    }
+    match nothing_is_foreign(alloc, &PlaceSum, size, &case.past, &case.left) {
+        Ok(is_own) => out.push(if is_own { "own" } else { "foreign" }),
+        Err(_) => out.push("out of memory"),
+    }
+}
+
+// What a line tells of a device, and of what a crash left.
+#[derive(Drop)]
+struct Case {
+    past: Past,
+    left: LeftFiles,
+}
+
+impl Case {
+    // Nothing.
+    fn new(alloc: Global) -> Case {
+        Case {
+            past: Past {
+                log: LogPast {
+                    settled: Vec::new(alloc),
+                    since: Vec::new(alloc),
+                    ever: Vec::new(alloc),
+                },
+                blobs: no_names(alloc),
+                snapshots: no_names(alloc),
+            },
+            left: LeftFiles {
+                log: Vec::new(alloc),
+                blobs: Vec::new(alloc),
+                snapshots: Vec::new(alloc),
+            },
+        }
+    }
+
+    // Reads the parts of a line: a name, and then a word each.
+    fn read(&mut self, alloc: Global, words: &mut Words<'_>) {
+        let mut part = "";
+        for _ in 0..u64::MAX {
+            let Some(word) = words.next_word() else {
+                break;
+            };
+            if is_part(word) {
+                part = word;
+            } else if !self.add(alloc, part, word) {
+                words.bad("no such part or word");
+            }
+        }
+    }
+
+    // Adds a word to a part of the log file; whether it was taken.
+    fn add(&mut self, alloc: Global, part: &str, word: &str) -> bool {
+        match part {
+            "settled" => put(&mut self.past.log.settled, bytes(alloc, word)),
+            "left" => put(&mut self.left.log, bytes(alloc, word)),
+            "before" => push_write(&mut self.past.log.ever, write(alloc, word)),
+            "since" => {
+                push_write(&mut self.past.log.since, write(alloc, word))
+                    && push_write(&mut self.past.log.ever, write(alloc, word))
+            }
+            _ => self.add_file(part, file(alloc, word)),
+        }
+    }
+
+    // Adds a file to a part of those under names; whether it was taken.
+    fn add_file(&mut self, part: &str, file: Option<NamedFile>) -> bool {
+        match part {
+            "blobs_settled" => push_file(&mut self.past.blobs.settled, file),
+            "blobs_asked" => push_file(&mut self.past.blobs.asked, file),
+            "blobs_left" => push_file(&mut self.left.blobs, file),
+            "snapshots_settled" => push_file(&mut self.past.snapshots.settled, file),
+            "snapshots_asked" => push_file(&mut self.past.snapshots.asked, file),
+            "snapshots_left" => push_file(&mut self.left.snapshots, file),
+            _ => false,
+        }
+    }
+}
+
+// No files.
+fn no_names(alloc: Global) -> NamesPast {
+    NamesPast {
+        settled: Vec::new(alloc),
+        asked: Vec::new(alloc),
+    }
+}
+
+// Puts bytes in the place of others, where there are some.
+fn put(to: &mut Vec<u8>, bytes: Option<Vec<u8>>) -> bool {
+    match bytes {
+        Some(bytes) => {
+            *to = bytes;
+            true
+        }
+        None => false,
+    }
+}
+
+// Adds a write, where there is one.
+fn push_write(to: &mut Vec<LogWrite>, write: Option<LogWrite>) -> bool {
+    match write {
+        Some(write) => to.push(write).is_ok(),
+        None => false,
+    }
+}
+
+// Adds a file, where there is one.
+fn push_file(to: &mut Vec<NamedFile>, file: Option<NamedFile>) -> bool {
+    match file {
+        Some(file) => to.push(file).is_ok(),
+        None => false,
+    }
+}
+
+// Whether a word names a part of a line.
+fn is_part(word: &str) -> bool {
+    word.starts_with("blobs_")
+        || word.starts_with("snapshots_")
+        || matches!(word, "settled" | "left" | "before" | "since")
+}
+
+// A write: `OFFSET:HEX`.
+fn write(alloc: Global, word: &str) -> Option<LogWrite> {
+    let (at, text) = word.split_once(':')?;
+    Some(LogWrite::new(number(at)?, bytes(alloc, text)?))
+}
+
+// A file under a name: `NAME:HEX`.
+fn file(alloc: Global, word: &str) -> Option<NamedFile> {
+    let (name, text) = word.split_once(':')?;
+    Some(NamedFile::new(signed(name)?, bytes(alloc, text)?))
+}
