@@ -1,5 +1,5 @@
 //! Whether only what the log itself wrote passes as its own in what a crash left: a plain, slow reading of
-//! `NoForeign`, the premise of what is proved of recovery (`docs/DEFINITIONS.md`, "What is the log's own").
+//! `NoForeign`, the premise of what is proved of recovery (`docs/DEFINITIONS.md`, "NoForeign").
 //!
 //! A device keeps its past in its proof alone. So a test that chooses its crashes by this notes the past itself, as
 //! lists of writes and of files.

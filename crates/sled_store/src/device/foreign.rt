@@ -408,7 +408,7 @@ fn slots_are_own<C: Checksum>(
 
 /// Returns whether nothing is foreign in the bytes that a crash left of a log file with segments of this size: each
 /// header of a slot, and each record of its number that a reader comes to, was placed there by the log and stands
-/// whole in what was synced or in a write since (`docs/DEFINITIONS.md`, "What is the log's own").
+/// whole in what was synced or in a write since (`docs/DEFINITIONS.md`, "NoForeign").
 ///
 /// It reads the file once for each write, so it is for small files, in tests.
 ///
