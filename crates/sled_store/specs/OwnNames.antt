@@ -11,4 +11,6 @@ pub record AreNoted (noted : NamesPast) (past : NamesState) : Type 0 where
 
 -- a file of those that were left was written under its name, where it stands there and passes
 abbrev pub IsOwnFile : (List ℕ → Type 0) → NamesPast → List (ℤ × List ℕ) → ℤ × List ℕ → Type 0
-IsOwnFile passes noted left file = file_named left file.0 ≡ Some file.1 → passes file.1 → (file_named noted.settled.items file.0 ≡ Some file.1) ⊎ Contains noted.asked.items file
+IsOwnFile passes noted left file =
+    file_named left file.0 ≡ Some file.1 → passes file.1
+    → (file_named noted.settled.items file.0 ≡ Some file.1) ⊎ Contains noted.asked.items file

@@ -423,7 +423,8 @@ pub fn is_log_own<C: Checksum>(
     left: &[u8],
 ) -> Result<bool>
     requires { 0 < size }
-    ensures own { IfOk result (λ b. (s : LogState) (placed : List (ℕ × List ℕ)) → IsNoted past.now s placed → IsTrue b ↔ NoForeignLog C.sum_of size s placed left.now) }
+    ensures own { IfOk result (λ b. (s : LogState) (placed : List (ℕ × List ℕ)) → IsNoted past.now s placed
+        → IsTrue b ↔ NoForeignLog C.sum_of size s placed left.now) }
     ensures err { IsOkUnless result Error.OutOfMemory }
 {
     slots_are_own(alloc, checksum, size as usize, past, left)
