@@ -1,5 +1,5 @@
 -- What a slow test of files under names is made of, by which a test tells whether those that pass were written under their names.
-use Rattle.std.specs.Prelude.{◌≡◌, ◌⊎◌, ◌↔◌, ℕ, ℤ, List, Option, Some}
+use Rattle.std.specs.Prelude.{◌≡◌, ◌⊎◌, ◌↔◌, ℕ, ℤ, List, Some}
 use Rattle.std.specs.List.{Contains}
 use Rattle.sled_store.specs.declared.device.foreign.names.NamesPast.{NamesPast}
 use Rattle.sled_store.specs.Device.{NamesState, settled_files, file_named}
