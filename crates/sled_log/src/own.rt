@@ -4,7 +4,6 @@
 //! A device keeps its past in its proof alone. So a test that chooses its crashes by this notes the past itself, as
 //! lists of writes and of files.
 ghost use Rattle.std.specs.Prelude.{◌≡◌, ◌↔◌, ◌<◌, ℕ, List, IsTrue, IfOk, IfSome, IfNone, IsOkUnless};
-ghost use Rattle.sled_codec.specs.declared.serialization.message.MessageKind.{MessageKind};
 ghost use Rattle.sled_store.specs.Blobs.{blob_bytes, IsDamagedBlob};
 ghost use Rattle.sled_store.specs.Device.{State};
 ghost use Rattle.sled_core.specs.Recoverable.{NoForeign, NoHeaderOfZeros};

@@ -1,5 +1,5 @@
 -- What a slow test of files under names is made of, by which a test tells whether those that pass were written under their names.
-use Rattle.std.specs.Prelude.{◌≡◌, ◌⊎◌, ◌↔◌, ℕ, ℤ, List, Option, Some}
+use Rattle.std.specs.Prelude.{◌≡◌, ◌⊎◌, ◌↔◌, ℕ, ℤ, List, Some}
 use Rattle.std.specs.List.{Contains}
 use Rattle.sled_store.specs.declared.device.foreign.names.NamesPast.{NamesPast}
 use Rattle.sled_store.specs.Device.{NamesState, settled_files, file_named}
@@ -11,4 +11,6 @@ pub record AreNoted (noted : NamesPast) (past : NamesState) : Type 0 where
 
 -- a file of those that were left was written under its name, where it stands there and passes
 abbrev pub IsOwnFile : (List ℕ → Type 0) → NamesPast → List (ℤ × List ℕ) → ℤ × List ℕ → Type 0
-IsOwnFile passes noted left file = file_named left file.0 ≡ Some file.1 → passes file.1 → (file_named noted.settled.items file.0 ≡ Some file.1) ⊎ Contains noted.asked.items file
+IsOwnFile passes noted left file =
+    file_named left file.0 ≡ Some file.1 → passes file.1
+    → (file_named noted.settled.items file.0 ≡ Some file.1) ⊎ Contains noted.asked.items file

@@ -61,13 +61,14 @@ module _ (sum : List ℕ → ℕ) (size : ℕ) where
 
     -- a text begins at an offset of the file, and each record of a number in it is the log's own that a reader comes to from an offset of the text
     abbrev pub AreOwnFrom : ℕ → ℕ → List ℕ → ℕ → Type 0
-    AreOwnFrom number begin text from = (at len : ℕ) (kind : MessageKind) (page : ℕ) (body : List ℕ) → IsReached sum size number text from at → IsRecord sum (part text at len) kind page number body
-        → IsOwnRecord number (begin + at) (part text at len)
+    AreOwnFrom number begin text from = (at len : ℕ) (kind : MessageKind) (page : ℕ) (body : List ℕ)
+        → IsReached sum size number text from at → IsRecord sum (part text at len) kind page number body → IsOwnRecord number (begin + at) (part text at len)
 
     -- where a slot begins with a header, that header is the log's own, and each record of its number that a reader comes to
     pub record IsOwnSlot (log : List ℕ) (slot : ℕ) : Type 0 where
       pub header : (lsn mark : ℤ) → IsHeader sum (part log (slot * size) 20) lsn mark → IsOwnHeader past placed (slot * size) (part log (slot * size) 20)
-      pub records : (lsn : ℕ) (mark : ℤ) → IsHeader sum (part log (slot * size) 20) (pos lsn) mark → AreOwnFrom (lsn / size) (slot * size) (part log (slot * size) size) 20
+      pub records : (lsn : ℕ) (mark : ℤ) → IsHeader sum (part log (slot * size) 20) (pos lsn) mark
+          → AreOwnFrom (lsn / size) (slot * size) (part log (slot * size) size) 20
 
     -- a slot whose header has a place is the log's own; the rest of the file from the slot on is given
     pub record IsOwnBegun (begin : ℕ) (rest : List ℕ) (place : ℤ) : Type 0 where

@@ -2,7 +2,7 @@
 use Rattle.std.proofs.Common.{◌≡◌, ◌⊎◌, ◌≤◌, ◌<◌, ◌+◌, ◌-◌, ◌/◌, ◌∙◌, ℕ, zero, suc, ℤ, pos, List, [], ◌∷◌, ◌++◌, length, take, drop, refl, sym, ap, subst, arith, inl, inr, length-append, length-take, length-drop}
 use Rattle.std.specs.List.{Contains}
 use Rattle.std.proofs.lemmas.Bool.{cases_lt}
-use Rattle.std.proofs.lemmas.List.{take-append-drop, take-append-le, drop-append-le}
+use Rattle.std.proofs.lemmas.List.{take-append-le, drop-append-le}
 use Rattle.sled_codec.specs.declared.serialization.message.MessageKind.{MessageKind}
 use Rattle.sled_codec.specs.Places.{part}
 use Rattle.sled_codec.specs.Record.{IsRecord, IsHeader}
@@ -11,7 +11,7 @@ use Rattle.sled_store.specs.Foreign.{IsReached, at_first, behind, first_record, 
 use Rattle.sled_store.proofs.Crashes.ForeignLemmas.{Knows, LogKnows, before_knows, own_log, own_log_at_rest, take_again}
 use Rattle.sled_store.proofs.Crashes.LeavesLemmas.{write}
 use Rattle.sled_store.specs.OwnParts.{BeginsAt}
-use Rattle.sled_store.proofs.Own.ReachedLemmas.{record_some, begins, same_record, same_len, no_less, first_step, goes_on}
+use Rattle.sled_store.proofs.Own.ReachedLemmas.{record_some, begins, same_record, same_len, first_step, goes_on}
 use Rattle.sled_store.proofs.LogFile.OverwrittenLemmas.{overwritten-end}
 use Rattle.sled_core.specs.Own.{IsReachedToEnd}
 use Rattle.sled_core.specs.Recoverable.{NoForeign}

@@ -1,5 +1,5 @@
 -- Nothing is foreign on an empty device, nor in what is read after the first write; and a sync or a crash makes nothing foreign.
-use Rattle.std.proofs.Common.{◌≡◌, ◌≤◌, ◌<◌, ◌+◌, ◌-◌, ◌*◌, ◌/◌, ◌^◌, ◌∙◌, ℕ, zero, suc, ℤ, pos, nat_lt, if◌then◌else◌, List, [], ◌∷◌, ◌++◌, length, take, drop, replicate, None, refl, sym, ap, subst, arith, inr, length-append, length-take, length-drop}
+use Rattle.std.proofs.Common.{◌≡◌, ◌≤◌, ◌<◌, ◌+◌, ◌-◌, ◌*◌, ◌/◌, ◌^◌, ◌∙◌, ℕ, zero, suc, ℤ, pos, nat_lt, if◌then◌else◌, List, [], ◌∷◌, ◌++◌, length, take, drop, replicate, None, refl, sym, ap, subst, arith, inr, length-take, length-drop}
 use Rattle.std.specs.List.{Contains}
 use Rattle.std.proofs.Math.Nat.{zero-mod}
 use Rattle.sled_codec.specs.declared.serialization.message.MessageKind.{MessageKind}

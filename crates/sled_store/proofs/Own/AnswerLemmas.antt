@@ -1,5 +1,5 @@
 -- What a test has answered of one fact is what it answers of another.
-use Rattle.std.proofs.Common.{◌≡◌, ◌↔◌, ◌-◌, ℕ, List, Bool, true, IsTrue, Result, Ok, Err, sym, subst}
+use Rattle.std.proofs.Common.{◌≡◌, ◌↔◌, ◌-◌, ℕ, List, Bool, IsTrue, Result, Ok, Err, sym, subst}
 use Rattle.std.specs.Result.{IfOk}
 use Rattle.sled_store.specs.declared.device.foreign.LogPast.{LogPast}
 use Rattle.sled_store.specs.Device.{LogState}

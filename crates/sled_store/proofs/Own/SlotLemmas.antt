@@ -1,13 +1,12 @@
 -- Nothing is foreign in a log file just where each of its slots is the log's own.
-use Rattle.std.proofs.Common.{◌≡◌, ◌↔◌, ◌≤◌, ◌<◌, ◌+◌, ◌-◌, ◌*◌, ◌/◌, ◌∙◌, ℕ, ℤ, pos, List, length, take, drop, refl, sym, ap, subst, arith, length-take, length-drop}
+use Rattle.std.proofs.Common.{◌≡◌, ◌≤◌, ◌<◌, ◌+◌, ◌-◌, ◌*◌, ◌/◌, ◌∙◌, ℕ, ℤ, pos, List, length, take, drop, sym, ap, subst, arith, length-take, length-drop}
 use Rattle.std.proofs.lemmas.List.{drop-take, drop-drop, take-take}
 use Rattle.std.proofs.Math.Nat.{lt-div-mul-add, mul-le-mul_right}
-use Rattle.sled_codec.specs.declared.serialization.message.MessageKind.{MessageKind}
 use Rattle.sled_codec.specs.Places.{part}
 use Rattle.sled_codec.specs.Record.{IsRecord, IsHeader}
 use Rattle.sled_codec.proofs.Segments.{one_header, length-short_header}
 use Rattle.sled_store.specs.Device.{LogState}
-use Rattle.sled_store.specs.Foreign.{IsReached, NoForeignLog}
+use Rattle.sled_store.specs.Foreign.{NoForeignLog}
 use Rattle.sled_store.specs.OwnParts.{IsOwnRecord, AreOwnFrom, IsOwnHeader, IsOwnSlot, IsOwnBegun}
 use Rattle.sled_store.proofs.Crashes.ForeignLemmas.{take_again}
 use Rattle.sled_store.proofs.Own.ReachedLemmas.{record_some}

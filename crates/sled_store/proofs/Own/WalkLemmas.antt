@@ -1,7 +1,6 @@
 -- A walk along the records of one number comes to just the offsets that a reader comes to, and tries each record once.
-use Rattle.std.proofs.Common.{◌≡◌, ◌⊎◌, ◌≤◌, ◌<◌, ◌+◌, ◌-◌, ◌∙◌, ℕ, suc, List, length, take, drop, refl, sym, ap, subst, arith, inl, inr, length-take, length-drop}
+use Rattle.std.proofs.Common.{◌≡◌, ◌<◌, ◌+◌, ℕ, suc, List, length, drop, sym, subst, arith, inl, inr, length-take, length-drop}
 use Rattle.std.proofs.lemmas.Bool.{cases_lt}
-use Rattle.std.proofs.lemmas.List.{take_all}
 use Rattle.sled_codec.specs.declared.serialization.message.MessageKind.{MessageKind}
 use Rattle.sled_codec.specs.Places.{part}
 use Rattle.sled_codec.specs.Record.{IsRecord}

@@ -3,7 +3,7 @@
 //!
 //! A device keeps its past in its proof alone, so a test that chooses its crashes by this notes it: the bytes at the
 //! last sync, and each write as it was asked.
-ghost use Rattle.std.specs.Prelude.{◌≡◌, ◌↔◌, ◌+◌, ◌*◌, ◌/◌, ◌^◌, ◌<◌, ◌≤◌, ℕ, pos, List, length, take, drop, IsTrue, IfOk, IfSome, IfNone, IsOkUnless};
+ghost use Rattle.std.specs.Prelude.{◌≡◌, ◌↔◌, ◌+◌, ◌*◌, ◌/◌, ◌^◌, ◌<◌, ◌≤◌, ℕ, pos, List, length, IsTrue, IfOk, IfSome, IfNone, IsOkUnless};
 ghost use Rattle.sled_codec.specs.Places.{part};
 ghost use Rattle.sled_store.specs.Device.{LogState};
 ghost use Rattle.sled_store.specs.Foreign.{Covers, IsWhole, IsReached, HeaderWasPlaced, RecordWasPlaced, NoForeignLog, first_record};

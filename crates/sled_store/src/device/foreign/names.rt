@@ -1,6 +1,6 @@
 //! Whether only files that were written under their names pass in what a crash left: a plain, slow reading of
 //! `NoForeignNames` in `specs/Foreign.antt`, for blobs and for snapshots.
-ghost use Rattle.std.specs.Prelude.{◌≡◌, ◌↔◌, ℕ, ℤ, List, IsTrue, IfOk, IsOkUnless, Some, Option, Contains};
+ghost use Rattle.std.specs.Prelude.{◌≡◌, ◌↔◌, ℕ, ℤ, List, IsTrue, IfOk, IsOkUnless, Some, Contains};
 ghost use Rattle.sled_store.specs.Device.{NamesState, file_named};
 ghost use Rattle.sled_store.specs.Foreign.{NoForeignNames};
 ghost use Rattle.sled_store.specs.OwnNames.{IsOwnFile, AreNoted};

@@ -1,5 +1,5 @@
 -- The header is the log's own, and the walk tells the rest.
-use Rattle.std.proofs.Common.{◌≡◌, ◌↔◌, ◌/◌, ◌∙◌, ℕ, ℤ, pos, IsTrue, List, length, take, min, sym, ap, subst, rules}
+use Rattle.std.proofs.Common.{◌≡◌, ◌↔◌, ◌/◌, ◌∙◌, ℕ, pos, IsTrue, List, take, sym, ap, subst}
 use Rattle.std.specs.Int.{w64}
 use Rattle.std.specs.Result.{IfOk}
 use Rattle.std.proofs.lemmas.Int.{to_z-of_z}

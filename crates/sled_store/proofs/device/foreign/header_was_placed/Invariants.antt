@@ -1,6 +1,5 @@
 -- So far: no write did.
 use Rattle.std.proofs.Common.{ℕ, List}
-use Rattle.sled_store.specs.Foreign.{Covers}
 use Rattle.sled_store.specs.OwnParts.{Lays}
 use Rattle.sled_store.proofs.Own.ElementLemmas.{NoneBelow}
 use Rattle.sled_store.proofs.device.foreign.header_was_placed.Given as goal

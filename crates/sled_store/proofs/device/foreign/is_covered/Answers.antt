@@ -1,8 +1,7 @@
 -- One more write did not, or this one did.
-use Rattle.std.proofs.Common.{◌≡◌, ◌<◌, ◌≤◌, ℕ, List, length, arith, rules}
-use Rattle.sled_store.specs.Foreign.{Covers, HeaderWasPlaced}
-use Rattle.sled_store.specs.OwnParts.{Lays}
-use Rattle.sled_store.proofs.Own.ElementLemmas.{NoneBelow, none_more, none_of_all}
+use Rattle.std.proofs.Common.{ℕ, List}
+use Rattle.sled_store.specs.Foreign.{Covers}
+use Rattle.sled_store.proofs.Own.ElementLemmas.{none_more, none_of_all}
 use Rattle.sled_store.proofs.device.foreign.is_covered.Goals as goal
 
 pub loop-write-preserved : goal.loop-write-preserved

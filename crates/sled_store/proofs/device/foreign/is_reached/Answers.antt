@@ -1,5 +1,5 @@
 -- A reader comes behind each record that begins where it is, and nowhere else.
-use Rattle.std.proofs.Common.{◌≡◌, ℕ, List, subst, arith}
+use Rattle.std.proofs.Common.{ℕ, subst, arith}
 use Rattle.std.proofs.lemmas.Bool.Decides.{Decides-eqb}
 use Rattle.sled_store.specs.Foreign.{IsReached, at_first}
 use Rattle.sled_store.proofs.Own.ReachedLemmas.{no_less}

@@ -1,6 +1,5 @@
 -- Where bytes begin with a record of this number, the header at their front announces it.
-use Rattle.std.proofs.Common.{◌≡◌, ◌∙◌, ◌++◌, ℕ, List, drop, length, take, refl, sym, ap, arith}
-use Rattle.sled_store.specs.OwnParts.{BeginsAt}
+use Rattle.std.proofs.Common.{◌++◌, drop, arith}
 use Rattle.sled_store.proofs.Own.FoundLemmas.{header_in_front, body_inside, record_there, found_there}
 use Rattle.sled_store.proofs.device.foreign.record_len.Goals as goal
 

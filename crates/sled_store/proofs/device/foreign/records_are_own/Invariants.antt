@@ -1,5 +1,5 @@
 -- So far: a reader came here, and all records are the log's own where those from here on are.
-use Rattle.std.proofs.Common.{ℕ, length, ◌-◌}
+use Rattle.std.proofs.Common.{length, ◌-◌}
 use Rattle.sled_store.specs.Foreign.{IsReached}
 use Rattle.sled_store.specs.OwnParts.{AreOwnFrom, past_of}
 use Rattle.sled_store.proofs.device.foreign.records_are_own.Given as goal

@@ -1,5 +1,5 @@
 -- A slot without a header is the log's own, and one with a header is by that.
-use Rattle.std.proofs.Common.{◌≡◌, ◌↔◌, ◌-◌, ◌*◌, ℕ, ℤ, IsTrue, List, length, take, drop, sym, subst, rules}
+use Rattle.std.proofs.Common.{◌↔◌, ◌-◌, ◌*◌, ℕ, ℤ, IsTrue, List, length, take, drop, sym, subst, rules}
 use Rattle.std.specs.Int.{w64}
 use Rattle.std.specs.Result.{IfOk}
 use Rattle.std.proofs.lemmas.Int.{to_z-of_z}

@@ -1,5 +1,5 @@
 -- Each slot with room for a header is tried, and the others have none.
-use Rattle.std.proofs.Common.{◌≡◌, ◌<◌, ◌+◌, ◌-◌, ◌*◌, ◌/◌, ℕ, List, length, arith, inl, inr, below_more, rules}
+use Rattle.std.proofs.Common.{ℕ, length, arith, inl, inr, below_more, rules}
 use Rattle.std.proofs.lemmas.Bool.{cases_lt}
 use Rattle.sled_store.specs.OwnParts.{IsOwnSlot, past_of}
 use Rattle.sled_store.proofs.Own.SlotLemmas.{own_short, own_file, slots_own, slot_beyond}

@@ -1,5 +1,5 @@
 -- Each file that was left is tried.
-use Rattle.std.proofs.Common.{◌≡◌, ◌<◌, ◌≤◌, ℕ, ℤ, List, length, arith, rules}
+use Rattle.std.proofs.Common.{◌<◌, ℕ, length, arith, rules}
 use Rattle.sled_store.proofs.Own.NameLemmas.{own_names, names_own}
 use Rattle.sled_store.proofs.device.foreign.names.are_names_own.Goals as goal
 
