@@ -1,3 +1,4 @@
+pub mod Accounts
 pub mod Answers
 pub mod Begin
 pub mod Blobs
@@ -14,6 +15,7 @@ pub mod Noted
 pub mod OwnNames
 pub mod OwnParts
 pub mod Script
+pub mod SegmentStates
 pub mod Segments
 pub mod SlotTables
 pub mod SnapshotFiles
