@@ -20,6 +20,7 @@ use sled_store::blob_io::{gc_blobs, read_blob, remove_blob, write_blob};
 use sled_store::device::laws as device_laws;
 use sled_store::header::{bump_offset, incr_writers, n_writers, offset};
 use sled_store::laws as store_laws;
+use sled_store::segment::accountant::{CacheInfo, SegmentAccountant};
 use slog_lines::run_lines;
 use std::alloc::{AllocError, Global};
 use std::io::{self, BufRead, ErrorKind, Read, Write};
@@ -58,6 +59,7 @@ pub fn run(alloc: Global, tally: &mut Tally<'_>) {
     holds(tally, 15, "a reader that fails", ends_with_reader(alloc));
     holds(tally, 16, "a writer that fails", ends_with_writer(alloc));
     holds(tally, 17, "replies are flushed", flushes_replies(alloc));
+    holds(tally, 18, "slots are handed out", known(hands_out(alloc)));
 }
 
 // The laws of histories, devices and logs, each called at one type.
@@ -290,6 +292,32 @@ fn collects_blobs(alloc: Global) -> Result<bool> {
     }
     gc_blobs(&mut config, 36)?;
     Ok(config.device.blobs()?.as_slice() == [20].as_slice())
+}
+
+// Segments 0 and 256 get slots 0 and 1. A message of segment 0 may be marked in slot 0 and not in slot 1, and nothing is to be
+// written again yet.
+fn hands_out(alloc: Global) -> Result<bool> {
+    let mut config = empty(alloc)?;
+    let mut accountant = SegmentAccountant::fresh(&config);
+    let slots = (
+        accountant.next(&mut config, 0)?,
+        accountant.next(&mut config, 256)?,
+    );
+    let (here, elsewhere) = (record_at(20, 20), record_at(20, 276));
+    let is_marked = accountant.can_mark(here, &[]) && !accountant.can_mark(elsewhere, &[]);
+    if is_marked {
+        accountant.mark_link(&mut config, 0, here)?;
+    }
+    Ok(is_marked && slots == (0, 256) && accountant.clean_pop().is_none())
+}
+
+// A record of 10 bytes, as the accountant knows it.
+fn record_at(lsn: i64, lid: u64) -> CacheInfo {
+    CacheInfo {
+        lsn,
+        pointer: DiskPtr::Inline(lid),
+        log_size: 10,
+    }
 }
 
 // A write that no memory holds.
