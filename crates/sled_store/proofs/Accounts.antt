@@ -3,5 +3,7 @@ pub mod ChangeLemmas
 pub mod CleanerLemmas
 pub mod HandLemmas
 pub mod IndexLemmas
+pub mod MoveLemmas
+pub mod OldLemmas
 pub mod SortedLemmas
 pub mod WithLemmas

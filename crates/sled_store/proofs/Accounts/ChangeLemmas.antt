@@ -2,7 +2,7 @@
 use Rattle.std.proofs.Common.{◌≡◌, ◌≢◌, ◌∙◌, ◌<◌, ◌^◌, ◌&&◌, ℕ, true, false, if◌then◌else◌, List, length, get_or, set, take, None, refl, sym, ap, subst, inl, inr, arith, length-set, get_or-set_same, get_or-set_other, get_or-take}
 use Rattle.sled_store.specs.declared.segment.slot.State.{State}
 use Rattle.sled_store.specs.declared.segment.slot.State.TheVariants.{Free, Active, Inactive, Draining}
-use Rattle.sled_store.specs.SegmentStates.{SlotState, free_among, is_free, is_active, is_inactive, is_draining, same_pages, active_place, waited_place, free_slot}
+use Rattle.sled_store.specs.SegmentStates.{SlotState, free_among, waiting_among, is_free, is_active, is_inactive, is_draining, same_pages, active_place, waited_place, free_slot}
 use Rattle.sled_store.specs.Accounts.{AreSlots, AreIndexes}
 use Rattle.sled_store.proofs.Accounts.IndexLemmas.{slots_where_same, slots_by_same}
 use Rattle.std.proofs.lemmas.Bool.{cases_lt}
@@ -68,4 +68,14 @@ module _ (tip : ℕ) (xs : List SlotState) (k : ℕ) (t : SlotState) (slots : Ar
     active_is = are.active_is ∙ sym (slots_by_same active_place free_slot refl xs k free_slot lt t active);
     inactive_is = are.inactive_is ∙ sym (slots_where_same (λ s. is_inactive s.state) 0 k xs t free_slot inactive);
     waiting_is = are.waiting_is ∙ sym (slots_by_same waited_place free_slot refl xs k free_slot lt t waiting);
+  }
+
+  -- it waits for another place
+  pub changed_indexes_as : (f : List ℕ) (a : List (ℕ × ℕ)) (i : List ℕ) (w w_as : List (ℕ × ℕ)) → active_place t ≡ active_place (get_or xs k free_slot) → is_inactive t.state ≡ is_inactive (get_or xs k free_slot).state
+      → w_as ≡ waiting_among (set xs k t) → AreIndexes tip xs f a i w → AreIndexes tip (set xs k t) f a i w_as
+  changed_indexes_as f a i w w_as active inactive waiting are = record {
+    free_is = are.free_is ∙ sym changed_free;
+    active_is = are.active_is ∙ sym (slots_by_same active_place free_slot refl xs k free_slot lt t active);
+    inactive_is = are.inactive_is ∙ sym (slots_where_same (λ s. is_inactive s.state) 0 k xs t free_slot inactive);
+    waiting_is = waiting;
   }

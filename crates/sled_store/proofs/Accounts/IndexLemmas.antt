@@ -70,7 +70,7 @@ pub by_place_total : IsTotalOrder by_place
 by_place_total = then_total (on_total (λ (p : ℕ × ℕ). p.0) nat_cmp_total) (on_total (λ (p : ℕ × ℕ). p.1) nat_cmp_total)
 
 -- slots that differ make keys that differ
-apart : (p q : ℕ × ℕ) → (p.1 ≡ q.1 → ⊥) → by_place p q ≡ Equal → ⊥
+pub apart : (p q : ℕ × ℕ) → (p.1 ≡ q.1 → ⊥) → by_place p q ≡ Equal → ⊥
 apart p q differ is = by (nat_cmp p.0 q.0) is
   where
     by : (r : Ordering) → ordering_then r (nat_cmp p.1 q.1) ≡ Equal → ⊥

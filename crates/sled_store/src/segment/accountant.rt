@@ -2,14 +2,16 @@
 //!
 //! What a call looks for it finds by an index: free slots, active and waiting ones by their places, inactive ones. All
 //! room is reserved before anything is changed, so that nothing has changed after `OutOfMemory`.
-ghost use Rattle.std.specs.Prelude.{◌≡◌, ◌↔◌, ◌≤ℤ◌, ◌≤◌, ◌+◌, ◌*◌, ◌/◌, ◌^◌, ◌<◌, length, slice_index_or, true, ◌≢◌, [], pos, unsigned_abs, IsTrue, IsOkUnless, OnOk, OnErr, IfOk, IfErr};
+ghost use Rattle.std.specs.Prelude.{◌≡◌, ◌↔◌, ◌≤ℤ◌, ◌≤◌, ◌+◌, ◌*◌, ◌/◌, ◌^◌, ◌<◌, length, slice_index_or, true, ℕ, ◌≢◌, [], pos, unsigned_abs, IsTrue, IsOkUnless, OnOk, OnErr, IfOk, IfErr};
 ghost use Rattle.std.specs.List.{All};
 ghost use Rattle.sled_codec.specs.Pointers.{lid_of};
 ghost use Rattle.sled_store.specs.declared.segment.slot.Slot.{Slot as SlotRecord};
 ghost use Rattle.sled_store.specs.Blobs.{RemoveAnswers};
 ghost use Rattle.sled_store.specs.Script.{Performs, after_all};
 ghost use Rattle.sled_store.specs.SegmentStates.{LiesIn, MayMark, is_active, slot_at, unused_machine, with_free_slot, next_slot, handed_out, linked, replaced, stabilized, popped, first_page};
-ghost use Rattle.sled_store.specs.Accounts.{IsAccountant, machine_of, size_of, HasRooms, HasRoomToLink, HasRoomForBlobs, MayHandOut, NextAnswers};
+ghost use Rattle.sled_store.specs.Accounts.{IsAccountant, machine_of, size_of, HasRooms, HasRoomToLink, HasRoomForBlobs, GoneFits, MayHandOut, NextAnswers};
+
+mod replacing;
 
 use crate::segment::cleaner::SegmentCleaner;
 pub use crate::segment::slot::CacheInfo;
@@ -128,7 +130,10 @@ impl SegmentAccountant {
         self.active.reserve(more)?;
         self.inactive.reserve(more)?;
         self.waiting.reserve(more)?;
-        self.cleaner.reserve(more)?;
+        let Some(one_more) = more.checked_add(1) else {
+            return Err(Error::OutOfMemory);
+        };
+        self.cleaner.reserve(one_more)?;
         Ok(())
     }
 
@@ -223,6 +228,7 @@ impl SegmentAccountant {
         ensures machine { machine_of self.new ≡ machine_of self.old }
         ensures account { IsAccountant (size_of self.old) self.new }
         ensures link { OnOk result ((d : SlotRecord) → HasRoomToLink (slice_index_or self.new.slots.items slot d)) }
+        ensures gone { (pid k : ℕ) → GoneFits pid self.old k → GoneFits pid self.new k }
         ensures blobs { OnOk result ((d : SlotRecord) → HasRoomForBlobs blobs (slice_index_or self.new.slots.items slot d)) }
         ensures memory { IsOkUnless result Error.OutOfMemory }
     {
@@ -239,6 +245,9 @@ impl SegmentAccountant {
         requires room { (d : SlotRecord) → HasRoomToLink (slice_index_or self.old.slots.items (lid_of info.pointer / size_of self.old) d) }
         ensures done { machine_of self.new ≡ linked (size_of self.old) pid info (machine_of self.old) }
         ensures account { IsAccountant (size_of self.old) self.new }
+        ensures blobs { (n : ℕ) (d : SlotRecord) → HasRoomForBlobs n (slice_index_or self.old.slots.items (lid_of info.pointer / size_of self.old) d)
+            → HasRoomForBlobs n (slice_index_or self.new.slots.items (lid_of info.pointer / size_of self.old) d) }
+        ensures gone { (page k : ℕ) → GoneFits page self.old k → GoneFits page self.new k }
     {
         let s = &mut self.slots[(info.pointer.lid() / self.size) as usize];
         s.link(pid, info.log_size);

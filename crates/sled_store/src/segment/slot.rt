@@ -1,5 +1,5 @@
 //! A slot of the log file, and what is known of the segment in it (`specs/SegmentStates.antt`).
-ghost use Rattle.std.specs.Prelude.{◌≡◌, ◌↔◌, false, [], ◌∷◌, ◌≤◌, ◌<◌, ◌+◌, ◌++◌, ◌⊎◌, IsTrue, IfErr, OnOk, Some, filter, length, ◌==◌, if◌then◌else◌, vec_capacity, not};
+ghost use Rattle.std.specs.Prelude.{ℕ, ◌≡◌, ◌↔◌, false, [], ◌∷◌, ◌≤◌, ◌<◌, ◌+◌, ◌++◌, ◌⊎◌, IsTrue, IfErr, OnOk, Some, filter, length, ◌==◌, if◌then◌else◌, vec_capacity, not};
 ghost use Rattle.std.specs.Ordering.{nat_cmp};
 ghost use Rattle.std.specs.BTreeSet.{insert_key};
 ghost use Rattle.sled_store.specs.SegmentStates.{free_slot, taken_slot, linked_slot, replaced_slot, outdated, has_page, is_free, is_active, is_sparse, is_done, is_draining, waited_place, left_pages, drained_slot};
@@ -111,6 +111,16 @@ impl Slot {
         self.left.reserve(pages)?;
         self.blobs.reserve(blobs)?;
         Ok(())
+    }
+
+    /// Makes room for a replaced page.
+    pub(crate) fn reserve_gone(&mut self) -> Result<(), AllocError>
+        ensures state { slot_state self.new ≡ slot_state self.old }
+        ensures drain { HasRoomToDrain self.old → HasRoomToDrain self.new }
+        ensures gone { OnOk result ((pid : ℕ) → HasRoomForGone pid self.new) }
+        ensures kept { (pid : ℕ) → HasRoomForGone pid self.old → HasRoomForGone pid self.new }
+    {
+        self.gone.reserve(1)
     }
 
     /// Links a page by a record of this length.

@@ -38,7 +38,7 @@ module _ (size : ℕ) (a : SegmentAccountant) (is : IsAccountant size a) (s : Sl
           active = omega (arith, rooms.active, ap (λ p. p.1) actives, n);
           inactive = omega (arith, rooms.inactive, ap (λ p. p.1) inactives, n);
           waiting = omega (arith, rooms.waiting, ap (λ p. p.1) waitings, n);
-          cleaner = omega (arith, rooms.cleaner, ap (λ (k : SegmentCleaner). vec_capacity k.entries) cleaners, n);
+          cleaner = λ some. omega (arith, rooms.cleaner (omega arith), ap (λ (k : SegmentCleaner). vec_capacity k.entries) cleaners, n);
         };
       }
 

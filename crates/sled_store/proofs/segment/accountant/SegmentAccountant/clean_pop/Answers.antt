@@ -27,6 +27,6 @@ returns-clause-account c =
         active = c.requires.rooms.active;
         inactive = c.requires.rooms.inactive;
         waiting = c.requires.rooms.waiting;
-        cleaner = omega (arith, c.requires.rooms.cleaner, c.pop.ensures.room);
+        cleaner = λ some. omega (arith, c.requires.rooms.cleaner some, c.pop.ensures.room);
       };
     }
