@@ -1,3 +1,4 @@
+pub mod Accounts
 pub mod Answers
 pub mod Begin
 pub mod Blobs
@@ -12,6 +13,7 @@ pub mod MemoryNames
 pub mod Moments
 pub mod Noted
 pub mod Script
+pub mod SegmentStates
 pub mod Segments
 pub mod SlotTables
 pub mod SnapshotFiles

@@ -3,7 +3,11 @@
 ghost use Rattle.std.specs.Prelude.{◌↔◌, ◌<◌, IsTrue};
 ghost use Rattle.sled_codec.specs.Places.{MayBegin};
 
+pub mod accountant;
+pub mod cleaner;
+pub(crate) mod slot;
 pub mod slot_table;
+pub(crate) mod sorted;
 pub mod start;
 
 use sled_codec::result::LogOffset;
