@@ -1,5 +1,6 @@
 pub mod Crashes
 pub mod LogFile
+pub mod Marks
 pub mod Names
 pub mod PublicLaws
 pub mod Segments

@@ -1,0 +1,66 @@
+-- The laws of truthful marks, from what is tracked.
+use Rattle.std.proofs.Common.{⊎_elim, ◌≡◌, ◌≢◌, ◌∙◌, ◌⊎◌, ◌*◌, ◌/◌, ◌<◌, ◌≤◌, ℕ, true, false, List, [], sym, subst, arith, inl, inr}
+use Rattle.std.specs.List.{Contains}
+use Rattle.std.proofs.lemmas.Bool.{true≢false}
+use Rattle.sled_codec.specs.History.{Message, History, table}
+use Rattle.sled_store.specs.Marks.{IsCounted, IsFormerState, IsLinked, IsPast, IsSuperseded, Marked, info_of, slot_with}
+use Rattle.sled_store.specs.SegmentStates.{Machine, LiesIn, MayMark, is_free, next_slot, slot_at}
+use Rattle.sled_store.specs.declared.segment.slot.CacheInfo.{CacheInfo}
+use Rattle.sled_store.proofs.Segments.Elements.{all_from_in}
+use Rattle.sled_store.proofs.Marks.SlotLemmas.{taken_there}
+use Rattle.sled_store.proofs.Marks.Tracked.{IsHeld, IsOutlived}
+use Rattle.sled_store.proofs.Marks.MarkSteps.{next_free}
+use Rattle.sled_store.proofs.Marks.StableSteps.{segment_above}
+use Rattle.sled_store.proofs.Marks.DeactivationSteps.{from_map}
+use Rattle.sled_store.proofs.Marks.TableLemmas.{entry_above}
+use Rattle.sled_store.proofs.Marks.MarkedLemmas.{IsTruthful, truthful, entry_held, last_held}
+
+-- a message that a slot holds is linked there
+held_linked : (size : ℕ) (m : Machine) (e : Message) → IsHeld size (slot_at m (slot_with size e)) e → IsLinked size m e
+held_linked size m e held = record {
+  lies = record { slot = taken_there m.slots (slot_with size e) held.taken; taken = held.taken; not_negative = search arith; lsn = held.lsn };
+  page = held.page;
+}
+
+module _ (size mark : ℕ) (H : History) (m : Machine) where
+  pub linked_or_superseded : (e : Message) → Marked size mark H m → Contains H.messages e → IsLinked size m e ⊎ IsSuperseded size (mark / size * size) H e
+  linked_or_superseded e marked there = ⊎_elim (λ held. inl (held_linked size m e held)) (λ by. inr by) ((truthful size mark H m marked).tracks.messages e there)
+
+  module _ (cut page : ℕ) (e : Message) (marked : Marked size mark H m) where
+    pub counted : IsPast H cut → Contains (table H cut page) e → IsCounted size m e
+    counted past entry =
+        let t : IsTruthful size mark H m = truthful size mark H m marked in
+        let k = slot_with size e in
+        let held : IsHeld size (slot_at m k) e = last_held size (mark / size * size) H m cut page e t.ascends t.tracks past entry in
+        record {
+          linked = held_linked size m e held;
+          not_gone = λ gone.
+              let by : IsOutlived size H (slot_at m k) e.page = t.tracks.gone k e.page gone in
+              let later : e.place < by.message.place = segment_above size e.place by.message.place t.some (omega (arith, held.lsn, by.later)) in
+              omega (arith, later, entry_above H cut page e t.ascends entry by.message by.there by.same_page by.begins (past by.message by.there));
+        }
+
+    pub none_in_done : (k : ℕ) → IsPast H cut → (slot_at m k).gone ≡ (slot_at m k).pages → Contains (table H cut page) e → slot_with size e ≢ k
+    none_in_done k past done entry is =
+        let is_counted : IsCounted size m e = counted past entry in
+        let same : (slot_at m (slot_with size e)).gone ≡ (slot_at m (slot_with size e)).pages = subst (λ (i : ℕ). (slot_at m i).gone ≡ (slot_at m i).pages) (sym is) done in
+        is_counted.not_gone (subst (λ (ps : List ℕ). Contains ps e.page) (sym same) is_counted.linked.page)
+
+    pub above_mark_linked : mark / size * size ≤ cut → Contains (table H cut page) e → IsLinked size m e
+    above_mark_linked le entry =
+        let t : IsTruthful size mark H m = truthful size mark H m marked in
+        held_linked size m e (entry_held size (mark / size * size) H m cut page e t.some t.ascends t.tracks le entry)
+
+    pub none_in_free : (k : ℕ) → mark / size * size ≤ cut → Contains (table H cut page) e → is_free (slot_at m k).state ≡ true → slot_with size e ≢ k
+    none_in_free k le entry free is = true≢false (sym free ∙ subst (λ (i : ℕ). is_free (slot_at m i).state ≡ false) is (above_mark_linked le entry).lies.taken)
+
+  pub next_is_free : Marked size mark H m → is_free (slot_at m (next_slot m)).state ≡ true
+  next_is_free marked = next_free size (mark / size * size) H m (truthful size mark H m marked).tracks
+
+  pub former_may : (x : Message) (old : List CacheInfo) → Marked size mark H m → IsFormerState H x.page old → MayMark size m (info_of x) [] → MayMark size m (info_of x) old
+  former_may x old marked former may = record { lies = may.lies; active = may.active; old_lie = all_from_in (LiesIn size m) old lies } where
+    lies : (o : CacheInfo) → Contains old o → LiesIn size m o
+    lies o there =
+        let t : IsTruthful size mark H m = truthful size mark H m marked in
+        let found = from_map info_of (table H former.cut x.page) o (subst (λ (os : List CacheInfo). Contains os o) former.is there) in
+        subst (LiesIn size m) found.2 (held_linked size m found.0 (last_held size (mark / size * size) H m former.cut x.page found.0 t.ascends t.tracks former.past found.1)).lies

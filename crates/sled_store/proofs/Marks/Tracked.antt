@@ -1,0 +1,137 @@
+-- What the slots say of a history's messages while all of them are marked truthfully, and that a change of one slot keeps it.
+use Rattle.std.proofs.Common.{⊎_elim, ◌≡◌, ◌≢◌, ◌∙◌, ◌⊎◌, ◌+◌, ◌*◌, ◌/◌, ◌<◌, ◌≤◌, ℕ, true, false, List, length, Some, refl, sym, ap, subst, arith, inl, inr}
+use Rattle.std.specs.List.{Contains}
+use Rattle.std.proofs.lemmas.Bool.{true≢false, false≢true, cases_lt, cases_eq}
+use Rattle.sled_codec.specs.History.{Message, History, begins_page}
+use Rattle.sled_store.specs.Marks.{slot_with, IsSuperseded}
+use Rattle.sled_store.specs.SegmentStates.{SlotState, is_free, is_active, free_slot, taken_slot}
+use Rattle.sled_store.specs.declared.segment.slot.State.{State}
+use Rattle.sled_store.specs.declared.segment.slot.State.TheVariants.{Free, Active, Inactive, Draining}
+use Rattle.sled_store.proofs.Segments.Elements.{in_nothing}
+use Rattle.sled_store.proofs.Marks.SlotLemmas.{at, Changes, each_slot}
+
+-- a segment holds a message, and has its page
+pub record IsHeld (size : ℕ) (s : SlotState) (e : Message) : Type 0 where
+  pub taken : is_free s.state ≡ false
+  pub lsn : e.place / size * size ≡ s.lsn
+  pub page : Contains s.pages e.page
+
+-- a page of a segment was replaced by a message in a later segment, no later than the latest
+pub record IsOutlived (size : ℕ) (H : History) (s : SlotState) (page : ℕ) : Type 0 where
+  pub message : Message
+  pub there : Contains H.messages message
+  pub same_page : message.page ≡ page
+  pub begins : begins_page message.kind ≡ true
+  pub later : s.lsn < message.place / size * size
+  pub latest : ℕ
+  pub noted : s.latest ≡ Some latest
+  pub within : message.place / size * size ≤ latest
+
+-- a segment begins at a place, and is active
+pub record IsActiveAt (ss : List SlotState) (place : ℕ) : Type 0 where
+  pub slot : ℕ
+  pub active : is_active (at ss slot).state ≡ true
+  pub lsn : (at ss slot).lsn ≡ place
+
+-- the segment at a place is active, or it ends at or below the base
+abbrev pub IsActiveOrBelow : ℕ → ℕ → List SlotState → ℕ → Type 0
+IsActiveOrBelow size base ss place = IsActiveAt ss place ⊎ (place + size ≤ base)
+
+-- The invariant: slots behind the tip are free, each message lies in its segment or is superseded, and what replaced a page is noted.
+pub record IsTracked (size base : ℕ) (H : History) (ss : List SlotState) (tip : ℕ) : Type 0 where
+  pub cut_off : (k : ℕ) → tip ≤ k → is_free (at ss k).state ≡ true
+  pub messages : (e : Message) → Contains H.messages e → IsHeld size (at ss (slot_with size e)) e ⊎ IsSuperseded size base H e
+  pub gone : (k page : ℕ) → Contains (at ss k).gone page → IsOutlived size H (at ss k) page
+  pub latest : (k place : ℕ) → (at ss k).latest ≡ Some place → IsActiveOrBelow size base ss place
+
+-- a segment in another slot than the one that has changed is as active as before
+pub elsewhere : (ss : List SlotState) (k : ℕ) (s : SlotState) (new : List SlotState) → Changes ss k s new → (place : ℕ) (at_one : IsActiveAt ss place) → at_one.slot ≢ k → IsActiveAt new place
+elsewhere ss k s new changes place at_one other =
+    let same = changes.others at_one.slot other in
+    record { slot = at_one.slot; active = ap (λ (x : SlotState). is_active x.state) same ∙ at_one.active; lsn = ap (λ (x : SlotState). x.lsn) same ∙ at_one.lsn }
+
+-- a free slot isn't active
+pub active_taken : (s : SlotState) → is_free s.state ≡ true → is_active s.state ≡ true → ⊥
+active_taken s free active = by s.state free active where
+  by : (st : State) → is_free st ≡ true → is_active st ≡ true → ⊥
+  by Free free active = false≢true active
+  by Active free active = false≢true free
+  by Inactive free active = false≢true free
+  by Draining free active = false≢true free
+
+-- how a slot may change where its segment stays
+pub record IsUpdate (size base : ℕ) (H : History) (ss : List SlotState) (old new : SlotState) : Type 0 where
+  pub taken : is_free new.state ≡ false
+  pub lsn : new.lsn ≡ old.lsn
+  pub active : is_active old.state ≡ true → (is_active new.state ≡ true) ⊎ (old.lsn + size ≤ base)
+  pub pages : (page : ℕ) → Contains old.pages page → Contains new.pages page
+  pub gone : (page : ℕ) → Contains new.gone page → IsOutlived size H new page
+  pub latest : (place : ℕ) → new.latest ≡ Some place → IsActiveOrBelow size base ss place
+
+-- a slot has no message of its own any more
+pub record MayGo (size base : ℕ) (H : History) (ss : List SlotState) (k : ℕ) : Type 0 where
+  pub there : k < length ss
+  pub not_active : is_active (at ss k).state ≡ false
+  pub superseded : (e : Message) → Contains H.messages e → IsHeld size (at ss k) e → IsSuperseded size base H e
+
+module _ (size base : ℕ) (H : History) (ss : List SlotState) (tip : ℕ) (t : IsTracked size base H ss tip) where
+  -- A segment that stays keeps all of it.
+  module _ (k : ℕ) (s : SlotState) (new : List SlotState) (changes : Changes ss k s new) (taken : is_free (at ss k).state ≡ false) (update : IsUpdate size base H ss (at ss k) s) where
+    pub updated_active : (place : ℕ) → IsActiveOrBelow size base ss place → IsActiveOrBelow size base new place
+    updated_active place (inr below) = inr below
+    updated_active place (inl at_one) = by_slot (cases_eq at_one.slot k) where
+      by_slot : (at_one.slot ≡ k) ⊎ (at_one.slot ≢ k) → IsActiveOrBelow size base new place
+      by_slot (inl is) =
+          let lsn : (at ss k).lsn ≡ place = subst (λ (i : ℕ). (at ss i).lsn ≡ place) is at_one.lsn in
+          let active : is_active (at ss k).state ≡ true = subst (λ (i : ℕ). is_active (at ss i).state ≡ true) is at_one.active in
+          ⊎_elim (λ still. inl (record { slot = k; active = subst (λ (x : SlotState). is_active x.state ≡ true) (sym changes.here) still; lsn = ap (λ (x : SlotState). x.lsn) changes.here ∙ update.lsn ∙ lsn }))
+          (λ below. inr (omega (arith, lsn, below))) (update.active active)
+      by_slot (inr other) = inl (elsewhere ss k s new changes place at_one other)
+
+    updated_held : (e : Message) (j : ℕ) → IsHeld size (at ss j) e → IsHeld size (at new j) e
+    updated_held e = each_slot (λ j x. IsHeld size (at ss j) e → IsHeld size x e) ss k s new changes
+        (λ held. record { taken = update.taken; lsn = held.lsn ∙ sym update.lsn; page = update.pages e.page held.page }) (λ j other held. held)
+
+    pub updated : IsTracked size base H new tip
+    updated = record {
+      cut_off = each_slot (λ j x. tip ≤ j → is_free x.state ≡ true) ss k s new changes (λ le. absurd (true≢false (sym (t.cut_off k le) ∙ taken))) (λ j other le. t.cut_off j le);
+      messages = λ e there. ⊎_elim (λ held. inl (updated_held e (slot_with size e) held)) (λ superseded. inr superseded) (t.messages e there);
+      gone = each_slot (λ j x. (page : ℕ) → Contains x.gone page → IsOutlived size H x page) ss k s new changes update.gone (λ j other. t.gone j);
+      latest = each_slot (λ j x. (place : ℕ) → x.latest ≡ Some place → IsActiveOrBelow size base new place) ss k s new changes
+          (λ place is. updated_active place (update.latest place is)) (λ j other place is. updated_active place (t.latest j place is));
+    }
+
+  -- A slot that no segment was in is handed out.
+  module _ (k place : ℕ) (new : List SlotState) (tip' : ℕ) (changes : Changes ss k (taken_slot place) new) (free : is_free (at ss k).state ≡ true) (lt : k < tip') (le : tip ≤ tip') where
+    other_active : (l : ℕ) → IsActiveOrBelow size base ss l → IsActiveOrBelow size base new l
+    other_active l (inr below) = inr below
+    other_active l (inl at_one) =
+        inl (elsewhere ss k (taken_slot place) new changes l at_one (λ is. active_taken (at ss k) free (subst (λ (i : ℕ). is_active (at ss i).state ≡ true) is at_one.active)))
+
+    pub taken_out : IsTracked size base H new tip'
+    taken_out = record {
+      cut_off = each_slot (λ j x. tip' ≤ j → is_free x.state ≡ true) ss k (taken_slot place) new changes (λ above. absurd (omega (arith, above, lt))) (λ j other above. t.cut_off j (omega (arith, above, le)));
+      messages = λ e there. ⊎_elim (λ held. inl (still_held e (slot_with size e) held)) (λ superseded. inr superseded) (t.messages e there);
+      gone = each_slot (λ j x. (page : ℕ) → Contains x.gone page → IsOutlived size H x page) ss k (taken_slot place) new changes (λ page there. absurd (in_nothing page there)) (λ j other. t.gone j);
+      latest = each_slot (λ j x. (l : ℕ) → x.latest ≡ Some l → IsActiveOrBelow size base new l) ss k (taken_slot place) new changes (λ l is. cc) (λ j other l is. other_active l (t.latest j l is));
+    } where
+      still_held : (e : Message) (j : ℕ) → IsHeld size (at ss j) e → IsHeld size (at new j) e
+      still_held e = each_slot (λ j x. IsHeld size (at ss j) e → IsHeld size x e) ss k (taken_slot place) new changes (λ held. absurd (true≢false (sym free ∙ held.taken))) (λ j other held. held)
+
+  -- A slot that has no message of its own any more is freed.
+  module _ (k : ℕ) (new : List SlotState) (tip' : ℕ) (changes : Changes ss k free_slot new) (goes : MayGo size base H ss k) (cut_off : (j : ℕ) → tip' ≤ j → j < tip → is_free (at new j).state ≡ true) where
+    left_active : (l : ℕ) → IsActiveOrBelow size base ss l → IsActiveOrBelow size base new l
+    left_active l (inr below) = inr below
+    left_active l (inl at_one) =
+        inl (elsewhere ss k free_slot new changes l at_one (λ is. true≢false (sym (subst (λ (i : ℕ). is_active (at ss i).state ≡ true) is at_one.active) ∙ goes.not_active)))
+
+    left_messages : (e : Message) → Contains H.messages e → (j : ℕ) → IsHeld size (at ss j) e → IsHeld size (at new j) e ⊎ IsSuperseded size base H e
+    left_messages e there = each_slot (λ j x. IsHeld size (at ss j) e → IsHeld size x e ⊎ IsSuperseded size base H e) ss k free_slot new changes (λ held. inr (goes.superseded e there held)) (λ j other held. inl held)
+
+    pub left_free : IsTracked size base H new tip'
+    left_free = record {
+      cut_off = λ j le. ⊎_elim (λ lt. cut_off j le lt) (λ above. each_slot (λ i x. tip ≤ i → is_free x.state ≡ true) ss k free_slot new changes (λ high. refl) (λ i other high. t.cut_off i high) j above) (cases_lt j tip);
+      messages = λ e there. ⊎_elim (λ held. left_messages e there (slot_with size e) held) (λ superseded. inr superseded) (t.messages e there);
+      gone = each_slot (λ j x. (page : ℕ) → Contains x.gone page → IsOutlived size H x page) ss k free_slot new changes (λ page there. absurd (in_nothing page there)) (λ j other. t.gone j);
+      latest = each_slot (λ j x. (l : ℕ) → x.latest ≡ Some l → IsActiveOrBelow size base new l) ss k free_slot new changes (λ l is. cc) (λ j other l is. left_active l (t.latest j l is));
+    }

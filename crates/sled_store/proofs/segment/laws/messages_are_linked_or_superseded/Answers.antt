@@ -1,0 +1,6 @@
+-- Each message is linked, or superseded.
+use Rattle.sled_store.proofs.Marks.MarkLaws.{linked_or_superseded}
+use Rattle.sled_store.proofs.segment.laws.messages_are_linked_or_superseded.Goals as goal
+
+pub returns : goal.returns
+returns c = linked_or_superseded

@@ -1,0 +1,47 @@
+//! Laws of the segments that come back, each the contract of a function that does nothing: what truthful marks of all
+//! messages of a history (`specs/Marks.antt`) make of the segments (`specs/SegmentStates.antt`). A segment whose pages
+//! are all replaced holds no entry of the page table, and no slot that is free, or handed out next, holds an entry of a
+//! table below a cut that the mark's segment doesn't pass.
+ghost use Rattle.std.specs.Prelude.{◌≡◌, ◌≢◌, ◌⊎◌, ◌*◌, ◌/◌, ◌≤◌, ℕ, true, List, [], Contains};
+ghost use Rattle.sled_codec.specs.History.{Message, History, table};
+ghost use Rattle.sled_store.specs.Marks.{IsCounted, IsFormerState, IsLinked, IsPast, IsSuperseded, Marked, info_of, slot_with};
+ghost use Rattle.sled_store.specs.SegmentStates.{Machine, MayMark, is_free, next_slot, slot_at};
+ghost use Rattle.sled_store.specs.declared.segment.slot.CacheInfo.{CacheInfo};
+
+/// Each message is linked to the segment that its slot holds, or a later one has replaced its page, in a segment that
+/// ends where the mark's begins, or below. So a slot that is freed has waited for all that replaced its pages.
+pub fn messages_are_linked_or_superseded()
+    ensures { (size mark : ℕ) (H : History) (m : Machine) (e : Message) → Marked size mark H m → Contains H.messages e
+        → IsLinked size m e ⊎ IsSuperseded size (mark / size * size) H e }
+{}
+
+/// Each entry of the table of all messages is counted in its slot.
+pub fn entries_are_counted()
+    ensures { (size mark : ℕ) (H : History) (m : Machine) (cut page : ℕ) (e : Message) → Marked size mark H m
+        → IsPast H cut → Contains (table H cut page) e → IsCounted size m e }
+{}
+
+/// A slot whose pages are all replaced holds no entry of the table of all messages.
+pub fn done_segments_hold_no_entry()
+    ensures { (size mark : ℕ) (H : History) (m : Machine) (cut page k : ℕ) (e : Message) → Marked size mark H m
+        → IsPast H cut → (slot_at m k).gone ≡ (slot_at m k).pages → Contains (table H cut page) e → slot_with size e ≢ k }
+{}
+
+/// Each entry of a table below a cut that the mark's segment doesn't pass is linked to the segment that it lies in.
+pub fn tables_above_the_mark_are_linked()
+    ensures { (size mark : ℕ) (H : History) (m : Machine) (cut page : ℕ) (e : Message) → Marked size mark H m
+        → mark / size * size ≤ cut → Contains (table H cut page) e → IsLinked size m e }
+{}
+
+/// No such entry lies in a slot that is free, as the one that is handed out next is.
+pub fn free_slots_are_not_needed()
+    ensures free { (size mark : ℕ) (H : History) (m : Machine) (cut page k : ℕ) (e : Message) → Marked size mark H m
+        → mark / size * size ≤ cut → Contains (table H cut page) e → is_free (slot_at m k).state ≡ true → slot_with size e ≢ k }
+    ensures next { (size mark : ℕ) (H : History) (m : Machine) → Marked size mark H m → is_free (slot_at m (next_slot m)).state ≡ true }
+{}
+
+/// A message in an active segment may be marked in place of its page's former state: that lies in segments.
+pub fn former_states_may_be_marked()
+    ensures { (size mark : ℕ) (H : History) (m : Machine) (x : Message) (old : List CacheInfo) → Marked size mark H m
+        → IsFormerState H x.page old → MayMark size m (info_of x) [] → MayMark size m (info_of x) old }
+{}
