@@ -1,9 +1,9 @@
 -- What truthful marks make of the segments: each message of a history is completed and marked at once, in place of all that its page was made of.
-use Rattle.std.specs.Prelude.{◌≡◌, ◌+◌, ◌*◌, ◌/◌, ◌<◌, ◌≤◌, ℕ, ℤ, pos, negsuc, max, true, List, [], map, Contains}
+use Rattle.std.specs.Prelude.{◌≡◌, ◌+◌, ◌*◌, ◌/◌, ◌%◌, ◌<◌, ◌≤◌, ℕ, ℤ, pos, negsuc, max, Bool, true, false, List, [], map, Option, Some, Contains}
 use Rattle.sled_codec.specs.declared.serialization.message.LogKind.TheVariants.{Link}
 use Rattle.sled_codec.specs.History.{Message, Batch, History, no_history, begins_page, table, AddsMessage, AddsBatch}
 use Rattle.sled_codec.specs.Pointers.{lid_of}
-use Rattle.sled_store.specs.SegmentStates.{Machine, unused_machine, slot_at, handed_out, LiesIn, MayMark, linked, replaced, stabilized, popped}
+use Rattle.sled_store.specs.SegmentStates.{SlotState, Machine, unused_machine, is_free, slot_at, handed_out, LiesIn, MayMark, linked, replaced, stabilized, popped}
 use Rattle.sled_store.specs.declared.segment.slot.CacheInfo.{CacheInfo}
 
 -- what a segment is told of a message
@@ -17,6 +17,11 @@ slot_with size m = lid_of m.pointer / size
 -- the cut lies above all messages
 abbrev pub IsPast : History → ℕ → Type 0
 IsPast H cut = (m : Message) → Contains H.messages m → m.place < cut
+
+-- the place of a new segment is a multiple of the size, and above those of all segments
+pub record IsNewPlace (size place : ℕ) (m : Machine) : Type 0 where
+  pub aligned : place % size ≡ 0
+  pub above : (k : ℕ) → is_free (slot_at m k).state ≡ false → (slot_at m k).lsn < place
 
 -- A message is completed behind the earlier ones of its page.
 pub record Completes (H : History) (m : Message) (H' : History) : Type 0 where
@@ -38,7 +43,8 @@ greatest_mark mark (negsuc next) = mark
 pub data Marked (size : ℕ) : ℕ → History → Machine → Type 0 where
   unused : 0 < size → Marked size 0 no_history unused_machine
   -- a slot is handed out for the segment at this place
-  hands_out : {mark : ℕ} {H : History} {m : Machine} (place : ℕ) → Marked size mark H m → Marked size mark H (handed_out place m)
+  hands_out : {mark : ℕ} {H : History} {m : Machine} (place : ℕ) → Marked size mark H m → IsNewPlace size place m
+      → Marked size mark H (handed_out place m)
   -- a Link is completed, and linked to the active segment that it lies in
   links : {mark : ℕ} {H : History} {m : Machine} (x : Message) (H' : History) → Marked size mark H m
       → Completes H x H' → x.kind ≡ Link → MayMark size m (info_of x) [] → Marked size mark H' (linked size x.page (info_of x) m)
@@ -71,3 +77,14 @@ pub record IsSuperseded (size place : ℕ) (H : History) (e : Message) : Type 0 
   pub begins : begins_page message.kind ≡ true
   pub later : e.place < message.place
   pub ends : message.place / size * size + size ≤ place
+
+-- A message in a later segment gives a page of this segment a new beginning, and the segment has noted a place that isn't below that one's.
+pub record HasReplacement (size : ℕ) (H : History) (s : SlotState) (page : ℕ) : Type 0 where
+  pub message : Message
+  pub there : Contains H.messages message
+  pub same_page : message.page ≡ page
+  pub begins : begins_page message.kind ≡ true
+  pub later : s.lsn < message.place / size * size
+  pub latest : ℕ
+  pub noted : s.latest ≡ Some latest
+  pub within : message.place / size * size ≤ latest

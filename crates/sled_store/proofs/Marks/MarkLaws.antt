@@ -3,12 +3,12 @@ use Rattle.std.proofs.Common.{⊎_elim, ◌≡◌, ◌≢◌, ◌∙◌, ◌⊎�
 use Rattle.std.specs.List.{Contains}
 use Rattle.std.proofs.lemmas.Bool.{true≢false}
 use Rattle.sled_codec.specs.History.{Message, History, table}
-use Rattle.sled_store.specs.Marks.{IsCounted, IsFormerState, IsLinked, IsPast, IsSuperseded, Marked, info_of, slot_with}
+use Rattle.sled_store.specs.Marks.{HasReplacement, IsCounted, IsFormerState, IsLinked, IsPast, IsSuperseded, Marked, info_of, slot_with}
 use Rattle.sled_store.specs.SegmentStates.{Machine, LiesIn, MayMark, is_free, next_slot, slot_at}
 use Rattle.sled_store.specs.declared.segment.slot.CacheInfo.{CacheInfo}
 use Rattle.sled_store.proofs.Segments.Elements.{all_from_in}
 use Rattle.sled_store.proofs.Marks.SlotLemmas.{taken_there}
-use Rattle.sled_store.proofs.Marks.Tracked.{IsHeld, IsOutlived}
+use Rattle.sled_store.proofs.Marks.Tracked.{IsHeld}
 use Rattle.sled_store.proofs.Marks.MarkSteps.{next_free}
 use Rattle.sled_store.proofs.Marks.StableSteps.{segment_above}
 use Rattle.sled_store.proofs.Marks.DeactivationSteps.{from_map}
@@ -35,7 +35,7 @@ module _ (size mark : ℕ) (H : History) (m : Machine) where
         record {
           linked = held_linked size m e held;
           not_gone = λ gone.
-              let by : IsOutlived size H (slot_at m k) e.page = t.tracks.gone k e.page gone in
+              let by : HasReplacement size H (slot_at m k) e.page = t.tracks.gone k e.page gone in
               let later : e.place < by.message.place = segment_above size e.place by.message.place t.some (omega (arith, held.lsn, by.later)) in
               omega (arith, later, entry_above H cut page e t.ascends entry by.message by.there by.same_page by.begins (past by.message by.there));
         }

@@ -7,13 +7,14 @@ use Rattle.std.proofs.lemmas.List.{length-take, get_or-take}
 use Rattle.sled_codec.specs.History.{History}
 use Rattle.sled_codec.specs.Pointers.{lid_of}
 use Rattle.sled_store.specs.Begin.{first_or}
+use Rattle.sled_store.specs.Marks.{IsNewPlace, HasReplacement}
 use Rattle.sled_store.specs.SegmentStates.{SlotState, Machine, is_free, is_active, is_inactive, free_slot, taken_slot, slot_at, free_among, next_slot, handed_out, linked_slot, linked, all_outdated, outdating, drained_slot, drained}
 use Rattle.sled_store.specs.declared.segment.slot.CacheInfo.{CacheInfo}
 use Rattle.sled_store.specs.declared.segment.slot.State.{State}
 use Rattle.sled_store.specs.declared.segment.slot.State.TheVariants.{Free, Active, Inactive, Draining}
 use Rattle.sled_store.proofs.Segments.Elements.{in_first}
 use Rattle.sled_store.proofs.Marks.SlotLemmas.{at, free_behind, taken_there, set_changes, push_changes, each_slot, in_insert, Passes, where_passes}
-use Rattle.sled_store.proofs.Marks.Tracked.{IsOutlived, IsActiveAt, IsTracked, IsUpdate, updated, taken_out}
+use Rattle.sled_store.proofs.Marks.Tracked.{IsActiveAt, IsTracked, IsUpdate, updated, taken_out}
 
 -- what the slots of a machine say of a history's messages
 abbrev pub Tracks : ℕ → ℕ → History → Machine → Type 0
@@ -33,23 +34,23 @@ next_free size base H m t = by (free_among (take m.tip m.slots)) (where_passes (
       let same : at (take m.tip m.slots) first.index ≡ at m.slots k = get_or-take m.tip m.slots first.index free_slot lt ∙ ap (at m.slots) (sym is) in
       ap (λ (s : SlotState). is_free s.state) (sym same) ∙ first.passes
 
-pub handed_out_tracks : (size base : ℕ) (H : History) (m : Machine) (place : ℕ) → Tracks size base H m → Tracks size base H (handed_out place m)
-handed_out_tracks size base H m place t = by (nat_lt k (length m.slots)) refl where
+pub handed_out_tracks : (size base : ℕ) (H : History) (m : Machine) (place : ℕ) → Tracks size base H m → IsNewPlace size place m → Tracks size base H (handed_out place m)
+handed_out_tracks size base H m place t new_place = by (nat_lt k (length m.slots)) refl where
   k : ℕ
   k = next_slot m
 
   by : (b : Bool) → nat_lt (next_slot m) (length m.slots) ≡ b → IsTracked size base H (if b then set m.slots (next_slot m) (taken_slot place) else m.slots ++ taken_slot place ∷ []) (max m.tip (next_slot m + 1))
   by true lt =
       taken_out size base H m.slots m.tip t (next_slot m) place (set m.slots (next_slot m) (taken_slot place)) (max m.tip (next_slot m + 1))
-      (set_changes m.slots (next_slot m) (taken_slot place) (ltb-true (next_slot m) (length m.slots) lt)) (next_free size base H m t) (omega arith) (omega arith)
+      (set_changes m.slots (next_slot m) (taken_slot place) (ltb-true (next_slot m) (length m.slots) lt)) (next_free size base H m t) (omega arith) (omega arith) new_place.aligned new_place.above
   by false ge =
       taken_out size base H m.slots m.tip t (length m.slots) place (m.slots ++ taken_slot place ∷ []) (max m.tip (next_slot m + 1)) (push_changes m.slots (taken_slot place))
-      (ap (λ (s : SlotState). is_free s.state) (free_behind m.slots (length m.slots) (omega arith))) (omega (arith, ltb-false (next_slot m) (length m.slots) ge)) (omega arith)
+      (ap (λ (s : SlotState). is_free s.state) (free_behind m.slots (length m.slots) (omega arith))) (omega (arith, ltb-false (next_slot m) (length m.slots) ge)) (omega arith) new_place.aligned new_place.above
 
 -- One slot.
 
-pub outlived_at : (size : ℕ) (H : History) (s n : SlotState) (page : ℕ) → n.lsn ≡ s.lsn → n.latest ≡ s.latest → IsOutlived size H s page → IsOutlived size H n page
-outlived_at size H s n page lsn latest by = record {
+pub replacement_at : (size : ℕ) (H : History) (s n : SlotState) (page : ℕ) → n.lsn ≡ s.lsn → n.latest ≡ s.latest → HasReplacement size H s page → HasReplacement size H n page
+replacement_at size H s n page lsn latest by = record {
   message = by.message;
   there = by.there;
   same_page = by.same_page;
@@ -68,15 +69,16 @@ pub record IsSameSegment (old new : SlotState) : Type 0 where
   pub free : is_free new.state ≡ is_free old.state
   pub active : is_active new.state ≡ is_active old.state
   pub lsn : new.lsn ≡ old.lsn
+  pub pages : (page : ℕ) → Contains old.pages page → Contains new.pages page
 
 abbrev pub SameSegments : List SlotState → List SlotState → Type 0
 SameSegments old new = (j : ℕ) → IsSameSegment (at old j) (at new j)
 
 pub same_segment : (s : SlotState) → IsSameSegment s s
-same_segment s = record { free = refl; active = refl; lsn = refl }
+same_segment s = record { free = refl; active = refl; lsn = refl; pages = λ page there. there }
 
 pub same_then : (old mid new : List SlotState) → SameSegments old mid → SameSegments mid new → SameSegments old new
-same_then old mid new first more j = record { free = (more j).free ∙ (first j).free; active = (more j).active ∙ (first j).active; lsn = (more j).lsn ∙ (first j).lsn }
+same_then old mid new first more j = record { free = (more j).free ∙ (first j).free; active = (more j).active ∙ (first j).active; lsn = (more j).lsn ∙ (first j).lsn; pages = λ page there. (more j).pages page ((first j).pages page there) }
 
 pub set_same : (ss : List SlotState) (k : ℕ) (s : SlotState) → k < length ss → IsSameSegment (at ss k) s → SameSegments ss (set ss k s)
 set_same ss k s lt same = each_slot (λ j x. IsSameSegment (at ss j) x) ss k s (set ss k s) (set_changes ss k s lt) same (λ j other. same_segment (at ss j))
@@ -94,16 +96,18 @@ module _ (size base : ℕ) (H : History) (m : Machine) (t : Tracks size base H m
       set_tracks size base H m.slots m.tip k s t taken (record {
         taken = taken;
         lsn = refl;
-        active = λ active. inl active;
+        stable = λ none. t.stable k taken none;
         pages = λ p there. in_insert nat_cmp (slot_at m k).pages page p there;
-        gone = λ p there. outlived_at size H (slot_at m k) s p refl refl (t.gone k p there);
+        gone = λ p there. replacement_at size H (slot_at m k) s p refl refl (t.gone k p there);
         latest = t.latest k;
+        within = λ p there. in_insert nat_cmp (slot_at m k).pages page p (t.within k p there);
       })
 
   pub linked_same : SameSegments m.slots (linked size page info m).slots
   linked_same =
       let k = lid_of info.pointer / size in
-      set_same m.slots k (linked_slot page info.log_size (slot_at m k)) (taken_there m.slots k taken) (record { free = refl; active = refl; lsn = refl })
+      set_same m.slots k (linked_slot page info.log_size (slot_at m k)) (taken_there m.slots k taken)
+      (record { free = refl; active = refl; lsn = refl; pages = λ p there. in_insert nat_cmp (slot_at m k).pages page p there })
 
   pub outdating_tracks : (old : List CacheInfo) → Tracks size base H (outdating size info old m)
   outdating_tracks old =
@@ -112,16 +116,17 @@ module _ (size base : ℕ) (H : History) (m : Machine) (t : Tracks size base H m
       set_tracks size base H m.slots m.tip k s t taken (record {
         taken = taken;
         lsn = refl;
-        active = λ active. inl active;
+        stable = λ none. t.stable k taken none;
         pages = λ p there. there;
-        gone = λ p there. outlived_at size H (slot_at m k) s p refl refl (t.gone k p there);
+        gone = λ p there. replacement_at size H (slot_at m k) s p refl refl (t.gone k p there);
         latest = t.latest k;
+        within = t.within k;
       })
 
   pub outdating_same : (old : List CacheInfo) → SameSegments m.slots (outdating size info old m).slots
   outdating_same old =
       let k = lid_of info.pointer / size in
-      set_same m.slots k (record (slot_at m k) { blobs = all_outdated info.pointer old (slot_at m k).blobs }) (taken_there m.slots k taken) (record { free = refl; active = refl; lsn = refl })
+      set_same m.slots k (record (slot_at m k) { blobs = all_outdated info.pointer old (slot_at m k).blobs }) (taken_there m.slots k taken) (record { free = refl; active = refl; lsn = refl; pages = λ p there. there })
 
 -- Drains.
 
@@ -147,13 +152,14 @@ module _ (m : Machine) (k : ℕ) (inactive : is_inactive (slot_at m k).state ≡
       set_tracks size base H m.slots m.tip k (drained_slot (slot_at m k)) t (inactive_taken (slot_at m k) inactive) (record {
         taken = refl;
         lsn = refl;
-        active = λ active. absurd (false≢true (sym (inactive_not_active (slot_at m k) inactive) ∙ active));
+        stable = λ none. t.stable k (inactive_taken (slot_at m k) inactive) (inactive_not_active (slot_at m k) inactive);
         pages = λ p there. there;
-        gone = λ p there. outlived_at size H (slot_at m k) (drained_slot (slot_at m k)) p refl refl (t.gone k p there);
+        gone = λ p there. replacement_at size H (slot_at m k) (drained_slot (slot_at m k)) p refl refl (t.gone k p there);
         latest = t.latest k;
+        within = t.within k;
       })
 
   pub drained_same : SameSegments m.slots (drained k m).slots
   drained_same =
       set_same m.slots k (drained_slot (slot_at m k)) (taken_there m.slots k (inactive_taken (slot_at m k) inactive))
-      (record { free = sym (inactive_taken (slot_at m k) inactive); active = sym (inactive_not_active (slot_at m k) inactive); lsn = refl })
+      (record { free = sym (inactive_taken (slot_at m k) inactive); active = sym (inactive_not_active (slot_at m k) inactive); lsn = refl; pages = λ p there. there })

@@ -2,18 +2,18 @@
 use Rattle.std.proofs.Common.{⊎_elim, ◌≡◌, ◌∙◌, ◌⊎◌, ◌+◌, ◌*◌, ◌/◌, ◌<◌, ◌≤◌, ℕ, ℤ, pos, negsuc, max, true, false, List, [], Option, Some, None, sym, ap, subst, arith, inl, inr}
 use Rattle.std.specs.List.{Contains}
 use Rattle.std.specs.Ordering.{nat_cmp}
-use Rattle.std.proofs.lemmas.Bool.{false≢true, leb-true}
+use Rattle.std.proofs.lemmas.Bool.{true≢false, false≢true, leb-true}
 use Rattle.std.proofs.lemmas.List.{get_or-set_same}
 use Rattle.std.proofs.lemmas.Map.Lookups.{exact_unsigned}
 use Rattle.std.proofs.lemmas.Nat.{div-add-mod', mod_below}
 use Rattle.sled_codec.specs.History.{Message, History, no_history, begins_page, table}
-use Rattle.sled_store.specs.Marks.{info_of, slot_with, IsPast, Completes, IsFormerState, greatest_mark, Marked, unused, hands_out, links, replaces, batches, stabilizes, pops, IsSuperseded}
+use Rattle.sled_store.specs.Marks.{HasReplacement, info_of, slot_with, IsPast, Completes, IsFormerState, greatest_mark, Marked, unused, hands_out, links, replaces, batches, stabilizes, pops, IsSuperseded}
 use Rattle.sled_store.specs.SegmentStates.{SlotState, Machine, is_free, free_slot, slot_at, MayMark, linked_slot, linked, outdating, replaced, stabilized}
 use Rattle.sled_store.specs.declared.segment.slot.CacheInfo.{CacheInfo}
 use Rattle.sled_store.proofs.Segments.Elements.{in_nothing}
 use Rattle.sled_store.proofs.Segments.TableEntries.{from_table}
 use Rattle.sled_store.proofs.Marks.SlotLemmas.{at, free_behind, taken_there, inserted}
-use Rattle.sled_store.proofs.Marks.Tracked.{IsHeld, IsOutlived, IsActiveAt, IsTracked}
+use Rattle.sled_store.proofs.Marks.Tracked.{IsHeld, IsActiveAt, IsTracked}
 use Rattle.sled_store.proofs.Marks.MarkSteps.{Tracks, handed_out_tracks, SameSegments, same_then, active_same, linked_tracks, linked_same, outdating_tracks, outdating_same}
 use Rattle.sled_store.proofs.Marks.ReplaceSteps.{LiesBelow, below_same, replaced_all_tracks}
 use Rattle.sled_store.proofs.Marks.StableSteps.{segment_mono}
@@ -49,8 +49,8 @@ last_held size base H m cut page e order t past entry =
 
 -- Steps of the history.
 
-outlived_more : (size : ℕ) (H H' : History) (s : SlotState) (page : ℕ) → ((x : Message) → Contains H.messages x → Contains H'.messages x) → IsOutlived size H s page → IsOutlived size H' s page
-outlived_more size H H' s page keeps by = record {
+replacement_more : (size : ℕ) (H H' : History) (s : SlotState) (page : ℕ) → ((x : Message) → Contains H.messages x → Contains H'.messages x) → HasReplacement size H s page → HasReplacement size H' s page
+replacement_more size H H' s page keeps by = record {
   message = by.message;
   there = keeps by.message by.there;
   same_page = by.same_page;
@@ -77,9 +77,16 @@ more_tracks : (size base base' : ℕ) (H H' : History) (m : Machine) → Tracks 
 more_tracks size base base' H H' m t le keeps new = record {
   cut_off = t.cut_off;
   messages = λ e there. ⊎_elim (λ held. inl held) (λ old. ⊎_elim (λ held. inl held) (λ by. inr (superseded_more size base base' H H' e keeps le by)) (t.messages e old)) (new e there);
-  gone = λ k page there. outlived_more size H H' (at m.slots k) page keeps (t.gone k page there);
+  gone = λ k page there. replacement_more size H H' (at m.slots k) page keeps (t.gone k page there);
   latest = λ k place is. ⊎_elim (λ active. inl active) (λ below. inr (omega (arith, below, le))) (t.latest k place is);
+  within = t.within;
+  stable = λ k there none. omega (arith, t.stable k there none, le);
+  aligned = t.aligned;
+  apart = t.apart;
 }
+
+all_free : (k : ℕ) → is_free (at [] k).state ≡ false → true ≡ false
+all_free k there = sym (ap (λ (s : SlotState). is_free s.state) (free_behind [] k (omega arith))) ∙ there
 
 unused_tracks : (size base : ℕ) → IsTracked size base no_history [] 0
 unused_tracks size base = record {
@@ -87,6 +94,10 @@ unused_tracks size base = record {
   messages = λ e there. absurd (in_nothing e there);
   gone = λ k page there. absurd (in_nothing page (subst (λ (s : SlotState). Contains s.gone page) (free_behind [] k (omega arith)) there));
   latest = λ k place is. let none : ◌≡◌ {A = Option ℕ} None (Some place) = sym (ap (λ (s : SlotState). s.latest) (free_behind [] k (omega arith))) ∙ is in cc (none);
+  within = λ k page there. subst (λ (s : SlotState). Contains s.gone page → Contains s.pages page) (sym (free_behind [] k (omega arith))) (λ found. found) there;
+  stable = λ k there none. absurd (true≢false (all_free k there));
+  aligned = λ k there. absurd (true≢false (all_free k there));
+  apart = λ j k one two same. absurd (true≢false (all_free j one));
 }
 
 module _ (size mark : ℕ) (H : History) (m : Machine) (t : IsTruthful size mark H m) (x : Message) (H' : History) (completes : Completes H x H') (may : MayMark size m (info_of x) []) where
@@ -103,14 +114,14 @@ module _ (size mark : ℕ) (H : History) (m : Machine) (t : IsTruthful size mark
       (λ e there. ⊎_elim (λ is. inl (subst (λ (n : Message). IsHeld size (slot_at (linked size x.page (info_of x) m) (slot_with size n)) n) is held)) (λ old. inr old) (added_cases H x H' completes.adds e there))
 
   -- Its old messages lie in segments at or below its own.
-  pub former_below : (old : List CacheInfo) → IsFormerState H x.page old → (o : CacheInfo) → Contains old o → LiesBelow size (x.place / size * size) m.slots o
+  pub former_below : (old : List CacheInfo) → IsFormerState H x.page old → (o : CacheInfo) → Contains old o → LiesBelow size (x.place / size * size) x.page m.slots o
   former_below old former o there =
       let found = from_map info_of (table H former.cut x.page) o (subst (λ (os : List CacheInfo). Contains os o) former.is there) in
       let e : Message = found.0 in
       let held : IsHeld size (slot_at m (slot_with size e)) e = last_held size (mark / size * size) H m former.cut x.page e t.ascends t.tracks former.past found.1 in
       let from = from_table H former.cut x.page e found.1 in
       let lt : e.place < x.place = completes.newest e from.0 from.1 in
-      subst (LiesBelow size (x.place / size * size) m.slots) found.2 (record { taken = held.taken; below = omega (arith, held.lsn, segment_mono size e.place x.place t.some (omega (arith, lt))) })
+      subst (LiesBelow size (x.place / size * size) x.page m.slots) found.2 (record { taken = held.taken; below = omega (arith, held.lsn, segment_mono size e.place x.place t.some (omega (arith, lt))); has = subst (λ (n : ℕ). Contains (slot_at m (slot_with size e)).pages n) from.1 held.page })
 
   replaced_message : (old : List CacheInfo) → begins_page x.kind ≡ true → IsFormerState H x.page old → Tracks size (mark / size * size) H' (replaced size x.page (info_of x) old m)
   replaced_message old begins former =
@@ -125,7 +136,7 @@ module _ (size mark : ℕ) (H : History) (m : Machine) (t : IsTruthful size mark
       let t_o : Tracks size base H' o = outdating_tracks size base H' n t_n x.page (info_of x) taken old in
       let same : SameSegments m.slots o.slots = same_then m.slots n.slots o.slots taken_same (outdating_same size base H' n t_n x.page (info_of x) taken old) in
       let active : IsActiveAt m.slots place = record { slot = k; active = may.active; lsn = sym may.lies.lsn } in
-      replaced_all_tracks size base H' x (added_there H x H' completes.adds) begins old o t_o (λ p there. below_same size place m.slots o.slots p same (former_below old former p there)) (active_same m.slots o.slots place same active)
+      replaced_all_tracks size base H' x (added_there H x H' completes.adds) begins old o t_o (λ p there. below_same size place x.page m.slots o.slots p same (former_below old former p there)) (active_same m.slots o.slots place same active)
 
 -- a mark that is given raises the greatest one
 stable_tracks : (size mark : ℕ) (H : History) (m : Machine) (next : ℤ) → IsTruthful size mark H m → Tracks size (greatest_mark mark next / size * size) H (stabilized size next m).machine
@@ -140,9 +151,9 @@ stable_tracks size mark H m (negsuc next) t = stabilized_tracks size (mark / siz
 -- All that truthful marks make is tracked.
 pub truthful : (size mark : ℕ) (H : History) (m : Machine) → Marked size mark H m → IsTruthful size mark H m
 truthful size mark H m (unused some) = record { some = some; ascends = tt; tracks = unused_tracks size (0 / size * size) }
-truthful size mark H m (hands_out {m = n} place marked) =
+truthful size mark H m (hands_out {m = n} place marked new_place) =
     let t = truthful size mark H n marked in
-    record { some = t.some; ascends = t.ascends; tracks = handed_out_tracks size (mark / size * size) H n place t.tracks }
+    record { some = t.some; ascends = t.ascends; tracks = handed_out_tracks size (mark / size * size) H n place t.tracks new_place }
 truthful size mark K m (links {H = G} {m = n} x H marked completes kind may) =
     let t = truthful size mark G n marked in
     record { some = t.some; ascends = added_ascends G x H completes.adds t.ascends; tracks = linked_message size mark G n t x H completes may }

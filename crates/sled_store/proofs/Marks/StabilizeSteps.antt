@@ -10,7 +10,7 @@ use Rattle.sled_store.specs.declared.segment.slot.State.TheVariants.{Free, Activ
 use Rattle.sled_store.proofs.Segments.Elements.{in_first, in_rest, from_filter}
 use Rattle.sled_store.proofs.Marks.SlotLemmas.{at, taken_there, Distinct, distinct_filter, Passes, where_passes, HasPlace, by_has, by_distinct}
 use Rattle.sled_store.proofs.Marks.Tracked.{MayGo}
-use Rattle.sled_store.proofs.Marks.MarkSteps.{Tracks, outlived_at, set_tracks, inactive_taken, inactive_not_active, drained_tracks}
+use Rattle.sled_store.proofs.Marks.MarkSteps.{Tracks, replacement_at, set_tracks, inactive_taken, inactive_not_active, drained_tracks}
 use Rattle.sled_store.proofs.Marks.ReplaceSteps.{sparse_tracks}
 use Rattle.sled_store.proofs.Marks.StableSteps.{StaysActive, stays_then, stays_set, all_freed_track, all_freed_stay}
 use Rattle.sled_store.proofs.Marks.DeactivationSteps.{active_parts, waiting_go, due_goes, tested_tracks}
@@ -54,10 +54,11 @@ module _ (size base : ℕ) (H : History) (some : 0 < size) where
         set_tracks size base H m.slots m.tip a.1 (inactive_slot s) t (active_is_taken s due.active) (record {
           taken = refl;
           lsn = refl;
-          active = λ active. inr (omega (arith, due.lsn, due.below));
+          stable = λ none. omega (arith, due.lsn, due.below);
           pages = λ p there. there;
-          gone = λ p there. outlived_at size H s (inactive_slot s) p refl refl (t.gone a.1 p there);
+          gone = λ p there. replacement_at size H s (inactive_slot s) p refl refl (t.gone a.1 p there);
           latest = t.latest a.1;
+          within = t.within a.1;
         })
 
     inactive_stays : StaysActive a.1 m.slots (with_slot a.1 (inactive_slot (slot_at m a.1)) m).slots

@@ -6,13 +6,13 @@ use Rattle.std.proofs.lemmas.List.{length-set}
 use Rattle.std.proofs.lemmas.Nat.{le-div}
 use Rattle.std.proofs.Math.Nat.{div-mul-le_self, mul-le-mul_right}
 use Rattle.sled_codec.specs.History.{Message, History}
-use Rattle.sled_store.specs.Marks.{IsSuperseded}
+use Rattle.sled_store.specs.Marks.{HasReplacement, IsSuperseded}
 use Rattle.sled_store.specs.SegmentStates.{SlotState, Machine, is_free, is_active, is_draining, free_slot, slots_where, same_pages, is_done, may_be_cut, left_after, freed, in_turn}
 use Rattle.sled_store.specs.declared.segment.slot.State.{State}
 use Rattle.sled_store.specs.declared.segment.slot.State.TheVariants.{Free, Active, Inactive, Draining}
 use Rattle.sled_store.proofs.Segments.Elements.{in_first, in_rest}
 use Rattle.sled_store.proofs.Marks.SlotLemmas.{at, taken_there, set_changes, each_slot, same_is}
-use Rattle.sled_store.proofs.Marks.Tracked.{IsHeld, IsOutlived, IsTracked, MayGo, left_free}
+use Rattle.sled_store.proofs.Marks.Tracked.{IsHeld, IsTracked, MayGo, left_free}
 use Rattle.sled_store.proofs.Marks.MarkSteps.{Tracks}
 
 -- Segments of places.
@@ -99,7 +99,7 @@ module _ (size base : ℕ) (H : History) where
     superseded : (e : Message) → Contains H.messages e → IsHeld size (at ss k) e → IsSuperseded size base H e
     superseded e there held =
         let same : (at ss k).pages ≡ (at ss k).gone = same_is (at ss k).pages (at ss k).gone parts.1 in
-        let by : IsOutlived size H (at ss k) e.page = t.gone k e.page (subst (λ (ps : List ℕ). Contains ps e.page) same held.page) in
+        let by : HasReplacement size H (at ss k) e.page = t.gone k e.page (subst (λ (ps : List ℕ). Contains ps e.page) same held.page) in
         record {
           message = by.message;
           there = by.there;
