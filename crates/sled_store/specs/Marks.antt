@@ -1,5 +1,5 @@
 -- What truthful marks make of the segments: each message of a history is completed and marked at once, in place of all that its page was made of.
-use Rattle.std.specs.Prelude.{◌≡◌, ◌+◌, ◌*◌, ◌/◌, ◌%◌, ◌<◌, ◌≤◌, ℕ, ℤ, pos, negsuc, max, Bool, true, false, List, [], map, Option, Some, Contains}
+use Rattle.std.specs.Prelude.{◌≡◌, ◌+◌, ◌*◌, ◌/◌, ◌%◌, ◌<◌, ◌≤◌, ℕ, ℤ, pos, negsuc, max, true, false, List, [], map, Some, Contains}
 use Rattle.sled_codec.specs.declared.serialization.message.LogKind.TheVariants.{Link}
 use Rattle.sled_codec.specs.History.{Message, Batch, History, no_history, begins_page, table, AddsMessage, AddsBatch}
 use Rattle.sled_codec.specs.Pointers.{lid_of}

@@ -1,10 +1,11 @@
 -- The laws of truthful marks, from what is tracked.
-use Rattle.std.proofs.Common.{⊎_elim, ◌≡◌, ◌≢◌, ◌∙◌, ◌⊎◌, ◌*◌, ◌/◌, ◌<◌, ◌≤◌, ℕ, true, false, List, [], sym, subst, arith, inl, inr}
+use Rattle.std.proofs.Common.{⊎_elim, ◌≡◌, ◌≢◌, ◌∙◌, ◌⊎◌, ◌*◌, ◌/◌, ◌<◌, ◌≤◌, ℕ, true, false, List, [], sym, subst, arith, inl, inr, ◌+◌, ◌%◌, ℤ, Some}
 use Rattle.std.specs.List.{Contains}
 use Rattle.std.proofs.lemmas.Bool.{true≢false}
+use Rattle.std.proofs.lemmas.Nat.{div-add-mod', mod_below}
 use Rattle.sled_codec.specs.History.{Message, History, table}
-use Rattle.sled_store.specs.Marks.{HasReplacement, IsCounted, IsFormerState, IsLinked, IsPast, IsSuperseded, Marked, info_of, slot_with}
-use Rattle.sled_store.specs.SegmentStates.{Machine, LiesIn, MayMark, is_free, next_slot, slot_at}
+use Rattle.sled_store.specs.Marks.{HasReplacement, IsCounted, IsFormerState, IsLinked, IsPast, IsSuperseded, Marked, greatest_mark, info_of, slot_with}
+use Rattle.sled_store.specs.SegmentStates.{Machine, LiesIn, MayMark, is_free, next_slot, slot_at, is_active, stabilized}
 use Rattle.sled_store.specs.declared.segment.slot.CacheInfo.{CacheInfo}
 use Rattle.sled_store.proofs.Segments.Elements.{all_from_in}
 use Rattle.sled_store.proofs.Marks.SlotLemmas.{taken_there}
@@ -13,7 +14,7 @@ use Rattle.sled_store.proofs.Marks.MarkSteps.{next_free}
 use Rattle.sled_store.proofs.Marks.StableSteps.{segment_above}
 use Rattle.sled_store.proofs.Marks.DeactivationSteps.{from_map}
 use Rattle.sled_store.proofs.Marks.TableLemmas.{entry_above}
-use Rattle.sled_store.proofs.Marks.MarkedLemmas.{IsTruthful, truthful, entry_held, last_held}
+use Rattle.sled_store.proofs.Marks.MarkedLemmas.{IsTruthful, truthful, entry_held, last_held, stable_waits}
 
 -- a message that a slot holds is linked there
 held_linked : (size : ℕ) (m : Machine) (e : Message) → IsHeld size (slot_at m (slot_with size e)) e → IsLinked size m e
@@ -64,3 +65,36 @@ module _ (size mark : ℕ) (H : History) (m : Machine) where
         let t : IsTruthful size mark H m = truthful size mark H m marked in
         let found = from_map info_of (table H former.cut x.page) o (subst (λ (os : List CacheInfo). Contains os o) former.is there) in
         subst (LiesIn size m) found.2 (held_linked size m found.0 (last_held size (mark / size * size) H m former.cut x.page found.0 t.ascends t.tracks former.past found.1)).lies
+
+  -- a message from the mark's segment on is linked
+  pub from_mark_linked : (e : Message) → Marked size mark H m → Contains H.messages e → mark / size * size ≤ e.place → IsLinked size m e
+  from_mark_linked e marked there le = ⊎_elim (λ linked. linked) (λ by. absurd (above by)) (linked_or_superseded e marked there) where
+    above : IsSuperseded size (mark / size * size) H e → ⊥
+    above by =
+        let some = (truthful size mark H m marked).some in
+        let x : Message = by.message in
+        omega (arith, div-add-mod' x.place size, mod_below x.place size some, by.ends, by.later, le)
+
+  module _ (marked : Marked size mark H m) where
+    -- one place is that of one segment, and a multiple of the size
+    pub one_slot : (j k : ℕ) → is_free (slot_at m j).state ≡ false → is_free (slot_at m k).state ≡ false → (slot_at m j).lsn ≡ (slot_at m k).lsn → j ≡ k
+    one_slot = (truthful size mark H m marked).tracks.apart
+
+    pub place_aligned : (k : ℕ) → is_free (slot_at m k).state ≡ false → (slot_at m k).lsn % size ≡ 0
+    place_aligned = (truthful size mark H m marked).tracks.aligned
+
+    pub idle_stable : (k : ℕ) → is_free (slot_at m k).state ≡ false → is_active (slot_at m k).state ≡ false → (slot_at m k).lsn + size ≤ mark / size * size
+    idle_stable = (truthful size mark H m marked).tracks.stable
+
+    -- what is gone was there, and has a replacement
+    pub gone_there : (k page : ℕ) → Contains (slot_at m k).gone page → Contains (slot_at m k).pages page
+    gone_there = (truthful size mark H m marked).tracks.within
+
+    pub gone_replaced : (k page : ℕ) → Contains (slot_at m k).gone page → HasReplacement size H (slot_at m k) page
+    gone_replaced = (truthful size mark H m marked).tracks.gone
+
+    -- a slot that a mark frees doesn't wait for a segment that is active then
+    pub freed_stable : (next : ℤ) (k place : ℕ) → is_free (slot_at m k).state ≡ false → is_free (slot_at (stabilized size next m).machine k).state ≡ true → (slot_at m k).latest ≡ Some place
+        → place + size ≤ greatest_mark mark next / size * size
+    freed_stable next k place there free is =
+        ⊎_elim (λ still. absurd (true≢false (sym free ∙ still.0))) (λ below. below) (stable_waits size mark H m (truthful size mark H m marked) next k place (there, is))

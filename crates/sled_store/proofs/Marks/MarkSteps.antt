@@ -1,5 +1,5 @@
 -- Handing out and marks keep what the slots say of a history's messages.
-use Rattle.std.proofs.Common.{if◌then◌else◌, ◌≡◌, ◌∙◌, ◌+◌, ◌/◌, ◌<◌, ℕ, max, Bool, true, false, nat_lt, List, [], ◌∷◌, ◌++◌, length, set, take, refl, sym, ap, arith, inl}
+use Rattle.std.proofs.Common.{if◌then◌else◌, ◌≡◌, ◌∙◌, ◌+◌, ◌/◌, ◌<◌, ℕ, max, Bool, true, false, nat_lt, List, [], ◌∷◌, ◌++◌, length, set, take, refl, sym, ap, arith}
 use Rattle.std.specs.List.{Contains}
 use Rattle.std.specs.Ordering.{nat_cmp}
 use Rattle.std.proofs.lemmas.Bool.{false≢true, ltb-true, ltb-false}

@@ -8,7 +8,7 @@ use Rattle.std.proofs.lemmas.Map.Lookups.{exact_unsigned}
 use Rattle.std.proofs.lemmas.Nat.{div-add-mod', mod_below}
 use Rattle.sled_codec.specs.History.{Message, History, no_history, begins_page, table}
 use Rattle.sled_store.specs.Marks.{HasReplacement, info_of, slot_with, IsPast, Completes, IsFormerState, greatest_mark, Marked, unused, hands_out, links, replaces, batches, stabilizes, pops, IsSuperseded}
-use Rattle.sled_store.specs.SegmentStates.{SlotState, Machine, is_free, free_slot, slot_at, MayMark, linked_slot, linked, outdating, replaced, stabilized}
+use Rattle.sled_store.specs.SegmentStates.{SlotState, Machine, is_free, free_slot, slot_at, MayMark, linked_slot, linked, outdating, replaced, is_due, stabilized}
 use Rattle.sled_store.specs.declared.segment.slot.CacheInfo.{CacheInfo}
 use Rattle.sled_store.proofs.Segments.Elements.{in_nothing}
 use Rattle.sled_store.proofs.Segments.TableEntries.{from_table}
@@ -16,9 +16,9 @@ use Rattle.sled_store.proofs.Marks.SlotLemmas.{at, free_behind, taken_there, ins
 use Rattle.sled_store.proofs.Marks.Tracked.{IsHeld, IsActiveAt, IsTracked}
 use Rattle.sled_store.proofs.Marks.MarkSteps.{Tracks, handed_out_tracks, SameSegments, same_then, active_same, linked_tracks, linked_same, outdating_tracks, outdating_same}
 use Rattle.sled_store.proofs.Marks.ReplaceSteps.{LiesBelow, below_same, replaced_all_tracks}
-use Rattle.sled_store.proofs.Marks.StableSteps.{segment_mono}
+use Rattle.sled_store.proofs.Marks.StableSteps.{NotesPlace, segment_mono}
 use Rattle.sled_store.proofs.Marks.DeactivationSteps.{from_map}
-use Rattle.sled_store.proofs.Marks.StabilizeSteps.{stabilized_tracks}
+use Rattle.sled_store.proofs.Marks.StabilizeSteps.{stabilized_tracks, stabilized_waits}
 use Rattle.sled_store.proofs.Marks.TableLemmas.{Ascends, added_ascends, added_keeps, added_there, added_cases, entry_above}
 
 -- a history whose messages ascend, and a machine that tracks it
@@ -139,14 +139,24 @@ module _ (size mark : ℕ) (H : History) (m : Machine) (t : IsTruthful size mark
       replaced_all_tracks size base H' x (added_there H x H' completes.adds) begins old o t_o (λ p there. below_same size place x.page m.slots o.slots p same (former_below old former p there)) (active_same m.slots o.slots place same active)
 
 -- a mark that is given raises the greatest one
-stable_tracks : (size mark : ℕ) (H : History) (m : Machine) (next : ℤ) → IsTruthful size mark H m → Tracks size (greatest_mark mark next / size * size) H (stabilized size next m).machine
-stable_tracks size mark H m (pos next) t =
-    let base = mark / size * size in
-    let most = max mark next / size * size in
-    let le : base ≤ most = segment_mono size mark (max mark next) t.some (omega arith) in
-    stabilized_tracks size most H t.some m (pos next) (more_tracks size base most H H m t.tracks le (λ x there. there) (λ x there. inr there))
-    (λ place due. omega (arith, leb-true (place + size) (next / size * size) due, segment_mono size next (max mark next) t.some (omega arith)))
-stable_tracks size mark H m (negsuc next) t = stabilized_tracks size (mark / size * size) H t.some m (negsuc next) t.tracks (λ place due. absurd (false≢true due))
+module _ (size mark : ℕ) (H : History) (m : Machine) (t : IsTruthful size mark H m) where
+  raised_low : (next : ℤ) → mark / size * size ≤ greatest_mark mark next / size * size
+  raised_low (pos next) = segment_mono size mark (max mark next) t.some (omega arith)
+  raised_low (negsuc next) = omega arith
+
+  raised_due : (next : ℤ) (place : ℕ) → is_due size next place ≡ true → place + size ≤ greatest_mark mark next / size * size
+  raised_due (pos next) place due = omega (arith, leb-true (place + size) (next / size * size) due, segment_mono size next (max mark next) t.some (omega arith))
+  raised_due (negsuc next) place due = absurd (false≢true due)
+
+  raised_tracks : (next : ℤ) → Tracks size (greatest_mark mark next / size * size) H m
+  raised_tracks next = more_tracks size (mark / size * size) (greatest_mark mark next / size * size) H H m t.tracks (raised_low next) (λ x there. there) (λ x there. inr there)
+
+  pub stable_tracks : (next : ℤ) → Tracks size (greatest_mark mark next / size * size) H (stabilized size next m).machine
+  stable_tracks next = stabilized_tracks size (greatest_mark mark next / size * size) H t.some m next (raised_tracks next) (raised_due next)
+
+  -- A slot that is freed doesn't wait for a segment that is active.
+  pub stable_waits : (next : ℤ) (k place : ℕ) → NotesPlace (slot_at m k) place → NotesPlace (slot_at (stabilized size next m).machine k) place ⊎ (place + size ≤ greatest_mark mark next / size * size)
+  stable_waits next = stabilized_waits size (greatest_mark mark next / size * size) H t.some m next (raised_tracks next) (raised_due next)
 
 -- All that truthful marks make is tracked.
 pub truthful : (size mark : ℕ) (H : History) (m : Machine) → Marked size mark H m → IsTruthful size mark H m
@@ -170,7 +180,7 @@ truthful size mark K m (batches {H = G} b H marked adds) =
     }
 truthful size mark H m (stabilizes {mark = low} {m = n} next marked) =
     let t = truthful size low H n marked in
-    record { some = t.some; ascends = t.ascends; tracks = stable_tracks size low H n next t }
+    record { some = t.some; ascends = t.ascends; tracks = stable_tracks size low H n t next }
 truthful size mark H m (pops {m = n} marked) =
     let t = truthful size mark H n marked in
     record { some = t.some; ascends = t.ascends; tracks = t.tracks }

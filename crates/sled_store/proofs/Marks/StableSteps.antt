@@ -1,5 +1,5 @@
 -- A slot whose segment is done may be freed: it has no message of its own that isn't superseded.
-use Rattle.std.proofs.Common.{if◌then◌else◌, ⊎_elim, ◌≡◌, ◌≢◌, ◌∙◌, ◌⊎◌, ◌+◌, ◌*◌, ◌/◌, ◌<◌, ◌≤◌, ℕ, zero, suc, Bool, true, false, nat_lt, List, [], ◌∷◌, length, take, set, Some, refl, sym, ap, subst, arith, inr}
+use Rattle.std.proofs.Common.{if◌then◌else◌, ⊎_elim, ◌≡◌, ◌≢◌, ◌∙◌, ◌⊎◌, ◌+◌, ◌*◌, ◌/◌, ◌<◌, ◌≤◌, ℕ, zero, suc, Bool, true, false, nat_lt, List, [], ◌∷◌, length, take, set, Some, refl, sym, ap, subst, arith, inl, inr}
 use Rattle.std.specs.List.{Contains}
 use Rattle.std.proofs.lemmas.Bool.{true≢false, false≢true, cases_eq, cases_lt, and_parts}
 use Rattle.std.proofs.lemmas.List.{length-set}
@@ -25,15 +25,36 @@ segment_above size x y some lt = ⊎_elim (λ below. below) (λ le. absurd (omeg
 
 -- Slots that stay as they are.
 
--- each active slot but one is as it was
-abbrev pub StaysActive : ℕ → List SlotState → List SlotState → Type 0
-StaysActive but old new = (j : ℕ) → j ≢ but → is_active (at old j).state ≡ true → at new j ≡ at old j
+-- a segment is there, and notes this place as that of its latest replacement
+abbrev pub NotesPlace : SlotState → ℕ → Type 0
+NotesPlace s place = (is_free s.state ≡ false) × (s.latest ≡ Some place)
 
-pub stays_then : (but : ℕ) (old mid new : List SlotState) → StaysActive but old mid → StaysActive but mid new → StaysActive but old new
-stays_then but old mid new first more j other active = more j other (ap (λ (s : SlotState). is_active s.state) (first j other active) ∙ active) ∙ first j other active
+-- Each active slot but one is as it was, and a segment that waits for one above the base is there.
+pub record KeepsSegments (size base but : ℕ) (old new : List SlotState) : Type 0 where
+  pub active : (j : ℕ) → j ≢ but → is_active (at old j).state ≡ true → at new j ≡ at old j
+  pub waiting : (j place : ℕ) → NotesPlace (at old j) place → NotesPlace (at new j) place ⊎ (place + size ≤ base)
 
-pub stays_set : (but k : ℕ) (old : List SlotState) (s : SlotState) → k < length old → (k ≡ but) ⊎ (is_active (at old k).state ≡ false) → StaysActive but old (set old k s)
-stays_set but k old s lt why j other active = (set_changes old k s lt).others j (λ is. ⊎_elim (λ same. other (is ∙ same)) (λ none. true≢false (sym (subst (λ (i : ℕ). is_active (at old i).state ≡ true) is active) ∙ none)) why)
+pub keeps_same : (size base but : ℕ) (ss : List SlotState) → KeepsSegments size base but ss ss
+keeps_same size base but ss = record { active = λ j other active. refl; waiting = λ j place notes. inl notes }
+
+pub keeps_then : (size base but : ℕ) (old mid new : List SlotState) → KeepsSegments size base but old mid → KeepsSegments size base but mid new → KeepsSegments size base but old new
+keeps_then size base but old mid new first more = record {
+  active = λ j other active. more.active j other (ap (λ (s : SlotState). is_active s.state) (first.active j other active) ∙ active) ∙ first.active j other active;
+  waiting = λ j place notes. ⊎_elim (λ still. more.waiting j place still) (λ below. inr below) (first.waiting j place notes);
+}
+
+-- a slot that isn't active, or is that one, isn't another active one
+not_that : (but k : ℕ) (old : List SlotState) → (k ≡ but) ⊎ (is_active (at old k).state ≡ false) → (j : ℕ) → j ≢ but → is_active (at old j).state ≡ true → j ≢ k
+not_that but k old why j other active is =
+    ⊎_elim (λ same. other (is ∙ same)) (λ none. true≢false (sym (subst (λ (i : ℕ). is_active (at old i).state ≡ true) is active) ∙ none)) why
+
+pub keeps_set : (size base but k : ℕ) (old : List SlotState) (s : SlotState) → k < length old → (k ≡ but) ⊎ (is_active (at old k).state ≡ false) → is_free s.state ≡ false → s.latest ≡ (at old k).latest
+    → KeepsSegments size base but old (set old k s)
+keeps_set size base but k old s lt why taken same = record {
+  active = λ j other active. (set_changes old k s lt).others j (not_that but k old why j other active);
+  waiting = λ j place. each_slot (λ i x. NotesPlace (at old i) place → NotesPlace x place ⊎ (place + size ≤ base)) old k s (set old k s) (set_changes old k s lt)
+      (λ notes. inl (taken, same ∙ notes.1)) (λ i other notes. inl notes) j;
+}
 
 -- Frees.
 
@@ -57,6 +78,8 @@ module _ (size base : ℕ) (H : History) where
     there = omega (arith, goes.there, length-set m.slots k free_slot);
     not_active = each_slot (λ i x. is_active (at m.slots i).state ≡ false → is_active x.state ≡ false) m.slots k free_slot (set m.slots k free_slot) (set_changes m.slots k free_slot lt) (λ none. refl) (λ i other none. none) j goes.not_active;
     superseded = λ e there held. goes.superseded e there (was e j held);
+    waited = λ place. each_slot (λ i x. ((at m.slots i).latest ≡ Some place → place + size ≤ base) → x.latest ≡ Some place → place + size ≤ base) m.slots k free_slot (set m.slots k free_slot) (set_changes m.slots k free_slot lt)
+        (λ before is. cc) (λ i other before. before) j (goes.waited place);
   } where
     was : (e : Message) (i : ℕ) → IsHeld size (at (set m.slots k free_slot) i) e → IsHeld size (at m.slots i) e
     was e = each_slot (λ i x. IsHeld size x e → IsHeld size (at m.slots i) e) m.slots k free_slot (set m.slots k free_slot) (set_changes m.slots k free_slot lt) (λ held. absurd (true≢false held.taken)) (λ i other held. held)
@@ -67,12 +90,19 @@ module _ (size base : ℕ) (H : History) where
       let goes : MayGo size base H m.slots k = go k (in_first k ks) in
       all_freed_track ks (freed size k m).machine (freed_tracks m k t goes) (λ j there. goes_on m k j goes.there (go j (in_rest k j ks there)))
 
-  pub all_freed_stay : (but : ℕ) (ks : List ℕ) (m : Machine) → ((k : ℕ) → Contains ks k → MayGo size base H m.slots k) → StaysActive but m.slots (in_turn (freed size) ks m).machine.slots
-  all_freed_stay but [] m go = λ j other active. refl
-  all_freed_stay but (k ∷ ks) m go =
+  pub freed_keeps : (but : ℕ) (m : Machine) (k : ℕ) → (k ≡ but) ⊎ (is_active (at m.slots k).state ≡ false) → MayGo size base H m.slots k → KeepsSegments size base but m.slots (freed size k m).machine.slots
+  freed_keeps but m k why goes = record {
+    active = λ j other active. (set_changes m.slots k free_slot goes.there).others j (not_that but k m.slots why j other active);
+    waiting = λ j place. each_slot (λ i x. NotesPlace (at m.slots i) place → NotesPlace x place ⊎ (place + size ≤ base)) m.slots k free_slot (set m.slots k free_slot) (set_changes m.slots k free_slot goes.there)
+        (λ notes. inr (goes.waited place notes.1)) (λ i other notes. inl notes) j;
+  }
+
+  pub all_freed_keep : (but : ℕ) (ks : List ℕ) (m : Machine) → ((k : ℕ) → Contains ks k → MayGo size base H m.slots k) → KeepsSegments size base but m.slots (in_turn (freed size) ks m).machine.slots
+  all_freed_keep but [] m go = keeps_same size base but m.slots
+  all_freed_keep but (k ∷ ks) m go =
       let goes : MayGo size base H m.slots k = go k (in_first k ks) in
-      stays_then but m.slots (freed size k m).machine.slots (in_turn (freed size) ks (freed size k m).machine).machine.slots (stays_set but k m.slots free_slot goes.there (inr goes.not_active))
-      (all_freed_stay but ks (freed size k m).machine (λ j there. goes_on m k j goes.there (go j (in_rest k j ks there))))
+      keeps_then size base but m.slots (freed size k m).machine.slots (in_turn (freed size) ks (freed size k m).machine).machine.slots (freed_keeps but m k (inr goes.not_active) goes)
+      (all_freed_keep but ks (freed size k m).machine (λ j there. goes_on m k j goes.there (go j (in_rest k j ks there))))
 
   -- A segment that is done, and whose latest replacement lies below the base, has no message of its own.
   pub done_goes : (ss : List SlotState) (tip k : ℕ) → 0 < size → IsTracked size base H ss tip → is_done (at ss k) ≡ true → ((place : ℕ) → (at ss k).latest ≡ Some place → place + size ≤ base) → MayGo size base H ss k
@@ -80,6 +110,7 @@ module _ (size base : ℕ) (H : History) where
     there = taken_there ss k (draining_taken (at ss k).state parts.0);
     not_active = draining_not_active (at ss k).state parts.0;
     superseded = superseded;
+    waited = below;
   } where
     parts : (is_draining (at ss k).state ≡ true) × (same_pages (at ss k).pages (at ss k).gone ≡ true)
     parts = and_parts (is_draining (at ss k).state) (same_pages (at ss k).pages (at ss k).gone) done

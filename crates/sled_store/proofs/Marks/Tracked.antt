@@ -2,7 +2,7 @@
 use Rattle.std.proofs.Common.{⊎_elim, ◌≡◌, ◌≢◌, ◌∙◌, ◌⊎◌, ◌+◌, ◌*◌, ◌/◌, ◌%◌, ◌<◌, ◌≤◌, ℕ, true, false, List, length, Some, refl, sym, ap, subst, arith, inl, inr}
 use Rattle.std.specs.List.{Contains}
 use Rattle.std.proofs.lemmas.Bool.{true≢false, false≢true, cases_lt, cases_eq, cases_Bool}
-use Rattle.sled_codec.specs.History.{Message, History, begins_page}
+use Rattle.sled_codec.specs.History.{Message, History}
 use Rattle.sled_store.specs.Marks.{HasReplacement, slot_with, IsSuperseded}
 use Rattle.sled_store.specs.SegmentStates.{SlotState, is_free, is_active, free_slot, taken_slot}
 use Rattle.sled_store.specs.declared.segment.slot.State.{State}
@@ -67,6 +67,7 @@ pub record MayGo (size base : ℕ) (H : History) (ss : List SlotState) (k : ℕ)
   pub there : k < length ss
   pub not_active : is_active (at ss k).state ≡ false
   pub superseded : (e : Message) → Contains H.messages e → IsHeld size (at ss k) e → IsSuperseded size base H e
+  pub waited : (place : ℕ) → (at ss k).latest ≡ Some place → place + size ≤ base
 
 module _ (size base : ℕ) (H : History) (ss : List SlotState) (tip : ℕ) (t : IsTracked size base H ss tip) where
   -- A segment that stays keeps all of it.

@@ -2,10 +2,10 @@
 //! messages of a history (`specs/Marks.antt`) make of the segments (`specs/SegmentStates.antt`). A segment whose pages
 //! are all replaced holds no entry of the page table, and no slot that is free, or handed out next, holds an entry of a
 //! table below a cut that the mark's segment doesn't pass.
-ghost use Rattle.std.specs.Prelude.{◌≡◌, ◌≢◌, ◌⊎◌, ◌*◌, ◌/◌, ◌≤◌, ℕ, true, List, [], Contains};
+ghost use Rattle.std.specs.Prelude.{◌≡◌, ◌≢◌, ◌⊎◌, ◌+◌, ◌*◌, ◌/◌, ◌%◌, ◌≤◌, ℕ, ℤ, true, false, List, [], Some, Contains};
 ghost use Rattle.sled_codec.specs.History.{Message, History, table};
-ghost use Rattle.sled_store.specs.Marks.{IsCounted, IsFormerState, IsLinked, IsPast, IsSuperseded, Marked, info_of, slot_with};
-ghost use Rattle.sled_store.specs.SegmentStates.{Machine, MayMark, is_free, next_slot, slot_at};
+ghost use Rattle.sled_store.specs.Marks.{HasReplacement, IsCounted, IsFormerState, IsLinked, IsPast, IsSuperseded, Marked, greatest_mark, info_of, slot_with};
+ghost use Rattle.sled_store.specs.SegmentStates.{Machine, MayMark, is_active, is_free, next_slot, slot_at, stabilized};
 ghost use Rattle.sled_store.specs.declared.segment.slot.CacheInfo.{CacheInfo};
 
 /// Each message is linked to the segment that its slot holds, or a later one has replaced its page, in a segment that
@@ -44,4 +44,36 @@ pub fn free_slots_are_not_needed()
 pub fn former_states_may_be_marked()
     ensures { (size mark : ℕ) (H : History) (m : Machine) (x : Message) (old : List CacheInfo) → Marked size mark H m
         → IsFormerState H x.page old → MayMark size m (info_of x) [] → MayMark size m (info_of x) old }
+{}
+
+/// A message from the mark's segment on is linked: no segment goes from there on.
+pub fn messages_from_the_mark_are_linked()
+    ensures { (size mark : ℕ) (H : History) (m : Machine) (e : Message) → Marked size mark H m → Contains H.messages e
+        → mark / size * size ≤ e.place → IsLinked size m e }
+{}
+
+/// A place is that of one segment at most, and a segment that isn't active ends where the mark's begins, or below.
+pub fn segments_lie_apart()
+    ensures one_slot { (size mark : ℕ) (H : History) (m : Machine) (j k : ℕ) → Marked size mark H m
+        → is_free (slot_at m j).state ≡ false → is_free (slot_at m k).state ≡ false → (slot_at m j).lsn ≡ (slot_at m k).lsn → j ≡ k }
+    ensures aligned { (size mark : ℕ) (H : History) (m : Machine) (k : ℕ) → Marked size mark H m
+        → is_free (slot_at m k).state ≡ false → (slot_at m k).lsn % size ≡ 0 }
+    ensures stable { (size mark : ℕ) (H : History) (m : Machine) (k : ℕ) → Marked size mark H m
+        → is_free (slot_at m k).state ≡ false → is_active (slot_at m k).state ≡ false → (slot_at m k).lsn + size ≤ mark / size * size }
+{}
+
+/// A page that is gone from a segment was linked there, and a message in a later segment has replaced it.
+pub fn gone_pages_are_replaced()
+    ensures linked { (size mark : ℕ) (H : History) (m : Machine) (k page : ℕ) → Marked size mark H m
+        → Contains (slot_at m k).gone page → Contains (slot_at m k).pages page }
+    ensures replaced { (size mark : ℕ) (H : History) (m : Machine) (k page : ℕ) → Marked size mark H m
+        → Contains (slot_at m k).gone page → HasReplacement size H (slot_at m k) page }
+{}
+
+/// The free waits: where a mark frees a slot, the segment of its latest replacement ends where the greatest mark's
+/// begins, or below, and so isn't active any more.
+pub fn frees_wait_for_the_latest_replacement()
+    ensures { (size mark : ℕ) (H : History) (m : Machine) (next : ℤ) (k place : ℕ) → Marked size mark H m
+        → is_free (slot_at m k).state ≡ false → is_free (slot_at (stabilized size next m).machine k).state ≡ true
+        → (slot_at m k).latest ≡ Some place → place + size ≤ greatest_mark mark next / size * size }
 {}
