@@ -50,14 +50,28 @@ pub data Marked (size : ℕ) : ℕ → History → Machine → Type 0 where
       → Completes H x H' → x.kind ≡ Link → MayMark size m (info_of x) [] → Marked size mark H' (linked size x.page (info_of x) m)
   -- a Replace or a Free is completed, and marked in place of the page's former state
   replaces : {mark : ℕ} {H : History} {m : Machine} (x : Message) (old : List CacheInfo) (H' : History) → Marked size mark H m
-      → Completes H x H' → begins_page x.kind ≡ true → IsFormerState H x.page old → MayMark size m (info_of x) [] → Marked size mark H' (replaced size x.page (info_of x) old m)
+      → Completes H x H' → begins_page x.kind ≡ true → IsFormerState H x.page old → MayMark size m (info_of x) []
+      → Marked size mark H' (replaced size x.page (info_of x) old m)
   -- a batch is noted, which no segment hears of
   batches : {mark : ℕ} {H : History} {m : Machine} (b : Batch) (H' : History) → Marked size mark H m → AddsBatch H b H' → Marked size mark H' m
   -- all below a mark is stable
-  stabilizes : {mark : ℕ} {H : History} {m : Machine} (next : ℤ) → Marked size mark H m → Marked size (greatest_mark mark next) H (stabilized size next m).machine
+  stabilizes : {mark : ℕ} {H : History} {m : Machine} (next : ℤ) → Marked size mark H m
+      → Marked size (greatest_mark mark next) H (stabilized size next m).machine
   -- the cleaner is asked for a page
   pops : {mark : ℕ} {H : History} {m : Machine} → Marked size mark H m
       → Marked size mark H (record { slots = m.slots; tip = m.tip; cleaner = popped m.cleaner })
+
+-- the segment at a place is needed below a cut: an entry of the table lies in it
+pub record IsNeeded (size : ℕ) (H : History) (cut place : ℕ) : Type 0 where
+  pub page : ℕ
+  pub entry : Message
+  pub there : Contains (table H cut page) entry
+  pub within : entry.place / size * size ≡ place
+
+-- the segment at a place is in this slot
+pub record IsIn (m : Machine) (k place : ℕ) : Type 0 where
+  pub taken : is_free (slot_at m k).state ≡ false
+  pub lsn : (slot_at m k).lsn ≡ place
 
 -- A message is linked: its slot holds its segment, and has its page.
 pub record IsLinked (size : ℕ) (m : Machine) (e : Message) : Type 0 where
@@ -78,7 +92,7 @@ pub record IsSuperseded (size place : ℕ) (H : History) (e : Message) : Type 0 
   pub later : e.place < message.place
   pub ends : message.place / size * size + size ≤ place
 
--- A message in a later segment gives a page of this segment a new beginning, and the segment has noted a place that isn't below that one's.
+-- A message in a later segment gives a page of this segment a new beginning, and the place that is noted isn't below that segment's.
 pub record HasReplacement (size : ℕ) (H : History) (s : SlotState) (page : ℕ) : Type 0 where
   pub message : Message
   pub there : Contains H.messages message

@@ -6,9 +6,9 @@ use Rattle.std.proofs.lemmas.Bool.{true≢false, false≢true, leb-true}
 use Rattle.std.proofs.lemmas.List.{get_or-set_same}
 use Rattle.std.proofs.lemmas.Map.Lookups.{exact_unsigned}
 use Rattle.std.proofs.lemmas.Nat.{div-add-mod', mod_below}
-use Rattle.sled_codec.specs.History.{Message, History, no_history, begins_page, table}
-use Rattle.sled_store.specs.Marks.{HasReplacement, info_of, slot_with, IsPast, Completes, IsFormerState, greatest_mark, Marked, unused, hands_out, links, replaces, batches, stabilizes, pops, IsSuperseded}
-use Rattle.sled_store.specs.SegmentStates.{SlotState, Machine, is_free, free_slot, slot_at, MayMark, linked_slot, linked, outdating, replaced, is_due, stabilized}
+use Rattle.sled_codec.specs.History.{Message, History, no_history, begins_page, table, Batch, AddsBatch}
+use Rattle.sled_store.specs.Marks.{HasReplacement, info_of, slot_with, IsPast, Completes, IsFormerState, greatest_mark, Marked, unused, hands_out, links, replaces, batches, stabilizes, pops, IsSuperseded, IsNewPlace}
+use Rattle.sled_store.specs.SegmentStates.{SlotState, Machine, is_free, free_slot, slot_at, MayMark, linked_slot, linked, outdating, replaced, is_due, stabilized, unused_machine, handed_out, popped}
 use Rattle.sled_store.specs.declared.segment.slot.CacheInfo.{CacheInfo}
 use Rattle.sled_store.proofs.Segments.Elements.{in_nothing}
 use Rattle.sled_store.proofs.Segments.TableEntries.{from_table}
@@ -158,29 +158,47 @@ module _ (size mark : ℕ) (H : History) (m : Machine) (t : IsTruthful size mark
   pub stable_waits : (next : ℤ) (k place : ℕ) → NotesPlace (slot_at m k) place → NotesPlace (slot_at (stabilized size next m).machine k) place ⊎ (place + size ≤ greatest_mark mark next / size * size)
   stable_waits next = stabilized_waits size (greatest_mark mark next / size * size) H t.some m next (raised_tracks next) (raised_due next)
 
+-- Steps: each keeps it.
+
+pub unused_truthful : (size : ℕ) → 0 < size → IsTruthful size 0 no_history unused_machine
+unused_truthful size some = record { some = some; ascends = tt; tracks = unused_tracks size (0 / size * size) }
+
+module _ (size mark : ℕ) (H : History) (m : Machine) (t : IsTruthful size mark H m) where
+  pub handed_out_truthful : (place : ℕ) → IsNewPlace size place m → IsTruthful size mark H (handed_out place m)
+  handed_out_truthful place new_place = record { some = t.some; ascends = t.ascends; tracks = handed_out_tracks size (mark / size * size) H m place t.tracks new_place }
+
+  pub linked_truthful : (x : Message) (H' : History) → Completes H x H' → MayMark size m (info_of x) [] → IsTruthful size mark H' (linked size x.page (info_of x) m)
+  linked_truthful x H' completes may = record { some = t.some; ascends = added_ascends H x H' completes.adds t.ascends; tracks = linked_message size mark H m t x H' completes may }
+
+  pub replaced_truthful : (x : Message) (old : List CacheInfo) (H' : History) → Completes H x H' → begins_page x.kind ≡ true → IsFormerState H x.page old → MayMark size m (info_of x) []
+      → IsTruthful size mark H' (replaced size x.page (info_of x) old m)
+  replaced_truthful x old H' completes begins former may =
+      record { some = t.some; ascends = added_ascends H x H' completes.adds t.ascends; tracks = replaced_message size mark H m t x H' completes may old begins former }
+
+  -- batches change no message
+  pub batched_truthful : (b : Batch) (H' : History) → AddsBatch H b H' → IsTruthful size mark H' m
+  batched_truthful b H' adds =
+      let same = adds.messages in
+      let base = mark / size * size in
+      record {
+        some = t.some;
+        ascends = subst Ascends (sym same) t.ascends;
+        tracks = more_tracks size base base H H' m t.tracks (omega arith) (λ x there. subst (λ (ms : List Message). Contains ms x) (sym same) there) (λ x there. inr (subst (λ (ms : List Message). Contains ms x) same there));
+      }
+
+  pub stabilized_truthful : (next : ℤ) → IsTruthful size (greatest_mark mark next) H (stabilized size next m).machine
+  stabilized_truthful next = record { some = t.some; ascends = t.ascends; tracks = stable_tracks size mark H m t next }
+
+  -- nothing is read of the cleaner
+  pub popped_truthful : (left : List (ℕ × List ℕ)) → IsTruthful size mark H (record { slots = m.slots; tip = m.tip; cleaner = left })
+  popped_truthful left = record { some = t.some; ascends = t.ascends; tracks = t.tracks }
+
 -- All that truthful marks make is tracked.
 pub truthful : (size mark : ℕ) (H : History) (m : Machine) → Marked size mark H m → IsTruthful size mark H m
-truthful size mark H m (unused some) = record { some = some; ascends = tt; tracks = unused_tracks size (0 / size * size) }
-truthful size mark H m (hands_out {m = n} place marked new_place) =
-    let t = truthful size mark H n marked in
-    record { some = t.some; ascends = t.ascends; tracks = handed_out_tracks size (mark / size * size) H n place t.tracks new_place }
-truthful size mark K m (links {H = G} {m = n} x H marked completes kind may) =
-    let t = truthful size mark G n marked in
-    record { some = t.some; ascends = added_ascends G x H completes.adds t.ascends; tracks = linked_message size mark G n t x H completes may }
-truthful size mark K m (replaces {H = G} {m = n} x old H marked completes begins former may) =
-    let t = truthful size mark G n marked in
-    record { some = t.some; ascends = added_ascends G x H completes.adds t.ascends; tracks = replaced_message size mark G n t x H completes may old begins former }
-truthful size mark K m (batches {H = G} b H marked adds) =
-    let t = truthful size mark G m marked in
-    let same = adds.messages in
-    record {
-      some = t.some;
-      ascends = subst Ascends (sym same) t.ascends;
-      tracks = more_tracks size (mark / size * size) (mark / size * size) G H m t.tracks (omega arith) (λ x there. subst (λ (ms : List Message). Contains ms x) (sym same) there) (λ x there. inr (subst (λ (ms : List Message). Contains ms x) same there));
-    }
-truthful size mark H m (stabilizes {mark = low} {m = n} next marked) =
-    let t = truthful size low H n marked in
-    record { some = t.some; ascends = t.ascends; tracks = stable_tracks size low H n t next }
-truthful size mark H m (pops {m = n} marked) =
-    let t = truthful size mark H n marked in
-    record { some = t.some; ascends = t.ascends; tracks = t.tracks }
+truthful size mark H m (unused some) = unused_truthful size some
+truthful size mark H m (hands_out {m = n} place marked new_place) = handed_out_truthful size mark H n (truthful size mark H n marked) place new_place
+truthful size mark K m (links {H = G} {m = n} x H marked completes kind may) = linked_truthful size mark G n (truthful size mark G n marked) x H completes may
+truthful size mark K m (replaces {H = G} {m = n} x old H marked completes begins former may) = replaced_truthful size mark G n (truthful size mark G n marked) x old H completes begins former may
+truthful size mark K m (batches {H = G} b H marked adds) = batched_truthful size mark G m (truthful size mark G m marked) b H adds
+truthful size mark H m (stabilizes {mark = low} {m = n} next marked) = stabilized_truthful size low H n (truthful size low H n marked) next
+truthful size mark H m (pops {m = n} marked) = popped_truthful size mark H n (truthful size mark H n marked) (popped n.cleaner)

@@ -4,7 +4,7 @@
 //! table below a cut that the mark's segment doesn't pass.
 ghost use Rattle.std.specs.Prelude.{◌≡◌, ◌≢◌, ◌⊎◌, ◌+◌, ◌*◌, ◌/◌, ◌%◌, ◌≤◌, ℕ, ℤ, true, false, List, [], Some, Contains};
 ghost use Rattle.sled_codec.specs.History.{Message, History, table};
-ghost use Rattle.sled_store.specs.Marks.{HasReplacement, IsCounted, IsFormerState, IsLinked, IsPast, IsSuperseded, Marked, greatest_mark, info_of, slot_with};
+ghost use Rattle.sled_store.specs.Marks.{HasReplacement, IsCounted, IsFormerState, IsIn, IsLinked, IsNeeded, IsPast, IsSuperseded, Marked, greatest_mark, info_of, slot_with};
 ghost use Rattle.sled_store.specs.SegmentStates.{Machine, MayMark, is_active, is_free, next_slot, slot_at, stabilized};
 ghost use Rattle.sled_store.specs.declared.segment.slot.CacheInfo.{CacheInfo};
 
@@ -33,11 +33,14 @@ pub fn tables_above_the_mark_are_linked()
         → mark / size * size ≤ cut → Contains (table H cut page) e → IsLinked size m e }
 {}
 
-/// No such entry lies in a slot that is free, as the one that is handed out next is.
+/// No such entry lies in a slot that is free, as the one that is handed out next is: each segment that is needed below
+/// such a cut is in another slot.
 pub fn free_slots_are_not_needed()
     ensures free { (size mark : ℕ) (H : History) (m : Machine) (cut page k : ℕ) (e : Message) → Marked size mark H m
         → mark / size * size ≤ cut → Contains (table H cut page) e → is_free (slot_at m k).state ≡ true → slot_with size e ≢ k }
     ensures next { (size mark : ℕ) (H : History) (m : Machine) → Marked size mark H m → is_free (slot_at m (next_slot m)).state ≡ true }
+    ensures needed { (size mark : ℕ) (H : History) (m : Machine) (cut place : ℕ) → Marked size mark H m
+        → mark / size * size ≤ cut → IsNeeded size H cut place → (k : ℕ) × IsIn m k place × (k ≢ next_slot m) }
 {}
 
 /// A message in an active segment may be marked in place of its page's former state: that lies in segments.
@@ -52,14 +55,14 @@ pub fn messages_from_the_mark_are_linked()
         → mark / size * size ≤ e.place → IsLinked size m e }
 {}
 
-/// A place is that of one segment at most, and a segment that isn't active ends where the mark's begins, or below.
+/// The segment at a place is in one slot at most, and one that isn't active ends where the mark's begins, or below.
 pub fn segments_lie_apart()
-    ensures one_slot { (size mark : ℕ) (H : History) (m : Machine) (j k : ℕ) → Marked size mark H m
-        → is_free (slot_at m j).state ≡ false → is_free (slot_at m k).state ≡ false → (slot_at m j).lsn ≡ (slot_at m k).lsn → j ≡ k }
-    ensures aligned { (size mark : ℕ) (H : History) (m : Machine) (k : ℕ) → Marked size mark H m
-        → is_free (slot_at m k).state ≡ false → (slot_at m k).lsn % size ≡ 0 }
-    ensures stable { (size mark : ℕ) (H : History) (m : Machine) (k : ℕ) → Marked size mark H m
-        → is_free (slot_at m k).state ≡ false → is_active (slot_at m k).state ≡ false → (slot_at m k).lsn + size ≤ mark / size * size }
+    ensures one_slot { (size mark : ℕ) (H : History) (m : Machine) (j k place : ℕ) → Marked size mark H m
+        → IsIn m j place → IsIn m k place → j ≡ k }
+    ensures aligned { (size mark : ℕ) (H : History) (m : Machine) (k place : ℕ) → Marked size mark H m
+        → IsIn m k place → place % size ≡ 0 }
+    ensures stable { (size mark : ℕ) (H : History) (m : Machine) (k place : ℕ) → Marked size mark H m
+        → IsIn m k place → is_active (slot_at m k).state ≡ false → place + size ≤ mark / size * size }
 {}
 
 /// A page that is gone from a segment was linked there, and a message in a later segment has replaced it.
