@@ -1,4 +1,5 @@
 pub mod DeactivationSteps
+pub mod MarkExample
 pub mod MarkLaws
 pub mod MarkSteps
 pub mod MarkedLemmas

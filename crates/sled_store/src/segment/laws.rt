@@ -2,7 +2,7 @@
 //! messages of a history (`specs/Marks.antt`) make of the segments (`specs/SegmentStates.antt`). A segment whose pages
 //! are all replaced holds no entry of the page table, and no slot that is free, or handed out next, holds an entry of a
 //! table below a cut that the mark's segment doesn't pass.
-ghost use Rattle.std.specs.Prelude.{◌≡◌, ◌≢◌, ◌⊎◌, ◌+◌, ◌*◌, ◌/◌, ◌%◌, ◌≤◌, ℕ, ℤ, true, false, List, [], Some, Contains};
+ghost use Rattle.std.specs.Prelude.{◌≡◌, ◌≢◌, ◌⊎◌, ◌+◌, ◌*◌, ◌/◌, ◌%◌, ◌≤◌, ℕ, ℤ, pos, true, false, List, [], Some, Contains};
 ghost use Rattle.sled_codec.specs.History.{Message, History, table};
 ghost use Rattle.sled_store.specs.Marks.{HasReplacement, IsCounted, IsFormerState, IsIn, IsLinked, IsNeeded, IsPast, IsSuperseded, Marked, greatest_mark, info_of, slot_with};
 ghost use Rattle.sled_store.specs.SegmentStates.{Machine, MayMark, is_active, is_free, next_slot, slot_at, stabilized};
@@ -79,4 +79,10 @@ pub fn frees_wait_for_the_latest_replacement()
     ensures { (size mark : ℕ) (H : History) (m : Machine) (next : ℤ) (k place : ℕ) → Marked size mark H m
         → is_free (slot_at m k).state ≡ false → is_free (slot_at (stabilized size next m).machine k).state ≡ true
         → (slot_at m k).latest ≡ Some place → place + size ≤ greatest_mark mark next / size * size }
+{}
+
+/// Slots come back: there is a history after whose truthful marks a slot is taken, and a mark frees it.
+pub fn marks_free_slots()
+    ensures { (H : History) × (m : Machine) × Marked 256 0 H m × (is_free (slot_at m 0).state ≡ false)
+        × (is_free (slot_at (stabilized 256 (pos 768) m).machine 0).state ≡ true) }
 {}
