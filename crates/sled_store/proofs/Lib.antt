@@ -1,6 +1,7 @@
 pub mod Accounts
 pub mod Crashes
 pub mod LogFile
+pub mod Marks
 pub mod Names
 pub mod Own
 pub mod PublicLaws

@@ -8,6 +8,7 @@ pub mod Device
 pub mod Due
 pub mod Durable
 pub mod Foreign
+pub mod Marks
 pub mod Memory
 pub mod MemoryNames
 pub mod Moments

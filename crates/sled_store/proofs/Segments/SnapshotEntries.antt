@@ -44,7 +44,7 @@ page_entries (b ∷ ms) e there = by (is_replace b.kind) there
 -- A page with a message that replaces it was seen.
 
 -- where no last beginning is found, no message begins the page
-none_begins : (ms : List Message) (r : Message) → last_beginning ms ≡ None → Contains ms r → begins_page r.kind ≡ true → ⊥
+pub none_begins : (ms : List Message) (r : Message) → last_beginning ms ≡ None → Contains ms r → begins_page r.kind ≡ true → ⊥
 none_begins [] r is there begins = in_nothing r there
 none_begins (m ∷ ms) r is there begins = by (last_beginning ms) (begins_page m.kind) refl is (none_begins ms r)
   where

@@ -1,0 +1,11 @@
+pub mod DeactivationSteps
+pub mod MarkExample
+pub mod MarkLaws
+pub mod MarkSteps
+pub mod MarkedLemmas
+pub mod ReplaceSteps
+pub mod SlotLemmas
+pub mod StabilizeSteps
+pub mod StableSteps
+pub mod TableLemmas
+pub mod Tracked

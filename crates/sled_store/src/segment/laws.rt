@@ -1,0 +1,88 @@
+//! Laws of the segments that come back, each the contract of a function that does nothing: what truthful marks of all
+//! messages of a history (`specs/Marks.antt`) make of the segments (`specs/SegmentStates.antt`). A segment whose pages
+//! are all replaced holds no entry of the page table, and no slot that is free, or handed out next, holds an entry of a
+//! table below a cut that the mark's segment doesn't pass.
+ghost use Rattle.std.specs.Prelude.{◌≡◌, ◌≢◌, ◌⊎◌, ◌+◌, ◌*◌, ◌/◌, ◌%◌, ◌≤◌, ℕ, ℤ, pos, true, false, List, [], Some, Contains};
+ghost use Rattle.sled_codec.specs.History.{Message, History, table};
+ghost use Rattle.sled_store.specs.Marks.{HasReplacement, IsCounted, IsFormerState, IsIn, IsLinked, IsNeeded, IsPast, IsSuperseded, Marked, greatest_mark, info_of, slot_with};
+ghost use Rattle.sled_store.specs.SegmentStates.{Machine, MayMark, is_active, is_free, next_slot, slot_at, stabilized};
+ghost use Rattle.sled_store.specs.declared.segment.slot.CacheInfo.{CacheInfo};
+
+/// Each message is linked to the segment that its slot holds, or a later one has replaced its page, in a segment that
+/// ends where the mark's begins, or below. So a slot that is freed has waited for all that replaced its pages.
+pub fn messages_are_linked_or_superseded()
+    ensures { (size mark : ℕ) (H : History) (m : Machine) (e : Message) → Marked size mark H m → Contains H.messages e
+        → IsLinked size m e ⊎ IsSuperseded size (mark / size * size) H e }
+{}
+
+/// Each entry of the table of all messages is counted in its slot.
+pub fn entries_are_counted()
+    ensures { (size mark : ℕ) (H : History) (m : Machine) (cut page : ℕ) (e : Message) → Marked size mark H m
+        → IsPast H cut → Contains (table H cut page) e → IsCounted size m e }
+{}
+
+/// A slot whose pages are all replaced holds no entry of the table of all messages.
+pub fn done_segments_hold_no_entry()
+    ensures { (size mark : ℕ) (H : History) (m : Machine) (cut page k : ℕ) (e : Message) → Marked size mark H m
+        → IsPast H cut → (slot_at m k).gone ≡ (slot_at m k).pages → Contains (table H cut page) e → slot_with size e ≢ k }
+{}
+
+/// Each entry of a table below a cut that the mark's segment doesn't pass is linked to the segment that it lies in.
+pub fn tables_above_the_mark_are_linked()
+    ensures { (size mark : ℕ) (H : History) (m : Machine) (cut page : ℕ) (e : Message) → Marked size mark H m
+        → mark / size * size ≤ cut → Contains (table H cut page) e → IsLinked size m e }
+{}
+
+/// No such entry lies in a slot that is free, as the one that is handed out next is: each segment that is needed below
+/// such a cut is in another slot.
+pub fn free_slots_are_not_needed()
+    ensures free { (size mark : ℕ) (H : History) (m : Machine) (cut page k : ℕ) (e : Message) → Marked size mark H m
+        → mark / size * size ≤ cut → Contains (table H cut page) e → is_free (slot_at m k).state ≡ true → slot_with size e ≢ k }
+    ensures next { (size mark : ℕ) (H : History) (m : Machine) → Marked size mark H m → is_free (slot_at m (next_slot m)).state ≡ true }
+    ensures needed { (size mark : ℕ) (H : History) (m : Machine) (cut place : ℕ) → Marked size mark H m
+        → mark / size * size ≤ cut → IsNeeded size H cut place → (k : ℕ) × IsIn m k place × (k ≢ next_slot m) }
+{}
+
+/// A message in an active segment may be marked in place of its page's former state: that lies in segments.
+pub fn former_states_may_be_marked()
+    ensures { (size mark : ℕ) (H : History) (m : Machine) (x : Message) (old : List CacheInfo) → Marked size mark H m
+        → IsFormerState H x.page old → MayMark size m (info_of x) [] → MayMark size m (info_of x) old }
+{}
+
+/// A message from the mark's segment on is linked: no segment goes from there on.
+pub fn messages_from_the_mark_are_linked()
+    ensures { (size mark : ℕ) (H : History) (m : Machine) (e : Message) → Marked size mark H m → Contains H.messages e
+        → mark / size * size ≤ e.place → IsLinked size m e }
+{}
+
+/// The segment at a place is in one slot at most, and one that isn't active ends where the mark's begins, or below.
+pub fn segments_lie_apart()
+    ensures one_slot { (size mark : ℕ) (H : History) (m : Machine) (j k place : ℕ) → Marked size mark H m
+        → IsIn m j place → IsIn m k place → j ≡ k }
+    ensures aligned { (size mark : ℕ) (H : History) (m : Machine) (k place : ℕ) → Marked size mark H m
+        → IsIn m k place → place % size ≡ 0 }
+    ensures stable { (size mark : ℕ) (H : History) (m : Machine) (k place : ℕ) → Marked size mark H m
+        → IsIn m k place → is_active (slot_at m k).state ≡ false → place + size ≤ mark / size * size }
+{}
+
+/// A page that is gone from a segment was linked there, and a message in a later segment has replaced it.
+pub fn gone_pages_are_replaced()
+    ensures linked { (size mark : ℕ) (H : History) (m : Machine) (k page : ℕ) → Marked size mark H m
+        → Contains (slot_at m k).gone page → Contains (slot_at m k).pages page }
+    ensures replaced { (size mark : ℕ) (H : History) (m : Machine) (k page : ℕ) → Marked size mark H m
+        → Contains (slot_at m k).gone page → HasReplacement size H (slot_at m k) page }
+{}
+
+/// The free waits: where a mark frees a slot, the segment of its latest replacement ends where the greatest mark's
+/// begins, or below, and so isn't active any more.
+pub fn frees_wait_for_the_latest_replacement()
+    ensures { (size mark : ℕ) (H : History) (m : Machine) (next : ℤ) (k place : ℕ) → Marked size mark H m
+        → is_free (slot_at m k).state ≡ false → is_free (slot_at (stabilized size next m).machine k).state ≡ true
+        → (slot_at m k).latest ≡ Some place → place + size ≤ greatest_mark mark next / size * size }
+{}
+
+/// Slots come back: there is a history after whose truthful marks a slot is taken, and a mark frees it.
+pub fn marks_free_slots()
+    ensures { (H : History) × (m : Machine) × Marked 256 0 H m × (is_free (slot_at m 0).state ≡ false)
+        × (is_free (slot_at (stabilized 256 (pos 768) m).machine 0).state ≡ true) }
+{}
