@@ -61,7 +61,7 @@ replacement_more size H H' s page keeps by = record {
   within = by.within;
 }
 
-superseded_more : (size base base' : ℕ) (H H' : History) (e : Message) → ((x : Message) → Contains H.messages x → Contains H'.messages x) → base ≤ base' → IsSuperseded size base H e → IsSuperseded size base' H' e
+pub superseded_more : (size base base' : ℕ) (H H' : History) (e : Message) → ((x : Message) → Contains H.messages x → Contains H'.messages x) → base ≤ base' → IsSuperseded size base H e → IsSuperseded size base' H' e
 superseded_more size base base' H H' e keeps le by = record {
   message = by.message;
   there = keeps by.message by.there;

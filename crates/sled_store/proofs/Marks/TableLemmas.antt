@@ -1,9 +1,10 @@
 -- An entry of a table isn't below any message that begins its page, where the messages ascend.
-use Rattle.std.proofs.Common.{if◌then◌else◌, ⊎_elim, ◌≡◌, ◌∙◌, ◌⊎◌, ◌&&◌, ◌==◌, ◌<◌, ◌≤◌, ℕ, Bool, true, false, nat_lt, List, [], ◌∷◌, ◌++◌, Option, Some, None, refl, sym, ap, subst, arith, inl, inr, eq-eqb, lt-ltb}
+use Rattle.std.proofs.Common.{if◌then◌else◌, ⊎_elim, ◌≡◌, ◌∙◌, ◌⊎◌, ◌&&◌, ◌==◌, ◌+◌, ◌<◌, ◌≤◌, ℕ, Bool, true, false, nat_lt, List, [], ◌∷◌, ◌++◌, Option, Some, None, refl, sym, ap, subst, arith, inl, inr, eq-eqb, lt-ltb}
 use Rattle.std.specs.List.{All, Contains, filter}
 use Rattle.std.proofs.lemmas.Bool.{and_from, and_parts, ltb-true}
-use Rattle.std.proofs.lemmas.List.Elements.{All-contains, Contains-append_left, Contains-append_right, Contains-append_cases}
+use Rattle.std.proofs.lemmas.List.Elements.{All-weaker, All-contains, Contains-append_left, Contains-append_right, Contains-append_cases}
 use Rattle.sled_codec.specs.History.{Message, History, begins_page, is_replace, is_link, later_or, last_beginning, entries_from, page_state, of_page, table, AddsMessage}
+use Rattle.sled_codec.specs.WellFormed.{LieApart}
 use Rattle.sled_store.proofs.Segments.Elements.{in_first, in_rest, in_cases, in_nothing, in_filter, from_filter, all_from_in}
 use Rattle.sled_store.proofs.Segments.SnapshotEntries.{none_begins}
 use Rattle.sled_store.proofs.Segments.TableEntries.{beginning_there, from_table}
@@ -12,6 +13,10 @@ use Rattle.sled_store.proofs.Segments.TableEntries.{beginning_there, from_table}
 abbrev pub Ascends : List Message → Type 0
 Ascends [] = Unit {0}
 Ascends (m ∷ ms) = All (λ n. m.place < n.place) ms × Ascends ms
+
+pub apart_ascends : (ms : List Message) → LieApart ms → Ascends ms
+apart_ascends [] apart = tt
+apart_ascends (m ∷ ms) apart = (All-weaker (λ n. m.place + m.size ≤ n.place) (λ n. m.place < n.place) (λ n le. omega (arith, le, apart.0)) ms apart.1, apart_ascends ms apart.2)
 
 filter_ascends : (p : Message → Bool) (ms : List Message) → Ascends ms → Ascends (filter p ms)
 filter_ascends p [] order = tt

@@ -4,6 +4,7 @@
 //! table below a cut that the mark's segment doesn't pass.
 ghost use Rattle.std.specs.Prelude.{◌≡◌, ◌≢◌, ◌⊎◌, ◌+◌, ◌*◌, ◌/◌, ◌%◌, ◌≤◌, ℕ, ℤ, pos, true, false, List, [], Some, Contains};
 ghost use Rattle.sled_codec.specs.History.{Message, History, table};
+ghost use Rattle.sled_codec.specs.WellFormed.{LieApart};
 ghost use Rattle.sled_store.specs.Marks.{HasReplacement, IsCounted, IsFormerState, IsIn, IsLinked, IsNeeded, IsPast, IsSuperseded, Marked, greatest_mark, info_of, slot_with};
 ghost use Rattle.sled_store.specs.SegmentStates.{Machine, MayMark, is_active, is_free, next_slot, slot_at, stabilized};
 ghost use Rattle.sled_store.specs.declared.segment.slot.CacheInfo.{CacheInfo};
@@ -33,8 +34,15 @@ pub fn tables_above_the_mark_are_linked()
         → mark / size * size ≤ cut → Contains (table H cut page) e → IsLinked size m e }
 {}
 
-/// No such entry lies in a slot that is free, as the one that is handed out next is: each segment that is needed below
-/// such a cut is in another slot.
+/// The same of a table of more messages than are marked, for each of its entries that is.
+pub fn tables_of_more_messages_are_linked()
+    ensures { (size mark : ℕ) (H G : History) (m : Machine) (cut page : ℕ) (e : Message) → Marked size mark H m
+        → ((x : Message) → Contains H.messages x → Contains G.messages x) → LieApart G.messages
+        → mark / size * size ≤ cut → Contains H.messages e → Contains (table G cut page) e → IsLinked size m e }
+{}
+
+/// No entry of a table below such a cut lies in a slot that is free, as the one that is handed out next is: each segment
+/// that is needed below such a cut is in another slot.
 pub fn free_slots_are_not_needed()
     ensures free { (size mark : ℕ) (H : History) (m : Machine) (cut page k : ℕ) (e : Message) → Marked size mark H m
         → mark / size * size ≤ cut → Contains (table H cut page) e → is_free (slot_at m k).state ≡ true → slot_with size e ≢ k }
