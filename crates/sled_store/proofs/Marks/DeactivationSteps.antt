@@ -21,7 +21,7 @@ from_map {X} {Y} f xs y there =
     let P : Y → Type 0 = λ z. (x : X) × Contains xs x × (f x ≡ z) in
     All-contains P (map f xs) y (All-map P f xs (all_from_in (λ x. P (f x)) xs (λ x found. (x, found, refl)))) there
 
-any_in : {X : Type 0} (p : X → Bool) (xs : List X) (x : X) → Contains xs x → p x ≡ true → list_any p xs ≡ true
+pub any_in : {X : Type 0} (p : X → Bool) (xs : List X) (x : X) → Contains xs x → p x ≡ true → list_any p xs ≡ true
 any_in p [] x there passes = absurd (in_nothing x there)
 any_in p (y ∷ ys) x there passes = by (p y) refl (λ rest. any_in p ys x rest passes) where
   by : (b : Bool) → p y ≡ b → (Contains ys x → list_any p ys ≡ true) → (b || list_any p ys) ≡ true

@@ -16,9 +16,9 @@ use Rattle.sled_store.proofs.Marks.SlotLemmas.{at, free_behind, taken_there, ins
 use Rattle.sled_store.proofs.Marks.Tracked.{IsHeld, IsActiveAt, IsTracked}
 use Rattle.sled_store.proofs.Marks.MarkSteps.{Tracks, handed_out_tracks, SameSegments, same_then, active_same, linked_tracks, linked_same, outdating_tracks, outdating_same}
 use Rattle.sled_store.proofs.Marks.ReplaceSteps.{LiesBelow, below_same, replaced_all_tracks}
-use Rattle.sled_store.proofs.Marks.StableSteps.{NotesPlace, segment_mono}
+use Rattle.sled_store.proofs.Marks.StableSteps.{NotesPlace, HoldsAsMuch, segment_mono}
 use Rattle.sled_store.proofs.Marks.DeactivationSteps.{from_map}
-use Rattle.sled_store.proofs.Marks.StabilizeSteps.{stabilized_tracks, stabilized_waits}
+use Rattle.sled_store.proofs.Marks.StabilizeSteps.{stabilized_tracks, stabilized_waits, stabilized_holds}
 use Rattle.sled_store.proofs.Marks.TableLemmas.{Ascends, added_ascends, added_keeps, added_there, added_cases, entry_above}
 
 -- a history whose messages ascend, and a machine that tracks it
@@ -157,6 +157,9 @@ module _ (size mark : ℕ) (H : History) (m : Machine) (t : IsTruthful size mark
   -- A slot that is freed doesn't wait for a segment that is active.
   pub stable_waits : (next : ℤ) (k place : ℕ) → NotesPlace (slot_at m k) place → NotesPlace (slot_at (stabilized size next m).machine k) place ⊎ (place + size ≤ greatest_mark mark next / size * size)
   stable_waits next = stabilized_waits size (greatest_mark mark next / size * size) H t.some m next (raised_tracks next) (raised_due next)
+
+  pub stable_holds : (next : ℤ) (k : ℕ) → is_free (slot_at (stabilized size next m).machine k).state ≡ false → HoldsAsMuch (slot_at m k) (slot_at (stabilized size next m).machine k)
+  stable_holds next = stabilized_holds size (greatest_mark mark next / size * size) H t.some m next (raised_tracks next) (raised_due next)
 
 -- Steps: each keeps it.
 

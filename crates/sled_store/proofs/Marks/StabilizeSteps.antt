@@ -12,7 +12,7 @@ use Rattle.sled_store.proofs.Marks.SlotLemmas.{at, taken_there, Distinct, distin
 use Rattle.sled_store.proofs.Marks.Tracked.{MayGo}
 use Rattle.sled_store.proofs.Marks.MarkSteps.{Tracks, replacement_at, set_tracks, inactive_taken, inactive_not_active, drained_tracks}
 use Rattle.sled_store.proofs.Marks.ReplaceSteps.{sparse_tracks}
-use Rattle.sled_store.proofs.Marks.StableSteps.{NotesPlace, KeepsSegments, keeps_same, keeps_then, keeps_set, freed_keeps, all_freed_track, all_freed_keep}
+use Rattle.sled_store.proofs.Marks.StableSteps.{NotesPlace, HoldsAsMuch, KeepsSegments, keeps_same, keeps_then, keeps_set, freed_keeps, all_freed_track, all_freed_keep}
 use Rattle.sled_store.proofs.Marks.DeactivationSteps.{active_parts, waiting_go, due_goes, tested_tracks}
 
 module _ (size base : ℕ) (H : History) (some : 0 < size) where
@@ -62,14 +62,14 @@ module _ (size base : ℕ) (H : History) (some : 0 < size) where
         })
 
     inactive_keeps : KeepsSegments size base a.1 m.slots (with_slot a.1 (inactive_slot (slot_at m a.1)) m).slots
-    inactive_keeps = keeps_set size base a.1 a.1 m.slots (inactive_slot (slot_at m a.1)) (taken_there m.slots a.1 (active_is_taken (slot_at m a.1) due.active)) (inl refl) refl refl
+    inactive_keeps = keeps_set size base a.1 a.1 m.slots (inactive_slot (slot_at m a.1)) (taken_there m.slots a.1 (active_is_taken (slot_at m a.1) due.active)) (inl refl) refl refl (active_is_taken (slot_at m a.1) due.active, refl)
 
   -- The test of a slot changes no other one that is active.
   sparse_keeps : (m : Machine) (k : ℕ) → KeepsSegments size base k m.slots (drained_if_sparse size k m).slots
   sparse_keeps m k = by (is_sparse size (slot_at m k)) refl where
     by : (b : Bool) → is_sparse size (slot_at m k) ≡ b → KeepsSegments size base k m.slots (if b then drained k m else m).slots
     by true sparse =
-        keeps_set size base k k m.slots (drained_slot (slot_at m k)) (taken_there m.slots k (inactive_taken (slot_at m k) (and_parts (is_inactive (slot_at m k).state) (nat_le ((slot_at m k).held * 100 / size) 50) sparse).0)) (inl refl) refl refl
+        keeps_set size base k k m.slots (drained_slot (slot_at m k)) (taken_there m.slots k (inactive_taken (slot_at m k) (and_parts (is_inactive (slot_at m k).state) (nat_le ((slot_at m k).held * 100 / size) 50) sparse).0)) (inl refl) refl refl (inactive_taken (slot_at m k) (and_parts (is_inactive (slot_at m k).state) (nat_le ((slot_at m k).held * 100 / size) 50) sparse).0, refl)
     by false full = keeps_same size base k m.slots
 
   freed_if_done_keeps : (m : Machine) (k : ℕ) → Tracks size base H m → KeepsSegments size base k m.slots (freed_if_done size k m).machine.slots
@@ -92,7 +92,7 @@ module _ (size base : ℕ) (H : History) (some : 0 < size) where
     by true wasteful =
         let k : ℕ = get_or (inactive_among m.slots) (length (inactive_among m.slots) - 1) 0 in
         let inactive = wasteful_inactive m wasteful in
-        keeps_set size base but k m.slots (drained_slot (slot_at m k)) (taken_there m.slots k (inactive_taken (slot_at m k) inactive)) (inr (inactive_not_active (slot_at m k) inactive)) refl refl
+        keeps_set size base but k m.slots (drained_slot (slot_at m k)) (taken_there m.slots k (inactive_taken (slot_at m k) inactive)) (inr (inactive_not_active (slot_at m k) inactive)) refl refl (inactive_taken (slot_at m k) inactive, refl)
     by false lean = keeps_same size base but m.slots
 
   -- A segment is deactivated: what is tracked stays, and so do the other active segments.
@@ -141,6 +141,14 @@ module _ (size base : ℕ) (H : History) (some : 0 < size) where
       ⊎_elim (λ still. all_deactivated_wait due_ones (deactivated size a m).machine (deactivated_tracks m t a first) distinct.1 (still_due m t a due_ones distinct due) k place still) (λ below. inr below)
       ((deactivated_keeps m t a first).waiting k place notes)
 
+  all_deactivated_hold : (due_ones : List (ℕ × ℕ)) (m : Machine) → Tracks size base H m → Distinct due_ones → ((a : ℕ × ℕ) → Contains due_ones a → IsDue m.slots a)
+      → (k : ℕ) → is_free (at (in_turn (deactivated size) due_ones m).machine.slots k).state ≡ false → HoldsAsMuch (at m.slots k) (at (in_turn (deactivated size) due_ones m).machine.slots k)
+  all_deactivated_hold [] m t distinct due k there = (there, refl)
+  all_deactivated_hold (a ∷ due_ones) m t distinct due k there =
+      let first : IsDue m.slots a = due a (in_first a due_ones) in
+      let rest = all_deactivated_hold due_ones (deactivated size a m).machine (deactivated_tracks m t a first) distinct.1 (still_due m t a due_ones distinct due) k there in
+      let one = (deactivated_keeps m t a first).held k rest.0 in (one.0, rest.1 ∙ one.1)
+
   module _ (m : Machine) (mark : ℤ) (t : Tracks size base H m) (below : (place : ℕ) → is_due size mark place ≡ true → place + size ≤ base) where
     due_distinct : Distinct (filter (λ (a : ℕ × ℕ). is_due size mark a.0) (active_among m.slots))
     due_distinct = distinct_filter (λ (a : ℕ × ℕ). is_due size mark a.0) (active_among m.slots) (by_distinct active_place 0 m.slots)
@@ -163,3 +171,6 @@ module _ (size base : ℕ) (H : History) (some : 0 < size) where
 
     pub stabilized_waits : (k place : ℕ) → NotesPlace (slot_at m k) place → NotesPlace (slot_at (stabilized size mark m).machine k) place ⊎ (place + size ≤ base)
     stabilized_waits = all_deactivated_wait (filter (λ (a : ℕ × ℕ). is_due size mark a.0) (active_among m.slots)) m t due_distinct all_due
+
+    pub stabilized_holds : (k : ℕ) → is_free (slot_at (stabilized size mark m).machine k).state ≡ false → HoldsAsMuch (slot_at m k) (slot_at (stabilized size mark m).machine k)
+    stabilized_holds = all_deactivated_hold (filter (λ (a : ℕ × ℕ). is_due size mark a.0) (active_among m.slots)) m t due_distinct all_due

@@ -29,18 +29,24 @@ segment_above size x y some lt = ⊎_elim (λ below. below) (λ le. absurd (omeg
 abbrev pub NotesPlace : SlotState → ℕ → Type 0
 NotesPlace s place = (is_free s.state ≡ false) × (s.latest ≡ Some place)
 
+-- a segment was there, and holds as much as before
+abbrev pub HoldsAsMuch : SlotState → SlotState → Type 0
+HoldsAsMuch old new = (is_free old.state ≡ false) × (new.held ≡ old.held)
+
 -- Each active slot but one is as it was, and a segment that waits for one above the base is there.
 pub record KeepsSegments (size base but : ℕ) (old new : List SlotState) : Type 0 where
   pub active : (j : ℕ) → j ≢ but → is_active (at old j).state ≡ true → at new j ≡ at old j
   pub waiting : (j place : ℕ) → NotesPlace (at old j) place → NotesPlace (at new j) place ⊎ (place + size ≤ base)
+  pub held : (j : ℕ) → is_free (at new j).state ≡ false → HoldsAsMuch (at old j) (at new j)
 
 pub keeps_same : (size base but : ℕ) (ss : List SlotState) → KeepsSegments size base but ss ss
-keeps_same size base but ss = record { active = λ j other active. refl; waiting = λ j place notes. inl notes }
+keeps_same size base but ss = record { active = λ j other active. refl; waiting = λ j place notes. inl notes; held = λ j there. (there, refl) }
 
 pub keeps_then : (size base but : ℕ) (old mid new : List SlotState) → KeepsSegments size base but old mid → KeepsSegments size base but mid new → KeepsSegments size base but old new
 keeps_then size base but old mid new first more = record {
   active = λ j other active. more.active j other (ap (λ (s : SlotState). is_active s.state) (first.active j other active) ∙ active) ∙ first.active j other active;
   waiting = λ j place notes. ⊎_elim (λ still. more.waiting j place still) (λ below. inr below) (first.waiting j place notes);
+  held = λ j there. let then_held = more.held j there in let first_held = first.held j then_held.0 in (first_held.0, then_held.1 ∙ first_held.1);
 }
 
 -- a slot that isn't active, or is that one, isn't another active one
@@ -49,11 +55,12 @@ not_that but k old why j other active is =
     ⊎_elim (λ same. other (is ∙ same)) (λ none. true≢false (sym (subst (λ (i : ℕ). is_active (at old i).state ≡ true) is active) ∙ none)) why
 
 pub keeps_set : (size base but k : ℕ) (old : List SlotState) (s : SlotState) → k < length old → (k ≡ but) ⊎ (is_active (at old k).state ≡ false) → is_free s.state ≡ false → s.latest ≡ (at old k).latest
-    → KeepsSegments size base but old (set old k s)
-keeps_set size base but k old s lt why taken same = record {
+    → HoldsAsMuch (at old k) s → KeepsSegments size base but old (set old k s)
+keeps_set size base but k old s lt why taken same as_much = record {
   active = λ j other active. (set_changes old k s lt).others j (not_that but k old why j other active);
   waiting = λ j place. each_slot (λ i x. NotesPlace (at old i) place → NotesPlace x place ⊎ (place + size ≤ base)) old k s (set old k s) (set_changes old k s lt)
       (λ notes. inl (taken, same ∙ notes.1)) (λ i other notes. inl notes) j;
+  held = each_slot (λ i x. is_free x.state ≡ false → HoldsAsMuch (at old i) x) old k s (set old k s) (set_changes old k s lt) (λ there. as_much) (λ i other there. (there, refl));
 }
 
 -- Frees.
@@ -95,6 +102,7 @@ module _ (size base : ℕ) (H : History) where
     active = λ j other active. (set_changes m.slots k free_slot goes.there).others j (not_that but k m.slots why j other active);
     waiting = λ j place. each_slot (λ i x. NotesPlace (at m.slots i) place → NotesPlace x place ⊎ (place + size ≤ base)) m.slots k free_slot (set m.slots k free_slot) (set_changes m.slots k free_slot goes.there)
         (λ notes. inr (goes.waited place notes.1)) (λ i other notes. inl notes) j;
+    held = each_slot (λ i x. is_free x.state ≡ false → HoldsAsMuch (at m.slots i) x) m.slots k free_slot (set m.slots k free_slot) (set_changes m.slots k free_slot goes.there) (λ there. absurd (true≢false there)) (λ i other there. (there, refl));
   }
 
   pub all_freed_keep : (but : ℕ) (ks : List ℕ) (m : Machine) → ((k : ℕ) → Contains ks k → MayGo size base H m.slots k) → KeepsSegments size base but m.slots (in_turn (freed size) ks m).machine.slots

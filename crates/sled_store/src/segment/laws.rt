@@ -2,10 +2,11 @@
 //! messages of a history (`specs/Marks.antt`) make of the segments (`specs/SegmentStates.antt`). A segment whose pages
 //! are all replaced holds no entry of the page table, and no slot that is free, or handed out next, holds an entry of a
 //! table below a cut that the mark's segment doesn't pass.
-ghost use Rattle.std.specs.Prelude.{◌≡◌, ◌≢◌, ◌⊎◌, ◌+◌, ◌*◌, ◌/◌, ◌%◌, ◌≤◌, ℕ, ℤ, pos, true, false, List, [], Some, Contains};
+ghost use Rattle.std.specs.Prelude.{◌≡◌, ◌≢◌, ◌⊎◌, ◌+◌, ◌*◌, ◌/◌, ◌%◌, ◌^◌, ◌<◌, ◌≤◌, ℕ, ℤ, pos, true, false, List, [], Some, Contains};
+ghost use Rattle.std.specs.List.{sum_by};
 ghost use Rattle.sled_codec.specs.History.{Message, History, table};
 ghost use Rattle.sled_codec.specs.WellFormed.{LieApart};
-ghost use Rattle.sled_store.specs.Marks.{HasReplacement, IsCounted, IsFormerState, IsIn, IsLinked, IsNeeded, IsPast, IsSuperseded, Marked, greatest_mark, info_of, slot_with};
+ghost use Rattle.sled_store.specs.Marks.{HasReplacement, IsCounted, IsFormerState, IsIn, IsLinked, IsNeeded, IsPast, IsSuperseded, Marked, greatest_mark, info_of, slot_with, standing_size};
 ghost use Rattle.sled_store.specs.SegmentStates.{Machine, MayMark, is_active, is_free, next_slot, slot_at, stabilized};
 ghost use Rattle.sled_store.specs.declared.segment.slot.CacheInfo.{CacheInfo};
 
@@ -87,6 +88,15 @@ pub fn frees_wait_for_the_latest_replacement()
     ensures { (size mark : ℕ) (H : History) (m : Machine) (next : ℤ) (k place : ℕ) → Marked size mark H m
         → is_free (slot_at m k).state ≡ false → is_free (slot_at (stabilized size next m).machine k).state ≡ true
         → (slot_at m k).latest ≡ Some place → place + size ≤ greatest_mark mark next / size * size }
+{}
+
+/// Where all messages sum up to less than 2^64, a slot holds at least what its messages sum up to that no later one of
+/// their page has replaced, and so the size of each entry of the table of all messages that lies there.
+pub fn slots_hold_their_entries()
+    ensures standing { (size mark : ℕ) (H : History) (m : Machine) (k : ℕ) → Marked size mark H m
+        → sum_by (λ e. e.size) H.messages < 2 ^ 64 → standing_size size H k ≤ (slot_at m k).held }
+    ensures entries { (size mark : ℕ) (H : History) (m : Machine) (cut page : ℕ) (e : Message) → Marked size mark H m
+        → sum_by (λ x. x.size) H.messages < 2 ^ 64 → IsPast H cut → Contains (table H cut page) e → e.size ≤ (slot_at m (slot_with size e)).held }
 {}
 
 /// Slots come back: there is a history after whose truthful marks a slot is taken, and a mark frees it.
