@@ -41,7 +41,8 @@ drained_held size m k j = by (is_sparse size (slot_at m k)) where
   by false = refl
 
 -- a page's old message takes off what it counts
-replaced_one_held : (size page place : ℕ) (o : CacheInfo) (m : Machine) (j : ℕ) → (slot_at m j).held ≤ (slot_at (replaced_one size page place o m) j).held + share size j o
+replaced_one_held : (size page place : ℕ) (o : CacheInfo) (m : Machine) (j : ℕ)
+    → (slot_at m j).held ≤ (slot_at (replaced_one size page place o m) j).held + share size j o
 replaced_one_held size page place o m j =
     let k = lid_of o.pointer / size in
     let s : SlotState = replaced_slot page o.log_size place (slot_at m k) in
@@ -53,7 +54,8 @@ replaced_one_held size page place o m j =
     omega (arith, same, held, was, share_here size j o (sym here.0)))
     (λ kept. let held : (slot_at n j).held ≡ (slot_at m j).held = ap (λ (x : SlotState). x.held) kept in omega (arith, same, held)) (set_cases m.slots k s j)
 
-replaced_all_held : (size page place : ℕ) (os : List CacheInfo) (m : Machine) (j : ℕ) → (slot_at m j).held ≤ (slot_at (replaced_all size page place os m) j).held + sum_by (share size j) os
+replaced_all_held : (size page place : ℕ) (os : List CacheInfo) (m : Machine) (j : ℕ)
+    → (slot_at m j).held ≤ (slot_at (replaced_all size page place os m) j).held + sum_by (share size j) os
 replaced_all_held size page place [] m j = omega arith
 replaced_all_held size page place (o ∷ os) m j =
     omega (arith, replaced_one_held size page place o m j, replaced_all_held size page place os (replaced_one size page place o m) j, sum_by-cons (share size j) o os)
@@ -65,7 +67,8 @@ outdating_held size info old m j =
     (set_cases m.slots k (record (slot_at m k) { blobs = all_outdated info.pointer old (slot_at m k).blobs }) j)
 
 -- the slot that a message is linked to holds as much more, up to the greatest count
-linked_held : (size page : ℕ) (info : CacheInfo) (m : Machine) (j n : ℕ) → is_free (slot_at m (lid_of info.pointer / size)).state ≡ false → n ≤ (slot_at m j).held + share size j info → n ≤ 2 ^ 64 - 1
+linked_held : (size page : ℕ) (info : CacheInfo) (m : Machine) (j n : ℕ) → is_free (slot_at m (lid_of info.pointer / size)).state ≡ false
+    → n ≤ (slot_at m j).held + share size j info → n ≤ 2 ^ 64 - 1
     → n ≤ (slot_at (linked size page info m) j).held
 linked_held size page info m j n taken le small =
     each_slot (λ i x. n ≤ (slot_at m i).held + share size i info → n ≤ x.held) m.slots k s (set m.slots k s) (set_changes m.slots k s (taken_there m.slots k taken))
@@ -96,11 +99,13 @@ free_none size base H m k t free =
 module _ (size mark : ℕ) (H : History) (m : Machine) (t : IsTruthful size mark H m) (holds : HoldsStanding size H m) where
   hands_out_holds : (place : ℕ) → HoldsStanding size H (handed_out place m)
   hands_out_holds place = by (nat_lt (next_slot m) (length m.slots)) refl where
-    put : (k : ℕ) (new : List SlotState) → is_free (slot_at m k).state ≡ true → Changes m.slots k (taken_slot place) new → (j : ℕ) → standing_size size H j ≤ (at new j).held
+    put : (k : ℕ) (new : List SlotState) → is_free (slot_at m k).state ≡ true → Changes m.slots k (taken_slot place) new → (j : ℕ)
+        → standing_size size H j ≤ (at new j).held
     put k new free changes =
         each_slot (λ j x. standing_size size H j ≤ x.held) m.slots k (taken_slot place) new changes (omega (arith, free_none size (mark / size * size) H m k t.tracks free)) (λ j other. holds j)
 
-    by : (b : Bool) → nat_lt (next_slot m) (length m.slots) ≡ b → (j : ℕ) → standing_size size H j ≤ (at (if b then set m.slots (next_slot m) (taken_slot place) else m.slots ++ taken_slot place ∷ []) j).held
+    by : (b : Bool) → nat_lt (next_slot m) (length m.slots) ≡ b → (j : ℕ)
+        → standing_size size H j ≤ (at (if b then set m.slots (next_slot m) (taken_slot place) else m.slots ++ taken_slot place ∷ []) j).held
     by true lt =
         put (next_slot m) (set m.slots (next_slot m) (taken_slot place)) (next_free size (mark / size * size) H m t.tracks)
         (set_changes m.slots (next_slot m) (taken_slot place) (ltb-true (next_slot m) (length m.slots) lt))
@@ -147,7 +152,8 @@ holds_standing size mark H m (stabilizes {mark = low} {m = n} next marked) small
 holds_standing size mark H m (pops {m = n} marked) small = holds_standing size mark H n marked small
 
 -- An entry's slot holds at least its size.
-pub entry_counted : (size mark : ℕ) (H : History) (m : Machine) (cut page : ℕ) (e : Message) → Marked size mark H m → IsCountable H → IsPast H cut → Contains (table H cut page) e → e.size ≤ (slot_at m (slot_with size e)).held
+pub entry_counted : (size mark : ℕ) (H : History) (m : Machine) (cut page : ℕ) (e : Message) → Marked size mark H m → IsCountable H → IsPast H cut
+    → Contains (table H cut page) e → e.size ≤ (slot_at m (slot_with size e)).held
 entry_counted size mark H m cut page e marked small past entry =
     let there = (from_table H cut page e entry).0 in
     let t : IsTruthful size mark H m = truthful size mark H m marked in

@@ -74,7 +74,8 @@ module _ (size mark : ℕ) (H : History) (m : Machine) (t : IsTruthful size mark
       (slot_with size e, record { taken = linked.lies.taken; lsn = sym linked.lies.lsn ∙ needed.within }, none_in_free cut needed.page (next_slot m) e le needed.there next_is_free)
 
   -- Where more was completed than marked, what is marked is still linked while a table has it.
-  pub marked_linked : (G : History) (cut page : ℕ) (e : Message) → ((x : Message) → Contains H.messages x → Contains G.messages x) → LieApart G.messages → mark / size * size ≤ cut → Contains H.messages e
+  pub marked_linked : (G : History) (cut page : ℕ) (e : Message) → ((x : Message) → Contains H.messages x → Contains G.messages x)
+      → LieApart G.messages → mark / size * size ≤ cut → Contains H.messages e
       → Contains (table G cut page) e → IsLinked size m e
   marked_linked G cut page e more apart le there entry =
       ⊎_elim (λ linked. linked) (λ by. absurd (not_superseded size (mark / size * size) G cut page e t.some (apart_ascends G.messages apart) entry le (superseded_more size (mark / size * size) (mark / size * size) H G e more (omega arith) by)))
@@ -110,6 +111,7 @@ module _ (size mark : ℕ) (H : History) (m : Machine) (t : IsTruthful size mark
   gone_replaced = t.tracks.gone
 
   -- a slot that a mark frees doesn't wait for a segment that is active then
-  pub freed_stable : (next : ℤ) (k place : ℕ) → is_free (slot_at m k).state ≡ false → is_free (slot_at (stabilized size next m).machine k).state ≡ true → (slot_at m k).latest ≡ Some place
+  pub freed_stable : (next : ℤ) (k place : ℕ) → is_free (slot_at m k).state ≡ false
+      → is_free (slot_at (stabilized size next m).machine k).state ≡ true → (slot_at m k).latest ≡ Some place
       → place + size ≤ greatest_mark mark next / size * size
   freed_stable next k place there free is = ⊎_elim (λ still. absurd (true≢false (sym free ∙ still.0))) (λ below. below) (stable_waits size mark H m t next k place (there, is))

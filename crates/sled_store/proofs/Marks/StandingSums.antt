@@ -23,10 +23,12 @@ sum_zero f [] none = refl
 sum_zero f (x ∷ xs) none = omega (arith, sum_by-cons f x xs, none x (in_first x xs), sum_zero f xs (λ y there. none y (in_rest x y xs there)))
 
 -- what is kept by a filter, and the others by a lesser weight
-sum_kept : {X : Type 0} (p : X → Bool) (f g : X → ℕ) (xs : List X) → ((x : X) → Contains xs x → g x ≤ f x) → ((x : X) → Contains xs x → p x ≡ true → g x ≡ 0) → sum_by f (filter p xs) + sum_by g xs ≤ sum_by f xs
+sum_kept : {X : Type 0} (p : X → Bool) (f g : X → ℕ) (xs : List X) → ((x : X) → Contains xs x → g x ≤ f x)
+    → ((x : X) → Contains xs x → p x ≡ true → g x ≡ 0) → sum_by f (filter p xs) + sum_by g xs ≤ sum_by f xs
 sum_kept p f g [] le none = omega arith
 sum_kept p f g (x ∷ xs) le none = by (p x) refl (sum_kept p f g xs (λ y there. le y (in_rest x y xs there)) (λ y there. none y (in_rest x y xs there))) where
-  by : (b : Bool) → p x ≡ b → sum_by f (filter p xs) + sum_by g xs ≤ sum_by f xs → sum_by f (if b then x ∷ filter p xs else filter p xs) + sum_by g (x ∷ xs) ≤ sum_by f (x ∷ xs)
+  by : (b : Bool) → p x ≡ b → sum_by f (filter p xs) + sum_by g xs ≤ sum_by f xs
+      → sum_by f (if b then x ∷ filter p xs else filter p xs) + sum_by g (x ∷ xs) ≤ sum_by f (x ∷ xs)
   by true kept rest = omega (arith, rest, sum_by-cons f x (filter p xs), sum_by-cons f x xs, sum_by-cons g x xs, none x (in_first x xs) kept)
   by false left rest = omega (arith, rest, sum_by-cons f x xs, sum_by-cons g x xs, le x (in_first x xs))
 
@@ -43,7 +45,9 @@ Stands ms e = (x : Message) → Contains ms x → x.page ≡ e.page → begins_p
 standing_stands : (ms : List Message) (e : Message) → is_standing ms e ≡ true → Stands ms e
 standing_stands ms e standing x there same begins lt =
     let test : Message → Bool = λ y. (y.page == e.page) && (begins_page y.kind && nat_lt e.place y.place) in
-    true≢false (sym (any_in test ms x there (and_from (x.page == e.page) (begins_page x.kind && nat_lt e.place x.place) (eq-eqb x.page e.page same) (and_from (begins_page x.kind) (nat_lt e.place x.place) begins (lt-ltb e.place x.place lt)))) ∙ not-true (list_any test ms) standing)
+    let late : (begins_page x.kind && nat_lt e.place x.place) ≡ true = and_from (begins_page x.kind) (nat_lt e.place x.place) begins (lt-ltb e.place x.place lt) in
+    let passes : test x ≡ true = and_from (x.page == e.page) (begins_page x.kind && nat_lt e.place x.place) (eq-eqb x.page e.page same) late in
+    true≢false (sym (any_in test ms x there passes) ∙ not-true (list_any test ms) standing)
 
 none_any : {X : Type 0} (p : X → Bool) (xs : List X) → ((x : X) → Contains xs x → p x ≡ true → ⊥) → list_any p xs ≡ false
 none_any p [] none = refl
@@ -103,7 +107,8 @@ pub standing_within : (size : ℕ) (H : History) (k : ℕ) → standing_size siz
 standing_within size H k = sum_less (part size H.messages k) (λ e. e.size) H.messages (λ e there. omega (arith, part_shared size H.messages k e, share_within size k e))
 
 -- where no message stands in a slot, nothing does
-pub standing_none : (size : ℕ) (H : History) (k : ℕ) → ((e : Message) → Contains H.messages e → Stands H.messages e → slot_with size e ≡ k → ⊥) → standing_size size H k ≡ 0
+pub standing_none : (size : ℕ) (H : History) (k : ℕ) → ((e : Message) → Contains H.messages e → Stands H.messages e → slot_with size e ≡ k → ⊥)
+    → standing_size size H k ≡ 0
 standing_none size H k none = sum_zero (part size H.messages k) H.messages (λ e there. part_gone size H.messages k e (none e there))
 
 -- one that stands is within it
@@ -142,7 +147,8 @@ module _ (size : ℕ) (H : History) (x : Message) (H' : History) (completes : Co
       )
 
   -- What is replaced doesn't stand any more.
-  pub standing_replaced : (old : List CacheInfo) → Ascends H.messages → begins_page x.kind ≡ true → IsFormerState H x.page old → standing_size size H' k + sum_by (share size k) old ≤ standing_size size H k + share size k (info_of x)
+  pub standing_replaced : (old : List CacheInfo) → Ascends H.messages → begins_page x.kind ≡ true → IsFormerState H x.page old
+      → standing_size size H' k + sum_by (share size k) old ≤ standing_size size H k + share size k (info_of x)
   unfolding table of_page
   standing_replaced old order begins former =
       let p : Message → Bool = λ m. (m.page == x.page) && nat_lt m.place former.cut in
