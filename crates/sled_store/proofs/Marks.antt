@@ -1,4 +1,5 @@
 pub mod DeactivationSteps
+pub mod HeldLemmas
 pub mod MarkExample
 pub mod MarkLaws
 pub mod MarkSteps
@@ -7,5 +8,6 @@ pub mod ReplaceSteps
 pub mod SlotLemmas
 pub mod StabilizeSteps
 pub mod StableSteps
+pub mod StandingSums
 pub mod TableLemmas
 pub mod Tracked

@@ -1,5 +1,6 @@
 -- What truthful marks make of the segments: each message of a history is completed and marked at once, in place of all that its page was made of.
-use Rattle.std.specs.Prelude.{◌≡◌, ◌+◌, ◌*◌, ◌/◌, ◌%◌, ◌<◌, ◌≤◌, ℕ, ℤ, pos, negsuc, max, true, false, List, [], map, Some, Contains}
+use Rattle.std.specs.Prelude.{◌≡◌, ◌==◌, ◌&&◌, ◌+◌, ◌*◌, ◌/◌, ◌%◌, ◌<◌, ◌≤◌, ℕ, ℤ, pos, negsuc, max, Bool, true, false, not, nat_lt, if◌then◌else◌, List, [], map, Some, Contains}
+use Rattle.std.specs.List.{list_any, sum_by}
 use Rattle.sled_codec.specs.declared.serialization.message.LogKind.TheVariants.{Link}
 use Rattle.sled_codec.specs.History.{Message, Batch, History, no_history, begins_page, table, AddsMessage, AddsBatch}
 use Rattle.sled_codec.specs.Pointers.{lid_of}
@@ -82,6 +83,14 @@ pub record IsLinked (size : ℕ) (m : Machine) (e : Message) : Type 0 where
 pub record IsCounted (size : ℕ) (m : Machine) (e : Message) : Type 0 where
   pub linked : IsLinked size m e
   pub not_gone : Contains (slot_at m (slot_with size e)).gone e.page → ⊥
+
+-- no later one of these messages gives its page a new beginning
+abbrev pub is_standing : List Message → Message → Bool
+is_standing ms e = not (list_any (λ x. (x.page == e.page) && (begins_page x.kind && nat_lt e.place x.place)) ms)
+
+-- what the messages of a slot sum up to that stand
+abbrev pub standing_size : ℕ → History → ℕ → ℕ
+standing_size size H k = sum_by (λ e. if is_standing H.messages e && (slot_with size e == k) then e.size else 0) H.messages
 
 -- A later message gives the page of this one a new beginning, in a segment that ends at or below this place.
 pub record IsSuperseded (size place : ℕ) (H : History) (e : Message) : Type 0 where

@@ -21,7 +21,7 @@ from_map {X} {Y} f xs y there =
     let P : Y → Type 0 = λ z. (x : X) × Contains xs x × (f x ≡ z) in
     All-contains P (map f xs) y (All-map P f xs (all_from_in (λ x. P (f x)) xs (λ x found. (x, found, refl)))) there
 
-any_in : {X : Type 0} (p : X → Bool) (xs : List X) (x : X) → Contains xs x → p x ≡ true → list_any p xs ≡ true
+pub any_in : {X : Type 0} (p : X → Bool) (xs : List X) (x : X) → Contains xs x → p x ≡ true → list_any p xs ≡ true
 any_in p [] x there passes = absurd (in_nothing x there)
 any_in p (y ∷ ys) x there passes = by (p y) refl (λ rest. any_in p ys x rest passes) where
   by : (b : Bool) → p y ≡ b → (Contains ys x → list_any p ys ≡ true) → (b || list_any p ys) ≡ true
@@ -71,14 +71,16 @@ module _ (size base : ℕ) (H : History) (some : 0 < size) where
       (done_goes size base H m.slots m.tip has.index some t parts.0 (λ l noted. let same : w.0 ≡ l = cc (latest, noted) in omega (arith, same, first, below)))
 
   -- A slot that is done and waits for no active segment may go.
-  pub due_goes : (m : Machine) (k : ℕ) → Tracks size base H m → is_done (slot_at m k) ≡ true → is_active_place m (slot_at m k).latest ≡ false → MayGo size base H m.slots k
+  pub due_goes : (m : Machine) (k : ℕ) → Tracks size base H m → is_done (slot_at m k) ≡ true → is_active_place m (slot_at m k).latest ≡ false
+      → MayGo size base H m.slots k
   due_goes m k t done idle =
       done_goes size base H m.slots m.tip k some t done
       (λ l noted. ⊎_elim (λ active. absurd (true≢false (sym (active_found m l active) ∙ sym (ap (is_active_place m) noted) ∙ idle))) (λ below. below) (t.latest k l noted))
 
   freed_if_done_tracks : (m : Machine) (k : ℕ) → Tracks size base H m → Tracks size base H (freed_if_done size k m).machine
   freed_if_done_tracks m k t = by (is_done (slot_at m k) && not (is_active_place m (slot_at m k).latest)) refl where
-    by : (b : Bool) → (is_done (slot_at m k) && not (is_active_place m (slot_at m k).latest)) ≡ b → Tracks size base H (if b then freed size k m else record { machine = m; calls = [] }).machine
+    by : (b : Bool) → (is_done (slot_at m k) && not (is_active_place m (slot_at m k).latest)) ≡ b
+        → Tracks size base H (if b then freed size k m else record { machine = m; calls = [] }).machine
     by true due =
         let parts = and_parts (is_done (slot_at m k)) (not (is_active_place m (slot_at m k).latest)) due in
         freed_tracks size base H m k t (due_goes m k t parts.0 (not-true (is_active_place m (slot_at m k).latest) parts.1))

@@ -4,6 +4,7 @@ use Rattle.std.specs.List.{Contains}
 use Rattle.std.proofs.lemmas.Bool.{true≢false}
 use Rattle.std.proofs.lemmas.Nat.{div-add-mod', mod_below}
 use Rattle.sled_codec.specs.History.{Message, History, table}
+use Rattle.sled_codec.specs.WellFormed.{LieApart}
 use Rattle.sled_store.specs.Marks.{HasReplacement, IsCounted, IsFormerState, IsLinked, IsPast, IsSuperseded, greatest_mark, info_of, slot_with, IsIn, IsNeeded}
 use Rattle.sled_store.specs.SegmentStates.{Machine, LiesIn, MayMark, is_free, next_slot, slot_at, is_active, stabilized}
 use Rattle.sled_store.specs.declared.segment.slot.CacheInfo.{CacheInfo}
@@ -13,8 +14,8 @@ use Rattle.sled_store.proofs.Marks.Tracked.{IsHeld}
 use Rattle.sled_store.proofs.Marks.MarkSteps.{next_free}
 use Rattle.sled_store.proofs.Marks.StableSteps.{segment_above}
 use Rattle.sled_store.proofs.Marks.DeactivationSteps.{from_map}
-use Rattle.sled_store.proofs.Marks.TableLemmas.{entry_above}
-use Rattle.sled_store.proofs.Marks.MarkedLemmas.{IsTruthful, entry_held, last_held, stable_waits}
+use Rattle.sled_store.proofs.Marks.TableLemmas.{apart_ascends, entry_above}
+use Rattle.sled_store.proofs.Marks.MarkedLemmas.{IsTruthful, not_superseded, superseded_more, entry_held, last_held, stable_waits}
 
 -- a message that a slot holds is linked there
 held_linked : (size : ℕ) (m : Machine) (e : Message) → IsHeld size (slot_at m (slot_with size e)) e → IsLinked size m e
@@ -72,6 +73,14 @@ module _ (size mark : ℕ) (H : History) (m : Machine) (t : IsTruthful size mark
       let linked : IsLinked size m e = above_mark_linked cut needed.page e le needed.there in
       (slot_with size e, record { taken = linked.lies.taken; lsn = sym linked.lies.lsn ∙ needed.within }, none_in_free cut needed.page (next_slot m) e le needed.there next_is_free)
 
+  -- Where more was completed than marked, what is marked is still linked while a table has it.
+  pub marked_linked : (G : History) (cut page : ℕ) (e : Message) → ((x : Message) → Contains H.messages x → Contains G.messages x)
+      → LieApart G.messages → mark / size * size ≤ cut → Contains H.messages e
+      → Contains (table G cut page) e → IsLinked size m e
+  marked_linked G cut page e more apart le there entry =
+      ⊎_elim (λ linked. linked) (λ by. absurd (not_superseded size (mark / size * size) G cut page e t.some (apart_ascends G.messages apart) entry le (superseded_more size (mark / size * size) (mark / size * size) H G e more (omega arith) by)))
+      (linked_or_superseded e there)
+
   -- Old messages.
 
   former_lies : (x : Message) (old : List CacheInfo) → IsFormerState H x.page old → (o : CacheInfo) → Contains old o → LiesIn size m o
@@ -102,6 +111,7 @@ module _ (size mark : ℕ) (H : History) (m : Machine) (t : IsTruthful size mark
   gone_replaced = t.tracks.gone
 
   -- a slot that a mark frees doesn't wait for a segment that is active then
-  pub freed_stable : (next : ℤ) (k place : ℕ) → is_free (slot_at m k).state ≡ false → is_free (slot_at (stabilized size next m).machine k).state ≡ true → (slot_at m k).latest ≡ Some place
+  pub freed_stable : (next : ℤ) (k place : ℕ) → is_free (slot_at m k).state ≡ false
+      → is_free (slot_at (stabilized size next m).machine k).state ≡ true → (slot_at m k).latest ≡ Some place
       → place + size ≤ greatest_mark mark next / size * size
   freed_stable next k place there free is = ⊎_elim (λ still. absurd (true≢false (sym free ∙ still.0))) (λ below. below) (stable_waits size mark H m t next k place (there, is))

@@ -39,7 +39,8 @@ handed_out_tracks size base H m place t new_place = by (nat_lt k (length m.slots
   k : ℕ
   k = next_slot m
 
-  by : (b : Bool) → nat_lt (next_slot m) (length m.slots) ≡ b → IsTracked size base H (if b then set m.slots (next_slot m) (taken_slot place) else m.slots ++ taken_slot place ∷ []) (max m.tip (next_slot m + 1))
+  by : (b : Bool) → nat_lt (next_slot m) (length m.slots) ≡ b
+      → IsTracked size base H (if b then set m.slots (next_slot m) (taken_slot place) else m.slots ++ taken_slot place ∷ []) (max m.tip (next_slot m + 1))
   by true lt =
       taken_out size base H m.slots m.tip t (next_slot m) place (set m.slots (next_slot m) (taken_slot place)) (max m.tip (next_slot m + 1))
       (set_changes m.slots (next_slot m) (taken_slot place) (ltb-true (next_slot m) (length m.slots) lt)) (next_free size base H m t) (omega arith) (omega arith) new_place.aligned new_place.above
@@ -49,7 +50,8 @@ handed_out_tracks size base H m place t new_place = by (nat_lt k (length m.slots
 
 -- One slot.
 
-pub replacement_at : (size : ℕ) (H : History) (s n : SlotState) (page : ℕ) → n.lsn ≡ s.lsn → n.latest ≡ s.latest → HasReplacement size H s page → HasReplacement size H n page
+pub replacement_at : (size : ℕ) (H : History) (s n : SlotState) (page : ℕ) → n.lsn ≡ s.lsn → n.latest ≡ s.latest → HasReplacement size H s page
+    → HasReplacement size H n page
 replacement_at size H s n page lsn latest by = record {
   message = by.message;
   there = by.there;
@@ -61,7 +63,8 @@ replacement_at size H s n page lsn latest by = record {
   within = by.within;
 }
 
-pub set_tracks : (size base : ℕ) (H : History) (ss : List SlotState) (tip k : ℕ) (s : SlotState) → IsTracked size base H ss tip → is_free (at ss k).state ≡ false → IsUpdate size base H ss (at ss k) s → IsTracked size base H (set ss k s) tip
+pub set_tracks : (size base : ℕ) (H : History) (ss : List SlotState) (tip k : ℕ) (s : SlotState) → IsTracked size base H ss tip
+    → is_free (at ss k).state ≡ false → IsUpdate size base H ss (at ss k) s → IsTracked size base H (set ss k s) tip
 set_tracks size base H ss tip k s t taken update = updated size base H ss tip t k s (set ss k s) (set_changes ss k s (taken_there ss k taken)) taken update
 
 -- The segment in a slot stays, and is as active as before.

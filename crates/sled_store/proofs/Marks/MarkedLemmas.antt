@@ -16,9 +16,9 @@ use Rattle.sled_store.proofs.Marks.SlotLemmas.{at, free_behind, taken_there, ins
 use Rattle.sled_store.proofs.Marks.Tracked.{IsHeld, IsActiveAt, IsTracked}
 use Rattle.sled_store.proofs.Marks.MarkSteps.{Tracks, handed_out_tracks, SameSegments, same_then, active_same, linked_tracks, linked_same, outdating_tracks, outdating_same}
 use Rattle.sled_store.proofs.Marks.ReplaceSteps.{LiesBelow, below_same, replaced_all_tracks}
-use Rattle.sled_store.proofs.Marks.StableSteps.{NotesPlace, segment_mono}
+use Rattle.sled_store.proofs.Marks.StableSteps.{NotesPlace, HoldsAsMuch, segment_mono}
 use Rattle.sled_store.proofs.Marks.DeactivationSteps.{from_map}
-use Rattle.sled_store.proofs.Marks.StabilizeSteps.{stabilized_tracks, stabilized_waits}
+use Rattle.sled_store.proofs.Marks.StabilizeSteps.{stabilized_tracks, stabilized_waits, stabilized_holds}
 use Rattle.sled_store.proofs.Marks.TableLemmas.{Ascends, added_ascends, added_keeps, added_there, added_cases, entry_above}
 
 -- a history whose messages ascend, and a machine that tracks it
@@ -30,26 +30,30 @@ pub record IsTruthful (size mark : ℕ) (H : History) (m : Machine) : Type 0 whe
 -- Entries.
 
 -- a message that begins an entry's page, and lies below the cut, doesn't supersede it
-pub not_superseded : (size place : ℕ) (H : History) (cut page : ℕ) (e : Message) → 0 < size → Ascends H.messages → Contains (table H cut page) e → place ≤ cut → IsSuperseded size place H e → ⊥
+pub not_superseded : (size place : ℕ) (H : History) (cut page : ℕ) (e : Message) → 0 < size → Ascends H.messages → Contains (table H cut page) e
+    → place ≤ cut → IsSuperseded size place H e → ⊥
 not_superseded size place H cut page e some order entry le by =
     let x : Message = by.message in
     let lt : x.place < cut = omega (arith, div-add-mod' x.place size, mod_below x.place size some, by.ends, le) in
     omega (arith, entry_above H cut page e order entry x by.there by.same_page by.begins lt, by.later)
 
 -- an entry of a table below a cut that isn't below the base lies in its segment
-pub entry_held : (size base : ℕ) (H : History) (m : Machine) (cut page : ℕ) (e : Message) → 0 < size → Ascends H.messages → Tracks size base H m → base ≤ cut → Contains (table H cut page) e → IsHeld size (slot_at m (slot_with size e)) e
+pub entry_held : (size base : ℕ) (H : History) (m : Machine) (cut page : ℕ) (e : Message) → 0 < size → Ascends H.messages → Tracks size base H m
+    → base ≤ cut → Contains (table H cut page) e → IsHeld size (slot_at m (slot_with size e)) e
 entry_held size base H m cut page e some order t le entry =
     ⊎_elim (λ held. held) (λ superseded. absurd (not_superseded size base H cut page e some order entry le superseded)) (t.messages e (from_table H cut page e entry).0)
 
 -- an entry of the table of all messages lies in its segment
-pub last_held : (size base : ℕ) (H : History) (m : Machine) (cut page : ℕ) (e : Message) → Ascends H.messages → Tracks size base H m → IsPast H cut → Contains (table H cut page) e → IsHeld size (slot_at m (slot_with size e)) e
+pub last_held : (size base : ℕ) (H : History) (m : Machine) (cut page : ℕ) (e : Message) → Ascends H.messages → Tracks size base H m → IsPast H cut
+    → Contains (table H cut page) e → IsHeld size (slot_at m (slot_with size e)) e
 last_held size base H m cut page e order t past entry =
     ⊎_elim (λ held. held) (λ by. absurd (omega (arith, entry_above H cut page e order entry by.message by.there by.same_page by.begins (past by.message by.there), by.later)))
     (t.messages e (from_table H cut page e entry).0)
 
 -- Steps of the history.
 
-replacement_more : (size : ℕ) (H H' : History) (s : SlotState) (page : ℕ) → ((x : Message) → Contains H.messages x → Contains H'.messages x) → HasReplacement size H s page → HasReplacement size H' s page
+replacement_more : (size : ℕ) (H H' : History) (s : SlotState) (page : ℕ) → ((x : Message) → Contains H.messages x → Contains H'.messages x)
+    → HasReplacement size H s page → HasReplacement size H' s page
 replacement_more size H H' s page keeps by = record {
   message = by.message;
   there = keeps by.message by.there;
@@ -61,7 +65,8 @@ replacement_more size H H' s page keeps by = record {
   within = by.within;
 }
 
-superseded_more : (size base base' : ℕ) (H H' : History) (e : Message) → ((x : Message) → Contains H.messages x → Contains H'.messages x) → base ≤ base' → IsSuperseded size base H e → IsSuperseded size base' H' e
+pub superseded_more : (size base base' : ℕ) (H H' : History) (e : Message) → ((x : Message) → Contains H.messages x → Contains H'.messages x)
+    → base ≤ base' → IsSuperseded size base H e → IsSuperseded size base' H' e
 superseded_more size base base' H H' e keeps le by = record {
   message = by.message;
   there = keeps by.message by.there;
@@ -72,7 +77,8 @@ superseded_more size base base' H H' e keeps le by = record {
 }
 
 -- Where each message that is new lies in its segment, and the base is raised at most, all is tracked.
-more_tracks : (size base base' : ℕ) (H H' : History) (m : Machine) → Tracks size base H m → base ≤ base' → ((x : Message) → Contains H.messages x → Contains H'.messages x)
+more_tracks : (size base base' : ℕ) (H H' : History) (m : Machine) → Tracks size base H m → base ≤ base'
+    → ((x : Message) → Contains H.messages x → Contains H'.messages x)
     → ((x : Message) → Contains H'.messages x → IsHeld size (slot_at m (slot_with size x)) x ⊎ Contains H.messages x) → Tracks size base' H' m
 more_tracks size base base' H H' m t le keeps new = record {
   cut_off = t.cut_off;
@@ -121,9 +127,12 @@ module _ (size mark : ℕ) (H : History) (m : Machine) (t : IsTruthful size mark
       let held : IsHeld size (slot_at m (slot_with size e)) e = last_held size (mark / size * size) H m former.cut x.page e t.ascends t.tracks former.past found.1 in
       let from = from_table H former.cut x.page e found.1 in
       let lt : e.place < x.place = completes.newest e from.0 from.1 in
-      subst (LiesBelow size (x.place / size * size) x.page m.slots) found.2 (record { taken = held.taken; below = omega (arith, held.lsn, segment_mono size e.place x.place t.some (omega (arith, lt))); has = subst (λ (n : ℕ). Contains (slot_at m (slot_with size e)).pages n) from.1 held.page })
+      let below : e.place / size * size ≤ x.place / size * size = segment_mono size e.place x.place t.some (omega (arith, lt)) in
+      let has : Contains (slot_at m (slot_with size e)).pages x.page = subst (λ (n : ℕ). Contains (slot_at m (slot_with size e)).pages n) from.1 held.page in
+      subst (LiesBelow size (x.place / size * size) x.page m.slots) found.2 (record { taken = held.taken; below = omega (arith, held.lsn, below); has = has })
 
-  replaced_message : (old : List CacheInfo) → begins_page x.kind ≡ true → IsFormerState H x.page old → Tracks size (mark / size * size) H' (replaced size x.page (info_of x) old m)
+  replaced_message : (old : List CacheInfo) → begins_page x.kind ≡ true → IsFormerState H x.page old
+      → Tracks size (mark / size * size) H' (replaced size x.page (info_of x) old m)
   replaced_message old begins former =
       let base = mark / size * size in
       let place = x.place / size * size in
@@ -155,8 +164,13 @@ module _ (size mark : ℕ) (H : History) (m : Machine) (t : IsTruthful size mark
   stable_tracks next = stabilized_tracks size (greatest_mark mark next / size * size) H t.some m next (raised_tracks next) (raised_due next)
 
   -- A slot that is freed doesn't wait for a segment that is active.
-  pub stable_waits : (next : ℤ) (k place : ℕ) → NotesPlace (slot_at m k) place → NotesPlace (slot_at (stabilized size next m).machine k) place ⊎ (place + size ≤ greatest_mark mark next / size * size)
+  pub stable_waits : (next : ℤ) (k place : ℕ) → NotesPlace (slot_at m k) place
+      → NotesPlace (slot_at (stabilized size next m).machine k) place ⊎ (place + size ≤ greatest_mark mark next / size * size)
   stable_waits next = stabilized_waits size (greatest_mark mark next / size * size) H t.some m next (raised_tracks next) (raised_due next)
+
+  pub stable_holds : (next : ℤ) (k : ℕ) → is_free (slot_at (stabilized size next m).machine k).state ≡ false
+      → HoldsAsMuch (slot_at m k) (slot_at (stabilized size next m).machine k)
+  stable_holds next = stabilized_holds size (greatest_mark mark next / size * size) H t.some m next (raised_tracks next) (raised_due next)
 
 -- Steps: each keeps it.
 
@@ -170,7 +184,8 @@ module _ (size mark : ℕ) (H : History) (m : Machine) (t : IsTruthful size mark
   pub linked_truthful : (x : Message) (H' : History) → Completes H x H' → MayMark size m (info_of x) [] → IsTruthful size mark H' (linked size x.page (info_of x) m)
   linked_truthful x H' completes may = record { some = t.some; ascends = added_ascends H x H' completes.adds t.ascends; tracks = linked_message size mark H m t x H' completes may }
 
-  pub replaced_truthful : (x : Message) (old : List CacheInfo) (H' : History) → Completes H x H' → begins_page x.kind ≡ true → IsFormerState H x.page old → MayMark size m (info_of x) []
+  pub replaced_truthful : (x : Message) (old : List CacheInfo) (H' : History) → Completes H x H' → begins_page x.kind ≡ true
+      → IsFormerState H x.page old → MayMark size m (info_of x) []
       → IsTruthful size mark H' (replaced size x.page (info_of x) old m)
   replaced_truthful x old H' completes begins former may =
       record { some = t.some; ascends = added_ascends H x H' completes.adds t.ascends; tracks = replaced_message size mark H m t x H' completes may old begins former }

@@ -55,7 +55,8 @@ pub record LiesBelow (size place page : ℕ) (ss : List SlotState) (o : CacheInf
   pub below : (at ss (lid_of o.pointer / size)).lsn ≤ place
   pub has : Contains (at ss (lid_of o.pointer / size)).pages page
 
-pub below_same : (size place page : ℕ) (old new : List SlotState) (o : CacheInfo) → SameSegments old new → LiesBelow size place page old o → LiesBelow size place page new o
+pub below_same : (size place page : ℕ) (old new : List SlotState) (o : CacheInfo) → SameSegments old new → LiesBelow size place page old o
+    → LiesBelow size place page new o
 below_same size place page old new o same lies =
     let one = same (lid_of o.pointer / size) in
     let lsn : (at new (lid_of o.pointer / size)).lsn ≡ (at old (lid_of o.pointer / size)).lsn = one.lsn in
@@ -77,7 +78,8 @@ module _ (size base : ℕ) (H : History) (x : Message) (there : Contains H.messa
         let most : IsLatest (later (x.place / size * size) s.latest) (x.place / size * size) = later_own (x.place / size * size) s.latest in
         record { message = x; there = there; same_page = is; begins = begins; later = omega (arith, low, other); latest = most.latest; noted = most.is; within = most.above }
 
-    by : (b : Bool) → (x.place / size * size == s.lsn) ≡ b → Contains (if b then s.gone else insert_key nat_cmp s.gone x.page) page → HasReplacement size H (replaced_slot x.page len (x.place / size * size) s) page
+    by : (b : Bool) → (x.place / size * size == s.lsn) ≡ b → Contains (if b then s.gone else insert_key nat_cmp s.gone x.page) page
+        → HasReplacement size H (replaced_slot x.page len (x.place / size * size) s) page
     by true same found = kept found
     by false other found = ⊎_elim (λ is. put (λ e. eqb-false (x.place / size * size) s.lsn other (sym e)) is) kept (from_insert nat_cmp s.gone x.page page found)
 
@@ -90,7 +92,8 @@ module _ (size base : ℕ) (H : History) (x : Message) (there : Contains H.messa
     by false found = ⊎_elim (λ is. subst (Contains s.pages) is own) (within page) (from_insert nat_cmp s.gone x.page page found)
 
   module _ (m : Machine) (t : Tracks size base H m) (o : CacheInfo) (lies : LiesBelow size (x.place / size * size) x.page m.slots o) where
-    with_replaced : IsActiveAt m.slots (x.place / size * size) → IsTracked size base H (set m.slots (lid_of o.pointer / size) (replaced_slot x.page o.log_size (x.place / size * size) (slot_at m (lid_of o.pointer / size)))) m.tip
+    with_replaced : IsActiveAt m.slots (x.place / size * size)
+        → IsTracked size base H (set m.slots (lid_of o.pointer / size) (replaced_slot x.page o.log_size (x.place / size * size) (slot_at m (lid_of o.pointer / size)))) m.tip
     with_replaced active =
         let k = lid_of o.pointer / size in
         let s : SlotState = slot_at m k in
@@ -116,7 +119,8 @@ module _ (size base : ℕ) (H : History) (x : Message) (there : Contains H.messa
         same_then m.slots (set m.slots k s) (replaced_one size x.page (x.place / size * size) o m).slots
         (set_same m.slots k s (taken_there m.slots k lies.taken) (record { free = refl; active = refl; lsn = refl; pages = λ p found. found })) (sparse_same size (with_slot k s m) k)
 
-  pub replaced_all_tracks : (os : List CacheInfo) (m : Machine) → Tracks size base H m → ((o : CacheInfo) → Contains os o → LiesBelow size (x.place / size * size) x.page m.slots o) → IsActiveAt m.slots (x.place / size * size)
+  pub replaced_all_tracks : (os : List CacheInfo) (m : Machine) → Tracks size base H m
+      → ((o : CacheInfo) → Contains os o → LiesBelow size (x.place / size * size) x.page m.slots o) → IsActiveAt m.slots (x.place / size * size)
       → Tracks size base H (replaced_all size x.page (x.place / size * size) os m)
   replaced_all_tracks [] m t lie active = t
   replaced_all_tracks (o ∷ os) m t lie active =

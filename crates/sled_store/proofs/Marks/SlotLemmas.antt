@@ -42,7 +42,8 @@ push_changes ss s = record { here = get_or-append_seam ss s [] free_slot; others
   behind j other le = free_behind (ss ++ s ∷ []) j (omega (arith, length-append ss (s ∷ []), other, le)) ∙ sym (free_behind ss j le)
 
 -- what is so of the changed slot and of the others as they were is so of each slot
-pub each_slot : (P : ℕ → SlotState → Type 0) (old : List SlotState) (k : ℕ) (s : SlotState) (new : List SlotState) → Changes old k s new → P k s → ((j : ℕ) → j ≢ k → P j (at old j)) → (j : ℕ) → P j (at new j)
+pub each_slot : (P : ℕ → SlotState → Type 0) (old : List SlotState) (k : ℕ) (s : SlotState) (new : List SlotState) → Changes old k s new → P k s
+    → ((j : ℕ) → j ≢ k → P j (at old j)) → (j : ℕ) → P j (at new j)
 each_slot P old k s new changes here others j =
     ⊎_elim (λ is. subst (λ (i : ℕ). P i (at new i)) (sym is) (subst (P k) (sym changes.here) here)) (λ other. subst (P j) (sym (changes.others j other)) (others j other)) (cases_eq j k)
 
@@ -104,7 +105,8 @@ where_passes test i (s ∷ ss) k there = by_test (test s) refl (where_passes tes
   later : Passes test (suc i) ss k → Passes test i (s ∷ ss) k
   later rest = let is : k ≡ suc i + rest.index = rest.is in let lt : rest.index < length ss = rest.there in record { index = suc rest.index; is = omega arith; there = omega arith; passes = rest.passes }
 
-  by_test : (b : Bool) → test s ≡ b → (Contains (slots_where test (suc i) ss) k → Passes test (suc i) ss k) → Contains (if b then i ∷ slots_where test (suc i) ss else slots_where test (suc i) ss) k → Passes test i (s ∷ ss) k
+  by_test : (b : Bool) → test s ≡ b → (Contains (slots_where test (suc i) ss) k → Passes test (suc i) ss k)
+      → Contains (if b then i ∷ slots_where test (suc i) ss else slots_where test (suc i) ss) k → Passes test i (s ∷ ss) k
   by_test true passes rest there =
       ⊎_elim (λ is. record { index = 0; is = omega (arith, is); there = omega arith; passes = passes }) (λ found. later (rest found)) (in_cases i k (slots_where test (suc i) ss) there)
   by_test false fails rest there = later (rest there)
@@ -122,7 +124,8 @@ by_has place i (s ∷ ss) w there = by_place_of (place s) refl (by_has place (su
   later : HasPlace place (suc i) ss w → HasPlace place i (s ∷ ss) w
   later rest = let is : w.1 ≡ suc i + rest.index = rest.is in let lt : rest.index < length ss = rest.there in record { index = suc rest.index; is = omega arith; there = omega arith; has = rest.has }
 
-  by_place_of : (o : Option ℕ) → place s ≡ o → (Contains (slots_by place (suc i) ss) w → HasPlace place (suc i) ss w) → Contains (beside o i (slots_by place (suc i) ss)) w → HasPlace place i (s ∷ ss) w
+  by_place_of : (o : Option ℕ) → place s ≡ o → (Contains (slots_by place (suc i) ss) w → HasPlace place (suc i) ss w)
+      → Contains (beside o i (slots_by place (suc i) ss)) w → HasPlace place i (s ∷ ss) w
   by_place_of None none rest there = later (rest there)
   by_place_of (Some l) some rest there =
       ⊎_elim (λ is. record { index = 0; is = omega (arith, ap (λ (v : ℕ × ℕ). v.1) is); there = omega arith; has = some ∙ ap (λ (v : ℕ × ℕ). Some v.0) is }) (λ found. later (rest found))
@@ -145,7 +148,8 @@ one_on : (i j l : ℕ) (ws : List (ℕ × ℕ)) → Contains ws (l, suc i + j) �
 one_on i j l ws there = let is : suc i + j ≡ i + suc j = omega arith in subst (λ (n : ℕ). Contains ws (l, n)) is there
 
 -- a slot that has a place is listed by it
-pub by_listed : (place : SlotState → Option ℕ) (i : ℕ) (ss : List SlotState) (j l : ℕ) → j < length ss → place (at ss j) ≡ Some l → Contains (slots_by place i ss) (l, i + j)
+pub by_listed : (place : SlotState → Option ℕ) (i : ℕ) (ss : List SlotState) (j l : ℕ) → j < length ss → place (at ss j) ≡ Some l
+    → Contains (slots_by place i ss) (l, i + j)
 by_listed place i [] j l lt has = absurd (omega (arith, lt))
 by_listed place i (s ∷ ss) zero l lt has = by_place_of (place s) has where
   by_place_of : (o : Option ℕ) → o ≡ Some l → Contains (beside o i (slots_by place (suc i) ss)) (l, i + 0)

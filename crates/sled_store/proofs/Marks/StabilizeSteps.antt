@@ -12,12 +12,13 @@ use Rattle.sled_store.proofs.Marks.SlotLemmas.{at, taken_there, Distinct, distin
 use Rattle.sled_store.proofs.Marks.Tracked.{MayGo}
 use Rattle.sled_store.proofs.Marks.MarkSteps.{Tracks, replacement_at, set_tracks, inactive_taken, inactive_not_active, drained_tracks}
 use Rattle.sled_store.proofs.Marks.ReplaceSteps.{sparse_tracks}
-use Rattle.sled_store.proofs.Marks.StableSteps.{NotesPlace, KeepsSegments, keeps_same, keeps_then, keeps_set, freed_keeps, all_freed_track, all_freed_keep}
+use Rattle.sled_store.proofs.Marks.StableSteps.{NotesPlace, HoldsAsMuch, KeepsSegments, keeps_same, keeps_then, keeps_set, freed_keeps, all_freed_track, all_freed_keep}
 use Rattle.sled_store.proofs.Marks.DeactivationSteps.{active_parts, waiting_go, due_goes, tested_tracks}
 
 module _ (size base : ℕ) (H : History) (some : 0 < size) where
   -- The highest inactive segment is inactive.
-  wasteful_inactive : (m : Machine) → is_wasteful m.slots ≡ true → is_inactive (slot_at m (get_or (inactive_among m.slots) (length (inactive_among m.slots) - 1) 0)).state ≡ true
+  wasteful_inactive : (m : Machine) → is_wasteful m.slots ≡ true
+      → is_inactive (slot_at m (get_or (inactive_among m.slots) (length (inactive_among m.slots) - 1) 0)).state ≡ true
   wasteful_inactive m wasteful =
       let ks : List ℕ = inactive_among m.slots in
       let k : ℕ = get_or ks (length ks - 1) 0 in
@@ -62,19 +63,25 @@ module _ (size base : ℕ) (H : History) (some : 0 < size) where
         })
 
     inactive_keeps : KeepsSegments size base a.1 m.slots (with_slot a.1 (inactive_slot (slot_at m a.1)) m).slots
-    inactive_keeps = keeps_set size base a.1 a.1 m.slots (inactive_slot (slot_at m a.1)) (taken_there m.slots a.1 (active_is_taken (slot_at m a.1) due.active)) (inl refl) refl refl
+    inactive_keeps =
+        let s : SlotState = slot_at m a.1 in
+        let taken : is_free s.state ≡ false = active_is_taken s due.active in
+        keeps_set size base a.1 a.1 m.slots (inactive_slot s) (taken_there m.slots a.1 taken) (inl refl) refl refl (taken, refl)
 
   -- The test of a slot changes no other one that is active.
   sparse_keeps : (m : Machine) (k : ℕ) → KeepsSegments size base k m.slots (drained_if_sparse size k m).slots
   sparse_keeps m k = by (is_sparse size (slot_at m k)) refl where
     by : (b : Bool) → is_sparse size (slot_at m k) ≡ b → KeepsSegments size base k m.slots (if b then drained k m else m).slots
     by true sparse =
-        keeps_set size base k k m.slots (drained_slot (slot_at m k)) (taken_there m.slots k (inactive_taken (slot_at m k) (and_parts (is_inactive (slot_at m k).state) (nat_le ((slot_at m k).held * 100 / size) 50) sparse).0)) (inl refl) refl refl
+        let s : SlotState = slot_at m k in
+        let taken : is_free s.state ≡ false = inactive_taken s (and_parts (is_inactive s.state) (nat_le (s.held * 100 / size) 50) sparse).0 in
+        keeps_set size base k k m.slots (drained_slot s) (taken_there m.slots k taken) (inl refl) refl refl (taken, refl)
     by false full = keeps_same size base k m.slots
 
   freed_if_done_keeps : (m : Machine) (k : ℕ) → Tracks size base H m → KeepsSegments size base k m.slots (freed_if_done size k m).machine.slots
   freed_if_done_keeps m k t = by (is_done (slot_at m k) && not (is_active_place m (slot_at m k).latest)) refl where
-    by : (b : Bool) → (is_done (slot_at m k) && not (is_active_place m (slot_at m k).latest)) ≡ b → KeepsSegments size base k m.slots (if b then freed size k m else record { machine = m; calls = [] }).machine.slots
+    by : (b : Bool) → (is_done (slot_at m k) && not (is_active_place m (slot_at m k).latest)) ≡ b
+        → KeepsSegments size base k m.slots (if b then freed size k m else record { machine = m; calls = [] }).machine.slots
     by true due =
         let parts = and_parts (is_done (slot_at m k)) (not (is_active_place m (slot_at m k).latest)) due in
         let goes : MayGo size base H m.slots k = due_goes size base H some m k t parts.0 (not-true (is_active_place m (slot_at m k).latest) parts.1) in
@@ -92,12 +99,15 @@ module _ (size base : ℕ) (H : History) (some : 0 < size) where
     by true wasteful =
         let k : ℕ = get_or (inactive_among m.slots) (length (inactive_among m.slots) - 1) 0 in
         let inactive = wasteful_inactive m wasteful in
-        keeps_set size base but k m.slots (drained_slot (slot_at m k)) (taken_there m.slots k (inactive_taken (slot_at m k) inactive)) (inr (inactive_not_active (slot_at m k) inactive)) refl refl
+        let s : SlotState = slot_at m k in
+        let taken : is_free s.state ≡ false = inactive_taken s inactive in
+        keeps_set size base but k m.slots (drained_slot s) (taken_there m.slots k taken) (inr (inactive_not_active s inactive)) refl refl (taken, refl)
     by false lean = keeps_same size base but m.slots
 
   -- A segment is deactivated: what is tracked stays, and so do the other active segments.
   module _ (m : Machine) (t : Tracks size base H m) (a : ℕ × ℕ) (due : IsDue m.slots a) where
-    go : (k : ℕ) → Contains (waiting_for a.0 (with_slot a.1 (inactive_slot (slot_at m a.1)) m)) k → MayGo size base H (with_slot a.1 (inactive_slot (slot_at m a.1)) m).slots k
+    go : (k : ℕ) → Contains (waiting_for a.0 (with_slot a.1 (inactive_slot (slot_at m a.1)) m)) k
+        → MayGo size base H (with_slot a.1 (inactive_slot (slot_at m a.1)) m).slots k
     go = waiting_go size base H some (with_slot a.1 (inactive_slot (slot_at m a.1)) m) a.0 (inactive_tracks m t a due) due.below
 
     deactivated_tracks : Tracks size base H (deactivated size a m).machine
@@ -119,7 +129,8 @@ module _ (size base : ℕ) (H : History) (some : 0 < size) where
         (keeps_then size base a.1 freed_all.slots after_test.slots end.slots (tested_keeps freed_all a.1 t_freed) (wasteful_keeps a.1 after_test)))
 
   -- The others that are due still are.
-  still_due : (m : Machine) (t : Tracks size base H m) (a : ℕ × ℕ) (due_ones : List (ℕ × ℕ)) → Distinct (a ∷ due_ones) → ((b : ℕ × ℕ) → Contains (a ∷ due_ones) b → IsDue m.slots b) → (b : ℕ × ℕ) → Contains due_ones b
+  still_due : (m : Machine) (t : Tracks size base H m) (a : ℕ × ℕ) (due_ones : List (ℕ × ℕ)) → Distinct (a ∷ due_ones)
+      → ((b : ℕ × ℕ) → Contains (a ∷ due_ones) b → IsDue m.slots b) → (b : ℕ × ℕ) → Contains due_ones b
       → IsDue (deactivated size a m).machine.slots b
   still_due m t a due_ones distinct due b there =
       let was : IsDue m.slots b = due b (in_rest a b due_ones there) in
@@ -128,7 +139,8 @@ module _ (size base : ℕ) (H : History) (some : 0 < size) where
       record { active = ap (λ (s : SlotState). is_active s.state) same ∙ was.active; lsn = ap (λ (s : SlotState). s.lsn) same ∙ was.lsn; below = was.below }
 
   -- All that are due are deactivated, and what waits for a segment above the base is there.
-  all_deactivated_track : (due_ones : List (ℕ × ℕ)) (m : Machine) → Tracks size base H m → Distinct due_ones → ((a : ℕ × ℕ) → Contains due_ones a → IsDue m.slots a) → Tracks size base H (in_turn (deactivated size) due_ones m).machine
+  all_deactivated_track : (due_ones : List (ℕ × ℕ)) (m : Machine) → Tracks size base H m → Distinct due_ones
+      → ((a : ℕ × ℕ) → Contains due_ones a → IsDue m.slots a) → Tracks size base H (in_turn (deactivated size) due_ones m).machine
   all_deactivated_track [] m t distinct due = t
   all_deactivated_track (a ∷ due_ones) m t distinct due =
       all_deactivated_track due_ones (deactivated size a m).machine (deactivated_tracks m t a (due a (in_first a due_ones))) distinct.1 (still_due m t a due_ones distinct due)
@@ -140,6 +152,14 @@ module _ (size base : ℕ) (H : History) (some : 0 < size) where
       let first : IsDue m.slots a = due a (in_first a due_ones) in
       ⊎_elim (λ still. all_deactivated_wait due_ones (deactivated size a m).machine (deactivated_tracks m t a first) distinct.1 (still_due m t a due_ones distinct due) k place still) (λ below. inr below)
       ((deactivated_keeps m t a first).waiting k place notes)
+
+  all_deactivated_hold : (due_ones : List (ℕ × ℕ)) (m : Machine) → Tracks size base H m → Distinct due_ones → ((a : ℕ × ℕ) → Contains due_ones a → IsDue m.slots a)
+      → (k : ℕ) → is_free (at (in_turn (deactivated size) due_ones m).machine.slots k).state ≡ false → HoldsAsMuch (at m.slots k) (at (in_turn (deactivated size) due_ones m).machine.slots k)
+  all_deactivated_hold [] m t distinct due k there = (there, refl)
+  all_deactivated_hold (a ∷ due_ones) m t distinct due k there =
+      let first : IsDue m.slots a = due a (in_first a due_ones) in
+      let rest = all_deactivated_hold due_ones (deactivated size a m).machine (deactivated_tracks m t a first) distinct.1 (still_due m t a due_ones distinct due) k there in
+      let one = (deactivated_keeps m t a first).held k rest.0 in (one.0, rest.1 ∙ one.1)
 
   module _ (m : Machine) (mark : ℤ) (t : Tracks size base H m) (below : (place : ℕ) → is_due size mark place ≡ true → place + size ≤ base) where
     due_distinct : Distinct (filter (λ (a : ℕ × ℕ). is_due size mark a.0) (active_among m.slots))
@@ -163,3 +183,7 @@ module _ (size base : ℕ) (H : History) (some : 0 < size) where
 
     pub stabilized_waits : (k place : ℕ) → NotesPlace (slot_at m k) place → NotesPlace (slot_at (stabilized size mark m).machine k) place ⊎ (place + size ≤ base)
     stabilized_waits = all_deactivated_wait (filter (λ (a : ℕ × ℕ). is_due size mark a.0) (active_among m.slots)) m t due_distinct all_due
+
+    pub stabilized_holds : (k : ℕ) → is_free (slot_at (stabilized size mark m).machine k).state ≡ false
+        → HoldsAsMuch (slot_at m k) (slot_at (stabilized size mark m).machine k)
+    stabilized_holds = all_deactivated_hold (filter (λ (a : ℕ × ℕ). is_due size mark a.0) (active_among m.slots)) m t due_distinct all_due

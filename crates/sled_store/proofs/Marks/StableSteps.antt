@@ -29,18 +29,25 @@ segment_above size x y some lt = ⊎_elim (λ below. below) (λ le. absurd (omeg
 abbrev pub NotesPlace : SlotState → ℕ → Type 0
 NotesPlace s place = (is_free s.state ≡ false) × (s.latest ≡ Some place)
 
+-- a segment was there, and holds as much as before
+abbrev pub HoldsAsMuch : SlotState → SlotState → Type 0
+HoldsAsMuch old new = (is_free old.state ≡ false) × (new.held ≡ old.held)
+
 -- Each active slot but one is as it was, and a segment that waits for one above the base is there.
 pub record KeepsSegments (size base but : ℕ) (old new : List SlotState) : Type 0 where
   pub active : (j : ℕ) → j ≢ but → is_active (at old j).state ≡ true → at new j ≡ at old j
   pub waiting : (j place : ℕ) → NotesPlace (at old j) place → NotesPlace (at new j) place ⊎ (place + size ≤ base)
+  pub held : (j : ℕ) → is_free (at new j).state ≡ false → HoldsAsMuch (at old j) (at new j)
 
 pub keeps_same : (size base but : ℕ) (ss : List SlotState) → KeepsSegments size base but ss ss
-keeps_same size base but ss = record { active = λ j other active. refl; waiting = λ j place notes. inl notes }
+keeps_same size base but ss = record { active = λ j other active. refl; waiting = λ j place notes. inl notes; held = λ j there. (there, refl) }
 
-pub keeps_then : (size base but : ℕ) (old mid new : List SlotState) → KeepsSegments size base but old mid → KeepsSegments size base but mid new → KeepsSegments size base but old new
+pub keeps_then : (size base but : ℕ) (old mid new : List SlotState) → KeepsSegments size base but old mid → KeepsSegments size base but mid new
+    → KeepsSegments size base but old new
 keeps_then size base but old mid new first more = record {
   active = λ j other active. more.active j other (ap (λ (s : SlotState). is_active s.state) (first.active j other active) ∙ active) ∙ first.active j other active;
   waiting = λ j place notes. ⊎_elim (λ still. more.waiting j place still) (λ below. inr below) (first.waiting j place notes);
+  held = λ j there. let then_held = more.held j there in let first_held = first.held j then_held.0 in (first_held.0, then_held.1 ∙ first_held.1);
 }
 
 -- a slot that isn't active, or is that one, isn't another active one
@@ -48,12 +55,14 @@ not_that : (but k : ℕ) (old : List SlotState) → (k ≡ but) ⊎ (is_active (
 not_that but k old why j other active is =
     ⊎_elim (λ same. other (is ∙ same)) (λ none. true≢false (sym (subst (λ (i : ℕ). is_active (at old i).state ≡ true) is active) ∙ none)) why
 
-pub keeps_set : (size base but k : ℕ) (old : List SlotState) (s : SlotState) → k < length old → (k ≡ but) ⊎ (is_active (at old k).state ≡ false) → is_free s.state ≡ false → s.latest ≡ (at old k).latest
-    → KeepsSegments size base but old (set old k s)
-keeps_set size base but k old s lt why taken same = record {
+pub keeps_set : (size base but k : ℕ) (old : List SlotState) (s : SlotState) → k < length old → (k ≡ but) ⊎ (is_active (at old k).state ≡ false)
+    → is_free s.state ≡ false → s.latest ≡ (at old k).latest
+    → HoldsAsMuch (at old k) s → KeepsSegments size base but old (set old k s)
+keeps_set size base but k old s lt why taken same as_much = record {
   active = λ j other active. (set_changes old k s lt).others j (not_that but k old why j other active);
   waiting = λ j place. each_slot (λ i x. NotesPlace (at old i) place → NotesPlace x place ⊎ (place + size ≤ base)) old k s (set old k s) (set_changes old k s lt)
       (λ notes. inl (taken, same ∙ notes.1)) (λ i other notes. inl notes) j;
+  held = each_slot (λ i x. is_free x.state ≡ false → HoldsAsMuch (at old i) x) old k s (set old k s) (set_changes old k s lt) (λ there. as_much) (λ i other there. (there, refl));
 }
 
 -- Frees.
@@ -61,7 +70,8 @@ keeps_set size base but k old s lt why taken same = record {
 left_after_free : (n : ℕ) (ss : List SlotState) (j : ℕ) → left_after n ss ≤ j → j < n → is_free (at ss j).state ≡ true
 left_after_free zero ss j le lt = absurd (omega (arith, lt))
 left_after_free (suc k) ss j le lt = by (may_be_cut k ss) refl le (left_after_free k ss j) where
-  by : (b : Bool) → may_be_cut k ss ≡ b → (if b then left_after k ss else suc k) ≤ j → (left_after k ss ≤ j → j < k → is_free (at ss j).state ≡ true) → is_free (at ss j).state ≡ true
+  by : (b : Bool) → may_be_cut k ss ≡ b → (if b then left_after k ss else suc k) ≤ j
+      → (left_after k ss ≤ j → j < k → is_free (at ss j).state ≡ true) → is_free (at ss j).state ≡ true
   by true cut low rest =
       ⊎_elim (λ is. subst (λ (i : ℕ). is_free (at ss i).state ≡ true) (sym is) (and_parts (is_free (at ss k).state) (nat_lt 1 (length (slots_where (λ s. is_free s.state) 0 (take (suc k) ss)))) cut).0)
       (λ other. rest low (omega (arith, lt, other))) (cases_eq j k)
@@ -84,20 +94,24 @@ module _ (size base : ℕ) (H : History) where
     was : (e : Message) (i : ℕ) → IsHeld size (at (set m.slots k free_slot) i) e → IsHeld size (at m.slots i) e
     was e = each_slot (λ i x. IsHeld size x e → IsHeld size (at m.slots i) e) m.slots k free_slot (set m.slots k free_slot) (set_changes m.slots k free_slot lt) (λ held. absurd (true≢false held.taken)) (λ i other held. held)
 
-  pub all_freed_track : (ks : List ℕ) (m : Machine) → Tracks size base H m → ((k : ℕ) → Contains ks k → MayGo size base H m.slots k) → Tracks size base H (in_turn (freed size) ks m).machine
+  pub all_freed_track : (ks : List ℕ) (m : Machine) → Tracks size base H m → ((k : ℕ) → Contains ks k → MayGo size base H m.slots k)
+      → Tracks size base H (in_turn (freed size) ks m).machine
   all_freed_track [] m t go = t
   all_freed_track (k ∷ ks) m t go =
       let goes : MayGo size base H m.slots k = go k (in_first k ks) in
       all_freed_track ks (freed size k m).machine (freed_tracks m k t goes) (λ j there. goes_on m k j goes.there (go j (in_rest k j ks there)))
 
-  pub freed_keeps : (but : ℕ) (m : Machine) (k : ℕ) → (k ≡ but) ⊎ (is_active (at m.slots k).state ≡ false) → MayGo size base H m.slots k → KeepsSegments size base but m.slots (freed size k m).machine.slots
+  pub freed_keeps : (but : ℕ) (m : Machine) (k : ℕ) → (k ≡ but) ⊎ (is_active (at m.slots k).state ≡ false) → MayGo size base H m.slots k
+      → KeepsSegments size base but m.slots (freed size k m).machine.slots
   freed_keeps but m k why goes = record {
     active = λ j other active. (set_changes m.slots k free_slot goes.there).others j (not_that but k m.slots why j other active);
     waiting = λ j place. each_slot (λ i x. NotesPlace (at m.slots i) place → NotesPlace x place ⊎ (place + size ≤ base)) m.slots k free_slot (set m.slots k free_slot) (set_changes m.slots k free_slot goes.there)
         (λ notes. inr (goes.waited place notes.1)) (λ i other notes. inl notes) j;
+    held = each_slot (λ i x. is_free x.state ≡ false → HoldsAsMuch (at m.slots i) x) m.slots k free_slot (set m.slots k free_slot) (set_changes m.slots k free_slot goes.there) (λ there. absurd (true≢false there)) (λ i other there. (there, refl));
   }
 
-  pub all_freed_keep : (but : ℕ) (ks : List ℕ) (m : Machine) → ((k : ℕ) → Contains ks k → MayGo size base H m.slots k) → KeepsSegments size base but m.slots (in_turn (freed size) ks m).machine.slots
+  pub all_freed_keep : (but : ℕ) (ks : List ℕ) (m : Machine) → ((k : ℕ) → Contains ks k → MayGo size base H m.slots k)
+      → KeepsSegments size base but m.slots (in_turn (freed size) ks m).machine.slots
   all_freed_keep but [] m go = keeps_same size base but m.slots
   all_freed_keep but (k ∷ ks) m go =
       let goes : MayGo size base H m.slots k = go k (in_first k ks) in
@@ -105,7 +119,8 @@ module _ (size base : ℕ) (H : History) where
       (all_freed_keep but ks (freed size k m).machine (λ j there. goes_on m k j goes.there (go j (in_rest k j ks there))))
 
   -- A segment that is done, and whose latest replacement lies below the base, has no message of its own.
-  pub done_goes : (ss : List SlotState) (tip k : ℕ) → 0 < size → IsTracked size base H ss tip → is_done (at ss k) ≡ true → ((place : ℕ) → (at ss k).latest ≡ Some place → place + size ≤ base) → MayGo size base H ss k
+  pub done_goes : (ss : List SlotState) (tip k : ℕ) → 0 < size → IsTracked size base H ss tip → is_done (at ss k) ≡ true
+      → ((place : ℕ) → (at ss k).latest ≡ Some place → place + size ≤ base) → MayGo size base H ss k
   done_goes ss tip k some t done below = record {
     there = taken_there ss k (draining_taken (at ss k).state parts.0);
     not_active = draining_not_active (at ss k).state parts.0;

@@ -1,9 +1,10 @@
 -- An entry of a table isn't below any message that begins its page, where the messages ascend.
-use Rattle.std.proofs.Common.{if◌then◌else◌, ⊎_elim, ◌≡◌, ◌∙◌, ◌⊎◌, ◌&&◌, ◌==◌, ◌<◌, ◌≤◌, ℕ, Bool, true, false, nat_lt, List, [], ◌∷◌, ◌++◌, Option, Some, None, refl, sym, ap, subst, arith, inl, inr, eq-eqb, lt-ltb}
+use Rattle.std.proofs.Common.{if◌then◌else◌, ⊎_elim, ◌≡◌, ◌∙◌, ◌⊎◌, ◌&&◌, ◌==◌, ◌+◌, ◌<◌, ◌≤◌, ℕ, Bool, true, false, nat_lt, List, [], ◌∷◌, ◌++◌, Option, Some, None, refl, sym, ap, subst, arith, inl, inr, eq-eqb, lt-ltb}
 use Rattle.std.specs.List.{All, Contains, filter}
 use Rattle.std.proofs.lemmas.Bool.{and_from, and_parts, ltb-true}
-use Rattle.std.proofs.lemmas.List.Elements.{All-contains, Contains-append_left, Contains-append_right, Contains-append_cases}
+use Rattle.std.proofs.lemmas.List.Elements.{All-weaker, All-contains, Contains-append_left, Contains-append_right, Contains-append_cases}
 use Rattle.sled_codec.specs.History.{Message, History, begins_page, is_replace, is_link, later_or, last_beginning, entries_from, page_state, of_page, table, AddsMessage}
+use Rattle.sled_codec.specs.WellFormed.{LieApart}
 use Rattle.sled_store.proofs.Segments.Elements.{in_first, in_rest, in_cases, in_nothing, in_filter, from_filter, all_from_in}
 use Rattle.sled_store.proofs.Segments.SnapshotEntries.{none_begins}
 use Rattle.sled_store.proofs.Segments.TableEntries.{beginning_there, from_table}
@@ -13,6 +14,10 @@ abbrev pub Ascends : List Message → Type 0
 Ascends [] = Unit {0}
 Ascends (m ∷ ms) = All (λ n. m.place < n.place) ms × Ascends ms
 
+pub apart_ascends : (ms : List Message) → LieApart ms → Ascends ms
+apart_ascends [] apart = tt
+apart_ascends (m ∷ ms) apart = (All-weaker (λ n. m.place + m.size ≤ n.place) (λ n. m.place < n.place) (λ n le. omega (arith, le, apart.0)) ms apart.1, apart_ascends ms apart.2)
+
 filter_ascends : (p : Message → Bool) (ms : List Message) → Ascends ms → Ascends (filter p ms)
 filter_ascends p [] order = tt
 filter_ascends p (m ∷ ms) order = by (p m) (filter_ascends p ms order.1) where
@@ -21,7 +26,8 @@ filter_ascends p (m ∷ ms) order = by (p m) (filter_ascends p ms order.1) where
   by false rest = rest
 
 -- a message is put in at its place
-put_ascends : (before : List Message) (m : Message) (after : List Message) → Ascends (before ++ after) → ((x : Message) → Contains before x → x.place < m.place) → ((x : Message) → Contains after x → m.place < x.place)
+put_ascends : (before : List Message) (m : Message) (after : List Message) → Ascends (before ++ after)
+    → ((x : Message) → Contains before x → x.place < m.place) → ((x : Message) → Contains after x → m.place < x.place)
     → Ascends (before ++ m ∷ after)
 put_ascends [] m after order lower higher = (all_from_in (λ n. m.place < n.place) after higher, order)
 put_ascends (x ∷ before) m after order lower higher = (
@@ -55,7 +61,8 @@ module _ (H : History) (m : Message) (H' : History) (adds : AddsMessage H m H') 
 last_above : (ms : List Message) (b : Message) → Ascends ms → last_beginning ms ≡ Some b → (x : Message) → Contains ms x → begins_page x.kind ≡ true → x.place ≤ b.place
 last_above [] b order is x there begins = absurd (in_nothing x there)
 last_above (m ∷ ms) b order is x there begins = by (last_beginning ms) (begins_page m.kind) refl is (last_above ms b order.1) where
-  by : (o : Option Message) (t : Bool) → last_beginning ms ≡ o → later_or o (if t then Some m else None) ≡ Some b → (o ≡ Some b → (y : Message) → Contains ms y → begins_page y.kind ≡ true → y.place ≤ b.place) → x.place ≤ b.place
+  by : (o : Option Message) (t : Bool) → last_beginning ms ≡ o → later_or o (if t then Some m else None) ≡ Some b
+      → (o ≡ Some b → (y : Message) → Contains ms y → begins_page y.kind ≡ true → y.place ≤ b.place) → x.place ≤ b.place
   by (Some y) t found same rest =
       ⊎_elim (λ first. omega (arith, ap (λ (z : Message). z.place) first, All-contains (λ n. m.place < n.place) ms b order.0 (beginning_there ms b (found ∙ same)))) (λ later. rest same x later begins) (in_cases m x ms there)
   by None true none same rest =
@@ -70,7 +77,10 @@ state_above ms e order entry x there begins = by (last_beginning ms) (λ b is. l
   links : (b : Message) (t : Bool) → x.place ≤ b.place → Contains (b ∷ (if t then filter (λ m. is_link m.kind && nat_lt b.place m.place) ms else [])) e → x.place ≤ e.place
   links b true le found =
       ⊎_elim (λ is. subst (λ (m : Message). x.place ≤ m.place) is le)
-      (λ rest. let above : b.place < e.place = ltb-true b.place e.place (and_parts (is_link e.kind) (nat_lt b.place e.place) (from_filter (λ m. is_link m.kind && nat_lt b.place m.place) ms e rest).1).1 in omega (arith, le, above))
+      (λ rest.
+      let passes = (from_filter (λ m. is_link m.kind && nat_lt b.place m.place) ms e rest).1 in
+      let above : b.place < e.place = ltb-true b.place e.place (and_parts (is_link e.kind) (nat_lt b.place e.place) passes).1 in
+      omega (arith, le, above))
       (in_cases b e (filter (λ m. is_link m.kind && nat_lt b.place m.place) ms) found)
   links b false le found = ⊎_elim (λ is. subst (λ (m : Message). x.place ≤ m.place) is le) (λ rest. absurd (in_nothing e rest)) (in_cases b e [] found)
 
@@ -79,7 +89,8 @@ state_above ms e order entry x there begins = by (last_beginning ms) (λ b is. l
   by (Some b) le found = links b (is_replace b.kind) (le b refl) found
 
 -- A message below the cut that begins an entry's page doesn't lie above the entry.
-pub entry_above : (H : History) (cut page : ℕ) (e : Message) → Ascends H.messages → Contains (table H cut page) e → (x : Message) → Contains H.messages x → x.page ≡ e.page → begins_page x.kind ≡ true → x.place < cut → x.place ≤ e.place
+pub entry_above : (H : History) (cut page : ℕ) (e : Message) → Ascends H.messages → Contains (table H cut page) e → (x : Message)
+    → Contains H.messages x → x.page ≡ e.page → begins_page x.kind ≡ true → x.place < cut → x.place ≤ e.place
 unfolding table of_page
 entry_above H cut page e order entry x there same begins lt =
     let found = from_table H cut page e entry in

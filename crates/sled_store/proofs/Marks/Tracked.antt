@@ -38,7 +38,8 @@ pub record IsTracked (size base : ℕ) (H : History) (ss : List SlotState) (tip 
   pub apart : (j k : ℕ) → is_free (at ss j).state ≡ false → is_free (at ss k).state ≡ false → (at ss j).lsn ≡ (at ss k).lsn → j ≡ k
 
 -- a segment in another slot than the one that has changed is as active as before
-pub elsewhere : (ss : List SlotState) (k : ℕ) (s : SlotState) (new : List SlotState) → Changes ss k s new → (place : ℕ) (at_one : IsActiveAt ss place) → at_one.slot ≢ k → IsActiveAt new place
+pub elsewhere : (ss : List SlotState) (k : ℕ) (s : SlotState) (new : List SlotState) → Changes ss k s new
+    → (place : ℕ) (at_one : IsActiveAt ss place) → at_one.slot ≢ k → IsActiveAt new place
 elsewhere ss k s new changes place at_one other =
     let same = changes.others at_one.slot other in
     record { slot = at_one.slot; active = ap (λ (x : SlotState). is_active x.state) same ∙ at_one.active; lsn = ap (λ (x : SlotState). x.lsn) same ∙ at_one.lsn }
@@ -118,7 +119,8 @@ module _ (size base : ℕ) (H : History) (ss : List SlotState) (tip : ℕ) (t : 
 
     taken_apart : (i j : ℕ) → is_free (at new i).state ≡ false → is_free (at new j).state ≡ false → (at new i).lsn ≡ (at new j).lsn → i ≡ j
     taken_apart i j one two same = by (taken_was i one) (taken_was j two) where
-      by : ((i ≡ k) × ((at new i).lsn ≡ place)) ⊎ ((is_free (at ss i).state ≡ false) × ((at new i).lsn ≡ (at ss i).lsn)) → ((j ≡ k) × ((at new j).lsn ≡ place)) ⊎ ((is_free (at ss j).state ≡ false) × ((at new j).lsn ≡ (at ss j).lsn)) → i ≡ j
+      by : ((i ≡ k) × ((at new i).lsn ≡ place)) ⊎ ((is_free (at ss i).state ≡ false) × ((at new i).lsn ≡ (at ss i).lsn))
+          → ((j ≡ k) × ((at new j).lsn ≡ place)) ⊎ ((is_free (at ss j).state ≡ false) × ((at new j).lsn ≡ (at ss j).lsn)) → i ≡ j
       by (inl x) (inl y) = x.0 ∙ sym y.0
       by (inl x) (inr y) = absurd (omega (arith, same, x.1, y.1, above j y.0))
       by (inr x) (inl y) = absurd (omega (arith, same, x.1, y.1, above i x.0))

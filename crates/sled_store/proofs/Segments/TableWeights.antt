@@ -88,22 +88,22 @@ not_link b replaces = by b.kind replaces
     by Corrupted is = refl
 
 -- the state of a page is some of its messages
-state_less : (ms : List Message) → sum_by weight (page_state ms) ≤ sum_by weight ms
+pub state_less : (w : Message → ℕ) (ms : List Message) → sum_by w (page_state ms) ≤ sum_by w ms
 unfolding page_state
-state_less ms = by (last_beginning ms) refl
+state_less w ms = by (last_beginning ms) refl
   where
-    some : (b : Message) → Contains ms b → (t : Bool) → is_replace b.kind ≡ t → sum_by weight (b ∷ (if t then filter (links_on b) ms else [])) ≤ sum_by weight ms
-    some b here true is = omega (arith, sum_by-cons weight b (filter (links_on b) ms), left_and_kept weight (links_on b) ms b here (not_link b is))
-    some b here false is = omega (arith, sum_by-cons weight b [], left_and_kept weight (λ _. false) ms b here refl)
+    some : (b : Message) → Contains ms b → (t : Bool) → is_replace b.kind ≡ t → sum_by w (b ∷ (if t then filter (links_on b) ms else [])) ≤ sum_by w ms
+    some b here true is = omega (arith, sum_by-cons w b (filter (links_on b) ms), left_and_kept w (links_on b) ms b here (not_link b is))
+    some b here false is = omega (arith, sum_by-cons w b [], left_and_kept w (λ _. false) ms b here refl)
 
-    by : (o : Option Message) → last_beginning ms ≡ o → sum_by weight (entries_from o ms) ≤ sum_by weight ms
+    by : (o : Option Message) → last_beginning ms ≡ o → sum_by w (entries_from o ms) ≤ sum_by w ms
     by None none = omega arith
     by (Some b) is = some b (beginning_there ms b is) (is_replace b.kind) refl
 
 -- The entries of all pages.
 
 page_within : (ms : List Message) → sizes_of (entries_in (page_with (page_state ms))) ≤ sum_by weight ms
-page_within ms = omega (arith, page_sizes (page_state ms), state_less ms)
+page_within ms = omega (arith, page_sizes (page_state ms), state_less weight ms)
 
 -- the messages of the pages from one on
 abbrev from_page : ℕ → Message → Bool

@@ -2,9 +2,11 @@
 //! messages of a history (`specs/Marks.antt`) make of the segments (`specs/SegmentStates.antt`). A segment whose pages
 //! are all replaced holds no entry of the page table, and no slot that is free, or handed out next, holds an entry of a
 //! table below a cut that the mark's segment doesn't pass.
-ghost use Rattle.std.specs.Prelude.{◌≡◌, ◌≢◌, ◌⊎◌, ◌+◌, ◌*◌, ◌/◌, ◌%◌, ◌≤◌, ℕ, ℤ, pos, true, false, List, [], Some, Contains};
+ghost use Rattle.std.specs.Prelude.{◌≡◌, ◌≢◌, ◌⊎◌, ◌+◌, ◌*◌, ◌/◌, ◌%◌, ◌^◌, ◌<◌, ◌≤◌, ℕ, ℤ, pos, true, false, List, [], Some, Contains};
+ghost use Rattle.std.specs.List.{sum_by};
 ghost use Rattle.sled_codec.specs.History.{Message, History, table};
-ghost use Rattle.sled_store.specs.Marks.{HasReplacement, IsCounted, IsFormerState, IsIn, IsLinked, IsNeeded, IsPast, IsSuperseded, Marked, greatest_mark, info_of, slot_with};
+ghost use Rattle.sled_codec.specs.WellFormed.{LieApart};
+ghost use Rattle.sled_store.specs.Marks.{HasReplacement, IsCounted, IsFormerState, IsIn, IsLinked, IsNeeded, IsPast, IsSuperseded, Marked, greatest_mark, info_of, slot_with, standing_size};
 ghost use Rattle.sled_store.specs.SegmentStates.{Machine, MayMark, is_active, is_free, next_slot, slot_at, stabilized};
 ghost use Rattle.sled_store.specs.declared.segment.slot.CacheInfo.{CacheInfo};
 
@@ -33,8 +35,15 @@ pub fn tables_above_the_mark_are_linked()
         → mark / size * size ≤ cut → Contains (table H cut page) e → IsLinked size m e }
 {}
 
-/// No such entry lies in a slot that is free, as the one that is handed out next is: each segment that is needed below
-/// such a cut is in another slot.
+/// The same of a table of more messages than are marked, for each of its entries that is.
+pub fn tables_of_more_messages_are_linked()
+    ensures { (size mark : ℕ) (H G : History) (m : Machine) (cut page : ℕ) (e : Message) → Marked size mark H m
+        → ((x : Message) → Contains H.messages x → Contains G.messages x) → LieApart G.messages
+        → mark / size * size ≤ cut → Contains H.messages e → Contains (table G cut page) e → IsLinked size m e }
+{}
+
+/// No entry of a table below such a cut lies in a slot that is free, as the one that is handed out next is: each segment
+/// that is needed below such a cut is in another slot.
 pub fn free_slots_are_not_needed()
     ensures free { (size mark : ℕ) (H : History) (m : Machine) (cut page k : ℕ) (e : Message) → Marked size mark H m
         → mark / size * size ≤ cut → Contains (table H cut page) e → is_free (slot_at m k).state ≡ true → slot_with size e ≢ k }
@@ -79,6 +88,15 @@ pub fn frees_wait_for_the_latest_replacement()
     ensures { (size mark : ℕ) (H : History) (m : Machine) (next : ℤ) (k place : ℕ) → Marked size mark H m
         → is_free (slot_at m k).state ≡ false → is_free (slot_at (stabilized size next m).machine k).state ≡ true
         → (slot_at m k).latest ≡ Some place → place + size ≤ greatest_mark mark next / size * size }
+{}
+
+/// Where all messages sum up to less than 2^64, a slot holds at least what its messages sum up to that no later one of
+/// their page has replaced, and so the size of each entry of the table of all messages that lies there.
+pub fn slots_hold_their_entries()
+    ensures standing { (size mark : ℕ) (H : History) (m : Machine) (k : ℕ) → Marked size mark H m
+        → sum_by (λ e. e.size) H.messages < 2 ^ 64 → standing_size size H k ≤ (slot_at m k).held }
+    ensures entries { (size mark : ℕ) (H : History) (m : Machine) (cut page : ℕ) (e : Message) → Marked size mark H m
+        → sum_by (λ x. x.size) H.messages < 2 ^ 64 → IsPast H cut → Contains (table H cut page) e → e.size ≤ (slot_at m (slot_with size e)).held }
 {}
 
 /// Slots come back: there is a history after whose truthful marks a slot is taken, and a mark frees it.
