@@ -1,3 +1,4 @@
+pub mod Accounts
 pub mod Crashes
 pub mod LogFile
 pub mod Names

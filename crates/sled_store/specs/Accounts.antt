@@ -1,11 +1,12 @@
 -- What an accountant keeps, as the machine that it stands for, and how its indexes are tied to the slots.
-use Rattle.std.specs.Prelude.{◌≡◌, ◌↔◌, ◌≤◌, ◌<◌, ◌+◌, ◌*◌, ◌^◌, ℕ, Bool, true, false, List, [], ◌∷◌, length, map, take, drop, set, vec_len, vec_capacity, slice_index_or, Option, None, Some, Result, Ok, Err}
+use Rattle.std.specs.Prelude.{◌≡◌, ◌↔◌, ◌⊎◌, ◌≤◌, ◌<◌, ◌+◌, ◌*◌, ◌^◌, ℕ, Bool, true, false, IsTrue, List, [], ◌∷◌, length, map, take, drop, set, vec_len, vec_capacity, slice_index_or, Option, None, Some, Result, Ok, Err}
 use Rattle.std.specs.List.{All}
 use Rattle.std.specs.List.Sorted.{IsStrictlySortedBy}
+use Rattle.std.specs.Map.{keys_of}
 use Rattle.std.specs.Ordering.{nat_cmp}
 use Rattle.sled_codec.specs.declared.result.Error.{Error}
 use Rattle.sled_codec.specs.declared.result.Error.TheVariants.{OutOfMemory, PlacesUsedUp}
-use Rattle.sled_store.specs.SegmentStates.{SlotState, Machine, is_free, is_draining, free_slot, slot_at, free_among, inactive_among, active_among, waiting_among, next_slot}
+use Rattle.sled_store.specs.SegmentStates.{SlotState, Machine, is_free, is_draining, free_slot, slot_at, has_page, free_among, inactive_among, active_among, waiting_among, next_slot}
 use Rattle.sled_store.specs.declared.segment.slot.Slot.{Slot}
 use Rattle.sled_store.specs.declared.segment.cleaner.Entry.{Entry}
 use Rattle.sled_store.specs.declared.segment.cleaner.SegmentCleaner.{SegmentCleaner}
@@ -33,35 +34,59 @@ size_of a = a.size
 abbrev pub HasRoomToDrain : Slot → Type 0
 HasRoomToDrain s = is_draining s.state ≡ false → length s.pages.0 ≤ vec_capacity s.left
 
--- a cleaner knows of each slot once, in ascending order, and of those below a number only
+-- a page may be linked without taking memory
+pub record HasRoomToLink (s : Slot) : Type 0 where
+  pub pages : length s.pages.0 < s.pages.1
+  pub left : length s.pages.0 + 1 ≤ vec_capacity s.left
+
+-- a page may be noted as replaced without taking memory
+abbrev pub HasRoomForGone : ℕ → Slot → Type 0
+HasRoomForGone pid s = IsTrue (has_page s.gone.0 pid) ⊎ (length s.gone.0 < s.gone.1)
+
+-- each slot is there once, in ascending order, and below a number
+pub record AreEntries (count : ℕ) (es : List (ℕ × List ℕ)) : Type 0 where
+  pub ascending : IsStrictlySortedBy nat_cmp (keys_of es)
+  pub below : All (λ k. k < count) (keys_of es)
+
+-- a cleaner was made for segments of a size, and knows of slots below a number only
 pub record IsCleaner (size count : ℕ) (c : SegmentCleaner) : Type 0 where
   pub size_is : c.size ≡ size
-  pub ascending : IsStrictlySortedBy nat_cmp (map (λ e. e.slot) c.entries.items)
-  pub below : All (λ e. e.slot < count) c.entries.items
+  pub entries : AreEntries count (cleaner_of c)
 
--- The indexes of an accountant are those of its slots, and wherever a slot may be noted there is room for all of them.
+-- The slots up to the tip, and those that were cut off.
+pub record AreSlots (tip : ℕ) (slots : List SlotState) : Type 0 where
+  pub within : tip ≤ length slots
+  pub cut_off : (k : ℕ) → tip ≤ k → is_free (slice_index_or slots k free_slot).state ≡ true
+  -- a free slot knows of nothing
+  pub free_slots : (k : ℕ) → is_free (slice_index_or slots k free_slot).state ≡ true → slice_index_or slots k free_slot ≡ free_slot
+  pub places : (k : ℕ) → (slice_index_or slots k free_slot).lsn < 2 ^ 63
+
+-- The lists by which slots are found are those that are read off the slots.
+pub record AreIndexes (tip : ℕ) (slots : List SlotState) (free : List ℕ) (active : List (ℕ × ℕ)) (inactive : List ℕ) (waiting : List (ℕ × ℕ)) : Type 0 where
+  pub free_is : free ≡ free_among (take tip slots)
+  pub active_is : active ≡ active_among slots
+  pub inactive_is : inactive ≡ inactive_among slots
+  pub waiting_is : waiting ≡ waiting_among slots
+
+-- there is room for this many slots wherever a slot may be noted
+pub record HasRooms (count : ℕ) (a : SegmentAccountant) : Type 0 where
+  pub free : count ≤ a.free.1
+  pub active : count ≤ a.active.1
+  pub inactive : count ≤ a.inactive.1
+  pub waiting : count ≤ a.waiting.1
+  pub cleaner : count ≤ vec_capacity a.cleaner.entries
+
+-- An accountant for segments of a size: each slot is in one state, its indexes are those of the slots, and what it may have to note has room.
 pub record IsAccountant (size : ℕ) (a : SegmentAccountant) : Type 0 where
   pub size_is : a.size ≡ size
   pub some : 0 < size
   pub small : size < 2 ^ 32
-  pub in_reach : length a.slots.items * size < 2 ^ 63
-  pub tip : a.tip ≤ length a.slots.items
-  -- what was cut off is free
-  pub cut_off : (k : ℕ) → a.tip ≤ k → is_free (slot_at (machine_of a) k).state ≡ true
-  -- a free slot knows of nothing
-  pub free_slots : (k : ℕ) → is_free (slot_at (machine_of a) k).state ≡ true → slot_at (machine_of a) k ≡ free_slot
-  pub places : All (λ s. s.lsn < 2 ^ 63) a.slots.items
-  pub free : a.free.0 ≡ free_among (take a.tip (machine_of a).slots)
-  pub active : a.active.0 ≡ active_among (machine_of a).slots
-  pub inactive : a.inactive.0 ≡ inactive_among (machine_of a).slots
-  pub waiting : a.waiting.0 ≡ waiting_among (machine_of a).slots
-  pub cleaner : IsCleaner size (length a.slots.items) a.cleaner
+  pub in_reach : length (machine_of a).slots * size < 2 ^ 63
+  pub slots : AreSlots a.tip (machine_of a).slots
+  pub indexes : AreIndexes a.tip (machine_of a).slots a.free.0 a.active.0 a.inactive.0 a.waiting.0
+  pub cleaner : IsCleaner size (length (machine_of a).slots) a.cleaner
   pub room_to_drain : All HasRoomToDrain a.slots.items
-  pub room_free : length a.slots.items ≤ a.free.1
-  pub room_active : length a.slots.items ≤ a.active.1
-  pub room_inactive : length a.slots.items ≤ a.inactive.1
-  pub room_waiting : length a.slots.items ≤ a.waiting.1
-  pub room_cleaner : length a.slots.items ≤ vec_capacity a.cleaner.entries
+  pub rooms : HasRooms (length (machine_of a).slots) a
 
 -- the segment at a place, and its slot, end below 2^63
 pub record MayHandOut (size lsn : ℕ) (m : Machine) : Type 0 where

@@ -3,7 +3,7 @@ use Rattle.std.specs.Prelude.{◌≡◌, ◌==◌, ◌&&◌, ◌+◌, ◌-◌, �
 use Rattle.std.specs.List.{All, list_any}
 use Rattle.std.specs.declared.cmp.Ordering.{Ordering}
 use Rattle.std.specs.Ordering.{nat_cmp, int_cmp, int_eq, ordering_then}
-use Rattle.std.specs.BTreeMap.{insert_entry}
+use Rattle.std.specs.BTreeMap.{insert_entry, is_at}
 use Rattle.std.specs.BTreeSet.{insert_key}
 use Rattle.std.specs.Map.{remove_entry}
 use Rattle.sled_codec.specs.declared.result.DiskPtr.{DiskPtr}
@@ -142,6 +142,11 @@ next_slot m = first_or m.tip (free_among (take m.tip m.slots))
 abbrev pub put_slot : ℕ → SlotState → List SlotState → List SlotState
 put_slot k s slots = if nat_lt k (length slots) then set slots k s else slots ++ s ∷ []
 
+-- one more slot, behind all others, that no segment is in
+abbrev pub with_free_slot : Machine → Machine
+with_free_slot m = record { slots = m.slots ++ free_slot ∷ []; tip = m.tip; cleaner = m.cleaner }
+
+-- the segment at a place gets the next slot
 abbrev pub handed_out : ℕ → Machine → Machine
 handed_out lsn m = record { slots = put_slot (next_slot m) (taken_slot lsn) m.slots; tip = max m.tip (next_slot m + 1); cleaner = m.cleaner }
 
@@ -204,9 +209,13 @@ replaced_slot pid len place s = record s {
 abbrev pub is_sparse : ℕ → SlotState → Bool
 is_sparse size s = is_inactive s.state && nat_le (s.held * 100 / size) 50
 
+-- a page is among these
+abbrev pub has_page : List ℕ → ℕ → Bool
+has_page pages p = list_any (is_at (nat_cmp p)) pages
+
 -- the pages that were not replaced
 abbrev pub left_pages : SlotState → List ℕ
-left_pages s = filter (λ p. not (list_any (λ q. p == q) s.gone)) s.pages
+left_pages s = filter (λ p. not (has_page s.gone p)) s.pages
 
 abbrev pub drained_slot : SlotState → SlotState
 drained_slot s = record s { state = Draining }
@@ -257,7 +266,7 @@ abbrev pub freed : ℕ → ℕ → Machine → Step
 freed size k m =
     let slots = set m.slots k free_slot in
     record {
-      machine = record { slots = slots; tip = left_after m.tip slots; cleaner = remove_entry (λ j. k == j) m.cleaner };
+      machine = record { slots = slots; tip = left_after m.tip slots; cleaner = remove_entry (is_at (nat_cmp k)) m.cleaner };
       calls = cutting size m.tip slots;
     }
 

@@ -2,11 +2,12 @@
 //!
 //! What a call looks for it finds by an index: free slots, active and waiting ones by their places, inactive ones. All
 //! room is reserved before anything is changed, so that nothing has changed after `OutOfMemory`.
-ghost use Rattle.std.specs.Prelude.{◌≡◌, ◌↔◌, ◌≤ℤ◌, ◌*◌, ◌<◌, ◌≢◌, [], pos, unsigned_abs, IsTrue, IsOkUnless, OnOk, OnErr, IfOk, IfErr};
+ghost use Rattle.std.specs.Prelude.{◌≡◌, ◌↔◌, ◌≤ℤ◌, ◌≤◌, ◌+◌, ◌*◌, ◌^◌, ◌<◌, length, ◌≢◌, [], pos, unsigned_abs, IsTrue, IsOkUnless, OnOk, OnErr, IfOk, IfErr};
+ghost use Rattle.std.specs.List.{All};
 ghost use Rattle.sled_store.specs.Blobs.{RemoveAnswers};
 ghost use Rattle.sled_store.specs.Script.{Performs, after_all};
-ghost use Rattle.sled_store.specs.SegmentStates.{MayMark, unused_machine, next_slot, handed_out, linked, replaced, stabilized, popped, first_page};
-ghost use Rattle.sled_store.specs.Accounts.{IsAccountant, machine_of, size_of, MayHandOut, NextAnswers};
+ghost use Rattle.sled_store.specs.SegmentStates.{LiesIn, MayMark, is_active, slot_at, unused_machine, with_free_slot, next_slot, handed_out, linked, replaced, stabilized, popped, first_page};
+ghost use Rattle.sled_store.specs.Accounts.{IsAccountant, machine_of, size_of, HasRooms, MayHandOut, NextAnswers};
 
 use crate::segment::cleaner::SegmentCleaner;
 pub use crate::segment::slot::CacheInfo;
@@ -76,7 +77,7 @@ impl SegmentAccountant {
         ensures config { config.new ≡ config.old }
     {
         let place = lsn.unsigned_abs();
-        let slot = self.free.first().unwrap_or(self.tip);
+        let slot = self.next_slot();
         if place >= (1 << 63) - self.size || slot * self.size >= (1 << 63) - self.size {
             return Err(Error::PlacesUsedUp);
         }
@@ -87,21 +88,57 @@ impl SegmentAccountant {
         Ok(slot * self.size)
     }
 
+    /// Returns the lowest free slot that is not cut off, or else the one behind all of them.
+    fn next_slot(&self) -> u64
+        requires { IsAccountant (size_of self.now) self.now }
+        ensures slot { result ≡ next_slot (machine_of self.now) }
+        ensures within { result ≤ length (machine_of self.now).slots }
+        ensures in_reach { result * size_of self.now < 2 ^ 63 }
+    {
+        self.free.first().unwrap_or(self.tip)
+    }
+
     /// One more slot, behind all others, and room for it wherever a slot may be noted.
-    fn add_slot(&mut self, alloc: Global) -> Result<()> {
-        self.slots.reserve(1)?;
+    fn add_slot(&mut self, alloc: Global) -> Result<()>
+        requires account { IsAccountant (size_of self.old) self.old }
+        requires in_reach { (length (machine_of self.old).slots + 1) * size_of self.old < 2 ^ 63 }
+        ensures done { OnOk result (machine_of self.new ≡ with_free_slot (machine_of self.old)) }
+        ensures unchanged { OnErr result (machine_of self.new ≡ machine_of self.old) }
+        ensures memory { IsOkUnless result Error.OutOfMemory }
+        ensures account { IsAccountant (size_of self.old) self.new }
+    {
         let count = self.slots.len() + 1;
-        self.free.reserve(count)?;
-        self.active.reserve(count)?;
-        self.inactive.reserve(count)?;
-        self.waiting.reserve(count)?;
-        self.cleaner.reserve(count)?;
+        self.reserve(count)?;
+        self.slots.reserve(1)?;
         let _ = self.slots.push(Slot::new(alloc));
         Ok(())
     }
 
-    /// Puts the segment at a place in a slot.
-    fn hand_out(&mut self, slot: u64, place: u64) {
+    /// Makes room for more slots wherever a slot may be noted.
+    fn reserve(&mut self, more: usize) -> Result<()>
+        ensures machine { machine_of self.new ≡ machine_of self.old }
+        ensures slots { self.new.slots ≡ self.old.slots }
+        ensures room { OnOk result (HasRooms more self.new) }
+        ensures memory { IsOkUnless result Error.OutOfMemory }
+        ensures account { IsAccountant (size_of self.old) self.old → IsAccountant (size_of self.old) self.new }
+    {
+        self.free.reserve(more)?;
+        self.active.reserve(more)?;
+        self.inactive.reserve(more)?;
+        self.waiting.reserve(more)?;
+        self.cleaner.reserve(more)?;
+        Ok(())
+    }
+
+    /// Puts the segment at a place in the next slot.
+    fn hand_out(&mut self, slot: u64, place: u64)
+        requires account { IsAccountant (size_of self.old) self.old }
+        requires next { slot ≡ next_slot (machine_of self.old) }
+        requires slot { slot < length (machine_of self.old).slots }
+        requires place { place < 2 ^ 63 }
+        ensures done { machine_of self.new ≡ handed_out place (machine_of self.old) }
+        ensures account { IsAccountant (size_of self.old) self.new }
+    {
         let s = &mut self.slots[slot as usize];
         s.take(place);
         self.free.remove(slot);
@@ -115,13 +152,22 @@ impl SegmentAccountant {
         requires { IsAccountant (size_of self.now) self.now }
         ensures { IsTrue result ↔ MayMark (size_of self.now) (machine_of self.now) new old.now }
     {
-        self.lies(&new)
-            && self.slots[(new.pointer.lid() / self.size) as usize].state == State::Active
-            && self.all_lie(old)
+        self.lies(&new) && self.is_active(new.pointer.lid() / self.size) && self.all_lie(old)
+    }
+
+    /// Whether the segment in a slot is active.
+    fn is_active(&self, slot: u64) -> bool
+        requires { slot < length (machine_of self.now).slots }
+        ensures { result ≡ is_active (slot_at (machine_of self.now) slot).state }
+    {
+        self.slots[slot as usize].is_active()
     }
 
     /// Whether each of these messages lies in the segment that its slot holds.
-    fn all_lie(&self, infos: &[CacheInfo]) -> bool {
+    fn all_lie(&self, infos: &[CacheInfo]) -> bool
+        requires { IsAccountant (size_of self.now) self.now }
+        ensures { IsTrue result ↔ All (LiesIn (size_of self.now) (machine_of self.now)) infos.now }
+    {
         for info in infos {
             if !self.lies(info) {
                 return false;
@@ -131,13 +177,16 @@ impl SegmentAccountant {
     }
 
     /// Whether a message lies in the segment that its slot holds.
-    fn lies(&self, info: &CacheInfo) -> bool {
+    fn lies(&self, info: &CacheInfo) -> bool
+        requires { IsAccountant (size_of self.now) self.now }
+        ensures { IsTrue result ↔ LiesIn (size_of self.now) (machine_of self.now) info.now }
+    {
         let slot = info.pointer.lid() / self.size;
         if info.lsn < 0 || slot >= self.slots.len() as u64 {
             return false;
         }
-        let s = &self.slots[slot as usize];
-        s.state != State::Free && s.lsn == info.lsn.unsigned_abs() / self.size * self.size
+        let place = info.lsn.unsigned_abs() / self.size * self.size;
+        self.slots[slot as usize].holds(place)
     }
 
     /// Notes that a message of a page is linked to what the page has.

@@ -1,4 +1,10 @@
 //! A slot of the log file, and what is known of the segment in it (`specs/SegmentStates.antt`).
+ghost use Rattle.std.specs.Prelude.{◌≡◌, ◌↔◌, false, [], ◌∷◌, ◌≤◌, ◌<◌, ◌+◌, ◌++◌, ◌⊎◌, IsTrue, IfErr, OnOk, Some, filter, length, ◌==◌, if◌then◌else◌, vec_capacity, not};
+ghost use Rattle.std.specs.Ordering.{nat_cmp};
+ghost use Rattle.std.specs.BTreeSet.{insert_key};
+ghost use Rattle.sled_store.specs.SegmentStates.{free_slot, taken_slot, linked_slot, replaced_slot, outdated, has_page, is_free, is_active, is_sparse, is_done, is_draining, waited_place, left_pages, drained_slot};
+ghost use Rattle.sled_store.specs.Accounts.{slot_state, HasRoomToDrain, HasRoomForGone, HasRoomToLink};
+
 use crate::segment::sorted::SortedSet;
 use sled_codec::result::{DiskPtr, Lsn, PageId};
 use std::alloc::{AllocError, Global};
@@ -50,7 +56,10 @@ pub(crate) struct Slot {
 
 impl Slot {
     /// Returns a slot with no segment in it.
-    pub(crate) fn new(alloc: Global) -> Slot {
+    pub(crate) fn new(alloc: Global) -> Slot
+        ensures state { slot_state result ≡ free_slot }
+        ensures room { HasRoomToDrain result }
+    {
         Slot {
             state: State::Free,
             lsn: 0,
@@ -64,13 +73,20 @@ impl Slot {
     }
 
     /// Puts a segment that begins at a place in a free slot.
-    pub(crate) fn take(&mut self, lsn: u64) {
+    pub(crate) fn take(&mut self, lsn: u64)
+        requires { slot_state self.old ≡ free_slot }
+        ensures state { slot_state self.new ≡ taken_slot lsn }
+        ensures room { HasRoomToDrain self.new }
+    {
         self.state = State::Active;
         self.lsn = lsn;
     }
 
     /// Takes the segment out.
-    pub(crate) fn free(&mut self) {
+    pub(crate) fn free(&mut self)
+        ensures state { slot_state self.new ≡ free_slot }
+        ensures room { HasRoomToDrain self.new }
+    {
         self.state = State::Free;
         self.lsn = 0;
         self.held = 0;
@@ -81,7 +97,13 @@ impl Slot {
     }
 
     /// Makes room for a page and for `blobs` blobs.
-    pub(crate) fn reserve(&mut self, blobs: usize) -> Result<(), AllocError> {
+    pub(crate) fn reserve(&mut self, blobs: usize) -> Result<(), AllocError>
+        ensures state { slot_state self.new ≡ slot_state self.old }
+        ensures link { OnOk result (HasRoomToLink self.new) }
+        ensures blobs { OnOk result (length self.new.blobs.0 + blobs ≤ self.new.blobs.1) }
+        ensures drain { HasRoomToDrain self.old → HasRoomToDrain self.new }
+        ensures gone { self.new.gone ≡ self.old.gone }
+    {
         self.pages.reserve(1)?;
         let Some(pages) = self.pages.len().checked_add(1) else {
             return Err(AllocError);
@@ -92,25 +114,51 @@ impl Slot {
     }
 
     /// Links a page by a record of this length.
-    pub(crate) fn link(&mut self, pid: PageId, len: u64) {
+    pub(crate) fn link(&mut self, pid: PageId, len: u64)
+        requires { HasRoomToLink self.old }
+        ensures state { slot_state self.new ≡ linked_slot pid len (slot_state self.old) }
+        ensures room { HasRoomToDrain self.new }
+        ensures gone { self.new.gone ≡ self.old.gone }
+        ensures blobs { self.new.blobs ≡ self.old.blobs }
+    {
         self.held = self.held.saturating_add(len);
         self.pages.insert(pid);
     }
 
     /// A record of a page, of this length, was replaced by one in the segment at a place.
-    pub(crate) fn replace(&mut self, pid: PageId, len: u64, place: u64) {
+    pub(crate) fn replace(&mut self, pid: PageId, len: u64, place: u64)
+        requires { HasRoomForGone pid self.old }
+        ensures state { slot_state self.new ≡ replaced_slot pid len place (slot_state self.old) }
+        ensures room { HasRoomForGone pid self.new }
+        ensures drain { HasRoomToDrain self.old → HasRoomToDrain self.new }
+    {
         self.held = self.held.saturating_sub(len);
-        if place != self.lsn {
-            self.gone.insert(pid);
-        }
+        self.note_gone(pid, place);
         self.latest = Some(match self.latest {
             Some(other) => place.max(other),
             None => place,
         });
     }
 
+    /// Another segment, the one at a place, has replaced a page.
+    fn note_gone(&mut self, pid: PageId, place: u64)
+        requires { HasRoomForGone pid self.old }
+        ensures gone { self.new.gone.0 ≡ (if place == self.old.lsn then self.old.gone.0 else insert_key nat_cmp self.old.gone.0 pid) }
+        ensures rest { self.new ≡ record self.old { gone = self.new.gone } }
+        ensures room { HasRoomForGone pid self.new }
+    {
+        if place != self.lsn {
+            self.gone.insert(pid);
+        }
+    }
+
     /// The blob of a message goes with this segment, unless the message in it that replaces that one has the blob.
-    pub(crate) fn outdate(&mut self, pointer: DiskPtr, old: DiskPtr) {
+    pub(crate) fn outdate(&mut self, pointer: DiskPtr, old: DiskPtr)
+        requires { length self.old.blobs.0 < self.old.blobs.1 }
+        ensures blobs { self.new.blobs.0 ≡ outdated pointer old self.old.blobs.0 }
+        ensures rest { self.new ≡ record self.old { blobs = self.new.blobs } }
+        ensures room { self.old.blobs.1 ≤ self.new.blobs.1 }
+    {
         let DiskPtr::Blob(_, then) = old else {
             return;
         };
@@ -122,23 +170,59 @@ impl Slot {
         self.blobs.insert(then);
     }
 
+    /// Whether its segment is active.
+    pub(crate) fn is_active(&self) -> bool
+        ensures { result ≡ is_active self.now.state }
+    {
+        match self.state {
+            State::Active => true,
+            _ => false,
+        }
+    }
+
+    /// Whether the segment at a place is in it.
+    pub(crate) fn holds(&self, place: u64) -> bool
+        ensures { IsTrue result ↔ ((is_free self.now.state ≡ false) × (place ≡ self.now.lsn)) }
+    {
+        match self.state {
+            State::Free => false,
+            _ => place == self.lsn,
+        }
+    }
+
     /// Whether it is inactive and holds little enough to write it again.
-    pub(crate) fn is_sparse(&self, size: u64) -> bool {
+    pub(crate) fn is_sparse(&self, size: u64) -> bool
+        requires { 0 < size }
+        ensures { result ≡ is_sparse size (slot_state self.now) }
+    {
         self.state == State::Inactive && self.held as u128 * 100 / size as u128 <= 50
     }
 
     /// Whether it is drained and all of its pages are replaced.
-    pub(crate) fn is_done(&self) -> bool {
-        self.state == State::Draining && self.pages.keys() == self.gone.keys()
+    pub(crate) fn is_done(&self) -> bool
+        ensures { result ≡ is_done (slot_state self.now) }
+    {
+        match self.state {
+            State::Draining => self.pages.keys() == self.gone.keys(),
+            _ => false,
+        }
     }
 
     /// The segment that its free has to wait for, or had to.
-    pub(crate) fn waited_place(&self) -> Option<u64> {
+    pub(crate) fn waited_place(&self) -> Option<u64>
+        ensures { result ≡ waited_place (slot_state self.now) }
+    {
         if self.is_done() { self.latest } else { None }
     }
 
     /// Drains it: its pages that were not replaced.
-    pub(crate) fn drain(&mut self) -> Vec<PageId> {
+    pub(crate) fn drain(&mut self) -> Vec<PageId>
+        requires { length self.old.pages.0 ≤ vec_capacity self.old.left }
+        ensures pages { result.items ≡ left_pages (slot_state self.old) }
+        ensures state { slot_state self.new ≡ drained_slot (slot_state self.old) }
+        ensures room { HasRoomToDrain self.new }
+        ensures gone { self.new.gone ≡ self.old.gone }
+    {
         self.state = State::Draining;
         let alloc = *self.left.allocator();
         let mut left = mem::replace(&mut self.left, Vec::new(alloc));
@@ -149,10 +233,23 @@ impl Slot {
 }
 
 /// Puts the pages that were not replaced behind what is there, where there is room for them.
-fn push_left(left: &mut Vec<PageId>, pages: &[PageId], gone: &SortedSet<PageId>) {
+fn push_left(left: &mut Vec<PageId>, pages: &[PageId], gone: &SortedSet<PageId>)
+    requires { length left.old.items + length pages.now ≤ vec_capacity left.old }
+    ensures { left.new.items ≡ left.old.items ++ filter (λ p. not (has_page gone.now.0 p)) pages.now }
+{
     for pid in pages {
-        if !gone.has(*pid) {
-            let _ = left.push(*pid);
-        }
+        push_if_left(left, *pid, gone);
+    }
+}
+
+/// Puts a page behind what is there, where it was not replaced.
+fn push_if_left(left: &mut Vec<PageId>, pid: PageId, gone: &SortedSet<PageId>)
+    requires { length left.old.items < vec_capacity left.old }
+    ensures items { left.new.items ≡ left.old.items ++ filter (λ p. not (has_page gone.now.0 p)) (pid ∷ []) }
+    ensures len { length left.new.items ≤ length left.old.items + 1 }
+    ensures room { vec_capacity left.old ≤ vec_capacity left.new }
+{
+    if !gone.has(pid) {
+        let _ = left.push(pid);
     }
 }

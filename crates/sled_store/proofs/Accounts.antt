@@ -1,0 +1,5 @@
+pub mod AccountLemmas
+pub mod CleanerLemmas
+pub mod HandLemmas
+pub mod IndexLemmas
+pub mod SortedLemmas
