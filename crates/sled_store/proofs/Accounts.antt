@@ -3,3 +3,5 @@ pub mod CleanerLemmas
 pub mod HandLemmas
 pub mod IndexLemmas
 pub mod SortedLemmas
+pub mod StabilIndex
+pub mod StabilSteps
