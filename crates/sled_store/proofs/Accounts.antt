@@ -3,5 +3,7 @@ pub mod CleanerLemmas
 pub mod HandLemmas
 pub mod IndexLemmas
 pub mod SortedLemmas
+pub mod StabilCut
 pub mod StabilIndex
+pub mod StabilSlots
 pub mod StabilSteps

@@ -101,8 +101,8 @@ module _ (f : SlotState → Option ℕ) (z : SlotState) (lacks : f z ≡ None) (
   not_there : (p : ℕ) → list_any (is_at (by_place (p, k))) (slots_by f 0 (set xs k z)) ≡ false
   not_there p = none_passes (is_at (by_place (p, k))) (slots_by f 0 (set xs k z)) (λ j w below.
       apart_at (p, k) (get_or (slots_by f 0 (set xs k z)) j w) (λ same.
-          let has = have_places f z 0 (set xs k z) j w below in
-          let none : f z ≡ Some (get_or (slots_by f 0 (set xs k z)) j w).0 = place_is (get_or (slots_by f 0 (set xs k z)) j w) same has in absurd (cc)))
+      let has = have_places f z 0 (set xs k z) j w below in
+      let none : f z ≡ Some (get_or (slots_by f 0 (set xs k z)) j w).0 = place_is (get_or (slots_by f 0 (set xs k z)) j w) same has in absurd (cc)))
     where
       place_is : (w : ℕ × ℕ) → w.1 ≡ k → HasPlace f 0 (set xs k z) z w → f z ≡ Some w.0
       place_is w same has =
@@ -117,13 +117,13 @@ module _ (f : SlotState → Option ℕ) (z : SlotState) (lacks : f z ≡ None) (
 
 -- Numbers that are compared.
 
-less_is : (n i : ℕ) → n < i → nat_cmp n i ≡ Less
+pub less_is : (n i : ℕ) → n < i → nat_cmp n i ≡ Less
 less_is n i lt = grind (arith, nat_tests)
 
-same_is : (n i : ℕ) → n ≡ i → nat_cmp n i ≡ Equal
+pub same_is : (n i : ℕ) → n ≡ i → nat_cmp n i ≡ Equal
 same_is n i same = grind (arith, nat_tests)
 
-greater_is : (n i : ℕ) → i < n → nat_cmp n i ≡ Greater
+pub greater_is : (n i : ℕ) → i < n → nat_cmp n i ≡ Greater
 greater_is n i gt = grind (arith, nat_tests)
 
 -- Slots that pass a test.

@@ -347,6 +347,7 @@ impl SegmentAccountant {
     /// Deactivates the lowest active segment.
     fn deactivate<D: Device>(&mut self, device: &mut D, place: u64, slot: u64) -> Result<()>
         requires account { IsAccountant (size_of self.old) self.old }
+        requires slot { slot < length (machine_of self.old).slots }
         requires active { active_place (slot_at (machine_of self.old) slot) ≡ Some place }
         ensures done { OnOk result (machine_of self.new ≡ (deactivated (size_of self.old) (place, slot) (machine_of self.old)).machine) }
         ensures made { OnOk result (D.trace device.new ≡ after_all (deactivated (size_of self.old) (place, slot) (machine_of self.old)).calls (D.trace device.old)) }
@@ -356,7 +357,8 @@ impl SegmentAccountant {
         ensures account { OnOk result (IsAccountant (size_of self.old) self.new) }
         ensures active { OnOk result (self.new.active.0 ≡ remove_key (is_at (by_place (place, slot))) self.old.active.0) }
     {
-        remove_blobs(device, self.slots[slot as usize].blobs.keys())?;
+        let s = &self.slots[slot as usize];
+        remove_blobs(device, s.blobs.keys())?;
         self.make_inactive(place, slot);
         self.free_waiting(device, place)?;
         self.test(device, slot)?;
@@ -367,6 +369,7 @@ impl SegmentAccountant {
     /// The segment at a place is no longer active, and its blobs are gone.
     fn make_inactive(&mut self, place: u64, slot: u64)
         requires account { IsAccountant (size_of self.old) self.old }
+        requires slot { slot < length (machine_of self.old).slots }
         requires active { active_place (slot_at (machine_of self.old) slot) ≡ Some place }
         ensures machine { machine_of self.new ≡ with_slot slot (inactive_slot (slot_at (machine_of self.old) slot)) (machine_of self.old) }
         ensures account { IsAccountant (size_of self.old) self.new }
@@ -420,9 +423,11 @@ impl SegmentAccountant {
         ensures account { IsAccountant (size_of self.old) self.new }
         ensures active { self.new.active ≡ self.old.active }
     {
-        if self.slots[slot as usize].is_sparse(self.size) {
-            self.drain(slot);
+        let s = &self.slots[slot as usize];
+        if !s.is_sparse(self.size) {
+            return;
         }
+        self.drain(slot);
     }
 
     /// Frees a slot that is done, unless its free has to wait.
@@ -467,6 +472,7 @@ impl SegmentAccountant {
     /// Frees a slot that is done, and cuts off free slots at the end of the file while another one is left.
     fn free<D: Device>(&mut self, device: &mut D, slot: u64) -> Result<()>
         requires account { IsAccountant (size_of self.old) self.old }
+        requires slot { slot < length (machine_of self.old).slots }
         requires done { is_done (slot_at (machine_of self.old) slot) ≡ true }
         ensures done { OnOk result (machine_of self.new ≡ (freed (size_of self.old) slot (machine_of self.old)).machine) }
         ensures made { OnOk result (D.trace device.new ≡ after_all (freed (size_of self.old) slot (machine_of self.old)).calls (D.trace device.old)) }
@@ -484,6 +490,7 @@ impl SegmentAccountant {
     /// Takes the segment out of a slot that is done.
     fn empty(&mut self, slot: u64)
         requires account { IsAccountant (size_of self.old) self.old }
+        requires slot { slot < length (machine_of self.old).slots }
         requires done { is_done (slot_at (machine_of self.old) slot) ≡ true }
         ensures machine { machine_of self.new ≡ emptied slot (machine_of self.old) }
         ensures account { IsAccountant (size_of self.old) self.new }
@@ -521,7 +528,13 @@ impl SegmentAccountant {
         requires { IsAccountant (size_of self.now) self.now }
         ensures { IsTrue result ↔ MayCut (machine_of self.now) }
     {
-        self.free.len() > 1 && self.free.last() == Some(self.tip - 1)
+        if self.free.len() <= 1 {
+            return false;
+        }
+        match self.free.last() {
+            Some(last) => last == self.tip - 1,
+            None => false,
+        }
     }
 
     /// Cuts off the last slot, and syncs that.

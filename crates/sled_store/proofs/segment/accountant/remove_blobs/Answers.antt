@@ -21,10 +21,10 @@ pub loop-place-preserved : goal.loop-place-preserved
 loop-place-preserved g c =
     let p : ℤ = get_or c.args.places.now c.loop-place.place-index (pos 0) in
     let fits : FitsSigned w64 p = search rules in record {
-  removed = removed_more c.args.places.now c.loop-place.place-index (pos 0) (to_z w64 (of_z w64 p)) c.loop-place-test.true (to_z-of_z w64 p fits) (g.D.Device.trace c.args.device.now) (g.D.Device.trace c.loop-place.device) (g.D.Device.trace c.blob_remove.new.self)
-      c.loop-place.invariant.removed c.in_ok-blob_remove.ensures.trace;
-  faults = c.in_ok-blob_remove.ensures.faults ∙ c.loop-place.invariant.faults;
-}
+      removed = removed_more c.args.places.now c.loop-place.place-index (pos 0) (to_z w64 (of_z w64 p)) c.loop-place-test.true (to_z-of_z w64 p fits) (g.D.Device.trace c.args.device.now) (g.D.Device.trace c.loop-place.device) (g.D.Device.trace c.blob_remove.new.self)
+          c.loop-place.invariant.removed c.in_ok-blob_remove.ensures.trace;
+      faults = c.in_ok-blob_remove.ensures.faults ∙ c.loop-place.invariant.faults;
+    }
 
 pub returns-clause-calls : goal.returns-clause-calls
 returns-clause-calls g c =
