@@ -4,6 +4,7 @@ pub mod HandLemmas
 pub mod IndexLemmas
 pub mod SortedLemmas
 pub mod StabilCut
+pub mod StabilFirst
 pub mod StabilIndex
 pub mod StabilSlots
 pub mod StabilSteps

@@ -6,9 +6,12 @@ use Rattle.std.specs.BTreeSet.{insert_key}
 use Rattle.std.specs.Set.{remove_key}
 use Rattle.sled_store.specs.declared.segment.slot.State.{State}
 use Rattle.sled_store.specs.declared.segment.slot.State.TheVariants.{Free, Active, Inactive, Draining}
-use Rattle.sled_store.specs.SegmentStates.{SlotState, is_free, is_active, is_inactive, is_draining, is_done, same_pages, slots_by, free_among, active_among, inactive_among, waiting_among, active_place, waited_place, free_slot, inactive_slot, by_place}
+use Rattle.sled_store.specs.SegmentStates.{SlotState, is_free, is_active, is_inactive, is_draining, is_done, same_pages, slots_by, free_among, active_among, inactive_among, waiting_among, active_place, waited_place, free_slot, slot_at, inactive_slot, by_place}
 use Rattle.sled_store.specs.Stabilizing.{not_beside}
-use Rattle.sled_store.specs.Accounts.{AreSlots, AreIndexes}
+use Rattle.sled_store.specs.declared.segment.slot.Slot.{Slot}
+use Rattle.sled_store.specs.declared.segment.accountant.SegmentAccountant.{SegmentAccountant}
+use Rattle.sled_store.specs.Accounts.{AreSlots, AreIndexes, slot_state, machine_of}
+use Rattle.sled_store.proofs.Accounts.AccountLemmas.{state_at, length_states}
 use Rattle.sled_store.proofs.Accounts.IndexLemmas.{slots_where_same, slots_by_same}
 use Rattle.sled_store.proofs.Accounts.StabilIndex.{slots_by_less, slots_where_more, length_where_less}
 
@@ -162,3 +165,7 @@ module _ (tip : ℕ) (xs : List SlotState) (k place : ℕ) (lt : k < length xs) 
     inactive_is = ap (λ l. insert_key nat_cmp l k) are.inactive_is ∙ sym (slots_where_more (λ s. is_inactive s.state) 0 k k xs (inactive_slot (get_or xs k free_slot)) (omega arith) lt refl);
     waiting_is = are.waiting_is ∙ sym (slots_by_same waited_place free_slot refl xs k free_slot lt (inactive_slot (get_or xs k free_slot)) (sym (no_wait (get_or xs k free_slot) not_draining)));
   }
+
+-- what an accountant keeps of a slot, as the machine has it
+pub slot_is : (a : SegmentAccountant) (k : ℕ) (s : Slot) → k < length (machine_of a).slots → s ≡ get_or a.slots.items k s → slot_state s ≡ slot_at (machine_of a) k
+slot_is a k s lt at = ap slot_state at ∙ sym (state_at a.slots.items k s free_slot (omega (arith, length_states a.slots.items, lt)))
