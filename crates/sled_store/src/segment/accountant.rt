@@ -2,7 +2,7 @@
 //!
 //! What a call looks for it finds by an index: free slots, active and waiting ones by their places, inactive ones. All
 //! room is reserved before anything is changed, so that nothing has changed after `OutOfMemory`.
-ghost use Rattle.std.specs.Prelude.{◌≡◌, ◌&&◌, not, slice_get, Some, ◌↔◌, ◌≤ℤ◌, ◌≤◌, ◌+◌, ◌*◌, ◌^◌, ◌<◌, length, ◌≢◌, [], pos, unsigned_abs, IsTrue, IsOkUnless, OnOk, OnErr, IfOk, IfErr};
+ghost use Rattle.std.specs.Prelude.{◌≡◌, ◌&&◌, not, true, slice_get, Some, ◌↔◌, ◌≤ℤ◌, ◌≤◌, ◌+◌, ◌*◌, ◌^◌, ◌<◌, length, ◌≢◌, [], pos, unsigned_abs, IsTrue, IsOkUnless, OnOk, OnErr, IfOk, IfErr};
 ghost use Rattle.std.specs.List.{All};
 ghost use Rattle.sled_store.specs.Blobs.{RemoveAnswers, removing_blobs};
 ghost use Rattle.sled_store.specs.Script.{Performs, after_all};
