@@ -9,7 +9,7 @@ pub returns-then-not-is_sparse-clause-machine : goal.returns-then-not-is_sparse-
 returns-then-not-is_sparse-clause-machine c =
     let a = c.args.self.now in
     let is : is_sparse a.size (slot_at (machine_of a) c.args.slot) ≡ false =
-    ap (is_sparse a.size) (sym (slot_is a c.args.slot c.index-s.result.now c.requires.slot c.index-s.ensures.value)) ∙ sym c.is_sparse.ensures ∙ c.if-not-is_sparse.true in
+    ap (is_sparse a.size) (sym (slot_is a c.args.slot c.index-s.result.now c.requires.slot c.index-s.ensures)) ∙ sym c.is_sparse.ensures ∙ c.if-not-is_sparse.true in
     sym (ap (λ b. if b then drained c.args.slot (machine_of a) else machine_of a) is)
 
 pub drain-requires-clause-slot : goal.drain-requires-clause-slot
@@ -17,12 +17,12 @@ drain-requires-clause-slot c =
     let a = c.args.self.now in
     let s : SlotState = slot_at (machine_of a) c.args.slot in
     let is : is_sparse a.size s ≡ true =
-    ap (is_sparse a.size) (sym (slot_is a c.args.slot c.index-s.result.now c.requires.slot c.index-s.ensures.value)) ∙ sym c.is_sparse.ensures ∙ c.if-not-is_sparse.false in
+    ap (is_sparse a.size) (sym (slot_is a c.args.slot c.index-s.result.now c.requires.slot c.index-s.ensures)) ∙ sym c.is_sparse.ensures ∙ c.if-not-is_sparse.false in
     first_so (is_inactive s.state) (nat_le (s.held * 100 / a.size) 50) is
 
 pub returns-clause-machine : goal.returns-clause-machine
 returns-clause-machine c =
     let a = c.args.self.now in
     let is : is_sparse a.size (slot_at (machine_of a) c.args.slot) ≡ true =
-    ap (is_sparse a.size) (sym (slot_is a c.args.slot c.index-s.result.now c.requires.slot c.index-s.ensures.value)) ∙ sym c.is_sparse.ensures ∙ c.if-not-is_sparse.false in
+    ap (is_sparse a.size) (sym (slot_is a c.args.slot c.index-s.result.now c.requires.slot c.index-s.ensures)) ∙ sym c.is_sparse.ensures ∙ c.if-not-is_sparse.false in
     c.drain.ensures.machine ∙ sym (ap (λ b. if b then drained c.args.slot (machine_of a) else machine_of a) is)

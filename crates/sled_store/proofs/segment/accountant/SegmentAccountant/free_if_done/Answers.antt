@@ -12,10 +12,10 @@ module _ (size k : ℕ) (m : Machine) (may : Bool) (is : may ≡ (is_done (slot_
   by_test b = if b then freed size k m else without_calls m
 
   kept : may ≡ false → without_calls m ≡ freed_if_done size k m
-  kept no_more = ap by_test (sym no_more ∙ is)
+  kept so = ap by_test (sym so ∙ is)
 
   goes : may ≡ true → freed size k m ≡ freed_if_done size k m
-  goes yes = ap by_test (sym yes ∙ is)
+  goes so = ap by_test (sym so ∙ is)
 
 pub returns-then-not-may_be_freed-clause-done : goal.returns-then-not-may_be_freed-clause-done
 returns-then-not-may_be_freed-clause-done g c = ap (λ (s : Step). s.machine) (kept c.args.self.now.size c.args.slot (machine_of c.args.self.now) c.may_be_freed.result c.may_be_freed.ensures c.if-not-may_be_freed.true)

@@ -10,5 +10,5 @@ use Rattle.sled_store.proofs.segment.accountant.SegmentAccountant.is_active_plac
 pub returns-in-Some : goal.returns-in-Some
 returns-in-Some c =
     let place : ℕ = c.in-Some.place in
-    c.is_some.ensures.value ∙ ap is_some c.first_at.ensures ∙ any_at place c.args.self.now.active.0
+    c.is_some.ensures ∙ ap is_some c.first_at.ensures ∙ any_at place c.args.self.now.active.0
     ∙ ap (list_any (λ (a : ℕ × ℕ). a.0 == place)) c.requires.indexes.active_is ∙ ap (is_active_place (machine_of c.args.self.now)) (sym c.in-Some.is)

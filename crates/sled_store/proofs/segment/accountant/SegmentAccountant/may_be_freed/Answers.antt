@@ -8,13 +8,13 @@ use Rattle.sled_store.proofs.segment.accountant.SegmentAccountant.may_be_freed.G
 pub returns-then-is_done : goal.returns-then-is_done
 returns-then-is_done c =
     let a = c.args.self.now in
-    let at = slot_is a c.args.slot c.index-s.result.now c.requires.slot c.index-s.ensures.value in
+    let at = slot_is a c.args.slot c.index-s.result.now c.requires.slot c.index-s.ensures in
     ap not c.is_active_place.ensures ∙ ap (λ b. b && not (is_active_place (machine_of a) c.index-s.result.now.latest)) (sym (sym c.is_done.ensures ∙ c.if-is_done.true))
     ∙ ap (λ (s : SlotState). is_done s && not (is_active_place (machine_of a) s.latest)) at
 
 pub returns-else-is_done : goal.returns-else-is_done
 returns-else-is_done c =
     let a = c.args.self.now in
-    let at = slot_is a c.args.slot c.index-s.result.now c.requires.slot c.index-s.ensures.value in
-    ap (λ b. b && not (is_active_place (machine_of a) c.index-s.result.now.latest)) c.is_done.ensures
-    ∙ ap (λ (s : SlotState). is_done s && not (is_active_place (machine_of a) s.latest)) at
+    let at = slot_is a c.args.slot c.index-s.result.now c.requires.slot c.index-s.ensures in
+    let fails : c.is_done.result ≡ false = c.if-is_done.false in
+    fails ∙ sym (ap (λ b. b && not (is_active_place (machine_of a) (slot_at (machine_of a) c.args.slot).latest)) (sym (ap is_done at) ∙ sym c.is_done.ensures ∙ fails))
