@@ -1,10 +1,9 @@
 pub mod AccountLemmas
+pub mod ChangeLemmas
 pub mod CleanerLemmas
 pub mod HandLemmas
 pub mod IndexLemmas
+pub mod MoveLemmas
+pub mod OldLemmas
 pub mod SortedLemmas
-pub mod StabilCut
-pub mod StabilFirst
-pub mod StabilIndex
-pub mod StabilSlots
-pub mod StabilSteps
+pub mod WithLemmas

@@ -1,12 +1,13 @@
 -- What an accountant keeps, as the machine that it stands for, and how its indexes are tied to the slots.
-use Rattle.std.specs.Prelude.{◌≡◌, ◌↔◌, ◌⊎◌, ◌≤◌, ◌<◌, ◌+◌, ◌*◌, ◌^◌, ℕ, Bool, true, false, IsTrue, List, [], ◌∷◌, length, map, take, drop, set, vec_len, vec_capacity, slice_index_or, Option, None, Some, Result, Ok, Err}
-use Rattle.std.specs.List.{All}
+use Rattle.std.specs.Prelude.{◌≡◌, ◌⊎◌, ◌≤◌, ◌<◌, ◌+◌, ◌*◌, ◌^◌, ℕ, true, false, IsTrue, List, length, map, take, drop, vec_capacity, slice_index_or, Result, Ok, Err}
+use Rattle.std.specs.BTreeMap.{is_at}
+use Rattle.std.specs.List.{All, list_any}
 use Rattle.std.specs.List.Sorted.{IsStrictlySortedBy}
 use Rattle.std.specs.Map.{keys_of}
 use Rattle.std.specs.Ordering.{nat_cmp}
 use Rattle.sled_codec.specs.declared.result.Error.{Error}
 use Rattle.sled_codec.specs.declared.result.Error.TheVariants.{OutOfMemory, PlacesUsedUp}
-use Rattle.sled_store.specs.SegmentStates.{SlotState, Machine, is_free, is_draining, free_slot, slot_at, has_page, free_among, inactive_among, active_among, waiting_among, next_slot}
+use Rattle.sled_store.specs.SegmentStates.{SlotState, Machine, is_free, is_draining, free_slot, slot_at, has_page, by_place, free_among, inactive_among, active_among, waiting_among, next_slot}
 use Rattle.sled_store.specs.declared.segment.slot.Slot.{Slot}
 use Rattle.sled_store.specs.declared.segment.cleaner.Entry.{Entry}
 use Rattle.sled_store.specs.declared.segment.cleaner.SegmentCleaner.{SegmentCleaner}
@@ -43,6 +44,14 @@ pub record HasRoomToLink (s : Slot) : Type 0 where
 abbrev pub HasRoomForGone : ℕ → Slot → Type 0
 HasRoomForGone pid s = IsTrue (has_page s.gone.0 pid) ⊎ (length s.gone.0 < s.gone.1)
 
+-- a page may be noted as replaced in a slot
+abbrev pub GoneFits : ℕ → SegmentAccountant → ℕ → Type 0
+GoneFits pid a k = (d : Slot) → HasRoomForGone pid (slice_index_or a.slots.items k d)
+
+-- this many blobs may be noted without taking memory
+abbrev pub HasRoomForBlobs : ℕ → Slot → Type 0
+HasRoomForBlobs n s = length s.blobs.0 + n ≤ s.blobs.1
+
 -- each slot is there once, in ascending order, and below a number
 pub record AreEntries (count : ℕ) (es : List (ℕ × List ℕ)) : Type 0 where
   pub ascending : IsStrictlySortedBy nat_cmp (keys_of es)
@@ -74,7 +83,16 @@ pub record HasRooms (count : ℕ) (a : SegmentAccountant) : Type 0 where
   pub active : count ≤ a.active.1
   pub inactive : count ≤ a.inactive.1
   pub waiting : count ≤ a.waiting.1
-  pub cleaner : count ≤ vec_capacity a.cleaner.entries
+  pub cleaner : 0 < count → count < vec_capacity a.cleaner.entries
+
+-- a slot is not among these
+abbrev pub Lacks : ℕ → List (ℕ × ℕ) → Type 0
+Lacks k ps = (place : ℕ) → list_any (is_at (by_place (place, k))) ps ≡ false
+
+-- a segment lies in a slot
+pub record IsUsed (m : Machine) (k : ℕ) : Type 0 where
+  pub within : k < length m.slots
+  pub used : is_free (slot_at m k).state ≡ false
 
 -- An accountant for segments of a size: each slot is in one state, its indexes are those of the slots, and what it may have to note has room.
 pub record IsAccountant (size : ℕ) (a : SegmentAccountant) : Type 0 where

@@ -1,11 +1,12 @@
 -- The slots of an accountant, as the machine has them.
-use Rattle.std.proofs.Common.{◌≡◌, ◌∙◌, ◌≤◌, ◌<◌, ◌*◌, ◌^◌, ℕ, zero, suc, List, [], ◌∷◌, length, get_or, set, map, drop, take, Vec, vec_capacity, refl, sym, ap, subst, arith, length-set}
+use Rattle.std.proofs.Common.{◌≡◌, ◌∙◌, ◌≤◌, ◌<◌, ◌*◌, ◌^◌, ℕ, zero, suc, List, [], ◌∷◌, length, get_or, set, map, take, Vec, vec_capacity, refl, sym, ap, subst, arith, length-set}
 use Rattle.std.proofs.lemmas.List.{map-set, length-map}
+use Rattle.std.proofs.lemmas.Map.Views.{length-le_from_below}
 use Rattle.std.proofs.lemmas.List.Elements.{All-set}
 use Rattle.std.proofs.Math.Nat.{mul-le-mul_right}
 use Rattle.std.specs.List.{All}
 use Rattle.std.specs.Map.{keys_of}
-use Rattle.sled_store.specs.SegmentStates.{SlotState, free_slot, free_among, active_among, inactive_among, waiting_among}
+use Rattle.sled_store.specs.SegmentStates.{SlotState, free_among, active_among, inactive_among, waiting_among}
 use Rattle.sled_store.specs.declared.segment.slot.Slot.{Slot}
 use Rattle.sled_store.specs.declared.segment.cleaner.Entry.{Entry}
 use Rattle.sled_store.specs.Accounts.{slot_state, entry_of, cleaner_of, machine_of, AreEntries, AreSlots, AreIndexes, IsCleaner, IsAccountant, HasRoomToDrain}
@@ -84,7 +85,7 @@ roomier_account size a b more is =
             active = omega (arith, is.rooms.active, more.room_active);
             inactive = omega (arith, is.rooms.inactive, more.room_inactive);
             waiting = omega (arith, is.rooms.waiting, more.room_waiting);
-            cleaner = omega (arith, is.rooms.cleaner, more.room_cleaner);
+            cleaner = λ some. let was = is.rooms.cleaner (omega arith) in omega (arith, more.room_cleaner);
           };
     }
 
@@ -125,10 +126,14 @@ module _ (size : ℕ) (a b : SegmentAccountant) (k : ℕ) (s : Slot) (t : SlotSt
           active = omega (arith, is.rooms.active, new.room_active);
           inactive = omega (arith, is.rooms.inactive, new.room_inactive);
           waiting = omega (arith, is.rooms.waiting, new.room_waiting);
-          cleaner = omega (arith, is.rooms.cleaner, new.room_cleaner);
+          cleaner = λ some. let was = is.rooms.cleaner (omega arith) in omega (arith, new.room_cleaner);
         };
       }
 
 -- slots below a number are below a greater one
 pub more_entries : (m n : ℕ) (es : List (ℕ × List ℕ)) → m ≤ n → AreEntries m es → AreEntries n es
 more_entries m n es le are = record { ascending = are.ascending; below = λ k d lt. omega (arith, are.below k d lt) }
+
+-- a cleaner knows of as many slots as there are at most
+pub entries_within : (count : ℕ) (es : List Entry) → AreEntries count (map entry_of es) → length es ≤ count
+entries_within count es are = omega (arith, length-le_from_below count (keys_of (map entry_of es)) are.ascending are.below, length-map (map entry_of es) (λ e. e.0), length-map es entry_of)

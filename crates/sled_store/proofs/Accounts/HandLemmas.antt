@@ -1,5 +1,5 @@
 -- A slot is handed out: which one it is, and what becomes of the indexes.
-use Rattle.std.proofs.Common.{◌≡◌, ◌≢◌, ◌∙◌, ◌⊎◌, ◌≤◌, ◌<◌, ◌+◌, ◌-◌, ◌*◌, ◌^◌, ℕ, zero, suc, max, Bool, true, false, cond, List, [], ◌∷◌, ◌++◌, length, get_or, set, take, Option, None, Some, refl, sym, ap, subst, inl, inr, arith, length-take, length-set, length-append, get_or-set_same, get_or-set_other, get_or-take}
+use Rattle.std.proofs.Common.{◌≡◌, ◌≢◌, ◌∙◌, ◌⊎◌, ◌≤◌, ◌<◌, ◌+◌, ◌-◌, ◌^◌, ℕ, zero, suc, max, Bool, true, false, cond, List, [], ◌∷◌, ◌++◌, length, get_or, set, take, refl, sym, ap, subst, inl, inr, arith, length-take, length-set, length-append, get_or-set_same, get_or-set_other, get_or-take}
 use Rattle.std.proofs.lemmas.List.{take-append-le}
 use Rattle.std.proofs.Math.Seq.{take-suc-set}
 use Rattle.std.specs.List.{slice_get}
@@ -9,7 +9,7 @@ use Rattle.std.specs.BTreeMap.{is_at}
 use Rattle.std.specs.BTreeSet.{insert_key}
 use Rattle.std.specs.Set.{remove_key}
 use Rattle.sled_store.specs.Begin.{first_or}
-use Rattle.sled_store.specs.SegmentStates.{SlotState, Machine, slots_where, free_among, active_among, inactive_among, waiting_among, is_free, is_inactive, active_place, waited_place, free_slot, taken_slot, by_place, next_slot, handed_out, with_free_slot, put_slot}
+use Rattle.sled_store.specs.SegmentStates.{SlotState, slots_where, free_among, is_free, is_inactive, active_place, waited_place, free_slot, taken_slot, by_place}
 use Rattle.sled_store.specs.Accounts.{AreSlots, AreIndexes}
 use Rattle.sled_store.proofs.Accounts.IndexLemmas.{slots_where_same, slots_where_less, slots_where_push, slots_by_same, slots_by_more, slots_by_push}
 
@@ -53,13 +53,13 @@ next_is tip xs are = by (free_among (take tip xs)) refl
           at_tip = inl low;
         }
 
-take-set-lt : {A : Type 0} (n : ℕ) (xs : List A) (k : ℕ) (x : A) → take n (set xs k x) ≡ set (take n xs) k x
+pub take-set-lt : {A : Type 0} (n : ℕ) (xs : List A) (k : ℕ) (x : A) → take n (set xs k x) ≡ set (take n xs) k x
 take-set-lt zero xs k x = refl
 take-set-lt (suc n) [] k x = refl
 take-set-lt (suc n) (y ∷ ys) zero x = refl
 take-set-lt (suc n) (y ∷ ys) (suc k) x = ap (λ l. y ∷ l) (take-set-lt n ys k x)
 
-cases_eq : (n k : ℕ) → (n ≡ k) ⊎ (n ≢ k)
+pub cases_eq : (n k : ℕ) → (n ≡ k) ⊎ (n ≢ k)
 cases_eq zero zero = inl refl
 cases_eq zero (suc k) = inr (omega arith)
 cases_eq (suc n) zero = inr (omega arith)

@@ -1,5 +1,5 @@
 -- What becomes of the lists that are read off the slots when one slot changes.
-use Rattle.std.proofs.Common.{◌≡◌, ◌≢◌, ◌∙◌, ℕ, zero, suc, ◌+◌, ◌<◌, ◌≤◌, max, Bool, true, false, cond, List, [], ◌∷◌, ◌++◌, length, get_or, set, take, Option, None, Some, refl, sym, ap, subst, arith}
+use Rattle.std.proofs.Common.{◌≡◌, ◌∙◌, ℕ, zero, suc, ◌+◌, ◌<◌, ◌≤◌, Bool, true, false, cond, List, [], ◌∷◌, ◌++◌, length, get_or, set, Option, None, Some, refl, sym, ap, arith}
 use Rattle.std.specs.declared.cmp.Ordering.{Ordering}
 use Rattle.std.specs.declared.cmp.Ordering.TheVariants.{Less, Equal, Greater}
 use Rattle.std.specs.Ordering.{ordering_reverse, ordering_then, match_ordering, is_eq, nat_cmp}
@@ -7,7 +7,7 @@ use Rattle.std.specs.Cmp.{IsTotalOrder}
 use Rattle.std.specs.BTreeMap.{is_at}
 use Rattle.std.specs.BTreeSet.{insert_key}
 use Rattle.std.specs.Set.{remove_key}
-use Rattle.std.proofs.lemmas.Cmp.{ranked, alike_right, nat_cmp_total, then_total, on_total}
+use Rattle.std.proofs.lemmas.Cmp.{ranked, nat_cmp_total, then_total, on_total}
 use Rattle.std.proofs.lemmas.Bool.Decides.{nat_tests}
 use Rattle.sled_store.proofs.Accounts.SortedLemmas.{length_inserted}
 use Rattle.sled_store.specs.SegmentStates.{SlotState, slots_where, slots_by, beside, by_place}
@@ -70,7 +70,7 @@ pub by_place_total : IsTotalOrder by_place
 by_place_total = then_total (on_total (λ (p : ℕ × ℕ). p.0) nat_cmp_total) (on_total (λ (p : ℕ × ℕ). p.1) nat_cmp_total)
 
 -- slots that differ make keys that differ
-apart : (p q : ℕ × ℕ) → (p.1 ≡ q.1 → ⊥) → by_place p q ≡ Equal → ⊥
+pub apart : (p q : ℕ × ℕ) → (p.1 ≡ q.1 → ⊥) → by_place p q ≡ Equal → ⊥
 apart p q differ is = by (nat_cmp p.0 q.0) is
   where
     by : (r : Ordering) → ordering_then r (nat_cmp p.1 q.1) ≡ Equal → ⊥
@@ -99,7 +99,7 @@ module _ (f : SlotState → Option ℕ) where
       ap (beside (f x) i) (slots_by_set z s lacks (suc i) k n xs (omega arith) (omega arith))
       ∙ beside_commutes (f x) (f s) i n (omega arith) (slots_by f (suc i) (set xs k z))
 
-set_again : {A : Type 0} (xs : List A) (k : ℕ) (d : A) → k < length xs → set xs k (get_or xs k d) ≡ xs
+pub set_again : {A : Type 0} (xs : List A) (k : ℕ) (d : A) → k < length xs → set xs k (get_or xs k d) ≡ xs
 set_again [] k d lt = absurd (omega arith)
 set_again (x ∷ xs) zero d lt = refl
 set_again (x ∷ xs) (suc k) d lt = ap (λ l. x ∷ l) (set_again xs k d (omega arith))

@@ -1,9 +1,9 @@
 //! A slot of the log file, and what is known of the segment in it (`specs/SegmentStates.antt`).
-ghost use Rattle.std.specs.Prelude.{◌≡◌, ◌↔◌, false, [], ◌∷◌, ◌≤◌, ◌<◌, ◌+◌, ◌++◌, ◌⊎◌, IsTrue, IfErr, OnOk, Some, filter, length, ◌==◌, if◌then◌else◌, vec_capacity, not};
+ghost use Rattle.std.specs.Prelude.{ℕ, ◌≡◌, ◌↔◌, false, [], ◌∷◌, ◌≤◌, ◌<◌, ◌+◌, ◌++◌, ◌⊎◌, IsTrue, IfErr, OnOk, Some, filter, length, ◌==◌, if◌then◌else◌, vec_capacity, not};
 ghost use Rattle.std.specs.Ordering.{nat_cmp};
 ghost use Rattle.std.specs.BTreeSet.{insert_key};
-ghost use Rattle.sled_store.specs.SegmentStates.{inactive_slot, free_slot, taken_slot, linked_slot, replaced_slot, outdated, has_page, is_free, is_active, is_sparse, is_done, is_draining, waited_place, left_pages, drained_slot};
-ghost use Rattle.sled_store.specs.Accounts.{slot_state, HasRoomToDrain, HasRoomForGone, HasRoomToLink};
+ghost use Rattle.sled_store.specs.SegmentStates.{free_slot, taken_slot, linked_slot, replaced_slot, outdated, has_page, is_free, is_active, is_sparse, is_done, is_draining, waited_place, left_pages, drained_slot};
+ghost use Rattle.sled_store.specs.Accounts.{slot_state, HasRoomToDrain, HasRoomForGone, HasRoomForBlobs, HasRoomToLink};
 
 use crate::segment::sorted::SortedSet;
 use sled_codec::result::{DiskPtr, Lsn, PageId};
@@ -82,16 +82,6 @@ impl Slot {
         self.lsn = lsn;
     }
 
-    /// The segment is no longer active, and its blobs are gone.
-    pub(crate) fn deactivate(&mut self)
-        requires { is_draining self.old.state ≡ false }
-        ensures state { slot_state self.new ≡ inactive_slot (slot_state self.old) }
-        ensures room { HasRoomToDrain self.old → HasRoomToDrain self.new }
-    {
-        self.state = State::Inactive;
-        self.blobs.clear();
-    }
-
     /// Takes the segment out.
     pub(crate) fn free(&mut self)
         ensures state { slot_state self.new ≡ free_slot }
@@ -110,7 +100,7 @@ impl Slot {
     pub(crate) fn reserve(&mut self, blobs: usize) -> Result<(), AllocError>
         ensures state { slot_state self.new ≡ slot_state self.old }
         ensures link { OnOk result (HasRoomToLink self.new) }
-        ensures blobs { OnOk result (length self.new.blobs.0 + blobs ≤ self.new.blobs.1) }
+        ensures blobs { OnOk result (HasRoomForBlobs blobs self.new) }
         ensures drain { HasRoomToDrain self.old → HasRoomToDrain self.new }
         ensures gone { self.new.gone ≡ self.old.gone }
     {
@@ -121,6 +111,16 @@ impl Slot {
         self.left.reserve(pages)?;
         self.blobs.reserve(blobs)?;
         Ok(())
+    }
+
+    /// Makes room for a replaced page.
+    pub(crate) fn reserve_gone(&mut self) -> Result<(), AllocError>
+        ensures state { slot_state self.new ≡ slot_state self.old }
+        ensures drain { HasRoomToDrain self.old → HasRoomToDrain self.new }
+        ensures gone { OnOk result ((pid : ℕ) → HasRoomForGone pid self.new) }
+        ensures kept { (pid : ℕ) → HasRoomForGone pid self.old → HasRoomForGone pid self.new }
+    {
+        self.gone.reserve(1)
     }
 
     /// Links a page by a record of this length.

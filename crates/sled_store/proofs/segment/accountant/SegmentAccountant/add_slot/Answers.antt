@@ -1,5 +1,5 @@
 -- A free slot behind all others is in no list but that of the slots.
-use Rattle.std.proofs.Common.{◌≡◌, ◌∙◌, ◌<◌, ◌≤◌, ◌+◌, ◌*◌, ◌^◌, ◌++◌, ◌∷◌, [], ℕ, List, Bool, length, map, refl, sym, ap, subst, arith, is_ok, if◌then◌else◌, Vec, vec_len, vec_capacity, length-append}
+use Rattle.std.proofs.Common.{◌≡◌, ◌∙◌, ◌<◌, ◌+◌, ◌*◌, ◌^◌, ◌++◌, ◌∷◌, [], ℕ, List, Bool, length, map, refl, sym, ap, subst, arith, if◌then◌else◌, Vec, vec_len, vec_capacity, length-append}
 use Rattle.std.proofs.lemmas.List.{map-append}
 use Rattle.std.proofs.lemmas.List.Elements.{All-append, All-cons}
 use Rattle.std.specs.List.{All}
@@ -8,7 +8,7 @@ use Rattle.std.specs.declared.alloc.Global.{Global}
 use Rattle.sled_store.specs.declared.segment.slot.Slot.{Slot}
 use Rattle.sled_store.specs.declared.segment.cleaner.SegmentCleaner.{SegmentCleaner}
 use Rattle.sled_store.specs.declared.segment.accountant.SegmentAccountant.{SegmentAccountant}
-use Rattle.sled_store.specs.Accounts.{slot_state, machine_of, cleaner_of, IsAccountant, AreSlots, AreIndexes, AreEntries, IsCleaner, HasRooms, HasRoomToDrain}
+use Rattle.sled_store.specs.Accounts.{slot_state, machine_of, cleaner_of, IsAccountant, AreSlots, AreIndexes, AreEntries, HasRooms, HasRoomToDrain}
 use Rattle.sled_store.proofs.Accounts.AccountLemmas.{more_entries, length_states}
 use Rattle.sled_store.proofs.Accounts.HandLemmas.{pushed_slots, pushed_indexes, indexes_same}
 use Rattle.sled_store.proofs.segment.accountant.SegmentAccountant.add_slot.Goals as goal
@@ -38,7 +38,7 @@ module _ (size : ℕ) (a : SegmentAccountant) (is : IsAccountant size a) (s : Sl
           active = omega (arith, rooms.active, ap (λ p. p.1) actives, n);
           inactive = omega (arith, rooms.inactive, ap (λ p. p.1) inactives, n);
           waiting = omega (arith, rooms.waiting, ap (λ p. p.1) waitings, n);
-          cleaner = omega (arith, rooms.cleaner, ap (λ (k : SegmentCleaner). vec_capacity k.entries) cleaners, n);
+          cleaner = λ some. omega (arith, rooms.cleaner (omega arith), ap (λ (k : SegmentCleaner). vec_capacity k.entries) cleaners, n);
         };
       }
 

@@ -1,5 +1,5 @@
 -- The cleaner alone changes.
-use Rattle.std.proofs.Common.{◌≡◌, ◌∙◌, ◌<◌, ◌*◌, ◌^◌, ℕ, List, length, refl, sym, subst, arith, vec_capacity}
+use Rattle.std.proofs.Common.{◌∙◌, ◌<◌, ◌*◌, ◌^◌, ℕ, length, refl, sym, subst, arith}
 use Rattle.sled_store.specs.Accounts.{machine_of}
 use Rattle.sled_store.proofs.Accounts.AccountLemmas.{entries_in_reach}
 use Rattle.sled_store.proofs.segment.accountant.SegmentAccountant.clean_pop.Goals as goal
@@ -27,6 +27,6 @@ returns-clause-account c =
         active = c.requires.rooms.active;
         inactive = c.requires.rooms.inactive;
         waiting = c.requires.rooms.waiting;
-        cleaner = omega (arith, c.requires.rooms.cleaner, c.pop.ensures.room);
+        cleaner = λ some. omega (arith, c.requires.rooms.cleaner some, c.pop.ensures.room);
       };
     }

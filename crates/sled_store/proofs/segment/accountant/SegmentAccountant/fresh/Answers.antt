@@ -1,11 +1,8 @@
 -- Nothing was handed out, so each list is empty.
-use Rattle.std.proofs.Common.{◌≡◌, ◌<◌, ◌*◌, ◌^◌, ℕ, List, [], length, map, refl, sym, ap, subst, arith, Vec}
+use Rattle.std.proofs.Common.{◌≡◌, ◌<◌, ◌*◌, ◌^◌, ℕ, [], length, map, refl, sym, ap, subst, arith}
 use Rattle.std.specs.List.{All}
-use Rattle.std.specs.declared.alloc.Global.{Global}
-use Rattle.sled_store.specs.SegmentStates.{SlotState, Machine, unused_machine, free_among, active_among, inactive_among, waiting_among}
-use Rattle.sled_store.specs.declared.segment.slot.Slot.{Slot}
 use Rattle.sled_store.specs.declared.segment.accountant.SegmentAccountant.{SegmentAccountant}
-use Rattle.sled_store.specs.Accounts.{slot_state, machine_of, cleaner_of, AreSlots, AreIndexes, IsCleaner, IsAccountant, HasRooms, HasRoomToDrain}
+use Rattle.sled_store.specs.Accounts.{slot_state, machine_of, AreSlots, AreIndexes, IsCleaner, IsAccountant, HasRooms, HasRoomToDrain}
 use Rattle.sled_store.proofs.segment.accountant.SegmentAccountant.fresh.Goals as goal
 
 none_slots : AreSlots 0 []
@@ -36,7 +33,7 @@ bare_account size a bare some small =
           (record { free_is = bare.free; active_is = bare.active; inactive_is = bare.inactive; waiting_is = bare.waiting }));
       cleaner = subst (λ n. IsCleaner size n a.cleaner) (sym count) bare.cleaner;
       room_to_drain = subst (All HasRoomToDrain) (sym bare.slots) (λ k d lt. absurd (omega arith));
-      rooms = subst (λ n. HasRooms n a) (sym count) (record { free = omega arith; active = omega arith; inactive = omega arith; waiting = omega arith; cleaner = omega arith });
+      rooms = subst (λ n. HasRooms n a) (sym count) (record { free = omega arith; active = omega arith; inactive = omega arith; waiting = omega arith; cleaner = λ some. omega arith });
     }
 
 pub returns-clause-machine : goal.returns-clause-machine

@@ -1,10 +1,10 @@
 -- The slot was free, and is that of the segment now.
-use Rattle.std.proofs.Common.{◌≡◌, ◌∙◌, ◌<◌, ◌≤◌, ◌+◌, ◌*◌, ◌^◌, ◌++◌, ◌∷◌, [], ℕ, List, max, Bool, true, length, get_or, set, map, refl, sym, ap, subst, inr, arith, nat_lt, if◌then◌else◌}
+use Rattle.std.proofs.Common.{◌≡◌, ◌∙◌, ◌<◌, ◌+◌, ◌++◌, ◌∷◌, [], ℕ, List, max, Bool, length, get_or, set, refl, sym, ap, subst, inr, arith, if◌then◌else◌}
 use Rattle.std.proofs.lemmas.Bool.{lt-ltb}
 use Rattle.sled_store.specs.SegmentStates.{SlotState, Machine, active_place, free_slot, taken_slot, next_slot, put_slot}
 use Rattle.sled_store.specs.declared.segment.slot.Slot.{Slot}
 use Rattle.sled_store.specs.declared.segment.accountant.SegmentAccountant.{SegmentAccountant}
-use Rattle.sled_store.specs.Accounts.{slot_state, machine_of, cleaner_of, IsAccountant, AreSlots, AreIndexes}
+use Rattle.sled_store.specs.Accounts.{slot_state, machine_of, IsAccountant, AreSlots}
 use Rattle.sled_store.proofs.Accounts.AccountLemmas.{state_at, states_set, length_states, updated_account}
 use Rattle.sled_store.proofs.Accounts.IndexLemmas.{length_slots_by_less}
 use Rattle.sled_store.proofs.Accounts.HandLemmas.{IsNext, next_is, handed_slots, handed_indexes, indexes_same}

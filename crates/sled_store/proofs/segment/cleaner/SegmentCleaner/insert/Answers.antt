@@ -1,8 +1,6 @@
 -- A slot that was found is noted anew, and another goes where the search ended.
-use Rattle.std.proofs.Common.{◌≡◌, ◌∙◌, ℕ, List, Bool, true, map, ap, refl, sym, subst, is_ok, if◌then◌else◌, vec_len, vec_capacity, ◌<◌, arith}
+use Rattle.std.proofs.Common.{◌∙◌, List, Bool, map, ap, refl, sym, subst, if◌then◌else◌, vec_len, vec_capacity, ◌<◌, arith}
 use Rattle.std.specs.List.{insert}
-use Rattle.std.specs.BTreeMap.{insert_entry}
-use Rattle.std.specs.Ordering.{nat_cmp}
 use Rattle.sled_store.specs.declared.segment.cleaner.Entry.{Entry}
 use Rattle.sled_store.specs.Accounts.{AreEntries, entry_of}
 use Rattle.sled_store.proofs.Accounts.CleanerLemmas.{searchable_slots, found_set, missing_entry, entries_inserted}

@@ -1,4 +1,4 @@
-use Rattle.std.proofs.Common.{◌≡◌, List, ℕ, ap, map, refl, sym, subst}
+use Rattle.std.proofs.Common.{ap, map, refl, sym, subst}
 use Rattle.sled_store.specs.Accounts.{AreEntries, entry_of}
 use Rattle.sled_store.proofs.Accounts.CleanerLemmas.{entries_none}
 use Rattle.sled_store.proofs.segment.cleaner.SegmentCleaner.new.Goals as goal

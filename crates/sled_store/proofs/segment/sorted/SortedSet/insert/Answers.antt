@@ -1,5 +1,5 @@
 -- A key that was found changes nothing, and another goes where the search ended.
-use Rattle.std.proofs.Common.{◌≡◌, ◌∙◌, ◌⊎◌, ◌<◌, ◌≤◌, ℕ, List, Bool, true, false, IsTrue, Result, IsOk, is_ok, if◌then◌else◌, length, sym, ap, subst, inl, inr, arith, vec_len, vec_capacity}
+use Rattle.std.proofs.Common.{◌≡◌, ◌∙◌, ◌⊎◌, ◌<◌, ◌≤◌, ℕ, List, Bool, true, false, IsTrue, is_ok, if◌then◌else◌, length, sym, ap, subst, inl, inr, arith, vec_len, vec_capacity}
 use Rattle.std.specs.Cmp.{IsTotalOrder}
 use Rattle.std.specs.declared.cmp.Ordering.{Ordering}
 use Rattle.std.specs.declared.cmp.Ordering.TheVariants.{Less, Greater}
