@@ -12,8 +12,8 @@ returns-then-not-is_sparse-clause-machine c =
     ap (is_sparse a.size) (sym (slot_is a c.args.slot c.index-s.result.now c.requires.slot c.index-s.ensures)) ∙ sym c.is_sparse.ensures ∙ c.if-not-is_sparse.true in
     sym (ap (λ b. if b then drained c.args.slot (machine_of a) else machine_of a) is)
 
-pub drain-requires-clause-slot : goal.drain-requires-clause-slot
-drain-requires-clause-slot c =
+pub drain-requires-clause-inactive : goal.drain-requires-clause-inactive
+drain-requires-clause-inactive c =
     let a = c.args.self.now in
     let s : SlotState = slot_at (machine_of a) c.args.slot in
     let is : is_sparse a.size s ≡ true =
@@ -25,4 +25,4 @@ returns-clause-machine c =
     let a = c.args.self.now in
     let is : is_sparse a.size (slot_at (machine_of a) c.args.slot) ≡ true =
     ap (is_sparse a.size) (sym (slot_is a c.args.slot c.index-s.result.now c.requires.slot c.index-s.ensures)) ∙ sym c.is_sparse.ensures ∙ c.if-not-is_sparse.false in
-    c.drain.ensures.machine ∙ sym (ap (λ b. if b then drained c.args.slot (machine_of a) else machine_of a) is)
+    c.drain.ensures.done ∙ sym (ap (λ b. if b then drained c.args.slot (machine_of a) else machine_of a) is)

@@ -1,5 +1,4 @@
 -- The list of removals goes on, or was begun where one failed.
-use Rattle.sled_store.proofs.Accounts.StabilIndex.{slots_by_less}
 use Rattle.std.proofs.Common.{◌≡◌, ◌∙◌, ℤ, List, subst, pos, take, get_or, to_z, of_z, w64, FitsSigned, rules}
 use Rattle.std.proofs.lemmas.Int.{to_z-of_z}
 use Rattle.std.proofs.lemmas.List.{take_all}
@@ -8,7 +7,7 @@ use Rattle.sled_store.specs.Device.{Trace}
 use Rattle.sled_store.specs.Script.{Performs, after_all}
 use Rattle.sled_store.proofs.Accounts.StabilSteps.{removed_more, removals_begun}
 use Rattle.sled_store.proofs.Traces.ScriptLemmas.{performs_whole}
-use Rattle.sled_store.proofs.segment.accountant.remove_blobs.Goals as goal
+use Rattle.sled_store.proofs.segment.accountant.freeing.remove_blobs.Goals as goal
 
 pub returns-in_err-blob_remove-clause-calls : goal.returns-in_err-blob_remove-clause-calls
 returns-in_err-blob_remove-clause-calls g c =

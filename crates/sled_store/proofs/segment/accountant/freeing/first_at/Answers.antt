@@ -4,7 +4,7 @@ use Rattle.std.proofs.lemmas.Bool.{ltb-true, ltb-false, ne_eqb}
 use Rattle.std.proofs.lemmas.Option.{slice_get_read, slice_get_past}
 use Rattle.std.specs.List.{slice_get}
 use Rattle.sled_store.proofs.Accounts.StabilFirst.{first_is, first_by}
-use Rattle.sled_store.proofs.segment.accountant.first_at.Goals as goal
+use Rattle.sled_store.proofs.segment.accountant.freeing.first_at.Goals as goal
 
 pub returns-then-other-place : goal.returns-then-other-place
 returns-then-other-place c =

@@ -2,7 +2,7 @@
 use Rattle.std.proofs.Common.{◌≡◌, take}
 use Rattle.sled_store.specs.Blobs.{removing_blobs}
 use Rattle.sled_store.specs.Script.{after_all}
-use Rattle.sled_store.proofs.segment.accountant.remove_blobs.Given as goal
+use Rattle.sled_store.proofs.segment.accountant.freeing.remove_blobs.Given as goal
 
 abbrev pub invariant-loop-place : goal.invariant-loop-place
 invariant-loop-place g l = record {
