@@ -5,7 +5,7 @@ use Rattle.sled_store.specs.Answers.{Tears}
 use Rattle.sled_store.specs.Blobs.{removing_blobs}
 use Rattle.sled_store.specs.Device.{Event, Trace, BlobRemoved}
 use Rattle.sled_store.specs.Script.{Performs, after_all}
-use Rattle.sled_store.specs.SegmentStates.{Machine, Step, followed_by, without_calls}
+use Rattle.sled_store.specs.SegmentStates.{Machine, Step, followed_by, without_calls, in_turn}
 use Rattle.sled_store.proofs.Traces.ScriptLemmas.{after_joined, performs_more, performs_behind, stop_call}
 
 -- a step was made, and all of its calls
@@ -57,6 +57,32 @@ leads_next step more old mid m first = record {
 -- nothing is left to be done
 pub leads_end : (m : Machine) (mid old : Trace) (whole : Step) → LeadsTo (without_calls m) mid whole old → IsMade whole old m mid
 leads_end m mid old whole leads = record { machine = leads.machine; trace = leads.made }
+
+-- the same step, of the same size
+pub made_same : (step : ℕ → Step) (size other : ℕ) (old : Trace) (m : Machine) (new : Trace) → other ≡ size → m ≡ (step other).machine → new ≡ after_all (step other).calls old → IsMade (step size) old m new
+made_same step size other old m new same machine trace = record {
+  machine = subst (λ n. m ≡ (step n).machine) same machine;
+  trace = subst (λ n. new ≡ after_all (step n).calls old) same trace;
+}
+
+pub calls_same : (step : ℕ → Step) (size other : ℕ) (old new : Trace) → other ≡ size → Performs (step other).calls old new → Performs (step size).calls old new
+calls_same step size other old new same came = subst (λ n. Performs (step n).calls old new) same came
+
+-- What is left of a list of steps, each of which is made in turn.
+module _ {X : Type 0} (step : X → Machine → Step) (now : List X) (m : Machine) (mid : Trace) (whole : Step) (old : Trace) (leads : LeadsTo (in_turn step now m) mid whole old) where
+  pub turn_on : (x : X) (rest left : List X) (n : Machine) (new : Trace) → now ≡ x ∷ rest → IsMade (step x m) mid n new → left ≡ rest → LeadsTo (in_turn step left n) new whole old
+  turn_on x rest left n new is made same =
+      leads_from (in_turn step left n) (in_turn step now m) whole new mid old
+      (subst (λ (s : Step). LeadsTo (in_turn step left n) new s mid) (sym (ap (λ l. in_turn step l m) is))
+      (subst (λ l. LeadsTo (in_turn step l n) new (in_turn step (x ∷ rest) m) mid) (sym same) (leads_next (step x m) (in_turn step rest) mid new n made)))
+      leads
+
+  pub turn_failed : (x : X) (rest : List X) (new : Trace) → now ≡ x ∷ rest → Performs (step x m).calls mid new → Performs whole.calls old new
+  turn_failed x rest new is came =
+      leads.calls new (subst (λ (s : Step). Performs s.calls mid new) (sym (ap (λ l. in_turn step l m) is)) (failed_first (step x m) (in_turn step rest) mid new came))
+
+  pub turns_done : now ≡ [] → IsMade whole old m mid
+  turns_done is = leads_end m mid old whole (subst (λ l. LeadsTo (in_turn step l m) mid whole old) is leads)
 
 -- Blobs that are removed one after another.
 module _ (ps : List ℤ) (i : ℕ) (d p : ℤ) (below : i < length ps) (is : p ≡ get_or ps i d) (old mid new : Trace) (came : mid ≡ after_all (removing_blobs (take i ps)) old) where

@@ -275,8 +275,9 @@ impl SegmentAccountant {
         if !self.is_wasteful() {
             return;
         }
-        if let Some(slot) = self.inactive.last() {
-            self.drain(slot);
+        match self.inactive.last() {
+            Some(slot) => self.drain(slot),
+            None => {}
         }
     }
 

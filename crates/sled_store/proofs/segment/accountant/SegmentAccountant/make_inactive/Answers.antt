@@ -22,13 +22,13 @@ insert-requires c =
     let few = inactive_room c.args.self.now.tip m.slots c.args.slot c.args.place c.requires.slot c.requires.account.slots c.requires.active in
     inr (omega (arith, few, ap length c.requires.account.indexes.inactive_is, c.requires.account.rooms.inactive))
 
-now_is : (c : goal.Returns) → slot_state c.deactivate.new.self ≡ inactive_slot (slot_at (machine_of c.args.self.now) c.args.slot)
-now_is c = c.deactivate.ensures.state ∙ ap inactive_slot (slot_is c.args.self.now c.args.slot c.index_mut-s.result.now c.requires.slot c.index_mut-s.ensures.value)
+now_is : (old new : Slot) (t : SlotState) → slot_state new ≡ inactive_slot (slot_state old) → slot_state old ≡ t → slot_state new ≡ inactive_slot t
+now_is old new t is at = is ∙ ap inactive_slot at
 
 pub returns-clause-machine : goal.returns-clause-machine
 returns-clause-machine c =
     let a : SegmentAccountant = c.args.self.now in
-    let same = states_set a.slots.items c.args.slot c.deactivate.new.self (inactive_slot (slot_at (machine_of a) c.args.slot)) (now_is c) in
+    let same = states_set a.slots.items c.args.slot c.deactivate.new.self (inactive_slot (slot_at (machine_of a) c.args.slot)) (now_is c.index_mut-s.result.now c.deactivate.new.self (slot_at (machine_of a) c.args.slot) c.deactivate.ensures.state (slot_is a c.args.slot c.index_mut-s.result.now c.requires.slot c.index_mut-s.ensures.value)) in
     λ i. record { slots = same i; tip = a.tip; cleaner = (machine_of a).cleaner }
 
 pub returns-clause-account : goal.returns-clause-account
@@ -41,7 +41,7 @@ returns-clause-account c =
     updated_account a.size a _ k c.deactivate.new.self (inactive_slot (slot_at (machine_of a) k)) (record {
       size_is = refl;
       items = refl;
-      state = now_is c;
+      state = now_is c.index_mut-s.result.now c.deactivate.new.self (slot_at (machine_of a) k) c.deactivate.ensures.state (slot_is a k c.index_mut-s.result.now c.requires.slot c.index_mut-s.ensures.value);
       drain = c.deactivate.ensures.room room;
       slots = inactive_slots a.tip xs k c.args.place c.requires.slot c.requires.account.slots c.requires.active;
       indexes = indexes_same _ _ _ _ _ _ _ _ _ _ _ (inactive_indexes a.tip xs k c.args.place c.requires.slot c.requires.account.slots c.requires.active a.free.0 a.active.0 a.inactive.0 a.waiting.0 c.requires.account.indexes)
