@@ -1,5 +1,5 @@
 -- The first slot that waits is done, and is freed; the others wait as before.
-use Rattle.std.proofs.Common.{◌≡◌, ◌∙◌, ◌<◌, ◌-◌, ℕ, List, [], ◌∷◌, Some, None, Option, true, length, get_or, set, drop, sym, ap, subst, arith, length-set}
+use Rattle.std.proofs.Common.{◌≡◌, ◌∙◌, ◌<◌, ◌-◌, ℕ, List, [], ◌∷◌, Some, None, Option, true, length, get_or, set, drop, refl, sym, ap, subst, arith, length-set}
 use Rattle.std.specs.List.{slice_get}
 use Rattle.std.specs.BTreeMap.{is_at}
 use Rattle.std.specs.Set.{remove_key}
@@ -84,16 +84,19 @@ returns-in_err-free-clause-calls g c =
     turn_failed (freed size) _ m _ _ _ c.loop-slot.invariant.leads k _ (g.D.Device.trace c.free.new.device) (listed size c.args.place k c.loop-slot.self c.loop-slot.invariant.account c.in-Some.ensures)
     (calls_same (λ n. freed n k m) size c.loop-slot.self.size (g.D.Device.trace c.loop-slot.device) (g.D.Device.trace c.free.new.device) c.loop-slot.invariant.account.size_is c.free.ensures.calls)
 
-none_left : (size place : ℕ) (a : SegmentAccountant) → IsAccountant size a → None ≡ slice_get (slots_at place a.waiting.0) 0 → waiting_for place (machine_of a) ≡ []
-none_left size place a is none = ap (slots_at place) (sym is.indexes.waiting_is) ∙ none_first (slots_at place a.waiting.0) (sym none)
+none_left : (size place : ℕ) (a : SegmentAccountant) (o : Option ℕ) → IsAccountant size a → o ≡ slice_get (slots_at place a.waiting.0) 0 → ((k : ℕ) → o ≡ Some k → ⊥) → waiting_for place (machine_of a) ≡ []
+none_left size place a (Some k) is first missing = absurd (missing k refl)
+none_left size place a None is first missing = ap (slots_at place) (sym is.indexes.waiting_is) ∙ none_first (slots_at place a.waiting.0) (sym first)
 
 pub returns-clause-done : goal.returns-clause-done
 returns-clause-done g c =
-    let h = c.in_default in let j = c.first_at.ensures in ?
+    (turns_done (freed c.args.self.now.size) _ (machine_of c.loop-slot.self) _ _ _ c.loop-slot.invariant.leads
+    (none_left c.args.self.now.size c.args.place c.loop-slot.self c.first_at.result c.loop-slot.invariant.account c.first_at.ensures c.in_default.not-Some)).machine
 
 pub returns-clause-made : goal.returns-clause-made
 returns-clause-made g c =
-    (turns_done (freed c.args.self.now.size) _ (machine_of c.loop-slot.self) _ _ _ c.loop-slot.invariant.leads (none_left c.args.self.now.size c.args.place c.loop-slot.self c.loop-slot.invariant.account c.in-None.ensures)).trace
+    (turns_done (freed c.args.self.now.size) _ (machine_of c.loop-slot.self) _ _ _ c.loop-slot.invariant.leads
+    (none_left c.args.self.now.size c.args.place c.loop-slot.self c.first_at.result c.loop-slot.invariant.account c.first_at.ensures c.in_default.not-Some)).trace
 
 pub returns-clause-calls : goal.returns-clause-calls
 returns-clause-calls g c =
