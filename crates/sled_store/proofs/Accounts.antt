@@ -7,6 +7,7 @@ pub mod MoveLemmas
 pub mod OldLemmas
 pub mod SortedLemmas
 pub mod StabilCut
+pub mod StabilDue
 pub mod StabilFirst
 pub mod StabilIndex
 pub mod StabilSlots

@@ -48,7 +48,7 @@ abbrev pub first_by : ℕ → Option (ℕ × ℕ) → Option ℕ
 first_by place None = None
 first_by place (Some w) = if w.0 == place then Some w.1 else None
 
-compare_places : (m n : ℕ) → ((m < n) × (nat_cmp m n ≡ Less)) ⊎ ((m ≡ n) × (nat_cmp m n ≡ Equal)) ⊎ ((n < m) × (nat_cmp m n ≡ Greater))
+pub compare_places : (m n : ℕ) → ((m < n) × (nat_cmp m n ≡ Less)) ⊎ ((m ≡ n) × (nat_cmp m n ≡ Equal)) ⊎ ((n < m) × (nat_cmp m n ≡ Greater))
 compare_places m n = by (nat_cmp m n) refl
   where
     by : (r : Ordering) → nat_cmp m n ≡ r → ((m < n) × (nat_cmp m n ≡ Less)) ⊎ ((m ≡ n) × (nat_cmp m n ≡ Equal)) ⊎ ((n < m) × (nat_cmp m n ≡ Greater))
