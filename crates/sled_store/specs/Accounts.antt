@@ -13,6 +13,7 @@ use Rattle.sled_store.specs.declared.segment.cleaner.Entry.{Entry}
 use Rattle.sled_store.specs.declared.segment.cleaner.SegmentCleaner.{SegmentCleaner}
 use Rattle.sled_store.specs.declared.segment.accountant.SegmentAccountant.{SegmentAccountant}
 
+-- the state that a slot of an accountant stands for
 abbrev pub slot_state : Slot → SlotState
 slot_state s = record { state = s.state; lsn = s.lsn; held = s.held; pages = s.pages.0; gone = s.gone.0; latest = s.latest; blobs = s.blobs.0 }
 
@@ -20,6 +21,7 @@ slot_state s = record { state = s.state; lsn = s.lsn; held = s.held; pages = s.p
 abbrev pub entry_of : Entry → ℕ × List ℕ
 entry_of e = (e.slot, drop e.next e.pages.items)
 
+-- the pages that a cleaner still has, by slot
 abbrev pub cleaner_of : SegmentCleaner → List (ℕ × List ℕ)
 cleaner_of c = map entry_of c.entries.items
 
@@ -70,8 +72,12 @@ pub record AreSlots (tip : ℕ) (slots : List SlotState) : Type 0 where
   pub free_slots : (k : ℕ) → is_free (slice_index_or slots k free_slot).state ≡ true → slice_index_or slots k free_slot ≡ free_slot
   pub places : (k : ℕ) → (slice_index_or slots k free_slot).lsn < 2 ^ 63
 
+-- slots behind their places
+abbrev pub Placed : Type 0
+Placed = List (ℕ × ℕ)
+
 -- The lists by which slots are found are those that are read off the slots.
-pub record AreIndexes (tip : ℕ) (slots : List SlotState) (free : List ℕ) (active : List (ℕ × ℕ)) (inactive : List ℕ) (waiting : List (ℕ × ℕ)) : Type 0 where
+pub record AreIndexes (tip : ℕ) (slots : List SlotState) (free : List ℕ) (active : Placed) (inactive : List ℕ) (waiting : Placed) : Type 0 where
   pub free_is : free ≡ free_among (take tip slots)
   pub active_is : active ≡ active_among slots
   pub inactive_is : inactive ≡ inactive_among slots

@@ -31,6 +31,7 @@ pub record SlotState : Type 0 where
   -- the blobs that go when the segment is deactivated, in ascending order
   pub blobs : List ℤ
 
+-- All slots of a log file, and what is to be written again so that more of them come free.
 pub record Machine : Type 0 where
   -- each slot that was ever handed out or found, also those that were cut off since
   pub slots : List SlotState
@@ -50,18 +51,22 @@ unused_machine = record { slots = []; tip = 0; cleaner = [] }
 
 -- Slots.
 
+-- no segment lies in a slot in this state
 abbrev pub is_free : State → Bool
 is_free Free = true
 is_free _ = false
 
+-- messages are still linked to its segment
 abbrev pub is_active : State → Bool
 is_active Active = true
 is_active _ = false
 
+-- all of its segment is stable, and it was not drained
 abbrev pub is_inactive : State → Bool
 is_inactive Inactive = true
 is_inactive _ = false
 
+-- its pages are to be written again elsewhere
 abbrev pub is_draining : State → Bool
 is_draining Draining = true
 is_draining _ = false
@@ -74,9 +79,11 @@ free_slot = record { state = Free; lsn = 0; held = 0; pages = []; gone = []; lat
 abbrev pub taken_slot : ℕ → SlotState
 taken_slot lsn = record { state = Active; lsn = lsn; held = 0; pages = []; gone = []; latest = None; blobs = [] }
 
+-- a slot by its number; a free one where there is none
 abbrev pub slot_at : Machine → ℕ → SlotState
 slot_at m k = slice_index_or m.slots k free_slot
 
+-- the same machine but for one slot
 abbrev pub with_slot : ℕ → SlotState → Machine → Machine
 with_slot k s m = record { slots = set m.slots k s; tip = m.tip; cleaner = m.cleaner }
 
@@ -85,10 +92,11 @@ abbrev pub slots_where : (SlotState → Bool) → ℕ → List SlotState → Lis
 slots_where test i [] = []
 slots_where test i (s ∷ ss) = if test s then i ∷ slots_where test (suc i) ss else slots_where test (suc i) ss
 
--- the slots among these that no segment is in
+-- the slots among these that no segment lies in
 abbrev pub free_among : List SlotState → List ℕ
 free_among slots = slots_where (λ s. is_free s.state) 0 slots
 
+-- the slots among these whose segments are inactive
 abbrev pub inactive_among : List SlotState → List ℕ
 inactive_among slots = slots_where (λ s. is_inactive s.state) 0 slots
 
@@ -173,6 +181,7 @@ counted n = min n (2 ^ 64 - 1)
 abbrev pub linked_slot : ℕ → ℕ → SlotState → SlotState
 linked_slot pid len s = record s { held = counted (s.held + len); pages = insert_key nat_cmp s.pages pid }
 
+-- a page is linked to the segment in which its message lies
 abbrev pub linked : ℕ → ℕ → CacheInfo → Machine → Machine
 linked size pid info m = let k = lid_of info.pointer / size in with_slot k (linked_slot pid info.log_size (slot_at m k)) m
 
@@ -182,10 +191,12 @@ outdated (Blob lid place) (Blob lid_then place_then) blobs = if int_eq place pla
 outdated (Inline lid) (Blob lid_then place_then) blobs = insert_key int_cmp blobs place_then
 outdated pointer (Inline lid_then) blobs = blobs
 
+-- the blobs of all replaced messages go, but for that of the message that replaces them
 abbrev pub all_outdated : DiskPtr → List CacheInfo → List ℤ → List ℤ
 all_outdated pointer [] blobs = blobs
 all_outdated pointer (o ∷ os) blobs = all_outdated pointer os (outdated pointer o.pointer blobs)
 
+-- they go with the segment of that message
 abbrev pub outdating : ℕ → CacheInfo → List CacheInfo → Machine → Machine
 outdating size info old m =
     let k = lid_of info.pointer / size in
@@ -217,6 +228,7 @@ has_page pages p = list_any (is_at (nat_cmp p)) pages
 abbrev pub left_pages : SlotState → List ℕ
 left_pages s = filter (λ p. not (has_page s.gone p)) s.pages
 
+-- its segment is drained
 abbrev pub drained_slot : SlotState → SlotState
 drained_slot s = record s { state = Draining }
 
@@ -224,6 +236,7 @@ drained_slot s = record s { state = Draining }
 abbrev pub drained : ℕ → Machine → Machine
 drained k m = record { slots = set m.slots k (drained_slot (slot_at m k)); tip = m.tip; cleaner = insert_entry nat_cmp m.cleaner k (left_pages (slot_at m k)) }
 
+-- a segment is drained where it is inactive and holds little
 abbrev pub drained_if_sparse : ℕ → ℕ → Machine → Machine
 drained_if_sparse size k m = if is_sparse size (slot_at m k) then drained k m else m
 
@@ -233,6 +246,7 @@ replaced_one size pid place o m =
     let k = lid_of o.pointer / size in
     drained_if_sparse size k (with_slot k (replaced_slot pid o.log_size place (slot_at m k)) m)
 
+-- older messages of a page are replaced, one after another
 abbrev pub replaced_all : ℕ → ℕ → ℕ → List CacheInfo → Machine → Machine
 replaced_all size pid place [] m = m
 replaced_all size pid place (o ∷ os) m = replaced_all size pid place os (replaced_one size pid place o m)
@@ -276,6 +290,7 @@ freed size k m =
 abbrev pub followed_by : Step → (Machine → Step) → Step
 followed_by step more = let next = more step.machine in record { machine = next.machine; calls = step.calls ++ next.calls }
 
+-- nothing is asked of the device
 abbrev pub without_calls : Machine → Step
 without_calls m = record { machine = m; calls = [] }
 
@@ -295,6 +310,7 @@ freed_if_done size k m =
     let s = slot_at m k in
     if is_done s && not (is_active_place m s.latest) then freed size k m else without_calls m
 
+-- what is due for one segment: a drain, and then a free
 abbrev pub tested : ℕ → ℕ → Machine → Step
 tested size k m = freed_if_done size k (drained_if_sparse size k m)
 
@@ -313,6 +329,7 @@ is_wasteful slots =
 abbrev pub drained_if_wasteful : Machine → Machine
 drained_if_wasteful m = let inactive = inactive_among m.slots in if is_wasteful m.slots then drained (slice_index_or inactive (length inactive - 1) 0) m else m
 
+-- its segment is no longer active, and its blobs are gone
 abbrev pub inactive_slot : SlotState → SlotState
 inactive_slot s = record s { state = Inactive; blobs = [] }
 

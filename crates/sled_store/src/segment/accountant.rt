@@ -2,13 +2,11 @@
 //!
 //! What a call looks for it finds by an index: free slots, active and waiting ones by their places, inactive ones. All
 //! room is reserved before anything is changed, so that nothing has changed after `OutOfMemory`.
-ghost use Rattle.std.specs.Prelude.{◌≡◌, ◌↔◌, ◌≤ℤ◌, ◌≤◌, ◌+◌, ◌*◌, ◌/◌, ◌^◌, ◌<◌, length, slice_index_or, true, ℕ, ◌≢◌, [], pos, unsigned_abs, IsTrue, IsOkUnless, OnOk, OnErr, IfOk, IfErr};
+ghost use Rattle.std.specs.Prelude.{◌≡◌, ◌↔◌, ◌≤ℤ◌, ◌≤◌, ◌+◌, ◌*◌, ◌/◌, ◌^◌, ◌<◌, length, slice_index_or, true, ℕ, [], pos, unsigned_abs, IsTrue, IsOkUnless, OnOk, OnErr, IfOk};
 ghost use Rattle.std.specs.List.{All};
 ghost use Rattle.sled_codec.specs.Pointers.{lid_of};
 ghost use Rattle.sled_store.specs.declared.segment.slot.Slot.{Slot as SlotRecord};
-ghost use Rattle.sled_store.specs.Blobs.{RemoveAnswers};
-ghost use Rattle.sled_store.specs.Script.{Performs, after_all};
-ghost use Rattle.sled_store.specs.SegmentStates.{LiesIn, MayMark, is_active, slot_at, unused_machine, with_free_slot, next_slot, handed_out, linked, replaced, stabilized, popped, first_page};
+ghost use Rattle.sled_store.specs.SegmentStates.{LiesIn, MayMark, is_active, slot_at, unused_machine, with_free_slot, next_slot, handed_out, linked, popped, first_page};
 ghost use Rattle.sled_store.specs.Accounts.{IsAccountant, machine_of, size_of, HasRooms, HasRoomToLink, HasRoomForBlobs, GoneFits, MayHandOut, NextAnswers};
 
 mod freeing;
