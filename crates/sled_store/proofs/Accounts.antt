@@ -6,4 +6,10 @@ pub mod IndexLemmas
 pub mod MoveLemmas
 pub mod OldLemmas
 pub mod SortedLemmas
+pub mod StabilCut
+pub mod StabilDue
+pub mod StabilFirst
+pub mod StabilIndex
+pub mod StabilSlots
+pub mod StabilSteps
 pub mod WithLemmas

@@ -20,4 +20,5 @@ pub mod SegmentStates
 pub mod Segments
 pub mod SlotTables
 pub mod SnapshotFiles
+pub mod Stabilizing
 pub mod Words

@@ -9,6 +9,7 @@ ghost use Rattle.sled_store.specs.declared.segment.slot.Slot.{Slot as SlotRecord
 ghost use Rattle.sled_store.specs.SegmentStates.{LiesIn, MayMark, is_active, slot_at, unused_machine, with_free_slot, next_slot, handed_out, linked, popped, first_page};
 ghost use Rattle.sled_store.specs.Accounts.{IsAccountant, machine_of, size_of, HasRooms, HasRoomToLink, HasRoomForBlobs, GoneFits, MayHandOut, NextAnswers};
 
+mod freeing;
 mod replacing;
 
 use crate::segment::cleaner::SegmentCleaner;

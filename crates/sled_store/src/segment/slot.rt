@@ -2,7 +2,7 @@
 ghost use Rattle.std.specs.Prelude.{ℕ, ◌≡◌, ◌↔◌, false, [], ◌∷◌, ◌≤◌, ◌<◌, ◌+◌, ◌++◌, ◌⊎◌, IsTrue, IfErr, OnOk, Some, filter, length, ◌==◌, if◌then◌else◌, vec_capacity, not};
 ghost use Rattle.std.specs.Ordering.{nat_cmp};
 ghost use Rattle.std.specs.BTreeSet.{insert_key};
-ghost use Rattle.sled_store.specs.SegmentStates.{free_slot, taken_slot, linked_slot, replaced_slot, outdated, has_page, is_free, is_active, is_sparse, is_done, is_draining, waited_place, left_pages, drained_slot};
+ghost use Rattle.sled_store.specs.SegmentStates.{inactive_slot, free_slot, taken_slot, linked_slot, replaced_slot, outdated, has_page, is_free, is_active, is_sparse, is_done, is_draining, waited_place, left_pages, drained_slot};
 ghost use Rattle.sled_store.specs.Accounts.{slot_state, HasRoomToDrain, HasRoomForGone, HasRoomForBlobs, HasRoomToLink};
 
 use crate::segment::sorted::SortedSet;
@@ -80,6 +80,16 @@ impl Slot {
     {
         self.state = State::Active;
         self.lsn = lsn;
+    }
+
+    /// The segment is no longer active, and its blobs are gone.
+    pub(crate) fn deactivate(&mut self)
+        requires { is_draining self.old.state ≡ false }
+        ensures state { slot_state self.new ≡ inactive_slot (slot_state self.old) }
+        ensures room { HasRoomToDrain self.old → HasRoomToDrain self.new }
+    {
+        self.state = State::Inactive;
+        self.blobs.clear();
     }
 
     /// Takes the segment out.

@@ -1,7 +1,9 @@
 //! Keys in ascending order, each once, in a vector. Room for keys is reserved first, and a key for which there is room
 //! is put in without taking memory.
-ghost use Rattle.std.specs.Prelude.{◌≡◌, ◌≤◌, ◌<◌, ◌+◌, ◌-◌, ◌⊎◌, [], ◌∷◌, ℕ, List, length, drop, take, is_some, option_copied, slice_get, OnOk, OnErr, IsTrue};
+ghost use Rattle.std.specs.Prelude.{◌≡◌, ◌≢◌, ◌≤◌, ◌<◌, ◌+◌, ◌-◌, ◌⊎◌, [], ◌∷◌, ℕ, List, length, drop, take, is_some, option_copied, slice_get, OnOk, OnErr, IsTrue};
+ghost use Rattle.std.specs.declared.cmp.Ordering.TheVariants.{Less};
 ghost use Rattle.std.specs.List.{list_any};
+ghost use Rattle.std.specs.List.Sorted.{IsPartitionPoint, IsStrictlySortedBy};
 ghost use Rattle.std.specs.BTreeMap.{is_at};
 ghost use Rattle.std.specs.BTreeSet.{insert_key};
 ghost use Rattle.std.specs.Set.{remove_key};
@@ -72,7 +74,11 @@ impl<K: Ord + Copy> SortedSet<K> {
     }
 
     /// Returns the index of the least key that is not less than this one.
-    pub(crate) fn place(&self, key: K) -> usize {
+    pub(crate) fn place(&self, key: K) -> usize
+        ensures place { IsPartitionPoint (λ k. K.cmp k key ≡ Less) (λ k. K.cmp k key ≢ Less) self.now.0 result }
+        ensures within { result ≤ length self.now.0 }
+        ensures sorted { IsStrictlySortedBy K.cmp self.now.0 }
+    {
         match self.items.binary_search(&key) {
             Ok(at) => at,
             Err(at) => at,

@@ -133,6 +133,7 @@ impl SegmentAccountant {
         requires inactive { is_inactive (slot_at (machine_of self.old) slot).state ≡ true }
         ensures done { machine_of self.new ≡ drained slot (machine_of self.old) }
         ensures account { IsAccountant (size_of self.old) self.new }
+        ensures active { self.new.active ≡ self.old.active }
         ensures kept { (pid k : ℕ) → GoneFits pid self.old k → GoneFits pid self.new k }
     {
         let s = &mut self.slots[slot as usize];

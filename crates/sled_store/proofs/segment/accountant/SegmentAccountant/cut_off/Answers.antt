@@ -1,0 +1,56 @@
+-- What is left to be cut off is the last slot, and what is left behind it.
+use Rattle.std.proofs.Common.{◌≡◌, ◌∙◌, ℕ, sym, subst}
+use Rattle.sled_store.specs.Device.{Trace}
+use Rattle.sled_store.specs.Script.{Performs, after_all}
+use Rattle.sled_store.specs.SegmentStates.{Machine, Step}
+use Rattle.sled_store.specs.Stabilizing.{MayCut, cut_back, shorter, cutting_last}
+use Rattle.sled_store.specs.Accounts.{IsAccountant, machine_of}
+use Rattle.sled_store.proofs.Traces.ScriptLemmas.{performs_whole}
+use Rattle.sled_store.proofs.Accounts.StabilSteps.{IsMade, LeadsTo, leads_from, leads_next, leads_end, failed_first}
+use Rattle.sled_store.proofs.Accounts.StabilCut.{cut_none, cut_more}
+use Rattle.sled_store.proofs.segment.accountant.SegmentAccountant.cut_off.Goals as goal
+
+-- the last slot goes first
+last_step : ℕ → Machine → Step
+last_step size m = record { machine = shorter m; calls = cutting_last size m }
+
+module _ (size other : ℕ) (m : Machine) (mid : Trace) (whole : Step) (old : Trace) (leads : LeadsTo (cut_back size m) mid whole old) where
+  cut_on : (n : Machine) (new : Trace) → MayCut m → other ≡ size → n ≡ shorter m → new ≡ after_all (cutting_last other m) mid → LeadsTo (cut_back size n) new whole old
+  unfolding last_step
+  cut_on n new may same is made =
+      leads_from (cut_back size n) (cut_back size m) whole new mid old
+      (subst (λ (s : Step). LeadsTo (cut_back size n) new s mid) (sym (cut_more size m may))
+      (leads_next (last_step size m) (cut_back size) mid new n (record { machine = is; trace = subst (λ k. new ≡ after_all (cutting_last k m) mid) same made }))) leads
+
+  cut_failed : (new : Trace) → MayCut m → other ≡ size → Performs (cutting_last other m) mid new → Performs whole.calls old new
+  unfolding last_step
+  cut_failed new may same calls =
+      leads.calls new (subst (λ (s : Step). Performs s.calls mid new) (sym (cut_more size m may)) (failed_first (last_step size m) (cut_back size) mid new (subst (λ k. Performs (cutting_last k m) mid new) same calls)))
+
+  cut_done : (MayCut m → ⊥) → IsMade whole old m mid
+  cut_done not = leads_end m mid old whole (subst (λ (s : Step). LeadsTo s mid whole old) (cut_none size m not) leads)
+
+pub loop-self-preserved : goal.loop-self-preserved
+loop-self-preserved g c =
+    let may = c.may_cut.ensures.0 c.loop-self-test.true in
+    let same = c.loop-self.invariant.account.size_is in
+    record {
+      account = subst (λ n. IsAccountant n c.cut_last.new.self) same c.cut_last.ensures.account;
+      leads = cut_on c.args.self.now.size c.loop-self.self.size (machine_of c.loop-self.self) _ _ _ c.loop-self.invariant.leads (machine_of c.cut_last.new.self) (g.D.Device.trace c.cut_last.new.device) may same c.cut_last.ensures.machine c.in_ok-cut_last.ensures.made;
+      faults = c.in_ok-cut_last.ensures.answers ∙ c.loop-self.invariant.faults;
+      active = c.cut_last.ensures.active ∙ c.loop-self.invariant.active;
+      waiting = c.cut_last.ensures.waiting ∙ c.loop-self.invariant.waiting;
+    }
+
+pub returns-in_err-cut_last-clause-calls : goal.returns-in_err-cut_last-clause-calls
+returns-in_err-cut_last-clause-calls g c =
+    cut_failed c.args.self.now.size c.loop-self.self.size (machine_of c.loop-self.self) _ _ _ c.loop-self.invariant.leads (g.D.Device.trace c.cut_last.new.device) (c.may_cut.ensures.0 c.loop-self-test.true) c.loop-self.invariant.account.size_is c.cut_last.ensures.calls
+
+pub returns-clause-done : goal.returns-clause-done
+returns-clause-done g c = (cut_done c.args.self.now.size 0 (machine_of c.loop-self.self) _ _ _ c.loop-self.invariant.leads (λ may. let yes = c.may_cut.ensures.1 may in let no = c.loop-self-test.false in absurd (cc))).machine
+
+pub returns-clause-made : goal.returns-clause-made
+returns-clause-made g c = (cut_done c.args.self.now.size 0 (machine_of c.loop-self.self) _ _ _ c.loop-self.invariant.leads (λ may. let yes = c.may_cut.ensures.1 may in let no = c.loop-self-test.false in absurd (cc))).trace
+
+pub returns-clause-calls : goal.returns-clause-calls
+returns-clause-calls g c = performs_whole (cut_back c.args.self.now.size (machine_of c.args.self.now)).calls (g.D.Device.trace c.args.device.now) (g.D.Device.trace c.loop-self.device) (returns-clause-made g c)
