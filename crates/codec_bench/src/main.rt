@@ -9,6 +9,7 @@ mod figure;
 mod headers;
 mod logs;
 mod numbers;
+mod segments;
 mod sequence;
 
 use sequence::Sequence;
@@ -33,7 +34,8 @@ fn main(rt: HostRuntime) -> io::Result<()> {
     logs::measure(&rt, "records of 11 bytes", 10)?;
     logs::measure(&rt, "records of 200 bytes", 199)?;
     logs::measure(&rt, "records of 4000 bytes", 3997)?;
-    logs::measure_start(&rt)
+    logs::measure_start(&rt)?;
+    segments::measure(&rt)
 }
 
 // Whether `time` is among the arguments.

@@ -21,6 +21,7 @@ use sled_store::device::laws as device_laws;
 use sled_store::header::{bump_offset, incr_writers, n_writers, offset};
 use sled_store::laws as store_laws;
 use sled_store::segment::accountant::{CacheInfo, SegmentAccountant};
+use sled_store::segment::laws as segment_laws;
 use slog_lines::run_lines;
 use std::alloc::{AllocError, Global};
 use std::io::{self, BufRead, ErrorKind, Read, Write};
@@ -37,6 +38,7 @@ pub fn run(alloc: Global, tally: &mut Tally<'_>) {
     laws::one_record::<PlaceSum>();
     laws::lengths();
     laws_of_logs();
+    laws_of_segments();
     holds(tally, 1, "constants", has_constants());
     holds(tally, 2, "errors are equal", known(are_equal(alloc)));
     holds(tally, 3, "errors from std", are_from_std());
@@ -87,6 +89,23 @@ fn laws_of_logs() {
     log_laws::a_later_message_is_appended();
     log_laws::entries_stand_for_messages();
     log_laws::a_table_has_the_last_messages();
+}
+
+// The laws of the segments that come back.
+fn laws_of_segments() {
+    segment_laws::messages_are_linked_or_superseded();
+    segment_laws::entries_are_counted();
+    segment_laws::done_segments_hold_no_entry();
+    segment_laws::tables_above_the_mark_are_linked();
+    segment_laws::tables_of_more_messages_are_linked();
+    segment_laws::free_slots_are_not_needed();
+    segment_laws::former_states_may_be_marked();
+    segment_laws::messages_from_the_mark_are_linked();
+    segment_laws::segments_lie_apart();
+    segment_laws::gone_pages_are_replaced();
+    segment_laws::frees_wait_for_the_latest_replacement();
+    segment_laws::slots_hold_their_entries();
+    segment_laws::marks_free_slots();
 }
 
 // Counts a case.

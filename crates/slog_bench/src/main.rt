@@ -4,6 +4,7 @@
 //! status 1 where one does, or where a file can't be read.
 #![tactic(auto)]
 
+mod accountant;
 mod answer;
 mod calls;
 mod codecs;
@@ -34,7 +35,7 @@ use tally::Tally;
 use texts::Text;
 
 // The files under `data/`, one a kind.
-const FILES: [&str; 8] = [
+const FILES: [&str; 9] = [
     "codecs.txt",
     "segment_headers.txt",
     "words.txt",
@@ -43,6 +44,7 @@ const FILES: [&str; 8] = [
     "calls.txt",
     "slog.txt",
     "own.txt",
+    "accountant.txt",
 ];
 
 fn main(rt: HostRuntime) -> ExitCode {
@@ -92,6 +94,7 @@ fn run(alloc: Global, name: &str, text: &str, tally: &mut Tally<'_>) {
             }
         }
         "slog.txt" => scripts::run(alloc, text, tally),
+        "accountant.txt" => accountant::run(alloc, text, tally),
         _ => run_lines(alloc, name, text, tally),
     }
 }

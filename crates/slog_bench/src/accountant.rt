@@ -1,0 +1,224 @@
+//! Segments that come back: calls of the accountant, what each answers, and what it asked of the device
+//! (`data/README.md`).
+ghost use Rattle.sled_store.specs.Accounts.{IsAccountant};
+
+use crate::lines::Words;
+use crate::noted::{Calls, Noted};
+use crate::tally::Tally;
+use crate::texts::Text;
+use sled_log::config::{Config, RunningConfig};
+use sled_log::device::{MemDevice, PlaceSum};
+use sled_log::logger::DiskPtr;
+use sled_log::result::Result;
+use sled_store::segment::accountant::{CacheInfo, SegmentAccountant};
+use std::alloc::Global;
+use std::mem;
+
+// What an accountant runs on.
+type Running = RunningConfig<Noted<MemDevice>, PlaceSum>;
+
+/// Runs the cases of a file.
+pub fn run(alloc: Global, text: &str, tally: &mut Tally<'_>) {
+    let Some(config) = Config::new(256) else {
+        return;
+    };
+    let mut case = Case::new(alloc, config);
+    for (at, line) in text.lines().enumerate() {
+        if !line.starts_with('#') {
+            let mut came = Text::new(alloc);
+            case.line(line, &mut came);
+            tally.case(at.wrapping_add(1), line, came.as_str());
+        }
+    }
+}
+
+// An accountant, and the calls of the device that its last call made and that were not compared yet, the next one last.
+#[derive(Drop)]
+struct Case {
+    alloc: Global,
+    config: Running,
+    accountant: SegmentAccountant,
+    made: Vec<Text>,
+}
+
+impl Case {
+    // The accountant of an empty log file.
+    fn new(alloc: Global, config: Config) -> Case
+        ensures { IsAccountant result.config.config.segment_size result.accountant }
+    {
+        let noted = Noted {
+            device: MemDevice::new(alloc),
+            calls: Calls::new(alloc),
+        };
+        let config = RunningConfig::new(alloc, config, noted, PlaceSum);
+        let accountant = SegmentAccountant::fresh(&config);
+        Case {
+            alloc,
+            config,
+            accountant,
+            made: Vec::new(alloc),
+        }
+    }
+
+    // Runs a line, and writes it as it should be: with what was answered, or the call of the device that was made.
+    fn line(&mut self, line: &str, out: &mut Text)
+        requires { IsAccountant self.old.config.config.segment_size self.old.accountant }
+        ensures { IsAccountant self.new.config.config.segment_size self.new.accountant }
+    {
+        if let Some(call) = self.made.pop() {
+            out.push(call.as_str());
+            return;
+        }
+        let (asked, _) = line.split_once(" = ").unwrap_or((line, ""));
+        out.push(asked);
+        let mut words = Words::new(asked);
+        match words.word() {
+            "case" | "end" => {}
+            "size" => self.begin(words.number(), out),
+            name => {
+                self.call(name, &mut words, out);
+                self.keep_calls();
+            }
+        }
+    }
+
+    // Begins with an empty log file, and segments of this size.
+    fn begin(&mut self, size: u64, out: &mut Text)
+        requires { IsAccountant self.old.config.config.segment_size self.old.accountant }
+        ensures { IsAccountant self.new.config.config.segment_size self.new.accountant }
+    {
+        match Config::new(size) {
+            Some(config) => *self = Case::new(self.alloc, config),
+            None => out.push(": no size of segments"),
+        }
+    }
+
+    // Makes the call of this name.
+    fn call(&mut self, name: &str, words: &mut Words<'_>, out: &mut Text)
+        requires { IsAccountant self.old.config.config.segment_size self.old.accountant }
+        ensures { IsAccountant self.new.config.config.segment_size self.new.accountant }
+    {
+        match name {
+            "next" => self.next(words.signed(), out),
+            "link" => self.link(words.number(), info(words), out),
+            "replace" => self.replace(words.number(), info(words), words, out),
+            "stabilize" => self.stabilize(words.signed(), out),
+            "pop" => self.pop(out),
+            _ => out.push(": no such call"),
+        }
+    }
+
+    fn next(&mut self, place: i64, out: &mut Text)
+        requires { IsAccountant self.old.config.config.segment_size self.old.accountant }
+        ensures { IsAccountant self.new.config.config.segment_size self.new.accountant }
+    {
+        if place < 0 {
+            out.push(": a negative place");
+            return;
+        }
+        match self.accountant.next(&mut self.config, place) {
+            Ok(offset) => {
+                out.push(" = ");
+                out.number(offset);
+            }
+            Err(e) => out.error(&e),
+        }
+    }
+
+    fn link(&mut self, page: u64, info: CacheInfo, out: &mut Text)
+        requires { IsAccountant self.old.config.config.segment_size self.old.accountant }
+        ensures { IsAccountant self.new.config.config.segment_size self.new.accountant }
+    {
+        if !self.accountant.can_mark(info, &[]) {
+            out.push(": may not be marked");
+            return;
+        }
+        told(self.accountant.mark_link(&mut self.config, page, info), out);
+    }
+
+    fn replace(&mut self, page: u64, info: CacheInfo, words: &mut Words<'_>, out: &mut Text)
+        requires { IsAccountant self.old.config.config.segment_size self.old.accountant }
+        ensures { IsAccountant self.new.config.config.segment_size self.new.accountant }
+    {
+        let old = infos(self.alloc, words);
+        if !self.accountant.can_mark(info, &old) {
+            out.push(": may not be marked");
+            return;
+        }
+        let answer = self
+            .accountant
+            .mark_replace(&mut self.config, page, info.lsn, &old, info);
+        told(answer, out);
+    }
+
+    fn stabilize(&mut self, mark: i64, out: &mut Text)
+        requires { IsAccountant self.old.config.config.segment_size self.old.accountant }
+        ensures { IsAccountant self.new.config.config.segment_size self.new.accountant }
+    {
+        if let Err(e) = self.accountant.stabilize(&mut self.config, mark) {
+            out.error(&e);
+            self.accountant = SegmentAccountant::fresh(&self.config);
+        }
+    }
+
+    fn pop(&mut self, out: &mut Text)
+        requires { IsAccountant self.old.config.config.segment_size self.old.accountant }
+        ensures { IsAccountant self.new.config.config.segment_size self.new.accountant }
+    {
+        out.push(" = ");
+        match self.accountant.clean_pop() {
+            Some((page, offset)) => {
+                out.number(page);
+                out.push(" ");
+                out.number(offset);
+            }
+            None => out.push("-"),
+        }
+    }
+
+    // Keeps the calls of the device that were made.
+    fn keep_calls(&mut self)
+        ensures config { self.new.config.config ≡ self.old.config.config }
+        ensures accountant { self.new.accountant ≡ self.old.accountant }
+    {
+        let calls = mem::replace(&mut self.config.device.calls, Calls::new(self.alloc));
+        self.made = calls.lines;
+        self.made.reverse();
+    }
+}
+
+// Writes an error, where there is one.
+fn told(answer: Result<()>, out: &mut Text) {
+    if let Err(e) = answer {
+        out.error(&e);
+    }
+}
+
+// A message: its place, its offset in the file and its length.
+fn info(words: &mut Words<'_>) -> CacheInfo {
+    CacheInfo {
+        lsn: words.signed(),
+        pointer: DiskPtr::Inline(words.number()),
+        log_size: words.number(),
+    }
+}
+
+// The older messages, behind a colon: each in parentheses.
+fn infos(alloc: Global, words: &mut Words<'_>) -> Vec<CacheInfo> {
+    let mut old = Vec::new(alloc);
+    let _colon = words.word();
+    for _ in 0..u64::MAX {
+        let Some(first) = words.next_word() else {
+            break;
+        };
+        let lsn = words.noted(first.strip_prefix('('), "a message stands in parentheses");
+        let lid = words.number();
+        let last = words.word().strip_suffix(')').unwrap_or("");
+        let _ = old.push(CacheInfo {
+            lsn: lsn.unwrap_or("").parse().unwrap_or(0),
+            pointer: DiskPtr::Inline(lid),
+            log_size: last.parse().unwrap_or(0),
+        });
+    }
+    old
+}
