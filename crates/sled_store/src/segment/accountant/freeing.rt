@@ -31,8 +31,10 @@ impl SegmentAccountant {
     ) -> Result<()>
         requires account { IsAccountant config.old.config.segment_size self.old }
         ensures done { OnOk result (machine_of self.new ≡ (stabilized config.old.config.segment_size mark (machine_of self.old)).machine) }
-        ensures made { OnOk result (D.trace config.new.device ≡ after_all (stabilized config.old.config.segment_size mark (machine_of self.old)).calls (D.trace config.old.device)) }
-        ensures calls { Performs (stabilized config.old.config.segment_size mark (machine_of self.old)).calls (D.trace config.old.device) (D.trace config.new.device) }
+        ensures made { OnOk result (D.trace config.new.device
+            ≡ after_all (stabilized config.old.config.segment_size mark (machine_of self.old)).calls (D.trace config.old.device)) }
+        ensures calls { Performs (stabilized config.old.config.segment_size mark (machine_of self.old)).calls
+            (D.trace config.old.device) (D.trace config.new.device) }
         ensures answers { RemoveAnswers result (D.faults config.old.device) (D.faults config.new.device) }
         ensures memory { IfErr result (λ e. e ≢ Error.OutOfMemory) }
         ensures account { OnOk result (IsAccountant config.old.config.segment_size self.new) }
@@ -58,7 +60,8 @@ impl SegmentAccountant {
         requires slot { slot < length (machine_of self.old).slots }
         requires active { active_place (slot_at (machine_of self.old) slot) ≡ Some place }
         ensures done { OnOk result (machine_of self.new ≡ (deactivated (size_of self.old) (place, slot) (machine_of self.old)).machine) }
-        ensures made { OnOk result (D.trace device.new ≡ after_all (deactivated (size_of self.old) (place, slot) (machine_of self.old)).calls (D.trace device.old)) }
+        ensures made { OnOk result (D.trace device.new
+            ≡ after_all (deactivated (size_of self.old) (place, slot) (machine_of self.old)).calls (D.trace device.old)) }
         ensures calls { Performs (deactivated (size_of self.old) (place, slot) (machine_of self.old)).calls (D.trace device.old) (D.trace device.new) }
         ensures answers { RemoveAnswers result (D.faults device.old) (D.faults device.new) }
         ensures memory { IfErr result (λ e. e ≢ Error.OutOfMemory) }
@@ -160,7 +163,8 @@ impl SegmentAccountant {
     fn may_be_freed(&self, slot: u64) -> bool
         requires account { IsAccountant (size_of self.now) self.now }
         requires slot { slot < length (machine_of self.now).slots }
-        ensures { result ≡ (is_done (slot_at (machine_of self.now) slot) && not (is_active_place (machine_of self.now) (slot_at (machine_of self.now) slot).latest)) }
+        ensures { result ≡ (is_done (slot_at (machine_of self.now) slot)
+            && not (is_active_place (machine_of self.now) (slot_at (machine_of self.now) slot).latest)) }
     {
         let s = &self.slots[slot as usize];
         s.is_done() && !self.is_active_place(s.latest)
