@@ -18,19 +18,19 @@ use std::time::Instant;
 type MemoryLog = Log<MemDevice, PlaceSum>;
 
 /// What such a log runs on.
-pub type Running = RunningConfig<MemDevice, PlaceSum>;
+type Running = RunningConfig<MemDevice, PlaceSum>;
 
 /// How many pages are replaced, one behind another and again from the first. Each takes one byte in a header.
 const PAGES: u64 = 200;
 
 /// The segments that are filled.
-pub const SEGMENT_SIZE: u64 = 524288;
+const SEGMENT_SIZE: u64 = 524288;
 
 /// The longest segments that there are.
 const LONGEST_SEGMENT: u64 = 8388608;
 
 /// What a log in segments of this size runs on, on a device that has nothing yet.
-pub fn empty(alloc: Global, segment_size: u64) -> io::Result<Running> {
+fn empty(alloc: Global, segment_size: u64) -> io::Result<Running> {
     match Config::new(segment_size) {
         Some(config) => Ok(RunningConfig::new(alloc, config, MemDevice::new(alloc), PlaceSum)),
         None => Err(io::Error::other("no segments have this size")),

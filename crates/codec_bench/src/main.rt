@@ -9,7 +9,6 @@ mod figure;
 mod headers;
 mod logs;
 mod numbers;
-mod segments;
 mod sequence;
 
 use sequence::Sequence;
@@ -34,8 +33,7 @@ fn main(rt: HostRuntime) -> io::Result<()> {
     logs::measure(&rt, "records of 11 bytes", 10)?;
     logs::measure(&rt, "records of 200 bytes", 199)?;
     logs::measure(&rt, "records of 4000 bytes", 3997)?;
-    logs::measure_start(&rt)?;
-    segments::measure(&rt)
+    logs::measure_start(&rt)
 }
 
 // Whether `time` is among the arguments.

@@ -1,5 +1,6 @@
 //! Segments that come back: calls of the accountant, what each answers, and what it asked of the device
 //! (`data/README.md`).
+ghost use Rattle.std.specs.Prelude.{◌≡◌};
 ghost use Rattle.sled_store.specs.Accounts.{IsAccountant};
 
 use crate::lines::Words;

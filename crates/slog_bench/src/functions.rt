@@ -313,8 +313,7 @@ fn collects_blobs(alloc: Global) -> Result<bool> {
     Ok(config.device.blobs()?.as_slice() == [20].as_slice())
 }
 
-// Segments 0 and 256 get slots 0 and 1. A message of segment 0 may be marked in slot 0 and not in slot 1, and nothing is to be
-// written again yet.
+// Segments 0 and 256 get slots 0 and 1. A message of segment 0 may be marked, and one of segment 1 may not be in slot 0.
 fn hands_out(alloc: Global) -> Result<bool> {
     let mut config = empty(alloc)?;
     let mut accountant = SegmentAccountant::fresh(&config);
@@ -327,7 +326,7 @@ fn hands_out(alloc: Global) -> Result<bool> {
     if is_marked {
         accountant.mark_link(&mut config, 0, here)?;
     }
-    Ok(is_marked && slots == (0, 256) && accountant.clean_pop().is_none())
+    Ok(is_marked && slots == (0, 256))
 }
 
 // A record of 10 bytes, as the accountant knows it.
