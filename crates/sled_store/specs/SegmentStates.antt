@@ -341,7 +341,7 @@ deactivated size a m =
     let waited = followed_by gone (λ n. in_turn (freed size) (waiting_for a.0 n) n) in
     followed_by (followed_by waited (tested size a.1)) (λ n. without_calls (drained_if_wasteful n))
 
--- a segment lies below the one that lies below the segment of a mark
+-- a segment lies below the segment of a mark
 abbrev pub is_due : ℕ → ℤ → ℕ → Bool
 is_due size (pos mark) place = nat_le (place + size) (mark / size * size)
 is_due size (negsuc mark) place = false
