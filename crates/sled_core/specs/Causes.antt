@@ -55,14 +55,6 @@ StartAnswers (Err (Corruption at)) in_reach before after = (after ≡ before) ×
 StartAnswers (Err PlacesUsedUp) in_reach before after = (after ≡ before) × (in_reach → ⊥)
 StartAnswers (Err _) in_reach before after = ⊥
 
--- Why a log was not started: it can't begin on the snapshot, or no further segment is in reach, and then nothing was written; or the device failed, or memory was refused.
-abbrev pub StartRefuses : Error → (startable in_reach unwritten : Type 0) → ℕ → ℕ → Type 0
-StartRefuses (Io e) startable in_reach unwritten before after = IsTrue (is_fault e) × (after ≡ (before + 1) % 2 ^ 64)
-StartRefuses OutOfMemory startable in_reach unwritten before after = after ≡ before
-StartRefuses (Corruption at) startable in_reach unwritten before after = (at ≡ None) × (startable → ⊥) × unwritten × (after ≡ before)
-StartRefuses PlacesUsedUp startable in_reach unwritten before after = (in_reach → ⊥) × unwritten × (after ≡ before)
-StartRefuses _ startable in_reach unwritten before after = ⊥
-
 -- A read of the log: as each call that may touch the device, and damage besides.
 abbrev pub ReadAnswers : {T : Type 0} → Result T Error → Option IoError → Option IoError → ℕ → ℕ → Type 0
 ReadAnswers (Ok _) old new before after = (old ≡ None) × (new ≡ None) × (after ≡ before)

@@ -5,7 +5,7 @@ use Rattle.sled_codec.specs.Snapshots.{SnapshotModel, stable_place}
 use Rattle.sled_store.specs.declared.config.RunningConfig.{RunningConfig}
 use Rattle.sled_core.specs.declared.logger.Log.{Log}
 use Rattle.sled_store.specs.Begin.{offset_at, place_at}
-use Rattle.sled_core.specs.Causes.{StartRefuses}
+use Rattle.sled_store.specs.Causes.{StartRefuses}
 use Rattle.sled_core.specs.Fits.{NoneOpen, config_of, fault_of, next_place, pins_of, segment_size_of, synced_end}
 
 -- what the log that was started runs on, or what came back where none was

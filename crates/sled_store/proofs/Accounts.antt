@@ -12,4 +12,7 @@ pub mod StabilFirst
 pub mod StabilIndex
 pub mod StabilSlots
 pub mod StabilSteps
+pub mod StartIndex
+pub mod StartPages
+pub mod StartSlots
 pub mod WithLemmas

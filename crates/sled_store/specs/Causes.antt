@@ -19,3 +19,11 @@ CheckAnswers (Err OutOfMemory) in_reach = Unit {0}
 CheckAnswers (Err (Corruption at)) in_reach = at ≡ None
 CheckAnswers (Err PlacesUsedUp) in_reach = in_reach → ⊥
 CheckAnswers (Err _) in_reach = ⊥
+
+-- Why a log was not started: it can't begin on the snapshot, or no further segment is in reach, and then nothing was written; or the device failed, or memory was refused.
+abbrev pub StartRefuses : Error → (startable in_reach unwritten : Type 0) → ℕ → ℕ → Type 0
+StartRefuses (Io e) startable in_reach unwritten before after = IsTrue (is_fault e) × (after ≡ (before + 1) % 2 ^ 64)
+StartRefuses OutOfMemory startable in_reach unwritten before after = after ≡ before
+StartRefuses (Corruption at) startable in_reach unwritten before after = (at ≡ None) × (startable → ⊥) × unwritten × (after ≡ before)
+StartRefuses PlacesUsedUp startable in_reach unwritten before after = (in_reach → ⊥) × unwritten × (after ≡ before)
+StartRefuses _ startable in_reach unwritten before after = ⊥

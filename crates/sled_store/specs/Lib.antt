@@ -21,4 +21,6 @@ pub mod Segments
 pub mod SlotTables
 pub mod SnapshotFiles
 pub mod Stabilizing
+pub mod Started
+pub mod Starting
 pub mod Words

@@ -24,7 +24,8 @@ use Rattle.sled_store.proofs.LogFile.LogLemmas.{at_rest_left}
 use Rattle.sled_store.proofs.Names.NamesLemmas.{settled_name_left, settled_name_at_rest}
 use Rattle.sled_store.proofs.Traces.ScriptLemmas.{performs_throughout, performs_whole}
 use Rattle.sled_store.proofs.Crashes.SettledLemmas.{settled_left_too}
-use Rattle.sled_core.specs.Causes.{Answers, FaultAnswers, ReserveAnswers, StartRefuses}
+use Rattle.sled_core.specs.Causes.{Answers, FaultAnswers, ReserveAnswers}
+use Rattle.sled_store.specs.Causes.{StartRefuses}
 use Rattle.sled_store.specs.Causes.{DeviceAnswers}
 use Rattle.sled_core.specs.Fits.{config_of, device_of, segment_size_of}
 use Rattle.sled_core.specs.Recoverable.{NoForeign, Recoverable, LeavesRecoverable}

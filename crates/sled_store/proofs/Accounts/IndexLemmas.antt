@@ -80,7 +80,7 @@ apart p q differ is = by (nat_cmp p.0 q.0) is
 
 -- Slots by their places.
 
-beside_commutes : (a b : Option ℕ) (i j : ℕ) → (i ≡ j → ⊥) → (l : List (ℕ × ℕ)) → beside a i (beside b j l) ≡ beside b j (beside a i l)
+pub beside_commutes : (a b : Option ℕ) (i j : ℕ) → (i ≡ j → ⊥) → (l : List (ℕ × ℕ)) → beside a i (beside b j l) ≡ beside b j (beside a i l)
 beside_commutes None b i j differ l = refl
 beside_commutes (Some p) None i j differ l = refl
 beside_commutes (Some p) (Some q) i j differ l = insert_commutes by_place_total (q, j) (p, i) (apart (q, j) (p, i) (λ same. differ (sym same))) l

@@ -11,6 +11,7 @@ ghost use Rattle.sled_store.specs.Accounts.{IsAccountant, machine_of, size_of, H
 
 mod freeing;
 mod replacing;
+mod starting;
 
 use crate::segment::cleaner::SegmentCleaner;
 pub use crate::segment::slot::CacheInfo;

@@ -8,6 +8,8 @@ ghost use Rattle.sled_codec.specs.Snapshots.{model_of, is_sound, stable_place};
 ghost use Rattle.sled_store.specs.Script.{Performs, after_all};
 ghost use Rattle.sled_store.specs.Begin.{slots_of, is_used, IsStartable, not_below, fill, filling, first_of, IsInReach, place_at, beginning_at};
 ghost use Rattle.sled_store.specs.Causes.{DeviceAnswers, CheckAnswers};
+ghost use Rattle.sled_store.specs.SlotTables.{IsSlotTable};
+ghost use Rattle.sled_store.specs.Started.{all_entries};
 
 use crate::segment::slot_table::{Limits, SlotTable};
 use crate::{Device, RunningConfig};
@@ -39,6 +41,7 @@ pub fn check_snapshot(
     requires small { size < 2 ^ 32 }
     ensures startable { OnOk result (IsStartable size len (model_of snapshot.now)) }
     ensures used { IfOk result (λ b. (k : ℕ) → is_some (get nat_cmp b.0.held k) ≡ is_used size (model_of snapshot.now) k) }
+    ensures table { IfOk result (λ b. IsSlotTable size b.0 (all_entries (model_of snapshot.now))) }
     ensures slots { IfOk result (λ b. b.1 ≡ slots_of size len) }
     ensures corrupt { IsCorruption result → IsStartable size len (model_of snapshot.now) → ⊥ }
     ensures answers { CheckAnswers result (IsInReach size len (model_of snapshot.now)) }
@@ -100,6 +103,7 @@ fn slot_table_of(alloc: Global, size: u64, len: u64, snapshot: &Snapshot) -> Res
     requires small { len + size < 2 ^ 64 }
     ensures startable { OnOk result (IsStartable size len (model_of snapshot.now)) }
     ensures used { IfOk result (λ b. (k : ℕ) → is_some (get nat_cmp b.held k) ≡ is_used size (model_of snapshot.now) k) }
+    ensures table { IfOk result (λ b. IsSlotTable size b (all_entries (model_of snapshot.now))) }
     ensures corrupt { IsCorruption result → IsStartable size len (model_of snapshot.now) → ⊥ }
     ensures errors { IfErr result IsDecodeError }
 {

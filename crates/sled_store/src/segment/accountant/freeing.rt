@@ -218,7 +218,7 @@ impl SegmentAccountant {
     }
 
     /// Cuts off free slots at the end of the file while another one is left.
-    fn cut_off<D: Device>(&mut self, device: &mut D) -> Result<()>
+    pub(super) fn cut_off<D: Device>(&mut self, device: &mut D) -> Result<()>
         requires { IsAccountant (size_of self.old) self.old }
         ensures done { OnOk result (machine_of self.new ≡ (cut_back (size_of self.old) (machine_of self.old)).machine) }
         ensures made { OnOk result (D.trace device.new ≡ after_all (cut_back (size_of self.old) (machine_of self.old)).calls (D.trace device.old)) }
