@@ -1,5 +1,5 @@
 -- The parts of a start of an accountant: what each of its steps makes of the slots.
-use Rattle.std.specs.Prelude.{◌≡◌, ◌*◌, ◌^◌, ◌<◌, ℕ, suc, List, [], ◌∷◌, length, set, slice_index_or, Option, None, Some}
+use Rattle.std.specs.Prelude.{◌≡◌, ◌*◌, ◌^◌, ◌<◌, ℕ, suc, List, [], ◌∷◌, set, slice_index_or, Option, None, Some}
 use Rattle.std.specs.List.{All}
 use Rattle.sled_codec.specs.Snapshots.{Entry, Page, SnapshotModel, stable_place}
 use Rattle.sled_store.specs.declared.segment.slot_table.SlotTable.{SlotTable}

@@ -1,9 +1,8 @@
 -- One more slot behind others is noted in the index that it belongs to.
-use Rattle.std.proofs.Common.{◌≡◌, ◌∙◌, ℕ, suc, ◌+◌, ◌<◌, ◌≤◌, Bool, true, false, cond, List, [], ◌∷◌, ◌++◌, length, get_or, map, take, Option, None, Some, refl, sym, ap, subst, arith}
-use Rattle.std.proofs.lemmas.List.{take_more, get_or-map, length-map}
+use Rattle.std.proofs.Common.{◌≡◌, ◌∙◌, ℕ, suc, ◌+◌, ◌≤◌, Bool, true, false, cond, List, [], ◌∷◌, ◌++◌, length, Option, None, Some, sym, ap, arith}
 use Rattle.std.specs.Ordering.{match_ordering, nat_cmp}
 use Rattle.std.specs.BTreeSet.{insert_key}
-use Rattle.sled_store.specs.SegmentStates.{SlotState, slots_where, slots_by, beside, by_place, is_free, is_inactive, is_active, active_place, free_among, inactive_among, active_among}
+use Rattle.sled_store.specs.SegmentStates.{SlotState, slots_where, slots_by, beside, by_place, is_free, is_inactive, is_active, active_place, active_among}
 use Rattle.sled_store.specs.declared.segment.slot.State.{State}
 use Rattle.sled_store.specs.declared.segment.slot.State.TheVariants.{Free, Active, Inactive, Draining}
 use Rattle.sled_store.specs.Starting.{AreNoted}

@@ -1,8 +1,8 @@
 -- Once its pages are linked, a slot has what its entries sum up to and the pages that have them.
-use Rattle.std.proofs.Common.{◌≡◌, ◌≢◌, ◌==◌, ◌||◌, ◌∙◌, inl, inr, ℕ, suc, min, ◌+◌, ◌-◌, ◌^◌, ◌<◌, ◌≤◌, Bool, true, false, cond, if◌then◌else◌, List, [], ◌∷◌, ◌++◌, length, get_or, set, refl, sym, ap, subst, arith, length-set, get_or-set_same, get_or-set_other, append_assoc}
+use Rattle.std.proofs.Common.{◌≡◌, ◌==◌, ◌||◌, ◌∙◌, inl, inr, ℕ, suc, ◌+◌, ◌-◌, ◌^◌, ◌<◌, ◌≤◌, Bool, true, false, cond, if◌then◌else◌, List, [], ◌∷◌, ◌++◌, length, get_or, set, map, refl, sym, ap, subst, arith, length-set, get_or-set_same, get_or-set_other, append_assoc}
 use Rattle.std.proofs.lemmas.Bool.Decides.{eqb_tells}
 use Rattle.std.proofs.lemmas.List.{append-nil}
-use Rattle.std.proofs.lemmas.List.Elements.{All-cons, All-tail, All-push}
+use Rattle.std.proofs.lemmas.List.Elements.{All-tail, All-push}
 use Rattle.std.proofs.lemmas.List.Sums.{sum_by-append, sum_by-cons}
 use Rattle.std.specs.List.{All, list_any}
 use Rattle.std.specs.declared.cmp.Ordering.{Ordering}
@@ -12,8 +12,11 @@ use Rattle.std.specs.BTreeSet.{insert_key}
 use Rattle.sled_codec.specs.Snapshots.{Entry, Page}
 use Rattle.sled_store.specs.Begin.{entries_in, entries_of, slot_of, sizes_in}
 use Rattle.sled_store.specs.SegmentStates.{SlotState, counted, linked_slot, free_slot}
+use Rattle.sled_store.specs.declared.segment.slot.Slot.{Slot}
+use Rattle.sled_store.specs.Accounts.{slot_state}
 use Rattle.sled_store.specs.Started.{pages_in}
 use Rattle.sled_store.specs.Starting.{entry_linked, entries_linked, pages_linked}
+use Rattle.sled_store.proofs.Accounts.AccountLemmas.{length_states}
 use Rattle.sled_store.proofs.Accounts.StabilIndex.{same_is, greater_is}
 
 -- a page that is greater than others comes behind them
@@ -73,11 +76,11 @@ module _ (size k : ℕ) where
       → get_or (entry_linked size i e slots) k free_slot ≡ cond (slot_of size e == k) (linked_slot i e.2 (get_or slots k free_slot)) (get_or slots k free_slot)
   one_linked i e slots lt = elim (eqb_tells (slot_of size e) k) [
     | inl same ↦
-      subst (λ j. get_or (set slots j (linked_slot i e.2 (get_or slots j free_slot))) k free_slot ≡ linked_slot i e.2 (get_or slots k free_slot)) (sym same.1) (get_or-set_same slots k (linked_slot i e.2 (get_or slots k free_slot)) free_slot lt)
-      ∙ sym (ap (λ b. cond b (linked_slot i e.2 (get_or slots k free_slot)) (get_or slots k free_slot)) same.0)
+        subst (λ j. get_or (set slots j (linked_slot i e.2 (get_or slots j free_slot))) k free_slot ≡ linked_slot i e.2 (get_or slots k free_slot)) (sym same.1) (get_or-set_same slots k (linked_slot i e.2 (get_or slots k free_slot)) free_slot lt)
+        ∙ sym (ap (λ b. cond b (linked_slot i e.2 (get_or slots k free_slot)) (get_or slots k free_slot)) same.0)
     | inr other ↦
-      get_or-set_other slots (slot_of size e) k (linked_slot i e.2 (get_or slots (slot_of size e) free_slot)) free_slot (λ is. other.1 (sym is))
-      ∙ sym (ap (λ b. cond b (linked_slot i e.2 (get_or slots k free_slot)) (get_or slots k free_slot)) other.0)
+        get_or-set_other slots (slot_of size e) k (linked_slot i e.2 (get_or slots (slot_of size e) free_slot)) free_slot (λ is. other.1 (sym is))
+        ∙ sym (ap (λ b. cond b (linked_slot i e.2 (get_or slots k free_slot)) (get_or slots k free_slot)) other.0)
   ]
 
   linked_read : (i : ℕ) (es : List Entry) (slots : List SlotState) → k < length slots → (get_or slots k free_slot).held ≤ 2 ^ 64 - 1
@@ -114,3 +117,7 @@ module _ (size k : ℕ) where
           ≡ (get_or slots k free_slot).pages ++ cond b (i ∷ pages_in size k (suc i) ps) (pages_in size k (suc i) ps)
       by true = ap (λ l. l ++ pages_in size k (suc i) ps) (insert_behind (get_or slots k free_slot).pages i below) ∙ append_assoc (get_or slots k free_slot).pages (i ∷ []) (pages_in size k (suc i) ps)
       by false = refl
+
+-- as many slots as before
+pub count_kept : (xs ys : List Slot) (l : List SlotState) → map slot_state xs ≡ l → length l ≡ length (map slot_state ys) → length xs ≡ length ys
+count_kept xs ys l is same = sym (length_states xs) ∙ ap length is ∙ same ∙ length_states ys

@@ -1,6 +1,6 @@
 -- What a snapshot has in the slots of a file is found: the slots that are begun and linked are these, and an accountant may keep them.
 use Rattle.std.proofs.Common.{◌≡◌, ◌==◌, ◌||◌, ◌∙◌, ◌⊎◌, inl, inr, ℕ, zero, suc, ◌+◌, ◌-◌, ◌*◌, ◌/◌, ◌^◌, ◌<◌, ◌≤◌, Bool, true, false, cond, List, [], ◌∷◌, ◌++◌, length, get_or, map, Option, Some, None, IfSome, option_map, unsigned_abs, refl, sym, ap, subst, arith}
-use Rattle.std.proofs.Math.Nat.{div-mul-le_self}
+use Rattle.std.proofs.Math.Nat.{div-mul-le_self, lt-div-mul-add}
 use Rattle.std.proofs.lemmas.List.{ext_get_or, get_or_past}
 use Rattle.std.proofs.lemmas.List.FromFn.{get_or-map-range_with_len, length-map-range_with_len}
 use Rattle.std.proofs.lemmas.List.Elements.{All-tail, All-append}
@@ -9,8 +9,8 @@ use Rattle.std.specs.Ordering.{nat_cmp}
 use Rattle.std.specs.BTreeMap.{get}
 use Rattle.sled_codec.specs.Snapshots.{Entry, Page, SnapshotModel, stable_place}
 use Rattle.sled_store.specs.declared.segment.slot_table.SlotTable.{SlotTable}
-use Rattle.sled_store.specs.Begin.{entries_in, entries_of, slot_of, segment_number_of, sizes_in, is_active}
-use Rattle.sled_store.specs.SlotTables.{number_in, active_entry}
+use Rattle.sled_store.specs.Begin.{entries_in, entries_of, slot_of, segment_number_of, sizes_in, slots_of, place_at, is_active, IsPlacedIn, IsStartable, IsInReach}
+use Rattle.sled_store.specs.SlotTables.{number_in, active_entry, IsSlotTable}
 use Rattle.sled_store.specs.SegmentStates.{SlotState, free_slot, is_free, waited_place, waiting_among, slots_by, counted}
 use Rattle.sled_store.specs.Accounts.{AreSlots}
 use Rattle.sled_store.specs.Started.{pages_in, all_entries, used_state, found_slot, found}
@@ -151,3 +151,16 @@ module _ (size slots : ℕ) (s : SnapshotModel) (t : SlotTable) (fills : FillsSl
       none : (i a n : ℕ) → slots_by waited_place i (map (λ k. found_slot size s k (number_in size k (all_entries s))) (range_with_len a n)) ≡ []
       none i a zero = refl
       none i a (suc n) = let rest = none (suc i) (a + 1) n in let first = waits_for a (number_in size a (all_entries s)) in cc
+
+-- what was asked of the snapshot is what the slots need
+pub fills_slots : (size len slots : ℕ) (s : SnapshotModel) (t : SlotTable) → 0 < size → slots ≡ slots_of size len → IsSlotTable size t (all_entries s) → IsStartable size len s → IsInReach size len s → FillsSlots size slots s t
+fills_slots size len slots s t some is table may reach = record {
+  table = table;
+  placed = subst (λ n. All (IsPlacedIn size n (stable_place s.stable)) (entries_of s.pages)) (sym is) may.placed;
+  counted = may.counted;
+  stable = small (stable_place s.stable) s.active reach.places;
+  in_reach = subst (λ n. n * size < 2 ^ 63) (sym is) (omega (arith, reach.slots));
+} where
+  small : (stable : ℕ) (a : Option ℕ) → place_at size stable a + size < 2 ^ 63 → stable < 2 ^ 63
+  small stable None places = let long : stable + (size - 1) < (stable + (size - 1)) / size * size + size = lt-div-mul-add some in omega (arith, places, long, some)
+  small stable (Some a) places = let long : stable < stable / size * size + size = lt-div-mul-add some in omega (arith, places, long)

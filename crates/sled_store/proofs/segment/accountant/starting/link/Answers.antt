@@ -1,7 +1,7 @@
 -- One slot changes: it is linked.
 use Rattle.std.proofs.Common.{◌≡◌, ◌∙◌, ◌/◌, ◌<◌, ℕ, List, length, map, set, get_or, ap, sym, subst}
 use Rattle.sled_store.specs.Begin.{slot_of}
-use Rattle.sled_store.specs.SegmentStates.{SlotState, linked_slot, free_slot}
+use Rattle.sled_store.specs.SegmentStates.{linked_slot, free_slot}
 use Rattle.sled_store.specs.declared.segment.slot.Slot.{Slot}
 use Rattle.sled_store.specs.Accounts.{slot_state}
 use Rattle.sled_store.proofs.Accounts.AccountLemmas.{state_at, states_set}
