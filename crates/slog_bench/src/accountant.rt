@@ -3,14 +3,16 @@
 ghost use Rattle.std.specs.Prelude.{◌≡◌};
 ghost use Rattle.sled_store.specs.Accounts.{IsAccountant};
 
+use crate::codecs::Shown;
 use crate::lines::Words;
 use crate::noted::{Calls, Noted};
 use crate::tally::Tally;
 use crate::texts::Text;
 use sled_log::config::{Config, RunningConfig};
-use sled_log::device::{MemDevice, PlaceSum};
+use sled_log::device::{Device, MemDevice, PlaceSum};
 use sled_log::logger::DiskPtr;
 use sled_log::result::Result;
+use sled_log::snapshot::Snapshot;
 use sled_store::segment::accountant::{CacheInfo, SegmentAccountant};
 use std::alloc::Global;
 use std::mem;
@@ -76,6 +78,7 @@ impl Case {
         match words.word() {
             "case" | "end" => {}
             "size" => self.begin(words.number(), out),
+            "start" => self.start(words.number(), asked, out),
             name => {
                 self.call(name, &mut words, out);
                 self.keep_calls();
@@ -92,6 +95,29 @@ impl Case {
             Some(config) => *self = Case::new(self.alloc, config),
             None => out.push(": no size of segments"),
         }
+    }
+
+    // Starts on a log file of so many zeros and on the snapshot behind a colon.
+    fn start(&mut self, len: u64, asked: &str, out: &mut Text)
+        requires { IsAccountant self.old.config.config.segment_size self.old.accountant }
+        ensures { IsAccountant self.new.config.config.segment_size self.new.accountant }
+    {
+        let (_, text) = asked.split_once(" : ").unwrap_or(("", ""));
+        let device = &mut self.config.device.device;
+        let is_filled = len == 0 || device.write_at(len - 1, &[0]).is_ok();
+        match Snapshot::of_text(self.alloc, text) {
+            Some(snapshot) if is_filled => {
+                match SegmentAccountant::start(&mut self.config, &snapshot) {
+                    Ok(accountant) => self.accountant = accountant,
+                    Err(e) => {
+                        out.push(" = ");
+                        out.error(&e);
+                    }
+                }
+            }
+            _ => out.push(": no log file and snapshot"),
+        }
+        self.keep_calls();
     }
 
     // Makes the call of this name.
@@ -131,7 +157,7 @@ impl Case {
         ensures { IsAccountant self.new.config.config.segment_size self.new.accountant }
     {
         if !self.accountant.can_mark(info, &[]) {
-            out.push(": may not be marked");
+            out.push(" = may not be marked");
             return;
         }
         told(self.accountant.mark_link(&mut self.config, page, info), out);
@@ -143,7 +169,7 @@ impl Case {
     {
         let old = infos(self.alloc, words);
         if !self.accountant.can_mark(info, &old) {
-            out.push(": may not be marked");
+            out.push(" = may not be marked");
             return;
         }
         let answer = self

@@ -61,7 +61,7 @@ fn of_parts(case: &Case<'_>, name: &str, out: &mut Text) {
 }
 
 /// A type whose values stand in the lines of this file.
-trait Shown: Serialize + Drop {
+pub trait Shown: Serialize + Drop {
     /// The value of a text; `None` where it is none, or memory is refused.
     fn of_text(alloc: Global, text: &str) -> Option<Self>;
 
