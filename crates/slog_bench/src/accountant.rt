@@ -78,7 +78,10 @@ impl Case {
         match words.word() {
             "case" | "end" => {}
             "size" => self.begin(words.number(), out),
-            "start" => self.start(words.number(), asked, out),
+            "start" => {
+                self.start(words.number(), asked, out);
+                self.keep_calls();
+            }
             name => {
                 self.call(name, &mut words, out);
                 self.keep_calls();
@@ -103,21 +106,19 @@ impl Case {
         ensures { IsAccountant self.new.config.config.segment_size self.new.accountant }
     {
         let (_, text) = asked.split_once(" : ").unwrap_or(("", ""));
-        let device = &mut self.config.device.device;
-        let is_filled = len == 0 || device.write_at(len - 1, &[0]).is_ok();
-        match Snapshot::of_text(self.alloc, text) {
-            Some(snapshot) if is_filled => {
-                match SegmentAccountant::start(&mut self.config, &snapshot) {
-                    Ok(accountant) => self.accountant = accountant,
-                    Err(e) => {
-                        out.push(" = ");
-                        out.error(&e);
-                    }
-                }
+        let Some(snapshot) = Snapshot::of_text(self.alloc, text) else {
+            out.push(": no snapshot");
+            return;
+        };
+        let zeros = vec![in self.alloc; 0; len as usize].unwrap_or(Vec::new(self.alloc));
+        let _ = self.config.device.device.write_at(0, &zeros);
+        match SegmentAccountant::start(&mut self.config, &snapshot) {
+            Ok(accountant) => self.accountant = accountant,
+            Err(e) => {
+                out.push(" = ");
+                out.error(&e);
             }
-            _ => out.push(": no log file and snapshot"),
         }
-        self.keep_calls();
     }
 
     // Makes the call of this name.
