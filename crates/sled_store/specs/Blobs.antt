@@ -4,7 +4,8 @@ use Rattle.std.specs.IoError.{error_kind}
 use Rattle.std.specs.List.Sorted.{IsStrictlySortedBy}
 use Rattle.std.specs.Ordering.{int_cmp}
 use Rattle.std.specs.declared.io.ErrorKind.TheVariants.{NotFound, AlreadyExists}
-use Rattle.sled_codec.specs.declared.result.DiskPtr.TheVariants.{Blob}
+use Rattle.sled_codec.specs.declared.result.DiskPtr.{DiskPtr}
+use Rattle.sled_codec.specs.declared.result.DiskPtr.TheVariants.{Inline, Blob}
 use Rattle.sled_codec.specs.declared.result.Error.{Error}
 use Rattle.sled_codec.specs.declared.result.Error.TheVariants.{Io, OutOfMemory, Corruption}
 use Rattle.sled_codec.specs.declared.serialization.message.MessageKind.{MessageKind}
@@ -97,11 +98,16 @@ RemoveAnswers (Err (Io e)) before after = IsTrue (is_fault e) × (after ≡ (bef
 RemoveAnswers (Err OutOfMemory) before after = after ≡ before
 RemoveAnswers (Err _) before after = ⊥
 
--- Why the item of a message was not read: its blob is damaged, the device failed, or memory was refused. Damage names a blob only where the checksum of one fails.
+-- damage names nothing, or a blob whose checksum fails
+abbrev pub NamesDamage : (List ℕ → ℕ) → (ℤ → Option (List ℕ)) → Option DiskPtr → Type 0
+NamesDamage sum blobs None = Unit {0}
+NamesDamage sum blobs (Some (Blob lid place)) = (lid ≡ 0) × (bytes : List ℕ) × (blobs place ≡ Some bytes) × (5 ≤ length bytes) × IsDamagedBlob sum bytes
+NamesDamage sum blobs (Some (Inline lid)) = ⊥
+
+-- Why the item of a message was not read: its blob is damaged, the device failed, or memory was refused.
 abbrev pub ItemAnswers : {T : Type 0} → (List ℕ → ℕ) → (ℤ → Option (List ℕ)) → Result T Error → ℕ → ℕ → Type 0
 ItemAnswers sum blobs (Ok _) before after = after ≡ before
 ItemAnswers sum blobs (Err (Io e)) before after = IsTrue (is_fault e) × (after ≡ (before + 1) % 2 ^ 64)
 ItemAnswers sum blobs (Err OutOfMemory) before after = after ≡ before
-ItemAnswers sum blobs (Err (Corruption None)) before after = after ≡ before
-ItemAnswers sum blobs (Err (Corruption (Some (Blob lid place)))) before after = (after ≡ before) × (lid ≡ 0) × (bytes : List ℕ) × (blobs place ≡ Some bytes) × (5 ≤ length bytes) × IsDamagedBlob sum bytes
+ItemAnswers sum blobs (Err (Corruption at)) before after = (after ≡ before) × NamesDamage sum blobs at
 ItemAnswers sum blobs (Err _) before after = ⊥

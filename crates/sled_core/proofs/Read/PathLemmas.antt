@@ -1,5 +1,5 @@
 -- Where the records of messages stand one behind another and nothing behind them, a reader meets just these.
-use Rattle.std.proofs.Common.{◌≡◌, ◌≢◌, ◌≤◌, ◌+◌, ◌/◌, ◌∙◌, ℕ, Bool, true, false, ◌==◌, if◌then◌else◌, List, [], ◌∷◌, ◌++◌, length, map, drop, get_or, Some, sym, ap, arith, refl, subst, inl, inr, length-append, length-take, length-drop, append_assoc}
+use Rattle.std.proofs.Common.{◌≡◌, ◌≢◌, ◌≤◌, ◌+◌, ◌/◌, ◌∙◌, ℕ, Bool, true, false, ◌==◌, if◌then◌else◌, ℤ, Option, List, [], ◌∷◌, ◌++◌, length, map, drop, get_or, Some, sym, ap, arith, refl, subst, inl, inr, length-append, length-take, length-drop, append_assoc}
 use Rattle.std.proofs.lemmas.List.{get_or-drop, get_or-take, get_or-append-add, get_or_append_left}
 use Rattle.sled_codec.specs.declared.result.DiskPtr.TheVariants as ptr
 use Rattle.sled_codec.specs.declared.serialization.message.LogKind.{LogKind}
@@ -16,7 +16,7 @@ use Rattle.sled_core.specs.declared.iterator.scan.RecordContent.{RecordContent}
 use Rattle.sled_core.specs.declared.iterator.scan.RecordContent.TheVariants.{Gives, NamesBlob, Skipped, BatchStart}
 use Rattle.sled_core.specs.declared.iterator.scan.ScanEnd.{ScanEnd}
 use Rattle.sled_core.specs.declared.iterator.scan.ScanEnd.TheVariants.{Full, Capped, Broken}
-use Rattle.sled_core.specs.Reading.{is_inline}
+use Rattle.sled_core.specs.Reading.{StandsAt, IsMalformed, IsUnreadable, is_inline}
 use Rattle.sled_core.specs.Scan.{Says, IsMet, IsPath, IsEnd, EndsThere, IsScan}
 use Rattle.sled_core.specs.LogFile.{MessageStands, StandIn}
 pub use Rattle.sled_core.specs.LogFile.{IsEmpty}
@@ -61,6 +61,23 @@ log_kind_back does.Corrupted page k is = cc
 -- where a kind holds its item, it is none of these
 pub not_inline : (k other : MessageKind) → is_inline k ≡ true → is_inline other ≡ false → k ≡ other → ⊥
 not_inline k other is not_so same = let both : true ≡ false = sym is ∙ ap is_inline same ∙ not_so in cc
+
+module _ (sum : List ℕ → ℕ) (size : ℕ) (log : List ℕ) (lid number : ℕ) (m : Message) (stands : MessageStands sum size log lid number m) where
+  holds_item : (h : MessageHeader) (body : List ℕ) (len : ℕ) → StandsAt sum size log lid number h body len → is_inline h.kind ≡ true
+  holds_item h body len also =
+      let same : stands.header ≡ h = one_header sum size log lid number stands.header h m.bytes body m.size len stands.stands also in
+      ap (λ (x : MessageHeader). is_inline x.kind) (sym same) ∙ kind_inline m.kind m.page stands.header.kind stands.known
+
+  -- the record of a message has a body that needs no eight bytes
+  pub stands_formed : IsMalformed sum size log lid number → ⊥
+  stands_formed bad =
+      let holds = holds_item bad.header bad.body bad.len bad.stands in
+      elim bad.kind [ inl blob ↦ blob_apart bad.header.kind blob holds | inr manifest ↦ not_inline bad.header.kind kind.BatchManifest holds refl manifest ]
+
+  -- and names no blob
+  pub stands_readable : (blobs : ℤ → Option (List ℕ)) → IsUnreadable sum size log blobs lid number → ⊥
+  stands_readable blobs (inl bad) = stands_formed bad
+  stands_readable blobs (inr bad) = blob_apart bad.header.kind bad.kind (holds_item bad.header bad.body bad.len bad.stands)
 
 module _ (sum : List ℕ → ℕ) (size : ℕ) (log : List ℕ) (lid number : ℕ) (m : Message) (stands : MessageStands sum size log lid number m) (pointer : m.pointer ≡ ptr.Inline lid) where
   pub inline : is_inline stands.header.kind ≡ true

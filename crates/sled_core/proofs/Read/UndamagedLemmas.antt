@@ -10,17 +10,7 @@ use Rattle.sled_core.specs.LogFile.{MessageStands, StandIn, IsEmpty}
 use Rattle.sled_core.specs.Reading.{IsMalformed, is_inline}
 use Rattle.sled_core.specs.Scan.{IsMet, IsPath, IsDamagedIn}
 use Rattle.sled_core.proofs.Read.GivesLemmas.{one_header, blob_apart}
-use Rattle.sled_core.proofs.Read.PathLemmas.{met_of, met_is, inline, not_inline, none_met}
-
--- a record that holds its item is not damaged
-inline_whole : (sum : List ℕ → ℕ) (size : ℕ) (log : List ℕ) (lid number : ℕ) (m : Message) (stands : MessageStands sum size log lid number m) → m.pointer ≡ ptr.Inline lid → IsMalformed sum size log lid number → ⊥
-inline_whole sum size log lid number m stands pointer damaged =
-    let same : stands.header ≡ damaged.header = one_header sum size log lid number stands.header damaged.header m.bytes damaged.body m.size damaged.len stands.stands damaged.stands in
-    let holds : is_inline damaged.header.kind ≡ true = ap (λ (x : MessageHeader). is_inline x.kind) (sym same) ∙ inline sum size log lid number m stands pointer in
-    elim damaged.kind [
-      | inl blob ↦ blob_apart damaged.header.kind blob holds
-      | inr manifest ↦ not_inline damaged.header.kind kind.BatchManifest holds refl manifest
-    ]
+use Rattle.sled_core.proofs.Read.PathLemmas.{met_of, met_is, stands_formed, none_met}
 
 module _ (sum : List ℕ → ℕ) (size : ℕ) (log : List ℕ) (site : SegmentPosition) (end : ℕ) (empty : end + 32 ≤ size → IsEmpty sum size log (site.slot + end) (site.place / size)) where
   -- nor is there one where no record stands
@@ -36,7 +26,7 @@ module _ (sum : List ℕ → ℕ) (size : ℕ) (log : List ℕ) (site : SegmentP
       let here : at ≡ end = sym stand in
       none_met sum size log site end empty x (subst (λ n. n + 32 ≤ size) here path.0) (subst (λ n. IsMet sum size log (site.slot + n) (site.place / size) x) here path.2)
   path_undamaged at (m ∷ ms) [] next stand path room damaged =
-      inline_whole sum size log (site.slot + at) (site.place / size) m stand.3 stand.2 (subst (λ n. IsMalformed sum size log (site.slot + n) (site.place / size)) path damaged)
+      stands_formed sum size log (site.slot + at) (site.place / size) m stand.3 (subst (λ n. IsMalformed sum size log (site.slot + n) (site.place / size)) path damaged)
   path_undamaged at (m ∷ ms) (x ∷ met) next stand path room damaged =
       let is : x ≡ met_of m = met_is sum size log (site.slot + at) (site.place / size) m stand.3 stand.2 x (path.1 ∙ sym stand.1) path.2 in
       let len : at + x.len ≡ at + m.size = ap (λ (y : ScannedRecord). at + y.len) is in

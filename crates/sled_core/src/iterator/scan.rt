@@ -3,11 +3,11 @@ ghost use Rattle.std.specs.Prelude.{◌≡◌, ◌+◌, ◌-◌, ◌/◌, ◌%�
 ghost use Rattle.std.specs.List.{All};
 ghost use Rattle.sled_codec.specs.Errors.{IsCorruption};
 ghost use Rattle.sled_store.specs.Causes.{DeviceAnswers};
-ghost use Rattle.sled_core.specs.Reading.{IsMalformed, IsReading, file_of};
+ghost use Rattle.sled_core.specs.Reading.{IsMalformed, IsRecordRead, file_of};
 ghost use Rattle.sled_core.specs.Scan.{HasPlace, IsStep, IsScan, IsDamagedIn};
 
 use crate::logger::read_at::BasedBuf;
-use crate::logger::read_message::{LogRead, read_message};
+use crate::logger::read_message::{LogRead, read_record};
 use sled_codec::result::{BlobPointer, DiskPtr, LogOffset, Lsn, PageId, Result};
 use sled_codec::serialization::{Checksum, LogKind, MessageKind, SegmentNumber};
 use sled_store::segment::{MAX_MSG_HEADER_LEN, SEG_HEADER_LEN};
@@ -134,14 +134,14 @@ fn meet<D: Device, C: Checksum>(
 {
     let number = SegmentNumber(place / config.config.segment_size);
     let lid = buf.offset + at;
-    let read = read_message(config, Some(buf), lid, number)?;
+    let read = read_record(config, Some(buf), lid, number)?;
     Ok(step_of(place + at, lid, read))
 }
 
 /// What was read, as it is met.
 #[tactic(auto, unfolding(crate::specs::Scan::IsMet, crate::specs::Scan::EndsThere))]
 pub fn step_of(place: u64, lid: LogOffset, read: LogRead) -> Step
-    ensures { (sum : List ℕ → ℕ) (size : ℕ) (log : List ℕ) (number : ℕ) → IsReading sum size log lid number read
+    ensures { (sum : List ℕ → ℕ) (size : ℕ) (log : List ℕ) (number : ℕ) → IsRecordRead sum size log lid number read
         → IsStep sum size log lid place number result }
 {
     let (what, len) = match read {

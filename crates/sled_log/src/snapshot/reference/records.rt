@@ -16,7 +16,7 @@ use sled_codec::result::Result;
 use sled_codec::serialization::{Checksum, SegmentNumber};
 use sled_core::iterator::Segment;
 use sled_core::iterator::scan::{ScanEnd, ScannedRecord, SegmentScan, Step, step_of};
-use sled_core::logger::read_message::read_message;
+use sled_core::logger::read_message::read_record;
 use sled_store::segment::{MAX_MSG_HEADER_LEN, SEG_HEADER_LEN};
 use sled_store::{Device, RunningConfig};
 
@@ -96,6 +96,6 @@ fn step_at<D: Device, C: Checksum>(
 {
     let number = SegmentNumber(segment.place / config.config.segment_size);
     let lid = segment.slot + at;
-    let read = read_message(config, None, lid, number)?;
+    let read = read_record(config, None, lid, number)?;
     Ok(step_of(segment.place + at, lid, read))
 }
