@@ -1,11 +1,12 @@
 -- Why a call of a log failed.
-use Rattle.std.specs.Prelude.{◌≡◌, ◌⊎◌, [], ◌+◌, ◌%◌, ◌^◌, ℕ, Option, None, Some, Result, Ok, Err, IsTrue, IsSome}
+use Rattle.std.specs.Prelude.{◌≡◌, ◌⊎◌, [], ◌+◌, ◌%◌, ◌^◌, ℕ, ℤ, List, Option, None, Some, Result, Ok, Err, IsTrue, IsSome}
 use Rattle.std.specs.declared.io.Error.{Error as IoError}
 use Rattle.sled_codec.specs.declared.result.Error.{Error}
 use Rattle.std.specs.String.{string_bytes}
 use Rattle.sled_codec.specs.declared.result.Error.TheVariants.{Io, OutOfMemory, Unsupported, Corruption, PlacesUsedUp}
 use Rattle.sled_codec.specs.declared.serialization.message.MessageKind.{MessageKind}
 use Rattle.sled_store.specs.Answers.{is_fault}
+use Rattle.sled_store.specs.Blobs.{NamesDamage}
 
 -- The log kept this failure of the device from an earlier call, or the device failed in this call, and the log keeps that.
 abbrev pub IsFault : IoError → Option IoError → Option IoError → ℕ → ℕ → Type 0
@@ -56,12 +57,12 @@ StartAnswers (Err PlacesUsedUp) in_reach before after = (after ≡ before) × (i
 StartAnswers (Err _) in_reach before after = ⊥
 
 -- A read of the log: as each call that may touch the device, and damage besides.
-abbrev pub ReadAnswers : {T : Type 0} → Result T Error → Option IoError → Option IoError → ℕ → ℕ → Type 0
-ReadAnswers (Ok _) old new before after = (old ≡ None) × (new ≡ None) × (after ≡ before)
-ReadAnswers (Err (Io e)) old new before after = IsFault e old new before after
-ReadAnswers (Err OutOfMemory) old new before after = (old ≡ None) × (new ≡ None) × (after ≡ before)
-ReadAnswers (Err (Corruption at)) old new before after = (old ≡ None) × (new ≡ None) × (after ≡ before) × (at ≡ None)
-ReadAnswers (Err _) old new before after = ⊥
+abbrev pub ReadAnswers : {T : Type 0} → (List ℕ → ℕ) → (ℤ → Option (List ℕ)) → Result T Error → Option IoError → Option IoError → ℕ → ℕ → Type 0
+ReadAnswers sum blobs (Ok _) old new before after = (old ≡ None) × (new ≡ None) × (after ≡ before)
+ReadAnswers sum blobs (Err (Io e)) old new before after = IsFault e old new before after
+ReadAnswers sum blobs (Err OutOfMemory) old new before after = (old ≡ None) × (new ≡ None) × (after ≡ before)
+ReadAnswers sum blobs (Err (Corruption at)) old new before after = (old ≡ None) × (new ≡ None) × (after ≡ before) × NamesDamage sum blobs at
+ReadAnswers sum blobs (Err _) old new before after = ⊥
 
 -- the failure of the device that an answer tells of
 abbrev pub failure_in : {T : Type 0} → Result T Error → Option IoError

@@ -7,9 +7,9 @@ use Rattle.sled_codec.specs.Kinds.{kind_written}
 use Rattle.sled_codec.specs.History.{Message, History, table, CutFits}
 use Rattle.sled_codec.specs.PageTables.{IsTable}
 use Rattle.sled_codec.specs.Snapshots.{SnapshotModel, stable_place}
+use Rattle.sled_store.specs.Blobs.{IsBlob}
 use Rattle.sled_store.specs.Device.{Content}
 use Rattle.sled_core.specs.LogFile.{MessageStands}
-use Rattle.sled_core.specs.Scan.{IsBlob}
 
 -- a blob of the content has the item of a message
 pub record HasOwnBlob (sum : List ℕ → ℕ) (bytes : Option (List ℕ)) (m : Message) : Type 0 where

@@ -11,6 +11,7 @@ use Rattle.sled_codec.specs.History.{Message}
 use Rattle.sled_codec.specs.Sums.{flipped}
 use Rattle.sled_codec.specs.Spelling.{SpellsMessageHeader, SpellsSigned}
 use Rattle.sled_codec.specs.Places.{part, MayBegin}
+use Rattle.sled_store.specs.Blobs.{IsItemOf, IsDamagedFor}
 use Rattle.sled_core.specs.declared.logger.read_at.BasedBuf.{BasedBuf}
 use Rattle.sled_core.specs.declared.logger.unverified_record.UnverifiedRecord.{UnverifiedRecord}
 use Rattle.sled_core.specs.declared.logger.read_message.LogRead.{LogRead}
@@ -84,15 +85,28 @@ HoldsAs header body n Corrupted = ⊥
 HoldsAs header body n (DanglingBlob h place len) = (h ≡ header) × (len ≡ n) × (is_blob header.kind ≡ true) × SpellsSigned body place
 HoldsAs header body n (BatchManifest peg len) = (len ≡ n) × (header.kind ≡ kind.BatchManifest) × SpellsSigned body peg
 
--- What is read is what stands there. There are no blobs yet, so each is missing.
-abbrev pub IsReading : (List ℕ → ℕ) → ℕ → List ℕ → ℕ → ℕ → LogRead → Type 0
-IsReading sum size log lid number (Inline h bytes len) = StandsAt sum size log lid number h bytes.items len × (is_inline h.kind ≡ true)
-IsReading sum size log lid number (Blob h bytes place len) = ⊥
-IsReading sum size log lid number (Canceled len) = (h : MessageHeader) × (body : List ℕ) × StandsAt sum size log lid number h body len × (h.kind ≡ kind.Canceled)
-IsReading sum size log lid number (Cap segment) = (h : MessageHeader) × (body : List ℕ) × (len : ℕ) × StandsAt sum size log lid number h body len × (h.kind ≡ kind.Cap) × (segment.0 ≡ number)
-IsReading sum size log lid number Corrupted = (h : MessageHeader) (body : List ℕ) (len : ℕ) → StandsAt sum size log lid number h body len → ⊥
-IsReading sum size log lid number (DanglingBlob h place len) = (body : List ℕ) × StandsAt sum size log lid number h body len × (is_blob h.kind ≡ true) × SpellsSigned body place
-IsReading sum size log lid number (BatchManifest peg len) = (h : MessageHeader) × (body : List ℕ) × StandsAt sum size log lid number h body len × (h.kind ≡ kind.BatchManifest) × SpellsSigned body peg
+-- What is read of the log alone is what stands there. No blob is looked for, so a message whose item is one is answered as if that were missing.
+abbrev pub IsRecordRead : (List ℕ → ℕ) → ℕ → List ℕ → ℕ → ℕ → LogRead → Type 0
+IsRecordRead sum size log lid number (Inline h bytes len) = StandsAt sum size log lid number h bytes.items len × (is_inline h.kind ≡ true)
+IsRecordRead sum size log lid number (Blob h bytes place len) = ⊥
+IsRecordRead sum size log lid number (Canceled len) = (h : MessageHeader) × (body : List ℕ) × StandsAt sum size log lid number h body len × (h.kind ≡ kind.Canceled)
+IsRecordRead sum size log lid number (Cap segment) = (h : MessageHeader) × (body : List ℕ) × (len : ℕ) × StandsAt sum size log lid number h body len × (h.kind ≡ kind.Cap) × (segment.0 ≡ number)
+IsRecordRead sum size log lid number Corrupted = (h : MessageHeader) (body : List ℕ) (len : ℕ) → StandsAt sum size log lid number h body len → ⊥
+IsRecordRead sum size log lid number (DanglingBlob h place len) = (body : List ℕ) × StandsAt sum size log lid number h body len × (is_blob h.kind ≡ true) × SpellsSigned body place
+IsRecordRead sum size log lid number (BatchManifest peg len) = (h : MessageHeader) × (body : List ℕ) × StandsAt sum size log lid number h body len × (h.kind ≡ kind.BatchManifest) × SpellsSigned body peg
+
+-- what is answered for a message of this header whose blob is at a place: its item, or that the blob is missing
+abbrev pub IsWithItem : (List ℕ → ℕ) → (ℤ → Option (List ℕ)) → MessageHeader → ℤ → ℕ → LogRead → Type 0
+IsWithItem sum blobs header place n (Blob h bytes at len) = (h ≡ header) × (at ≡ place) × (len ≡ n) × IsItemOf sum header.kind (blobs place) (Some bytes.items)
+IsWithItem sum blobs header place n (DanglingBlob h at len) = (h ≡ header) × (at ≡ place) × (len ≡ n) × (blobs place ≡ None)
+IsWithItem sum blobs header place n _ = ⊥
+
+-- What is read is what stands there, with the item of a message whose blob is there.
+abbrev pub IsReading : (List ℕ → ℕ) → ℕ → List ℕ → (ℤ → Option (List ℕ)) → ℕ → ℕ → LogRead → Type 0
+IsReading sum size log blobs lid number (Blob h bytes place len) =
+    (body : List ℕ) × StandsAt sum size log lid number h body len × (is_blob h.kind ≡ true) × SpellsSigned body place × IsItemOf sum h.kind (blobs place) (Some bytes.items)
+IsReading sum size log blobs lid number (DanglingBlob h place len) = (body : List ℕ) × StandsAt sum size log lid number h body len × (is_blob h.kind ≡ true) × SpellsSigned body place × (blobs place ≡ None)
+IsReading sum size log blobs lid number read = IsRecordRead sum size log lid number read
 
 -- A record stands there whose body has to be a place, and has not the eight bytes of one.
 pub record IsMalformed (sum : List ℕ → ℕ) (size : ℕ) (log : List ℕ) (lid number : ℕ) : Type 0 where
@@ -102,6 +116,21 @@ pub record IsMalformed (sum : List ℕ → ℕ) (size : ℕ) (log : List ℕ) (l
   pub stands : StandsAt sum size log lid number header body len
   pub kind : (is_blob header.kind ≡ true) ⊎ (header.kind ≡ kind.BatchManifest)
   pub not_eight : length body ≢ 8
+
+-- A record stands there that names a blob, and that blob is there and doesn't pass for it.
+pub record HasDamagedBlob (sum : List ℕ → ℕ) (size : ℕ) (log : List ℕ) (blobs : ℤ → Option (List ℕ)) (lid number : ℕ) : Type 0 where
+  pub header : MessageHeader
+  pub body : List ℕ
+  pub len : ℕ
+  pub stands : StandsAt sum size log lid number header body len
+  pub kind : is_blob header.kind ≡ true
+  pub place : ℤ
+  pub names : SpellsSigned body place
+  pub damaged : IsDamagedFor sum header.kind (blobs place)
+
+-- A record stands there that can't be read, for its body or for its blob.
+abbrev pub IsUnreadable : (List ℕ → ℕ) → ℕ → List ℕ → (ℤ → Option (List ℕ)) → ℕ → ℕ → Type 0
+IsUnreadable sum size log blobs lid number = IsMalformed sum size log lid number ⊎ HasDamagedBlob sum size log blobs lid number
 
 -- The message is given: its kind, its page and its item, and how long its record is.
 abbrev pub GivesMessage : Message → LogRead → Type 0

@@ -5,24 +5,28 @@ use Rattle.std.specs.List.{All}
 use Rattle.sled_codec.specs.declared.result.DiskPtr.{DiskPtr}
 use Rattle.sled_codec.specs.declared.result.DiskPtr.TheVariants.{Inline, Blob}
 use Rattle.sled_codec.specs.declared.serialization.message.MessageKind.{MessageKind}
+use Rattle.sled_codec.specs.Coords.{raised}
+use Rattle.sled_codec.specs.Kinds.{kind_written}
 use Rattle.sled_codec.specs.Pointers.{lid_of}
 use Rattle.sled_codec.specs.Record.{IsHeader}
 use Rattle.sled_codec.specs.History.{Message, Batch, History, table, CutFits}
 use Rattle.sled_codec.specs.PageTables.{IsTable}
 use Rattle.sled_codec.specs.Snapshots.{SnapshotModel, is_sound, stable_place}
+use Rattle.sled_store.specs.Blobs.{IsBlob, IsDamagedFor}
 use Rattle.sled_store.specs.Device.{Content, State}
 use Rattle.sled_store.specs.Foreign.{NoForeignLog, NoForeignNames}
 use Rattle.sled_store.specs.Moments.{AllLeft}
 use Rattle.sled_store.specs.SnapshotFiles.{IsSnapshotFile, BeginsFrom}
 use Rattle.sled_core.specs.declared.iobuf.SegmentPosition.{SegmentPosition}
 use Rattle.sled_core.specs.declared.iterator.scan.ScannedRecord.{ScannedRecord}
-use Rattle.sled_core.specs.declared.iterator.scan.RecordContent.TheVariants.{Gives, Skipped, BatchStart}
+use Rattle.sled_core.specs.declared.iterator.scan.RecordContent.{RecordContent}
+use Rattle.sled_core.specs.declared.iterator.scan.RecordContent.TheVariants.{Gives, NamesBlob, Skipped, BatchStart}
 use Rattle.sled_core.specs.declared.iterator.scan.ScanEnd.TheVariants.{Capped}
 use Rattle.sled_core.specs.declared.iterator.Segment.{Segment}
-use Rattle.sled_core.specs.Scan.{Readable, IsFoundSegment, IsBlob, IsMet, IsPath}
+use Rattle.sled_core.specs.Scan.{IsFoundSegment, IsMet, IsPath}
 use Rattle.sled_core.specs.Tail.{IsOrdering, Scanned, AreScanned, IsTail, tail_begins, tail_end, open_at, stops_in, cut_of, least_place}
 use Rattle.sled_core.specs.LogFile.{MessageStands, StandIn, HasHeader, IsEmpty}
-use Rattle.sled_core.specs.Good.{HasOwnBlob, Reads}
+use Rattle.sled_core.specs.Good.{HasOwnBlob}
 
 -- The premise on a checksum.
 
@@ -60,10 +64,7 @@ pub record AreRecoverableSnapshots (sum : List ℕ → ℕ) (size : ℕ) (snapsh
   pub not_below : f ≤ stable_place first.stable
   pub active : ActiveFits size (stable_place first.stable) first.active
 
--- The log file, with the blobs that its records name.
-
-abbrev pub readable : Content → Readable
-readable content = record { log = content.log; blobs = content.blobs }
+-- The log file.
 
 -- no message, and no batch, of a history begins from one place up to another
 abbrev pub NoMessageBegins : History → ℕ → ℕ → Type 0
@@ -72,49 +73,57 @@ NoMessageBegins H from to = (m : Message) → Contains H.messages m → (m.place
 abbrev pub NoBatchBegins : History → ℕ → ℕ → Type 0
 NoBatchBegins H from to = (b : Batch) → Contains H.batches b → (b.low < from) ⊎ (to ≤ b.low)
 
--- what a reader meets is a message, whose blob may be gone
+-- a record names the blob of a message, under the kind of a message that has one
+abbrev pub NamesBlobOf : RecordContent → Message → Type 0
+NamesBlobOf what m = (k : MessageKind) × (lid : ℕ) × (place : ℤ) × (m.pointer ≡ Blob lid place) × (kind_written m.kind m.page true ≡ Some k) × (what ≡ NamesBlob k m.page lid place)
+
+-- what a reader meets of the log file is a message: with its item, or with the place of the blob that has it
 pub record MeetsMessage (x : ScannedRecord) (m : Message) : Type 0 where
   pub place : x.place ≡ m.place
   pub len : x.len ≡ m.size
-  pub what : (x.what ≡ Gives m.kind m.page m.pointer) ⊎ (x.what ≡ Skipped)
+  pub what : (x.what ≡ Gives m.kind m.page m.pointer) ⊎ NamesBlobOf x.what m
 
--- the bytes that the pointer of a message reads are its own, or its blob is gone
-abbrev pub ReadsOrDangles : (List ℕ → ℕ) → ℕ → Content → Message → DiskPtr → Type 0
-ReadsOrDangles sum size content m (Inline lid) = MessageStands sum size content.log lid (m.place / size) m
-ReadsOrDangles sum size content m (Blob lid place) = (content.blobs place ≡ None) ⊎ HasOwnBlob sum (content.blobs place) m
+-- the record of a message stands at its pointer, where it has the item
+abbrev pub StandsInline : (List ℕ → ℕ) → ℕ → List ℕ → Message → DiskPtr → Type 0
+StandsInline sum size log m (Inline lid) = MessageStands sum size log lid (m.place / size) m
+StandsInline sum size log m (Blob lid place) = Unit {0}
 
 -- What a reader meets is of the history: a message, the beginning of a batch, or a record that was given up. Nothing else of the history begins within its bytes.
-abbrev pub IsOfHistory : (List ℕ → ℕ) → ℕ → Content → History → ScannedRecord → Type 0
-IsOfHistory sum size content H x =
-    ((m : Message) × Contains H.messages m × MeetsMessage x m × ReadsOrDangles sum size content m m.pointer × NoMessageBegins H (x.place + 1) (x.place + x.len) × NoBatchBegins H x.place (x.place + x.len))
+abbrev pub IsOfHistory : (List ℕ → ℕ) → ℕ → List ℕ → History → ScannedRecord → Type 0
+IsOfHistory sum size log H x =
+    ((m : Message) × Contains H.messages m × MeetsMessage x m × StandsInline sum size log m m.pointer × NoMessageBegins H (x.place + 1) (x.place + x.len) × NoBatchBegins H x.place (x.place + x.len))
     ⊎ ((b : Batch) × Contains H.batches b × (x.place ≡ b.low) × (x.what ≡ BatchStart (pos b.peg)) × NoMessageBegins H x.place (x.place + x.len) × NoBatchBegins H (x.place + 1) (x.place + x.len))
     ⊎ ((x.what ≡ Skipped) × NoMessageBegins H x.place (x.place + x.len) × NoBatchBegins H x.place (x.place + x.len))
 
 -- a reader that begins behind the header of a segment comes to a message
-pub record IsReachedIn (sum : List ℕ → ℕ) (size : ℕ) (r : Readable) (s : Segment) (m : Message) : Type 0 where
+pub record IsReachedIn (sum : List ℕ → ℕ) (size : ℕ) (log : List ℕ) (s : Segment) (m : Message) : Type 0 where
   pub before : List ScannedRecord
   pub at : ℕ
-  pub path : IsPath sum size r s.slot s.place 20 before at
+  pub path : IsPath sum size log s.slot s.place 20 before at
   pub room : at + 32 ≤ size
   pub place : m.place ≡ s.place + at
   pub lid : lid_of m.pointer ≡ s.slot + at
   pub met : ScannedRecord
-  pub is_met : IsMet sum size r (s.slot + at) (s.place / size) met
+  pub is_met : IsMet sum size log (s.slot + at) (s.place / size) met
   pub meets : MeetsMessage met m
 
 -- the segment of a message is there, and in it each message below the cut is reached
-pub record IsSegmentOf (sum : List ℕ → ℕ) (size : ℕ) (r : Readable) (H : History) (cut : ℕ) (m : Message) : Type 0 where
+pub record IsSegmentOf (sum : List ℕ → ℕ) (size : ℕ) (log : List ℕ) (H : History) (cut : ℕ) (m : Message) : Type 0 where
   pub segment : Segment
-  pub found : IsFoundSegment sum size r.log 0 segment
+  pub found : IsFoundSegment sum size log 0 segment
   pub place : segment.place ≡ m.place / size * size
-  pub reached : IsReachedIn sum size r segment m
-  pub whole : (n : Message) → Contains H.messages n → n.place / size ≡ m.place / size → n.place < cut → IsReachedIn sum size r segment n
+  pub reached : IsReachedIn sum size log segment m
+  pub whole : (n : Message) → Contains H.messages n → n.place / size ≡ m.place / size → n.place < cut → IsReachedIn sum size log segment n
 
 -- a mark lies below its segment, and in no batch
 pub record IsMarkOf (H : History) (s : Segment) : Type 0 where
   pub least : (pos 0 -ℤ pos 1) ≤ℤ s.mark
   pub below : s.mark <ℤ pos s.place
   pub apart : (b : Batch) → Contains H.batches b → (s.mark <ℤ pos b.low) ⊎ (pos b.peg ≤ℤ s.mark)
+
+-- A mark lies below the cut; or below the end of the segment of the cut, where nothing of the history begins between the two. (A stable end behind a Cap is the end of its segment, and the cut is where the Cap begins.)
+abbrev pub IsMarkBelow : ℕ → History → ℕ → ℤ → Type 0
+IsMarkBelow size H cut mark = (mark <ℤ pos cut) ⊎ ((n : ℕ) × (mark ≡ pos n) × (n < raised size cut) × NoMessageBegins H cut (n + 1) × NoBatchBegins H cut (n + 1))
 
 -- those that begin below a place
 abbrev pub scanned_below : ℕ → List Scanned → List Scanned
@@ -132,23 +141,39 @@ cut_from size first scanned None = (stable_place first.stable, first.active)
 cut_from size first scanned (Some end) = cut_over size first end (scanned_below end scanned)
 
 -- The segments that are found are of the history, and those that a table below the cut needs are there. The cut passes what was acknowledged.
-pub record IsRecoverableLog (sum : List ℕ → ℕ) (size : ℕ) (content : Content) (H : History) (A : ℕ) (first : SnapshotModel) : Type 0 where
+pub record IsRecoverableLog (sum : List ℕ → ℕ) (size : ℕ) (log : List ℕ) (H : History) (A : ℕ) (first : SnapshotModel) (cut : ℕ × Option ℕ) : Type 0 where
   pub ordering : List Segment
-  pub numbers : IsOrdering sum size content.log (least_place size first) ordering
+  pub numbers : IsOrdering sum size log (least_place size first) ordering
   pub scanned : List Scanned
-  pub reads : AreScanned sum size (readable content) ordering scanned
+  pub reads : AreScanned sum size log ordering scanned
   pub tail : List Scanned
-  pub is_tail : IsTail sum size (readable content) ordering (tail_begins size (least_place size first) ordering) tail
+  pub is_tail : IsTail sum size log ordering (tail_begins size (least_place size first) ordering) tail
   pub marks : (s : Segment) → Contains ordering s → IsMarkOf H s
-  pub truth : (s : Scanned) (x : ScannedRecord) → Contains scanned s → Contains s.met x → IsOfHistory sum size content H x
+  pub truth : (s : Scanned) (x : ScannedRecord) → Contains scanned s → Contains s.met x → IsOfHistory sum size log H x
   pub caps : (s : Scanned) → Contains scanned s → s.why ≡ Capped → NoMessageBegins H (s.segment.place + s.stop) (s.segment.place + size) × NoBatchBegins H (s.segment.place + s.stop) (s.segment.place + size)
   pub tail_there : ((s : Segment) × Contains ordering s × (s.place ≡ tail_begins size (least_place size first) ordering)) ⊎ (tail_begins size (least_place size first) ordering ≡ stable_place first.stable)
-  pub cut : ℕ × Option ℕ
   pub is_cut : cut ≡ cut_from size first scanned (tail_end tail)
   pub not_below : stable_place first.stable ≤ cut.0
   pub passes : A ≤ cut.0
-  pub marks_below : (s : Segment) → Contains ordering s → s.mark <ℤ pos cut.0
-  pub needed : (page : ℕ) (m : Message) → Contains (table H cut.0 page) m → IsSegmentOf sum size (readable content) H cut.0 m × Reads sum size content m
+  pub marks_below : (s : Segment) → Contains ordering s → IsMarkBelow size H cut.0 s.mark
+  pub needed : (page : ℕ) (m : Message) → Contains (table H cut.0 page) m → IsSegmentOf sum size log H cut.0 m × StandsInline sum size log m m.pointer
+
+-- The blobs.
+
+-- the item of a message stands in its record, or is a blob
+abbrev pub HasItem : (List ℕ → ℕ) → (ℤ → Option (List ℕ)) → Message → DiskPtr → Type 0
+HasItem sum blobs m (Inline lid) = Unit {0}
+HasItem sum blobs m (Blob lid place) = HasOwnBlob sum (blobs place) m
+
+-- the blob that a message names, if any, is missing or passes for a message of its kind
+abbrev pub PassesIfThere : (List ℕ → ℕ) → (ℤ → Option (List ℕ)) → Message → DiskPtr → Type 0
+PassesIfThere sum blobs m (Inline lid) = Unit {0}
+PassesIfThere sum blobs m (Blob lid place) = (k : MessageKind) → kind_written m.kind m.page true ≡ Some k → IsDamagedFor sum k (blobs place) → ⊥
+
+-- The blob of each message that a table below the cut needs is there, whole. A blob that any message names is missing or passes for it.
+pub record AreRecoverableBlobs (sum : List ℕ → ℕ) (blobs : ℤ → Option (List ℕ)) (H : History) (cut : ℕ) : Type 0 where
+  pub needed : (page : ℕ) (m : Message) → Contains (table H cut page) m → HasItem sum blobs m m.pointer
+  pub named : (m : Message) → Contains H.messages m → PassesIfThere sum blobs m m.pointer
 
 -- One segment.
 
@@ -199,8 +224,10 @@ pub record IsRecoverableInFirst (sum : List ℕ → ℕ) (size : ℕ) (content :
 -- A recovery can go on from this content, for this history, the end of what was acknowledged, and the floor. (The last part goes when there are several segments.)
 pub record IsRecoverable (sum : List ℕ → ℕ) (size : ℕ) (content : Content) (H : History) (A f : ℕ) : Type 0 where
   pub first : SnapshotModel
+  pub cut : ℕ × Option ℕ
   pub snapshots : AreRecoverableSnapshots sum size content.snapshots H f first
-  pub log : IsRecoverableLog sum size content H A first
+  pub log : IsRecoverableLog sum size content.log H A first cut
+  pub blobs : AreRecoverableBlobs sum content.blobs H cut.0
   pub one_segment : IsInFirstSegment sum size content H A first
 
 unfoldable pub Recoverable : (List ℕ → ℕ) → ℕ → Content → History → ℕ → ℕ → Type 0

@@ -4,11 +4,11 @@ use Rattle.std.specs.Prelude.{◌≡◌, ◌≢◌, ◌⊎◌, ◌↔◌, ◌+�
 use Rattle.sled_codec.specs.Snapshots.{SnapshotModel, stable_place}
 use Rattle.sled_core.specs.declared.iterator.scan.ScannedRecord.{ScannedRecord}
 use Rattle.sled_core.specs.declared.iterator.scan.RecordContent.{RecordContent}
-use Rattle.sled_core.specs.declared.iterator.scan.RecordContent.TheVariants.{Gives, Skipped, BatchStart}
+use Rattle.sled_core.specs.declared.iterator.scan.RecordContent.TheVariants.{Gives, NamesBlob, Skipped, BatchStart}
 use Rattle.sled_core.specs.declared.iterator.scan.ScanEnd.{ScanEnd}
 use Rattle.sled_core.specs.declared.iterator.scan.ScanEnd.TheVariants.{Full, Capped, Broken}
 use Rattle.sled_core.specs.declared.iterator.Segment.{Segment}
-use Rattle.sled_core.specs.Scan.{Readable, IsFoundSegment, IsMisplaced, IsScan}
+use Rattle.sled_core.specs.Scan.{IsFoundSegment, IsMisplaced, IsScan}
 
 -- The segments that it finds.
 
@@ -40,8 +40,8 @@ pub record Scanned : Type 0 where
   pub why : ScanEnd
 
 -- these are found in a segment
-abbrev pub IsScanned : (List ℕ → ℕ) → ℕ → Readable → Scanned → Type 0
-IsScanned sum size r s = IsScan sum size r s.segment.slot s.segment.place s.met s.stop s.why
+abbrev pub IsScanned : (List ℕ → ℕ) → ℕ → List ℕ → Scanned → Type 0
+IsScanned sum size log s = IsScan sum size log s.segment.slot s.segment.place s.met s.stop s.why
 
 -- the place of a mark; one that is negative says nothing
 abbrev pub place_of_mark : ℤ → ℕ
@@ -64,10 +64,10 @@ GoesOn Full rest on = on
 GoesOn Capped rest on = on
 
 -- The segments of the tail, one behind another without a gap. One that is broken ends it.
-abbrev pub IsTail : (List ℕ → ℕ) → ℕ → Readable → List Segment → ℕ → List Scanned → Type 0
-IsTail sum size r ordering place [] = (s : Segment) → Contains ordering s → s.place ≡ place → ⊥
-IsTail sum size r ordering place (s ∷ ss) =
-    Contains ordering s.segment × (s.segment.place ≡ place) × IsScanned sum size r s × GoesOn s.why ss (IsTail sum size r ordering (place + size) ss)
+abbrev pub IsTail : (List ℕ → ℕ) → ℕ → List ℕ → List Segment → ℕ → List Scanned → Type 0
+IsTail sum size log ordering place [] = (s : Segment) → Contains ordering s → s.place ≡ place → ⊥
+IsTail sum size log ordering place (s ∷ ss) =
+    Contains ordering s.segment × (s.segment.place ≡ place) × IsScanned sum size log s × GoesOn s.why ss (IsTail sum size log ordering (place + size) ss)
 
 -- where the reading of the tail ended, where a segment was read
 abbrev pub tail_end : List Scanned → Option ℕ
@@ -83,15 +83,16 @@ begun_below end [] = []
 begun_below end (s ∷ ss) = if nat_lt s.place end then s ∷ begun_below end ss else begun_below end ss
 
 -- these segments, each with what is met in it
-abbrev pub AreScanned : (List ℕ → ℕ) → ℕ → Readable → List Segment → List Scanned → Type 0
-AreScanned sum size r [] [] = Unit {0}
-AreScanned sum size r [] (x ∷ xs) = ⊥
-AreScanned sum size r (s ∷ ss) [] = ⊥
-AreScanned sum size r (s ∷ ss) (x ∷ xs) = (x.segment ≡ s) × IsScanned sum size r x × AreScanned sum size r ss xs
+abbrev pub AreScanned : (List ℕ → ℕ) → ℕ → List ℕ → List Segment → List Scanned → Type 0
+AreScanned sum size log [] [] = Unit {0}
+AreScanned sum size log [] (x ∷ xs) = ⊥
+AreScanned sum size log (s ∷ ss) [] = ⊥
+AreScanned sum size log (s ∷ ss) (x ∷ xs) = (x.segment ≡ s) × IsScanned sum size log x × AreScanned sum size log ss xs
 
 -- the beginning of a batch that does not end below this place
 abbrev pub opens : ℕ → RecordContent → Bool
 opens end (Gives kind page pointer) = false
+opens end (NamesBlob kind page lid place) = false
 opens end Skipped = false
 opens end (BatchStart peg) = int_le (pos end) peg
 
@@ -120,10 +121,10 @@ abbrev pub cut_of : ℕ → Segment × ℕ → ℕ × Option ℕ
 cut_of size at = if is_filled size at then (at.0.place + size, None) else (at.1, Some at.0.slot)
 
 -- Segments of the tail, one behind another, each of which leads to the next.
-abbrev pub IsTailPart : (List ℕ → ℕ) → ℕ → Readable → List Segment → ℕ → List Scanned → ℕ → Type 0
-IsTailPart sum size r ordering place [] next = next ≡ place
-IsTailPart sum size r ordering place (s ∷ ss) next =
-    Contains ordering s.segment × (s.segment.place ≡ place) × IsScanned sum size r s × (s.why ≢ Broken) × IsTailPart sum size r ordering (place + size) ss next
+abbrev pub IsTailPart : (List ℕ → ℕ) → ℕ → List ℕ → List Segment → ℕ → List Scanned → ℕ → Type 0
+IsTailPart sum size log ordering place [] next = next ≡ place
+IsTailPart sum size log ordering place (s ∷ ss) next =
+    Contains ordering s.segment × (s.segment.place ≡ place) × IsScanned sum size log s × (s.why ≢ Broken) × IsTailPart sum size log ordering (place + size) ss next
 
 -- the segment that holds the place with which a snapshot ends
 abbrev pub least_place : ℕ → SnapshotModel → ℕ

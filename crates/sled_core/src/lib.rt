@@ -12,5 +12,5 @@ pub mod reservation;
 
 pub use crate::logger::Log;
 pub use crate::logger::read_at::{BasedBuf, ReadAt};
-pub use crate::logger::read_message::{LogRead, read_message};
+pub use crate::logger::read_message::{LogRead, read_message, read_record};
 pub use crate::reservation::{Guard, Reservation};

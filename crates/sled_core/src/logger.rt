@@ -12,7 +12,7 @@ ghost use Rattle.sled_codec.specs.Errors.{IsErrorOf, IsCorrupt, IsCorruption};
 ghost use Rattle.sled_store.specs.Device.{state_of, Wrote, Synced};
 ghost use Rattle.sled_store.specs.Answers.{Counts, FailsOr};
 ghost use Rattle.sled_core.specs.Tickets.{place_of, pointer_of, IsFor};
-ghost use Rattle.sled_core.specs.Reading.{GivesMessage, IsInline, IsReading, IsMalformed, IsNoPlace};
+ghost use Rattle.sled_core.specs.Reading.{GivesMessage, IsInline, IsReading, IsUnreadable, IsNoPlace};
 ghost use Rattle.sled_codec.specs.Places.{MayBegin};
 ghost use Rattle.sled_codec.specs.Pointers.{lid_of};
 ghost use Rattle.sled_core.specs.Buffers.{record_size};
@@ -277,8 +277,8 @@ impl<D: Device, C: Checksum> Log<D, C> {
     ///
     /// # Errors
     ///
-    /// `Corruption` for a negative place, for an offset at which no record begins, and for a record that has to hold
-    /// a place and does not. `Io` and `OutOfMemory` as of `flush`.
+    /// `Corruption` for a negative place, for an offset at which no record begins, and for a record that can't be read
+    /// (`read_message`). `Io` and `OutOfMemory` as of `flush`.
     pub fn read(&mut self, _pid: PageId, lsn: Lsn, ptr: DiskPtr) -> Result<LogRead>
         requires ended { pos (synced_end self.old) ≤ℤ lsn → NoneOpen self.old }
         requires inline { IsInline ptr }
@@ -287,16 +287,17 @@ impl<D: Device, C: Checksum> Log<D, C> {
             → pos m.place ≡ lsn → m.pointer ≡ ptr → IfOk result (GivesMessage m) }
         ensures undamaged { (H : History) (A f : ℕ) (U : List Message) (m : Message) → Fits D.trace C.sum_of self.old H A f U → Contains H.messages m
             → pos m.place ≡ lsn → m.pointer ≡ ptr → IsCorruption result → ⊥ }
-        ensures reading { let log = (state_of (D.trace (device_of self.new))).log.bytes in let size = segment_size_of self.old in
-            IfOk result (IsReading C.sum_of size log (lid_of ptr) (unsigned_abs lsn / size)) }
-        ensures corrupt { let log = (state_of (D.trace (device_of self.new))).log.bytes in let size = segment_size_of self.old in
-            IsCorruption result → IsNoPlace size lsn (lid_of ptr) ⊎ IsMalformed C.sum_of size log (lid_of ptr) (unsigned_abs lsn / size) }
+        ensures reading { let s = state_of (D.trace (device_of self.new)) in let size = segment_size_of self.old in
+            IfOk result (IsReading C.sum_of size s.log.bytes s.blobs.file (lid_of ptr) (unsigned_abs lsn / size)) }
+        ensures corrupt { let s = state_of (D.trace (device_of self.new)) in let size = segment_size_of self.old in
+            IsCorruption result → IsNoPlace size lsn (lid_of ptr) ⊎ IsUnreadable C.sum_of size s.log.bytes s.blobs.file (lid_of ptr) (unsigned_abs lsn / size) }
         ensures unwritten { lsn <ℤ pos (synced_end self.old) → D.trace (device_of self.new) ≡ D.trace (device_of self.old) }
         ensures refused { fault_of self.old ≡ None → IsNoPlace (segment_size_of self.old) lsn (lid_of ptr) → IsCorruption result × (self.new ≡ self.old) }
         ensures keeps { Preserves D.trace C.sum_of self.old self.new }
         ensures ended { NoneOpen self.old → NoneOpen self.new }
         ensures position { SamePosition self.old self.new }
-        ensures answers { ReadAnswers result (fault_of self.old) (fault_of self.new) (D.faults (device_of self.old)) (D.faults (device_of self.new)) }
+        ensures answers { let blobs = (state_of (D.trace (device_of self.new))).blobs.file in
+            ReadAnswers C.sum_of blobs result (fault_of self.old) (fault_of self.new) (D.faults (device_of self.old)) (D.faults (device_of self.new)) }
         ensures faulty { (e : IoError) → fault_of self.old ≡ Some e → self.new ≡ self.old }
     {
         if let Some(e) = self.fault {
@@ -334,15 +335,16 @@ impl<D: Device, C: Checksum> Log<D, C> {
     fn read_settled(&mut self, lid: LogOffset, number: SegmentNumber) -> Result<LogRead>
         requires fault { fault_of self.old ≡ None }
         requires begin { MayBegin (segment_size_of self.old) lid }
-        ensures reading { let log = (state_of (D.trace (device_of self.old))).log.bytes in
-            IfOk result (IsReading C.sum_of (segment_size_of self.old) log lid number.0) }
-        ensures malformed { let log = (state_of (D.trace (device_of self.old))).log.bytes in
-            IsCorruption result → IsMalformed C.sum_of (segment_size_of self.old) log lid number.0 }
+        ensures reading { let s = state_of (D.trace (device_of self.old)) in
+            IfOk result (IsReading C.sum_of (segment_size_of self.old) s.log.bytes s.blobs.file lid number.0) }
+        ensures unreadable { let s = state_of (D.trace (device_of self.old)) in
+            IsCorruption result → IsUnreadable C.sum_of (segment_size_of self.old) s.log.bytes s.blobs.file lid number.0 }
         ensures keeps { Preserves D.trace C.sum_of self.old self.new }
         ensures ended { NoneOpen self.old → NoneOpen self.new }
         ensures position { SamePosition self.old self.new }
         ensures trace { D.trace (device_of self.new) ≡ D.trace (device_of self.old) }
-        ensures answers { ReadAnswers result None (fault_of self.new) (D.faults (device_of self.old)) (D.faults (device_of self.new)) }
+        ensures answers { let blobs = (state_of (D.trace (device_of self.old))).blobs.file in
+            ReadAnswers C.sum_of blobs result None (fault_of self.new) (D.faults (device_of self.old)) (D.faults (device_of self.new)) }
     {
         let answer = read_message(&mut self.config, None, lid, number);
         self.fault = failure_of(&answer);

@@ -6,7 +6,7 @@ use Rattle.sled_store.specs.Device.{State, Content, file_named}
 use Rattle.sled_store.specs.OwnNames.{AreNoted}
 use Rattle.sled_store.specs.OwnParts.{IsNoted}
 use Rattle.sled_store.specs.SnapshotFiles.{IsSnapshotFile}
-use Rattle.sled_core.specs.Scan.{IsBlob}
+use Rattle.sled_store.specs.Blobs.{IsBlob}
 use Rattle.sled_log.specs.declared.own.LeftFiles.{LeftFiles}
 use Rattle.sled_log.specs.declared.own.Past.{Past}
 

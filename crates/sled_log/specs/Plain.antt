@@ -3,13 +3,10 @@ use Rattle.std.specs.Prelude.{◌≡◌, ◌↔◌, Contains, ◌+◌, ◌/◌, 
 use Rattle.std.specs.List.{All}
 use Rattle.sled_core.specs.declared.iterator.scan.ScannedRecord.{ScannedRecord}
 use Rattle.sled_core.specs.declared.iterator.Segment.{Segment}
-use Rattle.sled_core.specs.Scan.{Readable, IsFoundSegment, IsMisplaced, IsPath, IsDamagedAt}
+use Rattle.sled_core.specs.Reading.{IsMalformed}
+use Rattle.sled_core.specs.Scan.{IsFoundSegment, IsMisplaced, IsPath}
 use Rattle.sled_log.specs.declared.snapshot.reference.Pass.{Pass}
 use Rattle.sled_log.specs.Recovery.{Scanned, open_at, passed_in, stops_in, scanned_of}
-
--- a log file, where there are no blobs
-abbrev pub log_alone : List ℕ → Readable
-log_alone log = record { log = log; blobs = λ _. None }
 
 -- each begins above the one before it, and the first at this place or above it
 abbrev pub Chain : ℕ → List Segment → Type 0
@@ -56,10 +53,10 @@ stop_of end last [] = last
 stop_of end last (s ∷ ss) = Some (stops_in end s (open_at end s.met) ss)
 
 -- A damaged record is met in a segment of the pass, before a batch that is open.
-pub record IsDamagedBefore (sum : List ℕ → ℕ) (size : ℕ) (r : Readable) (end : ℕ) (segment : Segment) : Type 0 where
+pub record IsDamagedBefore (sum : List ℕ → ℕ) (size : ℕ) (log : List ℕ) (end : ℕ) (segment : Segment) : Type 0 where
   pub met : List ScannedRecord
   pub next : ℕ
-  pub path : IsPath sum size r segment.slot segment.place 20 met next
+  pub path : IsPath sum size log segment.slot segment.place 20 met next
   pub not_open : open_at end met ≡ None
   pub room : next + 32 ≤ size
-  pub damaged : IsDamagedAt sum size r (segment.slot + next) (segment.place / size)
+  pub damaged : IsMalformed sum size log (segment.slot + next) (segment.place / size)

@@ -9,18 +9,19 @@ use Rattle.sled_codec.specs.Snapshots.{Entry, Page, Present, Free, Uninitialized
 use Rattle.sled_store.specs.SnapshotFiles.{BeginsFrom, IsDamagedSnapshot}
 use Rattle.sled_core.specs.declared.iterator.scan.ScannedRecord.{ScannedRecord}
 use Rattle.sled_core.specs.declared.iterator.scan.RecordContent.{RecordContent}
-use Rattle.sled_core.specs.declared.iterator.scan.RecordContent.TheVariants.{Gives, Skipped, BatchStart}
+use Rattle.sled_core.specs.declared.iterator.scan.RecordContent.TheVariants.{Gives, NamesBlob, Skipped, BatchStart}
 use Rattle.sled_core.specs.declared.iterator.Segment.{Segment}
 use Rattle.sled_core.specs.declared.iterator.scan.SegmentScan.{SegmentScan}
-use Rattle.sled_core.specs.Scan.{Readable, IsDamagedIn, IsPath, IsEnd, IsDamagedAt}
+use Rattle.sled_core.specs.Reading.{IsMalformed}
+use Rattle.sled_core.specs.Scan.{IsDamagedIn, IsPath, IsEnd}
 pub use Rattle.sled_core.specs.Tail.{IsUnordered, is_ascending, IsOrdering, Scanned, IsScanned, place_of_mark, greatest_mark, tail_begins, GoesOn, IsTail, tail_end, begun_below, AreScanned, opens, before_open, open_at, stops_in, is_filled, cut_of, IsTailPart, least_place}
 
 -- The pass over the messages.
 
 -- A segment as the pass reads it: to its end, or to any place behind a batch that is open. What stands behind that batch is neither asked for nor looked at.
-abbrev pub IsReplayed : (List ℕ → ℕ) → ℕ → Readable → ℕ → Scanned → Type 0
-IsReplayed sum size r end s =
-    IsPath sum size r s.segment.slot s.segment.place 20 s.met s.stop × IfNone (open_at end s.met) (IsEnd sum size r s.segment.slot s.segment.place s.stop s.why)
+abbrev pub IsReplayed : (List ℕ → ℕ) → ℕ → List ℕ → ℕ → Scanned → Type 0
+IsReplayed sum size log end s =
+    IsPath sum size log s.segment.slot s.segment.place 20 s.met s.stop × IfNone (open_at end s.met) (IsEnd sum size log s.segment.slot s.segment.place s.stop s.why)
 
 -- behind a segment with a batch that is open nothing is read, and behind another one this
 abbrev pub StopsOrGoesOn : Option ℕ → List Scanned → Type 0 → Type 0
@@ -28,11 +29,11 @@ StopsOrGoesOn (Some place) rest on = rest ≡ []
 StopsOrGoesOn None rest on = on
 
 -- these segments as the pass reads them, up to the first one with a batch that is open
-abbrev pub AreReplayed : (List ℕ → ℕ) → ℕ → Readable → ℕ → List Segment → List Scanned → Type 0
-AreReplayed sum size r end [] [] = Unit {0}
-AreReplayed sum size r end [] (x ∷ xs) = ⊥
-AreReplayed sum size r end (s ∷ ss) [] = ⊥
-AreReplayed sum size r end (s ∷ ss) (x ∷ xs) = (x.segment ≡ s) × IsReplayed sum size r end x × StopsOrGoesOn (open_at end x.met) xs (AreReplayed sum size r end ss xs)
+abbrev pub AreReplayed : (List ℕ → ℕ) → ℕ → List ℕ → ℕ → List Segment → List Scanned → Type 0
+AreReplayed sum size log end [] [] = Unit {0}
+AreReplayed sum size log end [] (x ∷ xs) = ⊥
+AreReplayed sum size log end (s ∷ ss) [] = ⊥
+AreReplayed sum size log end (s ∷ ss) (x ∷ xs) = (x.segment ≡ s) × IsReplayed sum size log end x × StopsOrGoesOn (open_at end x.met) xs (AreReplayed sum size log end ss xs)
 
 -- A message that is applied: what it does, to which page, and its entry.
 pub record Applied : Type 0 where
@@ -52,6 +53,7 @@ IsSublist (x ∷ xs) (y ∷ ys) = (x ≡ y) × IsSublist xs ys ⊎ IsSublist (x 
 
 abbrev pub applied_of : ScannedRecord → RecordContent → List Applied
 applied_of m (Gives kind page pointer) = record { kind = kind; page = page; entry = (pos m.place, pointer, m.len) } ∷ []
+applied_of m (NamesBlob kind page lid place) = []
 applied_of m Skipped = []
 applied_of m (BatchStart peg) = []
 
@@ -155,14 +157,14 @@ outcome_of size first end (s ∷ ss) = concluded size first (given (stable_place
 -- The whole.
 
 -- A damaged record is met where the tail is read.
-pub record IsDamagedTail (sum : List ℕ → ℕ) (size : ℕ) (r : Readable) (ordering : List Segment) (place : ℕ) : Type 0 where
+pub record IsDamagedTail (sum : List ℕ → ℕ) (size : ℕ) (log : List ℕ) (ordering : List Segment) (place : ℕ) : Type 0 where
   pub before : List Scanned
   pub next : ℕ
-  pub part : IsTailPart sum size r ordering place before next
+  pub part : IsTailPart sum size log ordering place before next
   pub segment : Segment
   pub there : Contains ordering segment
   pub at : segment.place ≡ next
-  pub damaged : IsDamagedIn sum size r segment.slot segment.place
+  pub damaged : IsDamagedIn sum size log segment.slot segment.place
 
 -- none of these has a batch that does not end below this place
 abbrev pub AreClosed : ℕ → List Scanned → Type 0
@@ -170,46 +172,46 @@ AreClosed end [] = Unit {0}
 AreClosed end (s ∷ ss) = (open_at end s.met ≡ None) × AreClosed end ss
 
 -- A damaged record is met in the pass, before a batch that is open.
-pub record IsDamagedPass (sum : List ℕ → ℕ) (size : ℕ) (r : Readable) (end : ℕ) (segments : List Segment) : Type 0 where
+pub record IsDamagedPass (sum : List ℕ → ℕ) (size : ℕ) (log : List ℕ) (end : ℕ) (segments : List Segment) : Type 0 where
   pub first : List Segment
   pub segment : Segment
   pub rest : List Segment
   pub is : segments ≡ first ++ segment ∷ rest
   pub before : List Scanned
-  pub scanned : AreScanned sum size r first before
+  pub scanned : AreScanned sum size log first before
   pub closed : AreClosed end before
   pub met : List ScannedRecord
   pub next : ℕ
-  pub path : IsPath sum size r segment.slot segment.place 20 met next
+  pub path : IsPath sum size log segment.slot segment.place 20 met next
   pub not_open : open_at end met ≡ None
   pub room : next + 32 ≤ size
-  pub damaged : IsDamagedAt sum size r (segment.slot + next) (segment.place / size)
+  pub damaged : IsMalformed sum size log (segment.slot + next) (segment.place / size)
 
 -- what comes of a tail that ends there
-abbrev pub Passes : (List ℕ → ℕ) → ℕ → Readable → SnapshotModel → List Segment → Option ℕ → Outcome → Type 0
-Passes sum size r first ordering None o = o ≡ Recovered (unchanged first)
-Passes sum size r first ordering (Some end) o =
-    ((o ≡ Damaged) × IsDamagedPass sum size r end (begun_below end ordering))
-    ⊎ ((passes : List Scanned) × AreReplayed sum size r end (begun_below end ordering) passes × (o ≡ outcome_of size first end passes))
+abbrev pub Passes : (List ℕ → ℕ) → ℕ → List ℕ → SnapshotModel → List Segment → Option ℕ → Outcome → Type 0
+Passes sum size log first ordering None o = o ≡ Recovered (unchanged first)
+Passes sum size log first ordering (Some end) o =
+    ((o ≡ Damaged) × IsDamagedPass sum size log end (begun_below end ordering))
+    ⊎ ((passes : List Scanned) × AreReplayed sum size log end (begun_below end ordering) passes × (o ≡ outcome_of size first end passes))
 
 -- what comes of the segments that are found
-abbrev pub Replays : (List ℕ → ℕ) → ℕ → Readable → SnapshotModel → List Segment → ℕ → Outcome → Type 0
-Replays sum size r first ordering tail o =
-    ((o ≡ Damaged) × IsDamagedTail sum size r ordering tail)
-    ⊎ ((scanned : List Scanned) × IsTail sum size r ordering tail scanned × Passes sum size r first ordering (tail_end scanned) o)
+abbrev pub Replays : (List ℕ → ℕ) → ℕ → List ℕ → SnapshotModel → List Segment → ℕ → Outcome → Type 0
+Replays sum size log first ordering tail o =
+    ((o ≡ Damaged) × IsDamagedTail sum size log ordering tail)
+    ⊎ ((scanned : List Scanned) × IsTail sum size log ordering tail scanned × Passes sum size log first ordering (tail_end scanned) o)
 
 -- What recovery makes of a log file from a snapshot on.
-unfoldable pub ContinuesFrom : (List ℕ → ℕ) → ℕ → Readable → SnapshotModel → Outcome → Type 0
-ContinuesFrom sum size r first o =
+unfoldable pub ContinuesFrom : (List ℕ → ℕ) → ℕ → List ℕ → SnapshotModel → Outcome → Type 0
+ContinuesFrom sum size log first o =
     let least = least_place size first in
-    ((o ≡ Damaged) × IsUnordered sum size r.log least)
-    ⊎ ((ordering : List Segment) × IsOrdering sum size r.log least ordering × Replays sum size r first ordering (tail_begins size least ordering) o)
+    ((o ≡ Damaged) × IsUnordered sum size log least)
+    ⊎ ((ordering : List Segment) × IsOrdering sum size log least ordering × Replays sum size log first ordering (tail_begins size least ordering) o)
 
 -- What recovery makes of what it reads.
-unfoldable pub Recovers : (List ℕ → ℕ) → ℕ → Readable → (ℤ → Option (List ℕ)) → Outcome → Type 0
-Recovers sum size r snapshots o =
+unfoldable pub Recovers : (List ℕ → ℕ) → ℕ → List ℕ → (ℤ → Option (List ℕ)) → Outcome → Type 0
+Recovers sum size log snapshots o =
     ((o ≡ Damaged) × IsDamagedSnapshot sum snapshots)
-    ⊎ ((first : SnapshotModel) × BeginsFrom sum snapshots first × ContinuesFrom sum size r first o)
+    ⊎ ((first : SnapshotModel) × BeginsFrom sum snapshots first × ContinuesFrom sum size log first o)
 
 -- a segment as code has it, and what is met in it
 abbrev pub scanned_of : Segment → SegmentScan → Scanned

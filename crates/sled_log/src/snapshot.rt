@@ -8,13 +8,12 @@ ghost use Rattle.sled_store.specs.Moments.{IsLater, LeavesOnly};
 ghost use Rattle.sled_store.specs.Script.{Performs};
 ghost use Rattle.sled_store.specs.Causes.{DeviceAnswers};
 ghost use Rattle.sled_core.specs.Reading.{file_of};
-ghost use Rattle.sled_core.specs.Scan.{read_of, IsFoundSegment, IsMisplaced};
+ghost use Rattle.sled_core.specs.Scan.{IsFoundSegment, IsMisplaced};
 ghost use Rattle.sled_core.specs.Good.{IsGood};
 ghost use Rattle.sled_core.specs.Recoverable.{RecoverableIfOwn, LeavesRecoverable};
 ghost use Rattle.sled_core.specs.Keeps.{ConfigKept, OnlyReads};
 ghost use Rattle.sled_core.specs.Running.{Ready};
 ghost use Rattle.sled_codec.specs.PageTables.{IsTable};
-ghost use Rattle.sled_log.specs.Plain.{log_alone};
 ghost use Rattle.sled_log.specs.Restores.{ComesOf, IsBeyondRecovery, RecoveryCalls, Restores};
 ghost use Rattle.sled_log.specs.Orderly.{CanRecover};
 ghost use Rattle.sled_log.specs.Recovery.{least_place, tail_begins, IsOrdering, Recovered, Damaged, ContinuesFrom, Recovers};
@@ -116,7 +115,7 @@ fn settle<D: Device>(device: &mut D) -> Result<()>
 /// of one log, where a damaged record is met, where the table can't be one, and where the file is longer.
 pub(crate) fn recover<D: Device, C: Checksum>(config: &mut RunningConfig<D, C>) -> Result<Recovery>
     ensures ok { let old = state_of (D.trace config.old.device) in
-        IfOk result (λ x. Recovers C.sum_of config.old.config.segment_size (log_alone old.log.bytes) old.snapshots.file (Recovered (result_of x))) }
+        IfOk result (λ x. Recovers C.sum_of config.old.config.segment_size old.log.bytes old.snapshots.file (Recovered (result_of x))) }
     ensures corrupt { IsCorruption result → IsBeyondRecovery C.sum_of config.old.config.segment_size (state_of (D.trace config.old.device)) }
     ensures short { OnOk result (length (state_of (D.trace config.old.device)).log.bytes ≤ config.old.config.segment_size) }
     ensures answers { DeviceAnswers result (D.faults config.old.device) (D.faults config.new.device) }
@@ -138,9 +137,9 @@ fn continue_from<D: Device, C: Checksum>(
 ) -> Result<Recovery>
     requires short { length (state_of (D.trace config.old.device)).log.bytes ≤ config.old.config.segment_size }
     ensures ok { let log = (state_of (D.trace config.old.device)).log.bytes in
-        IfOk result (λ x. ContinuesFrom C.sum_of config.old.config.segment_size (log_alone log) (model_of first) (Recovered (result_of x))) }
+        IfOk result (λ x. ContinuesFrom C.sum_of config.old.config.segment_size log (model_of first) (Recovered (result_of x))) }
     ensures corrupt { let log = (state_of (D.trace config.old.device)).log.bytes in
-        IsCorruption result → ContinuesFrom C.sum_of config.old.config.segment_size (log_alone log) (model_of first) Damaged }
+        IsCorruption result → ContinuesFrom C.sum_of config.old.config.segment_size log (model_of first) Damaged }
     ensures answers { DeviceAnswers result (D.faults config.old.device) (D.faults config.new.device) }
     ensures reads { OnlyReads D.trace config.old config.new }
 {
@@ -170,8 +169,8 @@ fn continue_in<D: Device, C: Checksum>(
         IsFoundSegment C.sum_of size (file_of buf.now) (least_place size (model_of first)) segment.now }
     requires only { let size = config.old.config.segment_size in
         (IsMisplaced size segment.now → ⊥) → IsOrdering C.sum_of size (file_of buf.now) (least_place size (model_of first)) (segment.now ∷ []) }
-    ensures ok { IfOk result (λ x. ContinuesFrom C.sum_of config.old.config.segment_size (read_of buf.now) (model_of first) (Recovered (result_of x))) }
-    ensures corrupt { IsCorruption result → ContinuesFrom C.sum_of config.old.config.segment_size (read_of buf.now) (model_of first) Damaged }
+    ensures ok { IfOk result (λ x. ContinuesFrom C.sum_of config.old.config.segment_size (file_of buf.now) (model_of first) (Recovered (result_of x))) }
+    ensures corrupt { IsCorruption result → ContinuesFrom C.sum_of config.old.config.segment_size (file_of buf.now) (model_of first) Damaged }
     ensures answers { DeviceAnswers result (D.faults config.old.device) (D.faults config.new.device) }
     ensures reads { OnlyReads D.trace config.old config.new }
 {

@@ -4,11 +4,12 @@ use Rattle.std.specs.IoError.{error_kind}
 use Rattle.std.specs.List.Sorted.{IsStrictlySortedBy}
 use Rattle.std.specs.Ordering.{int_cmp}
 use Rattle.std.specs.declared.io.ErrorKind.TheVariants.{NotFound, AlreadyExists}
-use Rattle.sled_codec.specs.declared.result.DiskPtr.TheVariants.{Blob}
+use Rattle.sled_codec.specs.declared.result.DiskPtr.{DiskPtr}
+use Rattle.sled_codec.specs.declared.result.DiskPtr.TheVariants.{Inline, Blob}
 use Rattle.sled_codec.specs.declared.result.Error.{Error}
 use Rattle.sled_codec.specs.declared.result.Error.TheVariants.{Io, OutOfMemory, Corruption}
 use Rattle.sled_codec.specs.declared.serialization.message.MessageKind.{MessageKind}
-use Rattle.sled_codec.specs.Kinds.{kind_of}
+use Rattle.sled_codec.specs.Kinds.{kind_of, code_of}
 use Rattle.sled_codec.specs.Spelling.{low_bytes}
 use Rattle.sled_store.specs.Answers.{is_fault}
 use Rattle.sled_store.specs.Device.{Content, State, Leaves, Event, BlobMade, BlobSynced, BlobRemoved, NamesSynced}
@@ -16,6 +17,23 @@ use Rattle.sled_store.specs.Device.{Content, State, Leaves, Event, BlobMade, Blo
 -- The bytes of a blob that passes: a checksum, the code of a kind, and an item.
 abbrev pub blob_bytes : (List ℕ → ℕ) → ℕ → List ℕ → List ℕ
 blob_bytes sum code item = low_bytes 4 (sum (code ∷ item)) ++ code ∷ item
+
+-- the bytes are those of a blob of this kind and this item
+abbrev pub IsBlob : (List ℕ → ℕ) → List ℕ → MessageKind → List ℕ → Type 0
+IsBlob sum bytes kind item = bytes ≡ blob_bytes sum (code_of kind) item
+
+-- a blob with these bytes has an item for a message of this kind
+abbrev pub PassesFor : (List ℕ → ℕ) → MessageKind → List ℕ → Type 0
+PassesFor sum kind bytes = (item : List ℕ) × IsBlob sum bytes kind item
+
+-- A message of this kind and the blob at a place: it is missing, or has this item.
+abbrev pub IsItemOf : (List ℕ → ℕ) → MessageKind → Option (List ℕ) → Option (List ℕ) → Type 0
+IsItemOf sum kind file None = file ≡ None
+IsItemOf sum kind file (Some item) = (bytes : List ℕ) × (file ≡ Some bytes) × IsBlob sum bytes kind item
+
+-- a blob that is there has no item for a message of this kind
+abbrev pub IsDamagedFor : (List ℕ → ℕ) → MessageKind → Option (List ℕ) → Type 0
+IsDamagedFor sum kind file = (bytes : List ℕ) × (file ≡ Some bytes) × (PassesFor sum kind bytes → ⊥)
 
 -- what a blob with these bytes holds: the kind whose code it has, and the item
 pub record HoldsItem (sum : List ℕ → ℕ) (bytes : List ℕ) (kind : MessageKind) (item : List ℕ) : Type 0 where
@@ -52,6 +70,11 @@ from_place least places = filter (λ p. int_le least p) places
 abbrev pub MayGo : (ℤ → Option (List ℕ)) → ℤ → List ℤ → Type 0
 MayGo file least places = (places ≡ []) ⊎ AreFrom file least places
 
+-- it says that nothing is under a name
+abbrev pub IsMissing : Error → Type 0
+IsMissing (Io e) = error_kind e ≡ NotFound
+IsMissing _ = ⊥
+
 -- Why a blob was not made: one is there, the device failed, or memory was refused.
 abbrev pub MakeAnswers : {T : Type 0} → Result T Error → Option (List ℕ) → ℕ → ℕ → Type 0
 MakeAnswers (Ok _) file before after = (file ≡ None) × (after ≡ before)
@@ -74,3 +97,17 @@ RemoveAnswers (Ok _) before after = after ≡ before
 RemoveAnswers (Err (Io e)) before after = IsTrue (is_fault e) × (after ≡ (before + 1) % 2 ^ 64)
 RemoveAnswers (Err OutOfMemory) before after = after ≡ before
 RemoveAnswers (Err _) before after = ⊥
+
+-- damage names nothing, or a blob whose checksum fails
+abbrev pub NamesDamage : (List ℕ → ℕ) → (ℤ → Option (List ℕ)) → Option DiskPtr → Type 0
+NamesDamage sum blobs None = Unit {0}
+NamesDamage sum blobs (Some (Blob lid place)) = (lid ≡ 0) × (bytes : List ℕ) × (blobs place ≡ Some bytes) × (5 ≤ length bytes) × IsDamagedBlob sum bytes
+NamesDamage sum blobs (Some (Inline lid)) = ⊥
+
+-- Why the item of a message was not read: its blob is damaged, the device failed, or memory was refused.
+abbrev pub ItemAnswers : {T : Type 0} → (List ℕ → ℕ) → (ℤ → Option (List ℕ)) → Result T Error → ℕ → ℕ → Type 0
+ItemAnswers sum blobs (Ok _) before after = after ≡ before
+ItemAnswers sum blobs (Err (Io e)) before after = IsTrue (is_fault e) × (after ≡ (before + 1) % 2 ^ 64)
+ItemAnswers sum blobs (Err OutOfMemory) before after = after ≡ before
+ItemAnswers sum blobs (Err (Corruption at)) before after = (after ≡ before) × NamesDamage sum blobs at
+ItemAnswers sum blobs (Err _) before after = ⊥

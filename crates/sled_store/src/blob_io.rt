@@ -2,11 +2,12 @@
 //!
 //! The file of a blob is a checksum, the code of its message's kind, and the item (`docs/FORMATS.md`, "Blobs"). A
 //! blob is durable before its message can be: its bytes are synced, and then its name, before a place is taken.
-ghost use Rattle.std.specs.Prelude.{◌≡◌, ◌≢◌, ◌⊎◌, ◌≤◌, ◌<◌, ◌+◌, ◌++◌, ◌∷◌, [], ℕ, ℤ, List, length, true, Some, None, IfOk, OnOk, IfErr, IsOkUnless, IsSome};
+ghost use Rattle.std.specs.Prelude.{◌≡◌, ◌≢◌, ◌⊎◌, ◌≤◌, ◌<◌, ◌+◌, ◌++◌, ◌∷◌, [], ℕ, ℤ, List, length, true, Some, None, IfOk, OnOk, IfErr, IsOkUnless, IsSome, IsTrue, ◌↔◌, option_map};
 ghost use Rattle.sled_codec.specs.Kinds.{code_of};
 ghost use Rattle.sled_codec.specs.Spelling.{low_bytes};
 ghost use Rattle.sled_codec.specs.Errors.{IsCorruption};
-ghost use Rattle.sled_store.specs.Blobs.{blob_bytes, HoldsItem, IsDamagedBlob, KeepsBlob, making, removing_blobs, AreFrom, MayGo, from_place, MakeAnswers, BlobAnswers, RemoveAnswers};
+ghost use Rattle.sled_store.specs.Blobs.{blob_bytes, HoldsItem, IsDamagedBlob, KeepsBlob, IsItemOf, IsDamagedFor, IsMissing, making, removing_blobs, AreFrom, MayGo, from_place, MakeAnswers, BlobAnswers, ItemAnswers, RemoveAnswers};
+ghost use Rattle.sled_codec.specs.declared.serialization.message.MessageKind.TheVariants as kind;
 ghost use Rattle.sled_store.specs.Device.{state_of, BlobRemoved};
 ghost use Rattle.sled_store.specs.Script.{Performs, after_all};
 
@@ -14,6 +15,7 @@ use crate::{Device, RunningConfig};
 use sled_codec::result::{DiskPtr, Error, Lsn, Result};
 use sled_codec::serialization::{Checksum, MessageKind, Serialize};
 use std::alloc::Global;
+use std::io::ErrorKind;
 
 /// The checksum and the kind of a blob, in bytes.
 const BLOB_HEADER_LEN: usize = 5;
@@ -135,6 +137,52 @@ fn decode_blob<C: Checksum>(
     }
     let item = Vec::from_slice(alloc, &rest[1..])?;
     Ok((MessageKind::from(rest[0]), item))
+}
+
+/// Returns the item of a message of this kind whose blob is at a place, and `None` where that is missing.
+///
+/// # Errors
+///
+/// `Corruption` where the blob has fewer than five bytes or is of another kind, and with the blob's place where its
+/// checksum fails. `Io` where the device failed, and `OutOfMemory`. Nothing is changed by any.
+pub fn read_item<D: Device, C: Checksum>(
+    config: &mut RunningConfig<D, C>,
+    wanted: MessageKind,
+    place: Lsn,
+) -> Result<Option<Vec<u8>>>
+    requires { wanted ≢ kind.Corrupted }
+    ensures item { IfOk result (λ o. IsItemOf C.sum_of wanted ((state_of (D.trace config.old.device)).blobs.file place) (option_map (λ v. v.items) o)) }
+    ensures damaged { IsCorruption result → IsDamagedFor C.sum_of wanted ((state_of (D.trace config.old.device)).blobs.file place) }
+    ensures answers { let blobs = (state_of (D.trace config.old.device)).blobs.file in
+        ItemAnswers C.sum_of blobs result (D.faults config.old.device) (D.faults config.new.device) }
+    ensures trace { D.trace config.new.device ≡ D.trace config.old.device }
+    ensures config { config.new.config ≡ config.old.config }
+    ensures checksum { config.new.checksum ≡ config.old.checksum }
+{
+    match read_blob(config, place) {
+        Ok((kind, item)) => {
+            if kind != wanted {
+                return Err(Error::Corruption { at: None });
+            }
+            Ok(Some(item))
+        }
+        Err(e) => {
+            if is_missing(&e) {
+                return Ok(None);
+            }
+            Err(e)
+        }
+    }
+}
+
+/// Whether it says that nothing is under a name.
+fn is_missing(e: &Error) -> bool
+    ensures { IsTrue result ↔ IsMissing e.now }
+{
+    match e {
+        Error::Io(e) => e.kind() == ErrorKind::NotFound,
+        _ => false,
+    }
 }
 
 /// Removes the blob at a place. Where it is missing, nothing changes. A crash may bring it back until names are

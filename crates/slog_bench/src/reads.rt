@@ -9,7 +9,7 @@ use crate::world::Running;
 use sled_core::iterator::scan::{RecordContent, ScanEnd, ScannedRecord, SegmentScan, scan};
 use sled_core::iterator::{Segment, read_slot, segment_in};
 use sled_log::device::PlaceSum;
-use sled_log::logger::{BasedBuf, LogKind, ReadAt, SegmentNumber, read_message};
+use sled_log::logger::{BasedBuf, DiskPtr, LogKind, PageId, ReadAt, SegmentNumber, read_message};
 use std::alloc::Global;
 
 /// Whether a call of this name reads the log file or the buffer.
@@ -125,12 +125,9 @@ fn push_met(met: &ScannedRecord, out: &mut Text) {
     out.number(met.len);
     out.push(" ");
     match met.what {
-        RecordContent::Gives(kind, page, at) => {
-            out.push(name_of(kind));
-            out.push(" ");
-            out.number(page);
-            out.push(" ");
-            out.pointer(at);
+        RecordContent::Gives(kind, page, at) => push_message(kind, page, at, out),
+        RecordContent::NamesBlob(kind, page, lid, place) => {
+            push_message(LogKind::from(kind), page, DiskPtr::Blob(lid, place), out);
         }
         RecordContent::Skipped => out.push("passed"),
         RecordContent::BatchStart(peg) => {
@@ -139,6 +136,15 @@ fn push_met(met: &ScannedRecord, out: &mut Text) {
         }
     }
     out.push(")");
+}
+
+// Adds a message: what it does, its page, and where it lies.
+fn push_message(kind: LogKind, page: PageId, at: DiskPtr, out: &mut Text) {
+    out.push(name_of(kind));
+    out.push(" ");
+    out.number(page);
+    out.push(" ");
+    out.pointer(at);
 }
 
 /// Returns the name of what a message does to its page.

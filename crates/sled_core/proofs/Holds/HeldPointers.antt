@@ -1,4 +1,4 @@
--- Each message of a history that a log fits has an inline pointer, at which a record may begin; and the record that stands there is not damaged.
+-- Each message of a history that a log fits has an inline pointer, at which a record may begin.
 use Rattle.std.proofs.Common.{◌≡◌, ◌∙◌, ◌≤◌, ◌+◌, ◌%◌, ℕ, max, true, false, if◌then◌else◌, List, [], ◌∷◌, ◌++◌, length, None, refl, sym, ap, subst, arith, inl, inr}
 use Rattle.std.specs.List.{All}
 use Rattle.std.proofs.lemmas.List.Elements.{All-tail, All-append, All-cons}
@@ -63,10 +63,3 @@ fits_lie trace sum log H A f U fits none =
     (All-append (LiesInline size) holds.earlier (completed_in site log.buffer.bytes.items log.buffer.reserved.items)
     (subst (All (LiesInline size)) (sym own) (own_lie size site first sum (holds.written none).log 20 file.own (max 20 log.buffer.written_len) (omega arith) file.stand))
     (completed_lie size site first log.buffer.bytes.items (max 20 log.buffer.written_len) (length log.buffer.bytes.items) log.buffer.reserved.items (omega arith) holds.chain holds.room))
-
--- the record of a message has a body that needs no eight bytes
-pub stands_formed : (sum : List ℕ → ℕ) (size : ℕ) (log : List ℕ) (lid number : ℕ) (m : Message) → MessageStands sum size log lid number m → IsMalformed sum size log lid number → ⊥
-stands_formed sum size log lid number m stands bad =
-    let same : stands.header ≡ bad.header = one_header sum size log lid number stands.header bad.header m.bytes bad.body m.size bad.len stands.stands bad.stands in
-    let holds : is_inline bad.header.kind ≡ true = ap (λ (x : MessageHeader). is_inline x.kind) (sym same) ∙ kind_inline m.kind m.page stands.header.kind stands.known in
-    elim bad.kind [ inl blob ↦ blob_apart bad.header.kind blob holds | inr manifest ↦ not_inline bad.header.kind kind.BatchManifest holds refl manifest ]

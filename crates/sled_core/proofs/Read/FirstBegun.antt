@@ -3,15 +3,15 @@ use Rattle.std.proofs.Common.{⊎_elim, ◌≡◌, ◌⊎◌, ◌≤◌, ◌<◌
 use Rattle.std.specs.List.{Contains}
 use Rattle.std.proofs.Math.Nat.{div-eq_of_lt}
 use Rattle.std.proofs.lemmas.List.Elements.{Contains-append_cases, Contains-append_left, All-contains}
+use Rattle.sled_codec.specs.declared.result.DiskPtr.TheVariants.{Inline, Blob}
 use Rattle.sled_codec.specs.Record.{IsHeader}
 use Rattle.sled_codec.specs.History.{Message, Batch, History, table}
 use Rattle.sled_codec.specs.Snapshots.{SnapshotModel, stable_place}
 use Rattle.sled_store.specs.Device.{Content}
 use Rattle.sled_core.specs.declared.iterator.Segment.{Segment}
-use Rattle.sled_core.specs.Scan.{Readable, IsFoundSegment, IsMisplaced}
+use Rattle.sled_core.specs.Scan.{IsFoundSegment, IsMisplaced}
 use Rattle.sled_core.specs.Tail.{IsOrdering, cut_of}
-use Rattle.sled_core.specs.Good.{Reads, ReadsAt}
-use Rattle.sled_core.specs.Recoverable.{readable, NoMessageBegins, NoBatchBegins, ReadsOrDangles, IsOfHistory, IsReachedIn, IsSegmentOf, IsMarkOf, first_site, first_cut, IsBegun}
+use Rattle.sled_core.specs.Recoverable.{NoMessageBegins, NoBatchBegins, StandsInline, HasItem, PassesIfThere, AreRecoverableBlobs, IsOfHistory, IsReachedIn, IsSegmentOf, IsMarkOf, first_site, first_cut, IsBegun}
 use Rattle.sled_store.proofs.Segments.Elements.{in_nothing}
 use Rattle.sled_store.proofs.Segments.TableEntries.{from_table}
 use Rattle.sled_core.proofs.Read.FoundLemmas.{is_found, only_found, one_found}
@@ -27,6 +27,13 @@ first_segment = record { place = 0; slot = 0; mark = pos 0 -ℤ pos 1 }
 -- where there are no batches none begins
 no_batch_begins : (H : History) (from to : ℕ) → H.batches ≡ [] → NoBatchBegins H from to
 no_batch_begins H from to none b there = absurd (in_nothing b (subst (λ (l : List Batch). Contains l b) none there))
+
+-- where there are no blobs none is damaged
+pub no_blob_named : (sum : List ℕ → ℕ) (blobs : ℤ → Option (List ℕ)) (H : History) → ((n : ℤ) → blobs n ≡ None) → (m : Message) → Contains H.messages m → PassesIfThere sum blobs m m.pointer
+no_blob_named sum blobs H none m there = elim m.pointer as (PassesIfThere sum blobs m) [
+  | Inline lid ↦ tt
+  | Blob lid place ↦ λ k known damaged. (let both : None ≡ Some damaged.0 = sym (none place) ∙ damaged.1 in cc)
+]
 
 -- Where a pass ends at an offset of the first segment, that gives the cut.
 
@@ -55,8 +62,8 @@ first_cut_within size stop inside = by_test (nat_lt size (stop + 32)) where
 -- What a segment that was begun has.
 module _ (sum : List ℕ → ℕ) (size : ℕ) (content : Content) (H : History) (A : ℕ) (first : SnapshotModel) (in_reach : size < 2 ^ 63)
     (no_batches : H.batches ≡ []) (short : length content.log ≤ size) (begun : IsBegun sum size content.log H A (stable_place first.stable)) where
-  abbrev r : Readable
-  r = readable content
+  abbrev log : List ℕ
+  log = content.log
 
   abbrev stop : ℕ
   stop = begun.stop
@@ -97,8 +104,8 @@ module _ (sum : List ℕ → ℕ) (size : ℕ) (content : Content) (H : History)
   stands : (m : Message) → Contains begun.own m → StandsWhole sum size content.log m
   stands m there = All-contains (StandsWhole sum size content.log) begun.own m (own_stands sum size content.log first_site 20 begun.own stop (omega arith) begun.stand) there
 
-  reached : (m : Message) → Contains begun.own m → IsReachedIn sum size r first_segment m
-  reached m there = All-contains (IsReachedIn sum size r first_segment) begun.own m (all_reached sum size r first_site stop (pos 0 -ℤ pos 1) begun.own begun.stand) there
+  reached : (m : Message) → Contains begun.own m → IsReachedIn sum size log first_segment m
+  reached m there = All-contains (IsReachedIn sum size log first_segment) begun.own m (all_reached sum size log first_site stop (pos 0 -ℤ pos 1) begun.own begun.stand) there
 
   -- nothing of the history begins within one of them
   none_within : (m : Message) → Contains begun.own m → NoMessageBegins H (m.place + 1) (m.place + m.size)
@@ -108,19 +115,20 @@ module _ (sum : List ℕ → ℕ) (size : ℕ) (content : Content) (H : History)
       let below = (All-contains (λ x. (x.place < first_site.place + stop) × (x.place + x.size ≤ first_site.place + stop)) begun.own m (stand_below sum size content.log first_site 20 begun.own stop begun.stand) there).1 in
       inr (omega (arith, above, cut, below))) (cases n also)
 
-  reads : (m : Message) → Contains begun.own m → Reads sum size content m
-  reads m there = let whole = stands m there in subst (ReadsAt sum size content m) (sym whole.1) whole.2
+  stands_inline : (m : Message) → Contains begun.own m → StandsInline sum size log m m.pointer
+  stands_inline m there = let whole = stands m there in subst (StandsInline sum size log m) (sym whole.1) whole.2
 
-  reads_or_dangles : (m : Message) → Contains begun.own m → ReadsOrDangles sum size content m m.pointer
-  reads_or_dangles m there = let whole = stands m there in subst (ReadsOrDangles sum size content m) (sym whole.1) whole.2
+  -- its item is no blob
+  has_item : (m : Message) → Contains begun.own m → HasItem sum content.blobs m m.pointer
+  has_item m there = let whole = stands m there in subst (HasItem sum content.blobs m) (sym whole.1) tt
 
   -- what is met of a message is of the history
-  pub of_history : (m : Message) → Contains begun.own m → IsOfHistory sum size content H (met_of m)
+  pub of_history : (m : Message) → Contains begun.own m → IsOfHistory sum size log H (met_of m)
   of_history m there =
-      inl (m, own_there m there, record { place = refl; len = refl; what = inl refl }, reads_or_dangles m there, none_within m there, no_batch_begins H m.place (m.place + m.size) no_batches)
+      inl (m, own_there m there, record { place = refl; len = refl; what = inl refl }, stands_inline m there, none_within m there, no_batch_begins H m.place (m.place + m.size) no_batches)
 
   -- each entry of a table up to the cut has its segment
-  pub entry_there : (cut page : ℕ) (m : Message) → cut ≤ first_cut size stop → Contains (table H cut page) m → IsSegmentOf sum size r H cut m × Reads sum size content m
+  pub entry_there : (cut page : ℕ) (m : Message) → cut ≤ first_cut size stop → Contains (table H cut page) m → IsSegmentOf sum size log H cut m × StandsInline sum size log m m.pointer
   entry_there cut page m le there =
       let entry = from_table H cut page m there in
       let below = entry.2 in
@@ -132,11 +140,18 @@ module _ (sum : List ℕ → ℕ) (size : ℕ) (content : Content) (H : History)
           reached = reached m own;
           whole = λ n also number lower. reached n (own_of n also (omega (arith, lower, le)));
         },
-        reads m own,
+        stands_inline m own,
       ) where
-        at_first : IsReachedIn sum size r first_segment m → 0 ≡ m.place / size * size
+        at_first : IsReachedIn sum size log first_segment m → 0 ≡ m.place / size * size
         at_first is =
             let room = is.room in
             let place = is.place in
             let lower : m.place < size = omega (arith, room, place) in
             sym (ap (λ n. n * size) (div-eq_of_lt lower) ∙ omega arith)
+
+  -- No blob is asked for.
+  pub blobs_there : (cut : ℕ) → cut ≤ first_cut size stop → ((n : ℤ) → content.blobs n ≡ None) → AreRecoverableBlobs sum content.blobs H cut
+  blobs_there cut le none = record {
+    needed = λ page m there. (let entry = from_table H cut page m there in let below = entry.2 in has_item m (own_of m entry.0 (omega (arith, below, le))));
+    named = no_blob_named sum content.blobs H none;
+  }

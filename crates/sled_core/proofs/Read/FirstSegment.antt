@@ -14,15 +14,14 @@ use Rattle.sled_core.specs.declared.iterator.scan.ScanEnd.TheVariants.{Full, Cap
 use Rattle.sled_core.specs.Scan.{IsFoundSegment}
 use Rattle.sled_core.specs.Tail.{IsOrdering, Scanned, IsScanned, GoesOn, IsTail, tail_begins, stops_in, cut_of, least_place}
 use Rattle.sled_core.specs.LogFile.{IsEmpty}
-use Rattle.sled_core.specs.Good.{Reads}
-use Rattle.sled_core.specs.Recoverable.{AreRecoverableSnapshots, readable, IsOfHistory, IsSegmentOf, IsMarkOf, cut_over, cut_from, IsRecoverableLog, first_site, first_cut, IsUnbegun, IsBegun, IsInFirstSegment, IsRecoverableInFirst, Recoverable}
+use Rattle.sled_core.specs.Recoverable.{AreRecoverableSnapshots, AreRecoverableBlobs, StandsInline, IsMarkBelow, IsOfHistory, IsSegmentOf, IsMarkOf, cut_over, cut_from, IsRecoverableLog, first_site, first_cut, IsUnbegun, IsBegun, IsInFirstSegment, IsRecoverableInFirst, Recoverable}
 use Rattle.sled_store.proofs.Segments.Elements.{in_nothing, only_in, in_one, all_from_in}
 use Rattle.sled_store.proofs.Segments.TableEntries.{from_table}
 use Rattle.sled_core.proofs.Read.FoundLemmas.{zero_mod, found_there, none_ordered}
 use Rattle.sled_core.proofs.Flush.LogFileLemmas.{stand_grows}
 use Rattle.sled_core.proofs.Read.PathLemmas.{met_of}
 use Rattle.sled_core.proofs.Read.StandLemmas.{ending_at, no_open_batch, scan_of}
-use Rattle.sled_core.proofs.Read.FirstBegun.{first_segment, first_cut_is, first_cut_within, only, ordered, marked, of_history, entry_there}
+use Rattle.sled_core.proofs.Read.FirstBegun.{first_segment, first_cut_is, first_cut_within, no_blob_named, only, ordered, marked, of_history, entry_there, blobs_there}
 
 -- a place where a segment begins is the beginning of its own
 whole_place : (size place : ℕ) → place % size ≡ 0 → place / size * size ≡ place
@@ -34,7 +33,7 @@ module _ (sum : List ℕ → ℕ) (size : ℕ) (content : Content) (H : History)
 
   -- Where the snapshot ends at the end of a segment and none is found from there on, the log ends there too.
   ends_there : place % size ≡ 0 → ((s : Segment) → IsFoundSegment sum size content.log (least_place size first) s → ⊥) → A ≤ place
-      → ((page : ℕ) (m : Message) → Contains (table H place page) m → IsSegmentOf sum size (readable content) H place m × Reads sum size content m) → IsRecoverableLog sum size content H A first
+      → ((page : ℕ) (m : Message) → Contains (table H place page) m → IsSegmentOf sum size content.log H place m × StandsInline sum size content.log m m.pointer) → IsRecoverableLog sum size content.log H A first (place, first.active)
   ends_there begins none passed needed =
       let whole : place / size * size ≡ place = whole_place size place begins in
       record {
@@ -48,7 +47,6 @@ module _ (sum : List ℕ → ℕ) (size : ℕ) (content : Content) (H : History)
         truth = λ s x there. absurd (in_nothing s there);
         caps = λ s there. absurd (in_nothing s there);
         tail_there = inr (ap (λ n. n / size * size) whole ∙ whole);
-        cut = (place, first.active);
         is_cut = refl;
         not_below = omega arith;
         passes = passed;
@@ -57,7 +55,7 @@ module _ (sum : List ℕ → ℕ) (size : ℕ) (content : Content) (H : History)
       }
 
   -- Nothing was begun.
-  unbegun_log : IsUnbegun sum size content.log A place → IsRecoverableLog sum size content H A first
+  unbegun_log : IsUnbegun sum size content.log A place → IsRecoverableLog sum size content.log H A first (place, first.active)
   unbegun_log unbegun =
       let at_first = unbegun.at_first in
       let nothing = unbegun.nothing in
@@ -75,7 +73,7 @@ module _ (sum : List ℕ → ℕ) (size : ℕ) (content : Content) (H : History)
         let not_below = is.not_below in
         omega (arith, not_below, least, some, ap (λ (x : Segment). x.place) at_zero)
 
-    filled_log : size ≤ place → IsRecoverableLog sum size content H A first
+    filled_log : size ≤ place → IsRecoverableLog sum size content.log H A first (place, first.active)
     filled_log above =
         let inside = (first_cut_within size begun.stop begun.inside).1 in
         let low = begun.not_below in
@@ -88,11 +86,11 @@ module _ (sum : List ℕ → ℕ) (size : ℕ) (content : Content) (H : History)
     abbrev scanned : Scanned
     scanned = record { segment = first_segment; met = map met_of begun.own; stop = begun.stop; why = ending_at size begun.stop }
 
-    is_scanned : IsScanned sum size (readable content) scanned
+    is_scanned : IsScanned sum size content.log scanned
     is_scanned =
         let at : begun.stop ≡ 0 + begun.stop = omega arith in
         let number : 0 ≡ 0 / size = omega arith in
-        scan_of sum size (readable content) first_site begun.stop begun.own begun.stand (λ room. subst (λ n. IsEmpty sum size content.log (0 + begun.stop) n) number (subst (λ n. IsEmpty sum size content.log n 0) at (begun.empty room)))
+        scan_of sum size content.log first_site begun.stop begun.own begun.stand (λ room. subst (λ n. IsEmpty sum size content.log (0 + begun.stop) n) number (subst (λ n. IsEmpty sum size content.log n 0) at (begun.empty room)))
 
     -- The snapshot ends in the first segment.
     module _ (inside : place < size) where
@@ -103,9 +101,9 @@ module _ (sum : List ℕ → ℕ) (size : ℕ) (content : Content) (H : History)
       tail_first = ap (λ n. max 0 n / size * size) least ∙ whole_place size 0 (zero_mod size)
 
       -- and no other segment is behind it
-      behind : GoesOn (ending_at size begun.stop) [] (IsTail sum size (readable content) (first_segment ∷ []) (tail_begins size (least_place size first) (first_segment ∷ []) + size) [])
+      behind : GoesOn (ending_at size begun.stop) [] (IsTail sum size content.log (first_segment ∷ []) (tail_begins size (least_place size first) (first_segment ∷ []) + size) [])
       behind = by_test (nat_lt size (begun.stop + 32)) where
-        by_test : (b : Bool) → GoesOn (if b then Full else Broken) [] (IsTail sum size (readable content) (first_segment ∷ []) (tail_begins size (least_place size first) (first_segment ∷ []) + size) [])
+        by_test : (b : Bool) → GoesOn (if b then Full else Broken) [] (IsTail sum size content.log (first_segment ∷ []) (tail_begins size (least_place size first) (first_segment ∷ []) + size) [])
         by_test false = refl
         by_test true = λ s there at. absurd (omega (arith, some, ap (λ (x : Segment). x.place) (only_in first_segment s there), at))
 
@@ -115,9 +113,9 @@ module _ (sum : List ℕ → ℕ) (size : ℕ) (content : Content) (H : History)
         by_test false is = cc
         by_test true is = cc
 
-      truth : (x : ScannedRecord) → Contains (map met_of begun.own) x → IsOfHistory sum size content H x
-      truth x there = All-contains (IsOfHistory sum size content H) (map met_of begun.own) x
-          (All-map (IsOfHistory sum size content H) met_of begun.own (all_from_in (λ m. IsOfHistory sum size content H (met_of m)) begun.own (of_history sum size content H A first in_reach no_batches short begun))) there
+      truth : (x : ScannedRecord) → Contains (map met_of begun.own) x → IsOfHistory sum size content.log H x
+      truth x there = All-contains (IsOfHistory sum size content.log H) (map met_of begun.own) x
+          (All-map (IsOfHistory sum size content.log H) met_of begun.own (all_from_in (λ m. IsOfHistory sum size content.log H (met_of m)) begun.own (of_history sum size content H A first in_reach no_batches short begun))) there
 
       abbrev end : ℕ
       end = first_segment.place + begun.stop
@@ -135,7 +133,7 @@ module _ (sum : List ℕ → ℕ) (size : ℕ) (content : Content) (H : History)
           ap (λ (o : Option ℕ). cut_of size (stops_in end scanned o [])) (sym (no_open_batch end begun.own))
           ∙ ap (λ (b : Bool). cut_over size first end (if b then scanned ∷ [] else [])) (sym below)
 
-      begun_log : IsRecoverableLog sum size content H A first
+      begun_log : IsRecoverableLog sum size content.log H A first cut
       begun_log =
           let low = begun.not_below in
           let acknowledged = begun.passes in
@@ -147,36 +145,55 @@ module _ (sum : List ℕ → ℕ) (size : ℕ) (content : Content) (H : History)
             tail = scanned ∷ [];
             is_tail = (in_one first_segment first_segment refl, sym tail_first, is_scanned, behind);
             marks = λ s there. subst (IsMarkOf H) (only_in first_segment s there) (marked sum size content H A first in_reach no_batches short begun);
-            truth = λ s x there. subst (λ (y : Scanned). Contains y.met x → IsOfHistory sum size content H x) (only_in scanned s there) (truth x);
+            truth = λ s x there. subst (λ (y : Scanned). Contains y.met x → IsOfHistory sum size content.log H x) (only_in scanned s there) (truth x);
             caps = λ s there capped. absurd (not_capped (ap (λ (y : Scanned). y.why) (only_in scanned s there) ∙ capped));
             tail_there = inl (first_segment, in_one first_segment first_segment refl, sym tail_first);
-            cut = cut;
             is_cut = is_cut;
             not_below = omega (arith, low, cut_place);
             passes = omega (arith, acknowledged, cut_place);
-            marks_below = λ s there. subst (λ (x : Segment). x.mark <ℤ pos cut.0) (only_in first_segment s there) (omega arith);
+            marks_below = λ s there. subst (λ (x : Segment). IsMarkBelow size H cut.0 x.mark) (only_in first_segment s there) (inl (omega arith));
             needed = λ page m there. entry_there sum size content H A first in_reach no_batches short begun cut.0 page m (omega (arith, cut_place)) there;
           }
 
-  -- The whole log file.
-  log_of : 256 ≤ size → size < 2 ^ 63 → IsInFirstSegment sum size content H A first → IsRecoverableLog sum size content H A first
-  log_of some in_reach in_first = elim in_first.log [
-    | inl unbegun ↦ unbegun_log unbegun
+  -- The whole log file, and the blobs.
+  parts_of : 256 ≤ size → size < 2 ^ 63 → IsInFirstSegment sum size content H A first
+      → (cut : ℕ × Option ℕ) × IsRecoverableLog sum size content.log H A first cut × AreRecoverableBlobs sum content.blobs H cut.0
+  parts_of some in_reach in_first = elim in_first.log [
+    | inl unbegun ↦ (
+      (place, first.active),
+      unbegun_log unbegun,
+      record {
+        needed = λ page m there. (let below = (from_table H place page m there).2 in let at_first = unbegun.at_first in absurd (omega (arith, below, at_first)));
+        named = no_blob_named sum content.blobs H in_first.blobs;
+      },
+    )
     | inr begun ↦ elim (cases_lt place size) [
-      | inl inside ↦ begun_log some in_reach in_first.batches in_first.short begun inside
-      | inr above ↦ filled_log some in_reach in_first.batches in_first.short begun above
+      | inl inside ↦ (
+        cut some in_reach in_first.batches in_first.short begun inside,
+        begun_log some in_reach in_first.batches in_first.short begun inside,
+        blobs_there sum size content H A first in_reach in_first.batches in_first.short begun _ (let is = cut_place some in_reach in_first.batches in_first.short begun inside in omega (arith, is)) in_first.blobs,
+      )
+      | inr above ↦ (
+        (place, first.active),
+        filled_log some in_reach in_first.batches in_first.short begun above,
+        blobs_there sum size content H A first in_reach in_first.batches in_first.short begun place (let low = begun.not_below in omega (arith, low)) in_first.blobs,
+      )
     ]
   ]
 
 -- A recovery can go on from a content of which all of the log is in its first segment.
 pub recoverable_in_first : (sum : List ℕ → ℕ) (size : ℕ) (content : Content) (H : History) (A f : ℕ) → 256 ≤ size → size < 2 ^ 63 → IsRecoverableInFirst sum size content H A f → Recoverable sum size content H A f
 unfolding Recoverable
-recoverable_in_first sum size content H A f some in_reach is = record {
-  first = is.first;
-  snapshots = is.snapshots;
-  log = log_of sum size content H A is.first some in_reach is.segment;
-  one_segment = is.segment;
-}
+recoverable_in_first sum size content H A f some in_reach is =
+    let parts = parts_of sum size content H A is.first some in_reach is.segment in
+    record {
+      first = is.first;
+      cut = parts.0;
+      snapshots = is.snapshots;
+      log = parts.1;
+      blobs = parts.2;
+      one_segment = is.segment;
+    }
 
 -- and where all of it is there, that is its part
 pub first_part : (sum : List ℕ → ℕ) (size : ℕ) (content : Content) (H : History) (A f : ℕ) → Recoverable sum size content H A f → IsRecoverableInFirst sum size content H A f

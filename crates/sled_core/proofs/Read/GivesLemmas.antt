@@ -1,5 +1,5 @@
 -- Where the record of a message stands, what is read is that message.
-use Rattle.std.proofs.Common.{◌≡◌, ◌≤◌, ◌<◌, ◌+◌, ◌/◌, ◌%◌, ℕ, List, [], ◌∷◌, length, sym, ◌∙◌, ap, arith, refl, subst, true, false, Bool, if◌then◌else◌, ◌==◌, None, Some, max, inl, inr}
+use Rattle.std.proofs.Common.{◌≡◌, ◌≤◌, ◌<◌, ◌+◌, ◌/◌, ◌%◌, ℕ, ℤ, Option, List, [], ◌∷◌, length, sym, ◌∙◌, ap, arith, refl, subst, true, false, Bool, if◌then◌else◌, ◌==◌, None, Some, max, inl, inr}
 use Rattle.std.specs.List.{All, Contains}
 use Rattle.std.proofs.lemmas.List.Elements.{Contains-append_cases, All-contains, All-cons}
 use Rattle.sled_codec.specs.declared.result.DiskPtr.TheVariants as ptr
@@ -63,30 +63,33 @@ blob_apart kind.BlobLink blob inline = cc
 blob_apart _ blob inline = cc
 
 -- What is read where a message's record stands gives that message.
-pub gives : (sum : List ℕ → ℕ) (size : ℕ) (log : List ℕ) (lid number : ℕ) (m : Message) (h : MessageHeader) (r : LogRead)
-    → StandsAt sum size log lid number h m.bytes m.size → kind_written m.kind m.page false ≡ Some h.kind → h.pid ≡ m.page → IsReading sum size log lid number r → GivesMessage m r
-gives sum size log lid number m h (Inline h' bytes n) stands known page reads =
+pub gives : (sum : List ℕ → ℕ) (size : ℕ) (log : List ℕ) (blobs : ℤ → Option (List ℕ)) (lid number : ℕ) (m : Message) (h : MessageHeader) (r : LogRead)
+    → StandsAt sum size log lid number h m.bytes m.size → kind_written m.kind m.page false ≡ Some h.kind → h.pid ≡ m.page → IsReading sum size log blobs lid number r → GivesMessage m r
+gives sum size log blobs lid number m h (Inline h' bytes n) stands known page reads =
     let same = one_header sum size log lid number h h' m.bytes bytes.items m.size n stands reads.0 in (
       known ∙ ap (λ (x : MessageHeader). Some x.kind) same,
       sym (ap (λ (x : MessageHeader). x.pid) same) ∙ page,
       sym (one_body sum size log lid number h h' m.bytes bytes.items m.size n stands reads.0),
       sym (one_len sum size log lid number h h' m.bytes bytes.items m.size n stands reads.0),
     )
-gives sum size log lid number m h (Blob h' bytes place n) stands known page reads = reads
-gives sum size log lid number m h (Canceled n) stands known page reads =
-    let same = one_header sum size log lid number h reads.0 m.bytes reads.1 m.size n stands reads.2 in
-    let inline : is_inline reads.0.kind ≡ true = ap (λ (x : MessageHeader). is_inline x.kind) (sym same) ∙ kind_inline m.kind m.page h.kind known in
-    let not_so : is_inline kind.Canceled ≡ true = ap is_inline (sym reads.3) ∙ inline in cc
-gives sum size log lid number m h (Cap segment) stands known page reads =
-    let same = one_header sum size log lid number h reads.0 m.bytes reads.1 m.size reads.2 stands reads.3 in
-    let inline : is_inline reads.0.kind ≡ true = ap (λ (x : MessageHeader). is_inline x.kind) (sym same) ∙ kind_inline m.kind m.page h.kind known in
-    let not_so : is_inline kind.Cap ≡ true = ap is_inline (sym reads.4) ∙ inline in cc
-gives sum size log lid number m h Corrupted stands known page reads = reads h m.bytes m.size stands
-gives sum size log lid number m h (DanglingBlob h' place n) stands known page reads =
+gives sum size log blobs lid number m h (Blob h' bytes place n) stands known page reads =
     let same = one_header sum size log lid number h h' m.bytes reads.0 m.size n stands reads.1 in
     let inline : is_inline h'.kind ≡ true = ap (λ (x : MessageHeader). is_inline x.kind) (sym same) ∙ kind_inline m.kind m.page h.kind known in
     absurd (blob_apart h'.kind reads.2 inline)
-gives sum size log lid number m h (BatchManifest peg n) stands known page reads =
+gives sum size log blobs lid number m h (Canceled n) stands known page reads =
+    let same = one_header sum size log lid number h reads.0 m.bytes reads.1 m.size n stands reads.2 in
+    let inline : is_inline reads.0.kind ≡ true = ap (λ (x : MessageHeader). is_inline x.kind) (sym same) ∙ kind_inline m.kind m.page h.kind known in
+    let not_so : is_inline kind.Canceled ≡ true = ap is_inline (sym reads.3) ∙ inline in cc
+gives sum size log blobs lid number m h (Cap segment) stands known page reads =
+    let same = one_header sum size log lid number h reads.0 m.bytes reads.1 m.size reads.2 stands reads.3 in
+    let inline : is_inline reads.0.kind ≡ true = ap (λ (x : MessageHeader). is_inline x.kind) (sym same) ∙ kind_inline m.kind m.page h.kind known in
+    let not_so : is_inline kind.Cap ≡ true = ap is_inline (sym reads.4) ∙ inline in cc
+gives sum size log blobs lid number m h Corrupted stands known page reads = reads h m.bytes m.size stands
+gives sum size log blobs lid number m h (DanglingBlob h' place n) stands known page reads =
+    let same = one_header sum size log lid number h h' m.bytes reads.0 m.size n stands reads.1 in
+    let inline : is_inline h'.kind ≡ true = ap (λ (x : MessageHeader). is_inline x.kind) (sym same) ∙ kind_inline m.kind m.page h.kind known in
+    absurd (blob_apart h'.kind reads.2 inline)
+gives sum size log blobs lid number m h (BatchManifest peg n) stands known page reads =
     let same = one_header sum size log lid number h reads.0 m.bytes reads.1 m.size n stands reads.2 in
     let inline : is_inline reads.0.kind ≡ true = ap (λ (x : MessageHeader). is_inline x.kind) (sym same) ∙ kind_inline m.kind m.page h.kind known in
     let not_so : is_inline kind.BatchManifest ≡ true = ap is_inline (sym reads.3) ∙ inline in cc

@@ -13,7 +13,7 @@ use Rattle.std.specs.Prelude.{Result, Ok, Err, IfOk}
 use Rattle.sled_core.specs.declared.logger.read_message.LogRead.{LogRead}
 use Rattle.sled_core.specs.declared.logger.read_message.LogRead.TheVariants.{Inline, Blob, Canceled, Cap, Corrupted, DanglingBlob, BatchManifest}
 use Rattle.sled_codec.specs.SpellingLaws.{same_fronts, same_rests}
-use Rattle.sled_core.specs.Reading.{StandsAt, IsLaid, HoldsAs, IsReading, is_inline, is_blob}
+use Rattle.sled_core.specs.Reading.{StandsAt, IsLaid, HoldsAs, IsRecordRead, is_inline, is_blob}
 
 -- a number whose lead is a byte has nine bytes at most
 number_short : (text : List ℕ) (v : ℕ) → SpellsNumber text v → get_or text 0 0 < 256 → (1 ≤ length text) × (length text ≤ 9)
@@ -217,7 +217,7 @@ module _ (size : ℕ) (log : List ℕ) (lid number : ℕ) (header header' : List
 
 -- What a record holds is what is read where it stands.
 pub reading_is : (sum : List ℕ → ℕ) (size : ℕ) (log : List ℕ) (lid number : ℕ) (h : MessageHeader) (body : List ℕ) (len : ℕ) (r : LogRead)
-    → StandsAt sum size log lid number h body len → HoldsAs h body len r → IsReading sum size log lid number r
+    → StandsAt sum size log lid number h body len → HoldsAs h body len r → IsRecordRead sum size log lid number r
 reading_is sum size log lid number h body len (Inline h' bytes n) stands holds = (
   subst (λ (x : MessageHeader). StandsAt sum size log lid number x bytes.items n) (sym holds.0)
       (subst (λ (b : List ℕ). StandsAt sum size log lid number h b n) (sym holds.1) (subst (λ k. StandsAt sum size log lid number h body k) (sym holds.2) stands)),

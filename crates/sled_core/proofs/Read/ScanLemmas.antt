@@ -7,32 +7,32 @@ use Rattle.sled_core.specs.declared.iterator.scan.ScanEnd.{ScanEnd}
 use Rattle.sled_core.specs.declared.iterator.scan.ScanEnd.TheVariants.{Full, Capped, Broken}
 use Rattle.sled_core.specs.declared.iterator.scan.Step.{Step}
 use Rattle.sled_core.specs.declared.iterator.scan.Step.TheVariants.{Meets, Ends}
-use Rattle.sled_core.specs.Scan.{Readable, IsMet, IsStep, IsPath, HasPlace, EndsThere, IsEnd}
+use Rattle.sled_core.specs.Scan.{IsMet, IsStep, IsPath, HasPlace, EndsThere, IsEnd}
 use Rattle.sled_core.proofs.Read.ReadingLemmas.{header_some, laid_of}
 
 -- a record that is met is not shorter than a header, and lies in its slot
-pub met_fits : (sum : List ℕ → ℕ) (size : ℕ) (r : Readable) (lid number : ℕ) (m : ScannedRecord) → IsMet sum size r lid number m → (8 ≤ m.len) × (lid % size + m.len ≤ size)
+pub met_fits : (sum : List ℕ → ℕ) (size : ℕ) (log : List ℕ) (lid number : ℕ) (m : ScannedRecord) → IsMet sum size log lid number m → (8 ≤ m.len) × (lid % size + m.len ≤ size)
 unfolding IsMet
-met_fits sum size r lid number m met =
+met_fits sum size log lid number m met =
     let stands = met.2 in
     let some = header_some stands.header met.0 stands.spelled in
-    let long = (laid_of sum size r.log lid number met.0 met.1 m.len stands).1 in
+    let long = (laid_of sum size log lid number met.0 met.1 m.len stands).1 in
     (omega (arith, some, long), stands.in_slot)
 
 -- what is met at an offset of a slot lies in the segment
-pub step_fits : (sum : List ℕ → ℕ) (size : ℕ) (r : Readable) (slot at place number : ℕ) (step : Step) → (slot + at) % size ≡ at → IsStep sum size r (slot + at) place number step → HasPlace size at step
-step_fits sum size r slot at place number (Meets m) offset is =
-    let fits = met_fits sum size r (slot + at) number m is.1 in
+pub step_fits : (sum : List ℕ → ℕ) (size : ℕ) (log : List ℕ) (slot at place number : ℕ) (step : Step) → (slot + at) % size ≡ at → IsStep sum size log (slot + at) place number step → HasPlace size at step
+step_fits sum size log slot at place number (Meets m) offset is =
+    let fits = met_fits sum size log (slot + at) number m is.1 in
     let end = fits.1 in
     (fits.0, omega (arith, offset, end))
-step_fits sum size r slot at place number (Ends why) offset is = tt
+step_fits sum size log slot at place number (Ends why) offset is = tt
 
-module _ (sum : List ℕ → ℕ) (size : ℕ) (r : Readable) (slot place : ℕ) where
+module _ (sum : List ℕ → ℕ) (size : ℕ) (log : List ℕ) (slot place : ℕ) where
   -- one more record at the end of a path
-  pub one_more : (at : ℕ) (ms : List ScannedRecord) (mid : ℕ) (m : ScannedRecord) → IsPath sum size r slot place at ms mid → mid + 32 ≤ size → m.place ≡ place + mid → IsMet sum size r (slot + mid) (place / size) m
-      → IsPath sum size r slot place at (ms ++ m ∷ []) (mid + m.len)
+  pub one_more : (at : ℕ) (ms : List ScannedRecord) (mid : ℕ) (m : ScannedRecord) → IsPath sum size log slot place at ms mid → mid + 32 ≤ size → m.place ≡ place + mid → IsMet sum size log (slot + mid) (place / size) m
+      → IsPath sum size log slot place at (ms ++ m ∷ []) (mid + m.len)
   one_more at [] mid m path room at_place met =
-      (subst (λ k. k + 32 ≤ size) path room, at_place ∙ ap (λ k. place + k) path, subst (λ k. IsMet sum size r (slot + k) (place / size) m) path met, ap (λ k. k + m.len) path)
+      (subst (λ k. k + 32 ≤ size) path room, at_place ∙ ap (λ k. place + k) path, subst (λ k. IsMet sum size log (slot + k) (place / size) m) path met, ap (λ k. k + m.len) path)
   one_more at (x ∷ ms) mid m path room at_place met = (path.0, path.1, path.2, one_more (at + x.len) ms mid m path.3 room at_place met)
 
 -- an offset in a slot that begins at a multiple of its size
@@ -48,8 +48,8 @@ aligned_number place at size aligned below =
     ap (λ n. (n + at) / size) whole ∙ div-mul-add (place / size) size at below
 
 -- the reading ends where it finds no record to go on with
-pub ends_here : (sum : List ℕ → ℕ) (size : ℕ) (r : Readable) (slot place at : ℕ) (why : ScanEnd) → at + 32 ≤ size → EndsThere sum size r (slot + at) (place / size) why → IsEnd sum size r slot place at why
+pub ends_here : (sum : List ℕ → ℕ) (size : ℕ) (log : List ℕ) (slot place at : ℕ) (why : ScanEnd) → at + 32 ≤ size → EndsThere sum size log (slot + at) (place / size) why → IsEnd sum size log slot place at why
 unfolding EndsThere
-ends_here sum size r slot place at Full room ends = absurd ends
-ends_here sum size r slot place at Capped room ends = (room, ends)
-ends_here sum size r slot place at Broken room ends = (room, ends)
+ends_here sum size log slot place at Full room ends = absurd ends
+ends_here sum size log slot place at Capped room ends = (room, ends)
+ends_here sum size log slot place at Broken room ends = (room, ends)

@@ -11,7 +11,7 @@ use Rattle.sled_core.specs.declared.iterator.scan.ScannedRecord.{ScannedRecord}
 use Rattle.sled_core.specs.declared.iterator.Segment.{Segment}
 use Rattle.sled_core.specs.declared.iterator.scan.ScanEnd.{ScanEnd}
 use Rattle.sled_core.specs.declared.iterator.scan.ScanEnd.TheVariants.{Full, Broken}
-use Rattle.sled_core.specs.Scan.{Readable, IsPath, IsEnd, EndsThere, IsScan}
+use Rattle.sled_core.specs.Scan.{IsPath, IsEnd, EndsThere, IsScan}
 use Rattle.sled_core.specs.Tail.{open_at}
 use Rattle.sled_core.specs.LogFile.{StandIn, IsEmpty}
 use Rattle.sled_core.specs.Recoverable.{IsReachedIn}
@@ -41,23 +41,23 @@ apart_of_two (x ∷ xs) apart m n there also = by_cases (apart_of_two xs apart.2
   by_cases rest (inr later) (inl same) = inl (let behind = above m later in omega (arith, behind, ap (λ (y : Message). y.place) same))
   by_cases rest (inr later) (inr last) = rest later last
 
-module _ (sum : List ℕ → ℕ) (size : ℕ) (r : Readable) (site : SegmentPosition) (end : ℕ) where
+module _ (sum : List ℕ → ℕ) (size : ℕ) (log : List ℕ) (site : SegmentPosition) (end : ℕ) where
   -- the path over them
-  pub path_of : (at : ℕ) (ms : List Message) → StandIn sum size r.log site at ms end → IsPath sum size r site.slot site.place at (map met_of ms) end
+  pub path_of : (at : ℕ) (ms : List Message) → StandIn sum size log site at ms end → IsPath sum size log site.slot site.place at (map met_of ms) end
   path_of at [] stand = stand
-  path_of at (m ∷ ms) stand = (stand.0, stand.1, is_met sum size r (site.slot + at) (site.place / size) m stand.3 stand.2, path_of (at + m.size) ms stand.4)
+  path_of at (m ∷ ms) stand = (stand.0, stand.1, is_met sum size log (site.slot + at) (site.place / size) m stand.3 stand.2, path_of (at + m.size) ms stand.4)
 
   -- where no record stands behind them, the reading ends there
-  end_of : (end + 32 ≤ size → IsEmpty sum size r.log (site.slot + end) (site.place / size)) → IsEnd sum size r site.slot site.place end (ending_at size end)
+  end_of : (end + 32 ≤ size → IsEmpty sum size log (site.slot + end) (site.place / size)) → IsEnd sum size log site.slot site.place end (ending_at size end)
   unfolding EndsThere
   end_of empty = by_test (nat_lt size (end + 32)) refl where
-    by_test : (b : Bool) → nat_lt size (end + 32) ≡ b → IsEnd sum size r site.slot site.place end (if b then Full else Broken)
+    by_test : (b : Bool) → nat_lt size (end + 32) ≡ b → IsEnd sum size log site.slot site.place end (if b then Full else Broken)
     by_test true is = grind (arith, nat_tests, is)
     by_test false is = let room : end + 32 ≤ size = grind (arith, nat_tests, is) in (room, empty room)
 
   -- All that is met in the segment.
-  pub scan_of : (ms : List Message) → StandIn sum size r.log site 20 ms end → (end + 32 ≤ size → IsEmpty sum size r.log (site.slot + end) (site.place / size))
-      → IsScan sum size r site.slot site.place (map met_of ms) end (ending_at size end)
+  pub scan_of : (ms : List Message) → StandIn sum size log site 20 ms end → (end + 32 ≤ size → IsEmpty sum size log (site.slot + end) (site.place / size))
+      → IsScan sum size log site.slot site.place (map met_of ms) end (ending_at size end)
   unfolding IsScan
   scan_of ms stand empty = (path_of 20 ms stand, end_of empty)
 
@@ -65,12 +65,12 @@ module _ (sum : List ℕ → ℕ) (size : ℕ) (r : Readable) (site : SegmentPos
     abbrev segment : Segment
     segment = record { place = site.place; slot = site.slot; mark = mark }
 
-    reached_from : (before : List ScannedRecord) (at : ℕ) (ms : List Message) → IsPath sum size r site.slot site.place 20 before at → StandIn sum size r.log site at ms end → All (IsReachedIn sum size r segment) ms
+    reached_from : (before : List ScannedRecord) (at : ℕ) (ms : List Message) → IsPath sum size log site.slot site.place 20 before at → StandIn sum size log site at ms end → All (IsReachedIn sum size log segment) ms
     reached_from before at [] path stand = λ k d lt. absurd (omega arith)
     reached_from before at (m ∷ ms) path stand =
-        let met = is_met sum size r (site.slot + at) (site.place / size) m stand.3 stand.2 in
-        let more = one_more sum size r site.slot site.place 20 before at (met_of m) path stand.0 stand.1 met in
-        All-cons (IsReachedIn sum size r segment) m ms (record {
+        let met = is_met sum size log (site.slot + at) (site.place / size) m stand.3 stand.2 in
+        let more = one_more sum size log site.slot site.place 20 before at (met_of m) path stand.0 stand.1 met in
+        All-cons (IsReachedIn sum size log segment) m ms (record {
           before = before;
           at = at;
           path = path;
@@ -83,5 +83,5 @@ module _ (sum : List ℕ → ℕ) (size : ℕ) (r : Readable) (site : SegmentPos
         }) (reached_from (before ++ met_of m ∷ []) (at + m.size) ms more stand.4)
 
     -- Each message is reached.
-    pub all_reached : (ms : List Message) → StandIn sum size r.log site 20 ms end → All (IsReachedIn sum size r segment) ms
+    pub all_reached : (ms : List Message) → StandIn sum size log site 20 ms end → All (IsReachedIn sum size log segment) ms
     all_reached ms stand = reached_from [] 20 ms refl stand

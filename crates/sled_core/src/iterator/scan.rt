@@ -3,22 +3,24 @@ ghost use Rattle.std.specs.Prelude.{◌≡◌, ◌+◌, ◌-◌, ◌/◌, ◌%�
 ghost use Rattle.std.specs.List.{All};
 ghost use Rattle.sled_codec.specs.Errors.{IsCorruption};
 ghost use Rattle.sled_store.specs.Causes.{DeviceAnswers};
-ghost use Rattle.sled_core.specs.Reading.{IsReading};
-ghost use Rattle.sled_core.specs.Scan.{HasPlace, IsStep, IsDamagedAt, IsScan, IsDamagedIn, read_of};
+ghost use Rattle.sled_core.specs.Reading.{IsMalformed, IsRecordRead, file_of};
+ghost use Rattle.sled_core.specs.Scan.{HasPlace, IsStep, IsScan, IsDamagedIn};
 
 use crate::logger::read_at::BasedBuf;
-use crate::logger::read_message::{LogRead, read_message};
-use sled_codec::result::{DiskPtr, LogOffset, Lsn, PageId, Result};
-use sled_codec::serialization::{Checksum, LogKind, SegmentNumber};
+use crate::logger::read_message::{LogRead, read_record};
+use sled_codec::result::{BlobPointer, DiskPtr, LogOffset, Lsn, PageId, Result};
+use sled_codec::serialization::{Checksum, LogKind, MessageKind, SegmentNumber};
 use sled_store::segment::{MAX_MSG_HEADER_LEN, SEG_HEADER_LEN};
 use sled_store::{Device, RunningConfig};
 
-/// What a record is to a reader.
+/// What a record is to a reader of the log file, who asks for no blob.
 #[derive(Debug, Clone, Copy)]
 pub enum RecordContent {
-    /// A message: what it does to a page, which page that is, and where it lies.
+    /// A message with its item: what it does to a page, which page that is, and where it lies.
     Gives(LogKind, PageId, DiskPtr),
-    /// A message that was aborted, or whose blob is gone.
+    /// A message whose item is a blob: its kind, its page, where its record lies, and the blob's place.
+    NamesBlob(MessageKind, PageId, LogOffset, BlobPointer),
+    /// A message that was aborted.
     Skipped,
     /// The beginning of a batch whose last byte has this place.
     BatchStart(Lsn),
@@ -66,8 +68,7 @@ pub struct SegmentScan {
     pub ending: ScanEnd,
 }
 
-/// Returns all that is met in a segment, by place. The buffer has the bytes of its slot, and nothing stands in
-/// the place of blobs. It asks that the slot begins at a multiple of the size of segments, and that the slot and
+/// Returns all that is met in a segment, by place. The buffer has the bytes of its slot. It asks that the slot begins at a multiple of the size of segments, and that the slot and
 /// the segment end below 2^63. `segment_in` does not test that, so its caller does.
 ///
 /// # Errors
@@ -81,10 +82,10 @@ pub fn scan<D: Device, C: Checksum>(
     requires place { place + config.old.config.segment_size < 2 ^ 63 }
     requires slot { buf.now.offset + config.old.config.segment_size < 2 ^ 63 }
     requires aligned { buf.now.offset % config.old.config.segment_size ≡ 0 }
-    ensures scan { IfOk result (λ s. IsScan C.sum_of config.old.config.segment_size (read_of buf.now) buf.now.offset place s.met.items s.stop s.ending) }
+    ensures scan { IfOk result (λ s. IsScan C.sum_of config.old.config.segment_size (file_of buf.now) buf.now.offset place s.met.items s.stop s.ending) }
     ensures stop { IfOk result (λ s. (20 ≤ s.stop) × (s.stop ≤ config.old.config.segment_size)) }
     ensures places { IfOk result (λ s. All (λ m. m.place < place + config.old.config.segment_size) s.met.items) }
-    ensures damaged { IsCorruption result → IsDamagedIn C.sum_of config.old.config.segment_size (read_of buf.now) buf.now.offset place }
+    ensures damaged { IsCorruption result → IsDamagedIn C.sum_of config.old.config.segment_size (file_of buf.now) buf.now.offset place }
     ensures answers { DeviceAnswers result (D.faults config.old.device) (D.faults config.new.device) }
     ensures trace { D.trace config.new.device ≡ D.trace config.old.device }
     ensures config { config.new.config ≡ config.old.config }
@@ -111,7 +112,6 @@ pub fn scan<D: Device, C: Checksum>(
 }
 
 /// What is met at an offset of a slot, where a record may begin.
-#[tactic(auto, unfolding(crate::specs::Scan::IsDamagedAt))]
 fn meet<D: Device, C: Checksum>(
     config: &mut RunningConfig<D, C>,
     buf: &BasedBuf,
@@ -122,10 +122,10 @@ fn meet<D: Device, C: Checksum>(
     requires place { place + config.old.config.segment_size < 2 ^ 63 }
     requires slot { buf.now.offset + config.old.config.segment_size < 2 ^ 63 }
     requires aligned { buf.now.offset % config.old.config.segment_size ≡ 0 }
-    ensures step { IfOk result (IsStep C.sum_of config.old.config.segment_size (read_of buf.now) (buf.now.offset + at) (place + at)
+    ensures step { IfOk result (IsStep C.sum_of config.old.config.segment_size (file_of buf.now) (buf.now.offset + at) (place + at)
         (place / config.old.config.segment_size)) }
     ensures room { IfOk result (HasPlace config.old.config.segment_size at) }
-    ensures damaged { IsCorruption result → IsDamagedAt C.sum_of config.old.config.segment_size (read_of buf.now) (buf.now.offset + at)
+    ensures damaged { IsCorruption result → IsMalformed C.sum_of config.old.config.segment_size (file_of buf.now) (buf.now.offset + at)
         (place / config.old.config.segment_size) }
     ensures answers { DeviceAnswers result (D.faults config.old.device) (D.faults config.new.device) }
     ensures trace { D.trace config.new.device ≡ D.trace config.old.device }
@@ -134,15 +134,15 @@ fn meet<D: Device, C: Checksum>(
 {
     let number = SegmentNumber(place / config.config.segment_size);
     let lid = buf.offset + at;
-    let read = read_message(config, Some(buf), lid, number)?;
+    let read = read_record(config, Some(buf), lid, number)?;
     Ok(step_of(place + at, lid, read))
 }
 
 /// What was read, as it is met.
 #[tactic(auto, unfolding(crate::specs::Scan::IsMet, crate::specs::Scan::EndsThere))]
 pub fn step_of(place: u64, lid: LogOffset, read: LogRead) -> Step
-    ensures { (sum : List ℕ → ℕ) (size : ℕ) (log : List ℕ) (number : ℕ) → IsReading sum size log lid number read
-        → IsStep sum size (record { log = log; blobs = λ _. None }) lid place number result }
+    ensures { (sum : List ℕ → ℕ) (size : ℕ) (log : List ℕ) (number : ℕ) → IsRecordRead sum size log lid number read
+        → IsStep sum size log lid place number result }
 {
     let (what, len) = match read {
         LogRead::Inline(header, _, len) => {
@@ -152,14 +152,11 @@ pub fn step_of(place: u64, lid: LogOffset, read: LogRead) -> Step
                 len,
             )
         }
-        LogRead::Blob(header, _, blob, len) => {
-            let kind = LogKind::from(header.kind);
-            (
-                RecordContent::Gives(kind, header.pid, DiskPtr::Blob(lid, blob)),
-                len,
-            )
-        }
-        LogRead::Canceled(len) | LogRead::DanglingBlob(_, _, len) => (RecordContent::Skipped, len),
+        LogRead::Blob(header, _, blob, len) | LogRead::DanglingBlob(header, blob, len) => (
+            RecordContent::NamesBlob(header.kind, header.pid, lid, blob),
+            len,
+        ),
+        LogRead::Canceled(len) => (RecordContent::Skipped, len),
         LogRead::BatchManifest(peg, len) => (RecordContent::BatchStart(peg), len),
         LogRead::Cap(_) => return Step::Ends(ScanEnd::Capped),
         LogRead::Corrupted => return Step::Ends(ScanEnd::Broken),

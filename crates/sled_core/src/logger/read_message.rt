@@ -10,14 +10,16 @@ ghost use Rattle.sled_codec.specs.Sums.{flipped};
 ghost use Rattle.sled_store.specs.Device.{state_of};
 ghost use Rattle.sled_store.specs.Answers.{Counts, Fails};
 ghost use Rattle.sled_store.specs.Causes.{DeviceAnswers};
+ghost use Rattle.sled_store.specs.Blobs.{IsDamagedFor, ItemAnswers};
 ghost use Rattle.sled_core.specs.Causes.{ReaderAnswers};
-ghost use Rattle.sled_core.specs.Reading.{HoldsAs, IsReading, IsMalformed, IsFound, IsBare, file_read, data_of, is_blob};
+ghost use Rattle.sled_core.specs.Reading.{HoldsAs, IsRecordRead, IsReading, IsWithItem, IsMalformed, IsUnreadable, IsFound, IsBare, file_read, data_of, is_blob};
 
 use crate::iobuf::record::sum_behind;
 use crate::logger::read_at::{BasedBuf, ReadAt};
 use crate::logger::unverified_record::{READ_AHEAD, UnverifiedRecord};
 use sled_codec::result::{BlobPointer, Error, LogOffset, Lsn, Result};
 use sled_codec::serialization::{Checksum, MessageHeader, MessageKind, SegmentNumber, Serialize};
+use sled_store::blob_io::read_item;
 use sled_store::segment::MAX_MSG_HEADER_LEN;
 use sled_store::{Device, RunningConfig};
 use std::alloc::Global;
@@ -66,13 +68,14 @@ impl LogRead {
     }
 }
 
-/// Returns what stands at an offset, for a segment of this number: read from a buffer, whose end then is that of
-/// the file, or from the device. It asks for an offset at which a record may begin, and that lies in the
-/// buffer.
+/// Returns what stands at an offset, for a segment of this number: its record is read from a buffer, whose end then is
+/// that of the file, or from the device, and its blob from the device. It asks for an offset at which a record may
+/// begin, and that lies in the buffer.
 ///
 /// # Errors
 ///
-/// `Corruption` where a record stands there that has to hold a place and does not. `Io` where the device failed,
+/// `Corruption` where a record stands there that has to hold a place and does not, or whose blob has fewer than five
+/// bytes or is of another kind; and with the blob's place where the blob's checksum fails. `Io` where the device failed,
 /// and `OutOfMemory`.
 pub fn read_message<D: Device, C: Checksum>(
     config: &mut RunningConfig<D, C>,
@@ -82,7 +85,61 @@ pub fn read_message<D: Device, C: Checksum>(
 ) -> Result<LogRead>
     requires begin { MayBegin config.old.config.segment_size lid }
     requires behind { IfSome buf (λ b. b.now.offset ≤ lid) }
-    ensures reading { IfOk result (IsReading C.sum_of config.old.config.segment_size
+    ensures reading { let s = state_of (D.trace config.old.device) in IfOk result (IsReading C.sum_of config.old.config.segment_size
+        (file_read buf.entry s.log.bytes) s.blobs.file lid number.0) }
+    ensures unreadable { let s = state_of (D.trace config.old.device) in IsCorruption result → IsUnreadable C.sum_of config.old.config.segment_size
+        (file_read buf.entry s.log.bytes) s.blobs.file lid number.0 }
+    ensures answers { let blobs = (state_of (D.trace config.old.device)).blobs.file in
+        ItemAnswers C.sum_of blobs result (D.faults config.old.device) (D.faults config.new.device) }
+    ensures trace { D.trace config.new.device ≡ D.trace config.old.device }
+    ensures config { config.new.config ≡ config.old.config }
+    ensures checksum { config.new.checksum ≡ config.old.checksum }
+{
+    match read_record(config, buf, lid, number) {
+        Ok(LogRead::DanglingBlob(header, place, len)) => with_item(config, header, place, len),
+        read => read,
+    }
+}
+
+/// The message of this header, with the item that its blob has.
+fn with_item<D: Device, C: Checksum>(
+    config: &mut RunningConfig<D, C>,
+    header: MessageHeader,
+    place: BlobPointer,
+    len: u32,
+) -> Result<LogRead>
+    requires { is_blob header.kind ≡ true }
+    ensures item { IfOk result (IsWithItem C.sum_of (state_of (D.trace config.old.device)).blobs.file header place len) }
+    ensures damaged { IsCorruption result → IsDamagedFor C.sum_of header.kind ((state_of (D.trace config.old.device)).blobs.file place) }
+    ensures answers { let blobs = (state_of (D.trace config.old.device)).blobs.file in
+        ItemAnswers C.sum_of blobs result (D.faults config.old.device) (D.faults config.new.device) }
+    ensures trace { D.trace config.new.device ≡ D.trace config.old.device }
+    ensures config { config.new.config ≡ config.old.config }
+    ensures checksum { config.new.checksum ≡ config.old.checksum }
+{
+    match read_item(config, header.kind, place) {
+        Ok(Some(item)) => Ok(LogRead::Blob(header, item, place, len)),
+        Ok(None) => Ok(LogRead::DanglingBlob(header, place, len)),
+        Err(e) => Err(e),
+    }
+}
+
+/// Returns what stands at an offset as `read_message` does, but looks for no blob: a message whose item is a blob is
+/// answered as one whose blob is gone.
+///
+/// # Errors
+///
+/// `Corruption` where a record stands there that has to hold a place and does not. `Io` where the device failed,
+/// and `OutOfMemory`.
+pub fn read_record<D: Device, C: Checksum>(
+    config: &mut RunningConfig<D, C>,
+    buf: Option<&BasedBuf>,
+    lid: LogOffset,
+    number: SegmentNumber,
+) -> Result<LogRead>
+    requires begin { MayBegin config.old.config.segment_size lid }
+    requires behind { IfSome buf (λ b. b.now.offset ≤ lid) }
+    ensures reading { IfOk result (IsRecordRead C.sum_of config.old.config.segment_size
         (file_read buf.entry (state_of (D.trace config.old.device)).log.bytes) lid number.0) }
     ensures malformed { IsCorruption result → IsMalformed C.sum_of config.old.config.segment_size
         (file_read buf.entry (state_of (D.trace config.old.device)).log.bytes) lid number.0 }
@@ -127,7 +184,7 @@ fn find_in<D: Device, C: Checksum>(
 /// What a record holds, where its sum is right.
 fn read_found<C: Checksum>(checksum: &C, found: UnverifiedRecord) -> Result<LogRead>
     requires { found.header.kind ≢ kind.Corrupted }
-    ensures reading { (size : ℕ) (log : List ℕ) (lid number : ℕ) → IsFound size log lid number found → IfOk result (IsReading C.sum_of size log lid number) }
+    ensures reading { (size : ℕ) (log : List ℕ) (lid number : ℕ) → IsFound size log lid number found → IfOk result (IsRecordRead C.sum_of size log lid number) }
     ensures malformed { (size : ℕ) (log : List ℕ) (lid number : ℕ) → IsFound size log lid number found → IsCorruption result
         → IsMalformed C.sum_of size log lid number }
     ensures errors { IfErr result IsDecodeError }

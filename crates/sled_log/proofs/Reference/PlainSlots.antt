@@ -7,10 +7,9 @@ use Rattle.sled_core.specs.declared.iterator.scan.ScannedRecord.{ScannedRecord}
 use Rattle.sled_core.specs.declared.iterator.scan.ScanEnd.{ScanEnd}
 use Rattle.sled_core.specs.declared.iterator.scan.ScanEnd.TheVariants.{Full, Capped, Broken}
 use Rattle.sled_core.specs.declared.logger.read_at.BasedBuf.{BasedBuf}
-use Rattle.sled_core.specs.Reading.{StandsAt, file_of}
-use Rattle.sled_core.specs.Scan.{IsMet, IsDamagedAt, EndsThere, IsPath, IsEnd, IsScan, IsDamagedIn}
+use Rattle.sled_core.specs.Reading.{IsMalformed, StandsAt, file_of}
+use Rattle.sled_core.specs.Scan.{IsMet, EndsThere, IsPath, IsEnd, IsScan, IsDamagedIn}
 use Rattle.sled_core.proofs.Read.ScanLemmas.{aligned_offset}
-use Rattle.sled_log.specs.Plain.{log_alone}
 
 -- The second file has all that the first one has in a slot.
 pub record HasSlot (size slot : ℕ) (a b : List ℕ) : Type 0 where
@@ -38,36 +37,42 @@ module _ (sum : List ℕ → ℕ) (size slot : ℕ) (aligned : slot % size ≡ 0
       }
 
   module _ (a b : List ℕ) (there : HasSlot size slot a b) (back : HasSlot size slot b a) where
-    met_in : (at number : ℕ) (m : ScannedRecord) → at < size → IsMet sum size (log_alone a) (slot + at) number m → IsMet sum size (log_alone b) (slot + at) number m
+    met_in : (at number : ℕ) (m : ScannedRecord) → at < size → IsMet sum size a (slot + at) number m → IsMet sum size b (slot + at) number m
     unfolding IsMet
     met_in at number m below met = (met.0, met.1, stands_in a b there at number met.0 met.1 m.len below met.2, met.3)
 
-    damaged_at : (at number : ℕ) → at < size → IsDamagedAt sum size (log_alone a) (slot + at) number → IsDamagedAt sum size (log_alone b) (slot + at) number
-    unfolding IsDamagedAt
-    damaged_at at number below damaged = (damaged.0, damaged.1, damaged.2, stands_in a b there at number damaged.0 damaged.1 damaged.2 below damaged.3, damaged.4)
+    damaged_at : (at number : ℕ) → at < size → IsMalformed sum size a (slot + at) number → IsMalformed sum size b (slot + at) number
+    damaged_at at number below damaged = record {
+      header = damaged.header;
+      body = damaged.body;
+      len = damaged.len;
+      stands = stands_in a b there at number damaged.header damaged.body damaged.len below damaged.stands;
+      kind = damaged.kind;
+      not_eight = damaged.not_eight;
+    }
 
-    ends_there : (at number : ℕ) (why : ScanEnd) → at < size → EndsThere sum size (log_alone a) (slot + at) number why → EndsThere sum size (log_alone b) (slot + at) number why
+    ends_there : (at number : ℕ) (why : ScanEnd) → at < size → EndsThere sum size a (slot + at) number why → EndsThere sum size b (slot + at) number why
     unfolding EndsThere
     ends_there at number Full below ends = ends
     ends_there at number Capped below ends = (ends.0, ends.1, ends.2, stands_in a b there at number ends.0 ends.1 ends.2 below ends.3, ends.4)
     ends_there at number Broken below ends = λ h body len stands. ends h body len (stands_in b a back at number h body len below stands)
 
-    path_in : (place at : ℕ) (ms : List ScannedRecord) (next : ℕ) → IsPath sum size (log_alone a) slot place at ms next → IsPath sum size (log_alone b) slot place at ms next
+    path_in : (place at : ℕ) (ms : List ScannedRecord) (next : ℕ) → IsPath sum size a slot place at ms next → IsPath sum size b slot place at ms next
     path_in place at [] next path = path
     path_in place at (m ∷ ms) next path = (path.0, path.1, met_in at (place / size) m (omega (arith, path.0)) path.2, path_in place (at + m.len) ms next path.3)
 
-    end_in : (place stop : ℕ) (why : ScanEnd) → IsEnd sum size (log_alone a) slot place stop why → IsEnd sum size (log_alone b) slot place stop why
+    end_in : (place stop : ℕ) (why : ScanEnd) → IsEnd sum size a slot place stop why → IsEnd sum size b slot place stop why
     end_in place stop Full end = end
     end_in place stop Capped end = (end.0, ends_there stop (place / size) Capped (omega (arith, end.0)) end.1)
     end_in place stop Broken end = (end.0, ends_there stop (place / size) Broken (omega (arith, end.0)) end.1)
 
     -- all that is met in it
-    pub scan_in : (place : ℕ) (ms : List ScannedRecord) (stop : ℕ) (why : ScanEnd) → IsScan sum size (log_alone a) slot place ms stop why → IsScan sum size (log_alone b) slot place ms stop why
+    pub scan_in : (place : ℕ) (ms : List ScannedRecord) (stop : ℕ) (why : ScanEnd) → IsScan sum size a slot place ms stop why → IsScan sum size b slot place ms stop why
     unfolding IsScan
     scan_in place ms stop why scan = (path_in place 20 ms stop scan.0, end_in place stop why scan.1)
 
     -- a damaged record in it
-    pub damaged_in_slot : (place : ℕ) → IsDamagedIn sum size (log_alone a) slot place → IsDamagedIn sum size (log_alone b) slot place
+    pub damaged_in_slot : (place : ℕ) → IsDamagedIn sum size a slot place → IsDamagedIn sum size b slot place
     unfolding IsDamagedIn
     damaged_in_slot place damaged =
         (damaged.0, damaged.1, path_in place 20 damaged.0 damaged.1 damaged.2, damaged.3, damaged_at damaged.1 (place / size) (omega (arith, damaged.3)) damaged.4)
@@ -117,12 +122,12 @@ module _ (sum : List ℕ → ℕ) (size : ℕ) (slot : ℕ) (log : List ℕ) (b 
   read_so P holds = subst (λ n. P n (replicate slot 0 ++ part log slot size) slot) same
       (subst (λ (l : List ℕ). P own l slot) (file_alone b size slot log offset is) (subst (λ n. P own (file_of b) n) offset holds))
 
-  pub scan_whole : (place : ℕ) (ms : List ScannedRecord) (stop : ℕ) (why : ScanEnd) → IsScan sum own (log_alone (file_of b)) b.offset place ms stop why → IsScan sum size (log_alone log) slot place ms stop why
+  pub scan_whole : (place : ℕ) (ms : List ScannedRecord) (stop : ℕ) (why : ScanEnd) → IsScan sum own (file_of b) b.offset place ms stop why → IsScan sum size log slot place ms stop why
   scan_whole place ms stop why scan =
       scan_in sum size slot aligned (replicate slot 0 ++ part log slot size) log (in_file size slot log inside) (in_buffer size slot log inside) place ms stop why
-      (read_so (λ n l at. IsScan sum n (log_alone l) at place ms stop why) scan)
+      (read_so (λ n l at. IsScan sum n l at place ms stop why) scan)
 
-  pub damaged_whole : (place : ℕ) → IsDamagedIn sum own (log_alone (file_of b)) b.offset place → IsDamagedIn sum size (log_alone log) slot place
+  pub damaged_whole : (place : ℕ) → IsDamagedIn sum own (file_of b) b.offset place → IsDamagedIn sum size log slot place
   damaged_whole place damaged =
       damaged_in_slot sum size slot aligned (replicate slot 0 ++ part log slot size) log (in_file size slot log inside) (in_buffer size slot log inside) place
-      (read_so (λ n l at. IsDamagedIn sum n (log_alone l) at place) damaged)
+      (read_so (λ n l at. IsDamagedIn sum n l at place) damaged)

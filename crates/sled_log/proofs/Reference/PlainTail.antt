@@ -7,7 +7,6 @@ use Rattle.std.proofs.lemmas.List.Elements.{recursion_from_All}
 use Rattle.sled_core.specs.declared.iterator.Segment.{Segment}
 use Rattle.sled_core.specs.declared.iterator.scan.ScanEnd.{ScanEnd}
 use Rattle.sled_core.specs.declared.iterator.scan.ScanEnd.TheVariants.{Full, Capped, Broken}
-use Rattle.sled_core.specs.Scan.{Readable}
 use Rattle.sled_log.specs.declared.snapshot.reference.Pass.{Pass}
 use Rattle.sled_log.specs.Recovery.{Scanned, IsScanned, GoesOn, IsTail, IsTailPart, tail_end, begun_below, AreScanned, AreClosed, IsReplayed, StopsOrGoesOn, AreReplayed, IsDamagedPass, open_at}
 use Rattle.sled_log.specs.Plain.{pass_of, IsDamagedBefore}
@@ -24,24 +23,24 @@ breaks : (why : ScanEnd) (on : Type 0) → why ≡ Broken → GoesOn why [] on
 breaks why on is = subst (λ w. GoesOn w [] on) (sym is) refl
 
 -- The tail as far as it was read.
-module _ (sum : List ℕ → ℕ) (size : ℕ) (r : Readable) (ordering : List Segment) where
+module _ (sum : List ℕ → ℕ) (size : ℕ) (log : List ℕ) (ordering : List Segment) where
   -- one more segment
-  pub part_more : (place : ℕ) (before : List Scanned) (next : ℕ) (x : Scanned) → IsTailPart sum size r ordering place before next → Contains ordering x.segment → x.segment.place ≡ next → IsScanned sum size r x → x.why ≢ Broken
-      → IsTailPart sum size r ordering place (before ++ x ∷ []) (next + size)
+  pub part_more : (place : ℕ) (before : List Scanned) (next : ℕ) (x : Scanned) → IsTailPart sum size log ordering place before next → Contains ordering x.segment → x.segment.place ≡ next → IsScanned sum size log x → x.why ≢ Broken
+      → IsTailPart sum size log ordering place (before ++ x ∷ []) (next + size)
   part_more place [] next x part there at scanned whole = (there, at ∙ part, scanned, whole, ap (λ n. n + size) part)
   part_more place (s ∷ ss) next x part there at scanned whole = (part.0, part.1, part.2, part.3, part_more (place + size) ss next x part.4 there at scanned whole)
 
   -- no segment begins behind it
-  pub tail_ends : (place : ℕ) (before : List Scanned) (next : ℕ) → IsTailPart sum size r ordering place before next → ((s : Segment) → Contains ordering s → s.place ≡ next → ⊥) → IsTail sum size r ordering place before
+  pub tail_ends : (place : ℕ) (before : List Scanned) (next : ℕ) → IsTailPart sum size log ordering place before next → ((s : Segment) → Contains ordering s → s.place ≡ next → ⊥) → IsTail sum size log ordering place before
   tail_ends place [] next part none = subst (λ n. (s : Segment) → Contains ordering s → s.place ≡ n → ⊥) part none
-  tail_ends place (s ∷ ss) next part none = (part.0, part.1, part.2, goes_on s.why ss (IsTail sum size r ordering (place + size) ss) part.3 (tail_ends (place + size) ss next part.4 none))
+  tail_ends place (s ∷ ss) next part none = (part.0, part.1, part.2, goes_on s.why ss (IsTail sum size log ordering (place + size) ss) part.3 (tail_ends (place + size) ss next part.4 none))
 
   -- the segment behind it is broken
-  pub tail_breaks : (place : ℕ) (before : List Scanned) (next : ℕ) (x : Scanned) → IsTailPart sum size r ordering place before next → Contains ordering x.segment → x.segment.place ≡ next → IsScanned sum size r x → x.why ≡ Broken
-      → IsTail sum size r ordering place (before ++ x ∷ [])
-  tail_breaks place [] next x part there at scanned broken = (there, at ∙ part, scanned, breaks x.why (IsTail sum size r ordering (place + size) []) broken)
+  pub tail_breaks : (place : ℕ) (before : List Scanned) (next : ℕ) (x : Scanned) → IsTailPart sum size log ordering place before next → Contains ordering x.segment → x.segment.place ≡ next → IsScanned sum size log x → x.why ≡ Broken
+      → IsTail sum size log ordering place (before ++ x ∷ [])
+  tail_breaks place [] next x part there at scanned broken = (there, at ∙ part, scanned, breaks x.why (IsTail sum size log ordering (place + size) []) broken)
   tail_breaks place (s ∷ ss) next x part there at scanned broken =
-      (part.0, part.1, part.2, goes_on s.why (ss ++ x ∷ []) (IsTail sum size r ordering (place + size) (ss ++ x ∷ [])) part.3 (tail_breaks (place + size) ss next x part.4 there at scanned broken))
+      (part.0, part.1, part.2, goes_on s.why (ss ++ x ∷ []) (IsTail sum size log ordering (place + size) (ss ++ x ∷ [])) part.3 (tail_breaks (place + size) ss next x part.4 there at scanned broken))
 
 -- where the reading of the last one ended
 pub end_of_last : (before : List Scanned) (x : Scanned) → tail_end (before ++ x ∷ []) ≡ Some (x.segment.place + x.stop)
@@ -76,12 +75,12 @@ split_more end ss i d ps new p lt below own is split =
     ∙ ap (λ l. segments l ++ rest) (sym is)
 
 -- segments that were read one by one
-scanned_each : (sum : List ℕ → ℕ) (size : ℕ) (r : Readable) (ps : List Pass) → AllByRecursion (λ p. IsScanned sum size r (pass_of p)) ps → AreScanned sum size r (map (λ p. p.segment) ps) (map pass_of ps)
-scanned_each sum size r [] all = tt
-scanned_each sum size r (p ∷ ps) all = (refl, all.0, scanned_each sum size r ps all.1)
+scanned_each : (sum : List ℕ → ℕ) (size : ℕ) (log : List ℕ) (ps : List Pass) → AllByRecursion (λ p. IsScanned sum size log (pass_of p)) ps → AreScanned sum size log (map (λ p. p.segment) ps) (map pass_of ps)
+scanned_each sum size log [] all = tt
+scanned_each sum size log (p ∷ ps) all = (refl, all.0, scanned_each sum size log ps all.1)
 
-pub are_scanned : (sum : List ℕ → ℕ) (size : ℕ) (r : Readable) (ps : List Pass) → All (λ p. IsScanned sum size r (pass_of p)) ps → AreScanned sum size r (map (λ p. p.segment) ps) (map pass_of ps)
-are_scanned sum size r ps all = scanned_each sum size r ps (recursion_from_All (λ p. IsScanned sum size r (pass_of p)) ps all)
+pub are_scanned : (sum : List ℕ → ℕ) (size : ℕ) (log : List ℕ) (ps : List Pass) → All (λ p. IsScanned sum size log (pass_of p)) ps → AreScanned sum size log (map (λ p. p.segment) ps) (map pass_of ps)
+are_scanned sum size log ps all = scanned_each sum size log ps (recursion_from_All (λ p. IsScanned sum size log (pass_of p)) ps all)
 
 -- no batch is open in those, and none in one more
 pub closed_more : (end : ℕ) (before : List Scanned) (x : Scanned) → AreClosed end before → open_at end x.met ≡ None → AreClosed end (before ++ x ∷ [])
@@ -89,28 +88,28 @@ closed_more end [] x closed none = (none, tt)
 closed_more end (s ∷ ss) x closed none = (closed.0, closed_more end ss x closed.1 none)
 
 -- The pass over segments in which no batch is open, and what it meets behind them.
-module _ (sum : List ℕ → ℕ) (size : ℕ) (r : Readable) (end : ℕ) where
+module _ (sum : List ℕ → ℕ) (size : ℕ) (log : List ℕ) (end : ℕ) where
   -- more that it reads
-  pub passed_behind : (first rest : List Segment) (before xs : List Scanned) → AreScanned sum size r first before → AreClosed end before → AreReplayed sum size r end rest xs → AreReplayed sum size r end (first ++ rest) (before ++ xs)
+  pub passed_behind : (first rest : List Segment) (before xs : List Scanned) → AreScanned sum size log first before → AreClosed end before → AreReplayed sum size log end rest xs → AreReplayed sum size log end (first ++ rest) (before ++ xs)
   passed_behind [] rest [] xs are closed on = on
   passed_behind [] rest (x ∷ before) xs are closed on = absurd are
   passed_behind (s ∷ first) rest [] xs are closed on = absurd are
   passed_behind (s ∷ first) rest (x ∷ before) xs are closed on = (
     are.0,
-    whole_passed sum size r end x are.1,
-    subst (λ o. StopsOrGoesOn o (before ++ xs) (AreReplayed sum size r end (first ++ rest) (before ++ xs))) (sym closed.0) (passed_behind first rest before xs are.2 closed.1 on),
+    whole_passed sum size log end x are.1,
+    subst (λ o. StopsOrGoesOn o (before ++ xs) (AreReplayed sum size log end (first ++ rest) (before ++ xs))) (sym closed.0) (passed_behind first rest before xs are.2 closed.1 on),
   )
 
   -- a batch is open in the next one
-  pub passed_open : (s : Segment) (rest : List Segment) (x : Scanned) → x.segment ≡ s → IsReplayed sum size r end x → is_some (open_at end x.met) ≡ true → AreReplayed sum size r end (s ∷ rest) (x ∷ [])
+  pub passed_open : (s : Segment) (rest : List Segment) (x : Scanned) → x.segment ≡ s → IsReplayed sum size log end x → is_some (open_at end x.met) ≡ true → AreReplayed sum size log end (s ∷ rest) (x ∷ [])
   passed_open s rest x is passed some = (is, passed, by_case (open_at end x.met) some) where
-    by_case : (o : Option ℕ) → is_some o ≡ true → StopsOrGoesOn o [] (AreReplayed sum size r end rest [])
+    by_case : (o : Option ℕ) → is_some o ≡ true → StopsOrGoesOn o [] (AreReplayed sum size log end rest [])
     by_case None some = absurd (cc)
     by_case (Some place) some = refl
 
   -- a damaged record is met in the next one
-  pub damaged_behind : (segments first rest : List Segment) (s : Segment) (before : List Scanned) → segments ≡ first ++ s ∷ rest → AreScanned sum size r first before → AreClosed end before → IsDamagedBefore sum size r end s
-      → IsDamagedPass sum size r end segments
+  pub damaged_behind : (segments first rest : List Segment) (s : Segment) (before : List Scanned) → segments ≡ first ++ s ∷ rest → AreScanned sum size log first before → AreClosed end before → IsDamagedBefore sum size log end s
+      → IsDamagedPass sum size log end segments
   damaged_behind segments first rest s before is scanned closed damaged = record {
     first = first;
     segment = s;

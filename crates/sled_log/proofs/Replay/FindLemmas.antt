@@ -10,40 +10,40 @@ use Rattle.sled_core.specs.declared.iterator.scan.ScanEnd.TheVariants.{Full, Cap
 use Rattle.std.proofs.lemmas.List.{take_all}
 use Rattle.sled_core.specs.declared.logger.read_at.BasedBuf.{BasedBuf}
 use Rattle.sled_core.specs.Reading.{file_of}
-use Rattle.sled_core.specs.Scan.{Readable, IsScan, IsDamagedIn, IsFoundSegment, IsMisplaced}
+use Rattle.sled_core.specs.Scan.{IsScan, IsDamagedIn, IsFoundSegment, IsMisplaced}
 use Rattle.sled_store.proofs.Segments.Elements.{in_nothing, only_in, in_one}
 pub use Rattle.sled_core.proofs.Read.FoundLemmas.{zero_mod, pos_injective, found_first, header_first, none_found, is_found, only_found, one_found}
 use Rattle.sled_log.specs.Recovery.{IsOrdering, Scanned, IsScanned, IsTail, GoesOn, begun_below, open_at, StopsOrGoesOn, AreReplayed, ContinuesFrom, Outcome, Recovered, Damaged, unchanged, outcome_of, least_place, tail_begins}
 use Rattle.sled_log.proofs.Replay.PassedLemmas.{whole_passed}
 
 -- a segment that is read to its end, as the pass reads it where no other one is
-passed_alone : (sum : List ℕ → ℕ) (size : ℕ) (r : Readable) (end : ℕ) (s : Scanned) → IsScanned sum size r s → AreReplayed sum size r end (s.segment ∷ []) (s ∷ [])
-passed_alone sum size r end s scan = (refl, whole_passed sum size r end s scan, no_more (open_at end s.met)) where
+passed_alone : (sum : List ℕ → ℕ) (size : ℕ) (log : List ℕ) (end : ℕ) (s : Scanned) → IsScanned sum size log s → AreReplayed sum size log end (s.segment ∷ []) (s ∷ [])
+passed_alone sum size log end s scan = (refl, whole_passed sum size log end s scan, no_more (open_at end s.met)) where
   no_more : (o : Option ℕ) → StopsOrGoesOn o [] (Unit {0})
   no_more None = tt
   no_more (Some place) = refl
 
 -- What comes of one segment, or of none.
-module _ (sum : List ℕ → ℕ) (size : ℕ) (r : Readable) (first : SnapshotModel) (some : 0 < size) where
+module _ (sum : List ℕ → ℕ) (size : ℕ) (log : List ℕ) (first : SnapshotModel) (some : 0 < size) where
   -- no segment is found: the snapshot stays
-  pub nothing_found : IsOrdering sum size r.log (least_place size first) [] → ContinuesFrom sum size r first (Recovered (unchanged first))
+  pub nothing_found : IsOrdering sum size log (least_place size first) [] → ContinuesFrom sum size log first (Recovered (unchanged first))
   unfolding ContinuesFrom
   nothing_found none = inr ([], none, inr ([], λ s there. absurd (in_nothing s there), refl))
 
   -- a segment begins where none can
-  pub misplaced : (s : Segment) → IsFoundSegment sum size r.log (least_place size first) s → IsMisplaced size s → ContinuesFrom sum size r first Damaged
+  pub misplaced : (s : Segment) → IsFoundSegment sum size log (least_place size first) s → IsMisplaced size s → ContinuesFrom sum size log first Damaged
   unfolding ContinuesFrom
   misplaced s found bad = inl (refl, inl (s, found, bad))
 
-  module _ (s : Segment) (ordering : IsOrdering sum size r.log (least_place size first) (s ∷ [])) where
+  module _ (s : Segment) (ordering : IsOrdering sum size log (least_place size first) (s ∷ [])) where
     -- the tail begins elsewhere: the snapshot stays
-    pub not_read : s.place ≢ tail_begins size (least_place size first) (s ∷ []) → ContinuesFrom sum size r first (Recovered (unchanged first))
+    pub not_read : s.place ≢ tail_begins size (least_place size first) (s ∷ []) → ContinuesFrom sum size log first (Recovered (unchanged first))
     unfolding ContinuesFrom
     not_read elsewhere = inr (s ∷ [], ordering, inr ([], λ t there at. elsewhere (ap (λ (x : Segment). x.place) (only_in s t there) ∙ at), refl))
 
     module _ (begins : s.place ≡ tail_begins size (least_place size first) (s ∷ [])) where
       -- a damaged record is met
-      pub damaged_in : IsDamagedIn sum size r s.slot s.place → ContinuesFrom sum size r first Damaged
+      pub damaged_in : IsDamagedIn sum size log s.slot s.place → ContinuesFrom sum size log first Damaged
       unfolding ContinuesFrom
       damaged_in damaged = inr (
         s ∷ [],
@@ -63,7 +63,7 @@ module _ (sum : List ℕ → ℕ) (size : ℕ) (r : Readable) (first : SnapshotM
       )
 
       -- behind it is no other one
-      no_more : (why : ScanEnd) → GoesOn why [] (IsTail sum size r (s ∷ []) (tail_begins size (least_place size first) (s ∷ []) + size) [])
+      no_more : (why : ScanEnd) → GoesOn why [] (IsTail sum size log (s ∷ []) (tail_begins size (least_place size first) (s ∷ []) + size) [])
       no_more Broken = refl
       no_more Full = λ t there at. absurd (omega (arith, some, begins, ap (λ (x : Segment). x.place) (only_in s t there), at))
       no_more Capped = λ t there at. absurd (omega (arith, some, begins, ap (λ (x : Segment). x.place) (only_in s t there), at))
@@ -74,8 +74,8 @@ module _ (sum : List ℕ → ℕ) (size : ℕ) (r : Readable) (first : SnapshotM
           ap (λ (b : Bool). if b then s ∷ [] else []) below
 
       -- all that is met in it is applied
-      pub replayed : (met : List ScannedRecord) (stop : ℕ) (why : ScanEnd) (o : Outcome) → IsScan sum size r s.slot s.place met stop why → 20 ≤ stop
-          → outcome_of size first (s.place + stop) (record { segment = s; met = met; stop = stop; why = why } ∷ []) ≡ o → ContinuesFrom sum size r first o
+      pub replayed : (met : List ScannedRecord) (stop : ℕ) (why : ScanEnd) (o : Outcome) → IsScan sum size log s.slot s.place met stop why → 20 ≤ stop
+          → outcome_of size first (s.place + stop) (record { segment = s; met = met; stop = stop; why = why } ∷ []) ≡ o → ContinuesFrom sum size log first o
       unfolding ContinuesFrom
       replayed met stop why o scan le is =
           let scanned : Scanned = record { segment = s; met = met; stop = stop; why = why } in
@@ -85,7 +85,7 @@ module _ (sum : List ℕ → ℕ) (size : ℕ) (r : Readable) (first : SnapshotM
             inr (
               scanned ∷ [],
               (in_one s s refl, begins, scan, no_more why),
-              inr (scanned ∷ [], subst (λ (ss : List Segment). AreReplayed sum size r (s.place + stop) ss (scanned ∷ [])) (sym (begun stop le)) (passed_alone sum size r (s.place + stop) scanned scan), sym is),
+              inr (scanned ∷ [], subst (λ (ss : List Segment). AreReplayed sum size log (s.place + stop) ss (scanned ∷ [])) (sym (begun stop le)) (passed_alone sum size log (s.place + stop) scanned scan), sym is),
             ),
           )
 

@@ -11,7 +11,7 @@ use Rattle.sled_codec.specs.Snapshots.{SnapshotModel, stable_place}
 use Rattle.sled_codec.specs.WellFormed.{IsWellFormed}
 use Rattle.sled_store.specs.Device.{Content}
 use Rattle.sled_core.specs.declared.iterator.Segment.{Segment}
-use Rattle.sled_core.specs.Scan.{Readable, IsFoundSegment}
+use Rattle.sled_core.specs.Scan.{IsFoundSegment}
 use Rattle.sled_core.specs.LogFile.{IsEmpty}
 use Rattle.sled_core.specs.Recoverable.{IsUnbegun, IsBegun, IsInFirstSegment, IsRecoverableInFirst, first_site, first_cut}
 use Rattle.sled_core.proofs.Read.FirstBegun.{first_cut_within, own_of}
@@ -25,10 +25,6 @@ use Rattle.sled_log.proofs.Replay.OneSegment.{given_messages}
 use Rattle.sled_log.proofs.Replay.OnlySegment.{IsOnlySegment, segment, own_below, none_above}
 use Rattle.sled_log.proofs.Replay.SegmentRecovers.{continues_from, stays_at, messages, given_is, comes, concludes}
 use Rattle.sled_log.proofs.PageTable.Ascending.{in_nothing, none_kept}
-
--- what recovery reads of a content: the log file, and no blobs
-abbrev pub log_read : Content → Readable
-log_read content = record { log = content.log; blobs = λ _. None }
 
 -- the cut and the active slot, by whether the segment is filled
 abbrev cut_by : ℕ → ℕ → Bool → ℕ × Option ℕ
@@ -94,11 +90,11 @@ module _ (sum : List ℕ → ℕ) (size : ℕ) (content : Content) (H : History)
   -- Recovery begins in it.
   module _ (least : least_place size first ≡ 0) where
     abbrev pub applied_all : List Applied
-    applied_all = messages sum size (log_read content) first_site begun.stop begun.own begun_only first least
+    applied_all = messages sum size content.log first_site begun.stop begun.own begun_only first least
 
     pub applied_is : applied_all ≡ map applied (filter (between (stable_place first.stable)) H.messages)
     applied_is =
-        sym (given_is sum size (log_read content) first_site begun.stop begun.own begun_only first least)
+        sym (given_is sum size content.log first_site begun.stop begun.own begun_only first least)
         ∙ given_messages (stable_place first.stable) cut begun.own (All-weaker (λ m. (m.place < cut) × (m.place + m.size ≤ cut)) (λ m. m.place < cut) (λ m b. b.0) begun.own under_cut)
         ∙ ap (map applied) (kept_own (stable_place first.stable))
 
@@ -114,12 +110,12 @@ module _ (sum : List ℕ → ℕ) (size : ℕ) (content : Content) (H : History)
       is_new = is_beyond first.stable cut;
     }
 
-    pub comes_is : comes sum size (log_read content) first_site begun.stop begun.own begun_only first least ≡ concluded size first applied_all (cut, first_active size begun.stop)
+    pub comes_is : comes sum size content.log first_site begun.stop begun.own begun_only first least ≡ concluded size first applied_all (cut, first_active size begun.stop)
     comes_is = ap (concluded size first applied_all) (cut_is size begun.stop (segment sum size content.log first_site begun.stop begun.own begun_only) refl refl)
 
-    pub goes_on : IsWellFormed H → IsTable first.pages H (stable_place first.stable) → (x : RecoveryResult) → ContinuesFrom sum size (log_read content) first (Recovered x) → GoesOnIn sum size content.log H A first x
+    pub goes_on : IsWellFormed H → IsTable first.pages H (stable_place first.stable) → (x : RecoveryResult) → ContinuesFrom sum size content.log first (Recovered x) → GoesOnIn sum size content.log H A first x
     goes_on formed table x on =
-        let is = sym comes_is ∙ concludes sum size (log_read content) first_site begun.stop begun.own begun_only first least x on in
+        let is = sym comes_is ∙ concludes sum size content.log first_site begun.stop begun.own begun_only first least x on in
         let same : made ≡ x = (chosen_well (has_no_table applied_all) (nat_lt cut (stable_place first.stable)) (are_whole (table_of first.pages applied_all)) made x is).1 in
         record {
           begun = begun;
@@ -153,16 +149,16 @@ module _ (sum : List ℕ → ℕ) (size : ℕ) (content : Content) (H : History)
 
 -- What recovery concludes.
 pub concludes_in : (sum : List ℕ → ℕ) (size : ℕ) (content : Content) (H : History) (A f : ℕ) → 256 ≤ size → size < 2 ^ 63 → IsOrderly H → (in_first : IsRecoverableInFirst sum size content H A f)
-    → (x : RecoveryResult) → Recovers sum size (log_read content) content.snapshots (Recovered x) → ConcludesIn sum size content H A in_first.first x
+    → (x : RecoveryResult) → Recovers sum size content.log content.snapshots (Recovered x) → ConcludesIn sum size content H A in_first.first x
 concludes_in sum size content H A f some small orderly in_first x recovers = by in_first.segment.log where
-  on : ContinuesFrom sum size (log_read content) in_first.first (Recovered x)
-  on = continues_from sum size (log_read content) content.snapshots in_first.first x in_first.snapshots.begins recovers
+  on : ContinuesFrom sum size content.log in_first.first (Recovered x)
+  on = continues_from sum size content.log content.snapshots in_first.first x in_first.snapshots.begins recovers
 
   table : IsTable in_first.first.pages H (stable_place in_first.first.stable)
   table = (first_is_table sum size content.snapshots H f in_first.first in_first.snapshots).0
 
   stays : NoneFrom sum size content H A in_first.first some small in_first.segment → x ≡ unchanged in_first.first
-  stays none = stays_at sum size (log_read content) in_first.first (λ s found. absurd (none s found)) x on
+  stays none = stays_at sum size content.log in_first.first (λ s found. absurd (none s found)) x on
 
   by : IsUnbegun sum size content.log A (stable_place in_first.first.stable) ⊎ IsBegun sum size content.log H A (stable_place in_first.first.stable) → ConcludesIn sum size content H A in_first.first x
   by (inl unbegun) = inl (record { is = stays (unbegun_none sum size content H A in_first.first some small in_first.segment unbegun); why = inl unbegun })

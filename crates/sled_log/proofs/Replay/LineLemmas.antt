@@ -5,7 +5,7 @@ use Rattle.std.proofs.lemmas.Bool.Decides.{nat_tests}
 use Rattle.std.proofs.Math.Nat.{mod-add-div', mul-le-mul_right, suc-mul}
 use Rattle.sled_core.specs.declared.iterator.scan.ScannedRecord.{ScannedRecord}
 use Rattle.sled_core.specs.declared.iterator.Segment.{Segment}
-use Rattle.sled_core.specs.Scan.{Readable, IsPath}
+use Rattle.sled_core.specs.Scan.{IsPath}
 use Rattle.sled_core.proofs.Read.ScanLemmas.{met_fits, aligned_offset}
 use Rattle.sled_log.specs.Recovery.{Scanned, StopsOrGoesOn, AreReplayed, is_ascending, begun_below, opens, before_open, open_at, passed_in, stops_in, given, applied_of, is_filled, cut_of}
 
@@ -30,20 +30,20 @@ none_given least (m ∷ ms) lie =
     ap (λ (b : Bool). if b then given least ms else applied_of m m.what ++ given least ms) below ∙ none_given least ms lie.1
 
 -- What is met on a path.
-module _ (sum : List ℕ → ℕ) (size : ℕ) (r : Readable) (slot place : ℕ) where
-  path_rises : (at : ℕ) (ms : List ScannedRecord) (next : ℕ) → IsPath sum size r slot place at ms next → at ≤ next
+module _ (sum : List ℕ → ℕ) (size : ℕ) (log : List ℕ) (slot place : ℕ) where
+  path_rises : (at : ℕ) (ms : List ScannedRecord) (next : ℕ) → IsPath sum size log slot place at ms next → at ≤ next
   path_rises at [] next path = omega (arith, path)
   path_rises at (m ∷ ms) next path = let rest = path_rises (at + m.len) ms next path.3 in omega (arith, rest)
 
-  pub path_below : (at : ℕ) (ms : List ScannedRecord) (next : ℕ) → IsPath sum size r slot place at ms next → LieBelow (place + next) ms
+  pub path_below : (at : ℕ) (ms : List ScannedRecord) (next : ℕ) → IsPath sum size log slot place at ms next → LieBelow (place + next) ms
   path_below at [] next path = tt
   path_below at (m ∷ ms) next path =
       let rest = path_rises (at + m.len) ms next path.3 in
-      let fits = met_fits sum size r (slot + at) (place / size) m path.2 in
+      let fits = met_fits sum size log (slot + at) (place / size) m path.2 in
       (omega (arith, rest, fits.0, path.1), path_below (at + m.len) ms next path.3)
 
   -- before a batch that is open
-  pub open_on : (end at : ℕ) (ms : List ScannedRecord) (next : ℕ) → IsPath sum size r slot place at ms next → (p : ℕ) → open_at end ms ≡ Some p → (place + at ≤ p) × (p < place + next) × LieBelow p (before_open end ms)
+  pub open_on : (end at : ℕ) (ms : List ScannedRecord) (next : ℕ) → IsPath sum size log slot place at ms next → (p : ℕ) → open_at end ms ≡ Some p → (place + at ≤ p) × (p < place + next) × LieBelow p (before_open end ms)
   open_on end at [] next path p is = absurd (cc)
   open_on end at (m ∷ ms) next path p is = by_test (opens end m.what) is (open_on end (at + m.len) ms next path.3 p)
     where
@@ -51,27 +51,27 @@ module _ (sum : List ℕ → ℕ) (size : ℕ) (r : Readable) (slot place : ℕ)
           → (place + at ≤ p) × (p < place + next) × LieBelow p (if b then [] else m ∷ before_open end ms)
       by_test true is further =
           let rest = path_rises (at + m.len) ms next path.3 in
-          let fits = met_fits sum size r (slot + at) (place / size) m path.2 in
+          let fits = met_fits sum size log (slot + at) (place / size) m path.2 in
           let same : m.place ≡ p = cc in
           (omega (arith, path.1, same), omega (arith, path.1, same, rest, fits.0), tt)
       by_test false is further =
           let rest = further is in
-          let fits = met_fits sum size r (slot + at) (place / size) m path.2 in
+          let fits = met_fits sum size log (slot + at) (place / size) m path.2 in
           (omega (arith, rest.0), rest.1, (omega (arith, path.1, rest.0, fits.0), rest.2))
 
-  pub path_within : slot % size ≡ 0 → (at : ℕ) (ms : List ScannedRecord) (next : ℕ) → at ≤ size → IsPath sum size r slot place at ms next → next ≤ size
+  pub path_within : slot % size ≡ 0 → (at : ℕ) (ms : List ScannedRecord) (next : ℕ) → at ≤ size → IsPath sum size log slot place at ms next → next ≤ size
   path_within aligned at [] next le path = omega (arith, le, path)
   path_within aligned at (m ∷ ms) next le path =
       let room = path.0 in
       let offset = aligned_offset slot at size aligned (omega (arith, room)) in
-      let fits = met_fits sum size r (slot + at) (place / size) m path.2 in
+      let fits = met_fits sum size log (slot + at) (place / size) m path.2 in
       path_within aligned (at + m.len) ms next (omega (arith, offset, fits.1)) path.3
 
 -- Segments that were read, one behind another.
-module _ (sum : List ℕ → ℕ) (size : ℕ) (r : Readable) (large : 20 ≤ size) where
+module _ (sum : List ℕ → ℕ) (size : ℕ) (log : List ℕ) (large : 20 ≤ size) where
   -- it was read, as far as this goes, in a slot of the file
   abbrev pub IsRead : Scanned → Type 0
-  IsRead s = IsPath sum size r s.segment.slot s.segment.place 20 s.met s.stop × (s.segment.slot % size ≡ 0)
+  IsRead s = IsPath sum size log s.segment.slot s.segment.place 20 s.met s.stop × (s.segment.slot % size ≡ 0)
 
   -- each was read, and begins no earlier than the one before it ends
   abbrev pub IsLine : List Scanned → Type 0
@@ -84,10 +84,10 @@ module _ (sum : List ℕ → ℕ) (size : ℕ) (r : Readable) (large : 20 ≤ si
   line_first s (t ∷ ss) line = line.0
 
   stop_within : (s : Scanned) → IsRead s → s.stop ≤ size
-  stop_within s read = path_within sum size r s.segment.slot s.segment.place read.1 20 s.met s.stop large read.0
+  stop_within s read = path_within sum size log s.segment.slot s.segment.place read.1 20 s.met s.stop large read.0
 
   stops_open : (end : ℕ) (s : Scanned) → IsRead s → (p : ℕ) → open_at end s.met ≡ Some p → (s.segment.place + 20 ≤ p) × (p < s.segment.place + s.stop) × LieBelow p (before_open end s.met)
-  stops_open end s read p is = open_on sum size r s.segment.slot s.segment.place end 20 s.met s.stop read.0 p is
+  stops_open end s read p is = open_on sum size log s.segment.slot s.segment.place end 20 s.met s.stop read.0 p is
 
   -- the pass stops in them
   stops_above : (end : ℕ) (s : Scanned) (ss : List Scanned) (o : Option ℕ) → IsLine (s ∷ ss) → open_at end s.met ≡ o → s.segment.place ≤ (stops_in end s o ss).1
@@ -107,11 +107,11 @@ module _ (sum : List ℕ → ℕ) (size : ℕ) (r : Readable) (large : 20 ≤ si
   -- what it meets lies below that
   passed_lie : (end : ℕ) (s : Scanned) (ss : List Scanned) (o : Option ℕ) → IsLine (s ∷ ss) → open_at end s.met ≡ o → LieBelow (stops_in end s o ss).1 (passed_in end s o ss)
   passed_lie end s ss (Some p) line is = (stops_open end s (line_first s ss line) p is).2
-  passed_lie end s [] None line is = path_below sum size r s.segment.slot s.segment.place 20 s.met s.stop line.0
+  passed_lie end s [] None line is = path_below sum size log s.segment.slot s.segment.place 20 s.met s.stop line.0
   passed_lie end s (t ∷ ts) None line is =
       let within = stop_within s line.0 in
       let above = stops_above end t ts (open_at end t.met) line.2 refl in
-      let own = path_below sum size r s.segment.slot s.segment.place 20 s.met s.stop line.0.0 in
+      let own = path_below sum size log s.segment.slot s.segment.place 20 s.met s.stop line.0.0 in
       lie_both (stops_in end t (open_at end t.met) ts).1 s.met (passed_in end t (open_at end t.met) ts)
       (lie_further (s.segment.place + s.stop) (stops_in end t (open_at end t.met) ts).1 s.met (omega (arith, within, above, line.1)) own)
       (passed_lie end t ts (open_at end t.met) line.2 refl)
@@ -195,10 +195,10 @@ module _ (size : ℕ) (some : 0 < size) where
       omega (arith, mul-le-mul_right size one_more, whole_a, whole_b, suc-mul (a / size) size)
 
   -- and each was read by the pass
-  module _ (sum : List ℕ → ℕ) (r : Readable) (large : 20 ≤ size) (end : ℕ) where
+  module _ (sum : List ℕ → ℕ) (log : List ℕ) (large : 20 ≤ size) (end : ℕ) where
     -- a segment before those
-    line_before : (s : Segment) (ss : List Segment) (x : Scanned) (xs : List Scanned) → IsChain (s ∷ ss) → x.segment ≡ s → IsRead sum size r large x → AreReplayed sum size r end ss xs → IsLine sum size r large xs
-        → IsLine sum size r large (x ∷ xs)
+    line_before : (s : Segment) (ss : List Segment) (x : Scanned) (xs : List Scanned) → IsChain (s ∷ ss) → x.segment ≡ s → IsRead sum size log large x → AreReplayed sum size log end ss xs → IsLine sum size log large xs
+        → IsLine sum size log large (x ∷ xs)
     line_before s ss x [] chain is read on line = read
     line_before s [] x (y ∷ ys) chain is read on line = absurd on
     line_before s (t ∷ ts) x (y ∷ ys) chain is read on line =
@@ -207,14 +207,14 @@ module _ (size : ℕ) (some : 0 < size) where
         let at_t : y.segment.place ≡ t.place = ap (λ (z : Segment). z.place) on.0 in
         (read, omega (arith, far, at_s, at_t), line)
 
-    pub line_of : (ss : List Segment) (xs : List Scanned) → IsChain ss → AreReplayed sum size r end ss xs → IsLine sum size r large xs
+    pub line_of : (ss : List Segment) (xs : List Scanned) → IsChain ss → AreReplayed sum size log end ss xs → IsLine sum size log large xs
     line_of [] [] chain are = tt
     line_of [] (x ∷ xs) chain are = absurd are
     line_of (s ∷ ss) [] chain are = absurd are
     line_of (s ∷ ss) (x ∷ xs) chain are =
-        let read : IsRead sum size r large x = (are.1.0, ap (λ (z : Segment). z.slot % size) are.0 ∙ chain.0.1) in
+        let read : IsRead sum size log large x = (are.1.0, ap (λ (z : Segment). z.slot % size) are.0 ∙ chain.0.1) in
         by_case (open_at end x.met) read are.2 (line_of ss xs chain.2)
       where
-        by_case : (o : Option ℕ) → IsRead sum size r large x → StopsOrGoesOn o xs (AreReplayed sum size r end ss xs) → (AreReplayed sum size r end ss xs → IsLine sum size r large xs) → IsLine sum size r large (x ∷ xs)
-        by_case (Some place) read stops rest = subst (λ (l : List Scanned). IsLine sum size r large (x ∷ l)) (sym stops) read
+        by_case : (o : Option ℕ) → IsRead sum size log large x → StopsOrGoesOn o xs (AreReplayed sum size log end ss xs) → (AreReplayed sum size log end ss xs → IsLine sum size log large xs) → IsLine sum size log large (x ∷ xs)
+        by_case (Some place) read stops rest = subst (λ (l : List Scanned). IsLine sum size log large (x ∷ l)) (sym stops) read
         by_case None read on rest = line_before s ss x xs chain are.0 read on (rest on)

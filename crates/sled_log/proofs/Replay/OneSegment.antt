@@ -7,7 +7,7 @@ use Rattle.sled_codec.specs.History.{Message}
 use Rattle.sled_core.specs.declared.iobuf.SegmentPosition.{SegmentPosition}
 use Rattle.sled_core.specs.declared.iterator.scan.ScannedRecord.{ScannedRecord}
 use Rattle.sled_core.specs.declared.iterator.Segment.{Segment}
-use Rattle.sled_core.specs.Scan.{Readable, IsMet, IsPath}
+use Rattle.sled_core.specs.Scan.{IsMet, IsPath}
 use Rattle.sled_core.specs.LogFile.{StandIn}
 use Rattle.sled_core.proofs.Read.PathLemmas.{met_of, met_is, none_met, IsEmpty}
 use Rattle.sled_log.specs.Recovery.{is_ascending, Applied, applied, given, before_open, open_at}
@@ -39,17 +39,17 @@ all_before end [] = refl
 all_before end (m ∷ ms) = ap (λ (l : List ScannedRecord). met_of m ∷ l) (all_before end ms)
 
 -- on a path of their records no batch begins
-module _ (sum : List ℕ → ℕ) (size : ℕ) (r : Readable) (site : SegmentPosition) (end : ℕ) (empty : end + 32 ≤ size → IsEmpty sum size r.log (site.slot + end) (site.place / size)) where
-  pub path_closed : (tail at : ℕ) (ms : List Message) (met : List ScannedRecord) (stop : ℕ) → StandIn sum size r.log site at ms end → IsPath sum size r site.slot site.place at met stop → open_at tail met ≡ None
+module _ (sum : List ℕ → ℕ) (size : ℕ) (log : List ℕ) (site : SegmentPosition) (end : ℕ) (empty : end + 32 ≤ size → IsEmpty sum size log (site.slot + end) (site.place / size)) where
+  pub path_closed : (tail at : ℕ) (ms : List Message) (met : List ScannedRecord) (stop : ℕ) → StandIn sum size log site at ms end → IsPath sum size log site.slot site.place at met stop → open_at tail met ≡ None
   path_closed tail at ms [] stop stand path = refl
   path_closed tail at [] (x ∷ met) stop stand path =
       let here : at ≡ end = sym stand in
-      absurd (none_met sum size r site end empty x (subst (λ n. n + 32 ≤ size) here path.0) (subst (λ n. IsMet sum size r (site.slot + n) (site.place / size) x) here path.2))
+      absurd (none_met sum size log site end empty x (subst (λ n. n + 32 ≤ size) here path.0) (subst (λ n. IsMet sum size log (site.slot + n) (site.place / size) x) here path.2))
   path_closed tail at (m ∷ ms) (x ∷ met) stop stand path =
-      let is : x ≡ met_of m = met_is sum size r (site.slot + at) (site.place / size) m stand.3 stand.2 x (path.1 ∙ sym stand.1) path.2 in
+      let is : x ≡ met_of m = met_is sum size log (site.slot + at) (site.place / size) m stand.3 stand.2 x (path.1 ∙ sym stand.1) path.2 in
       let len : at + x.len ≡ at + m.size = ap (λ (y : ScannedRecord). at + y.len) is in
       ap (λ (y : ScannedRecord). open_at tail (y ∷ met)) is
-      ∙ path_closed tail (at + m.size) ms met stop stand.4 (subst (λ n. IsPath sum size r site.slot site.place n met stop) len path.3)
+      ∙ path_closed tail (at + m.size) ms met stop stand.4 (subst (λ n. IsPath sum size log site.slot site.place n met stop) len path.3)
 
 -- an ordering that has one segment and no other is that one
 pub only_one : (s : Segment) (ordering : List Segment) → is_ascending ordering ≡ true → Contains ordering s → ((t : Segment) → Contains ordering t → s ≡ t) → ordering ≡ s ∷ []

@@ -12,7 +12,7 @@ use Rattle.sled_core.specs.declared.iterator.scan.ScannedRecord.{ScannedRecord}
 use Rattle.sled_core.specs.declared.iterator.Segment.{Segment}
 use Rattle.sled_core.specs.declared.iterator.scan.ScanEnd.{ScanEnd}
 use Rattle.sled_core.specs.declared.iterator.scan.ScanEnd.TheVariants.{Full, Capped, Broken}
-use Rattle.sled_core.specs.Scan.{Readable, IsFoundSegment, IsMisplaced, IsPath, IsScan}
+use Rattle.sled_core.specs.Scan.{IsFoundSegment, IsMisplaced, IsPath, IsScan}
 use Rattle.sled_core.proofs.Read.PathLemmas.{met_of, scan_is}
 use Rattle.sled_store.proofs.Segments.Elements.{no_element, in_nothing, only_in}
 use Rattle.sled_log.specs.Recovery.{Scanned, IsScanned, IsOrdering, IsTail, GoesOn, IsReplayed, StopsOrGoesOn, AreReplayed, begun_below, RecoveryResult, Outcome, Recovered, Damaged, Applied, applied, given, open_at, tail_end, tail_begins, place_of_mark, least_place, outcome_of, concluded, unchanged, Passes, Replays, ContinuesFrom, Recovers, cut_of}
@@ -32,37 +32,37 @@ low_mark (pos n) place low = let b = low n refl in omega (arith, b)
 low_mark (negsuc n) place low = omega arith
 
 -- recovery goes on from the snapshot that it begins from
-pub continues_from : (sum : List ℕ → ℕ) (size : ℕ) (r : Readable) (snapshots : ℤ → Option (List ℕ)) (first : SnapshotModel) (x : RecoveryResult) → BeginsFrom sum snapshots first → Recovers sum size r snapshots (Recovered x)
-    → ContinuesFrom sum size r first (Recovered x)
+pub continues_from : (sum : List ℕ → ℕ) (size : ℕ) (log : List ℕ) (snapshots : ℤ → Option (List ℕ)) (first : SnapshotModel) (x : RecoveryResult) → BeginsFrom sum snapshots first → Recovers sum size log snapshots (Recovered x)
+    → ContinuesFrom sum size log first (Recovered x)
 unfolding Recovers
-continues_from sum size r snapshots first x begins (inl damaged) = let no : Recovered x ≡ Damaged = damaged.0 in cc
-continues_from sum size r snapshots first x begins (inr (other, at, on)) = subst (λ (s : SnapshotModel). ContinuesFrom sum size r s (Recovered x)) (one_begin sum snapshots other first at begins) on
+continues_from sum size log snapshots first x begins (inl damaged) = let no : Recovered x ≡ Damaged = damaged.0 in cc
+continues_from sum size log snapshots first x begins (inr (other, at, on)) = subst (λ (s : SnapshotModel). ContinuesFrom sum size log s (Recovered x)) (one_begin sum snapshots other first at begins) on
 
 -- No segment is found that isn't misplaced: the snapshot stays.
-module _ (sum : List ℕ → ℕ) (size : ℕ) (r : Readable) (first : SnapshotModel) (none : (s : Segment) → IsFoundSegment sum size r.log (least_place size first) s → IsMisplaced size s) where
-  pub none_ordered : (ordering : List Segment) → IsOrdering sum size r.log (least_place size first) ordering → ordering ≡ []
+module _ (sum : List ℕ → ℕ) (size : ℕ) (log : List ℕ) (first : SnapshotModel) (none : (s : Segment) → IsFoundSegment sum size log (least_place size first) s → IsMisplaced size s) where
+  pub none_ordered : (ordering : List Segment) → IsOrdering sum size log (least_place size first) ordering → ordering ≡ []
   none_ordered ordering is = no_element ordering (λ t there. is.placed t there (none t ((is.found t).0 there)))
 
-  nothing_read : (tail : ℕ) (x : RecoveryResult) → Replays sum size r first [] tail (Recovered x) → x ≡ unchanged first
+  nothing_read : (tail : ℕ) (x : RecoveryResult) → Replays sum size log first [] tail (Recovered x) → x ≡ unchanged first
   nothing_read tail x (inl damaged) = let no : Recovered x ≡ Damaged = damaged.0 in cc
   nothing_read tail x (inr ([], none, passes)) = ap (λ (o : Outcome). conclusion_in o x) passes
   nothing_read tail x (inr (s ∷ ss, there, passes)) = absurd (in_nothing s.segment there.0)
 
-  pub stays_at : (x : RecoveryResult) → ContinuesFrom sum size r first (Recovered x) → x ≡ unchanged first
+  pub stays_at : (x : RecoveryResult) → ContinuesFrom sum size log first (Recovered x) → x ≡ unchanged first
   unfolding ContinuesFrom
   stays_at x (inl damaged) = let no : Recovered x ≡ Damaged = damaged.0 in cc
   stays_at x (inr (ordering, is, replays)) =
-      nothing_read (tail_begins size (least_place size first) ordering) x (subst (λ (o : List Segment). Replays sum size r first o (tail_begins size (least_place size first) ordering) (Recovered x)) (none_ordered ordering is) replays)
+      nothing_read (tail_begins size (least_place size first) ordering) x (subst (λ (o : List Segment). Replays sum size log first o (tail_begins size (least_place size first) ordering) (Recovered x)) (none_ordered ordering is) replays)
 
 -- Recovery begins in it.
-module _ (sum : List ℕ → ℕ) (size : ℕ) (r : Readable) (site : SegmentPosition) (end : ℕ) (own : List Message) (only : IsOnlySegment sum size r.log site end own) (first : SnapshotModel) (least : least_place size first ≡ site.place) where
+module _ (sum : List ℕ → ℕ) (size : ℕ) (log : List ℕ) (site : SegmentPosition) (end : ℕ) (own : List Message) (only : IsOnlySegment sum size log site end own) (first : SnapshotModel) (least : least_place size first ≡ site.place) where
   abbrev found : Segment
-  found = segment sum size r.log site end own only
+  found = segment sum size log site end own only
 
-  pub the_ordering : (ordering : List Segment) → IsOrdering sum size r.log (least_place size first) ordering → ordering ≡ found ∷ []
+  pub the_ordering : (ordering : List Segment) → IsOrdering sum size log (least_place size first) ordering → ordering ≡ found ∷ []
   the_ordering ordering is = only_one found ordering is.ascending
-      ((is.found found).1 (found_from sum size r.log site end own only (least_place size first) (omega (arith, least))))
-      (λ t there. found_is sum size r.log site end own only (least_place size first) t ((is.found t).0 there))
+      ((is.found found).1 (found_from sum size log site end own only (least_place size first) (omega (arith, least))))
+      (λ t there. found_is sum size log site end own only (least_place size first) t ((is.found t).0 there))
 
   -- the tail begins with it
   pub tail_first : tail_begins size (least_place size first) (found ∷ []) ≡ site.place
@@ -72,23 +72,23 @@ module _ (sum : List ℕ → ℕ) (size : ℕ) (r : Readable) (site : SegmentPos
       ap (λ n. n / size * size) greatest ∙ omega (arith, mod-add-div' site.place size, begins)
 
   -- all that is met in it
-  scanned_is : (s : Scanned) → s.segment ≡ found → IsScanned sum size r s → (s ≡ record { segment = found; met = map met_of own; stop = end; why = s.why }) × (s.why ≢ Capped)
+  scanned_is : (s : Scanned) → s.segment ≡ found → IsScanned sum size log s → (s ≡ record { segment = found; met = map met_of own; stop = end; why = s.why }) × (s.why ≢ Capped)
   scanned_is s same scan =
-      let is = scan_is sum size r site end only.empty own s.met s.stop s.why only.stand (subst (λ (x : Segment). IsScan sum size r x.slot x.place s.met s.stop s.why) same scan) in
+      let is = scan_is sum size log site end only.empty own s.met s.stop s.why only.stand (subst (λ (x : Segment). IsScan sum size log x.slot x.place s.met s.stop s.why) same scan) in
       (λ i. record { segment = same i; met = is.0 i; stop = is.1 i; why = s.why }, is.2)
 
   -- and nothing follows it
-  none_behind : (place : ℕ) (ss : List Scanned) → site.place < place → IsTail sum size r (found ∷ []) place ss → ss ≡ []
+  none_behind : (place : ℕ) (ss : List Scanned) → site.place < place → IsTail sum size log (found ∷ []) place ss → ss ≡ []
   none_behind place [] above tail = refl
   none_behind place (t ∷ ts) above tail = absurd (omega (arith, above, ap (λ (x : Segment). x.place) (only_in found t.segment tail.0), tail.1))
 
-  last_one : (why : ScanEnd) (ss : List Scanned) (place : ℕ) → why ≢ Capped → site.place < place → GoesOn why ss (IsTail sum size r (found ∷ []) place ss) → ss ≡ []
+  last_one : (why : ScanEnd) (ss : List Scanned) (place : ℕ) → why ≢ Capped → site.place < place → GoesOn why ss (IsTail sum size log (found ∷ []) place ss) → ss ≡ []
   last_one Broken ss place apart above on = on
   last_one Full ss place apart above on = none_behind place ss above on
   last_one Capped ss place apart above on = absurd (apart refl)
 
   -- where the tail ends
-  pub the_end : (tail : ℕ) (scanned : List Scanned) → tail ≡ site.place → IsTail sum size r (found ∷ []) tail scanned → tail_end scanned ≡ Some (site.place + end)
+  pub the_end : (tail : ℕ) (scanned : List Scanned) → tail ≡ site.place → IsTail sum size log (found ∷ []) tail scanned → tail_end scanned ≡ Some (site.place + end)
   the_end tail [] at none = absurd (none found (0, omega arith, refl) (sym at))
   the_end tail (s ∷ ss) at is =
       let same : s.segment ≡ found = sym (only_in found s.segment is.0) in
@@ -105,7 +105,7 @@ module _ (sum : List ℕ → ℕ) (size : ℕ) (r : Readable) (site : SegmentPos
   comes = concluded size first messages (cut_of size (found, site.place + end))
 
   pub given_is : given (stable_place first.stable) (map met_of own) ≡ messages
-  given_is = given_messages (stable_place first.stable) (site.place + end) own (λ k d lt. (own_below sum size r.log site end own only k d lt).0)
+  given_is = given_messages (stable_place first.stable) (site.place + end) own (λ k d lt. (own_below sum size log site end own only k d lt).0)
 
   -- what comes of the pass over it
   pass_is : (why : ScanEnd) → outcome_of size first (site.place + end) (record { segment = found; met = map met_of own; stop = end; why = why } ∷ []) ≡ comes
@@ -116,40 +116,40 @@ module _ (sum : List ℕ → ℕ) (size : ℕ) (r : Readable) (site : SegmentPos
       ∙ ap (λ (l : List Applied). concluded size first l (cut_of size (found, site.place + end))) given_is
 
   -- the pass reads all of it, since no batch is open
-  passed_is : (p : Scanned) → p.segment ≡ found → IsReplayed sum size r (site.place + end) p → (open_at (site.place + end) p.met ≡ None) × IsScanned sum size r p
+  passed_is : (p : Scanned) → p.segment ≡ found → IsReplayed sum size log (site.place + end) p → (open_at (site.place + end) p.met ≡ None) × IsScanned sum size log p
   passed_is p same passed =
-      let path = subst (λ (x : Segment). IsPath sum size r x.slot x.place 20 p.met p.stop) same passed.0 in
-      let closed = path_closed sum size r site end only.empty (site.place + end) 20 own p.met p.stop only.stand path in
-      (closed, passed_whole sum size r (site.place + end) p passed closed)
+      let path = subst (λ (x : Segment). IsPath sum size log x.slot x.place 20 p.met p.stop) same passed.0 in
+      let closed = path_closed sum size log site end only.empty (site.place + end) 20 own p.met p.stop only.stand path in
+      (closed, passed_whole sum size log (site.place + end) p passed closed)
 
-  no_more : (ps : List Scanned) → AreReplayed sum size r (site.place + end) [] ps → ps ≡ []
+  no_more : (ps : List Scanned) → AreReplayed sum size log (site.place + end) [] ps → ps ≡ []
   no_more [] on = refl
   no_more (p ∷ ps) on = absurd on
 
-  pub passes_are : (passes : List Scanned) → AreReplayed sum size r (site.place + end) (found ∷ []) passes → outcome_of size first (site.place + end) passes ≡ comes
+  pub passes_are : (passes : List Scanned) → AreReplayed sum size log (site.place + end) (found ∷ []) passes → outcome_of size first (site.place + end) passes ≡ comes
   passes_are [] are = absurd are
   passes_are (p ∷ ps) are =
       let whole = passed_is p are.0 are.1 in
-      let alone : ps ≡ [] = no_more ps (subst (λ o. StopsOrGoesOn o ps (AreReplayed sum size r (site.place + end) [] ps)) whole.0 are.2) in
+      let alone : ps ≡ [] = no_more ps (subst (λ o. StopsOrGoesOn o ps (AreReplayed sum size log (site.place + end) [] ps)) whole.0 are.2) in
       ap (λ (l : List Scanned). outcome_of size first (site.place + end) (p ∷ l)) alone
       ∙ ap (λ (x : Scanned). outcome_of size first (site.place + end) (x ∷ [])) (scanned_is p are.0 whole.1).0 ∙ pass_is p.why
 
   pub below_end : begun_below (site.place + end) (found ∷ []) ≡ found ∷ []
   below_end =
-      let under : nat_lt site.place (site.place + end) ≡ true = (let far = long sum size r.log site end own only in grind (arith, nat_tests, far)) in
+      let under : nat_lt site.place (site.place + end) ≡ true = (let far = long sum size log site end own only in grind (arith, nat_tests, far)) in
       ap (λ (b : Bool). if b then found ∷ [] else []) under
 
-  passed : (x : RecoveryResult) → Passes sum size r first (found ∷ []) (Some (site.place + end)) (Recovered x) → comes ≡ Recovered x
+  passed : (x : RecoveryResult) → Passes sum size log first (found ∷ []) (Some (site.place + end)) (Recovered x) → comes ≡ Recovered x
   passed x (inl damaged) = let no : Recovered x ≡ Damaged = damaged.0 in cc
-  passed x (inr (passes, are, is)) = sym (is ∙ passes_are passes (subst (λ (l : List Segment). AreReplayed sum size r (site.place + end) l passes) below_end are))
+  passed x (inr (passes, are, is)) = sym (is ∙ passes_are passes (subst (λ (l : List Segment). AreReplayed sum size log (site.place + end) l passes) below_end are))
 
-  replayed : (tail : ℕ) (x : RecoveryResult) → tail ≡ site.place → Replays sum size r first (found ∷ []) tail (Recovered x) → comes ≡ Recovered x
+  replayed : (tail : ℕ) (x : RecoveryResult) → tail ≡ site.place → Replays sum size log first (found ∷ []) tail (Recovered x) → comes ≡ Recovered x
   replayed tail x at (inl damaged) = let no : Recovered x ≡ Damaged = damaged.0 in cc
-  replayed tail x at (inr (scanned, is, passes)) = passed x (subst (λ (o : Option ℕ). Passes sum size r first (found ∷ []) o (Recovered x)) (the_end tail scanned at is) passes)
+  replayed tail x at (inr (scanned, is, passes)) = passed x (subst (λ (o : Option ℕ). Passes sum size log first (found ∷ []) o (Recovered x)) (the_end tail scanned at is) passes)
 
-  pub concludes : (x : RecoveryResult) → ContinuesFrom sum size r first (Recovered x) → comes ≡ Recovered x
+  pub concludes : (x : RecoveryResult) → ContinuesFrom sum size log first (Recovered x) → comes ≡ Recovered x
   unfolding ContinuesFrom
   concludes x (inl damaged) = let no : Recovered x ≡ Damaged = damaged.0 in cc
   concludes x (inr (ordering, is, replays)) =
       let one = the_ordering ordering is in
-      replayed (tail_begins size (least_place size first) (found ∷ [])) x tail_first (subst (λ (o : List Segment). Replays sum size r first o (tail_begins size (least_place size first) o) (Recovered x)) one replays)
+      replayed (tail_begins size (least_place size first) (found ∷ [])) x tail_first (subst (λ (o : List Segment). Replays sum size log first o (tail_begins size (least_place size first) o) (Recovered x)) one replays)

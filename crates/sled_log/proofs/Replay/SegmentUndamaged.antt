@@ -7,7 +7,7 @@ use Rattle.sled_codec.specs.Snapshots.{SnapshotModel}
 use Rattle.sled_store.specs.SnapshotFiles.{BeginsFrom, IsDamagedSnapshot}
 use Rattle.sled_core.specs.declared.iobuf.SegmentPosition.{SegmentPosition}
 use Rattle.sled_core.specs.declared.iterator.Segment.{Segment}
-use Rattle.sled_core.specs.Scan.{Readable, IsFoundSegment, IsMisplaced, IsDamagedIn}
+use Rattle.sled_core.specs.Scan.{IsFoundSegment, IsMisplaced, IsDamagedIn}
 use Rattle.sled_core.proofs.Read.UndamagedLemmas.{undamaged}
 use Rattle.sled_store.proofs.Segments.Elements.{in_nothing, only_in}
 use Rattle.sled_log.specs.Recovery.{IsUnordered, AreReplayed, begun_below, Recovered, Damaged, tail_begins, least_place, unchanged, IsDamagedPass, Passes, Replays, ContinuesFrom, Recovers}
@@ -17,63 +17,63 @@ use Rattle.sled_log.proofs.Replay.OnlySegment.{IsOnlySegment, segment, found_is}
 use Rattle.sled_log.proofs.Replay.SegmentRecovers.{none_ordered, the_ordering, tail_first, the_end, comes, passes_are, below_end}
 
 -- what is damaged is the snapshot, or the log file from the one that recovery begins from
-pub damaged_from : (sum : List ℕ → ℕ) (size : ℕ) (r : Readable) (snapshots : ℤ → Option (List ℕ)) (first : SnapshotModel) → BeginsFrom sum snapshots first → Recovers sum size r snapshots Damaged
-    → IsDamagedSnapshot sum snapshots ⊎ ContinuesFrom sum size r first Damaged
+pub damaged_from : (sum : List ℕ → ℕ) (size : ℕ) (log : List ℕ) (snapshots : ℤ → Option (List ℕ)) (first : SnapshotModel) → BeginsFrom sum snapshots first → Recovers sum size log snapshots Damaged
+    → IsDamagedSnapshot sum snapshots ⊎ ContinuesFrom sum size log first Damaged
 unfolding Recovers
-damaged_from sum size r snapshots first begins (inl damaged) = inl damaged.1
-damaged_from sum size r snapshots first begins (inr (other, at, on)) = inr (subst (λ (s : SnapshotModel). ContinuesFrom sum size r s Damaged) (one_begin sum snapshots other first at begins) on)
+damaged_from sum size log snapshots first begins (inl damaged) = inl damaged.1
+damaged_from sum size log snapshots first begins (inr (other, at, on)) = inr (subst (λ (s : SnapshotModel). ContinuesFrom sum size log s Damaged) (one_begin sum snapshots other first at begins) on)
 
 -- No segment is found.
-module _ (sum : List ℕ → ℕ) (size : ℕ) (r : Readable) (first : SnapshotModel) (none : (s : Segment) → IsFoundSegment sum size r.log (least_place size first) s → ⊥) where
-  none_unordered : IsUnordered sum size r.log (least_place size first) → ⊥
+module _ (sum : List ℕ → ℕ) (size : ℕ) (log : List ℕ) (first : SnapshotModel) (none : (s : Segment) → IsFoundSegment sum size log (least_place size first) s → ⊥) where
+  none_unordered : IsUnordered sum size log (least_place size first) → ⊥
   none_unordered (inl (s, found, bad)) = none s found
   none_unordered (inr (s, t, found, also, apart, same)) = none s found
 
-  none_replayed : (tail : ℕ) → Replays sum size r first [] tail Damaged → ⊥
+  none_replayed : (tail : ℕ) → Replays sum size log first [] tail Damaged → ⊥
   none_replayed tail (inl (is, damaged)) = in_nothing damaged.segment damaged.there
   none_replayed tail (inr ([], missing, passes)) = let no : Damaged ≡ Recovered (unchanged first) = passes in cc
   none_replayed tail (inr (s ∷ ss, there, passes)) = in_nothing s.segment there.0
 
-  pub none_damaged : ContinuesFrom sum size r first Damaged → ⊥
+  pub none_damaged : ContinuesFrom sum size log first Damaged → ⊥
   unfolding ContinuesFrom
   none_damaged (inl (is, unordered)) = none_unordered unordered
   none_damaged (inr (ordering, is, replays)) =
-      none_replayed (tail_begins size (least_place size first) ordering) (subst (λ (o : List Segment). Replays sum size r first o (tail_begins size (least_place size first) ordering) Damaged) (none_ordered sum size r first (λ s found. absurd (none s found)) ordering is) replays)
+      none_replayed (tail_begins size (least_place size first) ordering) (subst (λ (o : List Segment). Replays sum size log first o (tail_begins size (least_place size first) ordering) Damaged) (none_ordered sum size log first (λ s found. absurd (none s found)) ordering is) replays)
 
 -- One is found, and begins where it may.
-module _ (sum : List ℕ → ℕ) (size : ℕ) (r : Readable) (site : SegmentPosition) (end : ℕ) (own : List Message) (only : IsOnlySegment sum size r.log site end own) (first : SnapshotModel) (least : least_place size first ≡ site.place) where
+module _ (sum : List ℕ → ℕ) (size : ℕ) (log : List ℕ) (site : SegmentPosition) (end : ℕ) (own : List Message) (only : IsOnlySegment sum size log site end own) (first : SnapshotModel) (least : least_place size first ≡ site.place) where
   abbrev found : Segment
-  found = segment sum size r.log site end own only
+  found = segment sum size log site end own only
 
-  found_whole : (s : Segment) → Contains (found ∷ []) s → IsDamagedIn sum size r s.slot s.place → ⊥
-  found_whole s there damaged = undamaged sum size r site end only.empty own only.stand (subst (λ (x : Segment). IsDamagedIn sum size r x.slot x.place) (sym (only_in found s there)) damaged)
+  found_whole : (s : Segment) → Contains (found ∷ []) s → IsDamagedIn sum size log s.slot s.place → ⊥
+  found_whole s there damaged = undamaged sum size log site end only.empty own only.stand (subst (λ (x : Segment). IsDamagedIn sum size log x.slot x.place) (sym (only_in found s there)) damaged)
 
-  one_unordered : (IsMisplaced size found → ⊥) → IsUnordered sum size r.log (least_place size first) → ⊥
-  one_unordered placed (inl (s, is, bad)) = placed (subst (IsMisplaced size) (sym (found_is sum size r.log site end own only (least_place size first) s is)) bad)
+  one_unordered : (IsMisplaced size found → ⊥) → IsUnordered sum size log (least_place size first) → ⊥
+  one_unordered placed (inl (s, is, bad)) = placed (subst (IsMisplaced size) (sym (found_is sum size log site end own only (least_place size first) s is)) bad)
   one_unordered placed (inr (s, t, is, also, apart, same)) =
-      apart (ap (λ (x : Segment). x.slot) (sym (found_is sum size r.log site end own only (least_place size first) s is) ∙ found_is sum size r.log site end own only (least_place size first) t also))
+      apart (ap (λ (x : Segment). x.slot) (sym (found_is sum size log site end own only (least_place size first) s is) ∙ found_is sum size log site end own only (least_place size first) t also))
 
-  no_damaged_pass : (limit : ℕ) (segments : List Segment) → segments ≡ found ∷ [] → IsDamagedPass sum size r limit segments → ⊥
+  no_damaged_pass : (limit : ℕ) (segments : List Segment) → segments ≡ found ∷ [] → IsDamagedPass sum size log limit segments → ⊥
   unfolding IsDamagedIn
   no_damaged_pass limit segments are damaged =
       let there : Contains (found ∷ []) damaged.segment = subst (λ (l : List Segment). Contains l damaged.segment) (sym damaged.is ∙ are) (Contains-append_right damaged.first (damaged.segment ∷ damaged.rest) damaged.segment (in_first damaged.segment damaged.rest)) in
       found_whole damaged.segment there (damaged.met, damaged.next, damaged.path, damaged.room, damaged.damaged)
 
-  one_passed : Passes sum size r first (found ∷ []) (Some (site.place + end)) Damaged → comes sum size r site end own only first least ≡ Damaged
-  one_passed (inl (is, damaged)) = absurd (no_damaged_pass (site.place + end) (begun_below (site.place + end) (found ∷ [])) (below_end sum size r site end own only first least) damaged)
+  one_passed : Passes sum size log first (found ∷ []) (Some (site.place + end)) Damaged → comes sum size log site end own only first least ≡ Damaged
+  one_passed (inl (is, damaged)) = absurd (no_damaged_pass (site.place + end) (begun_below (site.place + end) (found ∷ [])) (below_end sum size log site end own only first least) damaged)
   one_passed (inr (passes, are, is)) =
-      sym (is ∙ passes_are sum size r site end own only first least passes (subst (λ (l : List Segment). AreReplayed sum size r (site.place + end) l passes) (below_end sum size r site end own only first least) are))
+      sym (is ∙ passes_are sum size log site end own only first least passes (subst (λ (l : List Segment). AreReplayed sum size log (site.place + end) l passes) (below_end sum size log site end own only first least) are))
 
-  one_replayed : (tail : ℕ) → tail ≡ site.place → Replays sum size r first (found ∷ []) tail Damaged → comes sum size r site end own only first least ≡ Damaged
+  one_replayed : (tail : ℕ) → tail ≡ site.place → Replays sum size log first (found ∷ []) tail Damaged → comes sum size log site end own only first least ≡ Damaged
   one_replayed tail at (inl (is, damaged)) = absurd (found_whole damaged.segment damaged.there damaged.damaged)
   one_replayed tail at (inr (scanned, is, passes)) =
-      one_passed (subst (λ (o : Option ℕ). Passes sum size r first (found ∷ []) o Damaged) (the_end sum size r site end own only first least tail scanned at is) passes)
+      one_passed (subst (λ (o : Option ℕ). Passes sum size log first (found ∷ []) o Damaged) (the_end sum size log site end own only first least tail scanned at is) passes)
 
   -- so that only what is applied could be damaged
-  pub one_damaged : (IsMisplaced size found → ⊥) → ContinuesFrom sum size r first Damaged → comes sum size r site end own only first least ≡ Damaged
+  pub one_damaged : (IsMisplaced size found → ⊥) → ContinuesFrom sum size log first Damaged → comes sum size log site end own only first least ≡ Damaged
   unfolding ContinuesFrom
   one_damaged placed (inl (is, unordered)) = absurd (one_unordered placed unordered)
   one_damaged placed (inr (ordering, is, replays)) =
-      let one = the_ordering sum size r site end own only first least ordering is in
-      one_replayed (tail_begins size (least_place size first) (found ∷ [])) (tail_first sum size r site end own only first least)
-      (subst (λ (o : List Segment). Replays sum size r first o (tail_begins size (least_place size first) o) Damaged) one replays)
+      let one = the_ordering sum size log site end own only first least ordering is in
+      one_replayed (tail_begins size (least_place size first) (found ∷ [])) (tail_first sum size log site end own only first least)
+      (subst (λ (o : List Segment). Replays sum size log first o (tail_begins size (least_place size first) o) Damaged) one replays)

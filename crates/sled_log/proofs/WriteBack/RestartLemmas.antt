@@ -18,7 +18,7 @@ use Rattle.sled_store.specs.Device.{State, LogState, Synced, NamesSynced, step, 
 use Rattle.sled_store.specs.SnapshotFiles.{BeginsFrom}
 use Rattle.sled_core.specs.declared.iobuf.SegmentPosition.{SegmentPosition}
 use Rattle.sled_core.specs.declared.iterator.Segment.{Segment}
-use Rattle.sled_core.specs.Scan.{Readable, IsFoundSegment, IsMisplaced}
+use Rattle.sled_core.specs.Scan.{IsFoundSegment, IsMisplaced}
 use Rattle.sled_store.specs.Begin.{is_used, is_active}
 use Rattle.sled_core.specs.LogFile.{StandIn, StandsElsewhere, IsLogFile}
 use Rattle.sled_core.specs.Fits.{IsBegunFrom, IsKept}
@@ -40,10 +40,10 @@ use Rattle.sled_log.proofs.Replay.KeptRecovers.{only_segment, own_all}
 use Rattle.sled_log.proofs.Replay.SegmentRecovers.{continues_from, stays_at, messages, given_is, concludes}
 
 -- a segment that is found where recovery succeeds is not misplaced
-none_misplaced : (sum : List ℕ → ℕ) (size : ℕ) (r : Readable) (first : SnapshotModel) (x : RecoveryResult) → ContinuesFrom sum size r first (Recovered x) → (y : Segment) → IsFoundSegment sum size r.log (least_place size first) y → IsMisplaced size y → ⊥
+none_misplaced : (sum : List ℕ → ℕ) (size : ℕ) (log : List ℕ) (first : SnapshotModel) (x : RecoveryResult) → ContinuesFrom sum size log first (Recovered x) → (y : Segment) → IsFoundSegment sum size log (least_place size first) y → IsMisplaced size y → ⊥
 unfolding ContinuesFrom
-none_misplaced sum size r first x (inl damaged) y found bad = let no : Recovered x ≡ Damaged = damaged.0 in cc
-none_misplaced sum size r first x (inr (ordering, is, replays)) y found bad = is.placed y ((is.found y).1 found) bad
+none_misplaced sum size log first x (inl damaged) y found bad = let no : Recovered x ≡ Damaged = damaged.0 in cc
+none_misplaced sum size log first x (inr (ordering, is, replays)) y found bad = is.placed y ((is.found y).1 found) bad
 
 -- then it would begin from the snapshot itself, where the one that was there is the same as soon as its place and pages are
 pub begins_with : (sum : List ℕ → ℕ) (snapshots : ℤ → Option (List ℕ)) (new : State) (s first : SnapshotModel) → BeginsFrom sum snapshots first → BeginsAgain sum snapshots new s
@@ -57,8 +57,8 @@ begins_with sum snapshots new s first was again same = elim again.4 [
       subst (λ (w : SnapshotModel). BeginsFrom sum new.snapshots.file w) (one ∙ same stable pages) again.1)
 ]
 
-module _ (sum : List ℕ → ℕ) (size : ℕ) (r : Readable) (snapshots : ℤ → Option (List ℕ)) (site : SegmentPosition) (from : ℕ) (H : History) (file : IsLogFile sum size r.log site from H.messages)
-    (begun : IsBegunFrom sum size snapshots site from H) (some : 256 ≤ size) (short : length r.log ≤ size) (inside : from ≤ size) (place_begins : site.place % size ≡ 0) (slot_begins : site.slot % size ≡ 0)
+module _ (sum : List ℕ → ℕ) (size : ℕ) (log : List ℕ) (snapshots : ℤ → Option (List ℕ)) (site : SegmentPosition) (from : ℕ) (H : History) (file : IsLogFile sum size log site from H.messages)
+    (begun : IsBegunFrom sum size snapshots site from H) (some : 256 ≤ size) (short : length log ≤ size) (inside : from ≤ size) (place_begins : site.place % size ≡ 0) (slot_begins : site.slot % size ≡ 0)
     (batches : H.batches ≡ []) (formed : IsWellFormed H) (new : State) where
   abbrev first : SnapshotModel
   first = begun.first
@@ -68,7 +68,7 @@ module _ (sum : List ℕ → ℕ) (size : ℕ) (r : Readable) (snapshots : ℤ �
 
   -- a snapshot of the whole history uses the first slot, where a message lies there
   stands_used : (s : SnapshotModel) (cut : ℕ) → IsTable s.pages H cut → All (λ m. m.place < cut) H.messages → (m : Message) → Contains H.messages m
-      → ((x : Message) → Contains H.messages x → lid_of x.pointer / size ≡ 0) → StandsWhole sum size r.log m → StandsUsed sum size r.log s m
+      → ((x : Message) → Contains H.messages x → lid_of x.pointer / size ≡ 0) → StandsWhole sum size log m → StandsUsed sum size log s m
   stands_used s cut is below m there slots (lid, pointer, stands) =
       let first_slot : lid / size ≡ 0 = ap (λ p. lid_of p / size) (sym pointer) ∙ slots m there in
       record {
@@ -79,48 +79,48 @@ module _ (sum : List ℕ → ℕ) (size : ℕ) (r : Readable) (snapshots : ℤ �
       }
 
   -- Nothing was written since the log began.
-  module _ (unbegun : from ≡ 0) (x : RecoveryResult) (on : ContinuesFrom sum size r first (Recovered x)) (log_is : new.log ≡ at_rest r.log) (begins : BeginsFrom sum new.snapshots.file first) where
+  module _ (unbegun : from ≡ 0) (x : RecoveryResult) (on : ContinuesFrom sum size log first (Recovered x)) (log_is : new.log ≡ at_rest log) (begins : BeginsFrom sum new.snapshots.file first) where
     cut_is : c0 ≡ site.place
     cut_is = let reached = begun.reached in omega (arith, reached, unbegun, begun.least, mod-add-div' c0 size)
 
     no_own : file.own ≡ []
-    no_own = stand_none sum size r.log site 20 file.own (subst (λ n. StandIn sum size r.log site 20 file.own n) (omega (arith, unbegun)) file.stand)
+    no_own = stand_none sum size log site 20 file.own (subst (λ n. StandIn sum size log site 20 file.own n) (omega (arith, unbegun)) file.stand)
 
     older_all : H.messages ≡ file.older
     older_all = file.parts ∙ ap (λ (l : List Message). file.older ++ l) no_own ∙ append-nil file.older
 
-    older : (m : Message) → Contains H.messages m → StandsElsewhere sum size r.log site m
-    older m there = All-contains (StandsElsewhere sum size r.log site) file.older m file.elsewhere (subst (λ (l : List Message). Contains l m) older_all there)
+    older : (m : Message) → Contains H.messages m → StandsElsewhere sum size log site m
+    older m there = All-contains (StandsElsewhere sum size log site) file.older m file.elsewhere (subst (λ (l : List Message). Contains l m) older_all there)
 
     in_first : (m : Message) → Contains H.messages m → lid_of m.pointer / size ≡ 0
     in_first m there =
         let s = older m there in
-        let some_long = stands_some sum size r.log s.lid (m.place / size) m s.stands in
+        let some_long = stands_some sum size log s.lid (m.place / size) m s.stands in
         let within = s.stands.stands.in_file in
         ap (λ p. lid_of p / size) s.pointer ∙ div-eq_of_lt (omega (arith, some_long, within, short))
 
     low : (m : Message) → Contains H.messages m → (m.place < c0) × (m.place + m.size ≤ c0)
     low m there =
         let s = older m there in
-        let some_long = stands_some sum size r.log s.lid (m.place / size) m s.stands in
+        let some_long = stands_some sum size log s.lid (m.place / size) m s.stands in
         let below = s.below in
         (omega (arith, some_long, below, cut_is), omega (arith, below, cut_is))
 
     ready_first : IsReady sum size new first H
     ready_first = record {
-      log = r.log;
+      log = log;
       settled = log_is;
       begins = begins;
       table = begun.table;
       batches = batches;
       below = all_from_in (λ m. (m.place < c0) × (m.place + m.size ≤ c0)) H.messages low;
-      file = subst (λ (o : Option ℕ). HasFile sum size r.log first o H.messages) (sym (begun.none_active begins_there)) (record {
+      file = subst (λ (o : Option ℕ). HasFile sum size log first o H.messages) (sym (begun.none_active begins_there)) (record {
         begins = begins_there;
-        used = all_from_in (StandsUsed sum size r.log first) H.messages (λ m there.
+        used = all_from_in (StandsUsed sum size log first) H.messages (λ m there.
             let s = older m there in
             stands_used first c0 begun.table (all_from_in (λ y. y.place < c0) H.messages (λ y has. (low y has).0)) m there in_first (s.lid, s.pointer, s.stands));
-        none = λ y found. absurd (none_misplaced sum size r first x on y (subst (λ n. IsFoundSegment sum size r.log n y) (cut_is ∙ sym begun.least) found)
-            (file.alone unbegun y (subst (λ n. IsFoundSegment sum size r.log n y) cut_is found)));
+        none = λ y found. absurd (none_misplaced sum size log first x on y (subst (λ n. IsFoundSegment sum size log n y) (cut_is ∙ sym begun.least) found)
+            (file.alone unbegun y (subst (λ n. IsFoundSegment sum size log n y) cut_is found)));
       });
     } where
       begins_there : c0 % size ≡ 0
@@ -131,32 +131,32 @@ module _ (sum : List ℕ → ℕ) (size : ℕ) (r : Readable) (snapshots : ℤ �
     abbrev end : ℕ
     end = site.place + from
 
-    only : IsOnlySegment sum size r.log site from file.own
-    only = only_segment sum size r.log site from H.messages file some short place_begins slot_begins long
+    only : IsOnlySegment sum size log site from file.own
+    only = only_segment sum size log site from H.messages file some short place_begins slot_begins long
 
     abbrev found : Segment
-    found = segment sum size r.log site from file.own only
+    found = segment sum size log site from file.own only
 
     abbrev given_all : List Applied
-    given_all = messages sum size r site from file.own only first begun.least
+    given_all = messages sum size log site from file.own only first begun.least
 
     at_first : site.slot ≡ 0
-    at_first = slot_first sum size r.log site from file.own only
+    at_first = slot_first sum size log site from file.own only
 
     all_own : H.messages ≡ file.own
-    all_own = own_all sum size r.log site from H.messages file some short place_begins slot_begins long
+    all_own = own_all sum size log site from H.messages file some short place_begins slot_begins long
 
     within : All (λ m. (m.place < end) × (m.place + m.size ≤ end)) H.messages
-    within = subst (λ (l : List Message). All (λ m. (m.place < end) × (m.place + m.size ≤ end)) l) (sym all_own) (own_below sum size r.log site from file.own only)
+    within = subst (λ (l : List Message). All (λ m. (m.place < end) × (m.place + m.size ≤ end)) l) (sym all_own) (own_below sum size log site from file.own only)
 
-    stand_own : StandIn sum size r.log site 20 file.own from
+    stand_own : StandIn sum size log site 20 file.own from
     stand_own = only.stand
 
-    whole : (m : Message) → Contains H.messages m → StandsWhole sum size r.log m
-    whole m there = All-contains (StandsWhole sum size r.log) file.own m (own_stands sum size r.log site 20 file.own from place_begins stand_own) (subst (λ (l : List Message). Contains l m) all_own there)
+    whole : (m : Message) → Contains H.messages m → StandsWhole sum size log m
+    whole m there = All-contains (StandsWhole sum size log) file.own m (own_stands sum size log site 20 file.own from place_begins stand_own) (subst (λ (l : List Message). Contains l m) all_own there)
 
     -- each message lies in the first slot
-    in_slot : (at : ℕ) (ms : List Message) (stop : ℕ) → StandIn sum size r.log site at ms stop → All (λ m. lid_of m.pointer / size ≡ 0) ms
+    in_slot : (at : ℕ) (ms : List Message) (stop : ℕ) → StandIn sum size log site at ms stop → All (λ m. lid_of m.pointer / size ≡ 0) ms
     in_slot at [] stop stand = λ k d lt. absurd (omega (arith, lt))
     in_slot at (m ∷ ms) stop stand =
         let room = stand.0 in
@@ -171,9 +171,9 @@ module _ (sum : List ℕ → ℕ) (size : ℕ) (r : Readable) (snapshots : ℤ �
     -- what was applied makes the table below each cut past the last message
     table_there : (cut : ℕ) → end ≤ cut → IsTable (table_of first.pages given_all) H cut
     table_there cut le =
-        let under : All (λ m. m.place < cut) file.own = λ k d lt. let b = own_below sum size r.log site from file.own only k d lt in omega (arith, b.0, le) in
+        let under : All (λ m. m.place < cut) file.own = λ k d lt. let b = own_below sum size log site from file.own only k d lt in omega (arith, b.0, le) in
         let same : given_all ≡ map applied (filter (λ m. nat_le c0 m.place && nat_lt m.place cut) H.messages) =
-        sym (given_is sum size r site from file.own only first begun.least)
+        sym (given_is sum size log site from file.own only first begun.least)
         ∙ given_messages c0 cut file.own under
         ∙ ap (λ (l : List Message). map applied (filter (λ m. nat_le c0 m.place && nat_lt m.place cut) l)) (sym all_own) in
         subst (λ (l : List Applied). IsTable (table_of first.pages l) H cut) (sym same) (fold_all H c0 cut first.pages formed (omega (arith, reached, le)) begun.table)
@@ -182,12 +182,12 @@ module _ (sum : List ℕ → ℕ) (size : ℕ) (r : Readable) (snapshots : ℤ �
     abbrev full_shot : SnapshotModel
     full_shot = record { stable = Some (pos (site.place + size)); active = None; pages = table_of first.pages given_all }
 
-    ready_full : new.log ≡ at_rest r.log → BeginsFrom sum new.snapshots.file full_shot → IsReady sum size new full_shot H
+    ready_full : new.log ≡ at_rest log → BeginsFrom sum new.snapshots.file full_shot → IsReady sum size new full_shot H
     ready_full log_is begins =
         let under : All (λ m. (m.place < site.place + size) × (m.place + m.size ≤ site.place + size)) H.messages = λ k d lt. let b = within k d lt in (omega (arith, b.0, inside), omega (arith, b.1, inside)) in
         let table : IsTable full_shot.pages H (site.place + size) = table_there (site.place + size) (omega (arith, inside)) in
         record {
-          log = r.log;
+          log = log;
           settled = log_is;
           begins = begins;
           table = table;
@@ -195,8 +195,8 @@ module _ (sum : List ℕ → ℕ) (size : ℕ) (r : Readable) (snapshots : ℤ �
           below = under;
           file = record {
             begins = add-mod_right site.place size ∙ place_begins;
-            used = all_from_in (StandsUsed sum size r.log full_shot) H.messages (λ m there. stands_used full_shot (site.place + size) table (λ k d lt. (under k d lt).0) m there slots (whole m there));
-            none = λ y is. absurd (none_above sum size r.log site from file.own only (site.place + size) (omega (arith, some)) y is);
+            used = all_from_in (StandsUsed sum size log full_shot) H.messages (λ m there. stands_used full_shot (site.place + size) table (λ k d lt. (under k d lt).0) m there slots (whole m there));
+            none = λ y is. absurd (none_above sum size log site from file.own only (site.place + size) (omega (arith, some)) y is);
           };
         }
 
@@ -204,14 +204,14 @@ module _ (sum : List ℕ → ℕ) (size : ℕ) (r : Readable) (snapshots : ℤ �
     abbrev tip_shot : SnapshotModel
     tip_shot = record { stable = Some (pos end); active = Some site.slot; pages = table_of first.pages given_all }
 
-    ready_tip : from < size → new.log ≡ at_rest (shredded size r.log site from) → BeginsFrom sum new.snapshots.file tip_shot → IsReady sum size new tip_shot H
+    ready_tip : from < size → new.log ≡ at_rest (shredded size log site from) → BeginsFrom sum new.snapshots.file tip_shot → IsReady sum size new tip_shot H
     ready_tip less log_is begins =
-        segment_ready sum size r.log site from H long less place_begins (file.header (omega (arith, long))) (subst (λ (l : List Message). StandIn sum size r.log site 20 l from) (sym all_own) stand_own) batches
+        segment_ready sum size log site from H long less place_begins (file.header (omega (arith, long))) (subst (λ (l : List Message). StandIn sum size log site 20 l from) (sym all_own) stand_own) batches
         (table_of first.pages given_all) (table_there end (omega arith)) new log_is begins
 
     -- The snapshot is that of the filled segment or of the one that goes on.
     module _ (x : RecoveryResult) (is : concluded size first given_all (cut_of size (found, end)) ≡ Recovered x)
-        (log_is : MatchOption x.shred_range (new.log ≡ at_rest r.log) (λ shred_range. new.log ≡ at_rest (overwritten r.log shred_range.0 (replicate shred_range.1 0)))) (again : BeginsAgain sum snapshots new x.model) where
+        (log_is : MatchOption x.shred_range (new.log ≡ at_rest log) (λ shred_range. new.log ≡ at_rest (overwritten log shred_range.0 (replicate shred_range.1 0)))) (again : BeginsAgain sum snapshots new x.model) where
       -- where recovery would begin from the first snapshot again, its place is the cut
       from_first : (s : SnapshotModel) → x.model ≡ s → (first.stable ≡ s.stable → first.pages ≡ s.pages → first ≡ s) → BeginsFrom sum new.snapshots.file s
       from_first s same grown = begins_with sum snapshots new s first begun.begins (subst (λ (w : SnapshotModel). BeginsAgain sum snapshots new w) same again) grown
@@ -239,7 +239,7 @@ module _ (sum : List ℕ → ℕ) (size : ℕ) (r : Readable) (snapshots : ℤ �
       ready_filled at =
           let made = made_is (site.place + size, None) at in
           let model : x.model ≡ full_shot = ap (λ (y : RecoveryResult). y.model) (sym made) in
-          let logs : new.log ≡ at_rest r.log = subst (λ (t : Option (ℕ × ℕ)). MatchOption t (new.log ≡ at_rest r.log) (λ shred_range. new.log ≡ at_rest (overwritten r.log shred_range.0 (replicate shred_range.1 0)))) (ap (λ (y : RecoveryResult). y.shred_range) (sym made)) log_is in
+          let logs : new.log ≡ at_rest log = subst (λ (t : Option (ℕ × ℕ)). MatchOption t (new.log ≡ at_rest log) (λ shred_range. new.log ≡ at_rest (overwritten log shred_range.0 (replicate shred_range.1 0)))) (ap (λ (y : RecoveryResult). y.shred_range) (sym made)) log_is in
           subst (λ (w : SnapshotModel). IsReady sum size new w H) (sym model) (ready_full logs (from_first full_shot model (λ stable pages. absurd (not_full stable))))
 
       ready_going : from + 32 ≤ size → cut_of size (found, end) ≡ (end, Some site.slot) → IsReady sum size new x.model H
@@ -248,14 +248,14 @@ module _ (sum : List ℕ → ℕ) (size : ℕ) (r : Readable) (snapshots : ℤ �
           let off = aligned_offset site.place from size place_begins less in
           let made = made_is (end, Some site.slot) at in
           let model : x.model ≡ tip_shot = ap (λ (y : RecoveryResult). y.model) (sym made) in
-          let logs : new.log ≡ at_rest (overwritten r.log (site.slot + end % size) (replicate (size - end % size) 0)) =
-          subst (λ (t : Option (ℕ × ℕ)). MatchOption t (new.log ≡ at_rest r.log) (λ shred_range. new.log ≡ at_rest (overwritten r.log shred_range.0 (replicate shred_range.1 0)))) (ap (λ (y : RecoveryResult). y.shred_range) (sym made)) log_is in
+          let logs : new.log ≡ at_rest (overwritten log (site.slot + end % size) (replicate (size - end % size) 0)) =
+          subst (λ (t : Option (ℕ × ℕ)). MatchOption t (new.log ≡ at_rest log) (λ shred_range. new.log ≡ at_rest (overwritten log shred_range.0 (replicate shred_range.1 0)))) (ap (λ (y : RecoveryResult). y.shred_range) (sym made)) log_is in
           let grown : first.stable ≡ tip_shot.stable → first.pages ≡ tip_shot.pages → first ≡ tip_shot = λ stable pages.
           let c_is : c0 ≡ end = ap stable_place stable in
           let active : first.active ≡ Some site.slot = begun.active (omega (arith, ap (λ n. n % size) c_is, off, long)) in
           λ i. record { stable = stable i; active = active i; pages = pages i } in
           subst (λ (w : SnapshotModel). IsReady sum size new w H) (sym model)
-          (ready_tip less (subst (λ (n : ℕ). new.log ≡ at_rest (overwritten r.log (site.slot + n) (replicate (size - n) 0))) off logs) (from_first tip_shot model grown))
+          (ready_tip less (subst (λ (n : ℕ). new.log ≡ at_rest (overwritten log (site.slot + n) (replicate (size - n) 0))) off logs) (from_first tip_shot model grown))
 
       ready_begun : IsReady sum size new x.model H
       ready_begun = by (is_filled size (found, end)) refl where
@@ -266,18 +266,18 @@ module _ (sum : List ℕ → ℕ) (size : ℕ) (r : Readable) (snapshots : ℤ �
             ready_going room (ap (λ (t : Bool). if t then (site.place + size, None) else (end, Some site.slot)) filled)
 
   -- Recovery leaves snapshot and device ready for a log that holds the history.
-  pub ready_after : (x : RecoveryResult) → Recovers sum size r snapshots (Recovered x) → MatchOption x.shred_range (new.log ≡ at_rest r.log) (λ shred_range. new.log ≡ at_rest (overwritten r.log shred_range.0 (replicate shred_range.1 0)))
+  pub ready_after : (x : RecoveryResult) → Recovers sum size log snapshots (Recovered x) → MatchOption x.shred_range (new.log ≡ at_rest log) (λ shred_range. new.log ≡ at_rest (overwritten log shred_range.0 (replicate shred_range.1 0)))
       → BeginsAgain sum snapshots new x.model → IsReady sum size new x.model H
   ready_after x recovers log_is again =
-      let on = continues_from sum size r snapshots first x begun.begins recovers in
+      let on = continues_from sum size log snapshots first x begun.begins recovers in
       elim (cases_lt 0 from) [
         | inl begun_at ↦ (
             let long = file.begun begun_at in
-            ready_begun long x (concludes sum size r site from file.own (only long) first begun.least x on) log_is again)
+            ready_begun long x (concludes sum size log site from file.own (only long) first begun.least x on) log_is again)
         | inr none ↦ (
             let unbegun : from ≡ 0 = omega (arith, none) in
-            let same : x ≡ unchanged first = stays_at sum size r first (λ s is. file.alone unbegun s (subst (λ n. IsFoundSegment sum size r.log n s) begun.least is)) x on in
-            let logs : new.log ≡ at_rest r.log = subst (λ (t : Option (ℕ × ℕ)). MatchOption t (new.log ≡ at_rest r.log) (λ shred_range. new.log ≡ at_rest (overwritten r.log shred_range.0 (replicate shred_range.1 0)))) (ap (λ (y : RecoveryResult). y.shred_range) same) log_is in
+            let same : x ≡ unchanged first = stays_at sum size log first (λ s is. file.alone unbegun s (subst (λ n. IsFoundSegment sum size log n s) begun.least is)) x on in
+            let logs : new.log ≡ at_rest log = subst (λ (t : Option (ℕ × ℕ)). MatchOption t (new.log ≡ at_rest log) (λ shred_range. new.log ≡ at_rest (overwritten log shred_range.0 (replicate shred_range.1 0)))) (ap (λ (y : RecoveryResult). y.shred_range) same) log_is in
             let begins : BeginsFrom sum new.snapshots.file first = begins_with sum snapshots new first first begun.begins (subst (λ (w : SnapshotModel). BeginsAgain sum snapshots new w) (ap (λ (y : RecoveryResult). y.model) same) again) (λ stable pages. refl) in
             subst (λ (w : SnapshotModel). IsReady sum size new w H) (sym (ap (λ (y : RecoveryResult). y.model) same)) (ready_first unbegun x on logs begins))
       ]
@@ -293,17 +293,17 @@ if_both (Err e) P Q R follows p q = tt
 
 -- and from a third that says nothing of its value
 pub if_all : {T E : Type 0} (a : Result T E) (P Q : T → Type 0) (R : Type 0) (S : T → Type 0) → ((t : T) → P t → Q t → R → S t) → IfOk a P → IfOk a Q → OnOk a R → IfOk a S
-if_all (Ok t) P Q R S follows p q r = follows t p q r
-if_all (Err e) P Q R S follows p q r = tt
+if_all (Ok t) P Q R S follows p q log = follows t p q log
+if_all (Err e) P Q R S follows p q log = tt
 
 -- The same, from what is kept on the device and what recovery says of its writes.
 pub ready_kept : (sum : List ℕ → ℕ) (size : ℕ) (site : SegmentPosition) (from : ℕ) (device new : State) (H : History) → IsKept sum size site from device H → IsWellFormed H → 256 ≤ size → length device.log.bytes ≤ size
-    → (s : SnapshotModel) (x : RecoveryResult) → Recovers sum size (record { log = device.log.bytes; blobs = λ _. None }) device.snapshots.file (Recovered x) → s ≡ x.model
+    → (s : SnapshotModel) (x : RecoveryResult) → Recovers sum size device.log.bytes device.snapshots.file (Recovered x) → s ≡ x.model
     → IsWrittenBack sum x (state_settled device) new → BeginsAgain sum device.snapshots.file new s → IsReady sum size new s H
 ready_kept sum size site from device new H kept formed some short s x recovers same back again =
-    let r : Readable = record { log = device.log.bytes; blobs = λ _. None } in
+    let log : List ℕ = device.log.bytes in
     let there : kept.on_device.log ≡ device.log.bytes = sym (ap (λ (l : LogState). l.bytes) kept.on_device.settled) in
     let file : IsLogFile sum size device.log.bytes site from H.messages = subst (λ (l : List ℕ). IsLogFile sum size l site from H.messages) there kept.on_device.file in
     subst (λ (w : SnapshotModel). IsReady sum size new w H) (sym same)
-    (ready_after sum size r device.snapshots.file site from H file kept.begun some short kept.inside kept.place_begins kept.slot_begins kept.batches formed new x recovers back.log
+    (ready_after sum size log device.snapshots.file site from H file kept.begun some short kept.inside kept.place_begins kept.slot_begins kept.batches formed new x recovers back.log
     (subst (λ (w : SnapshotModel). BeginsAgain sum device.snapshots.file new w) same again))

@@ -142,10 +142,10 @@ writes_whole sum x old new is_old (ns, are, is) = (
 
 -- The device was settled before.
 module _ (sum : List ℕ → ℕ) (old mid : Trace) (settled : mid ≡ NamesSynced ∷ Synced ∷ old) where
-  pub recovers_settled : (size : ℕ) (o : Outcome) → Recovers sum size (record { log = (state_of mid).log.bytes; blobs = λ _. None }) (state_of mid).snapshots.file o
-      → Recovers sum size (record { log = (state_of old).log.bytes; blobs = λ _. None }) (state_of old).snapshots.file o
+  pub recovers_settled : (size : ℕ) (o : Outcome) → Recovers sum size (state_of mid).log.bytes (state_of mid).snapshots.file o
+      → Recovers sum size (state_of old).log.bytes (state_of old).snapshots.file o
   recovers_settled size o is =
-      subst (λ (h : Trace). Recovers sum size (record { log = (state_of h).log.bytes; blobs = λ _. None }) (state_of h).snapshots.file o) settled is
+      subst (λ (h : Trace). Recovers sum size (state_of h).log.bytes (state_of h).snapshots.file o) settled is
 
   pub writes_settled : (x : RecoveryResult) (new : Trace) → WritesBack sum x mid new
       → (numbers : List ℤ) × MayBeRemoved (file_at old) (snapshot_number_of x.model) numbers × WritesBehind (Synced ∷ NamesSynced ∷ []) sum x numbers old new

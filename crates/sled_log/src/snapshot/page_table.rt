@@ -46,7 +46,9 @@ pub(crate) fn opens(what: &RecordContent, end: u64) -> bool
 {
     match *what {
         RecordContent::BatchStart(peg) => end as i64 <= peg,
-        RecordContent::Gives(_, _, _) | RecordContent::Skipped => false,
+        RecordContent::Gives(_, _, _)
+        | RecordContent::NamesBlob(_, _, _, _)
+        | RecordContent::Skipped => false,
     }
 }
 
@@ -65,7 +67,9 @@ fn apply(alloc: Global, pages: &mut Vec<PageState>, m: &ScannedRecord) -> Result
             }
             change(alloc, pages, kind, page, (m.place as i64, pointer, m.len))
         }
-        RecordContent::BatchStart(_) | RecordContent::Skipped => Ok(()),
+        RecordContent::NamesBlob(_, _, _, _)
+        | RecordContent::BatchStart(_)
+        | RecordContent::Skipped => Ok(()),
     }
 }
 

@@ -11,7 +11,7 @@ ghost use Rattle.sled_core.specs.Scan.{IsFoundSegment, IsMisplaced, IsDamagedIn}
 ghost use Rattle.sled_core.specs.declared.iterator.Segment.{Segment};
 ghost use Rattle.sled_log.specs.Recovery.{Scanned, IsScanned, IsUnordered, IsOrdering, IsTail, IsDamagedTail, AreReplayed, begun_below, IsDamagedPass, tail_begins, tail_end, Recovered, Damaged, RecoveryResult, outcome_of, least_place, scanned_of, given, has_no_table, table_of, ContinuesFrom, Recovers};
 ghost use Rattle.sled_log.specs.WritesBack.{result_of};
-ghost use Rattle.sled_log.specs.Plain.{log_alone, Chain, AreFound, rank, CanBeRead, IsPass, pass_of, passed_all, stop_of};
+ghost use Rattle.sled_log.specs.Plain.{Chain, AreFound, rank, CanBeRead, IsPass, pass_of, passed_all, stop_of};
 
 mod records;
 
@@ -48,9 +48,9 @@ pub fn reference_recovery<D: Device, C: Checksum>(
 ) -> Result<Option<Snapshot>>
     ensures some { let old = state_of (D.trace config.old.device) in
         IfOk result (λ o. IfSome o (λ s. (x : RecoveryResult)
-        × Recovers C.sum_of config.old.config.segment_size (log_alone old.log.bytes) old.snapshots.file (Recovered x) × (model_of s ≡ x.model))) }
+        × Recovers C.sum_of config.old.config.segment_size old.log.bytes old.snapshots.file (Recovered x) × (model_of s ≡ x.model))) }
     ensures none { let old = state_of (D.trace config.old.device) in
-        IfOk result (λ o. IfNone o (Recovers C.sum_of config.old.config.segment_size (log_alone old.log.bytes) old.snapshots.file Damaged)) }
+        IfOk result (λ o. IfNone o (Recovers C.sum_of config.old.config.segment_size old.log.bytes old.snapshots.file Damaged)) }
     ensures readable { IsCorruption result → ⊥ }
     ensures answers { DeviceAnswers result (D.faults config.old.device) (D.faults config.new.device) }
     ensures reads { OnlyReads D.trace config.old config.new }
@@ -66,9 +66,9 @@ pub fn reference_recovery<D: Device, C: Checksum>(
 fn recover_by_definition<D: Device, C: Checksum>(
     config: &mut RunningConfig<D, C>,
 ) -> Result<Recovery>
-    ensures ok { IfOk result (λ x. Recovers C.sum_of config.old.config.segment_size (log_alone (state_of (D.trace config.old.device)).log.bytes)
+    ensures ok { IfOk result (λ x. Recovers C.sum_of config.old.config.segment_size (state_of (D.trace config.old.device)).log.bytes
         (state_of (D.trace config.old.device)).snapshots.file (Recovered (result_of x))) }
-    ensures corrupt { IsCorruption result → Recovers C.sum_of config.old.config.segment_size (log_alone (state_of (D.trace config.old.device)).log.bytes)
+    ensures corrupt { IsCorruption result → Recovers C.sum_of config.old.config.segment_size (state_of (D.trace config.old.device)).log.bytes
         (state_of (D.trace config.old.device)).snapshots.file Damaged }
     ensures answers { DeviceAnswers result (D.faults config.old.device) (D.faults config.new.device) }
     ensures reads { OnlyReads D.trace config.old config.new }
@@ -84,9 +84,9 @@ fn continue_by_definition<D: Device, C: Checksum>(
     config: &mut RunningConfig<D, C>,
     first: Snapshot,
 ) -> Result<Recovery>
-    ensures ok { IfOk result (λ x. ContinuesFrom C.sum_of config.old.config.segment_size (log_alone (state_of (D.trace config.old.device)).log.bytes)
+    ensures ok { IfOk result (λ x. ContinuesFrom C.sum_of config.old.config.segment_size (state_of (D.trace config.old.device)).log.bytes
         (model_of first) (Recovered (result_of x))) }
-    ensures corrupt { IsCorruption result → ContinuesFrom C.sum_of config.old.config.segment_size (log_alone (state_of (D.trace config.old.device)).log.bytes)
+    ensures corrupt { IsCorruption result → ContinuesFrom C.sum_of config.old.config.segment_size (state_of (D.trace config.old.device)).log.bytes
         (model_of first) Damaged }
     ensures answers { DeviceAnswers result (D.faults config.old.device) (D.faults config.new.device) }
     ensures reads { OnlyReads D.trace config.old config.new }
@@ -108,9 +108,9 @@ fn replay_by_definition<D: Device, C: Checksum>(
     requires ordering { IsOrdering C.sum_of config.old.config.segment_size (state_of (D.trace config.old.device)).log.bytes
         (least_place config.old.config.segment_size (model_of first)) segments.now }
     requires small { length (state_of (D.trace config.old.device)).log.bytes + config.old.config.segment_size < 2 ^ 63 }
-    ensures ok { IfOk result (λ x. ContinuesFrom C.sum_of config.old.config.segment_size (log_alone (state_of (D.trace config.old.device)).log.bytes)
+    ensures ok { IfOk result (λ x. ContinuesFrom C.sum_of config.old.config.segment_size (state_of (D.trace config.old.device)).log.bytes
         (model_of first) (Recovered (result_of x))) }
-    ensures corrupt { IsCorruption result → ContinuesFrom C.sum_of config.old.config.segment_size (log_alone (state_of (D.trace config.old.device)).log.bytes)
+    ensures corrupt { IsCorruption result → ContinuesFrom C.sum_of config.old.config.segment_size (state_of (D.trace config.old.device)).log.bytes
         (model_of first) Damaged }
     ensures answers { DeviceAnswers result (D.faults config.old.device) (D.faults config.new.device) }
     ensures reads { OnlyReads D.trace config.old config.new }
@@ -138,11 +138,11 @@ fn pass_over<D: Device, C: Checksum>(
     requires ready { (s : Segment) → Contains segments.now s → CanBeRead config.old.config.segment_size (state_of (D.trace config.old.device)).log.bytes s }
     requires end { end < 2 ^ 63 }
     ensures ok { IfOk result (λ x. (passes : List Scanned) × AreReplayed C.sum_of config.old.config.segment_size
-        (log_alone (state_of (D.trace config.old.device)).log.bytes) end (begun_below end segments.now) passes
+        (state_of (D.trace config.old.device)).log.bytes end (begun_below end segments.now) passes
         × (outcome_of config.old.config.segment_size (model_of first) end passes ≡ Recovered (result_of x))) }
     ensures corrupt { IsCorruption result →
-        IsDamagedPass C.sum_of config.old.config.segment_size (log_alone (state_of (D.trace config.old.device)).log.bytes) end (begun_below end segments.now)
-        ⊎ ((passes : List Scanned) × AreReplayed C.sum_of config.old.config.segment_size (log_alone (state_of (D.trace config.old.device)).log.bytes) end
+        IsDamagedPass C.sum_of config.old.config.segment_size (state_of (D.trace config.old.device)).log.bytes end (begun_below end segments.now)
+        ⊎ ((passes : List Scanned) × AreReplayed C.sum_of config.old.config.segment_size (state_of (D.trace config.old.device)).log.bytes end
         (begun_below end segments.now) passes × (outcome_of config.old.config.segment_size (model_of first) end passes ≡ Damaged)) }
     ensures answers { DeviceAnswers result (D.faults config.old.device) (D.faults config.new.device) }
     ensures reads { OnlyReads D.trace config.old config.new }
@@ -301,12 +301,12 @@ fn scan_of<D: Device, C: Checksum>(
     segment: &Segment,
 ) -> Result<SegmentScan>
     requires { CanBeRead config.old.config.segment_size (state_of (D.trace config.old.device)).log.bytes segment.now }
-    ensures scan { IfOk result (λ s. IsScanned C.sum_of config.old.config.segment_size (log_alone (state_of (D.trace config.old.device)).log.bytes)
+    ensures scan { IfOk result (λ s. IsScanned C.sum_of config.old.config.segment_size (state_of (D.trace config.old.device)).log.bytes
         (scanned_of segment.now s)) }
     ensures stop { IfOk result (λ s. (20 ≤ s.stop) × (s.stop ≤ config.old.config.segment_size)) }
     ensures places { IfOk result (λ s. All (λ m. m.place < segment.now.place + config.old.config.segment_size) s.met.items) }
     ensures damaged { IsCorruption result → IsDamagedIn C.sum_of config.old.config.segment_size
-        (log_alone (state_of (D.trace config.old.device)).log.bytes) segment.now.slot segment.now.place }
+        (state_of (D.trace config.old.device)).log.bytes segment.now.slot segment.now.place }
     ensures answers { DeviceAnswers result (D.faults config.old.device) (D.faults config.new.device) }
     ensures reads { OnlyReads D.trace config.old config.new }
 {
@@ -325,10 +325,10 @@ fn tail_end<D: Device, C: Checksum>(
 ) -> Result<Option<u64>>
     requires ready { (s : Segment) → Contains segments.now s → CanBeRead config.old.config.segment_size (state_of (D.trace config.old.device)).log.bytes s }
     ensures end { IfOk result (λ o. (scanned : List Scanned) × IsTail C.sum_of config.old.config.segment_size
-        (log_alone (state_of (D.trace config.old.device)).log.bytes) segments.now begin scanned × (tail_end scanned ≡ o)) }
+        (state_of (D.trace config.old.device)).log.bytes segments.now begin scanned × (tail_end scanned ≡ o)) }
     ensures small { IfOk result (λ o. IfSome o (λ end. end < 2 ^ 63)) }
     ensures damaged { IsCorruption result → IsDamagedTail C.sum_of config.old.config.segment_size
-        (log_alone (state_of (D.trace config.old.device)).log.bytes) segments.now begin }
+        (state_of (D.trace config.old.device)).log.bytes segments.now begin }
     ensures answers { DeviceAnswers result (D.faults config.old.device) (D.faults config.new.device) }
     ensures reads { OnlyReads D.trace config.old config.new }
 {
@@ -371,11 +371,11 @@ fn passes_below<D: Device, C: Checksum>(
 ) -> Result<Vec<Pass>>
     requires ready { (s : Segment) → Contains segments.now s → CanBeRead config.old.config.segment_size (state_of (D.trace config.old.device)).log.bytes s }
     requires end { end < 2 ^ 63 }
-    ensures passed { IfOk result (λ v. AreReplayed C.sum_of config.old.config.segment_size (log_alone (state_of (D.trace config.old.device)).log.bytes) end
+    ensures passed { IfOk result (λ v. AreReplayed C.sum_of config.old.config.segment_size (state_of (D.trace config.old.device)).log.bytes end
         (begun_below end segments.now) (map pass_of v.items)) }
     ensures fits { IfOk result (λ v. All (IsPass config.old.config.segment_size) v.items) }
     ensures damaged { IsCorruption result → IsDamagedPass C.sum_of config.old.config.segment_size
-        (log_alone (state_of (D.trace config.old.device)).log.bytes) end (begun_below end segments.now) }
+        (state_of (D.trace config.old.device)).log.bytes end (begun_below end segments.now) }
     ensures answers { DeviceAnswers result (D.faults config.old.device) (D.faults config.new.device) }
     ensures reads { OnlyReads D.trace config.old config.new }
 {

@@ -1,9 +1,7 @@
 use Rattle.std.proofs.Common.{◌≡◌, ◌⊎◌, ◌∙◌, ◌≤◌, ℕ, List, [], ◌∷◌, length, refl, rules, inl, inr, sym, subst, arith}
-use Rattle.sled_core.specs.Scan.{Readable}
 use Rattle.sled_store.specs.Device.{Trace, Synced, NamesSynced, state_of}
 use Rattle.sled_store.specs.SnapshotFiles.{BeginsFrom}
 use Rattle.sled_store.proofs.Traces.ScriptLemmas.{performs_whole}
-use Rattle.sled_log.specs.Plain.{log_alone}
 use Rattle.sled_log.specs.Recovery.{RecoveryResult, Recovered, Recovers}
 use Rattle.sled_log.specs.Restores.{IsBeyondRecovery}
 use Rattle.sled_log.specs.WritesBack.{HasWrittenBack, IsWrittenBack, result_of}
@@ -29,9 +27,9 @@ returns-in-Ok-write_back-clause-comes g c =
     let recovers = recovers_settled sum old settled c.in_ok-settle.ensures.done size (Recovered x) c.in-Ok.ensures.ok in
     let writes = writes_settled sum old mid is_mid x new c.write_back.ensures.calls in
     let back = c.in-Ok-write_back.ensures in
-    let r : Readable = log_alone (state_of settled).log.bytes in
-    let met = subst (λ (h : Trace). Recovers sum size r (state_of h).snapshots.file (Recovered x)) (sym c.in-Ok.ensures.reads.unwritten) c.in-Ok.ensures.ok in
-    let again = begins_again sum size r (omega (arith, c.args.config.now.config.least)) x (state_of mid) (state_of new) back.written met back.fits in
+    let log : List ℕ = (state_of settled).log.bytes in
+    let met = subst (λ (h : Trace). Recovers sum size log (state_of h).snapshots.file (Recovered x)) (sym c.in-Ok.ensures.reads.unwritten) c.in-Ok.ensures.ok in
+    let again = begins_again sum size log (omega (arith, c.args.config.now.config.least)) x (state_of mid) (state_of new) back.written met back.fits in
     let as_before = subst (λ (h : Trace). (again.0 ≡ x.model) ⊎ BeginsFrom sum (state_of h).snapshots.file again.0) is_mid again.4 in
     record {
       calls = inr (x, recovers, writes.0, writes.1, writes.2);

@@ -10,20 +10,20 @@ use Rattle.sled_log.proofs.snapshot.recover.Goals as goal
 
 -- a snapshot that recovery begins from, and what comes of it there
 from_it : (sum : List ℕ → ℕ) (size : ℕ) (log : List ℕ) (snapshots : ℤ → Option (List ℕ)) (first : SnapshotModel) (o : Outcome)
-    → BeginsFrom sum snapshots first → ContinuesFrom sum size (record { log = log; blobs = λ _. None }) first o → Recovers sum size (record { log = log; blobs = λ _. None }) snapshots o
+    → BeginsFrom sum snapshots first → ContinuesFrom sum size log first o → Recovers sum size log snapshots o
 unfolding Recovers
 from_it sum size log snapshots first o begins comes = inr (first, begins, comes)
 
-damaged_newest : (sum : List ℕ → ℕ) (size : ℕ) (log : List ℕ) (snapshots : ℤ → Option (List ℕ)) → IsDamagedSnapshot sum snapshots → Recovers sum size (record { log = log; blobs = λ _. None }) snapshots Damaged
+damaged_newest : (sum : List ℕ → ℕ) (size : ℕ) (log : List ℕ) (snapshots : ℤ → Option (List ℕ)) → IsDamagedSnapshot sum snapshots → Recovers sum size log snapshots Damaged
 unfolding Recovers
 damaged_newest sum size log snapshots damaged = inl (refl, damaged)
 
 -- what comes of it, where the device and the configuration are as they were
 comes_as : (sum : List ℕ → ℕ) (first : SnapshotModel) (o : Outcome) (old new : Config) (before after : Trace) → new ≡ old → after ≡ before
-    → ContinuesFrom sum new.segment_size (record { log = (state_of after).log.bytes; blobs = λ _. None }) first o → ContinuesFrom sum old.segment_size (record { log = (state_of before).log.bytes; blobs = λ _. None }) first o
+    → ContinuesFrom sum new.segment_size (state_of after).log.bytes first o → ContinuesFrom sum old.segment_size (state_of before).log.bytes first o
 comes_as sum first o old new before after same_config same_trace comes =
-    subst (λ (x : Config). ContinuesFrom sum x.segment_size (record { log = (state_of before).log.bytes; blobs = λ _. None }) first o) same_config
-    (subst (λ (t : Trace). ContinuesFrom sum new.segment_size (record { log = (state_of t).log.bytes; blobs = λ _. None }) first o) same_trace comes)
+    subst (λ (x : Config). ContinuesFrom sum x.segment_size (state_of before).log.bytes first o) same_config
+    (subst (λ (t : Trace). ContinuesFrom sum new.segment_size (state_of t).log.bytes first o) same_trace comes)
 
 begins_as : (sum : List ℕ → ℕ) (first : SnapshotModel) (before after : Trace) → after ≡ before → BeginsFrom sum (state_of after).snapshots.file first → BeginsFrom sum (state_of before).snapshots.file first
 begins_as sum first before after same begins = subst (λ (t : Trace). BeginsFrom sum (state_of t).snapshots.file first) same begins

@@ -6,16 +6,17 @@ ghost use Rattle.sled_codec.specs.Errors.{IsCorruption};
 ghost use Rattle.sled_store.specs.Device.{state_of};
 ghost use Rattle.sled_store.specs.Causes.{DeviceAnswers};
 ghost use Rattle.sled_core.specs.Keeps.{OnlyReads};
-ghost use Rattle.sled_core.specs.Scan.{HasPlace, IsStep, IsDamagedAt};
+ghost use Rattle.sled_core.specs.Reading.{IsMalformed};
+ghost use Rattle.sled_core.specs.Scan.{HasPlace, IsStep};
 ghost use Rattle.sled_log.specs.Recovery.{IsReplayed, open_at, scanned_of};
-ghost use Rattle.sled_log.specs.Plain.{log_alone, CanBeRead, IsDamagedBefore};
+ghost use Rattle.sled_log.specs.Plain.{CanBeRead, IsDamagedBefore};
 
 use crate::snapshot::page_table::opens;
 use sled_codec::result::Result;
 use sled_codec::serialization::{Checksum, SegmentNumber};
 use sled_core::iterator::Segment;
 use sled_core::iterator::scan::{ScanEnd, ScannedRecord, SegmentScan, Step, step_of};
-use sled_core::logger::read_message::read_message;
+use sled_core::logger::read_message::read_record;
 use sled_store::segment::{MAX_MSG_HEADER_LEN, SEG_HEADER_LEN};
 use sled_store::{Device, RunningConfig};
 
@@ -28,12 +29,12 @@ pub(crate) fn scan_up_to<D: Device, C: Checksum>(
 ) -> Result<SegmentScan>
     requires ready { CanBeRead config.old.config.segment_size (state_of (D.trace config.old.device)).log.bytes segment.now }
     requires end { end < 2 ^ 63 }
-    ensures passed { IfOk result (λ s. IsReplayed C.sum_of config.old.config.segment_size (log_alone (state_of (D.trace config.old.device)).log.bytes) end
+    ensures passed { IfOk result (λ s. IsReplayed C.sum_of config.old.config.segment_size (state_of (D.trace config.old.device)).log.bytes end
         (scanned_of segment.now s)) }
     ensures stop { IfOk result (λ s. s.stop ≤ config.old.config.segment_size) }
     ensures places { IfOk result (λ s. All (λ m. m.place < segment.now.place + config.old.config.segment_size) s.met.items) }
     ensures damaged { IsCorruption result → IsDamagedBefore C.sum_of config.old.config.segment_size
-        (log_alone (state_of (D.trace config.old.device)).log.bytes) end segment.now }
+        (state_of (D.trace config.old.device)).log.bytes end segment.now }
     ensures answers { DeviceAnswers result (D.faults config.old.device) (D.faults config.new.device) }
     ensures reads { OnlyReads D.trace config.old config.new }
 {
@@ -78,7 +79,6 @@ pub(crate) fn is_open(met: &[ScannedRecord], end: u64) -> bool
 }
 
 /// What is met at an offset of a segment, where a record may begin.
-#[tactic(auto, unfolding(sled_core::specs::Scan::IsDamagedAt))]
 fn step_at<D: Device, C: Checksum>(
     config: &mut RunningConfig<D, C>,
     segment: &Segment,
@@ -86,16 +86,16 @@ fn step_at<D: Device, C: Checksum>(
 ) -> Result<Step>
     requires begin { (20 ≤ at) × (at + 32 ≤ config.old.config.segment_size) }
     requires ready { CanBeRead config.old.config.segment_size (state_of (D.trace config.old.device)).log.bytes segment.now }
-    ensures step { IfOk result (IsStep C.sum_of config.old.config.segment_size (log_alone (state_of (D.trace config.old.device)).log.bytes)
+    ensures step { IfOk result (IsStep C.sum_of config.old.config.segment_size (state_of (D.trace config.old.device)).log.bytes
         (segment.now.slot + at) (segment.now.place + at) (segment.now.place / config.old.config.segment_size)) }
     ensures room { IfOk result (HasPlace config.old.config.segment_size at) }
-    ensures damaged { IsCorruption result → IsDamagedAt C.sum_of config.old.config.segment_size (log_alone (state_of (D.trace config.old.device)).log.bytes)
+    ensures damaged { IsCorruption result → IsMalformed C.sum_of config.old.config.segment_size (state_of (D.trace config.old.device)).log.bytes
         (segment.now.slot + at) (segment.now.place / config.old.config.segment_size) }
     ensures answers { DeviceAnswers result (D.faults config.old.device) (D.faults config.new.device) }
     ensures reads { OnlyReads D.trace config.old config.new }
 {
     let number = SegmentNumber(segment.place / config.config.segment_size);
     let lid = segment.slot + at;
-    let read = read_message(config, None, lid, number)?;
+    let read = read_record(config, None, lid, number)?;
     Ok(step_of(segment.place + at, lid, read))
 }

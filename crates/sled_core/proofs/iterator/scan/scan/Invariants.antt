@@ -1,13 +1,14 @@
 use Rattle.std.proofs.Common.{◌+◌, ◌-◌, ◌≡◌, ◌≤◌, ◌<◌, ◌%◌, ◌^◌}
 use Rattle.std.specs.List.{All}
-use Rattle.sled_core.specs.Scan.{IsPath, read_of}
+use Rattle.sled_core.specs.Reading.{file_of}
+use Rattle.sled_core.specs.Scan.{IsPath}
 use Rattle.sled_core.proofs.iterator.scan.scan.Given as goal
 
 -- what was met so far leads to where the reading stands, and the device is as it was
 abbrev pub invariant-loop-stop : goal.invariant-loop-stop
 invariant-loop-stop g l =
     record {
-      path : IsPath g.C.Checksum.sum_of l.fn.config.config.segment_size (read_of l.fn.buf) l.fn.buf.offset l.fn.place 20 l.met.items l.stop;
+      path : IsPath g.C.Checksum.sum_of l.fn.config.config.segment_size (file_of l.fn.buf) l.fn.buf.offset l.fn.place 20 l.met.items l.stop;
       behind : 20 ≤ l.stop;
       within : l.stop ≤ l.fn.config.config.segment_size;
       places : All (λ m. m.place < l.fn.place + l.fn.config.config.segment_size) l.met.items;

@@ -10,13 +10,14 @@ use Rattle.std.specs.declared.io.Error.{Error as IoError}
 use Rattle.std.proofs.lemmas.Int.{to_z-of_z}
 use Rattle.sled_codec.specs.Pointers.{lid_of}
 use Rattle.sled_store.specs.Device.{State, Trace, state_of}
-use Rattle.sled_core.specs.Reading.{IsMalformed, GivesMessage}
+use Rattle.sled_core.specs.Reading.{IsUnreadable, GivesMessage}
 use Rattle.sled_core.specs.Fits.{Holds, HoldsIn, segment_size_of, log_parts}
 use Rattle.sled_core.specs.declared.logger.read_message.LogRead.{LogRead}
 use Rattle.sled_core.proofs.Reserve.Parts.{moved}
 use Rattle.sled_core.proofs.Read.ReadingLemmas.{if_ok}
 use Rattle.sled_core.proofs.Read.GivesLemmas.{gives, message_found}
-use Rattle.sled_core.proofs.Holds.HeldPointers.{LiesInline, fits_lie, stands_formed}
+use Rattle.sled_core.proofs.Holds.HeldPointers.{LiesInline, fits_lie}
+use Rattle.sled_core.proofs.Read.PathLemmas.{stands_readable}
 use Rattle.sled_core.proofs.Holds.KeptCalls.{kept_still, kept_further}
 use Rattle.sled_core.proofs.Holds.ReachLemmas.{fits_holds}
 use Rattle.sled_core.proofs.logger.Log.read.Given as given
@@ -29,9 +30,10 @@ place_is g c = c.unsigned_abs-place.ensures.value ∙ ap unsigned_abs (to_z-of_z
 pub returns-clause-corrupt : goal.returns-clause-corrupt
 returns-clause-corrupt g c = λ damaged.
     let size : ℕ = c.args.self.now.config.config.segment_size in
-    inr (moved (IsMalformed g.C.Checksum.sum_of) _ size _ (state_of (g.D.Device.trace c.read_settled.new.self.config.device)).log.bytes _ (lid_of c.args.ptr) _ (unsigned_abs c.args.lsn / size)
-    c.in_ok-settle.ensures.position.size (ap (λ (t : Trace). (state_of t).log.bytes) (sym c.read_settled.ensures.trace)) c.lid-lid.ensures (ap (λ n. n / size) (place_is g c))
-    (c.read_settled.ensures.malformed damaged))
+    let unread : ℕ → State → ℕ → ℕ → Type 0 = λ n s lid number. IsUnreadable g.C.Checksum.sum_of n s.log.bytes s.blobs.file lid number in
+    inr (moved unread _ size _ (state_of (g.D.Device.trace c.read_settled.new.self.config.device)) _ (lid_of c.args.ptr) _ (unsigned_abs c.args.lsn / size)
+    c.in_ok-settle.ensures.position.size (ap state_of (sym c.read_settled.ensures.trace)) c.lid-lid.ensures (ap (λ n. n / size) (place_is g c))
+    (c.read_settled.ensures.unreadable damaged))
 
 -- the record of a message stands where it is read
 stands_there : (g : given.Over) (c : goal.After-read_settled g) (H : History) (m : Message) → Holds g.D.Device.trace g.C.Checksum.sum_of c.args.self.now H → Contains H.messages m → pos m.place ≡ c.args.lsn → m.pointer ≡ c.args.ptr
@@ -54,13 +56,13 @@ stands_there g c H m holds there at pointer =
 pub returns-clause-message : goal.returns-clause-message
 returns-clause-message g c = λ H m holds there at pointer.
     let s = stands_there g c H m holds there at pointer in
-    if_ok c.read_settled.result _ (GivesMessage m) (λ (r : LogRead) reads. gives g.C.Checksum.sum_of _ _ _ _ m s.header r s.stands s.known s.page reads) c.read_settled.ensures.reading
+    if_ok c.read_settled.result _ (GivesMessage m) (λ (r : LogRead) reads. gives g.C.Checksum.sum_of _ _ _ _ _ m s.header r s.stands s.known s.page reads) c.read_settled.ensures.reading
 
 -- what a log fits is held without damage
 
 pub returns-clause-undamaged : goal.returns-clause-undamaged
 returns-clause-undamaged g c = λ H A f U m fits there at pointer damaged.
-    stands_formed g.C.Checksum.sum_of _ _ _ _ m (stands_there g c H m (fits_holds g.D.Device.trace g.C.Checksum.sum_of c.args.self.now H A f U fits) there at pointer) (c.read_settled.ensures.malformed damaged)
+    stands_readable g.C.Checksum.sum_of _ _ _ _ m (stands_there g c H m (fits_holds g.D.Device.trace g.C.Checksum.sum_of c.args.self.now H A f U fits) there at pointer) _ (c.read_settled.ensures.unreadable damaged)
 
 pub returns-then-lsn-lt0-clause-undamaged : goal.returns-then-lsn-lt0-clause-undamaged
 returns-then-lsn-lt0-clause-undamaged g c = λ H A f U m fits there at pointer damaged.

@@ -1,10 +1,24 @@
-use Rattle.sled_store.specs.Device.{state_of}
-use Rattle.sled_core.specs.Reading.{file_read}
+use Rattle.std.proofs.Common.{◌≡◌, inr, subst, to_z, of_z}
+use Rattle.std.specs.Int.{w64}
+use Rattle.std.proofs.lemmas.Int.{to_z-of_z}
+use Rattle.sled_store.specs.Blobs.{IsDamagedFor}
+use Rattle.sled_store.specs.Device.{Trace, state_of}
 use Rattle.sled_core.proofs.logger.read_message.read_message.Goals as goal
 
-pub returns-in-Some-clause-reading : goal.returns-in-Some-clause-reading
-returns-in-Some-clause-reading g c =
-    c.read_found.ensures.reading c.args.config.now.config.segment_size (file_read c.args.buf (state_of (g.D.Device.trace c.args.config.now.device)).log.bytes) c.args.lid c.args.number.0 (rw c.in-Some.is at c.in_ok-found.ensures.found)
-
-pub returns-in-None-clause-reading : goal.returns-in-None-clause-reading
-returns-in-None-clause-reading g c = (rw c.in-None.is at c.in_ok-found.ensures.none) g.C.Checksum.sum_of
+pub returns-in-Ok-DanglingBlob-clause-unreadable : goal.returns-in-Ok-DanglingBlob-clause-unreadable
+returns-in-Ok-DanglingBlob-clause-unreadable g c = λ corrupt.
+    let header = c.in-Ok-DanglingBlob.header in
+    let place = c.in-Ok-DanglingBlob.place in
+    let reading = rw c.in-Ok-DanglingBlob.field-0-is at c.in-Ok-DanglingBlob.ensures.reading in
+    let same : to_z w64 (of_z w64 place) ≡ place = to_z-of_z w64 place reading.3.in_range in
+    inr (record {
+      header = header;
+      body = reading.0;
+      len = c.in-Ok-DanglingBlob.len;
+      stands = reading.1;
+      kind = reading.2;
+      place = place;
+      names = reading.3;
+      damaged = subst (λ (t : Trace). IsDamagedFor g.C.Checksum.sum_of header.kind ((state_of t).blobs.file place)) c.read_record.ensures.trace
+          (subst (λ p. IsDamagedFor g.C.Checksum.sum_of header.kind ((state_of (g.D.Device.trace c.read_record.new.config.device)).blobs.file p)) same (c.with_item.ensures.damaged corrupt));
+    })

@@ -2,7 +2,7 @@ use Rattle.std.proofs.Common.{◌≡◌, ◌++◌, drop, map}
 use Rattle.std.specs.List.{All}
 use Rattle.sled_store.specs.Device.{state_of}
 use Rattle.sled_log.specs.Recovery.{IsScanned, AreClosed, begun_below}
-use Rattle.sled_log.specs.Plain.{log_alone, IsPass, pass_of}
+use Rattle.sled_log.specs.Plain.{IsPass, pass_of}
 use Rattle.sled_log.proofs.snapshot.reference.passes_below.Given as goal
 
 -- those so far were read to their ends, with no batch that is open, and the rest is left
@@ -10,7 +10,7 @@ abbrev pub invariant-loop-segment : goal.invariant-loop-segment
 invariant-loop-segment g l =
     record {
       split : begun_below l.fn.end l.segments ≡ map (λ p. p.segment) l.passes.items ++ begun_below l.fn.end (drop l.segment-index l.segments);
-      scanned : All (λ p. IsScanned g.C.Checksum.sum_of l.fn.config.config.segment_size (log_alone (state_of (g.D.Device.trace l.fn.config.device)).log.bytes) (pass_of p)) l.passes.items;
+      scanned : All (λ p. IsScanned g.C.Checksum.sum_of l.fn.config.config.segment_size (state_of (g.D.Device.trace l.fn.config.device)).log.bytes (pass_of p)) l.passes.items;
       closed : AreClosed l.fn.end (map pass_of l.passes.items);
       fits : All (IsPass l.fn.config.config.segment_size) l.passes.items;
       trace : g.D.Device.trace l.config.device ≡ g.D.Device.trace l.fn.config.device;

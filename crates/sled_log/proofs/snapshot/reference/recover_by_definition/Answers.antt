@@ -3,7 +3,6 @@ use Rattle.sled_codec.specs.Snapshots.{SnapshotModel, model_of}
 use Rattle.sled_store.specs.declared.config.Config.{Config}
 use Rattle.sled_store.specs.Device.{Trace, state_of}
 use Rattle.sled_log.specs.Recovery.{Recovered, Damaged, ContinuesFrom}
-use Rattle.sled_log.specs.Plain.{log_alone}
 use Rattle.sled_log.specs.WritesBack.{result_of}
 use Rattle.sled_log.proofs.Reference.PlainSame.{was_so}
 use Rattle.sled_log.proofs.Reference.PlainWhole.{recovers_from, recovers_damaged}
@@ -15,8 +14,8 @@ returns-in-Ok-clause-ok g c =
     let before : Trace = g.D.Device.trace c.args.config.now.device in
     let first : SnapshotModel = model_of c.in-Ok.first in
     if_ok c.continue_by_definition.result _ _ (λ x comes.
-    recovers_from g.C.Checksum.sum_of cfg.segment_size (log_alone (state_of before).log.bytes) (state_of before).snapshots.file first (Recovered (result_of x)) c.in-Ok.ensures.ok
-    (was_so (λ n l. ContinuesFrom g.C.Checksum.sum_of n (log_alone l) first (Recovered (result_of x))) cfg c.read_newest.new.config.config before (g.D.Device.trace c.read_newest.new.config.device) c.in-Ok.ensures.reads.config c.in-Ok.ensures.reads.unwritten comes))
+    recovers_from g.C.Checksum.sum_of cfg.segment_size (state_of before).log.bytes (state_of before).snapshots.file first (Recovered (result_of x)) c.in-Ok.ensures.ok
+    (was_so (λ n l. ContinuesFrom g.C.Checksum.sum_of n l first (Recovered (result_of x))) cfg c.read_newest.new.config.config before (g.D.Device.trace c.read_newest.new.config.device) c.in-Ok.ensures.reads.config c.in-Ok.ensures.reads.unwritten comes))
     c.continue_by_definition.ensures.ok
 
 pub returns-in-Ok-clause-corrupt : goal.returns-in-Ok-clause-corrupt
@@ -24,10 +23,10 @@ returns-in-Ok-clause-corrupt g c = λ corrupt.
     let cfg : Config = c.args.config.now.config in
     let before : Trace = g.D.Device.trace c.args.config.now.device in
     let first : SnapshotModel = model_of c.in-Ok.first in
-    recovers_from g.C.Checksum.sum_of cfg.segment_size (log_alone (state_of before).log.bytes) (state_of before).snapshots.file first Damaged c.in-Ok.ensures.ok
-    (was_so (λ n l. ContinuesFrom g.C.Checksum.sum_of n (log_alone l) first Damaged) cfg c.read_newest.new.config.config before (g.D.Device.trace c.read_newest.new.config.device) c.in-Ok.ensures.reads.config c.in-Ok.ensures.reads.unwritten (c.continue_by_definition.ensures.corrupt corrupt))
+    recovers_from g.C.Checksum.sum_of cfg.segment_size (state_of before).log.bytes (state_of before).snapshots.file first Damaged c.in-Ok.ensures.ok
+    (was_so (λ n l. ContinuesFrom g.C.Checksum.sum_of n l first Damaged) cfg c.read_newest.new.config.config before (g.D.Device.trace c.read_newest.new.config.device) c.in-Ok.ensures.reads.config c.in-Ok.ensures.reads.unwritten (c.continue_by_definition.ensures.corrupt corrupt))
 
 pub returns-in-Err-clause-corrupt : goal.returns-in-Err-clause-corrupt
 returns-in-Err-clause-corrupt g c = λ corrupt.
     let before : Trace = g.D.Device.trace c.args.config.now.device in
-    recovers_damaged g.C.Checksum.sum_of c.args.config.now.config.segment_size (log_alone (state_of before).log.bytes) (state_of before).snapshots.file (c.in-Err.ensures.corrupt corrupt)
+    recovers_damaged g.C.Checksum.sum_of c.args.config.now.config.segment_size (state_of before).log.bytes (state_of before).snapshots.file (c.in-Err.ensures.corrupt corrupt)

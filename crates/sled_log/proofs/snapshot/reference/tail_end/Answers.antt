@@ -4,7 +4,7 @@ use Rattle.sled_core.specs.declared.iterator.scan.ScanEnd.TheVariants.{Broken}
 use Rattle.sled_store.specs.declared.config.Config.{Config}
 use Rattle.sled_store.specs.Device.{state_of}
 use Rattle.sled_log.specs.Recovery.{Scanned, IsScanned, scanned_of}
-use Rattle.sled_log.specs.Plain.{log_alone, CanBeRead}
+use Rattle.sled_log.specs.Plain.{CanBeRead}
 use Rattle.sled_log.proofs.Reference.PlainSame.{was_so, still_so}
 use Rattle.sled_log.proofs.Reference.PlainTail.{part_more, tail_ends, tail_breaks, end_of_last}
 use Rattle.sled_log.proofs.snapshot.reference.tail_end.Goals as goal
@@ -35,11 +35,11 @@ returns-then-is_broken-clause-end g c =
     let s : Segment = c.in-Some.segment in
     let x : Scanned = scanned_of s c.in-Ok.scan in
     let log : List ℕ = (state_of (g.D.Device.trace c.args.config.now.device)).log.bytes in
-    let scanned = was_so (λ n l. IsScanned g.C.Checksum.sum_of n (log_alone l) x) c.args.config.now.config c.loop-segment.config.config (g.D.Device.trace c.args.config.now.device) (g.D.Device.trace c.loop-segment.config.device)
+    let scanned = was_so (λ n l. IsScanned g.C.Checksum.sum_of n l x) c.args.config.now.config c.loop-segment.config.config (g.D.Device.trace c.args.config.now.device) (g.D.Device.trace c.loop-segment.config.device)
     c.loop-segment.invariant.config c.loop-segment.invariant.trace c.in-Ok.ensures.scan in
     let read = c.loop-segment.invariant.read in (
       read.0 ++ x ∷ [],
-      tail_breaks g.C.Checksum.sum_of size (log_alone log) c.args.segments.now c.args.begin read.0 c.loop-segment.place x read.1 c.in-Some.ensures.some.0 c.in-Some.ensures.some.1 scanned (c.is_broken.ensures.0 c.if-is_broken.true),
+      tail_breaks g.C.Checksum.sum_of size log c.args.segments.now c.args.begin read.0 c.loop-segment.place x read.1 c.in-Some.ensures.some.0 c.in-Some.ensures.some.1 scanned (c.is_broken.ensures.0 c.if-is_broken.true),
       end_of_last read.0 x ∙ ap (λ n. Some (n + c.in-Ok.scan.stop)) c.in-Some.ensures.some.1,
     )
 
@@ -72,7 +72,7 @@ loop-segment-preserved g c =
     let s : Segment = c.in-Some.segment in
     let x : Scanned = scanned_of s c.in-Ok.scan in
     let log : List ℕ = (state_of (g.D.Device.trace c.args.config.now.device)).log.bytes in
-    let scanned = was_so (λ n l. IsScanned g.C.Checksum.sum_of n (log_alone l) x) c.args.config.now.config c.loop-segment.config.config (g.D.Device.trace c.args.config.now.device) (g.D.Device.trace c.loop-segment.config.device)
+    let scanned = was_so (λ n l. IsScanned g.C.Checksum.sum_of n l x) c.args.config.now.config c.loop-segment.config.config (g.D.Device.trace c.args.config.now.device) (g.D.Device.trace c.loop-segment.config.device)
     c.loop-segment.invariant.config c.loop-segment.invariant.trace c.in-Ok.ensures.scan in
     let whole : c.in-Ok.scan.ending ≢ Broken = λ is. let yes = c.is_broken.ensures.1 is in let no = c.if-is_broken.false in cc in
     let stop : c.in-Ok.scan.stop ≤ size = subst (λ (x : Config). c.in-Ok.scan.stop ≤ x.segment_size) c.loop-segment.invariant.config c.in-Ok.ensures.stop.1 in
@@ -80,7 +80,7 @@ loop-segment-preserved g c =
     record {
       read = (
         read.0 ++ x ∷ [],
-        part_more g.C.Checksum.sum_of size (log_alone log) c.args.segments.now c.args.begin read.0 c.loop-segment.place x read.1 c.in-Some.ensures.some.0 c.in-Some.ensures.some.1 scanned whole,
+        part_more g.C.Checksum.sum_of size log c.args.segments.now c.args.begin read.0 c.loop-segment.place x read.1 c.in-Some.ensures.some.0 c.in-Some.ensures.some.1 scanned whole,
         end_of_last read.0 x ∙ ap (λ n. Some (n + c.in-Ok.scan.stop)) c.in-Some.ensures.some.1,
       );
       ready = c.loop-segment.invariant.ready;
@@ -96,4 +96,4 @@ pub returns-clause-end : goal.returns-clause-end
 returns-clause-end g c =
     let log : List ℕ = (state_of (g.D.Device.trace c.args.config.now.device)).log.bytes in
     let read = c.loop-segment.invariant.read in
-    (read.0, tail_ends g.C.Checksum.sum_of c.args.config.now.config.segment_size (log_alone log) c.args.segments.now c.args.begin read.0 c.loop-segment.place read.1 c.in_default.ensures.none, read.2)
+    (read.0, tail_ends g.C.Checksum.sum_of c.args.config.now.config.segment_size log c.args.segments.now c.args.begin read.0 c.loop-segment.place read.1 c.in_default.ensures.none, read.2)

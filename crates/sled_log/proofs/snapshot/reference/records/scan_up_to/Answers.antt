@@ -8,7 +8,6 @@ use Rattle.sled_core.specs.declared.iterator.scan.Step.TheVariants.{Meets, Ends}
 use Rattle.sled_core.specs.Scan.{IsPath, IsStep, HasPlace, IsEnd}
 use Rattle.sled_core.proofs.Read.ScanLemmas.{one_more, ends_here}
 use Rattle.sled_log.specs.Recovery.{open_at}
-use Rattle.sled_log.specs.Plain.{log_alone}
 use Rattle.sled_log.proofs.Reference.PlainRecords.{stays_closed, asks_nothing}
 use Rattle.sled_log.proofs.Replay.PassedLemmas.{asked}
 use Rattle.sled_log.proofs.Reference.PlainSame.{was_so}
@@ -23,11 +22,11 @@ returns-then-opens-clause-passed g c =
     let at : ℕ = c.loop-stop.stop in
     let m : ScannedRecord = c.in-Ok-Meets.m in
     let room : at + 32 ≤ size = omega (arith, c.loop-stop.invariant.last, c.loop-stop-test.true) in
-    let step = was_so (λ n l. IsStep g.C.Checksum.sum_of n (log_alone l) (s.slot + at) (s.place + at) (s.place / n) (Meets m)) c.args.config.now.config c.loop-stop.config.config before (g.D.Device.trace c.loop-stop.config.device)
+    let step = was_so (λ n l. IsStep g.C.Checksum.sum_of n l (s.slot + at) (s.place + at) (s.place / n) (Meets m)) c.args.config.now.config c.loop-stop.config.config before (g.D.Device.trace c.loop-stop.config.device)
     c.loop-stop.invariant.config c.loop-stop.invariant.trace (rw c.in-Ok-Meets.field-0-is at c.in-Ok-Meets.ensures.step) in
     let items = c.in_ok-push-in-Ok-Meets.ensures.items in
-    let path = one_more g.C.Checksum.sum_of size (log_alone log) s.slot s.place 20 c.loop-stop.met.items at m c.loop-stop.invariant.path room step.0 step.1 in (
-      subst (λ (ms : List ScannedRecord). IsPath g.C.Checksum.sum_of size (log_alone log) s.slot s.place 20 ms (at + m.len)) (sym items) path,
+    let path = one_more g.C.Checksum.sum_of size log s.slot s.place 20 c.loop-stop.met.items at m c.loop-stop.invariant.path room step.0 step.1 in (
+      subst (λ (ms : List ScannedRecord). IsPath g.C.Checksum.sum_of size log s.slot s.place 20 ms (at + m.len)) (sym items) path,
       asks_nothing c.args.end c.loop-stop.met.items c.push.new.self.items m (size < at + m.len + 32) items c.loop-stop.invariant.closed (sym c.opens.ensures ∙ c.if-opens.true),
     )
 
@@ -41,15 +40,15 @@ loop-stop-preserved g c =
     let at : ℕ = c.loop-stop.stop in
     let m : ScannedRecord = c.in-Ok-Meets.m in
     let room : at + 32 ≤ size = omega (arith, c.loop-stop.invariant.last, c.loop-stop-test.true) in
-    let step = was_so (λ n l. IsStep g.C.Checksum.sum_of n (log_alone l) (s.slot + at) (s.place + at) (s.place / n) (Meets m)) cfg c.loop-stop.config.config before (g.D.Device.trace c.loop-stop.config.device) c.loop-stop.invariant.config c.loop-stop.invariant.trace
+    let step = was_so (λ n l. IsStep g.C.Checksum.sum_of n l (s.slot + at) (s.place + at) (s.place / n) (Meets m)) cfg c.loop-stop.config.config before (g.D.Device.trace c.loop-stop.config.device) c.loop-stop.invariant.config c.loop-stop.invariant.trace
     (rw c.in-Ok-Meets.field-0-is at c.in-Ok-Meets.ensures.step) in
     let fits : HasPlace c.loop-stop.config.config.segment_size at (Meets m) = rw c.in-Ok-Meets.field-0-is at c.in-Ok-Meets.ensures.room in
     let inside : at + m.len ≤ size = subst (λ (x : Config). at + m.len ≤ x.segment_size) c.loop-stop.invariant.config fits.1 in
     let items = c.in_ok-push-in-Ok-Meets.ensures.items in
-    let path = one_more g.C.Checksum.sum_of size (log_alone log) s.slot s.place 20 c.loop-stop.met.items at m c.loop-stop.invariant.path room step.0 step.1 in
+    let path = one_more g.C.Checksum.sum_of size log s.slot s.place 20 c.loop-stop.met.items at m c.loop-stop.invariant.path room step.0 step.1 in
     let Below : ScannedRecord → Type 0 = λ x. x.place < s.place + size in
     record {
-      path = subst (λ (ms : List ScannedRecord). IsPath g.C.Checksum.sum_of size (log_alone log) s.slot s.place 20 ms (at + m.len)) (sym items) path;
+      path = subst (λ (ms : List ScannedRecord). IsPath g.C.Checksum.sum_of size log s.slot s.place 20 ms (at + m.len)) (sym items) path;
       closed = stays_closed c.args.end c.loop-stop.met.items c.push.new.self.items m items c.loop-stop.invariant.closed (sym c.opens.ensures ∙ c.if-opens.false);
       behind = omega (arith, c.loop-stop.invariant.behind);
       within = omega (arith, inside);
@@ -70,8 +69,8 @@ returns-in-Ok-Ends-clause-passed g c =
     let s : Segment = c.args.segment.now in
     let at : ℕ = c.loop-stop.stop in
     let room : at + 32 ≤ size = omega (arith, c.loop-stop.invariant.last, c.loop-stop-test.true) in
-    let step = was_so (λ n l. IsStep g.C.Checksum.sum_of n (log_alone l) (s.slot + at) (s.place + at) (s.place / n) (Ends c.in-Ok-Ends.ending)) c.args.config.now.config c.loop-stop.config.config before (g.D.Device.trace c.loop-stop.config.device)
+    let step = was_so (λ n l. IsStep g.C.Checksum.sum_of n l (s.slot + at) (s.place + at) (s.place / n) (Ends c.in-Ok-Ends.ending)) c.args.config.now.config c.loop-stop.config.config before (g.D.Device.trace c.loop-stop.config.device)
     c.loop-stop.invariant.config c.loop-stop.invariant.trace (rw c.in-Ok-Ends.field-0-is at c.in-Ok-Ends.ensures.step) in (
       c.loop-stop.invariant.path,
-      asked (open_at c.args.end c.loop-stop.met.items) (IsEnd g.C.Checksum.sum_of size (log_alone log) s.slot s.place at c.in-Ok-Ends.ending) (ends_here g.C.Checksum.sum_of size (log_alone log) s.slot s.place at c.in-Ok-Ends.ending room step),
+      asked (open_at c.args.end c.loop-stop.met.items) (IsEnd g.C.Checksum.sum_of size log s.slot s.place at c.in-Ok-Ends.ending) (ends_here g.C.Checksum.sum_of size log s.slot s.place at c.in-Ok-Ends.ending room step),
     )
