@@ -12,6 +12,7 @@ ghost use Rattle.sled_store.specs.Stabilizing.{not_beside, slots_at, waiting_fre
 ghost use Rattle.sled_store.specs.Accounts.{IsAccountant, machine_of, size_of};
 
 use crate::segment::accountant::SegmentAccountant;
+use crate::segment::accountant::replacing::forget_waiting;
 use crate::segment::sorted::SortedSet;
 use crate::{Device, RunningConfig};
 use sled_codec::result::{Error, Lsn, Result};
@@ -212,7 +213,7 @@ impl SegmentAccountant {
         let s = &mut self.slots[slot as usize];
         let latest = s.latest;
         s.free();
-        forget(&mut self.waiting, latest, slot);
+        forget_waiting(&mut self.waiting, latest, slot);
         self.cleaner.remove(slot);
         self.free.insert(slot);
     }
@@ -293,16 +294,6 @@ impl SegmentAccountant {
         let free = self.free.len() + (self.slots.len() - self.tip as usize);
         let inactive = self.inactive.len();
         inactive > 5 && free as u128 * 100 / (1 + free + inactive) as u128 >= 50
-    }
-}
-
-/// Takes a slot out of those that wait, where it waited for a place.
-fn forget(waiting: &mut SortedSet<(u64, u64)>, place: Option<u64>, slot: u64)
-    ensures keys { waiting.new.0 ≡ not_beside place slot waiting.old.0 }
-    ensures room { waiting.new.1 ≡ waiting.old.1 }
-{
-    if let Some(place) = place {
-        waiting.remove((place, slot));
     }
 }
 

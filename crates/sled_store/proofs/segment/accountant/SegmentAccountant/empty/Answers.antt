@@ -28,7 +28,7 @@ returns-clause-machine c =
 pub returns-clause-waiting : goal.returns-clause-waiting
 returns-clause-waiting c =
     let a : SegmentAccountant = c.args.self.now in
-    c.forget.ensures.keys ∙ ap (λ (s : SlotState). not_beside s.latest c.args.slot a.waiting.0) (slot_is a c.args.slot c.index_mut-s.result.now c.requires.slot c.index_mut-s.ensures.value)
+    c.forget_waiting.ensures.keys ∙ ap (λ (s : SlotState). not_beside s.latest c.args.slot a.waiting.0) (slot_is a c.args.slot c.index_mut-s.result.now c.requires.slot c.index_mut-s.ensures.value)
 
 pub returns-clause-account : goal.returns-clause-account
 returns-clause-account c =
@@ -48,6 +48,6 @@ returns-clause-account c =
       room_free = c.insert.ensures.room;
       room_active = omega arith;
       room_inactive = omega arith;
-      room_waiting = omega (arith, c.forget.ensures.room);
+      room_waiting = omega (arith, c.forget_waiting.ensures.room);
       room_cleaner = omega (arith, c.remove.ensures.room);
     }) c.requires.account
