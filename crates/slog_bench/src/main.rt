@@ -35,7 +35,7 @@ use tally::Tally;
 use texts::Text;
 
 // The files under `data/`, one a kind.
-const FILES: [&str; 9] = [
+const FILES: [&str; 10] = [
     "codecs.txt",
     "segment_headers.txt",
     "words.txt",
@@ -45,6 +45,7 @@ const FILES: [&str; 9] = [
     "slog.txt",
     "own.txt",
     "accountant.txt",
+    "accountant_blobs.txt",
 ];
 
 fn main(rt: HostRuntime) -> ExitCode {
@@ -94,7 +95,7 @@ fn run(alloc: Global, name: &str, text: &str, tally: &mut Tally<'_>) {
             }
         }
         "slog.txt" => scripts::run(alloc, text, tally),
-        "accountant.txt" => accountant::run(alloc, text, tally),
+        "accountant.txt" | "accountant_blobs.txt" => accountant::run(alloc, text, tally),
         _ => run_lines(alloc, name, text, tally),
     }
 }
