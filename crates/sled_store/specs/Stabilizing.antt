@@ -1,5 +1,5 @@
 -- The parts of a stabilization: what each of its steps makes of the machine of segment states.
-use Rattle.std.specs.Prelude.{◌≡◌, ◌==◌, ◌-◌, ◌*◌, ◌<◌, ℕ, true, List, [], ◌∷◌, length, map, filter, set, take, Option, None, Some}
+use Rattle.std.specs.Prelude.{◌≡◌, ◌==◌, ◌-◌, ◌*◌, ◌<◌, ℕ, true, List, [], ◌∷◌, map, filter, set, Option, None, Some}
 use Rattle.std.specs.Ordering.{nat_cmp}
 use Rattle.std.specs.BTreeMap.{is_at}
 use Rattle.std.specs.Map.{remove_entry}

@@ -1,5 +1,5 @@
 -- Steps of the machine that are made one after another, and what was asked of the device where one of them fails.
-use Rattle.std.proofs.Common.{◌≡◌, ◌∙◌, ℕ, ℤ, ◌+◌, ◌<◌, true, List, [], ◌∷◌, ◌++◌, ◌⊎◌, length, get_or, take, drop, refl, sym, ap, subst, arith, add-one, drop-cons}
+use Rattle.std.proofs.Common.{◌≡◌, ◌∙◌, ℕ, ℤ, ◌+◌, ◌<◌, true, List, [], ◌∷◌, ◌++◌, ◌⊎◌, length, get_or, take, drop, refl, sym, ap, subst, add-one, drop-cons}
 use Rattle.std.proofs.lemmas.List.{take-append-drop, take_more, map-append}
 use Rattle.sled_store.specs.Answers.{Tears}
 use Rattle.sled_store.specs.Blobs.{removing_blobs}

@@ -1,5 +1,5 @@
 -- Blobs go, the segment is inactive, slots that waited are freed, it is tested, and one more is drained where much is free.
-use Rattle.std.proofs.Common.{◌≡◌, ◌∙◌, ◌<◌, ℕ, ℤ, List, [], Some, length, get_or, set, refl, sym, ap, subst, arith, length-set}
+use Rattle.std.proofs.Common.{◌≡◌, ◌∙◌, ◌<◌, ℕ, ℤ, List, length, get_or, refl, sym, ap, subst, arith, length-set}
 use Rattle.sled_store.specs.Device.{Trace}
 use Rattle.sled_store.specs.Blobs.{removing_blobs}
 use Rattle.sled_store.specs.Script.{Performs, after_all}
@@ -7,7 +7,7 @@ use Rattle.sled_store.specs.SegmentStates.{SlotState, Machine, Step, slot_at, wi
 use Rattle.sled_store.specs.Stabilizing.{waiting_freed}
 use Rattle.sled_store.specs.declared.segment.slot.Slot.{Slot}
 use Rattle.sled_store.specs.declared.segment.accountant.SegmentAccountant.{SegmentAccountant}
-use Rattle.sled_store.specs.Accounts.{IsAccountant, machine_of, size_of, slot_state}
+use Rattle.sled_store.specs.Accounts.{IsAccountant, machine_of, size_of}
 use Rattle.sled_store.proofs.Traces.ScriptLemmas.{performs_whole}
 use Rattle.sled_store.proofs.Accounts.StabilSlots.{slot_is}
 use Rattle.sled_store.proofs.Accounts.StabilSteps.{IsMade, made_same, calls_same, made_next, failed_first, failed_next}

@@ -1,10 +1,9 @@
 -- The slot is free now, and no list has it but that of the free ones.
-use Rattle.std.proofs.Common.{◌≡◌, ◌≢◌, ◌∙◌, ◌<◌, ◌≤◌, ◌*◌, ◌^◌, ℕ, List, Bool, true, length, get_or, set, refl, sym, ap, subst, inr, arith}
-use Rattle.sled_store.specs.SegmentStates.{SlotState, Machine, free_slot, slot_at, is_done}
+use Rattle.std.proofs.Common.{◌≡◌, ◌∙◌, ℕ, List, length, refl, ap, inr, arith}
+use Rattle.sled_store.specs.SegmentStates.{SlotState, Machine, free_slot}
 use Rattle.sled_store.specs.Stabilizing.{not_beside}
-use Rattle.sled_store.specs.declared.segment.slot.Slot.{Slot}
 use Rattle.sled_store.specs.declared.segment.accountant.SegmentAccountant.{SegmentAccountant}
-use Rattle.sled_store.specs.Accounts.{slot_state, machine_of, IsAccountant}
+use Rattle.sled_store.specs.Accounts.{machine_of}
 use Rattle.sled_store.proofs.Accounts.AccountLemmas.{states_set, updated_account}
 use Rattle.sled_store.proofs.Accounts.HandLemmas.{indexes_same}
 use Rattle.sled_store.proofs.Accounts.StabilSlots.{emptied_slots, emptied_room, emptied_indexes, slot_is}

@@ -1,8 +1,7 @@
 -- The slot is emptied, and then free slots are cut off.
-use Rattle.std.proofs.Common.{◌≡◌, ◌∙◌, ℕ, sym, ap, subst, OnOk}
-use Rattle.sled_store.specs.Device.{Trace}
+use Rattle.std.proofs.Common.{◌≡◌, ◌∙◌, ℕ, ap, subst, OnOk}
 use Rattle.sled_store.specs.Script.{Performs, after_all}
-use Rattle.sled_store.specs.SegmentStates.{Machine, Step, freed}
+use Rattle.sled_store.specs.SegmentStates.{Machine, Step}
 use Rattle.sled_store.specs.Stabilizing.{cut_back}
 use Rattle.sled_store.specs.Accounts.{IsAccountant, machine_of}
 use Rattle.sled_store.proofs.segment.accountant.SegmentAccountant.free.Goals as goal

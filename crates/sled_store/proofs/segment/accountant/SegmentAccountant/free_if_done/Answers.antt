@@ -1,5 +1,5 @@
 -- The slot is freed exactly where it is done and its free has not to wait.
-use Rattle.std.proofs.Common.{◌≡◌, ◌∙◌, ◌&&◌, not, ℕ, Bool, true, false, refl, sym, ap, subst, OnOk, if◌then◌else◌}
+use Rattle.std.proofs.Common.{◌≡◌, ◌∙◌, ◌&&◌, not, ℕ, Bool, true, false, sym, ap, subst, OnOk, if◌then◌else◌}
 use Rattle.sled_store.specs.Script.{Performs, after_all}
 use Rattle.sled_store.specs.SegmentStates.{Machine, Step, freed, freed_if_done, without_calls, is_done, is_active_place, slot_at}
 use Rattle.sled_store.specs.Accounts.{machine_of}

@@ -1,11 +1,9 @@
 -- The first slot that waits is done, and is freed; the others wait as before.
-use Rattle.std.proofs.Common.{◌≡◌, ◌∙◌, ◌<◌, ◌-◌, ℕ, List, [], ◌∷◌, Some, None, Option, true, length, get_or, set, drop, refl, sym, ap, subst, arith, length-set}
+use Rattle.std.proofs.Common.{◌≡◌, ◌∙◌, ◌<◌, ◌-◌, ℕ, List, [], ◌∷◌, Some, None, Option, true, length, get_or, drop, refl, sym, ap, subst, arith, length-set}
 use Rattle.std.specs.List.{slice_get}
 use Rattle.std.specs.BTreeMap.{is_at}
 use Rattle.std.specs.Set.{remove_key}
-use Rattle.sled_store.specs.Device.{Trace}
-use Rattle.sled_store.specs.Script.{Performs, after_all}
-use Rattle.sled_store.specs.SegmentStates.{Machine, Step, free_slot, slot_at, waited_place, waiting_among, waiting_for, is_done, freed, by_place}
+use Rattle.sled_store.specs.SegmentStates.{Machine, free_slot, slot_at, waited_place, waiting_among, waiting_for, is_done, freed, by_place}
 use Rattle.sled_store.specs.Stabilizing.{slots_at, waiting_freed, not_beside}
 use Rattle.sled_store.specs.declared.segment.accountant.SegmentAccountant.{SegmentAccountant}
 use Rattle.sled_store.specs.Accounts.{IsAccountant, machine_of}

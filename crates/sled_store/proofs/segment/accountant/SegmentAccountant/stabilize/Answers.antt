@@ -1,13 +1,12 @@
 -- The first active segment is deactivated while it is due, and behind one that is not due none is.
-use Rattle.std.proofs.Common.{◌≡◌, ◌∙◌, ◌+◌, ◌<◌, ◌≤◌, ◌^◌, ℕ, ℤ, pos, List, [], Some, true, false, length, sym, ap, subst, arith, unsigned_abs, w64, to_z, of_z}
+use Rattle.std.proofs.Common.{◌≡◌, ◌∙◌, ◌<◌, ◌^◌, ℕ, ℤ, pos, true, false, sym, ap, subst, arith, unsigned_abs, w64, to_z, of_z}
 use Rattle.std.proofs.lemmas.Int.{to_z-of_z}
 use lib.Signed.{lt_z}
 use Rattle.sled_store.specs.Device.{Trace}
-use Rattle.sled_store.specs.Script.{Performs, after_all}
-use Rattle.sled_store.specs.SegmentStates.{Machine, Step, active_among, in_turn, deactivated, stabilized}
-use Rattle.sled_store.specs.Accounts.{IsAccountant, machine_of, size_of}
+use Rattle.sled_store.specs.SegmentStates.{Machine, active_among, deactivated, stabilized}
+use Rattle.sled_store.specs.Accounts.{IsAccountant, machine_of}
 use Rattle.sled_store.proofs.Traces.ScriptLemmas.{performs_whole}
-use Rattle.sled_store.proofs.Accounts.StabilSteps.{IsMade, LeadsTo, leads_itself, made_same, calls_same, turn_on, turn_failed, turns_done}
+use Rattle.sled_store.proofs.Accounts.StabilSteps.{LeadsTo, leads_itself, made_same, calls_same, turn_on, turn_failed, turns_done}
 use Rattle.sled_store.proofs.Accounts.StabilDue.{due_among, due_so, due_not, none_negative, first_there, first_active, first_small, due_first, due_none, fewer_active, due_left, due_nothing}
 use Rattle.sled_store.proofs.segment.accountant.SegmentAccountant.stabilize.Goals as goal
 

@@ -1,5 +1,5 @@
 -- The slot is drained if it is sparse, and then freed if it is done.
-use Rattle.std.proofs.Common.{◌≡◌, ◌∙◌, ◌<◌, ℕ, Bool, true, false, length, refl, sym, ap, subst, OnOk, arith, length-set, if◌then◌else◌}
+use Rattle.std.proofs.Common.{◌≡◌, ◌∙◌, ℕ, Bool, true, false, length, refl, ap, subst, OnOk, arith, length-set, if◌then◌else◌}
 use Rattle.sled_store.specs.Script.{Performs, after_all}
 use Rattle.sled_store.specs.SegmentStates.{Machine, Step, freed_if_done, drained_if_sparse, drained, drained_slot, slot_at, is_sparse}
 use Rattle.sled_store.specs.Accounts.{IsAccountant, machine_of}
