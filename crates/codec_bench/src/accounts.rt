@@ -26,7 +26,7 @@ const WHOLE: u64 = SEGMENT_SIZE - FIRST;
 /// The record of a small message.
 const SMALL: u64 = 64;
 
-/// How far behind a page the next one is. It divides no number of pages here, so each page has its turn.
+/// How far behind a page the next one is. It has no factor in common with a power of ten, so that each page has its turn.
 const STRIDE: u64 = 61803;
 
 /// An accountant at work: pages are replaced in turn, each by a record of the same length.
@@ -167,7 +167,7 @@ impl Work {
         Ok(())
     }
 
-    /// Counts the pages that the newest record might replace, if it were of theirs: of all of them.
+    /// Counts the pages for which the newest record might stand in place of the latest one. That is each of them.
     fn count_markable(&self) -> usize
         requires { IsAccountant self.now.config.config.segment_size self.now.accountant }
     {
