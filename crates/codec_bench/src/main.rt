@@ -5,6 +5,7 @@
 //! for each figure.
 #![tactic(auto)]
 
+mod accounts;
 mod figure;
 mod headers;
 mod logs;
@@ -33,7 +34,19 @@ fn main(rt: HostRuntime) -> io::Result<()> {
     logs::measure(&rt, "records of 11 bytes", 10)?;
     logs::measure(&rt, "records of 200 bytes", 199)?;
     logs::measure(&rt, "records of 4000 bytes", 3997)?;
-    logs::measure_start(&rt)
+    logs::measure_start(&rt)?;
+    measure_accounts(&rt)
+}
+
+// The accountant, over more and more pages and segments.
+fn measure_accounts(rt: &HostRuntime) -> io::Result<()> {
+    accounts::measure_marks(rt, "1000 pages", 1000)?;
+    accounts::measure_marks(rt, "10000 pages", 10000)?;
+    accounts::measure_marks(rt, "100000 pages", 100000)?;
+    accounts::measure_segments(rt, "100 segments", 100)?;
+    accounts::measure_segments(rt, "1000 segments", 1000)?;
+    accounts::measure_segments(rt, "10000 segments", 10000)?;
+    accounts::measure_segments(rt, "100000 segments", 100000)
 }
 
 // Whether `time` is among the arguments.

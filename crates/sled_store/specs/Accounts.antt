@@ -1,13 +1,12 @@
 -- What an accountant keeps, as the machine that it stands for, and how its indexes are tied to the slots.
 use Rattle.std.specs.Prelude.{◌≡◌, ◌⊎◌, ◌≤◌, ◌<◌, ◌+◌, ◌*◌, ◌^◌, ℕ, true, false, IsTrue, List, length, map, take, drop, vec_capacity, slice_index_or, Result, Ok, Err}
-use Rattle.std.specs.BTreeMap.{is_at}
-use Rattle.std.specs.List.{All, list_any}
+use Rattle.std.specs.List.{All}
 use Rattle.std.specs.List.Sorted.{IsStrictlySortedBy}
 use Rattle.std.specs.Map.{keys_of}
 use Rattle.std.specs.Ordering.{nat_cmp}
 use Rattle.sled_codec.specs.declared.result.Error.{Error}
 use Rattle.sled_codec.specs.declared.result.Error.TheVariants.{OutOfMemory, PlacesUsedUp}
-use Rattle.sled_store.specs.SegmentStates.{SlotState, Machine, is_free, is_draining, free_slot, slot_at, has_page, by_place, free_among, inactive_among, active_among, waiting_among, next_slot}
+use Rattle.sled_store.specs.SegmentStates.{SlotState, Machine, is_free, is_draining, free_slot, slot_at, has_page, free_among, inactive_among, active_among, waiting_among, next_slot}
 use Rattle.sled_store.specs.declared.segment.slot.Slot.{Slot}
 use Rattle.sled_store.specs.declared.segment.cleaner.Entry.{Entry}
 use Rattle.sled_store.specs.declared.segment.cleaner.SegmentCleaner.{SegmentCleaner}
@@ -90,10 +89,6 @@ pub record HasRooms (count : ℕ) (a : SegmentAccountant) : Type 0 where
   pub inactive : count ≤ a.inactive.1
   pub waiting : count ≤ a.waiting.1
   pub cleaner : 0 < count → count < vec_capacity a.cleaner.entries
-
--- a slot is not among these
-abbrev pub Lacks : ℕ → List (ℕ × ℕ) → Type 0
-Lacks k ps = (place : ℕ) → list_any (is_at (by_place (place, k))) ps ≡ false
 
 -- a segment lies in a slot
 pub record IsUsed (m : Machine) (k : ℕ) : Type 0 where

@@ -1,10 +1,16 @@
 -- The parts of a stabilization: what each of its steps makes of the machine of segment states.
-use Rattle.std.specs.Prelude.{◌≡◌, ◌==◌, ◌-◌, ◌*◌, ◌<◌, ℕ, true, List, [], ◌∷◌, length, map, filter, set, take, Option, None, Some}
+use Rattle.std.specs.Prelude.{◌≡◌, ◌≢◌, ◌==◌, ◌-◌, ◌*◌, ◌<◌, ℕ, true, List, [], ◌∷◌, map, filter, set, Option, None, Some, Result, OnOk, IfErr}
 use Rattle.std.specs.Ordering.{nat_cmp}
 use Rattle.std.specs.BTreeMap.{is_at}
 use Rattle.std.specs.Map.{remove_entry}
 use Rattle.std.specs.Set.{remove_key}
-use Rattle.sled_store.specs.Device.{Event, Cut, Synced}
+use Rattle.sled_codec.specs.declared.result.Error.{Error}
+use Rattle.sled_codec.specs.declared.result.Error.TheVariants.{OutOfMemory}
+use Rattle.sled_store.specs.Accounts.{IsAccountant, machine_of}
+use Rattle.sled_store.specs.Blobs.{RemoveAnswers}
+use Rattle.sled_store.specs.Device.{Event, Trace, Cut, Synced}
+use Rattle.sled_store.specs.Script.{Performs, after_all}
+use Rattle.sled_store.specs.declared.segment.accountant.SegmentAccountant.{SegmentAccountant}
 use Rattle.sled_store.specs.SegmentStates.{Machine, Step, free_slot, by_place, left_after, cutting, may_be_cut, waiting_for, in_turn, freed}
 
 -- the slots that are there behind a place
@@ -40,3 +46,12 @@ shorter m = record m { tip = m.tip - 1 }
 -- the calls that cut it off
 abbrev pub cutting_last : ℕ → Machine → List Event
 cutting_last size m = Cut ((m.tip - 1) * size) ((m.tip - 1) * size) ∷ Synced ∷ []
+
+-- A step of the machine was made, with all of its calls; where the device failed, the first of those calls were made.
+pub record MakesStep {T : Type 0} (size : ℕ) (step : Step) (result : Result T Error) (old new : Trace) (faults faults_then : ℕ) (a : SegmentAccountant) : Type 0 where
+  pub done : OnOk result (machine_of a ≡ step.machine)
+  pub made : OnOk result (new ≡ after_all step.calls old)
+  pub calls : Performs step.calls old new
+  pub answers : RemoveAnswers result faults faults_then
+  pub memory : IfErr result (λ e. e ≢ OutOfMemory)
+  pub account : OnOk result (IsAccountant size a)

@@ -4,7 +4,7 @@ ghost use Rattle.std.specs.Prelude.{◌≡◌};
 ghost use Rattle.sled_store.specs.Accounts.{IsAccountant};
 
 use crate::codecs::Shown;
-use crate::lines::Words;
+use crate::lines::{Fault, Words, number, pointer, signed};
 use crate::noted::{Calls, Noted};
 use crate::tally::Tally;
 use crate::texts::Text;
@@ -27,7 +27,7 @@ pub fn run(alloc: Global, text: &str, tally: &mut Tally<'_>) {
     };
     let mut case = Case::new(alloc, config);
     for (at, line) in text.lines().enumerate() {
-        if !line.starts_with('#') {
+        if !line.is_empty() && !line.starts_with('#') {
             let mut came = Text::new(alloc);
             case.line(line, &mut came);
             tally.case(at.wrapping_add(1), line, came.as_str());
@@ -84,6 +84,10 @@ impl Case {
             }
             name => {
                 self.call(name, &mut words, out);
+                if let Err(Fault(why)) = words.end() {
+                    out.push(": ");
+                    out.push(why);
+                }
                 self.keep_calls();
             }
         }
@@ -222,13 +226,25 @@ fn told(answer: Result<()>, out: &mut Text) {
     }
 }
 
-// A message: its place, its offset in the file and its length.
+// A message: its place, where it lies and its length.
 fn info(words: &mut Words<'_>) -> CacheInfo {
     CacheInfo {
         lsn: words.signed(),
-        pointer: DiskPtr::Inline(words.number()),
+        pointer: pointer_in(words),
         log_size: words.number(),
     }
+}
+
+// Where a message lies: its offset in the file alone, or the pointer of a blob.
+fn pointer_in(words: &mut Words<'_>) -> DiskPtr {
+    let word = words.word();
+    let at = match number(word) {
+        Some(lid) => Some(DiskPtr::Inline(lid)),
+        None => pointer(word),
+    };
+    words
+        .noted(at, "this is no pointer")
+        .unwrap_or(DiskPtr::Inline(0))
 }
 
 // The older messages, behind a colon: each in parentheses.
@@ -239,13 +255,17 @@ fn infos(alloc: Global, words: &mut Words<'_>) -> Vec<CacheInfo> {
         let Some(first) = words.next_word() else {
             break;
         };
-        let lsn = words.noted(first.strip_prefix('('), "a message stands in parentheses");
-        let lid = words.number();
-        let last = words.word().strip_suffix(')').unwrap_or("");
+        let lsn = first.strip_prefix('(').and_then(signed);
+        let pointer = pointer_in(words);
+        let len = words.word().strip_suffix(')').and_then(number);
         let _ = old.push(CacheInfo {
-            lsn: lsn.unwrap_or("").parse().unwrap_or(0),
-            pointer: DiskPtr::Inline(lid),
-            log_size: last.parse().unwrap_or(0),
+            lsn: words
+                .noted(lsn, "no place behind a parenthesis")
+                .unwrap_or(0),
+            pointer,
+            log_size: words
+                .noted(len, "no length before a parenthesis")
+                .unwrap_or(0),
         });
     }
     old

@@ -45,6 +45,7 @@ const FILES: [&str; 10] = [
     "slog.txt",
     "own.txt",
     "accountant.txt",
+    "accountant_blobs.txt",
     "accountant_start.txt",
 ];
 
@@ -95,7 +96,9 @@ fn run(alloc: Global, name: &str, text: &str, tally: &mut Tally<'_>) {
             }
         }
         "slog.txt" => scripts::run(alloc, text, tally),
-        "accountant.txt" | "accountant_start.txt" => accountant::run(alloc, text, tally),
+        "accountant.txt" | "accountant_blobs.txt" | "accountant_start.txt" => {
+            accountant::run(alloc, text, tally)
+        }
         _ => run_lines(alloc, name, text, tally),
     }
 }

@@ -24,22 +24,11 @@ states_set xs k s t is = map-set slot_state xs k s ∙ ap (set (map slot_state x
 pub length_states : (xs : List Slot) → length (map slot_state xs) ≡ length xs
 length_states xs = length-map xs slot_state
 
--- the slots of a cleaner are in reach
-pub entries_in_reach : (size count : ℕ) (es : List Entry) → count * size < 2 ^ 63 → AreEntries count (map entry_of es) → All (λ (e : Entry). e.slot * size < 2 ^ 63) es
-entries_in_reach size count [] reach are k d lt = absurd (omega arith)
-entries_in_reach size count (e ∷ es) reach are k d lt =
-    let below : (get_or (e ∷ es) k d).slot < count = subst (λ n. n < count) (slot_in (e ∷ es) k d) (are.below k d.slot (omega (arith, length_in (e ∷ es)))) in
-    let less : (get_or (e ∷ es) k d).slot ≤ count = omega arith in
+-- a slot begins in reach if all slots end there
+pub slot_in_reach : (size count k : ℕ) → k < count → count * size < 2 ^ 63 → k * size < 2 ^ 63
+slot_in_reach size count k lt reach =
+    let less : k ≤ count = omega arith in
     omega (arith, mul-le-mul_right size less)
-  where
-    slot_in : (fs : List Entry) (j : ℕ) (f : Entry) → get_or (keys_of (map entry_of fs)) j f.slot ≡ (get_or fs j f).slot
-    slot_in [] j f = refl
-    slot_in (g ∷ fs) zero f = refl
-    slot_in (g ∷ fs) (suc j) f = slot_in fs j f
-
-    length_in : (fs : List Entry) → length (keys_of (map entry_of fs)) ≡ length fs
-    length_in [] = refl
-    length_in (g ∷ fs) = ap suc (length_in fs)
 
 -- the same lists, and as much room at least
 pub record IsRoomier (a b : SegmentAccountant) : Type 0 where

@@ -10,8 +10,12 @@ use Rattle.std.specs.BTreeSet.{insert_key}
 use Rattle.std.specs.Set.{remove_key}
 use Rattle.std.proofs.lemmas.Cmp.{tied_itself}
 use Rattle.sled_store.specs.SegmentStates.{SlotState, slots_by, beside, by_place, waited_place, waiting_among, free_slot}
-use Rattle.sled_store.specs.Accounts.{Lacks}
-use Rattle.sled_store.proofs.Accounts.IndexLemmas.{apart, slots_by_was, slots_by_set, length_slots_by_less}
+use Rattle.sled_store.specs.Stabilizing.{not_beside}
+use Rattle.sled_store.proofs.Accounts.IndexLemmas.{apart, by_place_total, slots_by_was, slots_by_set, length_slots_by_less}
+
+-- a slot is not among these
+abbrev pub Lacks : ℕ → List (ℕ × ℕ) → Type 0
+Lacks k ps = (place : ℕ) → list_any (is_at (by_place (place, k))) ps ≡ false
 
 module _ {K : Type 0} {R : K → K → Ordering} (o : IsTotalOrder R) (x : K) where
   pub removed_inserted : (xs : List K) → list_any (is_at (R x)) xs ≡ false → remove_key (is_at (R x)) (insert_key R xs x) ≡ xs
@@ -23,6 +27,11 @@ module _ {K : Type 0} {R : K → K → Ordering} (o : IsTotalOrder R) (x : K) wh
       by Less is none further = ap (λ r. cond (is_eq r) (y ∷ ys) (x ∷ remove_key (is_at (R x)) (y ∷ ys))) (tied_itself o x)
       by Equal is none further = absurd (cc)
       by Greater is none further = ap (λ r. cond (is_eq r) (insert_key R ys x) (y ∷ remove_key (is_at (R x)) (insert_key R ys x))) is ∙ ap (λ l. y ∷ l) (further none)
+
+-- a slot that waited no longer does, and the others are left
+pub not_beside_beside : (place : Option ℕ) (k : ℕ) (rest : List (ℕ × ℕ)) → Lacks k rest → not_beside place k (beside place k rest) ≡ rest
+not_beside_beside None k rest lacks = refl
+not_beside_beside (Some place) k rest lacks = removed_inserted by_place_total (place, k) rest (lacks place)
 
 -- a key that does not pass is put in among others that do not
 any_inserted : {K : Type 0} (R : K → K → Ordering) (test : K → Bool) (x : K) (xs : List K) → test x ≡ false → list_any test xs ≡ false → list_any test (insert_key R xs x) ≡ false

@@ -1,18 +1,17 @@
 -- Slots that are cut off at the end of the file.
-use Rattle.std.proofs.Common.{◌≡◌, ◌≢◌, ◌∙◌, ℕ, zero, suc, ◌+◌, ◌-◌, ◌*◌, ◌<◌, ◌≤◌, ◌&&◌, ◌↔◌, ◌⊎◌, inl, inr, nat_lt, Bool, true, false, cond, if◌then◌else◌, List, [], ◌∷◌, ◌++◌, length, get_or, take, Option, None, Some, refl, sym, ap, subst, arith, length-take, length-append}
+use Rattle.std.proofs.Common.{◌≡◌, ◌∙◌, ℕ, zero, suc, ◌-◌, ◌*◌, ◌<◌, ◌≤◌, ◌&&◌, ◌⊎◌, inl, inr, nat_lt, Bool, true, false, cond, if◌then◌else◌, List, [], ◌∷◌, ◌++◌, length, get_or, take, Some, refl, sym, ap, subst, arith, length-take, length-append}
 use Rattle.std.proofs.Math.Seq.{take-suc}
 use Rattle.std.proofs.lemmas.List.{append-nil}
-use Rattle.std.proofs.lemmas.Option.{slice_get_within, get_or_from_slice_get, slice_get-get_or}
-use Rattle.std.specs.List.{All, slice_get, list_any}
+use Rattle.std.proofs.lemmas.Option.{slice_get_within, get_or_from_slice_get}
+use Rattle.std.specs.List.{All, slice_get}
 use Rattle.std.specs.Ordering.{nat_cmp, is_eq}
-use Rattle.std.specs.declared.cmp.Ordering.TheVariants.{Greater}
 use Rattle.std.specs.BTreeMap.{is_at}
 use Rattle.std.specs.Set.{remove_key}
-use Rattle.sled_store.specs.Device.{Event, Cut, Synced}
+use Rattle.sled_store.specs.Device.{Cut, Synced}
 use Rattle.sled_store.specs.SegmentStates.{SlotState, Machine, Step, slots_where, free_among, free_slot, is_free, left_after, cutting, may_be_cut, followed_by, without_calls}
 use Rattle.sled_store.specs.Stabilizing.{MayCut, cut_back, cutting_last, shorter}
 use Rattle.sled_store.specs.declared.segment.accountant.SegmentAccountant.{SegmentAccountant}
-use Rattle.sled_store.specs.Accounts.{machine_of, IsAccountant, AreSlots, AreIndexes}
+use Rattle.sled_store.specs.Accounts.{machine_of, IsAccountant, AreSlots}
 use Rattle.sled_store.proofs.Accounts.StabilSlots.{first_so, then_so}
 use Rattle.std.proofs.lemmas.Bool.{lt-ltb, ltb-true}
 use Rattle.sled_store.proofs.Accounts.StabilIndex.{all_pass, where_behind, taken_behind, none_passes, greater_is, same_is}

@@ -1,5 +1,5 @@
 -- The first slot behind a place, in a list of slots by their places.
-use Rattle.std.proofs.Common.{◌≡◌, ◌≢◌, ◌∙◌, ◌==◌, ◌⊎◌, ℕ, zero, suc, ◌+◌, ◌-◌, ◌<◌, ◌≤◌, Bool, true, false, cond, ◌||◌, if◌then◌else◌, List, [], ◌∷◌, length, get_or, drop, map, filter, Option, None, Some, refl, sym, ap, subst, inl, inr, arith, is_some, eq-eqb}
+use Rattle.std.proofs.Common.{◌≡◌, ◌≢◌, ◌∙◌, ◌==◌, ◌⊎◌, ℕ, zero, suc, ◌<◌, ◌≤◌, Bool, true, false, cond, ◌||◌, if◌then◌else◌, List, [], ◌∷◌, length, get_or, drop, map, filter, Option, None, Some, refl, sym, ap, subst, inl, inr, arith, is_some, eq-eqb}
 use Rattle.std.specs.List.{All, list_any, slice_get}
 use Rattle.std.specs.List.Sorted.{IsStrictlySortedBy, IsPartitionPoint}
 use Rattle.std.specs.declared.cmp.Ordering.{Ordering}
@@ -9,13 +9,13 @@ use Rattle.std.specs.Cmp.{IsTotalOrder}
 use Rattle.std.specs.BTreeMap.{is_at}
 use Rattle.std.specs.Set.{remove_key}
 use Rattle.std.proofs.lemmas.Cmp.{alike_right, ranked}
-use Rattle.std.proofs.lemmas.Bool.{eqb-true, ne_eqb}
+use Rattle.std.proofs.lemmas.Bool.{ne_eqb}
 use Rattle.std.proofs.lemmas.Bool.Decides.{nat_tests}
 use Rattle.std.proofs.lemmas.Map.Keys.{sorted_head, sorted_tail, Less-from_sorted}
 use Rattle.std.proofs.lemmas.List.Elements.{All-from_recursion, All-tail}
 use Rattle.sled_store.specs.SegmentStates.{by_place}
 use Rattle.sled_store.specs.Stabilizing.{slots_at}
-use Rattle.sled_store.proofs.Accounts.StabilIndex.{less_is, same_is, greater_is}
+use Rattle.sled_store.proofs.Accounts.StabilIndex.{same_is}
 
 -- Where a key belongs.
 module _ {K : Type 0} {R : K → K → Ordering} (o : IsTotalOrder R) (x : K) (xs : List K) (at : ℕ) where

@@ -1,12 +1,12 @@
 -- One slot changes its state: it is emptied, or its segment is no longer active.
-use Rattle.std.proofs.Common.{◌≡◌, ◌≢◌, ◌∙◌, ◌⊎◌, ℕ, zero, suc, ◌+◌, ◌<◌, ◌≤◌, ◌^◌, ◌&&◌, Bool, true, false, cond, if◌then◌else◌, List, [], ◌∷◌, length, get_or, set, take, Option, None, Some, refl, sym, ap, subst, inl, inr, arith, length-take, length-set, get_or-set_same, get_or-set_other, get_or-take}
+use Rattle.std.proofs.Common.{◌≡◌, ◌≢◌, ◌∙◌, ◌⊎◌, ℕ, zero, suc, ◌<◌, ◌≤◌, ◌^◌, ◌&&◌, Bool, true, false, if◌then◌else◌, List, [], ◌∷◌, length, get_or, set, take, Option, None, Some, refl, sym, ap, subst, inl, inr, arith, length-take, length-set, get_or-set_same, get_or-set_other, get_or-take}
 use Rattle.std.specs.Ordering.{nat_cmp}
 use Rattle.std.specs.BTreeMap.{is_at}
 use Rattle.std.specs.BTreeSet.{insert_key}
 use Rattle.std.specs.Set.{remove_key}
 use Rattle.sled_store.specs.declared.segment.slot.State.{State}
 use Rattle.sled_store.specs.declared.segment.slot.State.TheVariants.{Free, Active, Inactive, Draining}
-use Rattle.sled_store.specs.SegmentStates.{SlotState, is_free, is_active, is_inactive, is_draining, is_done, same_pages, slots_by, free_among, active_among, inactive_among, waiting_among, active_place, waited_place, free_slot, slot_at, inactive_slot, by_place}
+use Rattle.sled_store.specs.SegmentStates.{SlotState, is_free, is_active, is_inactive, is_draining, is_done, same_pages, slots_by, free_among, inactive_among, active_place, waited_place, free_slot, slot_at, inactive_slot, by_place}
 use Rattle.sled_store.specs.Stabilizing.{not_beside}
 use Rattle.sled_store.specs.declared.segment.slot.Slot.{Slot}
 use Rattle.sled_store.specs.declared.segment.accountant.SegmentAccountant.{SegmentAccountant}

@@ -1,10 +1,13 @@
 -- Steps of the machine that are made one after another, and what was asked of the device where one of them fails.
-use Rattle.std.proofs.Common.{◌≡◌, ◌∙◌, ℕ, ℤ, ◌+◌, ◌<◌, true, List, [], ◌∷◌, ◌++◌, ◌⊎◌, length, get_or, take, drop, refl, sym, ap, subst, arith, add-one, drop-cons}
+use Rattle.std.proofs.Common.{Result, ◌≡◌, ◌∙◌, ℕ, ℤ, ◌+◌, ◌<◌, true, List, [], ◌∷◌, ◌++◌, ◌⊎◌, length, get_or, take, drop, refl, sym, ap, subst, add-one, drop-cons}
 use Rattle.std.proofs.lemmas.List.{take-append-drop, take_more, map-append}
 use Rattle.sled_store.specs.Answers.{Tears}
 use Rattle.sled_store.specs.Blobs.{removing_blobs}
 use Rattle.sled_store.specs.Device.{Event, Trace, BlobRemoved}
 use Rattle.sled_store.specs.Script.{Performs, after_all}
+use Rattle.sled_store.specs.Stabilizing.{MakesStep}
+use Rattle.sled_store.specs.declared.segment.accountant.SegmentAccountant.{SegmentAccountant}
+use Rattle.sled_codec.specs.declared.result.Error.{Error}
 use Rattle.sled_store.specs.SegmentStates.{Machine, Step, followed_by, without_calls, in_turn}
 use Rattle.sled_store.proofs.Traces.ScriptLemmas.{after_joined, performs_more, performs_behind, stop_call}
 
@@ -28,6 +31,12 @@ module _ (step : Step) (more : Machine → Step) (old mid new : Trace) (m : Mach
 
 pub failed_first : (step : Step) (more : Machine → Step) (old new : Trace) → Performs step.calls old new → Performs (followed_by step more).calls old new
 failed_first step more old new = performs_more step.calls (more step.machine).calls old new
+
+-- the same step, of the same size
+pub step_is : {T : Type 0} {result : Result T Error} {old new : Trace} {faults faults_then : ℕ} {a : SegmentAccountant} {size other : ℕ} {step now : Step} → other ≡ size → step ≡ now
+    → MakesStep other step result old new faults faults_then a → MakesStep size now result old new faults faults_then a
+step_is {result = result} {old = old} {new = new} {faults = faults} {faults_then = faults_then} {a = a} {other = other} {now = now} same is makes =
+    subst (λ n. MakesStep n now result old new faults faults_then a) same (subst (λ (s : Step). MakesStep other s result old new faults faults_then a) is makes)
 
 -- What is left of a step, from a trace on, ends where the whole step does.
 pub record LeadsTo (rest : Step) (mid : Trace) (whole : Step) (old : Trace) : Type 0 where

@@ -6,7 +6,6 @@ ghost use Rattle.std.specs.BTreeMap.{insert_entry, is_at};
 ghost use Rattle.std.specs.Map.{remove_entry};
 ghost use Rattle.std.specs.List.{All};
 ghost use Rattle.sled_store.specs.SegmentStates.{popped, first_page};
-ghost use Rattle.sled_store.specs.Accounts.{IsCleaner, cleaner_of, entry_of};
 
 use sled_codec::result::{LogOffset, PageId};
 use std::alloc::{AllocError, Global};
@@ -25,9 +24,12 @@ pub(crate) struct Entry {
 pub struct SegmentCleaner {
     pub(crate) size: u64,
     pub(crate) entries: Vec<Entry>,
+    ghost in_reach: { All (λ e. e.slot * size < 2 ^ 63) entries.items },
 }
 
 impl Entry {
+    ghost use Rattle.sled_store.specs.Accounts.{entry_of};
+
     /// Returns the least page that was not asked for yet.
     fn take(&mut self) -> Option<PageId>
         ensures page { result ≡ slice_get (entry_of self.old).1 0 }
@@ -44,6 +46,8 @@ impl Entry {
 }
 
 impl SegmentCleaner {
+    ghost use Rattle.sled_store.specs.Accounts.{IsCleaner, cleaner_of};
+
     /// Returns one with no pages, for segments of a size.
     pub(crate) fn new(alloc: Global, size: u64) -> SegmentCleaner
         ensures tie { IsCleaner size 0 result }
@@ -58,7 +62,6 @@ impl SegmentCleaner {
     /// Returns the least page of the lowest slot, with the offset of the slot in the file. Where that slot has none
     /// left, it is forgotten, and the answer is `None`.
     pub fn pop(&mut self) -> Option<(PageId, LogOffset)>
-        requires { All (λ e. e.slot * self.old.size < 2 ^ 63) self.old.entries.items }
         ensures page { result ≡ first_page self.old.size (cleaner_of self.old) }
         ensures left { cleaner_of self.new ≡ popped (cleaner_of self.old) }
         ensures tie { (count : ℕ) → IsCleaner self.old.size count self.old → IsCleaner self.old.size count self.new }
@@ -96,7 +99,8 @@ impl SegmentCleaner {
 
     /// Notes the pages of a slot that is not there yet, where there is room for it.
     pub(crate) fn insert(&mut self, slot: u64, pages: Vec<PageId>)
-        requires { length self.old.entries.items < vec_capacity self.old.entries }
+        requires room { length self.old.entries.items < vec_capacity self.old.entries }
+        requires in_reach { slot * self.old.size < 2 ^ 63 }
         ensures cleaner { (count : ℕ) → IsCleaner self.old.size count self.old
             → cleaner_of self.new ≡ insert_entry nat_cmp (cleaner_of self.old) slot pages.items }
         ensures tie { (count : ℕ) → slot < count → IsCleaner self.old.size count self.old → IsCleaner self.old.size count self.new }

@@ -8,10 +8,11 @@ ghost use Rattle.std.specs.Set.{remove_key};
 ghost use Rattle.sled_store.specs.Blobs.{RemoveAnswers, removing_blobs};
 ghost use Rattle.sled_store.specs.Script.{Performs, after_all};
 ghost use Rattle.sled_store.specs.SegmentStates.{slot_at, active_place, by_place, with_slot, inactive_slot, stabilized, deactivated, freed, tested, freed_if_done, is_done, is_active_place, is_wasteful, drained_if_sparse, drained_if_wasteful};
-ghost use Rattle.sled_store.specs.Stabilizing.{not_beside, slots_at, waiting_freed, emptied, cut_back, MayCut, shorter, cutting_last};
+ghost use Rattle.sled_store.specs.Stabilizing.{not_beside, slots_at, waiting_freed, emptied, cut_back, MayCut, shorter, cutting_last, MakesStep};
 ghost use Rattle.sled_store.specs.Accounts.{IsAccountant, machine_of, size_of};
 
 use crate::segment::accountant::SegmentAccountant;
+use crate::segment::accountant::replacing::forget_waiting;
 use crate::segment::sorted::SortedSet;
 use crate::{Device, RunningConfig};
 use sled_codec::result::{Error, Lsn, Result};
@@ -59,13 +60,8 @@ impl SegmentAccountant {
         requires account { IsAccountant (size_of self.old) self.old }
         requires slot { slot < length (machine_of self.old).slots }
         requires active { active_place (slot_at (machine_of self.old) slot) ≡ Some place }
-        ensures done { OnOk result (machine_of self.new ≡ (deactivated (size_of self.old) (place, slot) (machine_of self.old)).machine) }
-        ensures made { OnOk result (D.trace device.new
-            ≡ after_all (deactivated (size_of self.old) (place, slot) (machine_of self.old)).calls (D.trace device.old)) }
-        ensures calls { Performs (deactivated (size_of self.old) (place, slot) (machine_of self.old)).calls (D.trace device.old) (D.trace device.new) }
-        ensures answers { RemoveAnswers result (D.faults device.old) (D.faults device.new) }
-        ensures memory { IfErr result (λ e. e ≢ Error.OutOfMemory) }
-        ensures account { OnOk result (IsAccountant (size_of self.old) self.new) }
+        ensures step { MakesStep (size_of self.old) (deactivated (size_of self.old) (place, slot) (machine_of self.old)) result
+            (D.trace device.old) (D.trace device.new) (D.faults device.old) (D.faults device.new) self.new }
         ensures active { OnOk result (self.new.active.0 ≡ remove_key (is_at (by_place (place, slot))) self.old.active.0) }
     {
         let s = &self.slots[slot as usize];
@@ -95,12 +91,8 @@ impl SegmentAccountant {
     /// Frees the slots that waited for the segment at a place.
     fn free_waiting<D: Device>(&mut self, device: &mut D, place: u64) -> Result<()>
         requires { IsAccountant (size_of self.old) self.old }
-        ensures done { OnOk result (machine_of self.new ≡ (waiting_freed (size_of self.old) place (machine_of self.old)).machine) }
-        ensures made { OnOk result (D.trace device.new ≡ after_all (waiting_freed (size_of self.old) place (machine_of self.old)).calls (D.trace device.old)) }
-        ensures calls { Performs (waiting_freed (size_of self.old) place (machine_of self.old)).calls (D.trace device.old) (D.trace device.new) }
-        ensures answers { RemoveAnswers result (D.faults device.old) (D.faults device.new) }
-        ensures memory { IfErr result (λ e. e ≢ Error.OutOfMemory) }
-        ensures account { OnOk result (IsAccountant (size_of self.old) self.new) }
+        ensures step { MakesStep (size_of self.old) (waiting_freed (size_of self.old) place (machine_of self.old)) result
+            (D.trace device.old) (D.trace device.new) (D.faults device.old) (D.faults device.new) self.new }
         ensures active { self.new.active ≡ self.old.active }
         ensures count { OnOk result (length (machine_of self.new).slots ≡ length (machine_of self.old).slots) }
     {
@@ -114,12 +106,8 @@ impl SegmentAccountant {
     fn test<D: Device>(&mut self, device: &mut D, slot: u64) -> Result<()>
         requires account { IsAccountant (size_of self.old) self.old }
         requires slot { slot < length (machine_of self.old).slots }
-        ensures done { OnOk result (machine_of self.new ≡ (tested (size_of self.old) slot (machine_of self.old)).machine) }
-        ensures made { OnOk result (D.trace device.new ≡ after_all (tested (size_of self.old) slot (machine_of self.old)).calls (D.trace device.old)) }
-        ensures calls { Performs (tested (size_of self.old) slot (machine_of self.old)).calls (D.trace device.old) (D.trace device.new) }
-        ensures answers { RemoveAnswers result (D.faults device.old) (D.faults device.new) }
-        ensures memory { IfErr result (λ e. e ≢ Error.OutOfMemory) }
-        ensures account { OnOk result (IsAccountant (size_of self.old) self.new) }
+        ensures step { MakesStep (size_of self.old) (tested (size_of self.old) slot (machine_of self.old)) result
+            (D.trace device.old) (D.trace device.new) (D.faults device.old) (D.faults device.new) self.new }
         ensures active { self.new.active ≡ self.old.active }
     {
         self.drain_if_sparse(slot);
@@ -145,12 +133,8 @@ impl SegmentAccountant {
     fn free_if_done<D: Device>(&mut self, device: &mut D, slot: u64) -> Result<()>
         requires account { IsAccountant (size_of self.old) self.old }
         requires slot { slot < length (machine_of self.old).slots }
-        ensures done { OnOk result (machine_of self.new ≡ (freed_if_done (size_of self.old) slot (machine_of self.old)).machine) }
-        ensures made { OnOk result (D.trace device.new ≡ after_all (freed_if_done (size_of self.old) slot (machine_of self.old)).calls (D.trace device.old)) }
-        ensures calls { Performs (freed_if_done (size_of self.old) slot (machine_of self.old)).calls (D.trace device.old) (D.trace device.new) }
-        ensures answers { RemoveAnswers result (D.faults device.old) (D.faults device.new) }
-        ensures memory { IfErr result (λ e. e ≢ Error.OutOfMemory) }
-        ensures account { OnOk result (IsAccountant (size_of self.old) self.new) }
+        ensures step { MakesStep (size_of self.old) (freed_if_done (size_of self.old) slot (machine_of self.old)) result
+            (D.trace device.old) (D.trace device.new) (D.faults device.old) (D.faults device.new) self.new }
         ensures active { self.new.active ≡ self.old.active }
     {
         if !self.may_be_freed(slot) {
@@ -186,12 +170,8 @@ impl SegmentAccountant {
         requires account { IsAccountant (size_of self.old) self.old }
         requires slot { slot < length (machine_of self.old).slots }
         requires done { is_done (slot_at (machine_of self.old) slot) ≡ true }
-        ensures done { OnOk result (machine_of self.new ≡ (freed (size_of self.old) slot (machine_of self.old)).machine) }
-        ensures made { OnOk result (D.trace device.new ≡ after_all (freed (size_of self.old) slot (machine_of self.old)).calls (D.trace device.old)) }
-        ensures calls { Performs (freed (size_of self.old) slot (machine_of self.old)).calls (D.trace device.old) (D.trace device.new) }
-        ensures answers { RemoveAnswers result (D.faults device.old) (D.faults device.new) }
-        ensures memory { IfErr result (λ e. e ≢ Error.OutOfMemory) }
-        ensures account { OnOk result (IsAccountant (size_of self.old) self.new) }
+        ensures step { MakesStep (size_of self.old) (freed (size_of self.old) slot (machine_of self.old)) result
+            (D.trace device.old) (D.trace device.new) (D.faults device.old) (D.faults device.new) self.new }
         ensures active { self.new.active ≡ self.old.active }
         ensures waiting { self.new.waiting.0 ≡ not_beside (slot_at (machine_of self.old) slot).latest slot self.old.waiting.0 }
     {
@@ -212,7 +192,7 @@ impl SegmentAccountant {
         let s = &mut self.slots[slot as usize];
         let latest = s.latest;
         s.free();
-        forget(&mut self.waiting, latest, slot);
+        forget_waiting(&mut self.waiting, latest, slot);
         self.cleaner.remove(slot);
         self.free.insert(slot);
     }
@@ -220,12 +200,8 @@ impl SegmentAccountant {
     /// Cuts off free slots at the end of the file while another one is left.
     pub(super) fn cut_off<D: Device>(&mut self, device: &mut D) -> Result<()>
         requires { IsAccountant (size_of self.old) self.old }
-        ensures done { OnOk result (machine_of self.new ≡ (cut_back (size_of self.old) (machine_of self.old)).machine) }
-        ensures made { OnOk result (D.trace device.new ≡ after_all (cut_back (size_of self.old) (machine_of self.old)).calls (D.trace device.old)) }
-        ensures calls { Performs (cut_back (size_of self.old) (machine_of self.old)).calls (D.trace device.old) (D.trace device.new) }
-        ensures answers { RemoveAnswers result (D.faults device.old) (D.faults device.new) }
-        ensures memory { IfErr result (λ e. e ≢ Error.OutOfMemory) }
-        ensures account { OnOk result (IsAccountant (size_of self.old) self.new) }
+        ensures step { MakesStep (size_of self.old) (cut_back (size_of self.old) (machine_of self.old)) result
+            (D.trace device.old) (D.trace device.new) (D.faults device.old) (D.faults device.new) self.new }
         ensures active { self.new.active ≡ self.old.active }
         ensures waiting { self.new.waiting ≡ self.old.waiting }
     {
@@ -293,16 +269,6 @@ impl SegmentAccountant {
         let free = self.free.len() + (self.slots.len() - self.tip as usize);
         let inactive = self.inactive.len();
         inactive > 5 && free as u128 * 100 / (1 + free + inactive) as u128 >= 50
-    }
-}
-
-/// Takes a slot out of those that wait, where it waited for a place.
-fn forget(waiting: &mut SortedSet<(u64, u64)>, place: Option<u64>, slot: u64)
-    ensures keys { waiting.new.0 ≡ not_beside place slot waiting.old.0 }
-    ensures room { waiting.new.1 ≡ waiting.old.1 }
-{
-    if let Some(place) = place {
-        waiting.remove((place, slot));
     }
 }
 

@@ -1,13 +1,13 @@
 //! A message that is there in place of older ones (`specs/SegmentStates.antt`).
 //!
 //! A replacement frees no slot: the segment that replaces is active, so the free waits for its deactivation.
-ghost use Rattle.std.specs.Prelude.{◌≡◌, ◌⊎◌, ◌∷◌, [], ◌+◌, ◌*◌, ◌/◌, ◌≤◌, ◌<◌, ◌^◌, ℕ, List, length, slice_index_or, true, false, OnOk, OnErr, IsOkUnless};
+ghost use Rattle.std.specs.Prelude.{◌≡◌, ◌⊎◌, ◌∷◌, [], ◌+◌, ◌*◌, ◌/◌, ◌≤◌, ◌<◌, ◌^◌, ℕ, length, slice_index_or, true, false, OnOk, OnErr, IsOkUnless};
 ghost use Rattle.std.specs.List.{All, list_any};
-ghost use Rattle.std.specs.BTreeMap.{is_at};
 ghost use Rattle.sled_codec.specs.Pointers.{lid_of};
 ghost use Rattle.sled_store.specs.declared.segment.slot.Slot.{Slot as SlotRecord};
 ghost use Rattle.sled_store.specs.SegmentStates.{MayMark, is_active, is_inactive, slot_at, with_slot, beside, by_place, replaced_slot, all_outdated, outdating, drained, replaced_one, replaced_all, replaced, is_sparse};
-ghost use Rattle.sled_store.specs.Accounts.{IsAccountant, machine_of, size_of, IsUsed, GoneFits, HasRoomToLink, HasRoomForBlobs, Lacks};
+ghost use Rattle.sled_store.specs.Stabilizing.{not_beside};
+ghost use Rattle.sled_store.specs.Accounts.{IsAccountant, machine_of, size_of, IsUsed, GoneFits, HasRoomToLink, HasRoomForBlobs};
 
 use crate::segment::accountant::SegmentAccountant;
 use crate::segment::slot::{CacheInfo, Slot};
@@ -122,8 +122,8 @@ impl SegmentAccountant {
         let before = s.waited_place();
         s.replace(pid, len, place);
         let after = s.waited_place();
-        forget_waiting(&mut self.waiting, slot, before);
-        note_waiting(&mut self.waiting, slot, after);
+        forget_waiting(&mut self.waiting, before, slot);
+        note_waiting(&mut self.waiting, after, slot);
     }
 
     /// Drains an inactive slot.
@@ -140,7 +140,7 @@ impl SegmentAccountant {
         let left = s.drain();
         let after = s.waited_place();
         self.inactive.remove(slot);
-        note_waiting(&mut self.waiting, slot, after);
+        note_waiting(&mut self.waiting, after, slot);
         self.cleaner.insert(slot, left);
     }
 
@@ -185,9 +185,9 @@ fn outdate_all(slot: &mut Slot, pointer: DiskPtr, old: &[CacheInfo])
     }
 }
 
-/// A slot no longer waits for a place.
-fn forget_waiting(waiting: &mut SortedSet<(u64, u64)>, slot: u64, before: Option<u64>)
-    ensures keys { (rest : List (ℕ × ℕ)) → waiting.old.0 ≡ beside before slot rest → Lacks slot rest → waiting.new.0 ≡ rest }
+/// A slot no longer waits for a place, if it waited.
+pub(super) fn forget_waiting(waiting: &mut SortedSet<(u64, u64)>, before: Option<u64>, slot: u64)
+    ensures keys { waiting.new.0 ≡ not_beside before slot waiting.old.0 }
     ensures room { waiting.new.1 ≡ waiting.old.1 }
 {
     if let Some(place) = before {
@@ -196,7 +196,7 @@ fn forget_waiting(waiting: &mut SortedSet<(u64, u64)>, slot: u64, before: Option
 }
 
 /// A slot waits for a place, if it waits.
-fn note_waiting(waiting: &mut SortedSet<(u64, u64)>, slot: u64, after: Option<u64>)
+fn note_waiting(waiting: &mut SortedSet<(u64, u64)>, after: Option<u64>, slot: u64)
     requires { length waiting.old.0 < waiting.old.1 }
     ensures keys { waiting.new.0 ≡ beside after slot waiting.old.0 }
     ensures room { waiting.old.1 ≤ waiting.new.1 }

@@ -1,13 +1,7 @@
 -- The cleaner alone changes.
-use Rattle.std.proofs.Common.{◌∙◌, ◌<◌, ◌*◌, ◌^◌, ℕ, length, refl, sym, subst, arith}
+use Rattle.std.proofs.Common.{◌∙◌, ℕ, length, refl, arith}
 use Rattle.sled_store.specs.Accounts.{machine_of}
-use Rattle.sled_store.proofs.Accounts.AccountLemmas.{entries_in_reach}
 use Rattle.sled_store.proofs.segment.accountant.SegmentAccountant.clean_pop.Goals as goal
-
-pub pop-requires : goal.pop-requires
-pop-requires c =
-    let reach : length (machine_of c.args.self.now).slots * c.args.self.now.cleaner.size < 2 ^ 63 = subst (λ n. length (machine_of c.args.self.now).slots * n < 2 ^ 63) (sym c.requires.cleaner.size_is) c.requires.in_reach in
-    entries_in_reach c.args.self.now.cleaner.size (length (machine_of c.args.self.now).slots) c.args.self.now.cleaner.entries.items reach c.requires.cleaner.entries
 
 pub returns-clause-account : goal.returns-clause-account
 returns-clause-account c =

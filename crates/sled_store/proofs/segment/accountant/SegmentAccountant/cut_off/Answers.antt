@@ -1,5 +1,5 @@
 -- What is left to be cut off is the last slot, and what is left behind it.
-use Rattle.std.proofs.Common.{◌≡◌, ◌∙◌, ℕ, sym, subst}
+use Rattle.std.proofs.Common.{rules, ◌≡◌, ◌∙◌, ℕ, sym, subst}
 use Rattle.sled_store.specs.Device.{Trace}
 use Rattle.sled_store.specs.Script.{Performs, after_all}
 use Rattle.sled_store.specs.SegmentStates.{Machine, Step}
@@ -42,15 +42,26 @@ loop-self-preserved g c =
       waiting = c.cut_last.ensures.waiting ∙ c.loop-self.invariant.waiting;
     }
 
-pub returns-in_err-cut_last-clause-calls : goal.returns-in_err-cut_last-clause-calls
-returns-in_err-cut_last-clause-calls g c =
-    cut_failed c.args.self.now.size c.loop-self.self.size (machine_of c.loop-self.self) _ _ _ c.loop-self.invariant.leads (g.D.Device.trace c.cut_last.new.device) (c.may_cut.ensures.0 c.loop-self-test.true) c.loop-self.invariant.account.size_is c.cut_last.ensures.calls
+pub returns-in_err-cut_last-clause-step : goal.returns-in_err-cut_last-clause-step
+returns-in_err-cut_last-clause-step g c = record {
+  done = search rules;
+  made = search rules;
+  calls = cut_failed c.args.self.now.size c.loop-self.self.size (machine_of c.loop-self.self) _ _ _ c.loop-self.invariant.leads (g.D.Device.trace c.cut_last.new.device) (c.may_cut.ensures.0 c.loop-self-test.true) c.loop-self.invariant.account.size_is c.cut_last.ensures.calls;
+  answers = search rules;
+  memory = search rules;
+  account = search rules;
+}
 
-pub returns-clause-done : goal.returns-clause-done
-returns-clause-done g c = (cut_done c.args.self.now.size 0 (machine_of c.loop-self.self) _ _ _ c.loop-self.invariant.leads (λ may. let yes = c.may_cut.ensures.1 may in let no = c.loop-self-test.false in absurd (cc))).machine
-
-pub returns-clause-made : goal.returns-clause-made
-returns-clause-made g c = (cut_done c.args.self.now.size 0 (machine_of c.loop-self.self) _ _ _ c.loop-self.invariant.leads (λ may. let yes = c.may_cut.ensures.1 may in let no = c.loop-self-test.false in absurd (cc))).trace
-
-pub returns-clause-calls : goal.returns-clause-calls
-returns-clause-calls g c = performs_whole (cut_back c.args.self.now.size (machine_of c.args.self.now)).calls (g.D.Device.trace c.args.device.now) (g.D.Device.trace c.loop-self.device) (returns-clause-made g c)
+pub returns-clause-step : goal.returns-clause-step
+returns-clause-step g c =
+    let old : Trace = g.D.Device.trace c.args.device.now in
+    let new : Trace = g.D.Device.trace c.loop-self.device in
+    let all = cut_done c.args.self.now.size 0 (machine_of c.loop-self.self) _ _ _ c.loop-self.invariant.leads (λ may. let yes = c.may_cut.ensures.1 may in let no = c.loop-self-test.false in absurd (cc)) in
+    record {
+      done = all.machine;
+      made = all.trace;
+      calls = performs_whole (cut_back c.args.self.now.size (machine_of c.args.self.now)).calls old new all.trace;
+      answers = c.loop-self.invariant.faults;
+      memory = search rules;
+      account = c.loop-self.invariant.account;
+    }

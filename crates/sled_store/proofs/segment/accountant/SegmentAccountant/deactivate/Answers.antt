@@ -1,5 +1,5 @@
 -- Blobs go, the segment is inactive, slots that waited are freed, it is tested, and one more is drained where much is free.
-use Rattle.std.proofs.Common.{◌≡◌, ◌∙◌, ◌<◌, ℕ, ℤ, List, [], Some, length, get_or, set, refl, sym, ap, subst, arith, length-set}
+use Rattle.std.proofs.Common.{rules, ◌≡◌, ◌∙◌, ◌<◌, ℕ, ℤ, List, length, get_or, refl, sym, ap, subst, arith, length-set}
 use Rattle.sled_store.specs.Device.{Trace}
 use Rattle.sled_store.specs.Blobs.{removing_blobs}
 use Rattle.sled_store.specs.Script.{Performs, after_all}
@@ -7,7 +7,7 @@ use Rattle.sled_store.specs.SegmentStates.{SlotState, Machine, Step, slot_at, wi
 use Rattle.sled_store.specs.Stabilizing.{waiting_freed}
 use Rattle.sled_store.specs.declared.segment.slot.Slot.{Slot}
 use Rattle.sled_store.specs.declared.segment.accountant.SegmentAccountant.{SegmentAccountant}
-use Rattle.sled_store.specs.Accounts.{IsAccountant, machine_of, size_of, slot_state}
+use Rattle.sled_store.specs.Accounts.{IsAccountant, machine_of, size_of}
 use Rattle.sled_store.proofs.Traces.ScriptLemmas.{performs_whole}
 use Rattle.sled_store.proofs.Accounts.StabilSlots.{slot_is}
 use Rattle.sled_store.proofs.Accounts.StabilSteps.{IsMade, made_same, calls_same, made_next, failed_first, failed_next}
@@ -60,7 +60,7 @@ pub free_waiting-requires : goal.free_waiting-requires
 free_waiting-requires g c = own c.args.self.now.size c.make_inactive.new.self c.make_inactive.ensures.account
 
 pub test-requires-clause-account : goal.test-requires-clause-account
-test-requires-clause-account g c = own c.make_inactive.new.self.size c.free_waiting.new.self c.in_ok-free_waiting.ensures.account
+test-requires-clause-account g c = own c.make_inactive.new.self.size c.free_waiting.new.self c.in_ok-free_waiting.ensures.step.account
 
 pub test-requires-clause-slot : goal.test-requires-clause-slot
 test-requires-clause-slot g c =
@@ -70,18 +70,18 @@ test-requires-clause-slot g c =
     omega (arith, same, c.requires.slot)
 
 pub drain_if_wasteful-requires : goal.drain_if_wasteful-requires
-drain_if_wasteful-requires g c = own c.free_waiting.new.self.size c.test.new.self c.in_ok-test.ensures.account
+drain_if_wasteful-requires g c = own c.free_waiting.new.self.size c.test.new.self c.in_ok-test.ensures.step.account
 
-pub returns-in_err-remove_blobs-clause-calls : goal.returns-in_err-remove_blobs-clause-calls
-returns-in_err-remove_blobs-clause-calls g c =
+pub returns-in_err-remove_blobs-clause-step : goal.returns-in_err-remove_blobs-clause-step
+returns-in_err-remove_blobs-clause-step g c =
     let a : SegmentAccountant = c.args.self.now in
     let old : Trace = g.D.Device.trace c.args.device.now in
     let new : Trace = g.D.Device.trace c.remove_blobs.new.device in
     let blobs = blobs_are a c.args.slot c.index-s.result.now c.keys.result.now c.requires.slot c.index-s.ensures c.keys.ensures in
-    failed_gone a.size c.args.place c.args.slot (machine_of a) old new (subst (λ (l : List ℤ). Performs (removing_blobs l) old new) blobs c.remove_blobs.ensures.calls)
+    record { done = search rules; made = search rules; calls = failed_gone a.size c.args.place c.args.slot (machine_of a) old new (subst (λ (l : List ℤ). Performs (removing_blobs l) old new) blobs c.remove_blobs.ensures.calls); answers = search rules; memory = let told = c.in_err-remove_blobs.ensures.memory in search rules; account = search rules }
 
-pub returns-in_err-free_waiting-clause-calls : goal.returns-in_err-free_waiting-clause-calls
-returns-in_err-free_waiting-clause-calls g c =
+pub returns-in_err-free_waiting-clause-step : goal.returns-in_err-free_waiting-clause-step
+returns-in_err-free_waiting-clause-step g c =
     let a : SegmentAccountant = c.args.self.now in
     let old : Trace = g.D.Device.trace c.args.device.now in
     let h1 : Trace = g.D.Device.trace c.remove_blobs.new.device in
@@ -89,11 +89,10 @@ returns-in_err-free_waiting-clause-calls g c =
     let blobs = blobs_are a c.args.slot c.index-s.result.now c.keys.result.now c.requires.slot c.index-s.ensures c.keys.ensures in
     let made1 : IsMade (gone a.size c.args.place c.args.slot (machine_of a) old) old m1 h1 =
     record { machine = c.make_inactive.ensures.machine; trace = subst (λ (l : List ℤ). h1 ≡ after_all (removing_blobs l) old) blobs c.in_ok-remove_blobs.ensures.made } in
-    failed_waits a.size c.args.place c.args.slot (machine_of a) old m1 h1 made1 (g.D.Device.trace c.free_waiting.new.device)
-    (calls_same (λ n. waiting_freed n c.args.place m1) a.size c.make_inactive.new.self.size h1 (g.D.Device.trace c.free_waiting.new.device) c.make_inactive.ensures.account.size_is c.free_waiting.ensures.calls)
+    record { done = search rules; made = search rules; calls = failed_waits a.size c.args.place c.args.slot (machine_of a) old m1 h1 made1 (g.D.Device.trace c.free_waiting.new.device) (calls_same (λ n. waiting_freed n c.args.place m1) a.size c.make_inactive.new.self.size h1 (g.D.Device.trace c.free_waiting.new.device) c.make_inactive.ensures.account.size_is c.free_waiting.ensures.step.calls); answers = let told = c.in_err-free_waiting.ensures.step.answers in search rules; memory = let told = c.in_err-free_waiting.ensures.step.memory in search rules; account = search rules }
 
-pub returns-in_err-test-clause-calls : goal.returns-in_err-test-clause-calls
-returns-in_err-test-clause-calls g c =
+pub returns-in_err-test-clause-step : goal.returns-in_err-test-clause-step
+returns-in_err-test-clause-step g c =
     let a : SegmentAccountant = c.args.self.now in
     let old : Trace = g.D.Device.trace c.args.device.now in
     let h1 : Trace = g.D.Device.trace c.remove_blobs.new.device in
@@ -105,34 +104,12 @@ returns-in_err-test-clause-calls g c =
     record { machine = c.make_inactive.ensures.machine; trace = subst (λ (l : List ℤ). h1 ≡ after_all (removing_blobs l) old) blobs c.in_ok-remove_blobs.ensures.made } in
     let same1 : c.make_inactive.new.self.size ≡ a.size = c.make_inactive.ensures.account.size_is in
     let made2 : IsMade (waiting_freed a.size c.args.place m1) h1 m2 h2 =
-    made_same (λ n. waiting_freed n c.args.place m1) a.size c.make_inactive.new.self.size h1 m2 h2 same1 c.in_ok-free_waiting.ensures.done c.in_ok-free_waiting.ensures.made in
-    let same2 : c.free_waiting.new.self.size ≡ a.size = c.in_ok-free_waiting.ensures.account.size_is ∙ same1 in
-    failed_test a.size c.args.place c.args.slot (machine_of a) old m1 h1 made1 m2 h2 made2 (g.D.Device.trace c.test.new.device)
-    (calls_same (λ n. tested n c.args.slot m2) a.size c.free_waiting.new.self.size h2 (g.D.Device.trace c.test.new.device) same2 c.test.ensures.calls)
+    made_same (λ n. waiting_freed n c.args.place m1) a.size c.make_inactive.new.self.size h1 m2 h2 same1 c.in_ok-free_waiting.ensures.step.done c.in_ok-free_waiting.ensures.step.made in
+    let same2 : c.free_waiting.new.self.size ≡ a.size = c.in_ok-free_waiting.ensures.step.account.size_is ∙ same1 in
+    record { done = search rules; made = search rules; calls = failed_test a.size c.args.place c.args.slot (machine_of a) old m1 h1 made1 m2 h2 made2 (g.D.Device.trace c.test.new.device) (calls_same (λ n. tested n c.args.slot m2) a.size c.free_waiting.new.self.size h2 (g.D.Device.trace c.test.new.device) same2 c.test.ensures.step.calls); answers = let told = c.in_err-test.ensures.step.answers in search rules; memory = let told = c.in_err-test.ensures.step.memory in search rules; account = search rules }
 
-pub returns-clause-done : goal.returns-clause-done
-returns-clause-done g c =
-    let a : SegmentAccountant = c.args.self.now in
-    let old : Trace = g.D.Device.trace c.args.device.now in
-    let h1 : Trace = g.D.Device.trace c.remove_blobs.new.device in
-    let m1 : Machine = machine_of c.make_inactive.new.self in
-    let h2 : Trace = g.D.Device.trace c.free_waiting.new.device in
-    let m2 : Machine = machine_of c.free_waiting.new.self in
-    let h3 : Trace = g.D.Device.trace c.test.new.device in
-    let m3 : Machine = machine_of c.test.new.self in
-    let blobs = blobs_are a c.args.slot c.index-s.result.now c.keys.result.now c.requires.slot c.index-s.ensures c.keys.ensures in
-    let made1 : IsMade (gone a.size c.args.place c.args.slot (machine_of a) old) old m1 h1 =
-    record { machine = c.make_inactive.ensures.machine; trace = subst (λ (l : List ℤ). h1 ≡ after_all (removing_blobs l) old) blobs c.in_ok-remove_blobs.ensures.made } in
-    let same1 : c.make_inactive.new.self.size ≡ a.size = c.make_inactive.ensures.account.size_is in
-    let made2 : IsMade (waiting_freed a.size c.args.place m1) h1 m2 h2 =
-    made_same (λ n. waiting_freed n c.args.place m1) a.size c.make_inactive.new.self.size h1 m2 h2 same1 c.in_ok-free_waiting.ensures.done c.in_ok-free_waiting.ensures.made in
-    let same2 : c.free_waiting.new.self.size ≡ a.size = c.in_ok-free_waiting.ensures.account.size_is ∙ same1 in
-    let made3 : IsMade (tested a.size c.args.slot m2) h2 m3 h3 =
-    made_same (λ n. tested n c.args.slot m2) a.size c.free_waiting.new.self.size h2 m3 h3 same2 c.in_ok-test.ensures.done c.in_ok-test.ensures.made in
-    (made_all a.size c.args.place c.args.slot (machine_of a) old m1 h1 made1 m2 h2 made2 m3 (machine_of c.drain_if_wasteful.new.self) h3 made3 c.drain_if_wasteful.ensures.machine).machine
-
-pub returns-clause-made : goal.returns-clause-made
-returns-clause-made g c =
+pub returns-clause-step : goal.returns-clause-step
+returns-clause-step g c =
     let a : SegmentAccountant = c.args.self.now in
     let old : Trace = g.D.Device.trace c.args.device.now in
     let h1 : Trace = g.D.Device.trace c.remove_blobs.new.device in
@@ -146,22 +123,20 @@ returns-clause-made g c =
     record { machine = c.make_inactive.ensures.machine; trace = subst (λ (l : List ℤ). h1 ≡ after_all (removing_blobs l) old) blobs c.in_ok-remove_blobs.ensures.made } in
     let same1 : c.make_inactive.new.self.size ≡ a.size = c.make_inactive.ensures.account.size_is in
     let made2 : IsMade (waiting_freed a.size c.args.place m1) h1 m2 h2 =
-    made_same (λ n. waiting_freed n c.args.place m1) a.size c.make_inactive.new.self.size h1 m2 h2 same1 c.in_ok-free_waiting.ensures.done c.in_ok-free_waiting.ensures.made in
-    let same2 : c.free_waiting.new.self.size ≡ a.size = c.in_ok-free_waiting.ensures.account.size_is ∙ same1 in
+    made_same (λ n. waiting_freed n c.args.place m1) a.size c.make_inactive.new.self.size h1 m2 h2 same1 c.in_ok-free_waiting.ensures.step.done c.in_ok-free_waiting.ensures.step.made in
+    let same2 : c.free_waiting.new.self.size ≡ a.size = c.in_ok-free_waiting.ensures.step.account.size_is ∙ same1 in
     let made3 : IsMade (tested a.size c.args.slot m2) h2 m3 h3 =
-    made_same (λ n. tested n c.args.slot m2) a.size c.free_waiting.new.self.size h2 m3 h3 same2 c.in_ok-test.ensures.done c.in_ok-test.ensures.made in
-    (made_all a.size c.args.place c.args.slot (machine_of a) old m1 h1 made1 m2 h2 made2 m3 (machine_of c.drain_if_wasteful.new.self) h3 made3 c.drain_if_wasteful.ensures.machine).trace
-
-pub returns-clause-calls : goal.returns-clause-calls
-returns-clause-calls g c =
-    performs_whole (deactivated c.args.self.now.size (c.args.place, c.args.slot) (machine_of c.args.self.now)).calls (g.D.Device.trace c.args.device.now) (g.D.Device.trace c.test.new.device) (returns-clause-made g c)
-
-pub returns-clause-account : goal.returns-clause-account
-returns-clause-account g c =
-    let same1 = c.make_inactive.ensures.account.size_is in
-    let same2 = c.in_ok-free_waiting.ensures.account.size_is in
-    let same3 = c.in_ok-test.ensures.account.size_is in
-    subst (λ n. IsAccountant n c.drain_if_wasteful.new.self) (same3 ∙ same2 ∙ same1) c.drain_if_wasteful.ensures.account
+    made_same (λ n. tested n c.args.slot m2) a.size c.free_waiting.new.self.size h2 m3 h3 same2 c.in_ok-test.ensures.step.done c.in_ok-test.ensures.step.made in
+    let all = (made_all a.size c.args.place c.args.slot (machine_of a) old m1 h1 made1 m2 h2 made2 m3 (machine_of c.drain_if_wasteful.new.self) h3 made3 c.drain_if_wasteful.ensures.machine) in
+    let same3 = c.in_ok-test.ensures.step.account.size_is in
+    record {
+      done = all.machine;
+      made = all.trace;
+      calls = performs_whole (deactivated a.size (c.args.place, c.args.slot) (machine_of a)).calls old h3 all.trace;
+      answers = search rules;
+      memory = search rules;
+      account = subst (λ n. IsAccountant n c.drain_if_wasteful.new.self) (same3 ∙ same2) c.drain_if_wasteful.ensures.account;
+    }
 
 pub returns-clause-active : goal.returns-clause-active
 returns-clause-active g c =

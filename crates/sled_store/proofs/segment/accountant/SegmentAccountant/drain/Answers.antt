@@ -1,5 +1,5 @@
 -- The slot is no longer inactive, and its pages go to the cleaner.
-use Rattle.std.proofs.Common.{Some, if◌then◌else◌, vec_capacity, ◌≡◌, ◌∙◌, ◌<◌, ℕ, List, Option, true, false, None, length, get_or, set, refl, sym, ap, subst, arith}
+use Rattle.std.proofs.Common.{Some, if◌then◌else◌, vec_capacity, ◌≡◌, ◌∙◌, ◌<◌, ◌*◌, ◌^◌, ℕ, List, Option, true, false, None, length, get_or, set, refl, sym, ap, subst, arith}
 use Rattle.std.specs.Ordering.{nat_cmp}
 use Rattle.std.specs.BTreeMap.{insert_entry, is_at}
 use Rattle.std.specs.Set.{remove_key}
@@ -8,7 +8,7 @@ use Rattle.sled_store.specs.declared.segment.slot.State.{State}
 use Rattle.sled_store.specs.declared.segment.slot.State.TheVariants.{Free, Active, Inactive, Draining}
 use Rattle.sled_store.specs.declared.segment.accountant.SegmentAccountant.{SegmentAccountant}
 use Rattle.sled_store.specs.Accounts.{slot_state, machine_of, cleaner_of, IsAccountant, AreIndexes}
-use Rattle.sled_store.proofs.Accounts.AccountLemmas.{updated_account, states_set, entries_within}
+use Rattle.sled_store.proofs.Accounts.AccountLemmas.{updated_account, states_set, entries_within, slot_in_reach}
 use Rattle.sled_store.proofs.Accounts.ChangeLemmas.{changed_slots, changed_free, not_waited}
 use Rattle.sled_store.proofs.Accounts.IndexLemmas.{slots_where_less, slots_by_same, length_slots_by_less}
 use Rattle.sled_store.proofs.Accounts.WithLemmas.{read_state}
@@ -68,8 +68,13 @@ module _ (size : ℕ) (a : SegmentAccountant) (account : IsAccountant size a) (k
 pub note_waiting-requires : goal.note_waiting-requires
 note_waiting-requires c = waiting_room (c.args.self.now.size) c.args.self.now c.requires.account c.args.slot c.requires.slot c.requires.inactive
 
-pub insert-requires : goal.insert-requires
-insert-requires c = cleaner_room (c.args.self.now.size) c.args.self.now c.requires.account c.args.slot c.requires.slot c.requires.inactive
+pub insert-requires-clause-in_reach : goal.insert-requires-clause-in_reach
+insert-requires-clause-in_reach c =
+    let size = c.requires.account.cleaner.size_is in
+    subst (λ n. c.args.slot * n < 2 ^ 63) (sym size) (slot_in_reach c.args.self.now.size (length (machine_of c.args.self.now).slots) c.args.slot c.requires.slot c.requires.account.in_reach)
+
+pub insert-requires-clause-room : goal.insert-requires-clause-room
+insert-requires-clause-room c = cleaner_room (c.args.self.now.size) c.args.self.now c.requires.account c.args.slot c.requires.slot c.requires.inactive
 
 drained_machine : (xs ys : List SlotState) (t : ℕ) (es fs : List (ℕ × List ℕ)) → xs ≡ ys → es ≡ fs → ◌≡◌ {A = Machine} (record { slots = xs; tip = t; cleaner = es }) (record { slots = ys; tip = t; cleaner = fs })
 drained_machine xs ys t es fs same entries = λ i. record { slots = same i; tip = t; cleaner = entries i }

@@ -1,7 +1,7 @@
 -- The slot is drained exactly where it is sparse, and only an inactive one is.
-use Rattle.std.proofs.Common.{◌≡◌, ◌∙◌, ◌<◌, ◌≤◌, ◌*◌, ◌/◌, ℕ, Bool, true, false, sym, ap, nat_le, if◌then◌else◌}
-use Rattle.sled_store.specs.SegmentStates.{SlotState, Machine, is_sparse, is_inactive, slot_at, drained}
-use Rattle.sled_store.specs.Accounts.{slot_state, machine_of}
+use Rattle.std.proofs.Common.{◌≡◌, ◌∙◌, ◌*◌, ◌/◌, true, false, sym, ap, nat_le, if◌then◌else◌}
+use Rattle.sled_store.specs.SegmentStates.{SlotState, is_sparse, is_inactive, slot_at, drained}
+use Rattle.sled_store.specs.Accounts.{machine_of}
 use Rattle.sled_store.proofs.Accounts.StabilSlots.{slot_is, first_so}
 use Rattle.sled_store.proofs.segment.accountant.SegmentAccountant.drain_if_sparse.Goals as goal
 

@@ -1,9 +1,9 @@
 -- Where much is free, the last of the inactive slots is drained.
-use Rattle.std.proofs.Common.{◌≡◌, ◌∙◌, ◌<◌, ◌-◌, ◌+◌, ◌*◌, ◌/◌, ℕ, List, Bool, Some, None, true, length, get_or, sym, ap, subst, arith, nat_le, nat_lt, if◌then◌else◌}
+use Rattle.std.proofs.Common.{◌≡◌, ◌∙◌, ◌<◌, ◌-◌, ◌+◌, ◌*◌, ◌/◌, ℕ, List, Some, None, true, length, get_or, sym, ap, subst, arith, nat_le, nat_lt, if◌then◌else◌}
 use Rattle.std.proofs.lemmas.Bool.{ltb-true}
 use Rattle.std.proofs.lemmas.Option.{slice_get_within, get_or_from_slice_get, slice_get-get_or}
 use Rattle.std.specs.List.{slice_get}
-use Rattle.sled_store.specs.SegmentStates.{SlotState, Machine, is_inactive, free_slot, slot_at, free_among, inactive_among, is_wasteful, drained, drained_if_wasteful}
+use Rattle.sled_store.specs.SegmentStates.{is_inactive, free_slot, slot_at, free_among, inactive_among, is_wasteful, drained, drained_if_wasteful}
 use Rattle.sled_store.specs.declared.segment.accountant.SegmentAccountant.{SegmentAccountant}
 use Rattle.sled_store.specs.Accounts.{machine_of, IsAccountant}
 use Rattle.sled_store.proofs.Accounts.StabilIndex.{Passes, all_pass}

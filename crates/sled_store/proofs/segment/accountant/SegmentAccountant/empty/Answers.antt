@@ -1,10 +1,9 @@
 -- The slot is free now, and no list has it but that of the free ones.
-use Rattle.std.proofs.Common.{◌≡◌, ◌≢◌, ◌∙◌, ◌<◌, ◌≤◌, ◌*◌, ◌^◌, ℕ, List, Bool, true, length, get_or, set, refl, sym, ap, subst, inr, arith}
-use Rattle.sled_store.specs.SegmentStates.{SlotState, Machine, free_slot, slot_at, is_done}
+use Rattle.std.proofs.Common.{◌≡◌, ◌∙◌, ℕ, List, length, refl, ap, inr, arith}
+use Rattle.sled_store.specs.SegmentStates.{SlotState, Machine, free_slot}
 use Rattle.sled_store.specs.Stabilizing.{not_beside}
-use Rattle.sled_store.specs.declared.segment.slot.Slot.{Slot}
 use Rattle.sled_store.specs.declared.segment.accountant.SegmentAccountant.{SegmentAccountant}
-use Rattle.sled_store.specs.Accounts.{slot_state, machine_of, IsAccountant}
+use Rattle.sled_store.specs.Accounts.{machine_of}
 use Rattle.sled_store.proofs.Accounts.AccountLemmas.{states_set, updated_account}
 use Rattle.sled_store.proofs.Accounts.HandLemmas.{indexes_same}
 use Rattle.sled_store.proofs.Accounts.StabilSlots.{emptied_slots, emptied_room, emptied_indexes, slot_is}
@@ -28,7 +27,7 @@ returns-clause-machine c =
 pub returns-clause-waiting : goal.returns-clause-waiting
 returns-clause-waiting c =
     let a : SegmentAccountant = c.args.self.now in
-    c.forget.ensures.keys ∙ ap (λ (s : SlotState). not_beside s.latest c.args.slot a.waiting.0) (slot_is a c.args.slot c.index_mut-s.result.now c.requires.slot c.index_mut-s.ensures.value)
+    c.forget_waiting.ensures.keys ∙ ap (λ (s : SlotState). not_beside s.latest c.args.slot a.waiting.0) (slot_is a c.args.slot c.index_mut-s.result.now c.requires.slot c.index_mut-s.ensures.value)
 
 pub returns-clause-account : goal.returns-clause-account
 returns-clause-account c =
@@ -48,6 +47,6 @@ returns-clause-account c =
       room_free = c.insert.ensures.room;
       room_active = omega arith;
       room_inactive = omega arith;
-      room_waiting = omega (arith, c.forget.ensures.room);
+      room_waiting = omega (arith, c.forget_waiting.ensures.room);
       room_cleaner = omega (arith, c.remove.ensures.room);
     }) c.requires.account

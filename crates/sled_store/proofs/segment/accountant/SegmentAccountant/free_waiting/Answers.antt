@@ -1,11 +1,10 @@
 -- The first slot that waits is done, and is freed; the others wait as before.
-use Rattle.std.proofs.Common.{◌≡◌, ◌∙◌, ◌<◌, ◌-◌, ℕ, List, [], ◌∷◌, Some, None, Option, true, length, get_or, set, drop, refl, sym, ap, subst, arith, length-set}
+use Rattle.std.proofs.Common.{rules, ◌≡◌, ◌∙◌, ◌<◌, ◌-◌, ℕ, List, [], ◌∷◌, Some, None, Option, true, length, get_or, drop, refl, sym, ap, subst, arith, length-set}
 use Rattle.std.specs.List.{slice_get}
 use Rattle.std.specs.BTreeMap.{is_at}
 use Rattle.std.specs.Set.{remove_key}
 use Rattle.sled_store.specs.Device.{Trace}
-use Rattle.sled_store.specs.Script.{Performs, after_all}
-use Rattle.sled_store.specs.SegmentStates.{Machine, Step, free_slot, slot_at, waited_place, waiting_among, waiting_for, is_done, freed, by_place}
+use Rattle.sled_store.specs.SegmentStates.{Machine, free_slot, slot_at, waited_place, waiting_among, waiting_for, is_done, freed, by_place}
 use Rattle.sled_store.specs.Stabilizing.{slots_at, waiting_freed, not_beside}
 use Rattle.sled_store.specs.declared.segment.accountant.SegmentAccountant.{SegmentAccountant}
 use Rattle.sled_store.specs.Accounts.{IsAccountant, machine_of}
@@ -61,43 +60,53 @@ loop-slot-preserved g c =
     let k : ℕ = c.in-Some.slot in
     let m : Machine = machine_of c.loop-slot.self in
     let same = c.loop-slot.invariant.account.size_is in
-    let account = subst (λ n. IsAccountant n c.free.new.self) same c.in_ok-free.ensures.account in
+    let account = subst (λ n. IsAccountant n c.free.new.self) same c.in_ok-free.ensures.step.account in
     let left = left_over size c.args.place k c.loop-slot.self c.loop-slot.invariant.account c.in-Some.ensures c.free.new.self c.free.ensures.waiting account in
-    let made = made_same (λ n. freed n k m) size c.loop-slot.self.size (g.D.Device.trace c.loop-slot.device) (machine_of c.free.new.self) (g.D.Device.trace c.free.new.device) same c.in_ok-free.ensures.done c.in_ok-free.ensures.made in
+    let made = made_same (λ n. freed n k m) size c.loop-slot.self.size (g.D.Device.trace c.loop-slot.device) (machine_of c.free.new.self) (g.D.Device.trace c.free.new.device) same c.in_ok-free.ensures.step.done c.in_ok-free.ensures.step.made in
     record {
       account = account;
       leads = turn_on (freed size) _ m _ _ _ c.loop-slot.invariant.leads k _ (waiting_for c.args.place (machine_of c.free.new.self)) (machine_of c.free.new.self) (g.D.Device.trace c.free.new.device)
           (listed size c.args.place k c.loop-slot.self c.loop-slot.invariant.account c.in-Some.ensures) made left;
-      faults = c.in_ok-free.ensures.answers ∙ c.loop-slot.invariant.faults;
+      faults = c.in_ok-free.ensures.step.answers ∙ c.loop-slot.invariant.faults;
       active = c.free.ensures.active ∙ c.loop-slot.invariant.active;
-      count = ap (λ (n : Machine). length n.slots) c.in_ok-free.ensures.done ∙ length-set m.slots k free_slot ∙ c.loop-slot.invariant.count;
+      count = ap (λ (n : Machine). length n.slots) c.in_ok-free.ensures.step.done ∙ length-set m.slots k free_slot ∙ c.loop-slot.invariant.count;
     }
 
 pub loop-slot-smaller : goal.loop-slot-smaller
 loop-slot-smaller g c = fewer c.args.self.now.size c.args.place c.in-Some.slot c.loop-slot.self c.loop-slot.invariant.account c.in-Some.ensures c.free.new.self c.free.ensures.waiting
 
-pub returns-in_err-free-clause-calls : goal.returns-in_err-free-clause-calls
-returns-in_err-free-clause-calls g c =
+pub returns-in_err-free-clause-step : goal.returns-in_err-free-clause-step
+returns-in_err-free-clause-step g c =
     let size : ℕ = c.args.self.now.size in
     let k : ℕ = c.in-Some.slot in
     let m : Machine = machine_of c.loop-slot.self in
-    turn_failed (freed size) _ m _ _ _ c.loop-slot.invariant.leads k _ (g.D.Device.trace c.free.new.device) (listed size c.args.place k c.loop-slot.self c.loop-slot.invariant.account c.in-Some.ensures)
-    (calls_same (λ n. freed n k m) size c.loop-slot.self.size (g.D.Device.trace c.loop-slot.device) (g.D.Device.trace c.free.new.device) c.loop-slot.invariant.account.size_is c.free.ensures.calls)
+    let first = listed size c.args.place k c.loop-slot.self c.loop-slot.invariant.account c.in-Some.ensures in
+    record {
+      done = search rules;
+      made = search rules;
+      calls = turn_failed (freed size) _ m _ _ _ c.loop-slot.invariant.leads k _ (g.D.Device.trace c.free.new.device) first
+          (calls_same (λ n. freed n k m) size c.loop-slot.self.size (g.D.Device.trace c.loop-slot.device) (g.D.Device.trace c.free.new.device) c.loop-slot.invariant.account.size_is c.free.ensures.step.calls);
+      answers = let told = c.in_err-free.ensures.step.answers in search rules;
+      memory = let told = c.in_err-free.ensures.step.memory in search rules;
+      account = search rules;
+    }
 
 none_left : (size place : ℕ) (a : SegmentAccountant) (o : Option ℕ) → IsAccountant size a → o ≡ slice_get (slots_at place a.waiting.0) 0 → ((k : ℕ) → o ≡ Some k → ⊥) → waiting_for place (machine_of a) ≡ []
 none_left size place a (Some k) is first missing = absurd (missing k refl)
 none_left size place a None is first missing = ap (slots_at place) (sym is.indexes.waiting_is) ∙ none_first (slots_at place a.waiting.0) (sym first)
 
-pub returns-clause-done : goal.returns-clause-done
-returns-clause-done g c =
-    (turns_done (freed c.args.self.now.size) _ (machine_of c.loop-slot.self) _ _ _ c.loop-slot.invariant.leads
-    (none_left c.args.self.now.size c.args.place c.loop-slot.self c.first_at.result c.loop-slot.invariant.account c.first_at.ensures c.in_default.not-Some)).machine
-
-pub returns-clause-made : goal.returns-clause-made
-returns-clause-made g c =
-    (turns_done (freed c.args.self.now.size) _ (machine_of c.loop-slot.self) _ _ _ c.loop-slot.invariant.leads
-    (none_left c.args.self.now.size c.args.place c.loop-slot.self c.first_at.result c.loop-slot.invariant.account c.first_at.ensures c.in_default.not-Some)).trace
-
-pub returns-clause-calls : goal.returns-clause-calls
-returns-clause-calls g c =
-    performs_whole (waiting_freed c.args.self.now.size c.args.place (machine_of c.args.self.now)).calls (g.D.Device.trace c.args.device.now) (g.D.Device.trace c.loop-slot.device) (returns-clause-made g c)
+pub returns-clause-step : goal.returns-clause-step
+returns-clause-step g c =
+    let size : ℕ = c.args.self.now.size in
+    let old : Trace = g.D.Device.trace c.args.device.now in
+    let new : Trace = g.D.Device.trace c.loop-slot.device in
+    let none = none_left size c.args.place c.loop-slot.self c.first_at.result c.loop-slot.invariant.account c.first_at.ensures c.in_default.not-Some in
+    let all = turns_done (freed size) _ (machine_of c.loop-slot.self) _ _ _ c.loop-slot.invariant.leads none in
+    record {
+      done = all.machine;
+      made = all.trace;
+      calls = performs_whole (waiting_freed size c.args.place (machine_of c.args.self.now)).calls old new all.trace;
+      answers = c.loop-slot.invariant.faults;
+      memory = search rules;
+      account = c.loop-slot.invariant.account;
+    }

@@ -1,8 +1,7 @@
 -- A place is that of an active segment where a slot is there behind it.
-use Rattle.std.proofs.Common.{◌≡◌, ◌∙◌, ◌==◌, ℕ, List, ap, sym, is_some}
-use Rattle.std.specs.List.{list_any, slice_get}
+use Rattle.std.proofs.Common.{◌∙◌, ◌==◌, ℕ, ap, sym, is_some}
+use Rattle.std.specs.List.{list_any}
 use Rattle.sled_store.specs.SegmentStates.{is_active_place}
-use Rattle.sled_store.specs.Stabilizing.{slots_at}
 use Rattle.sled_store.specs.Accounts.{machine_of}
 use Rattle.sled_store.proofs.Accounts.StabilFirst.{any_at}
 use Rattle.sled_store.proofs.segment.accountant.SegmentAccountant.is_active_place.Goals as goal

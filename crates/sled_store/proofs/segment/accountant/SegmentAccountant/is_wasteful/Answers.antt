@@ -1,10 +1,10 @@
 -- The slots that are free are those below the tip and those that were cut off.
-use Rattle.std.proofs.Common.{◌≡◌, ◌∙◌, ◌<◌, ◌≤◌, ◌+◌, ◌-◌, ◌*◌, ◌/◌, ◌^◌, ◌&&◌, ℕ, List, Bool, true, length, take, map, refl, sym, ap, subst, arith, nat_le, nat_lt, vec_len}
+use Rattle.std.proofs.Common.{◌≡◌, ◌∙◌, ◌<◌, ◌≤◌, ◌+◌, ◌-◌, ◌*◌, ◌/◌, ◌^◌, ◌&&◌, ℕ, length, sym, ap, arith, nat_le}
 use Rattle.std.proofs.Math.Nat.{mul-le-mul_left}
 use Rattle.std.proofs.lemmas.Bool.{lt-ltb}
 use Rattle.sled_store.specs.SegmentStates.{SlotState, is_free, is_inactive, free_slot, free_among, inactive_among, is_wasteful}
 use Rattle.sled_store.specs.declared.segment.accountant.SegmentAccountant.{SegmentAccountant}
-use Rattle.sled_store.specs.Accounts.{machine_of, slot_state, IsAccountant}
+use Rattle.sled_store.specs.Accounts.{machine_of, IsAccountant}
 use Rattle.sled_store.proofs.Accounts.AccountLemmas.{length_states}
 use Rattle.sled_store.proofs.Accounts.IndexLemmas.{length_slots_where}
 use Rattle.sled_store.proofs.Accounts.StabilIndex.{where_rest}

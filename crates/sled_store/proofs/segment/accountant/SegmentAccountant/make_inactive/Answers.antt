@@ -1,10 +1,9 @@
 -- The segment was active, and is among the inactive ones now.
-use Rattle.std.proofs.Common.{◌≡◌, ◌∙◌, ◌<◌, ◌≤◌, ◌*◌, ◌^◌, ℕ, List, Bool, false, true, length, get_or, set, refl, sym, ap, subst, inr, arith}
-use Rattle.std.specs.List.{All}
+use Rattle.std.proofs.Common.{◌≡◌, ◌∙◌, ℕ, List, length, refl, sym, ap, subst, inr, arith}
 use Rattle.sled_store.specs.SegmentStates.{SlotState, Machine, is_draining, inactive_slot, slot_at}
 use Rattle.sled_store.specs.declared.segment.slot.Slot.{Slot}
 use Rattle.sled_store.specs.declared.segment.accountant.SegmentAccountant.{SegmentAccountant}
-use Rattle.sled_store.specs.Accounts.{slot_state, machine_of, IsAccountant, HasRoomToDrain}
+use Rattle.sled_store.specs.Accounts.{slot_state, machine_of, HasRoomToDrain}
 use Rattle.sled_store.proofs.Accounts.AccountLemmas.{states_set, updated_account, length_states}
 use Rattle.sled_store.proofs.Accounts.HandLemmas.{indexes_same}
 use Rattle.sled_store.proofs.Accounts.StabilSlots.{inactive_slots, inactive_room, inactive_indexes, not_draining, slot_is}

@@ -1,7 +1,7 @@
 -- The tests of the slot are those of what the machine has.
-use Rattle.std.proofs.Common.{◌≡◌, ◌∙◌, Bool, true, false, ◌&&◌, not, sym, ap}
+use Rattle.std.proofs.Common.{◌≡◌, ◌∙◌, false, ◌&&◌, not, sym, ap}
 use Rattle.sled_store.specs.SegmentStates.{SlotState, is_done, is_active_place, slot_at}
-use Rattle.sled_store.specs.Accounts.{slot_state, machine_of}
+use Rattle.sled_store.specs.Accounts.{machine_of}
 use Rattle.sled_store.proofs.Accounts.StabilSlots.{slot_is}
 use Rattle.sled_store.proofs.segment.accountant.SegmentAccountant.may_be_freed.Goals as goal
 

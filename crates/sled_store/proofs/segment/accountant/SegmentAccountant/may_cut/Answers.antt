@@ -1,8 +1,6 @@
 -- The last of the free slots is the last of all, and it is not the only one.
-use Rattle.std.proofs.Common.{◌≡◌, ◌∙◌, ◌-◌, ◌<◌, ◌≤◌, ℕ, List, length, Some, Option, sym, arith, eq-eqb}
+use Rattle.std.proofs.Common.{◌≡◌, ◌∙◌, ◌-◌, ◌<◌, ◌≤◌, length, Some, sym, arith, eq-eqb}
 use Rattle.std.proofs.lemmas.Bool.{eqb-true}
-use Rattle.std.proofs.lemmas.Option.{slice_get_past}
-use Rattle.std.specs.List.{slice_get}
 use Rattle.sled_store.specs.Accounts.{machine_of}
 use Rattle.sled_store.proofs.Accounts.StabilCut.{one_only, is_last, below_tip, may_cut}
 use Rattle.sled_store.proofs.segment.accountant.SegmentAccountant.may_cut.Goals as goal

@@ -2,12 +2,13 @@
 use Rattle.std.proofs.Common.{◌≡◌, ◌∙◌, ◌<◌, ℕ, List, Option, length, get_or, set, refl, sym, ap, arith}
 use Rattle.std.specs.Vec.{with_item}
 use Rattle.sled_store.specs.SegmentStates.{SlotState, free_slot, replaced_slot, waited_place, waiting_among, beside}
+use Rattle.sled_store.specs.Stabilizing.{not_beside}
 use Rattle.sled_store.specs.declared.segment.accountant.SegmentAccountant.{SegmentAccountant}
 use Rattle.sled_store.specs.Accounts.{slot_state, machine_of}
 use Rattle.sled_store.proofs.Accounts.AccountLemmas.{updated_account}
 use Rattle.sled_store.proofs.Accounts.ChangeLemmas.{changed_slots, changed_indexes_as}
 use Rattle.sled_store.proofs.Accounts.WithLemmas.{read_state, read_drain, with_machine}
-use Rattle.sled_store.proofs.Accounts.MoveLemmas.{others_waiting, waiting_was, waiting_is, lacks_one, others_fewer}
+use Rattle.sled_store.proofs.Accounts.MoveLemmas.{others_waiting, waiting_was, waiting_is, lacks_one, not_beside_beside, others_fewer}
 use Rattle.sled_store.proofs.segment.accountant.SegmentAccountant.replace_in.Goals as goal
 use Rattle.sled_store.proofs.segment.accountant.SegmentAccountant.replace_in.Goals.{After-forget_waiting, After-note_waiting}
 
@@ -20,7 +21,7 @@ forgot c =
     let was : a.waiting.0 ≡ beside c.waited_place-before.result k (others_waiting xs k) =
     c.requires.account.indexes.waiting_is ∙ waiting_was xs k c.requires.used.within
     ∙ sym (ap (λ (b : Option ℕ). beside b k (others_waiting xs k)) (c.waited_place-before.ensures ∙ ap waited_place (read_state a k c.index_mut-s.result.now c.requires.used.within c.index_mut-s.ensures.value))) in
-    c.forget_waiting.ensures.keys (others_waiting xs k) was (lacks_one xs k c.requires.used.within)
+    c.forget_waiting.ensures.keys ∙ ap (not_beside c.waited_place-before.result k) was ∙ not_beside_beside c.waited_place-before.result k (others_waiting xs k) (lacks_one xs k c.requires.used.within)
 
 pub note_waiting-requires : goal.note_waiting-requires
 note_waiting-requires c =

@@ -1,13 +1,12 @@
 -- The first active segment is deactivated while it is due, and behind one that is not due none is.
-use Rattle.std.proofs.Common.{◌≡◌, ◌∙◌, ◌+◌, ◌<◌, ◌≤◌, ◌^◌, ℕ, ℤ, pos, List, [], Some, true, false, length, sym, ap, subst, arith, unsigned_abs, w64, to_z, of_z}
+use Rattle.std.proofs.Common.{◌≡◌, ◌∙◌, ◌<◌, ◌^◌, ℕ, ℤ, pos, true, false, sym, ap, subst, arith, unsigned_abs, w64, to_z, of_z}
 use Rattle.std.proofs.lemmas.Int.{to_z-of_z}
 use lib.Signed.{lt_z}
 use Rattle.sled_store.specs.Device.{Trace}
-use Rattle.sled_store.specs.Script.{Performs, after_all}
-use Rattle.sled_store.specs.SegmentStates.{Machine, Step, active_among, in_turn, deactivated, stabilized}
-use Rattle.sled_store.specs.Accounts.{IsAccountant, machine_of, size_of}
+use Rattle.sled_store.specs.SegmentStates.{Machine, active_among, deactivated, stabilized}
+use Rattle.sled_store.specs.Accounts.{IsAccountant, machine_of}
 use Rattle.sled_store.proofs.Traces.ScriptLemmas.{performs_whole}
-use Rattle.sled_store.proofs.Accounts.StabilSteps.{IsMade, LeadsTo, leads_itself, made_same, calls_same, turn_on, turn_failed, turns_done}
+use Rattle.sled_store.proofs.Accounts.StabilSteps.{LeadsTo, leads_itself, made_same, calls_same, turn_on, turn_failed, turns_done}
 use Rattle.sled_store.proofs.Accounts.StabilDue.{due_among, due_so, due_not, none_negative, first_there, first_active, first_small, due_first, due_none, fewer_active, due_left, due_nothing}
 use Rattle.sled_store.proofs.segment.accountant.SegmentAccountant.stabilize.Goals as goal
 
@@ -95,13 +94,13 @@ loop-place-preserved g c =
     let same = c.loop-place.invariant.account.size_is in
     let due = due_so size c.loop-place.self.size c.args.self.now.size c.unsigned_abs.result c.in-Some.place c.args.mark same c.requires.account.size_is abs above c.if-place-self.false in
     let list = due_first size c.args.mark c.loop-place.self c.loop-place.invariant.account w c.in-Some.ensures due in
-    let account = subst (λ n. IsAccountant n c.deactivate.new.self) same c.in_ok-deactivate.ensures.account in
+    let account = subst (λ n. IsAccountant n c.deactivate.new.self) same c.in_ok-deactivate.ensures.step.account in
     let left = due_left size c.args.mark c.loop-place.self c.loop-place.invariant.account w c.in-Some.ensures c.deactivate.new.self c.in_ok-deactivate.ensures.active account in
-    let made = made_same (λ n. deactivated n w m) size c.loop-place.self.size (g.D.Device.trace c.loop-place.config.device) (machine_of c.deactivate.new.self) (g.D.Device.trace c.deactivate.new.device) same c.in_ok-deactivate.ensures.done c.in_ok-deactivate.ensures.made in
+    let made = made_same (λ n. deactivated n w m) size c.loop-place.self.size (g.D.Device.trace c.loop-place.config.device) (machine_of c.deactivate.new.self) (g.D.Device.trace c.deactivate.new.device) same c.in_ok-deactivate.ensures.step.done c.in_ok-deactivate.ensures.step.made in
     record {
       account = account;
       leads = leads_at size c.args.mark (to_z w64 (of_z w64 c.args.mark)) (machine_of c.deactivate.new.self) (g.D.Device.trace c.deactivate.new.device) (machine_of c.args.self.now) (g.D.Device.trace c.args.config.now.device) (sym (to_z-of_z w64 c.args.mark c.ranges.mark)) (turn_on (deactivated size) (due_among size c.args.mark (active_among m.slots)) m _ _ _ (leads_at size (to_z w64 (of_z w64 c.args.mark)) c.args.mark m (g.D.Device.trace c.loop-place.config.device) (machine_of c.args.self.now) (g.D.Device.trace c.args.config.now.device) (to_z-of_z w64 c.args.mark c.ranges.mark) c.loop-place.invariant.leads) w _ (due_among size c.args.mark (active_among (machine_of c.deactivate.new.self).slots)) (machine_of c.deactivate.new.self) (g.D.Device.trace c.deactivate.new.device) list made left);
-      faults = c.in_ok-deactivate.ensures.answers ∙ c.loop-place.invariant.faults;
+      faults = c.in_ok-deactivate.ensures.step.answers ∙ c.loop-place.invariant.faults;
       config = c.loop-place.invariant.config;
       checksum = c.loop-place.invariant.checksum;
     }
@@ -118,7 +117,7 @@ returns-in_err-deactivate-clause-calls g c =
     let due = due_so size c.loop-place.self.size c.args.self.now.size c.unsigned_abs.result c.in-Some.place c.args.mark same c.requires.account.size_is abs above c.if-place-self.false in
     let list = due_first size c.args.mark c.loop-place.self c.loop-place.invariant.account w c.in-Some.ensures due in
     turn_failed (deactivated size) (due_among size c.args.mark (active_among m.slots)) m _ _ _ (leads_at size (to_z w64 (of_z w64 c.args.mark)) c.args.mark m (g.D.Device.trace c.loop-place.config.device) (machine_of c.args.self.now) (g.D.Device.trace c.args.config.now.device) (to_z-of_z w64 c.args.mark c.ranges.mark) c.loop-place.invariant.leads) w _ (g.D.Device.trace c.deactivate.new.device) list
-    (calls_same (λ n. deactivated n w m) size c.loop-place.self.size (g.D.Device.trace c.loop-place.config.device) (g.D.Device.trace c.deactivate.new.device) same c.deactivate.ensures.calls)
+    (calls_same (λ n. deactivated n w m) size c.loop-place.self.size (g.D.Device.trace c.loop-place.config.device) (g.D.Device.trace c.deactivate.new.device) same c.deactivate.ensures.step.calls)
 
 pub returns-clause-done : goal.returns-clause-done
 returns-clause-done g c =

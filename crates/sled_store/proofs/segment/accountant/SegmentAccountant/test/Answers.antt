@@ -1,8 +1,8 @@
 -- The slot is drained if it is sparse, and then freed if it is done.
-use Rattle.std.proofs.Common.{◌≡◌, ◌∙◌, ◌<◌, ℕ, Bool, true, false, length, refl, sym, ap, subst, OnOk, arith, length-set, if◌then◌else◌}
-use Rattle.sled_store.specs.Script.{Performs, after_all}
-use Rattle.sled_store.specs.SegmentStates.{Machine, Step, freed_if_done, drained_if_sparse, drained, drained_slot, slot_at, is_sparse}
-use Rattle.sled_store.specs.Accounts.{IsAccountant, machine_of}
+use Rattle.std.proofs.Common.{◌≡◌, ◌∙◌, ℕ, Bool, true, false, length, refl, ap, arith, length-set, if◌then◌else◌}
+use Rattle.sled_store.specs.SegmentStates.{Machine, freed_if_done, drained_if_sparse, drained, drained_slot, slot_at, is_sparse}
+use Rattle.sled_store.specs.Accounts.{machine_of}
+use Rattle.sled_store.proofs.Accounts.StabilSteps.{step_is}
 use Rattle.sled_store.proofs.segment.accountant.SegmentAccountant.test.Goals as goal
 
 done_same : (size n slot : ℕ) (m k : Machine) → n ≡ size → m ≡ k → freed_if_done n slot m ≡ freed_if_done size slot k
@@ -20,20 +20,7 @@ pub free_if_done-requires-clause-slot : goal.free_if_done-requires-clause-slot
 free_if_done-requires-clause-slot g c =
     omega (arith, c.requires.slot, as_many c.args.self.now.size c.args.slot (machine_of c.args.self.now), ap (λ (m : Machine). length m.slots) c.drain_if_sparse.ensures.machine)
 
-pub returns-clause-done : goal.returns-clause-done
-returns-clause-done g c =
-    subst (λ (s : Step). OnOk c.free_if_done.result (machine_of c.free_if_done.new.self ≡ s.machine)) (done_same c.args.self.now.size _ c.args.slot _ _ c.drain_if_sparse.ensures.account.size_is c.drain_if_sparse.ensures.machine)
-    c.free_if_done.ensures.done
-
-pub returns-clause-made : goal.returns-clause-made
-returns-clause-made g c =
-    subst (λ (s : Step). OnOk c.free_if_done.result (g.D.Device.trace c.free_if_done.new.device ≡ after_all s.calls (g.D.Device.trace c.args.device.now)))
-    (done_same c.args.self.now.size _ c.args.slot _ _ c.drain_if_sparse.ensures.account.size_is c.drain_if_sparse.ensures.machine) c.free_if_done.ensures.made
-
-pub returns-clause-calls : goal.returns-clause-calls
-returns-clause-calls g c =
-    subst (λ (s : Step). Performs s.calls (g.D.Device.trace c.args.device.now) (g.D.Device.trace c.free_if_done.new.device))
-    (done_same c.args.self.now.size _ c.args.slot _ _ c.drain_if_sparse.ensures.account.size_is c.drain_if_sparse.ensures.machine) c.free_if_done.ensures.calls
-
-pub returns-clause-account : goal.returns-clause-account
-returns-clause-account g c = subst (λ n. OnOk c.free_if_done.result (IsAccountant n c.free_if_done.new.self)) c.drain_if_sparse.ensures.account.size_is c.free_if_done.ensures.account
+pub returns-clause-step : goal.returns-clause-step
+returns-clause-step g c =
+    let same = c.drain_if_sparse.ensures.account.size_is in
+    step_is same (done_same c.args.self.now.size _ c.args.slot _ _ same c.drain_if_sparse.ensures.machine) c.free_if_done.ensures.step

@@ -4,7 +4,7 @@ use Rattle.std.proofs.lemmas.Int.{to_z-of_z}
 use Rattle.std.proofs.lemmas.List.{take_all}
 use Rattle.sled_store.specs.Blobs.{removing_blobs}
 use Rattle.sled_store.specs.Device.{Trace}
-use Rattle.sled_store.specs.Script.{Performs, after_all}
+use Rattle.sled_store.specs.Script.{after_all}
 use Rattle.sled_store.proofs.Accounts.StabilSteps.{removed_more, removals_begun}
 use Rattle.sled_store.proofs.Traces.ScriptLemmas.{performs_whole}
 use Rattle.sled_store.proofs.segment.accountant.freeing.remove_blobs.Goals as goal
