@@ -35,7 +35,7 @@ use tally::Tally;
 use texts::Text;
 
 // The files under `data/`, one a kind.
-const FILES: [&str; 10] = [
+const FILES: [&str; 11] = [
     "codecs.txt",
     "segment_headers.txt",
     "words.txt",
