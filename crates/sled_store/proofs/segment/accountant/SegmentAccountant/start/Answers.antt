@@ -82,7 +82,7 @@ returns-in-Ok-cut_off-clause-made g c =
     let mid : Trace = g.D.Device.trace c.fill_unused.new.config.device in
     let filled = filled_trace size len c.in_ok-len.len c.in-Ok.check_snapshot.1 s test c.in-Ok.ensures.slots c.in_ok-len.ensures.len c.in-Ok.ensures.used (g.D.Device.trace c.len.new.self) old mid c.len.ensures.trace c.in-Ok-fill_unused.ensures.done in
     cut_trace size len c.in_ok-len.len c.in-Ok.check_snapshot.1 s test c.in-Ok.ensures.slots c.in_ok-len.ensures.len c.in-Ok.ensures.used c.find.new.self.size c.fresh-accountant.result.size (machine_of c.find.new.self) old mid (g.D.Device.trace c.cut_off.new.device)
-    c.in-Ok-find.ensures.account.size_is c.fresh-accountant.ensures.account.size_is c.in-Ok-find.ensures.machine filled c.in-Ok-cut_off.ensures.made
+    c.in-Ok-find.ensures.account.size_is c.fresh-accountant.ensures.account.size_is c.in-Ok-find.ensures.machine filled c.in-Ok-cut_off.ensures.step.made
 
 pub returns-in-Ok-cut_off-clause-calls : goal.returns-in-Ok-cut_off-clause-calls
 returns-in-Ok-cut_off-clause-calls g c = performs_whole _ (g.D.Device.trace c.args.config.now.device) (g.D.Device.trace c.cut_off.new.device) (returns-in-Ok-cut_off-clause-made g c)
@@ -97,4 +97,4 @@ returns-clause-calls g c =
     let mid : Trace = g.D.Device.trace c.fill_unused.new.config.device in
     let filled = filled_trace size len c.in_ok-len.len c.in-Ok.check_snapshot.1 s test c.in-Ok.ensures.slots c.in_ok-len.ensures.len c.in-Ok.ensures.used (g.D.Device.trace c.len.new.self) old mid c.len.ensures.trace c.in-Ok-fill_unused.ensures.done in
     cut_calls size len c.in_ok-len.len c.in-Ok.check_snapshot.1 s test c.in-Ok.ensures.slots c.in_ok-len.ensures.len c.in-Ok.ensures.used c.find.new.self.size c.fresh-accountant.result.size (machine_of c.find.new.self) old mid (g.D.Device.trace c.cut_off.new.device)
-    c.in-Ok-find.ensures.account.size_is c.fresh-accountant.ensures.account.size_is c.in-Ok-find.ensures.machine filled c.cut_off.ensures.calls
+    c.in-Ok-find.ensures.account.size_is c.fresh-accountant.ensures.account.size_is c.in-Ok-find.ensures.machine filled c.cut_off.ensures.step.calls
