@@ -1,3 +1,4 @@
+pub mod Ordering
 pub mod OwnBlobs
 pub mod PageTable
 pub mod PublicLaws

@@ -1,3 +1,4 @@
+pub mod Ordering
 pub mod Orderly
 pub mod OwnPast
 pub mod Plain

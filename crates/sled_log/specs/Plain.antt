@@ -1,28 +1,12 @@
 -- What the plain recovery speaks of, beside what recovery makes of a log file.
-use Rattle.std.specs.Prelude.{◌≡◌, ◌↔◌, Contains, ◌+◌, ◌/◌, ◌%◌, ◌^◌, ◌≤◌, ◌<◌, ℕ, nat_lt, suc, List, [], ◌∷◌, length, Option, Some, None, if◌then◌else◌}
+use Rattle.std.specs.Prelude.{◌≡◌, ◌+◌, ◌/◌, ◌%◌, ◌^◌, ◌≤◌, ◌<◌, ℕ, List, [], ◌∷◌, length, Option, Some, None}
 use Rattle.std.specs.List.{All}
 use Rattle.sled_core.specs.declared.iterator.scan.ScannedRecord.{ScannedRecord}
 use Rattle.sled_core.specs.declared.iterator.Segment.{Segment}
 use Rattle.sled_core.specs.Reading.{IsMalformed}
-use Rattle.sled_core.specs.Scan.{IsFoundSegment, IsMisplaced, IsPath}
+use Rattle.sled_core.specs.Scan.{IsPath}
 use Rattle.sled_log.specs.declared.snapshot.reference.Pass.{Pass}
 use Rattle.sled_log.specs.Recovery.{Scanned, open_at, passed_in, stops_in, scanned_of}
-
--- each begins above the one before it, and the first at this place or above it
-abbrev pub Chain : ℕ → List Segment → Type 0
-Chain from [] = Unit {0}
-Chain from (s ∷ ss) = (from ≤ s.place) × Chain (s.place + 1) ss
-
--- These are the segments of the slots below one, by place. None begins where it can't.
-pub record AreFound (sum : List ℕ → ℕ) (size : ℕ) (log : List ℕ) (least : ℕ) (ss : List Segment) (slot : ℕ) : Type 0 where
-  pub has : (s : Segment) → Contains ss s ↔ (IsFoundSegment sum size log least s × (s.slot < slot))
-  pub chain : Chain 0 ss
-  pub placed : (s : Segment) → Contains ss s → IsMisplaced size s → ⊥
-
--- how many segments at the front begin below a place
-abbrev pub rank : ℕ → List Segment → ℕ
-rank place [] = 0
-rank place (s ∷ ss) = if nat_lt s.place place then suc (rank place ss) else 0
 
 -- A segment can be read: its slot is one of the file, and its ends are places and offsets.
 pub record CanBeRead (size : ℕ) (log : List ℕ) (s : Segment) : Type 0 where

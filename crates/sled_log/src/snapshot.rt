@@ -20,6 +20,7 @@ ghost use Rattle.sled_log.specs.Recovery.{least_place, tail_begins, IsOrdering, 
 ghost use Rattle.sled_log.specs.WritesBack.{result_of};
 
 pub(crate) mod file;
+pub(crate) mod ordering;
 pub(crate) mod page_table;
 pub(crate) mod recovery;
 pub mod reference;

@@ -1,31 +1,31 @@
 //! A plain, slow recovery, for tests. It follows the definition of what recovery makes of a log file
 //! (`specs/Recovery.antt`) step by step, for any number of segments, and has no care for speed.
-ghost use Rattle.std.specs.Prelude.{IfSome, IfNone, List, ℤ, IsTrue, ◌↔◌, ◌≢◌, ◌≡◌, ◌⊎◌, ◌+◌, ◌-◌, ◌^◌, ◌*◌, ◌/◌, ◌%◌, ◌≤◌, ◌<◌, ℕ, map, pos, true, false, Some, [], ◌∷◌, length, None, IfOk, IfErr, OnOk, Contains, Option, MatchOption};
+ghost use Rattle.std.specs.Prelude.{IfSome, IfNone, List, ℤ, IsTrue, ◌↔◌, ◌≡◌, ◌⊎◌, ◌+◌, ◌-◌, ◌^◌, ◌*◌, ◌/◌, ◌%◌, ◌≤◌, ◌<◌, ℕ, map, pos, true, false, Some, [], ◌∷◌, length, None, IfOk, IfErr, OnOk, Contains, Option, MatchOption};
 ghost use Rattle.std.specs.List.{All};
 ghost use Rattle.sled_codec.specs.Errors.{IsCorruption, IsDecodeError};
 ghost use Rattle.sled_codec.specs.Snapshots.{model_of, page_of, stable_place};
 ghost use Rattle.sled_store.specs.Device.{state_of};
 ghost use Rattle.sled_store.specs.Causes.{DeviceAnswers};
 ghost use Rattle.sled_core.specs.Keeps.{OnlyReads};
-ghost use Rattle.sled_core.specs.Scan.{IsFoundSegment, IsMisplaced, IsDamagedIn};
+ghost use Rattle.sled_core.specs.Scan.{IsDamagedIn};
 ghost use Rattle.sled_core.specs.declared.iterator.Segment.{Segment};
 ghost use Rattle.sled_log.specs.Recovery.{Scanned, IsScanned, IsUnordered, IsOrdering, IsTail, IsDamagedTail, AreReplayed, begun_below, IsDamagedPass, tail_begins, tail_end, Recovered, Damaged, RecoveryResult, outcome_of, least_place, scanned_of, given, has_no_table, table_of, ContinuesFrom, Recovers};
 ghost use Rattle.sled_log.specs.WritesBack.{result_of};
-ghost use Rattle.sled_log.specs.Plain.{Chain, AreFound, rank, CanBeRead, IsPass, pass_of, passed_all, stop_of};
+ghost use Rattle.sled_log.specs.Plain.{CanBeRead, IsPass, pass_of, passed_all, stop_of};
 
 mod records;
 
 use crate::snapshot::file::read_newest;
-use crate::snapshot::is_misplaced;
+use crate::snapshot::ordering::find_segments;
 use crate::snapshot::page_table::apply_all;
 use crate::snapshot::recovery::Recovery;
 use crate::snapshot::reference::records::{is_open, scan_up_to};
 use crate::snapshot::replay::{conclude, cut_of};
-use sled_codec::result::{Error, LogOffset, Result};
+use sled_codec::result::{Error, Result};
 use sled_codec::serialization::Checksum;
 use sled_codec::serialization::snapshot::{PageState, Snapshot};
 use sled_core::iterator::scan::{ScanEnd, SegmentScan, scan};
-use sled_core::iterator::{Segment, read_slot, segment_in};
+use sled_core::iterator::{Segment, read_slot};
 use sled_store::{Device, RunningConfig};
 use std::alloc::Global;
 
@@ -93,7 +93,7 @@ fn continue_by_definition<D: Device, C: Checksum>(
 {
     let size = config.config.segment_size;
     let least = first.stable_place() / size * size;
-    match found_segments(config, least) {
+    match find_segments(config, least) {
         Ok(segments) => replay_by_definition(config, &segments, first),
         Err(e) => Err(e),
     }
@@ -154,115 +154,6 @@ fn pass_over<D: Device, C: Checksum>(
         }
         Err(e) => Err(e),
     }
-}
-
-// The segments that are found.
-
-/// The segments that are found in the log file and begin at this place or above it, by place.
-/// `Corruption` comes where they can't be of one log.
-fn found_segments<D: Device, C: Checksum>(
-    config: &mut RunningConfig<D, C>,
-    least: u64,
-) -> Result<Vec<Segment>>
-    ensures ordering { IfOk result (λ v. IsOrdering C.sum_of config.old.config.segment_size (state_of (D.trace config.old.device)).log.bytes least v.items) }
-    ensures small { OnOk result (length (state_of (D.trace config.old.device)).log.bytes + config.old.config.segment_size < 2 ^ 63) }
-    ensures corrupt { IsCorruption result → IsUnordered C.sum_of config.old.config.segment_size (state_of (D.trace config.old.device)).log.bytes least }
-    ensures answers { DeviceAnswers result (D.faults config.old.device) (D.faults config.new.device) }
-    ensures reads { OnlyReads D.trace config.old config.new }
-{
-    let len = config.device.len()?;
-    let size = config.config.segment_size;
-    if len >= (1 << 63) - size {
-        return Err(Error::OutOfMemory);
-    }
-    let mut segments = Vec::new(config.alloc());
-    let mut slot = 0;
-    while slot < len {
-        match look_in(config, slot, least, &mut segments) {
-            Ok(()) => {}
-            Err(e) => return Err(e),
-        }
-        slot += size;
-    }
-    Ok(segments)
-}
-
-/// Puts the segment that is found in a slot among those of the slots before.
-fn look_in<D: Device, C: Checksum>(
-    config: &mut RunningConfig<D, C>,
-    slot: LogOffset,
-    least: u64,
-    segments: &mut Vec<Segment>,
-) -> Result<()>
-    requires slot { slot % config.old.config.segment_size ≡ 0 }
-    requires found { AreFound C.sum_of config.old.config.segment_size (state_of (D.trace config.old.device)).log.bytes least segments.old.items slot }
-    ensures found { OnOk result (AreFound C.sum_of config.old.config.segment_size (state_of (D.trace config.old.device)).log.bytes least segments.new.items
-        (slot + config.old.config.segment_size)) }
-    ensures corrupt { IsCorruption result → IsUnordered C.sum_of config.old.config.segment_size (state_of (D.trace config.old.device)).log.bytes least }
-    ensures answers { DeviceAnswers result (D.faults config.old.device) (D.faults config.new.device) }
-    ensures reads { OnlyReads D.trace config.old config.new }
-{
-    match found_in(config, slot, least) {
-        Ok(Some(segment)) => add(config.config.segment_size, segments, segment),
-        Ok(None) => Ok(()),
-        Err(e) => Err(e),
-    }
-}
-
-/// The segment that is found in a slot.
-fn found_in<D: Device, C: Checksum>(
-    config: &mut RunningConfig<D, C>,
-    slot: LogOffset,
-    least: u64,
-) -> Result<Option<Segment>>
-    requires { slot % config.old.config.segment_size ≡ 0 }
-    ensures some { IfOk result (λ o. IfSome o (λ s. IsFoundSegment C.sum_of config.old.config.segment_size
-        (state_of (D.trace config.old.device)).log.bytes least s × (s.slot ≡ slot))) }
-    ensures none { IfOk result (λ o. IfNone o ((s : Segment) → IsFoundSegment C.sum_of config.old.config.segment_size
-        (state_of (D.trace config.old.device)).log.bytes least s → s.slot ≡ slot → ⊥)) }
-    ensures answers { DeviceAnswers result (D.faults config.old.device) (D.faults config.new.device) }
-    ensures readable { IsCorruption result → ⊥ }
-    ensures reads { OnlyReads D.trace config.old config.new }
-{
-    let buf = read_slot(config, slot)?;
-    Ok(segment_in(&config.checksum, &buf, least))
-}
-
-/// Puts a segment among others, by place. `Corruption` comes where it begins where none can, or where
-/// another one does.
-fn add(size: u64, segments: &mut Vec<Segment>, segment: Segment) -> Result<()>
-    requires size { (0 < size) × (size < 2 ^ 32) }
-    requires chain { Chain 0 segments.old.items }
-    ensures chain { OnOk result (Chain 0 segments.new.items) }
-    ensures has { OnOk result ((s : Segment) → Contains segments.new.items s ↔ ((segment ≡ s) ⊎ Contains segments.old.items s)) }
-    ensures placed { OnOk result (IsMisplaced size segment → ⊥) }
-    ensures corrupt { IsCorruption result → IsMisplaced size segment ⊎ ((t : Segment) × Contains segments.old.items t × (t.place ≡ segment.place)) }
-    ensures errors { IfErr result IsDecodeError }
-{
-    if is_misplaced(size, segment.place) {
-        return Err(Error::Corruption { at: None });
-    }
-    let at = rank(segments, segment.place);
-    if at < segments.len() && segments[at].place == segment.place {
-        return Err(Error::Corruption { at: None });
-    }
-    segments.insert(at, segment)?;
-    Ok(())
-}
-
-/// How many segments at the front begin below a place.
-fn rank(segments: &[Segment], place: u64) -> usize
-    ensures rank { result ≡ rank place segments.now }
-    ensures within { result ≤ length segments.now }
-{
-    let mut count = 0;
-    for segment in segments {
-        if segment.place >= place {
-            return count;
-        }
-        count += 1;
-    }
-    count
 }
 
 // The tail.

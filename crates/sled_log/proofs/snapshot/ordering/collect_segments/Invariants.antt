@@ -1,13 +1,13 @@
 use Rattle.std.proofs.Common.{◌≡◌, ◌+◌, ◌-◌, ◌^◌, ◌%◌, ◌<◌, length}
 use Rattle.sled_store.specs.Device.{state_of}
-use Rattle.sled_log.specs.Plain.{AreFound}
-use Rattle.sled_log.proofs.snapshot.reference.found_segments.Given as goal
+use Rattle.sled_log.specs.Ordering.{AreCollected}
+use Rattle.sled_log.proofs.snapshot.ordering.collect_segments.Given as goal
 
--- the segments of the slots so far were found
+-- the segments of the slots so far were collected
 abbrev pub invariant-loop-slot : goal.invariant-loop-slot
 invariant-loop-slot g l =
     record {
-      found : AreFound g.C.Checksum.sum_of l.fn.config.config.segment_size (state_of (g.D.Device.trace l.fn.config.device)).log.bytes l.fn.least l.segments.items l.slot;
+      collected : AreCollected g.C.Checksum.sum_of l.fn.config.config.segment_size (state_of (g.D.Device.trace l.fn.config.device)).log.bytes l.fn.least l.segments.items l.slot;
       aligned : l.slot % l.fn.config.config.segment_size ≡ 0;
       len : l.len ≡ length (state_of (g.D.Device.trace l.fn.config.device)).log.bytes;
       size : l.size ≡ l.fn.config.config.segment_size;

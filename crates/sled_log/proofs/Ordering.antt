@@ -1,0 +1,2 @@
+pub mod CollectedLemmas
+pub mod SortedSegments
