@@ -229,6 +229,10 @@ fn called(alloc: Global, config: Config, device: MemDevice) -> Outcome<Vec<Text>
             lines.extend(calls.lines)?;
             lines.push(started(alloc, config, &snapshot))?;
         }
+        Err(Error::Corruption { at: _ }) => {
+            lines.push(line_of(alloc, "answer corruption"))?;
+            lines.extend(calls.lines)?;
+        }
         Err(e) => {
             lines.push(line_of_error(alloc, "answer ", &e))?;
             lines.extend(calls.lines)?;
