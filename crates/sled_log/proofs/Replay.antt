@@ -1,3 +1,4 @@
+pub mod BlobLemmas
 pub mod FindLemmas
 pub mod FirstConclusion
 pub mod FirstRecovers

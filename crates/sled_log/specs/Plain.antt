@@ -6,7 +6,7 @@ use Rattle.sled_core.specs.declared.iterator.Segment.{Segment}
 use Rattle.sled_core.specs.Reading.{IsMalformed}
 use Rattle.sled_core.specs.Scan.{IsFoundSegment, IsMisplaced, IsPath}
 use Rattle.sled_log.specs.declared.snapshot.reference.Pass.{Pass}
-use Rattle.sled_log.specs.Recovery.{Scanned, open_at, passed_in, stops_in, scanned_of}
+use Rattle.sled_log.specs.Recovery.{Scanned, open_at, stops_in, scanned_of}
 
 -- each begins above the one before it, and the first at this place or above it
 abbrev pub Chain : ℕ → List Segment → Type 0
@@ -41,11 +41,6 @@ pub record IsPass (size : ℕ) (p : Pass) : Type 0 where
   pub place : p.segment.place + size < 2 ^ 63
   pub stop : p.scan.stop ≤ size
   pub places : All (λ m. m.place < p.segment.place + size) p.scan.met.items
-
--- all that the pass meets in these segments
-abbrev pub passed_all : ℕ → List Scanned → List ScannedRecord
-passed_all end [] = []
-passed_all end (s ∷ ss) = passed_in end s (open_at end s.met) ss
 
 -- where the pass over these segments stops; over none it stays where it is
 abbrev pub stop_of : ℕ → Option (Segment × ℕ) → List Scanned → Option (Segment × ℕ)

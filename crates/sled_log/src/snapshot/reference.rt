@@ -9,9 +9,9 @@ ghost use Rattle.sled_store.specs.Causes.{DeviceAnswers};
 ghost use Rattle.sled_core.specs.Keeps.{OnlyReads};
 ghost use Rattle.sled_core.specs.Scan.{IsFoundSegment, IsMisplaced, IsDamagedIn};
 ghost use Rattle.sled_core.specs.declared.iterator.Segment.{Segment};
-ghost use Rattle.sled_log.specs.Recovery.{Scanned, IsScanned, IsUnordered, IsOrdering, IsTail, IsDamagedTail, AreReplayed, begun_below, IsDamagedPass, tail_begins, tail_end, Recovered, Damaged, RecoveryResult, outcome_of, least_place, scanned_of, given, has_no_table, table_of, ContinuesFrom, Recovers};
+ghost use Rattle.sled_log.specs.Recovery.{passed_all, Scanned, IsScanned, IsUnordered, IsOrdering, IsTail, IsDamagedTail, AreReplayed, begun_below, IsDamagedPass, tail_begins, tail_end, Recovered, Damaged, RecoveryResult, outcome_of, least_place, scanned_of, given, has_no_table, table_of, ContinuesFrom, Recovers};
 ghost use Rattle.sled_log.specs.WritesBack.{result_of};
-ghost use Rattle.sled_log.specs.Plain.{Chain, AreFound, rank, CanBeRead, IsPass, pass_of, passed_all, stop_of};
+ghost use Rattle.sled_log.specs.Plain.{Chain, AreFound, rank, CanBeRead, IsPass, pass_of, stop_of};
 
 mod records;
 
