@@ -94,10 +94,10 @@ module _ (blobs : ℤ → Option (List ℕ)) (end : ℕ) where
 
 -- Blobs that don't pass.
 module _ (sum : List ℕ → ℕ) (blobs : ℤ → Option (List ℕ)) where
-  bad_behind : (x : ScannedRecord) (ms : List ScannedRecord) → MeetsBadBlob sum blobs ms → MeetsBadBlob sum blobs (x ∷ ms)
+  pub bad_behind : (x : ScannedRecord) (ms : List ScannedRecord) → MeetsBadBlob sum blobs ms → MeetsBadBlob sum blobs (x ∷ ms)
   bad_behind x ms bad = (bad.0, (suc bad.1.0, let below = bad.1.1 in omega (arith, below), bad.1.2), bad.2)
 
-  bad_first : (x : ScannedRecord) (ms : List ScannedRecord) → HasBadBlob sum blobs x.what → MeetsBadBlob sum blobs (x ∷ ms)
+  pub bad_first : (x : ScannedRecord) (ms : List ScannedRecord) → HasBadBlob sum blobs x.what → MeetsBadBlob sum blobs (x ∷ ms)
   bad_first x ms bad = (x, (0, omega arith, refl), bad)
 
   -- one of these, or one behind it

@@ -1,64 +1,43 @@
-use Rattle.std.proofs.Common.{rules, ◌≡◌, ◌<◌, ◌^◌, IfOk, OnOk, ℕ, ◌+◌, ◌-◌, ◌*◌, ◌≤◌, length, ◌/◌, ◌%◌, Bool, true, false, nat_eq, nat_lt, List, [], ◌∷◌, ◌++◌, slice_index_or, slice_set, bit_and, bit_or, Fits, w8, w32, w64, Bor, MutBor}
-use Rattle.std.specs.List.{All}
-use Rattle.sled_codec.specs.Errors.{IsCorruption}
-use Rattle.sled_store.specs.Blobs.{ItemAnswers}
-use Rattle.sled_store.specs.Device.{state_of}
-use Rattle.sled_core.specs.Keeps.{OnlyReads}
-use Rattle.sled_log.specs.Recovery.{NamesKind, HasBadBlob, MeetsBadBlob, resolved, resolved_before, before_open}
+use Rattle.std.proofs.Common.{◌≡◌, ◌<◌, ◌∙◌, ◌++◌, ℕ, ℤ, List, Option, length, get_or, false, take, drop, sym, subst, ap, arith}
+use Rattle.std.proofs.lemmas.List.{length-set}
+use Rattle.sled_core.specs.declared.iterator.scan.ScannedRecord.{ScannedRecord}
+use Rattle.sled_store.specs.Device.{Trace, state_of}
+use Rattle.sled_log.specs.Recovery.{NamesKind, HasBadBlob, before_open, opens, resolved, resolved_before}
+use Rattle.sled_log.proofs.Replay.LookLemmas.{no_record, fine_still, all_here, all_on, bad_before_here, bad_on, resolved_on}
 use Rattle.sled_log.proofs.snapshot.blobs.resolve.Goals as goal
 
--- src/snapshot/blobs.rt:36:5
-pub loop-i-init : goal.loop-i-init
-loop-i-init g c = ?
-
--- src/snapshot/blobs.rt:38:13
-pub returns-then-opens-clause-met : goal.returns-then-opens-clause-met
-returns-then-opens-clause-met g c = ?
-
--- src/snapshot/blobs.rt:38:13
-pub returns-then-opens-clause-good : goal.returns-then-opens-clause-good
-returns-then-opens-clause-good g c = ?
-
--- src/snapshot/blobs.rt:38:13
-pub returns-then-opens-clause-answers : goal.returns-then-opens-clause-answers
-returns-then-opens-clause-answers g c = ?
-
--- src/snapshot/blobs.rt:38:13
-pub returns-then-opens-clause-reads : goal.returns-then-opens-clause-reads
-returns-then-opens-clause-reads g c = ?
-
--- src/snapshot/blobs.rt:40:15
 pub with_blob-requires : goal.with_blob-requires
-with_blob-requires g c = ?
+with_blob-requires g c =
+    let lt : c.loop-i.i < length c.loop-i.met = omega (arith, c.loop-i.invariant.long, c.loop-i-test.true) in
+    all_here (λ m. NamesKind m.what) c.loop-i.met c.loop-i.i no_record lt c.loop-i.invariant.kinds
 
--- src/snapshot/blobs.rt:42:23
 pub returns-in-Err-clause-bad : goal.returns-in-Err-clause-bad
-returns-in-Err-clause-bad g c = ?
+returns-in-Err-clause-bad g c = λ corrupt.
+    let sum : List ℕ → ℕ = g.C.Checksum.sum_of in
+    let ms : List ScannedRecord = c.loop-i.met in
+    let i : ℕ = c.loop-i.i in
+    let lt : i < length ms = omega (arith, c.loop-i.invariant.long, c.loop-i-test.true) in
+    let bad = subst (λ (t : Trace). HasBadBlob sum (state_of t).blobs.file (get_or ms i no_record).what) c.loop-i.invariant.trace (c.in-Err.ensures.bad corrupt) in
+    c.loop-i.invariant.bad.0 (bad_before_here sum (state_of (g.D.Device.trace c.args.config.now.device)).blobs.file c.args.end ms i no_record lt (sym c.opens.ensures ∙ c.if-opens.false) bad)
 
--- src/snapshot/blobs.rt:42:23
-pub returns-in-Err-clause-answers : goal.returns-in-Err-clause-answers
-returns-in-Err-clause-answers g c = ?
-
--- src/snapshot/blobs.rt:42:23
-pub returns-in-Err-clause-reads : goal.returns-in-Err-clause-reads
-returns-in-Err-clause-reads g c = ?
-
--- src/snapshot/blobs.rt:36:5
 pub loop-i-preserved : goal.loop-i-preserved
-loop-i-preserved g c = ?
-
--- src/snapshot/blobs.rt:20:1
-pub returns-clause-met : goal.returns-clause-met
-returns-clause-met g c = ?
-
--- src/snapshot/blobs.rt:20:1
-pub returns-clause-good : goal.returns-clause-good
-returns-clause-good g c = ?
-
--- src/snapshot/blobs.rt:20:1
-pub returns-clause-answers : goal.returns-clause-answers
-returns-clause-answers g c = ?
-
--- src/snapshot/blobs.rt:20:1
-pub returns-clause-reads : goal.returns-clause-reads
-returns-clause-reads g c = ?
+loop-i-preserved g c =
+    let sum : List ℕ → ℕ = g.C.Checksum.sum_of in
+    let blobs : ℤ → Option (List ℕ) = (state_of (g.D.Device.trace c.args.config.now.device)).blobs.file in
+    let ms : List ScannedRecord = c.loop-i.met in
+    let i : ℕ = c.loop-i.i in
+    let lt : i < length ms = omega (arith, c.loop-i.invariant.long, c.loop-i-test.true) in
+    let shut : opens c.args.end (get_or ms i no_record).what ≡ false = sym c.opens.ensures ∙ c.if-opens.false in
+    let fine = fine_still sum (g.D.Device.trace c.loop-i.config.device) (g.D.Device.trace c.args.config.now.device) (get_or ms i no_record).what c.loop-i.invariant.trace c.in-Ok.ensures.good in
+    let is = c.in-Ok.ensures.met ∙ ap (λ (t : Trace). resolved (state_of t).blobs.file (get_or ms i no_record)) c.loop-i.invariant.trace in
+    record {
+      met = resolved_on sum blobs c.args.end ms i no_record lt shut c.in-Ok.found is ∙ c.loop-i.invariant.met;
+      bad = bad_on sum blobs c.args.end ms i no_record lt shut c.in-Ok.found (before_open c.args.end c.args.met.now) fine c.loop-i.invariant.bad;
+      kinds = all_on (λ m. NamesKind m.what) ms i no_record c.in-Ok.found lt c.loop-i.invariant.kinds;
+      long = length-set ms i c.in-Ok.found ∙ c.loop-i.invariant.long;
+      end = c.requires.end;
+      trace = c.in-Ok.ensures.reads.unwritten ∙ c.loop-i.invariant.trace;
+      faults = c.in-Ok.ensures.answers ∙ c.loop-i.invariant.faults;
+      config = c.in-Ok.ensures.reads.config ∙ c.loop-i.invariant.config;
+      checksum = c.in-Ok.ensures.reads.checksum ∙ c.loop-i.invariant.checksum;
+    }
