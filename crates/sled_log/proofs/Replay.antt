@@ -1,4 +1,5 @@
 pub mod BlobLemmas
+pub mod CauseLemmas
 pub mod FindLemmas
 pub mod FirstConclusion
 pub mod FirstRecovers
