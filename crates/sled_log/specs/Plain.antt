@@ -1,12 +1,12 @@
 -- What the plain recovery speaks of, beside what recovery makes of a log file.
-use Rattle.std.specs.Prelude.{◌≡◌, ◌↔◌, Contains, ◌+◌, ◌/◌, ◌%◌, ◌^◌, ◌≤◌, ◌<◌, ℕ, nat_lt, suc, List, [], ◌∷◌, length, Option, Some, None, if◌then◌else◌}
+use Rattle.std.specs.Prelude.{◌≡◌, ◌↔◌, ◌⊎◌, ℤ, Contains, ◌+◌, ◌/◌, ◌%◌, ◌^◌, ◌≤◌, ◌<◌, ℕ, nat_lt, suc, List, [], ◌∷◌, length, Option, Some, None, if◌then◌else◌}
 use Rattle.std.specs.List.{All}
 use Rattle.sled_core.specs.declared.iterator.scan.ScannedRecord.{ScannedRecord}
 use Rattle.sled_core.specs.declared.iterator.Segment.{Segment}
 use Rattle.sled_core.specs.Reading.{IsMalformed}
 use Rattle.sled_core.specs.Scan.{IsFoundSegment, IsMisplaced, IsPath}
 use Rattle.sled_log.specs.declared.snapshot.reference.Pass.{Pass}
-use Rattle.sled_log.specs.Recovery.{Scanned, open_at, stops_in, scanned_of}
+use Rattle.sled_log.specs.Recovery.{Scanned, open_at, stops_in, scanned_of, StopsOrGoesOn, before_open, MeetsBadBlob}
 
 -- each begins above the one before it, and the first at this place or above it
 abbrev pub Chain : ℕ → List Segment → Type 0
@@ -55,3 +55,13 @@ pub record IsDamagedBefore (sum : List ℕ → ℕ) (size : ℕ) (log : List ℕ
   pub not_open : open_at end met ≡ None
   pub room : next + 32 ≤ size
   pub damaged : IsMalformed sum size log (segment.slot + next) (segment.place / size)
+
+-- behind one with a batch that is open is none
+abbrev pub OpensLast : ℕ → List Scanned → Type 0
+OpensLast end [] = Unit {0}
+OpensLast end (s ∷ ss) = StopsOrGoesOn (open_at end s.met) ss (OpensLast end ss)
+
+-- a blob that doesn't pass for its record is met in one of these, before a batch that is open
+abbrev pub MeetsBadPass : (List ℕ → ℕ) → (ℤ → Option (List ℕ)) → ℕ → List Scanned → Type 0
+MeetsBadPass sum blobs end [] = ⊥
+MeetsBadPass sum blobs end (s ∷ ss) = MeetsBadBlob sum blobs (before_open end s.met) ⊎ MeetsBadPass sum blobs end ss

@@ -138,7 +138,7 @@ module _ (sum : List ℕ → ℕ) (size : ℕ) (log : List ℕ) (slot place : �
   scan_kinds ms stop why scan = path_kinds 20 ms stop scan.0
 
 -- A vector after its slice was written to.
-written : (n : ℕ) (ns rest : List ScannedRecord) → length ns ≡ n → take n (ns ++ rest) ≡ ns
+pub written : {X : Type 0} (n : ℕ) (ns rest : List X) → length ns ≡ n → take n (ns ++ rest) ≡ ns
 written n ns rest is = ap (λ k. take k (ns ++ rest)) (sym is) ∙ take-append_seam ns rest
 
 -- it has its records with their blobs
