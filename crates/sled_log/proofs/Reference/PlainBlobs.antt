@@ -1,6 +1,6 @@
 -- The blobs of what the plain pass meets, segment by segment.
 use Rattle.std.proofs.Common.{◌≡◌, ◌↔◌, ◌⊎◌, ◌∙◌, ◌+◌, ◌<◌, ◌≤◌, ◌^◌, ℕ, ℤ, suc, List, [], ◌∷◌, ◌++◌, length, map, set, get_or, take, drop, append_assoc, append-nil, Option, Some, None, refl, sym, ap, subst, arith, inl, inr}
-use Rattle.std.specs.List.{All, Contains}
+use Rattle.std.specs.List.{All}
 use Rattle.std.proofs.lemmas.List.{drop_more, take_more_set, drop-set-lt, map-append}
 use Rattle.std.proofs.lemmas.List.Elements.{All-cons, All-head, All-nil, All-tail}
 use Rattle.sled_core.specs.declared.iterator.scan.ScannedRecord.{ScannedRecord}
@@ -31,13 +31,13 @@ module _ (sum : List ℕ → ℕ) (size : ℕ) (log : List ℕ) (end : ℕ) wher
   pass_kinds [] (p ∷ ps) are = absurd are
   pass_kinds (s ∷ ss) (p ∷ ps) are =
       All-cons HasKinds p ps (path_kinds sum size log p.segment.slot p.segment.place 20 p.scan.met.items p.scan.stop are.1.0) (by (open_at end p.scan.met.items) are.2 (pass_kinds ss ps)) where
-    none : (qs : List Pass) → map pass_of qs ≡ [] → All HasKinds qs
-    none [] is = All-nil HasKinds
-    none (q ∷ qs) is = absurd (cc)
+        none : (qs : List Pass) → map pass_of qs ≡ [] → All HasKinds qs
+        none [] is = All-nil HasKinds
+        none (q ∷ qs) is = absurd (cc)
 
-    by : (o : Option ℕ) → StopsOrGoesOn o (map pass_of ps) (AreReplayed sum size log end ss (map pass_of ps)) → (AreReplayed sum size log end ss (map pass_of ps) → All HasKinds ps) → All HasKinds ps
-    by (Some place) on others = none ps on
-    by None on others = others on
+        by : (o : Option ℕ) → StopsOrGoesOn o (map pass_of ps) (AreReplayed sum size log end ss (map pass_of ps)) → (AreReplayed sum size log end ss (map pass_of ps) → All HasKinds ps) → All HasKinds ps
+        by (Some place) on others = none ps on
+        by None on others = others on
 
 -- What is bad in these segments is bad in all that the pass meets.
 module _ (sum : List ℕ → ℕ) (blobs : ℤ → Option (List ℕ)) where

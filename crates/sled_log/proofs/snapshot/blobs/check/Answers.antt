@@ -1,4 +1,4 @@
-use Rattle.std.proofs.Common.{◌≡◌, ◌∙◌, ℕ, ℤ, List, Option, get_or}
+use Rattle.std.proofs.Common.{◌∙◌, ℕ, ℤ, List, Option, get_or}
 use Rattle.sled_core.specs.declared.iterator.scan.ScannedRecord.{ScannedRecord}
 use Rattle.sled_store.specs.Device.{state_of}
 use Rattle.sled_log.proofs.Replay.LookLemmas.{no_record, fine_still, bad_more, bad_rest}

@@ -1,8 +1,8 @@
-use Rattle.std.proofs.Common.{◌≡◌, ◌<◌, ◌∙◌, ◌++◌, ℕ, ℤ, List, Option, length, get_or, false, take, drop, sym, subst, ap, arith}
+use Rattle.std.proofs.Common.{◌≡◌, ◌<◌, ◌∙◌, ℕ, ℤ, List, Option, length, get_or, false, sym, subst, ap, arith}
 use Rattle.std.proofs.lemmas.List.{length-set}
 use Rattle.sled_core.specs.declared.iterator.scan.ScannedRecord.{ScannedRecord}
 use Rattle.sled_store.specs.Device.{Trace, state_of}
-use Rattle.sled_log.specs.Recovery.{NamesKind, HasBadBlob, before_open, opens, resolved, resolved_before}
+use Rattle.sled_log.specs.Recovery.{NamesKind, HasBadBlob, before_open, opens, resolved}
 use Rattle.sled_log.proofs.Replay.LookLemmas.{no_record, fine_still, all_here, all_on, bad_before_here, bad_on, resolved_on}
 use Rattle.sled_log.proofs.snapshot.blobs.resolve.Goals as goal
 

@@ -1,7 +1,6 @@
 use Rattle.std.proofs.Common.{ℕ, List, map, refl, inl, inr}
-use Rattle.sled_codec.specs.Snapshots.{SnapshotModel, model_of}
+use Rattle.sled_codec.specs.Snapshots.{model_of}
 use Rattle.sled_core.proofs.Read.ReadingLemmas.{if_ok}
-use Rattle.sled_core.specs.declared.iterator.Segment.{Segment}
 use Rattle.sled_store.specs.declared.config.Config.{Config}
 use Rattle.sled_store.specs.Device.{Trace, state_of}
 use Rattle.sled_log.specs.declared.snapshot.reference.Pass.{Pass}

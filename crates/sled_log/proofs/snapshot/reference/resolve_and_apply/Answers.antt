@@ -1,11 +1,11 @@
-use Rattle.std.proofs.Common.{◌≡◌, ◌∙◌, ◌⊎◌, ℕ, ℤ, List, Option, length, map, drop, refl, sym, ap, subst, inl, inr}
+use Rattle.std.proofs.Common.{◌≡◌, ◌∙◌, ℕ, ℤ, List, Option, length, map, drop, refl, sym, ap, subst, inl, inr}
 use Rattle.std.specs.List.{All}
 use Rattle.sled_codec.specs.Snapshots.{SnapshotModel, model_of}
 use Rattle.sled_core.proofs.Read.ReadingLemmas.{if_ok}
 use Rattle.sled_store.specs.declared.config.Config.{Config}
 use Rattle.sled_store.specs.Device.{state_of}
 use Rattle.sled_log.specs.declared.snapshot.reference.Pass.{Pass}
-use Rattle.sled_log.specs.Recovery.{Scanned, Outcome, Recovered, Damaged, PassesOver, MeetsBadBlob, outcome_of, passed_all, resolved_scan}
+use Rattle.sled_log.specs.Recovery.{Scanned, Outcome, Recovered, Damaged, PassesOver, outcome_of, resolved_scan}
 use Rattle.sled_log.specs.Plain.{IsPass, MeetsBadPass, OpensLast, pass_of}
 use Rattle.sled_log.specs.WritesBack.{result_of}
 use Rattle.sled_log.proofs.Reference.PlainBlobs.{bad_of_all, bad_to_all, passes_fit}
@@ -25,7 +25,7 @@ passes_over : (sum : List ℕ → ℕ) (blobs : ℤ → Option (List ℕ)) (end 
 passes_over sum blobs end first o old new ps now after same_config same last is good comes = inr (
   λ bad. good (subst (λ (l : List Pass). MeetsBadPass sum blobs end (map pass_of l)) (sym same) (bad_of_all sum blobs end (map pass_of ps) last bad)),
   sym (subst (λ (c : Config). outcome_of c.segment_size first end (map (resolved_scan blobs end) (map pass_of ps)) ≡ o) same_config
-  (subst (λ (l : List Scanned). outcome_of new.segment_size first end l ≡ o) is comes)),
+      (subst (λ (l : List Scanned). outcome_of new.segment_size first end l ≡ o) is comes)),
 )
 
 pub outcome_of-requires-clause-fits : goal.outcome_of-requires-clause-fits
