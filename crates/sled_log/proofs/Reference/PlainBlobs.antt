@@ -41,16 +41,16 @@ module _ (sum : List ℕ → ℕ) (size : ℕ) (log : List ℕ) (end : ℕ) wher
 
 -- What is bad in these segments is bad in all that the pass meets.
 module _ (sum : List ℕ → ℕ) (blobs : ℤ → Option (List ℕ)) where
-  bad_left : (xs ys : List ScannedRecord) → MeetsBadBlob sum blobs xs → MeetsBadBlob sum blobs (xs ++ ys)
-  bad_left [] ys bad = absurd (in_nothing bad.0 bad.1)
-  bad_left (x ∷ xs) ys bad = elim (bad_cases sum blobs x xs bad) [
+  bad_front : (xs ys : List ScannedRecord) → MeetsBadBlob sum blobs xs → MeetsBadBlob sum blobs (xs ++ ys)
+  bad_front [] ys bad = absurd (in_nothing bad.0 bad.1)
+  bad_front (x ∷ xs) ys bad = elim (bad_cases sum blobs x xs bad) [
     | inl here ↦ bad_first sum blobs x (xs ++ ys) here
-    | inr later ↦ bad_behind sum blobs x (xs ++ ys) (bad_left xs ys later)
+    | inr later ↦ bad_behind sum blobs x (xs ++ ys) (bad_front xs ys later)
   ]
 
-  bad_right : (xs ys : List ScannedRecord) → MeetsBadBlob sum blobs ys → MeetsBadBlob sum blobs (xs ++ ys)
-  bad_right [] ys bad = bad
-  bad_right (x ∷ xs) ys bad = bad_behind sum blobs x (xs ++ ys) (bad_right xs ys bad)
+  bad_back : (xs ys : List ScannedRecord) → MeetsBadBlob sum blobs ys → MeetsBadBlob sum blobs (xs ++ ys)
+  bad_back [] ys bad = bad
+  bad_back (x ∷ xs) ys bad = bad_behind sum blobs x (xs ++ ys) (bad_back xs ys bad)
 
   bad_in_two : (xs ys : List ScannedRecord) → MeetsBadBlob sum blobs (xs ++ ys) → MeetsBadBlob sum blobs xs ⊎ MeetsBadBlob sum blobs ys
   bad_in_two [] ys bad = inr bad
@@ -78,8 +78,8 @@ module _ (sum : List ℕ → ℕ) (blobs : ℤ → Option (List ℕ)) where
       by (Some p) is on (inl here) others = here
       by (Some p) is on (inr later) others = absurd (none_last ss on later)
       by None is on (inl here) others =
-          subst (MeetsBadBlob sum blobs) (sym (passed_none s ss)) (bad_left s.met (passed_all end ss) (subst (MeetsBadBlob sum blobs) (all_before_open end s.met is) here))
-      by None is on (inr later) others = subst (MeetsBadBlob sum blobs) (sym (passed_none s ss)) (bad_right s.met (passed_all end ss) (others on later))
+          subst (MeetsBadBlob sum blobs) (sym (passed_none s ss)) (bad_front s.met (passed_all end ss) (subst (MeetsBadBlob sum blobs) (all_before_open end s.met is) here))
+      by None is on (inr later) others = subst (MeetsBadBlob sum blobs) (sym (passed_none s ss)) (bad_back s.met (passed_all end ss) (others on later))
 
     pub bad_of_all : (ss : List Scanned) → OpensLast end ss → MeetsBadBlob sum blobs (passed_all end ss) → MeetsBadPass sum blobs end ss
     bad_of_all [] last bad = absurd (in_nothing bad.0 bad.1)

@@ -1,6 +1,5 @@
 -- An opening goes on from what the recovery gave.
 use Rattle.std.proofs.Common.{◌≡◌, ◌<◌, ℕ, refl, sym, ap, subst, arith, None}
-use Rattle.std.specs.Prelude.{Err}
 use Rattle.sled_codec.specs.declared.serialization.snapshot.Snapshot.{Snapshot}
 use Rattle.sled_codec.specs.History.{below}
 use Rattle.sled_codec.specs.Snapshots.{SnapshotModel, model_of, stable_place}
@@ -16,7 +15,6 @@ use Rattle.sled_log.specs.RunPhases.{IsClosedAt, IsRecoveredAt, Unstored, SaysWh
 use Rattle.sled_log.proofs.Sessions.RunHistories.{orderly, forgotten, has_of_table}
 use Rattle.sled_log.proofs.Sessions.RunLemmas.{later_recovered, runs_on_both, cause_of, open_turn, open_acts, open_step}
 use Rattle.sled_log.proofs.Sessions.RunLogs.{good_moves}
-use Rattle.sled_log.proofs.Replay.CauseLemmas.{meets_no_damage}
 use Rattle.sled_log.proofs.Replay.ShownLemmas.{shows_active}
 use Rattle.sled_log.proofs.session.step.open.Goals as goal
 
@@ -90,7 +88,7 @@ returns-in-Err-clause-step g c = λ k at.
           let whole = c.in-Err.ensures.undamaged k.history k.acknowledged k.floor can in
           let sizes : c.read_snapshot_or_default.new.config.config.segment_size ≡ size = ap (λ (x : Config). x.segment_size) c.read_snapshot_or_default.ensures.config.config in (
             k,
-            (cause_of Snapshot c.in-Err.e _ _ (meets_no_damage sum (state_of old).blobs.file Snapshot (Err c.in-Err.e) _ _ c.in-Err.ensures.answers whole) whole, refl),
+            (cause_of Snapshot sum (state_of old).blobs.file c.in-Err.e _ _ c.in-Err.ensures.answers whole, refl),
             record {
               formed = at.formed;
               left = subst (λ n. LeavesRecoverable sum n k.history k.acknowledged k.floor (state_of new)) (sym sizes)
