@@ -1,3 +1,4 @@
+pub mod PlainBlobs
 pub mod PlainFound
 pub mod PlainPasses
 pub mod PlainRecords

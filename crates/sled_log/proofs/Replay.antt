@@ -1,3 +1,4 @@
+pub mod BlobLemmas
 pub mod FindLemmas
 pub mod FirstConclusion
 pub mod FirstRecovers
@@ -6,6 +7,7 @@ pub mod FirstUndamaged
 pub mod GoodLemmas
 pub mod KeptRecovers
 pub mod LineLemmas
+pub mod LookLemmas
 pub mod OneSegment
 pub mod OnlySegment
 pub mod PassedLemmas

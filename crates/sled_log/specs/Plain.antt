@@ -1,12 +1,12 @@
 -- What the plain recovery speaks of, beside what recovery makes of a log file.
-use Rattle.std.specs.Prelude.{◌≡◌, ◌+◌, ◌/◌, ◌%◌, ◌^◌, ◌≤◌, ◌<◌, ℕ, List, [], ◌∷◌, length, Option, Some, None}
+use Rattle.std.specs.Prelude.{◌≡◌, ◌⊎◌, ℤ, ◌+◌, ◌/◌, ◌%◌, ◌^◌, ◌≤◌, ◌<◌, ℕ, List, [], ◌∷◌, length, Option, Some, None}
 use Rattle.std.specs.List.{All}
 use Rattle.sled_core.specs.declared.iterator.scan.ScannedRecord.{ScannedRecord}
 use Rattle.sled_core.specs.declared.iterator.Segment.{Segment}
 use Rattle.sled_core.specs.Reading.{IsMalformed}
 use Rattle.sled_core.specs.Scan.{IsPath}
 use Rattle.sled_log.specs.declared.snapshot.reference.Pass.{Pass}
-use Rattle.sled_log.specs.Recovery.{Scanned, open_at, passed_in, stops_in, scanned_of}
+use Rattle.sled_log.specs.Recovery.{Scanned, open_at, stops_in, scanned_of, StopsOrGoesOn, before_open, MeetsBadBlob}
 
 -- A segment can be read: its slot is one of the file, and its ends are places and offsets.
 pub record CanBeRead (size : ℕ) (log : List ℕ) (s : Segment) : Type 0 where
@@ -26,11 +26,6 @@ pub record IsPass (size : ℕ) (p : Pass) : Type 0 where
   pub stop : p.scan.stop ≤ size
   pub places : All (λ m. m.place < p.segment.place + size) p.scan.met.items
 
--- all that the pass meets in these segments
-abbrev pub passed_all : ℕ → List Scanned → List ScannedRecord
-passed_all end [] = []
-passed_all end (s ∷ ss) = passed_in end s (open_at end s.met) ss
-
 -- where the pass over these segments stops; over none it stays where it is
 abbrev pub stop_of : ℕ → Option (Segment × ℕ) → List Scanned → Option (Segment × ℕ)
 stop_of end last [] = last
@@ -44,3 +39,13 @@ pub record IsDamagedBefore (sum : List ℕ → ℕ) (size : ℕ) (log : List ℕ
   pub not_open : open_at end met ≡ None
   pub room : next + 32 ≤ size
   pub damaged : IsMalformed sum size log (segment.slot + next) (segment.place / size)
+
+-- behind one with a batch that is open is none
+abbrev pub OpensLast : ℕ → List Scanned → Type 0
+OpensLast end [] = Unit {0}
+OpensLast end (s ∷ ss) = StopsOrGoesOn (open_at end s.met) ss (OpensLast end ss)
+
+-- a blob that doesn't pass for its record is met in one of these, before a batch that is open
+abbrev pub MeetsBadPass : (List ℕ → ℕ) → (ℤ → Option (List ℕ)) → ℕ → List Scanned → Type 0
+MeetsBadPass sum blobs end [] = ⊥
+MeetsBadPass sum blobs end (s ∷ ss) = MeetsBadBlob sum blobs (before_open end s.met) ⊎ MeetsBadPass sum blobs end ss

@@ -1,11 +1,16 @@
 -- What recovery makes of a content: which snapshot it begins from, which segments it finds, where the tail of the log ends,
 -- which messages it applies, and the cut. Stated for any number of segments and for all kinds of messages.
-use Rattle.std.specs.Prelude.{◌≡◌, ◌⊎◌, ◌+◌, ◌-◌, ◌/◌, ◌%◌, ◌^◌, ◌≤◌, ℕ, ℤ, pos, nat_lt, int_lt, Bool, true, false, ◌&&◌, ◌||◌, not, ◌==◌, if◌then◌else◌, List, [], ◌∷◌, ◌++◌, length, set, get_or, replicate, Option, Some, None, IfNone, Contains}
+use Rattle.std.specs.Prelude.{◌≡◌, ◌≢◌, ◌⊎◌, ◌+◌, ◌-◌, ◌/◌, ◌%◌, ◌^◌, ◌≤◌, ℕ, ℤ, pos, nat_lt, int_lt, Bool, true, false, ◌&&◌, ◌||◌, not, ◌==◌, if◌then◌else◌, List, [], ◌∷◌, ◌++◌, length, set, get_or, replicate, Option, Some, None, IfNone, is_some, map, Contains}
 use Rattle.sled_codec.specs.declared.serialization.message.LogKind.{LogKind}
 use Rattle.sled_codec.specs.declared.serialization.message.LogKind.TheVariants as does
+use Rattle.sled_codec.specs.declared.serialization.message.MessageKind.TheVariants.{Corrupted}
+use Rattle.sled_codec.specs.declared.result.DiskPtr.TheVariants.{Blob}
+use Rattle.sled_codec.specs.Kinds.{log_kind_of}
 use Rattle.sled_codec.specs.History.{Message}
 use Rattle.sled_codec.specs.PageTables.{entry_of}
 use Rattle.sled_codec.specs.Snapshots.{Entry, Page, Present, Free, Uninitialized, SnapshotModel, stable_place}
+use Rattle.sled_store.specs.Blobs.{IsDamagedFor}
+use Rattle.sled_store.specs.Device.{Content}
 use Rattle.sled_store.specs.SnapshotFiles.{BeginsFrom, IsDamagedSnapshot}
 use Rattle.sled_core.specs.declared.iterator.scan.ScannedRecord.{ScannedRecord}
 use Rattle.sled_core.specs.declared.iterator.scan.RecordContent.{RecordContent}
@@ -34,6 +39,45 @@ AreReplayed sum size log end [] [] = Unit {0}
 AreReplayed sum size log end [] (x ∷ xs) = ⊥
 AreReplayed sum size log end (s ∷ ss) [] = ⊥
 AreReplayed sum size log end (s ∷ ss) (x ∷ xs) = (x.segment ≡ s) × IsReplayed sum size log end x × StopsOrGoesOn (open_at end x.met) xs (AreReplayed sum size log end ss xs)
+
+-- Blobs.
+
+-- a record that names a blob is of a kind that is known
+abbrev pub NamesKind : RecordContent → Type 0
+NamesKind (Gives kind page pointer) = Unit {0}
+NamesKind (NamesBlob kind page lid place) = kind ≢ Corrupted
+NamesKind Skipped = Unit {0}
+NamesKind (BatchStart peg) = Unit {0}
+
+-- the blob that a record names is there and doesn't pass for it
+abbrev pub HasBadBlob : (List ℕ → ℕ) → (ℤ → Option (List ℕ)) → RecordContent → Type 0
+HasBadBlob sum blobs (Gives kind page pointer) = ⊥
+HasBadBlob sum blobs (NamesBlob kind page lid place) = IsDamagedFor sum kind (blobs place)
+HasBadBlob sum blobs Skipped = ⊥
+HasBadBlob sum blobs (BatchStart peg) = ⊥
+
+-- one of these names such a blob
+abbrev pub MeetsBadBlob : (List ℕ → ℕ) → (ℤ → Option (List ℕ)) → List ScannedRecord → Type 0
+MeetsBadBlob sum blobs ms = (m : ScannedRecord) × Contains ms m × HasBadBlob sum blobs m.what
+
+-- A record that names a blob is a message where the blob is there, and else was given up.
+abbrev pub with_blob : (ℤ → Option (List ℕ)) → RecordContent → RecordContent
+with_blob blobs (Gives kind page pointer) = Gives kind page pointer
+with_blob blobs (NamesBlob kind page lid place) = if is_some (blobs place) then Gives (log_kind_of kind) page (Blob lid place) else Skipped
+with_blob blobs Skipped = Skipped
+with_blob blobs (BatchStart peg) = BatchStart peg
+
+abbrev pub resolved : (ℤ → Option (List ℕ)) → ScannedRecord → ScannedRecord
+resolved blobs m = record { place = m.place; len = m.len; what = with_blob blobs m.what }
+
+-- what is met, with the blobs of all that is met before a batch that is open
+abbrev pub resolved_before : (ℤ → Option (List ℕ)) → ℕ → List ScannedRecord → List ScannedRecord
+resolved_before blobs end [] = []
+resolved_before blobs end (m ∷ ms) = if opens end m.what then m ∷ ms else resolved blobs m ∷ resolved_before blobs end ms
+
+-- a segment, with these blobs
+abbrev pub resolved_scan : (ℤ → Option (List ℕ)) → ℕ → Scanned → Scanned
+resolved_scan blobs end s = record { segment = s.segment; met = resolved_before blobs end s.met; stop = s.stop; why = s.why }
 
 -- A message that is applied: what it does, to which page, and its entry.
 pub record Applied : Type 0 where
@@ -112,6 +156,11 @@ passed_in end s (Some place) rest = before_open end s.met
 passed_in end s None [] = s.met
 passed_in end s None (t ∷ ts) = s.met ++ passed_in end t (open_at end t.met) ts
 
+-- all that the pass meets in these segments
+abbrev pub passed_all : ℕ → List Scanned → List ScannedRecord
+passed_all end [] = []
+passed_all end (s ∷ ss) = passed_in end s (open_at end s.met) ss
+
 -- What recovery concludes: the table, and what is left to be written.
 pub record RecoveryResult : Type 0 where
   pub model : SnapshotModel
@@ -156,15 +205,19 @@ outcome_of size first end (s ∷ ss) = concluded size first (given (stable_place
 
 -- The whole.
 
--- A damaged record is met where the tail is read.
-pub record IsDamagedTail (sum : List ℕ → ℕ) (size : ℕ) (log : List ℕ) (ordering : List Segment) (place : ℕ) : Type 0 where
+-- a record is met in a segment whose blob doesn't pass for it
+abbrev pub MeetsBadBlobIn : (List ℕ → ℕ) → ℕ → List ℕ → (ℤ → Option (List ℕ)) → Segment → Type 0
+MeetsBadBlobIn sum size log blobs segment = (s : Scanned) × (s.segment ≡ segment) × IsScanned sum size log s × MeetsBadBlob sum blobs s.met
+
+-- A damaged record, or one whose blob doesn't pass for it, is met where the tail is read.
+pub record IsDamagedTail (sum : List ℕ → ℕ) (size : ℕ) (log : List ℕ) (blobs : ℤ → Option (List ℕ)) (ordering : List Segment) (place : ℕ) : Type 0 where
   pub before : List Scanned
   pub next : ℕ
   pub part : IsTailPart sum size log ordering place before next
   pub segment : Segment
   pub there : Contains ordering segment
   pub at : segment.place ≡ next
-  pub damaged : IsDamagedIn sum size log segment.slot segment.place
+  pub damaged : IsDamagedIn sum size log segment.slot segment.place ⊎ MeetsBadBlobIn sum size log blobs segment
 
 -- none of these has a batch that does not end below this place
 abbrev pub AreClosed : ℕ → List Scanned → Type 0
@@ -187,31 +240,41 @@ pub record IsDamagedPass (sum : List ℕ → ℕ) (size : ℕ) (log : List ℕ) 
   pub room : next + 32 ≤ size
   pub damaged : IsMalformed sum size log (segment.slot + next) (segment.place / size)
 
+-- what comes of the segments that the pass reads, with their blobs
+abbrev pub PassesOver : (List ℕ → ℕ) → ℕ → (ℤ → Option (List ℕ)) → SnapshotModel → ℕ → List Scanned → Outcome → Type 0
+PassesOver sum size blobs first end passes o =
+    ((o ≡ Damaged) × MeetsBadBlob sum blobs (passed_all end passes))
+    ⊎ ((MeetsBadBlob sum blobs (passed_all end passes) → ⊥) × (o ≡ outcome_of size first end (map (resolved_scan blobs end) passes)))
+
 -- what comes of a tail that ends there
-abbrev pub Passes : (List ℕ → ℕ) → ℕ → List ℕ → SnapshotModel → List Segment → Option ℕ → Outcome → Type 0
-Passes sum size log first ordering None o = o ≡ Recovered (unchanged first)
-Passes sum size log first ordering (Some end) o =
+abbrev pub Passes : (List ℕ → ℕ) → ℕ → List ℕ → (ℤ → Option (List ℕ)) → SnapshotModel → List Segment → Option ℕ → Outcome → Type 0
+Passes sum size log blobs first ordering None o = o ≡ Recovered (unchanged first)
+Passes sum size log blobs first ordering (Some end) o =
     ((o ≡ Damaged) × IsDamagedPass sum size log end (begun_below end ordering))
-    ⊎ ((passes : List Scanned) × AreReplayed sum size log end (begun_below end ordering) passes × (o ≡ outcome_of size first end passes))
+    ⊎ ((passes : List Scanned) × AreReplayed sum size log end (begun_below end ordering) passes × PassesOver sum size blobs first end passes o)
+
+-- the blob of each record that is met in these is missing or passes for it
+abbrev pub HaveGoodBlobs : (List ℕ → ℕ) → (ℤ → Option (List ℕ)) → List Scanned → Type 0
+HaveGoodBlobs sum blobs scanned = (s : Scanned) → Contains scanned s → MeetsBadBlob sum blobs s.met → ⊥
 
 -- what comes of the segments that are found
-abbrev pub Replays : (List ℕ → ℕ) → ℕ → List ℕ → SnapshotModel → List Segment → ℕ → Outcome → Type 0
-Replays sum size log first ordering tail o =
-    ((o ≡ Damaged) × IsDamagedTail sum size log ordering tail)
-    ⊎ ((scanned : List Scanned) × IsTail sum size log ordering tail scanned × Passes sum size log first ordering (tail_end scanned) o)
+abbrev pub Replays : (List ℕ → ℕ) → ℕ → List ℕ → (ℤ → Option (List ℕ)) → SnapshotModel → List Segment → ℕ → Outcome → Type 0
+Replays sum size log blobs first ordering tail o =
+    ((o ≡ Damaged) × IsDamagedTail sum size log blobs ordering tail)
+    ⊎ ((scanned : List Scanned) × IsTail sum size log ordering tail scanned × HaveGoodBlobs sum blobs scanned × Passes sum size log blobs first ordering (tail_end scanned) o)
 
--- What recovery makes of a log file from a snapshot on.
-unfoldable pub ContinuesFrom : (List ℕ → ℕ) → ℕ → List ℕ → SnapshotModel → Outcome → Type 0
-ContinuesFrom sum size log first o =
+-- What recovery makes of a log file and of blobs from a snapshot on.
+unfoldable pub ContinuesFrom : (List ℕ → ℕ) → ℕ → List ℕ → (ℤ → Option (List ℕ)) → SnapshotModel → Outcome → Type 0
+ContinuesFrom sum size log blobs first o =
     let least = least_place size first in
     ((o ≡ Damaged) × IsUnordered sum size log least)
-    ⊎ ((ordering : List Segment) × IsOrdering sum size log least ordering × Replays sum size log first ordering (tail_begins size least ordering) o)
+    ⊎ ((ordering : List Segment) × IsOrdering sum size log least ordering × Replays sum size log blobs first ordering (tail_begins size least ordering) o)
 
 -- What recovery makes of what it reads.
-unfoldable pub Recovers : (List ℕ → ℕ) → ℕ → List ℕ → (ℤ → Option (List ℕ)) → Outcome → Type 0
-Recovers sum size log snapshots o =
-    ((o ≡ Damaged) × IsDamagedSnapshot sum snapshots)
-    ⊎ ((first : SnapshotModel) × BeginsFrom sum snapshots first × ContinuesFrom sum size log first o)
+unfoldable pub Recovers : (List ℕ → ℕ) → ℕ → Content → Outcome → Type 0
+Recovers sum size content o =
+    ((o ≡ Damaged) × IsDamagedSnapshot sum content.snapshots)
+    ⊎ ((first : SnapshotModel) × BeginsFrom sum content.snapshots first × ContinuesFrom sum size content.log content.blobs first o)
 
 -- a segment as code has it, and what is met in it
 abbrev pub scanned_of : Segment → SegmentScan → Scanned

@@ -4,9 +4,9 @@ use Rattle.std.specs.declared.io.Error.{Error as IoError}
 use Rattle.sled_codec.specs.declared.result.Error.{Error}
 use Rattle.sled_codec.specs.declared.result.Error.TheVariants.{Io, OutOfMemory}
 use Rattle.sled_store.specs.Answers.{is_fault}
-use Rattle.sled_store.specs.Device.{Event, Trace}
+use Rattle.sled_store.specs.Blobs.{ItemAnswers}
+use Rattle.sled_store.specs.Device.{Event, Trace, state_of}
 use Rattle.sled_store.specs.Script.{Performs, after_all}
-use Rattle.sled_store.specs.Causes.{DeviceAnswers}
 use Rattle.sled_log.specs.Restores.{RecoveryCalls}
 
 -- a flush failed: for the failure that the log kept, for one of this call, which is counted, or for want of memory
@@ -22,4 +22,4 @@ abbrev pub Restarts : {T : Type 0} → (List ℕ → ℕ) → ℕ → List Event
     → Type 0
 Restarts sum size flushes fault result old new before after =
     (Performs flushes old new × (IsSome fault → new ≡ old) × FlushFails result fault before after)
-    ⊎ ((fault ≡ None) × RecoveryCalls sum size (after_all flushes old) new × DeviceAnswers result before after)
+    ⊎ ((fault ≡ None) × RecoveryCalls sum size (after_all flushes old) new × ItemAnswers sum (state_of (after_all flushes old)).blobs.file result before after)

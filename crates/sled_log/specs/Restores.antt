@@ -4,7 +4,7 @@ use Rattle.sled_codec.specs.declared.result.Error.{Error}
 use Rattle.sled_codec.specs.declared.serialization.snapshot.Snapshot.{Snapshot}
 use Rattle.sled_codec.specs.Errors.{IsCorruption}
 use Rattle.sled_codec.specs.Snapshots.{SnapshotModel, model_of, FitsSnapshot}
-use Rattle.sled_store.specs.Device.{Trace, State, Synced, NamesSynced, state_of}
+use Rattle.sled_store.specs.Device.{Trace, State, Synced, NamesSynced, state_of, content_of}
 use Rattle.sled_store.specs.Script.{Performs}
 use Rattle.sled_store.specs.SnapshotFiles.{BeginsFrom}
 use Rattle.sled_log.specs.Recovery.{RecoveryResult, Damaged, Recovered, Recovers}
@@ -18,17 +18,17 @@ BeginsAgain sum snapshots new s = (first : SnapshotModel) × BeginsFrom sum new.
 abbrev pub RecoveryCalls : (List ℕ → ℕ) → ℕ → Trace → Trace → Type 0
 RecoveryCalls sum size old new =
     Performs (Synced ∷ NamesSynced ∷ []) old new
-    ⊎ ((x : RecoveryResult) × Recovers sum size (state_of old).log.bytes (state_of old).snapshots.file (Recovered x)
+    ⊎ ((x : RecoveryResult) × Recovers sum size (content_of (state_of old)) (Recovered x)
     × (numbers : List ℤ) × MayBeRemoved (state_of old).snapshots.file (snapshot_number_of x.model) numbers × WritesBehind (Synced ∷ NamesSynced ∷ []) sum x numbers old new)
 
 -- The log file of a device is longer than a segment, or what the device has is damaged.
 abbrev pub IsBeyondRecovery : (List ℕ → ℕ) → ℕ → State → Type 0
-IsBeyondRecovery sum size device = (size < length device.log.bytes) ⊎ Recovers sum size device.log.bytes device.snapshots.file Damaged
+IsBeyondRecovery sum size device = (size < length device.log.bytes) ⊎ Recovers sum size (content_of device) Damaged
 
 -- A recovery came to a conclusion, wrote it back, and gives its snapshot.
 pub record Restores (sum : List ℕ → ℕ) (size : ℕ) (old new : Trace) (s : SnapshotModel) : Type 0 where
   pub conclusion : RecoveryResult
-  pub recovers : Recovers sum size (state_of old).log.bytes (state_of old).snapshots.file (Recovered conclusion)
+  pub recovers : Recovers sum size (content_of (state_of old)) (Recovered conclusion)
   pub model : s ≡ conclusion.model
   pub written : IsWrittenBack sum conclusion (state_of (NamesSynced ∷ Synced ∷ old)) (state_of new)
   pub done : HasWrittenBack sum conclusion (NamesSynced ∷ Synced ∷ old) new

@@ -67,7 +67,7 @@ IsRefusedWhere out _ = out → ⊥
 -- A recovery was made that shows this: the device was settled, and what the newest snapshot and the log file come to was written back.
 pub record HasRecovered (sum : List ℕ → ℕ) (size : ℕ) (old new : DeviceView) (s : SnapshotModel) : Type 0 where
   pub conclusion : RecoveryResult
-  pub recovers : let s = state_of old.trace in Recovers sum size s.log.bytes s.snapshots.file (Recovered conclusion)
+  pub recovers : Recovers sum size (content_of (state_of old.trace)) (Recovered conclusion)
   pub shown : s ≡ conclusion.model
   pub written : HasWrittenBack sum conclusion (NamesSynced ∷ Synced ∷ old.trace) new.trace
   pub failures : new.failures ≡ old.failures

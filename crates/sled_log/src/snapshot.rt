@@ -6,6 +6,8 @@ ghost use Rattle.sled_codec.specs.Snapshots.{model_of, stable_place};
 ghost use Rattle.sled_store.specs.Device.{state_of, content_of, Synced, NamesSynced};
 ghost use Rattle.sled_store.specs.Moments.{IsLater, LeavesOnly};
 ghost use Rattle.sled_store.specs.Script.{Performs};
+ghost use Rattle.std.specs.List.{All};
+ghost use Rattle.sled_store.specs.Blobs.{ItemAnswers};
 ghost use Rattle.sled_store.specs.Causes.{DeviceAnswers};
 ghost use Rattle.sled_core.specs.Reading.{file_of};
 ghost use Rattle.sled_core.specs.Scan.{IsFoundSegment, IsMisplaced};
@@ -16,9 +18,10 @@ ghost use Rattle.sled_core.specs.Running.{Ready};
 ghost use Rattle.sled_codec.specs.PageTables.{IsTable};
 ghost use Rattle.sled_log.specs.Restores.{ComesOf, IsBeyondRecovery, RecoveryCalls, Restores};
 ghost use Rattle.sled_log.specs.Orderly.{CanRecover};
-ghost use Rattle.sled_log.specs.Recovery.{least_place, tail_begins, IsOrdering, Recovered, Damaged, ContinuesFrom, Recovers};
+ghost use Rattle.sled_log.specs.Recovery.{least_place, tail_begins, IsOrdering, Recovered, Damaged, ContinuesFrom, Recovers, NamesKind, MeetsBadBlob, resolved_before};
 ghost use Rattle.sled_log.specs.WritesBack.{result_of};
 
+pub(crate) mod blobs;
 pub(crate) mod file;
 pub(crate) mod ordering;
 pub(crate) mod page_table;
@@ -27,6 +30,7 @@ pub mod reference;
 pub(crate) mod replay;
 pub(crate) mod write_back;
 
+use crate::snapshot::blobs::{check, resolve};
 use crate::snapshot::file::read_newest;
 use crate::snapshot::recovery::Recovery;
 use crate::snapshot::replay::replay;
@@ -34,7 +38,7 @@ use crate::snapshot::write_back::write_back;
 use sled_codec::result::{Error, Result};
 use sled_codec::serialization::Checksum;
 pub use sled_codec::serialization::snapshot::{Entry, PageState, Snapshot};
-use sled_core::iterator::scan::scan;
+use sled_core::iterator::scan::{ScannedRecord, scan};
 use sled_core::iterator::{Segment, read_slot, segment_in};
 use sled_core::logger::read_at::BasedBuf;
 use sled_store::{Device, RunningConfig};
@@ -51,8 +55,8 @@ use sled_store::{Device, RunningConfig};
 /// # Errors
 ///
 /// `Corruption` where the newest snapshot is damaged, where segments are found that can't be of one log, where a
-/// damaged record is met, where the table can't be one, and where the file is longer than a segment; nothing was
-/// written then. `Io` where the device failed, and `OutOfMemory`.
+/// damaged record is met, where the blob of a record doesn't pass for it (named where its checksum fails), where the table
+/// can't be one, and where the file is longer than a segment; nothing was written then. `Io` where the device failed, and `OutOfMemory`.
 pub fn read_snapshot_or_default<D: Device, C: Checksum>(
     config: &mut RunningConfig<D, C>,
 ) -> Result<Snapshot>
@@ -60,7 +64,8 @@ pub fn read_snapshot_or_default<D: Device, C: Checksum>(
     ensures calls { RecoveryCalls C.sum_of config.old.config.segment_size (D.trace config.old.device) (D.trace config.new.device) }
     ensures corrupt { IsCorruption result → IsBeyondRecovery C.sum_of config.old.config.segment_size (state_of (D.trace config.old.device))
         × (D.trace config.new.device ≡ NamesSynced ∷ Synced ∷ D.trace config.old.device) }
-    ensures answers { DeviceAnswers result (D.faults config.old.device) (D.faults config.new.device) }
+    ensures answers { let blobs = (state_of (D.trace config.old.device)).blobs.file in
+        ItemAnswers C.sum_of blobs result (D.faults config.old.device) (D.faults config.new.device) }
     ensures config { ConfigKept config.old config.new }
     ensures later { IsLater (D.trace config.old.device) (D.trace config.new.device) }
     ensures recoverable { let size = config.old.config.segment_size in let old = D.trace config.old.device in
@@ -86,7 +91,8 @@ pub fn read_snapshot_or_default<D: Device, C: Checksum>(
 /// Recovers what the device has, and writes back what is left to be written.
 fn read_and_write_back<D: Device, C: Checksum>(config: &mut RunningConfig<D, C>) -> Result<Snapshot>
     ensures comes { ComesOf C.sum_of config.old.config.segment_size (D.trace config.old.device) (D.trace config.new.device) result }
-    ensures answers { DeviceAnswers result (D.faults config.old.device) (D.faults config.new.device) }
+    ensures answers { let blobs = (state_of (D.trace config.old.device)).blobs.file in
+        ItemAnswers C.sum_of blobs result (D.faults config.old.device) (D.faults config.new.device) }
     ensures config { ConfigKept config.old config.new }
 {
     settle(&mut config.device)?;
@@ -113,13 +119,15 @@ fn settle<D: Device>(device: &mut D) -> Result<()>
 
 /// What recovery makes of what the device has, where the log file is no longer than a segment. It only
 /// reads. `Corruption` comes where the newest snapshot is damaged, where segments are found that can't be
-/// of one log, where a damaged record is met, where the table can't be one, and where the file is longer.
+/// of one log, where a damaged record is met or one whose blob doesn't pass for it, where the table can't be one, and where
+/// the file is longer.
 pub(crate) fn recover<D: Device, C: Checksum>(config: &mut RunningConfig<D, C>) -> Result<Recovery>
     ensures ok { let old = state_of (D.trace config.old.device) in
-        IfOk result (λ x. Recovers C.sum_of config.old.config.segment_size old.log.bytes old.snapshots.file (Recovered (result_of x))) }
+        IfOk result (λ x. Recovers C.sum_of config.old.config.segment_size (content_of old) (Recovered (result_of x))) }
     ensures corrupt { IsCorruption result → IsBeyondRecovery C.sum_of config.old.config.segment_size (state_of (D.trace config.old.device)) }
     ensures short { OnOk result (length (state_of (D.trace config.old.device)).log.bytes ≤ config.old.config.segment_size) }
-    ensures answers { DeviceAnswers result (D.faults config.old.device) (D.faults config.new.device) }
+    ensures answers { let blobs = (state_of (D.trace config.old.device)).blobs.file in
+        ItemAnswers C.sum_of blobs result (D.faults config.old.device) (D.faults config.new.device) }
     ensures reads { OnlyReads D.trace config.old config.new }
 {
     if config.device.len()? > config.config.segment_size {
@@ -137,11 +145,12 @@ fn continue_from<D: Device, C: Checksum>(
     first: Snapshot,
 ) -> Result<Recovery>
     requires short { length (state_of (D.trace config.old.device)).log.bytes ≤ config.old.config.segment_size }
-    ensures ok { let log = (state_of (D.trace config.old.device)).log.bytes in
-        IfOk result (λ x. ContinuesFrom C.sum_of config.old.config.segment_size log (model_of first) (Recovered (result_of x))) }
-    ensures corrupt { let log = (state_of (D.trace config.old.device)).log.bytes in
-        IsCorruption result → ContinuesFrom C.sum_of config.old.config.segment_size log (model_of first) Damaged }
-    ensures answers { DeviceAnswers result (D.faults config.old.device) (D.faults config.new.device) }
+    ensures ok { let s = state_of (D.trace config.old.device) in
+        IfOk result (λ x. ContinuesFrom C.sum_of config.old.config.segment_size s.log.bytes s.blobs.file (model_of first) (Recovered (result_of x))) }
+    ensures corrupt { let s = state_of (D.trace config.old.device) in
+        IsCorruption result → ContinuesFrom C.sum_of config.old.config.segment_size s.log.bytes s.blobs.file (model_of first) Damaged }
+    ensures answers { let blobs = (state_of (D.trace config.old.device)).blobs.file in
+        ItemAnswers C.sum_of blobs result (D.faults config.old.device) (D.faults config.new.device) }
     ensures reads { OnlyReads D.trace config.old config.new }
 {
     let size = config.config.segment_size;
@@ -170,9 +179,12 @@ fn continue_in<D: Device, C: Checksum>(
         IsFoundSegment C.sum_of size (file_of buf.now) (least_place size (model_of first)) segment.now }
     requires only { let size = config.old.config.segment_size in
         (IsMisplaced size segment.now → ⊥) → IsOrdering C.sum_of size (file_of buf.now) (least_place size (model_of first)) (segment.now ∷ []) }
-    ensures ok { IfOk result (λ x. ContinuesFrom C.sum_of config.old.config.segment_size (file_of buf.now) (model_of first) (Recovered (result_of x))) }
-    ensures corrupt { IsCorruption result → ContinuesFrom C.sum_of config.old.config.segment_size (file_of buf.now) (model_of first) Damaged }
-    ensures answers { DeviceAnswers result (D.faults config.old.device) (D.faults config.new.device) }
+    ensures ok { let blobs = (state_of (D.trace config.old.device)).blobs.file in
+        IfOk result (λ x. ContinuesFrom C.sum_of config.old.config.segment_size (file_of buf.now) blobs (model_of first) (Recovered (result_of x))) }
+    ensures corrupt { let blobs = (state_of (D.trace config.old.device)).blobs.file in
+        IsCorruption result → ContinuesFrom C.sum_of config.old.config.segment_size (file_of buf.now) blobs (model_of first) Damaged }
+    ensures answers { let blobs = (state_of (D.trace config.old.device)).blobs.file in
+        ItemAnswers C.sum_of blobs result (D.faults config.old.device) (D.faults config.new.device) }
     ensures reads { OnlyReads D.trace config.old config.new }
 {
     let size = config.config.segment_size;
@@ -187,8 +199,34 @@ fn continue_in<D: Device, C: Checksum>(
             shred_range: None,
         });
     }
-    match scan(config, buf, segment.place) {
-        Ok(scan) => replay(config.alloc(), size, first, segment, &scan),
+    let mut scan = match scan(config, buf, segment.place) {
+        Ok(scan) => scan,
+        Err(e) => return Err(e),
+    };
+    match look_up(config, &mut scan.met, segment.place + scan.stop) {
+        Ok(()) => replay(config.alloc(), size, first, segment, &scan),
+        Err(e) => Err(e),
+    }
+}
+
+/// Looks for the blobs of all records of a segment that ends there: of those that are applied, and of those behind a batch
+/// that is open.
+fn look_up<D: Device, C: Checksum>(
+    config: &mut RunningConfig<D, C>,
+    met: &mut [ScannedRecord],
+    end: u64,
+) -> Result<()>
+    requires end { end < 2 ^ 63 }
+    requires kinds { All (λ m. NamesKind m.what) met.old }
+    ensures met { let blobs = (state_of (D.trace config.old.device)).blobs.file in OnOk result (met.new ≡ resolved_before blobs end met.old) }
+    ensures good { let blobs = (state_of (D.trace config.old.device)).blobs.file in OnOk result (MeetsBadBlob C.sum_of blobs met.old → ⊥) }
+    ensures bad { let blobs = (state_of (D.trace config.old.device)).blobs.file in IsCorruption result → MeetsBadBlob C.sum_of blobs met.old }
+    ensures answers { let blobs = (state_of (D.trace config.old.device)).blobs.file in
+        ItemAnswers C.sum_of blobs result (D.faults config.old.device) (D.faults config.new.device) }
+    ensures reads { OnlyReads D.trace config.old config.new }
+{
+    match resolve(config, met, end) {
+        Ok(()) => check(config, met),
         Err(e) => Err(e),
     }
 }

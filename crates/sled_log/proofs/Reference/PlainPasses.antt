@@ -8,8 +8,8 @@ use Rattle.sled_codec.specs.Snapshots.{Page, SnapshotModel, stable_place}
 use Rattle.sled_log.specs.declared.snapshot.reference.Pass.{Pass}
 use Rattle.sled_core.specs.declared.iterator.scan.ScannedRecord.{ScannedRecord}
 use Rattle.sled_core.specs.declared.iterator.Segment.{Segment}
-use Rattle.sled_log.specs.Recovery.{Scanned, Applied, Recovered, Damaged, unchanged, outcome_of, concluded, cut_of, applied_of, before_open, open_at, passed_in, stops_in, given, has_no_table, table_of, table_with}
-use Rattle.sled_log.specs.Plain.{IsPass, pass_of, passed_all, stop_of}
+use Rattle.sled_log.specs.Recovery.{passed_all, Scanned, Applied, Recovered, Damaged, unchanged, outcome_of, concluded, cut_of, applied_of, before_open, open_at, passed_in, stops_in, given, has_no_table, table_of, table_with}
+use Rattle.sled_log.specs.Plain.{IsPass, pass_of, stop_of}
 use Rattle.sled_log.proofs.Replay.RecoveryLemmas.{before_none, open_below, no_table_damaged}
 
 -- One segment, and those behind it.

@@ -1,7 +1,7 @@
 -- What was so of a device and a configuration, where calls left them as they were.
 use Rattle.std.proofs.Common.{◌≡◌, ℕ, List, sym, subst}
 use Rattle.sled_store.specs.declared.config.Config.{Config}
-use Rattle.sled_store.specs.Device.{Trace, state_of}
+use Rattle.sled_store.specs.Device.{State, Trace, state_of}
 
 module _ (P : ℕ → List ℕ → Type 0) (old new : Config) (before after : Trace) (same_config : new ≡ old) (same_trace : after ≡ before) where
   -- what is found later was so before
@@ -11,3 +11,8 @@ module _ (P : ℕ → List ℕ → Type 0) (old new : Config) (before after : Tr
   -- and what was so is so later
   pub still_so : P old.segment_size (state_of before).log.bytes → P new.segment_size (state_of after).log.bytes
   still_so holds = subst (λ (x : Config). P x.segment_size (state_of after).log.bytes) (sym same_config) (subst (λ (t : Trace). P old.segment_size (state_of t).log.bytes) (sym same_trace) holds)
+
+-- the same of all that the device has
+module _ (P : ℕ → State → Type 0) (old new : Config) (before after : Trace) (same_config : new ≡ old) (same_trace : after ≡ before) where
+  pub was_so_in : P new.segment_size (state_of after) → P old.segment_size (state_of before)
+  was_so_in holds = subst (λ (x : Config). P x.segment_size (state_of before)) same_config (subst (λ (t : Trace). P new.segment_size (state_of t)) same_trace holds)

@@ -113,9 +113,9 @@ module _ (sum : List ℕ → ℕ) (size : ℕ) (content : Content) (H : History)
     pub comes_is : comes sum size content.log first_site begun.stop begun.own begun_only first least ≡ concluded size first applied_all (cut, first_active size begun.stop)
     comes_is = ap (concluded size first applied_all) (cut_is size begun.stop (segment sum size content.log first_site begun.stop begun.own begun_only) refl refl)
 
-    pub goes_on : IsWellFormed H → IsTable first.pages H (stable_place first.stable) → (x : RecoveryResult) → ContinuesFrom sum size content.log first (Recovered x) → GoesOnIn sum size content.log H A first x
+    pub goes_on : IsWellFormed H → IsTable first.pages H (stable_place first.stable) → (x : RecoveryResult) → ContinuesFrom sum size content.log content.blobs first (Recovered x) → GoesOnIn sum size content.log H A first x
     goes_on formed table x on =
-        let is = sym comes_is ∙ concludes sum size content.log first_site begun.stop begun.own begun_only first least x on in
+        let is = sym comes_is ∙ concludes sum size content.log first_site begun.stop begun.own begun_only first least content.blobs x on in
         let same : made ≡ x = (chosen_well (has_no_table applied_all) (nat_lt cut (stable_place first.stable)) (are_whole (table_of first.pages applied_all)) made x is).1 in
         record {
           begun = begun;
@@ -149,16 +149,16 @@ module _ (sum : List ℕ → ℕ) (size : ℕ) (content : Content) (H : History)
 
 -- What recovery concludes.
 pub concludes_in : (sum : List ℕ → ℕ) (size : ℕ) (content : Content) (H : History) (A f : ℕ) → 256 ≤ size → size < 2 ^ 63 → IsOrderly H → (in_first : IsRecoverableInFirst sum size content H A f)
-    → (x : RecoveryResult) → Recovers sum size content.log content.snapshots (Recovered x) → ConcludesIn sum size content H A in_first.first x
+    → (x : RecoveryResult) → Recovers sum size content (Recovered x) → ConcludesIn sum size content H A in_first.first x
 concludes_in sum size content H A f some small orderly in_first x recovers = by in_first.segment.log where
-  on : ContinuesFrom sum size content.log in_first.first (Recovered x)
-  on = continues_from sum size content.log content.snapshots in_first.first x in_first.snapshots.begins recovers
+  on : ContinuesFrom sum size content.log content.blobs in_first.first (Recovered x)
+  on = continues_from sum size content in_first.first x in_first.snapshots.begins recovers
 
   table : IsTable in_first.first.pages H (stable_place in_first.first.stable)
   table = (first_is_table sum size content.snapshots H f in_first.first in_first.snapshots).0
 
   stays : NoneFrom sum size content H A in_first.first some small in_first.segment → x ≡ unchanged in_first.first
-  stays none = stays_at sum size content.log in_first.first (λ s found. absurd (none s found)) x on
+  stays none = stays_at sum size content.log content.blobs in_first.first (λ s found. absurd (none s found)) x on
 
   by : IsUnbegun sum size content.log A (stable_place in_first.first.stable) ⊎ IsBegun sum size content.log H A (stable_place in_first.first.stable) → ConcludesIn sum size content H A in_first.first x
   by (inl unbegun) = inl (record { is = stays (unbegun_none sum size content H A in_first.first some small in_first.segment unbegun); why = inl unbegun })

@@ -46,27 +46,27 @@ module _ (sum : List ℕ → ℕ) (size : ℕ) (content : Content) (H : History)
   first_placed (inl odd) = odd (zero-mod size)
   first_placed (inr far) = omega (arith, small, far)
 
-  pub begun_whole : ContinuesFrom sum size content.log first Damaged → ⊥
+  pub begun_whole : ContinuesFrom sum size content.log content.blobs first Damaged → ⊥
   begun_whole damaged =
       let only = begun_only sum size content H A first some small in_first begun in
-      let comes_damaged = one_damaged sum size content.log first_site begun.stop begun.own only first least first_placed damaged in
+      let comes_damaged = one_damaged sum size content.log first_site begun.stop begun.own only first least content.blobs in_first.blobs first_placed damaged in
       let no : Recovered (made sum size content H A first some small in_first begun least) ≡ Damaged = sym is_concluded ∙ sym (comes_is sum size content H A first some small in_first begun least) ∙ comes_damaged in
       cc
 
 -- Recovery doesn't call the content damaged.
 pub not_damaged : (sum : List ℕ → ℕ) (size : ℕ) (content : Content) (H : History) (A f : ℕ) → 256 ≤ size → size < 2 ^ 63 → IsOrderly H → (in_first : IsRecoverableInFirst sum size content H A f)
-    → Recovers sum size content.log content.snapshots Damaged → ⊥
-not_damaged sum size content H A f some small orderly in_first recovers = elim (damaged_from sum size content.log content.snapshots in_first.first in_first.snapshots.begins recovers) [
+    → Recovers sum size content Damaged → ⊥
+not_damaged sum size content H A f some small orderly in_first recovers = elim (damaged_from sum size content in_first.first in_first.snapshots.begins recovers) [
   | inl snapshot ↦ no_damaged_snapshot sum size content.snapshots H f in_first.first in_first.snapshots snapshot
   | inr on ↦ by in_first.segment.log on
 ] where
   is : IsTable in_first.first.pages H (stable_place in_first.first.stable)
   is = (first_is_table sum size content.snapshots H f in_first.first in_first.snapshots).0
 
-  none : NoneFrom sum size content H A in_first.first some small in_first.segment → ContinuesFrom sum size content.log in_first.first Damaged → ⊥
-  none no_segment on = none_damaged sum size content.log in_first.first no_segment on
+  none : NoneFrom sum size content H A in_first.first some small in_first.segment → ContinuesFrom sum size content.log content.blobs in_first.first Damaged → ⊥
+  none no_segment on = none_damaged sum size content.log content.blobs in_first.first no_segment on
 
-  by : IsUnbegun sum size content.log A (stable_place in_first.first.stable) ⊎ IsBegun sum size content.log H A (stable_place in_first.first.stable) → ContinuesFrom sum size content.log in_first.first Damaged → ⊥
+  by : IsUnbegun sum size content.log A (stable_place in_first.first.stable) ⊎ IsBegun sum size content.log H A (stable_place in_first.first.stable) → ContinuesFrom sum size content.log content.blobs in_first.first Damaged → ⊥
   by (inl unbegun) on = none (unbegun_none sum size content H A in_first.first some small in_first.segment unbegun) on
   by (inr begun) on = elim (cases_lt (stable_place in_first.first.stable) size) [
     | inl within ↦ begun_whole sum size content H A in_first.first some small in_first.segment begun (least_first sum size content H A in_first.first some small in_first.segment within) orderly is on

@@ -6,6 +6,7 @@ use Rattle.std.proofs.Math.Nat.{mod-add-div'}
 use Rattle.std.proofs.lemmas.Bool.Decides.{nat_tests}
 use Rattle.sled_codec.specs.History.{Message}
 use Rattle.sled_codec.specs.Snapshots.{SnapshotModel, stable_place}
+use Rattle.sled_store.specs.Device.{Content}
 use Rattle.sled_store.specs.SnapshotFiles.{BeginsFrom}
 use Rattle.sled_core.specs.declared.iobuf.SegmentPosition.{SegmentPosition}
 use Rattle.sled_core.specs.declared.iterator.scan.ScannedRecord.{ScannedRecord}
@@ -15,10 +16,11 @@ use Rattle.sled_core.specs.declared.iterator.scan.ScanEnd.TheVariants.{Full, Cap
 use Rattle.sled_core.specs.Scan.{IsFoundSegment, IsMisplaced, IsPath, IsScan}
 use Rattle.sled_core.proofs.Read.PathLemmas.{met_of, scan_is}
 use Rattle.sled_store.proofs.Segments.Elements.{no_element, in_nothing, only_in}
-use Rattle.sled_log.specs.Recovery.{Scanned, IsScanned, IsOrdering, IsTail, GoesOn, IsReplayed, StopsOrGoesOn, AreReplayed, begun_below, RecoveryResult, Outcome, Recovered, Damaged, Applied, applied, given, open_at, tail_end, tail_begins, place_of_mark, least_place, outcome_of, concluded, unchanged, Passes, Replays, ContinuesFrom, Recovers, cut_of}
+use Rattle.sled_log.specs.Recovery.{Scanned, IsScanned, IsOrdering, IsTail, GoesOn, IsReplayed, StopsOrGoesOn, AreReplayed, begun_below, RecoveryResult, Outcome, Recovered, Damaged, Applied, applied, given, open_at, tail_end, tail_begins, place_of_mark, least_place, outcome_of, concluded, unchanged, Passes, Replays, resolved_scan, ContinuesFrom, Recovers, cut_of}
 use Rattle.sled_log.proofs.SnapshotFile.BeginLemmas.{one_begin}
 use Rattle.sled_log.proofs.Replay.RecoveryLemmas.{one_outcome}
 use Rattle.sled_log.proofs.Replay.OneSegment.{path_closed, given_messages, no_open_batch, all_before, only_one}
+use Rattle.sled_log.proofs.Replay.BlobLemmas.{messages_resolved}
 use Rattle.sled_log.proofs.Replay.PassedLemmas.{passed_whole}
 use Rattle.sled_log.proofs.Replay.OnlySegment.{IsOnlySegment, segment, long, own_below, found_from, found_is}
 
@@ -32,27 +34,27 @@ low_mark (pos n) place low = let b = low n refl in omega (arith, b)
 low_mark (negsuc n) place low = omega arith
 
 -- recovery goes on from the snapshot that it begins from
-pub continues_from : (sum : List ℕ → ℕ) (size : ℕ) (log : List ℕ) (snapshots : ℤ → Option (List ℕ)) (first : SnapshotModel) (x : RecoveryResult) → BeginsFrom sum snapshots first → Recovers sum size log snapshots (Recovered x)
-    → ContinuesFrom sum size log first (Recovered x)
+pub continues_from : (sum : List ℕ → ℕ) (size : ℕ) (content : Content) (first : SnapshotModel) (x : RecoveryResult) → BeginsFrom sum content.snapshots first → Recovers sum size content (Recovered x)
+    → ContinuesFrom sum size content.log content.blobs first (Recovered x)
 unfolding Recovers
-continues_from sum size log snapshots first x begins (inl damaged) = let no : Recovered x ≡ Damaged = damaged.0 in cc
-continues_from sum size log snapshots first x begins (inr (other, at, on)) = subst (λ (s : SnapshotModel). ContinuesFrom sum size log s (Recovered x)) (one_begin sum snapshots other first at begins) on
+continues_from sum size content first x begins (inl damaged) = let no : Recovered x ≡ Damaged = damaged.0 in cc
+continues_from sum size content first x begins (inr (other, at, on)) = subst (λ (s : SnapshotModel). ContinuesFrom sum size content.log content.blobs s (Recovered x)) (one_begin sum content.snapshots other first at begins) on
 
 -- No segment is found that isn't misplaced: the snapshot stays.
-module _ (sum : List ℕ → ℕ) (size : ℕ) (log : List ℕ) (first : SnapshotModel) (none : (s : Segment) → IsFoundSegment sum size log (least_place size first) s → IsMisplaced size s) where
+module _ (sum : List ℕ → ℕ) (size : ℕ) (log : List ℕ) (blobs : ℤ → Option (List ℕ)) (first : SnapshotModel) (none : (s : Segment) → IsFoundSegment sum size log (least_place size first) s → IsMisplaced size s) where
   pub none_ordered : (ordering : List Segment) → IsOrdering sum size log (least_place size first) ordering → ordering ≡ []
   none_ordered ordering is = no_element ordering (λ t there. is.placed t there (none t ((is.found t).0 there)))
 
-  nothing_read : (tail : ℕ) (x : RecoveryResult) → Replays sum size log first [] tail (Recovered x) → x ≡ unchanged first
+  nothing_read : (tail : ℕ) (x : RecoveryResult) → Replays sum size log blobs first [] tail (Recovered x) → x ≡ unchanged first
   nothing_read tail x (inl damaged) = let no : Recovered x ≡ Damaged = damaged.0 in cc
-  nothing_read tail x (inr ([], none, passes)) = ap (λ (o : Outcome). conclusion_in o x) passes
-  nothing_read tail x (inr (s ∷ ss, there, passes)) = absurd (in_nothing s.segment there.0)
+  nothing_read tail x (inr ([], none, good, passes)) = ap (λ (o : Outcome). conclusion_in o x) passes
+  nothing_read tail x (inr (s ∷ ss, there, good, passes)) = absurd (in_nothing s.segment there.0)
 
-  pub stays_at : (x : RecoveryResult) → ContinuesFrom sum size log first (Recovered x) → x ≡ unchanged first
+  pub stays_at : (x : RecoveryResult) → ContinuesFrom sum size log blobs first (Recovered x) → x ≡ unchanged first
   unfolding ContinuesFrom
   stays_at x (inl damaged) = let no : Recovered x ≡ Damaged = damaged.0 in cc
   stays_at x (inr (ordering, is, replays)) =
-      nothing_read (tail_begins size (least_place size first) ordering) x (subst (λ (o : List Segment). Replays sum size log first o (tail_begins size (least_place size first) ordering) (Recovered x)) (none_ordered ordering is) replays)
+      nothing_read (tail_begins size (least_place size first) ordering) x (subst (λ (o : List Segment). Replays sum size log blobs first o (tail_begins size (least_place size first) ordering) (Recovered x)) (none_ordered ordering is) replays)
 
 -- Recovery begins in it.
 module _ (sum : List ℕ → ℕ) (size : ℕ) (log : List ℕ) (site : SegmentPosition) (end : ℕ) (own : List Message) (only : IsOnlySegment sum size log site end own) (first : SnapshotModel) (least : least_place size first ≡ site.place) where
@@ -126,30 +128,35 @@ module _ (sum : List ℕ → ℕ) (size : ℕ) (log : List ℕ) (site : SegmentP
   no_more [] on = refl
   no_more (p ∷ ps) on = absurd on
 
-  pub passes_are : (passes : List Scanned) → AreReplayed sum size log (site.place + end) (found ∷ []) passes → outcome_of size first (site.place + end) passes ≡ comes
-  passes_are [] are = absurd are
-  passes_are (p ∷ ps) are =
+  pub passes_are : (blobs : ℤ → Option (List ℕ)) (passes : List Scanned) → AreReplayed sum size log (site.place + end) (found ∷ []) passes
+      → outcome_of size first (site.place + end) (map (resolved_scan blobs (site.place + end)) passes) ≡ comes
+  passes_are blobs [] are = absurd are
+  passes_are blobs (p ∷ ps) are =
       let whole = passed_is p are.0 are.1 in
       let alone : ps ≡ [] = no_more ps (subst (λ o. StopsOrGoesOn o ps (AreReplayed sum size log (site.place + end) [] ps)) whole.0 are.2) in
-      ap (λ (l : List Scanned). outcome_of size first (site.place + end) (p ∷ l)) alone
-      ∙ ap (λ (x : Scanned). outcome_of size first (site.place + end) (x ∷ [])) (scanned_is p are.0 whole.1).0 ∙ pass_is p.why
+      ap (λ (l : List Scanned). outcome_of size first (site.place + end) (map (resolved_scan blobs (site.place + end)) (p ∷ l))) alone
+      ∙ ap (λ (x : Scanned). outcome_of size first (site.place + end) (resolved_scan blobs (site.place + end) x ∷ [])) (scanned_is p are.0 whole.1).0
+      ∙ ap (λ (l : List ScannedRecord). outcome_of size first (site.place + end) (record { segment = found; met = l; stop = end; why = p.why } ∷ [])) (messages_resolved blobs (site.place + end) own)
+      ∙ pass_is p.why
 
   pub below_end : begun_below (site.place + end) (found ∷ []) ≡ found ∷ []
   below_end =
       let under : nat_lt site.place (site.place + end) ≡ true = (let far = long sum size log site end own only in grind (arith, nat_tests, far)) in
       ap (λ (b : Bool). if b then found ∷ [] else []) under
 
-  passed : (x : RecoveryResult) → Passes sum size log first (found ∷ []) (Some (site.place + end)) (Recovered x) → comes ≡ Recovered x
-  passed x (inl damaged) = let no : Recovered x ≡ Damaged = damaged.0 in cc
-  passed x (inr (passes, are, is)) = sym (is ∙ passes_are passes (subst (λ (l : List Segment). AreReplayed sum size log (site.place + end) l passes) below_end are))
+  module _ (blobs : ℤ → Option (List ℕ)) where
+    passed : (x : RecoveryResult) → Passes sum size log blobs first (found ∷ []) (Some (site.place + end)) (Recovered x) → comes ≡ Recovered x
+    passed x (inl damaged) = let no : Recovered x ≡ Damaged = damaged.0 in cc
+    passed x (inr (passes, are, inl damaged)) = let no : Recovered x ≡ Damaged = damaged.0 in cc
+    passed x (inr (passes, are, inr (good, is))) = sym (is ∙ passes_are blobs passes (subst (λ (l : List Segment). AreReplayed sum size log (site.place + end) l passes) below_end are))
 
-  replayed : (tail : ℕ) (x : RecoveryResult) → tail ≡ site.place → Replays sum size log first (found ∷ []) tail (Recovered x) → comes ≡ Recovered x
-  replayed tail x at (inl damaged) = let no : Recovered x ≡ Damaged = damaged.0 in cc
-  replayed tail x at (inr (scanned, is, passes)) = passed x (subst (λ (o : Option ℕ). Passes sum size log first (found ∷ []) o (Recovered x)) (the_end tail scanned at is) passes)
+    replayed : (tail : ℕ) (x : RecoveryResult) → tail ≡ site.place → Replays sum size log blobs first (found ∷ []) tail (Recovered x) → comes ≡ Recovered x
+    replayed tail x at (inl damaged) = let no : Recovered x ≡ Damaged = damaged.0 in cc
+    replayed tail x at (inr (scanned, is, good, passes)) = passed x (subst (λ (o : Option ℕ). Passes sum size log blobs first (found ∷ []) o (Recovered x)) (the_end tail scanned at is) passes)
 
-  pub concludes : (x : RecoveryResult) → ContinuesFrom sum size log first (Recovered x) → comes ≡ Recovered x
-  unfolding ContinuesFrom
-  concludes x (inl damaged) = let no : Recovered x ≡ Damaged = damaged.0 in cc
-  concludes x (inr (ordering, is, replays)) =
-      let one = the_ordering ordering is in
-      replayed (tail_begins size (least_place size first) (found ∷ [])) x tail_first (subst (λ (o : List Segment). Replays sum size log first o (tail_begins size (least_place size first) o) (Recovered x)) one replays)
+    pub concludes : (x : RecoveryResult) → ContinuesFrom sum size log blobs first (Recovered x) → comes ≡ Recovered x
+    unfolding ContinuesFrom
+    concludes x (inl damaged) = let no : Recovered x ≡ Damaged = damaged.0 in cc
+    concludes x (inr (ordering, is, replays)) =
+        let one = the_ordering ordering is in
+        replayed (tail_begins size (least_place size first) (found ∷ [])) x tail_first (subst (λ (o : List Segment). Replays sum size log blobs first o (tail_begins size (least_place size first) o) (Recovered x)) one replays)

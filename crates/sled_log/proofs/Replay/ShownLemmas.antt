@@ -19,7 +19,7 @@ shown size place None fits first = fits
 shown size place (Some slot) fits first = (first slot (λ i. Some slot), fits.0, fits.1)
 
 pub shows_active : (sum : List ℕ → ℕ) (size : ℕ) → 256 ≤ size → size < 2 ^ 63 → (old : Trace) (H : History) (A f : ℕ) → CanRecover sum size (state_of old) H A f → (x : RecoveryResult)
-    → Recovers sum size (state_of old).log.bytes (state_of old).snapshots.file (Recovered x) → ShowsActive size (stable_place x.model.stable) x.model.active
+    → Recovers sum size (content_of (state_of old)) (Recovered x) → ShowsActive size (stable_place x.model.stable) x.model.active
 shows_active sum size large small old H A f can x recovers = by (concludes_in sum size (content_of (state_of old)) H A f large small can.orderly is x recovers)
   where
     is : IsRecoverableInFirst sum size (content_of (state_of old)) H A f

@@ -25,8 +25,8 @@ use Rattle.sled_store.proofs.Names.NamesLemmas.{settled_name_left, settled_name_
 use Rattle.sled_store.proofs.Traces.ScriptLemmas.{performs_throughout, performs_whole}
 use Rattle.sled_store.proofs.Crashes.SettledLemmas.{settled_left_too}
 use Rattle.sled_core.specs.Causes.{Answers, FaultAnswers, ReserveAnswers}
+use Rattle.sled_store.specs.Blobs.{ItemAnswers}
 use Rattle.sled_store.specs.Causes.{StartRefuses}
-use Rattle.sled_store.specs.Causes.{DeviceAnswers}
 use Rattle.sled_core.specs.Fits.{config_of, device_of, segment_size_of}
 use Rattle.sled_core.specs.Recoverable.{NoForeign, Recoverable, LeavesRecoverable}
 use Rattle.sled_core.proofs.Start.FreshReady.{fresh_leaves}
@@ -202,11 +202,11 @@ module _ {D C : Type 0} (view : D → DeviceView) (sum : List ℕ → ℕ) (open
 -- Recoveries.
 
 -- an answer of a recovery that is no damage has its cause
-pub cause_of : (T : Type 0) (e : Error) (before after : ℕ) → DeviceAnswers {T = T} (Err e) before after → (IsCorruption {T = T} (Err e) → ⊥) → IsCause e before after
-cause_of T (error.Io e) before after answers whole = answers
-cause_of T error.OutOfMemory before after answers whole = answers
-cause_of T (error.Corruption at) before after answers whole = absurd (whole tt)
-cause_of T _ before after answers whole = absurd answers
+pub cause_of : (T : Type 0) (sum : List ℕ → ℕ) (blobs : ℤ → Option (List ℕ)) (e : Error) (before after : ℕ) → ItemAnswers {T = T} sum blobs (Err e) before after → (IsCorruption {T = T} (Err e) → ⊥) → IsCause e before after
+cause_of T sum blobs (error.Io e) before after answers whole = answers
+cause_of T sum blobs error.OutOfMemory before after answers whole = answers
+cause_of T sum blobs (error.Corruption at) before after answers whole = absurd (whole tt)
+cause_of T sum blobs _ before after answers whole = absurd answers
 
 -- so has that of a start that is refused neither for damage nor for want of places
 pub start_cause : (e : Error) (startable in_reach unwritten : Type 0) (before after : ℕ) → StartRefuses e startable in_reach unwritten before after → (IsCorrupt e → ⊥) → (e ≢ error.PlacesUsedUp) → IsCause e before after

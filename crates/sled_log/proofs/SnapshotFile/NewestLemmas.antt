@@ -1,5 +1,5 @@
 -- A recovery would begin from what one answered before, once that is written back.
-use Rattle.std.proofs.Common.{◌≡◌, ◌≢◌, ◌⊎◌, ◌∙◌, ◌||◌, ◌≤◌, ◌%◌, ◌≤ℤ◌, ◌<◌, ℕ, ℤ, zero, suc, pos, negsuc, Bool, true, false, not, nat_lt, if◌then◌else◌, List, [], ◌∷◌, Option, Some, None, IsSome, refl, sym, ap, subst, arith, inl, inr}
+use Rattle.std.proofs.Common.{◌≡◌, ◌≢◌, ◌⊎◌, ◌∙◌, ◌||◌, ◌≤◌, ◌%◌, ◌≤ℤ◌, ◌<◌, map, ℕ, ℤ, zero, suc, pos, negsuc, Bool, true, false, not, nat_lt, if◌then◌else◌, List, [], ◌∷◌, Option, Some, None, IsSome, refl, sym, ap, subst, arith, inl, inr}
 use Rattle.std.specs.Bool.{MatchBool}
 use Rattle.std.specs.Ordering.{int_eq}
 use Rattle.std.specs.Cmp.{signed_Decides}
@@ -9,11 +9,12 @@ use Rattle.sled_codec.specs.Snapshots.{SnapshotModel, FitsSnapshot, short_snapsh
 use Rattle.sled_codec.specs.SnapshotLaws.{short_spells-snapshot}
 use Rattle.sled_core.specs.declared.iterator.scan.ScannedRecord.{ScannedRecord}
 use Rattle.sled_core.specs.declared.iterator.Segment.{Segment}
-use Rattle.sled_store.specs.Device.{State}
+use Rattle.sled_store.specs.Device.{State, content_of}
 use Rattle.sled_store.specs.SnapshotFiles.{BeginsFrom}
-use Rattle.sled_log.specs.Recovery.{RecoveryResult, Scanned, Recovered, Damaged, unchanged, concluded, outcome_of, given, has_no_table, are_whole, table_of, is_beyond, cut_of, stops_in, passed_in, open_at, begun_below, AreReplayed, IsOrdering, Passes, ContinuesFrom, Recovers}
+use Rattle.sled_log.specs.Recovery.{RecoveryResult, Scanned, Recovered, Damaged, unchanged, concluded, outcome_of, given, has_no_table, are_whole, table_of, is_beyond, cut_of, stops_in, passed_in, open_at, begun_below, resolved_scan, AreReplayed, IsOrdering, Passes, ContinuesFrom, Recovers}
 use Rattle.sled_log.specs.WritesBack.{short_file, snapshot_number_of, IsOnlySnapshot, IsWrittenBack}
-use Rattle.sled_log.proofs.Replay.LineLemmas.{LieBelow, none_given, all_below, chain_of, chain_begun, line_of}
+use Rattle.sled_log.proofs.Replay.LineLemmas.{LieBelow, none_given, chain_of, chain_begun, line_of}
+use Rattle.sled_log.proofs.Replay.BlobLemmas.{all_below_resolved}
 
 -- a table of messages that lie below its cut
 abbrev IsConcluded : ℕ → SnapshotModel → RecoveryResult → Type 0
@@ -28,27 +29,30 @@ not_none : (n : ℕ) → (n ≢ 0 → ⊥) → n ≡ 0
 not_none zero h = refl
 not_none (suc n) h = absurd (h (λ e. omega (arith, e)))
 
-module _ (sum : List ℕ → ℕ) (size : ℕ) (log : List ℕ) (large : 20 ≤ size) (first : SnapshotModel) (x : RecoveryResult) where
+module _ (sum : List ℕ → ℕ) (size : ℕ) (log : List ℕ) (blobs : ℤ → Option (List ℕ)) (large : 20 ≤ size) (first : SnapshotModel) (x : RecoveryResult) where
   -- of segments that are read
   from_passes : (ordering : List Segment) (least end : ℕ) (passes : List Scanned) → IsOrdering sum size log least ordering → AreReplayed sum size log end (begun_below end ordering) passes
-      → Recovered x ≡ outcome_of size first end passes → Comes size first x
+      → Recovered x ≡ outcome_of size first end (map (resolved_scan blobs end) passes) → Comes size first x
   from_passes ordering least end [] is are comes = inl (cc)
   from_passes ordering least end (s ∷ ss) is are comes =
       let some : 0 < size = omega (arith, large) in
       let chain = chain_begun size some end ordering (chain_of size some ordering is.ascending (λ t there. (not_none (t.place % size) (λ odd. is.placed t there (inl odd)), ((is.found t).0 there).slot))) in
       let line = line_of size some sum log large end (begun_below end ordering) (s ∷ ss) chain are in
-      inr (passed_in end s (open_at end s.met) ss, cut_of size (stops_in end s (open_at end s.met) ss), all_below sum size log large end s ss line, sym comes)
+      let t = resolved_scan blobs end s in
+      let ts = map (resolved_scan blobs end) ss in
+      inr (passed_in end t (open_at end t.met) ts, cut_of size (stops_in end t (open_at end t.met) ts), all_below_resolved blobs end sum size log large s ss line, sym comes)
 
-  by_end : (ordering : List Segment) (least : ℕ) → IsOrdering sum size log least ordering → (end : Option ℕ) → Passes sum size log first ordering end (Recovered x) → Comes size first x
+  by_end : (ordering : List Segment) (least : ℕ) → IsOrdering sum size log least ordering → (end : Option ℕ) → Passes sum size log blobs first ordering end (Recovered x) → Comes size first x
   by_end ordering least is None comes = inl (cc)
   by_end ordering least is (Some end) (inl damaged) = let no = damaged.0 in absurd (cc)
-  by_end ordering least is (Some end) (inr (passes, are, comes)) = from_passes ordering least end passes is are comes
+  by_end ordering least is (Some end) (inr (passes, are, inl damaged)) = let no = damaged.0 in absurd (cc)
+  by_end ordering least is (Some end) (inr (passes, are, inr (good, comes))) = from_passes ordering least end passes is are comes
 
-  comes_of : ContinuesFrom sum size log first (Recovered x) → Comes size first x
+  comes_of : ContinuesFrom sum size log blobs first (Recovered x) → Comes size first x
   unfolding ContinuesFrom
   comes_of (inl damaged) = let no = damaged.0 in absurd (cc)
   comes_of (inr (ordering, is, inl damaged)) = let no = damaged.0 in absurd (cc)
-  comes_of (inr (ordering, is, inr (scanned, tail, passes))) = by_end ordering _ is _ passes
+  comes_of (inr (ordering, is, inr (scanned, tail, good, passes))) = by_end ordering _ is _ passes
 
 -- What is known of a table that was concluded.
 
@@ -107,7 +111,7 @@ begins_from_only sum file s cut place fits only = inr (
         absurd (cc)
 
 -- The whole.
-module _ (sum : List ℕ → ℕ) (size : ℕ) (log : List ℕ) (large : 20 ≤ size) (x : RecoveryResult) (old new : State) (back : IsWrittenBack sum x old new) where
+module _ (sum : List ℕ → ℕ) (size : ℕ) (large : 20 ≤ size) (x : RecoveryResult) (old new : State) (back : IsWrittenBack sum x old new) where
   -- a recovery of the new state begins from the same place and the same pages: from the table, or from the snapshot from which that began
   abbrev pub BeginsThere : Type 0
   BeginsThere = (first : SnapshotModel) × BeginsFrom sum new.snapshots.file first × (first.stable ≡ x.model.stable) × (first.pages ≡ x.model.pages) × ((first ≡ x.model) ⊎ BeginsFrom sum old.snapshots.file first)
@@ -122,7 +126,7 @@ module _ (sum : List ℕ → ℕ) (size : ℕ) (log : List ℕ) (large : 20 ≤ 
       (first, subst (λ s. BeginsFrom sum s.file first) (sym same) begins, stays.0, stays.1, inr begins)
 
   -- so it does where the conclusion was written back
-  pub begins_again : Recovers sum size log old.snapshots.file (Recovered x) → (x.is_new ≡ true → FitsSnapshot x.model) → BeginsThere
+  pub begins_again : Recovers sum size (content_of old) (Recovered x) → (x.is_new ≡ true → FitsSnapshot x.model) → BeginsThere
   unfolding Recovers
   begins_again (inl damaged) fits = let no = damaged.0 in absurd (cc)
-  begins_again (inr (first, begins, comes)) fits = by_new first begins (comes_of sum size log large first x comes) fits x.is_new refl back.snapshots
+  begins_again (inr (first, begins, comes)) fits = by_new first begins (comes_of sum size old.log.bytes old.blobs.file large first x comes) fits x.is_new refl back.snapshots

@@ -37,12 +37,12 @@ module _ (sum : List ℕ → ℕ) (size : ℕ) (large : 256 ≤ size) (small : s
   holds_throughout new calls = recovery_throughout sum size H A f old new large small can.left can.own (λ is x recovers. concludes_in sum size (content_of (state_of old)) H A f large small can.orderly is x recovers) calls
 
   -- no damage is met
-  pub meets_no_damage : (size < length (state_of old).log.bytes) ⊎ Recovers sum size (content_of (state_of old)).log (state_of old).snapshots.file Damaged → ⊥
+  pub meets_no_damage : (size < length (state_of old).log.bytes) ⊎ Recovers sum size (content_of (state_of old)) Damaged → ⊥
   meets_no_damage (inl long) = let short = in_first.segment.short in omega (arith, long, short)
   meets_no_damage (inr damaged) = not_damaged sum size (content_of (state_of old)) H A f large small can.orderly in_first damaged
 
   -- Where it succeeded.
-  module _ (new : Trace) (x : RecoveryResult) (recovers : Recovers sum size (content_of (state_of old)).log (state_of old).snapshots.file (Recovered x))
+  module _ (new : Trace) (x : RecoveryResult) (recovers : Recovers sum size (content_of (state_of old)) (Recovered x))
       (written : IsWrittenBack sum x (state_of (NamesSynced ∷ Synced ∷ old)) (state_of new)) (made : HasWrittenBack sum x (NamesSynced ∷ Synced ∷ old) new) (fits : x.is_new ≡ true → FitsSnapshot x.model) where
     pub concludes : ConcludesIn sum size (content_of (state_of old)) H A in_first.first x
     concludes = concludes_in sum size (content_of (state_of old)) H A f large small can.orderly in_first x recovers

@@ -203,7 +203,7 @@ module _ (sum : List ℕ → ℕ) (size : ℕ) (H : History) (A f : ℕ) (large 
 -- A recovery keeps at each moment what a crash leaves recoverable.
 pub recovery_throughout : (sum : List ℕ → ℕ) (size : ℕ) (H : History) (A f : ℕ) (old new : Trace) → 256 ≤ size → size < 2 ^ 63
     → LeavesRecoverable sum size H A f (state_of old) → NoForeign sum size (state_of old) (content_of (state_of old))
-    → ((is : IsRecoverableInFirst sum size (content_of (state_of old)) H A f) (x : RecoveryResult) → Recovers sum size (state_of old).log.bytes (state_of old).snapshots.file (Recovered x) → ConcludesIn sum size (content_of (state_of old)) H A is.first x)
+    → ((is : IsRecoverableInFirst sum size (content_of (state_of old)) H A f) (x : RecoveryResult) → Recovers sum size (content_of (state_of old)) (Recovered x) → ConcludesIn sum size (content_of (state_of old)) H A is.first x)
     → RecoveryCalls sum size old new → LeavesOnly (RecoverableIfOwn sum size H A f) old new
 recovery_throughout sum size H A f old new large small kept own concludes calls =
     let is : IsRecoverableInFirst sum size (content_of (state_of old)) H A f = first_part sum size (content_of (state_of old)) H A f (kept (content_of (state_of old)) (read_left old) own) in

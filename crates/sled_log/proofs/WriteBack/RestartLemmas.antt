@@ -14,7 +14,7 @@ use Rattle.sled_codec.specs.PageTables.{IsTable}
 use Rattle.sled_codec.specs.WellFormed.{IsWellFormed}
 use Rattle.sled_codec.specs.Snapshots.{SnapshotModel, stable_place}
 use Rattle.std.specs.Prelude.{Result, Ok, Err, IfOk, OnOk}
-use Rattle.sled_store.specs.Device.{State, LogState, Synced, NamesSynced, step, at_rest, overwritten}
+use Rattle.sled_store.specs.Device.{State, LogState, Synced, NamesSynced, step, at_rest, content_of, overwritten}
 use Rattle.sled_store.specs.SnapshotFiles.{BeginsFrom}
 use Rattle.sled_core.specs.declared.iobuf.SegmentPosition.{SegmentPosition}
 use Rattle.sled_core.specs.declared.iterator.Segment.{Segment}
@@ -40,10 +40,10 @@ use Rattle.sled_log.proofs.Replay.KeptRecovers.{only_segment, own_all}
 use Rattle.sled_log.proofs.Replay.SegmentRecovers.{continues_from, stays_at, messages, given_is, concludes}
 
 -- a segment that is found where recovery succeeds is not misplaced
-none_misplaced : (sum : List ℕ → ℕ) (size : ℕ) (log : List ℕ) (first : SnapshotModel) (x : RecoveryResult) → ContinuesFrom sum size log first (Recovered x) → (y : Segment) → IsFoundSegment sum size log (least_place size first) y → IsMisplaced size y → ⊥
+none_misplaced : (sum : List ℕ → ℕ) (size : ℕ) (log : List ℕ) (blobs : ℤ → Option (List ℕ)) (first : SnapshotModel) (x : RecoveryResult) → ContinuesFrom sum size log blobs first (Recovered x) → (y : Segment) → IsFoundSegment sum size log (least_place size first) y → IsMisplaced size y → ⊥
 unfolding ContinuesFrom
-none_misplaced sum size log first x (inl damaged) y found bad = let no : Recovered x ≡ Damaged = damaged.0 in cc
-none_misplaced sum size log first x (inr (ordering, is, replays)) y found bad = is.placed y ((is.found y).1 found) bad
+none_misplaced sum size log blobs first x (inl damaged) y found bad = let no : Recovered x ≡ Damaged = damaged.0 in cc
+none_misplaced sum size log blobs first x (inr (ordering, is, replays)) y found bad = is.placed y ((is.found y).1 found) bad
 
 -- then it would begin from the snapshot itself, where the one that was there is the same as soon as its place and pages are
 pub begins_with : (sum : List ℕ → ℕ) (snapshots : ℤ → Option (List ℕ)) (new : State) (s first : SnapshotModel) → BeginsFrom sum snapshots first → BeginsAgain sum snapshots new s
@@ -79,7 +79,7 @@ module _ (sum : List ℕ → ℕ) (size : ℕ) (log : List ℕ) (snapshots : ℤ
       }
 
   -- Nothing was written since the log began.
-  module _ (unbegun : from ≡ 0) (x : RecoveryResult) (on : ContinuesFrom sum size log first (Recovered x)) (log_is : new.log ≡ at_rest log) (begins : BeginsFrom sum new.snapshots.file first) where
+  module _ (unbegun : from ≡ 0) (blobs : ℤ → Option (List ℕ)) (x : RecoveryResult) (on : ContinuesFrom sum size log blobs first (Recovered x)) (log_is : new.log ≡ at_rest log) (begins : BeginsFrom sum new.snapshots.file first) where
     cut_is : c0 ≡ site.place
     cut_is = let reached = begun.reached in omega (arith, reached, unbegun, begun.least, mod-add-div' c0 size)
 
@@ -119,7 +119,7 @@ module _ (sum : List ℕ → ℕ) (size : ℕ) (log : List ℕ) (snapshots : ℤ
         used = all_from_in (StandsUsed sum size log first) H.messages (λ m there.
             let s = older m there in
             stands_used first c0 begun.table (all_from_in (λ y. y.place < c0) H.messages (λ y has. (low y has).0)) m there in_first (s.lid, s.pointer, s.stands));
-        none = λ y found. absurd (none_misplaced sum size log first x on y (subst (λ n. IsFoundSegment sum size log n y) (cut_is ∙ sym begun.least) found)
+        none = λ y found. absurd (none_misplaced sum size log blobs first x on y (subst (λ n. IsFoundSegment sum size log n y) (cut_is ∙ sym begun.least) found)
             (file.alone unbegun y (subst (λ n. IsFoundSegment sum size log n y) cut_is found)));
       });
     } where
@@ -266,20 +266,20 @@ module _ (sum : List ℕ → ℕ) (size : ℕ) (log : List ℕ) (snapshots : ℤ
             ready_going room (ap (λ (t : Bool). if t then (site.place + size, None) else (end, Some site.slot)) filled)
 
   -- Recovery leaves snapshot and device ready for a log that holds the history.
-  pub ready_after : (x : RecoveryResult) → Recovers sum size log snapshots (Recovered x) → MatchOption x.shred_range (new.log ≡ at_rest log) (λ shred_range. new.log ≡ at_rest (overwritten log shred_range.0 (replicate shred_range.1 0)))
+  pub ready_after : (blobs : ℤ → Option (List ℕ)) (x : RecoveryResult) → Recovers sum size (record { log = log; blobs = blobs; snapshots = snapshots }) (Recovered x) → MatchOption x.shred_range (new.log ≡ at_rest log) (λ shred_range. new.log ≡ at_rest (overwritten log shred_range.0 (replicate shred_range.1 0)))
       → BeginsAgain sum snapshots new x.model → IsReady sum size new x.model H
-  ready_after x recovers log_is again =
-      let on = continues_from sum size log snapshots first x begun.begins recovers in
+  ready_after blobs x recovers log_is again =
+      let on = continues_from sum size (record { log = log; blobs = blobs; snapshots = snapshots }) first x begun.begins recovers in
       elim (cases_lt 0 from) [
         | inl begun_at ↦ (
             let long = file.begun begun_at in
-            ready_begun long x (concludes sum size log site from file.own (only long) first begun.least x on) log_is again)
+            ready_begun long x (concludes sum size log site from file.own (only long) first begun.least blobs x on) log_is again)
         | inr none ↦ (
             let unbegun : from ≡ 0 = omega (arith, none) in
-            let same : x ≡ unchanged first = stays_at sum size log first (λ s is. file.alone unbegun s (subst (λ n. IsFoundSegment sum size log n s) begun.least is)) x on in
+            let same : x ≡ unchanged first = stays_at sum size log blobs first (λ s is. file.alone unbegun s (subst (λ n. IsFoundSegment sum size log n s) begun.least is)) x on in
             let logs : new.log ≡ at_rest log = subst (λ (t : Option (ℕ × ℕ)). MatchOption t (new.log ≡ at_rest log) (λ shred_range. new.log ≡ at_rest (overwritten log shred_range.0 (replicate shred_range.1 0)))) (ap (λ (y : RecoveryResult). y.shred_range) same) log_is in
             let begins : BeginsFrom sum new.snapshots.file first = begins_with sum snapshots new first first begun.begins (subst (λ (w : SnapshotModel). BeginsAgain sum snapshots new w) (ap (λ (y : RecoveryResult). y.model) same) again) (λ stable pages. refl) in
-            subst (λ (w : SnapshotModel). IsReady sum size new w H) (sym (ap (λ (y : RecoveryResult). y.model) same)) (ready_first unbegun x on logs begins))
+            subst (λ (w : SnapshotModel). IsReady sum size new w H) (sym (ap (λ (y : RecoveryResult). y.model) same)) (ready_first unbegun blobs x on logs begins))
       ]
 
 -- a state whose log file and names were settled
@@ -298,12 +298,12 @@ if_all (Err e) P Q R S follows p q log = tt
 
 -- The same, from what is kept on the device and what recovery says of its writes.
 pub ready_kept : (sum : List ℕ → ℕ) (size : ℕ) (site : SegmentPosition) (from : ℕ) (device new : State) (H : History) → IsKept sum size site from device H → IsWellFormed H → 256 ≤ size → length device.log.bytes ≤ size
-    → (s : SnapshotModel) (x : RecoveryResult) → Recovers sum size device.log.bytes device.snapshots.file (Recovered x) → s ≡ x.model
+    → (s : SnapshotModel) (x : RecoveryResult) → Recovers sum size (content_of device) (Recovered x) → s ≡ x.model
     → IsWrittenBack sum x (state_settled device) new → BeginsAgain sum device.snapshots.file new s → IsReady sum size new s H
 ready_kept sum size site from device new H kept formed some short s x recovers same back again =
     let log : List ℕ = device.log.bytes in
     let there : kept.on_device.log ≡ device.log.bytes = sym (ap (λ (l : LogState). l.bytes) kept.on_device.settled) in
     let file : IsLogFile sum size device.log.bytes site from H.messages = subst (λ (l : List ℕ). IsLogFile sum size l site from H.messages) there kept.on_device.file in
     subst (λ (w : SnapshotModel). IsReady sum size new w H) (sym same)
-    (ready_after sum size log device.snapshots.file site from H file kept.begun some short kept.inside kept.place_begins kept.slot_begins kept.batches formed new x recovers back.log
+    (ready_after sum size log device.snapshots.file site from H file kept.begun some short kept.inside kept.place_begins kept.slot_begins kept.batches formed new device.blobs.file x recovers back.log
     (subst (λ (w : SnapshotModel). BeginsAgain sum device.snapshots.file new w) same again))

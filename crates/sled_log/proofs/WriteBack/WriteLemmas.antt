@@ -1,7 +1,7 @@
 -- What is read where recovery wrote back what it concludes.
 use Rattle.std.proofs.Common.{◌≡◌, ◌≢◌, ◌∙◌, ℕ, ℤ, Bool, true, false, is_some, if◌then◌else◌, List, [], ◌∷◌, ◌++◌, Option, Some, None, refl, sym, ap, subst, inl, inr}
 use Rattle.sled_codec.specs.Snapshots.{SnapshotModel, FitsSnapshot}
-use Rattle.sled_store.specs.Device.{Event, Trace, SnapshotFilled, SnapshotPublished, Synced, NamesSynced, state_of}
+use Rattle.sled_store.specs.Device.{Event, Trace, SnapshotFilled, SnapshotPublished, Synced, NamesSynced, state_of, content_of}
 use Rattle.sled_store.specs.Script.{Performs, after_all}
 use Rattle.sled_log.specs.Recovery.{RecoveryResult, Outcome, Recovers}
 use Rattle.sled_log.specs.WritesBack.{HasPublished, Publishes, HasWrittenBack, WritesBack, WritesBehind, short_file, snapshot_number_of, publishing_file, publishing, removing, shredding, writing_back, AreOthers, MayBeRemoved, IsOnlySnapshot, IsWrittenBack}
@@ -142,10 +142,10 @@ writes_whole sum x old new is_old (ns, are, is) = (
 
 -- The device was settled before.
 module _ (sum : List ℕ → ℕ) (old mid : Trace) (settled : mid ≡ NamesSynced ∷ Synced ∷ old) where
-  pub recovers_settled : (size : ℕ) (o : Outcome) → Recovers sum size (state_of mid).log.bytes (state_of mid).snapshots.file o
-      → Recovers sum size (state_of old).log.bytes (state_of old).snapshots.file o
+  pub recovers_settled : (size : ℕ) (o : Outcome) → Recovers sum size (content_of (state_of mid)) o
+      → Recovers sum size (content_of (state_of old)) o
   recovers_settled size o is =
-      subst (λ (h : Trace). Recovers sum size (state_of h).log.bytes (state_of h).snapshots.file o) settled is
+      subst (λ (h : Trace). Recovers sum size (content_of (state_of h)) o) settled is
 
   pub writes_settled : (x : RecoveryResult) (new : Trace) → WritesBack sum x mid new
       → (numbers : List ℤ) × MayBeRemoved (file_at old) (snapshot_number_of x.model) numbers × WritesBehind (Synced ∷ NamesSynced ∷ []) sum x numbers old new

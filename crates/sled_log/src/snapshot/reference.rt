@@ -4,17 +4,19 @@ ghost use Rattle.std.specs.Prelude.{IfSome, IfNone, List, ℤ, IsTrue, ◌↔◌
 ghost use Rattle.std.specs.List.{All};
 ghost use Rattle.sled_codec.specs.Errors.{IsCorruption, IsDecodeError};
 ghost use Rattle.sled_codec.specs.Snapshots.{model_of, page_of, stable_place};
-ghost use Rattle.sled_store.specs.Device.{state_of};
+ghost use Rattle.sled_store.specs.Device.{state_of, content_of};
+ghost use Rattle.sled_store.specs.Blobs.{ItemAnswers};
 ghost use Rattle.sled_store.specs.Causes.{DeviceAnswers};
 ghost use Rattle.sled_core.specs.Keeps.{OnlyReads};
 ghost use Rattle.sled_core.specs.Scan.{IsDamagedIn};
 ghost use Rattle.sled_core.specs.declared.iterator.Segment.{Segment};
-ghost use Rattle.sled_log.specs.Recovery.{Scanned, IsScanned, IsUnordered, IsOrdering, IsTail, IsDamagedTail, AreReplayed, begun_below, IsDamagedPass, tail_begins, tail_end, Recovered, Damaged, RecoveryResult, outcome_of, least_place, scanned_of, given, has_no_table, table_of, ContinuesFrom, Recovers};
+ghost use Rattle.sled_log.specs.Recovery.{passed_all, Scanned, IsScanned, IsUnordered, IsOrdering, IsTail, IsDamagedTail, AreReplayed, begun_below, IsDamagedPass, tail_begins, tail_end, Recovered, Damaged, RecoveryResult, outcome_of, least_place, scanned_of, given, has_no_table, table_of, ContinuesFrom, Recovers, Passes, PassesOver, NamesKind, MeetsBadBlob, MeetsBadBlobIn, HaveGoodBlobs, resolved_scan, before_open};
 ghost use Rattle.sled_log.specs.WritesBack.{result_of};
-ghost use Rattle.sled_log.specs.Plain.{CanBeRead, IsPass, pass_of, passed_all, stop_of};
+ghost use Rattle.sled_log.specs.Plain.{CanBeRead, IsPass, pass_of, stop_of, OpensLast, MeetsBadPass};
 
 mod records;
 
+use crate::snapshot::blobs::{check, resolve};
 use crate::snapshot::file::read_newest;
 use crate::snapshot::ordering::find_segments;
 use crate::snapshot::page_table::apply_all;
@@ -48,9 +50,9 @@ pub fn reference_recovery<D: Device, C: Checksum>(
 ) -> Result<Option<Snapshot>>
     ensures some { let old = state_of (D.trace config.old.device) in
         IfOk result (λ o. IfSome o (λ s. (x : RecoveryResult)
-        × Recovers C.sum_of config.old.config.segment_size old.log.bytes old.snapshots.file (Recovered x) × (model_of s ≡ x.model))) }
+        × Recovers C.sum_of config.old.config.segment_size (content_of old) (Recovered x) × (model_of s ≡ x.model))) }
     ensures none { let old = state_of (D.trace config.old.device) in
-        IfOk result (λ o. IfNone o (Recovers C.sum_of config.old.config.segment_size old.log.bytes old.snapshots.file Damaged)) }
+        IfOk result (λ o. IfNone o (Recovers C.sum_of config.old.config.segment_size (content_of old) Damaged)) }
     ensures readable { IsCorruption result → ⊥ }
     ensures answers { DeviceAnswers result (D.faults config.old.device) (D.faults config.new.device) }
     ensures reads { OnlyReads D.trace config.old config.new }
@@ -66,11 +68,11 @@ pub fn reference_recovery<D: Device, C: Checksum>(
 fn recover_by_definition<D: Device, C: Checksum>(
     config: &mut RunningConfig<D, C>,
 ) -> Result<Recovery>
-    ensures ok { IfOk result (λ x. Recovers C.sum_of config.old.config.segment_size (state_of (D.trace config.old.device)).log.bytes
-        (state_of (D.trace config.old.device)).snapshots.file (Recovered (result_of x))) }
-    ensures corrupt { IsCorruption result → Recovers C.sum_of config.old.config.segment_size (state_of (D.trace config.old.device)).log.bytes
-        (state_of (D.trace config.old.device)).snapshots.file Damaged }
-    ensures answers { DeviceAnswers result (D.faults config.old.device) (D.faults config.new.device) }
+    ensures ok { let old = state_of (D.trace config.old.device) in
+        IfOk result (λ x. Recovers C.sum_of config.old.config.segment_size (content_of old) (Recovered (result_of x))) }
+    ensures corrupt { IsCorruption result → Recovers C.sum_of config.old.config.segment_size (content_of (state_of (D.trace config.old.device))) Damaged }
+    ensures answers { let blobs = (state_of (D.trace config.old.device)).blobs.file in
+        ItemAnswers C.sum_of blobs result (D.faults config.old.device) (D.faults config.new.device) }
     ensures reads { OnlyReads D.trace config.old config.new }
 {
     match read_newest(config) {
@@ -84,11 +86,12 @@ fn continue_by_definition<D: Device, C: Checksum>(
     config: &mut RunningConfig<D, C>,
     first: Snapshot,
 ) -> Result<Recovery>
-    ensures ok { IfOk result (λ x. ContinuesFrom C.sum_of config.old.config.segment_size (state_of (D.trace config.old.device)).log.bytes
-        (model_of first) (Recovered (result_of x))) }
-    ensures corrupt { IsCorruption result → ContinuesFrom C.sum_of config.old.config.segment_size (state_of (D.trace config.old.device)).log.bytes
-        (model_of first) Damaged }
-    ensures answers { DeviceAnswers result (D.faults config.old.device) (D.faults config.new.device) }
+    ensures ok { let s = state_of (D.trace config.old.device) in
+        IfOk result (λ x. ContinuesFrom C.sum_of config.old.config.segment_size s.log.bytes s.blobs.file (model_of first) (Recovered (result_of x))) }
+    ensures corrupt { let s = state_of (D.trace config.old.device) in
+        IsCorruption result → ContinuesFrom C.sum_of config.old.config.segment_size s.log.bytes s.blobs.file (model_of first) Damaged }
+    ensures answers { let blobs = (state_of (D.trace config.old.device)).blobs.file in
+        ItemAnswers C.sum_of blobs result (D.faults config.old.device) (D.faults config.new.device) }
     ensures reads { OnlyReads D.trace config.old config.new }
 {
     let size = config.config.segment_size;
@@ -108,11 +111,12 @@ fn replay_by_definition<D: Device, C: Checksum>(
     requires ordering { IsOrdering C.sum_of config.old.config.segment_size (state_of (D.trace config.old.device)).log.bytes
         (least_place config.old.config.segment_size (model_of first)) segments.now }
     requires small { length (state_of (D.trace config.old.device)).log.bytes + config.old.config.segment_size < 2 ^ 63 }
-    ensures ok { IfOk result (λ x. ContinuesFrom C.sum_of config.old.config.segment_size (state_of (D.trace config.old.device)).log.bytes
-        (model_of first) (Recovered (result_of x))) }
-    ensures corrupt { IsCorruption result → ContinuesFrom C.sum_of config.old.config.segment_size (state_of (D.trace config.old.device)).log.bytes
-        (model_of first) Damaged }
-    ensures answers { DeviceAnswers result (D.faults config.old.device) (D.faults config.new.device) }
+    ensures ok { let s = state_of (D.trace config.old.device) in
+        IfOk result (λ x. ContinuesFrom C.sum_of config.old.config.segment_size s.log.bytes s.blobs.file (model_of first) (Recovered (result_of x))) }
+    ensures corrupt { let s = state_of (D.trace config.old.device) in
+        IsCorruption result → ContinuesFrom C.sum_of config.old.config.segment_size s.log.bytes s.blobs.file (model_of first) Damaged }
+    ensures answers { let blobs = (state_of (D.trace config.old.device)).blobs.file in
+        ItemAnswers C.sum_of blobs result (D.faults config.old.device) (D.faults config.new.device) }
     ensures reads { OnlyReads D.trace config.old config.new }
 {
     let size = config.config.segment_size;
@@ -137,23 +141,96 @@ fn pass_over<D: Device, C: Checksum>(
 ) -> Result<Recovery>
     requires ready { (s : Segment) → Contains segments.now s → CanBeRead config.old.config.segment_size (state_of (D.trace config.old.device)).log.bytes s }
     requires end { end < 2 ^ 63 }
-    ensures ok { IfOk result (λ x. (passes : List Scanned) × AreReplayed C.sum_of config.old.config.segment_size
-        (state_of (D.trace config.old.device)).log.bytes end (begun_below end segments.now) passes
-        × (outcome_of config.old.config.segment_size (model_of first) end passes ≡ Recovered (result_of x))) }
-    ensures corrupt { IsCorruption result →
-        IsDamagedPass C.sum_of config.old.config.segment_size (state_of (D.trace config.old.device)).log.bytes end (begun_below end segments.now)
-        ⊎ ((passes : List Scanned) × AreReplayed C.sum_of config.old.config.segment_size (state_of (D.trace config.old.device)).log.bytes end
-        (begun_below end segments.now) passes × (outcome_of config.old.config.segment_size (model_of first) end passes ≡ Damaged)) }
-    ensures answers { DeviceAnswers result (D.faults config.old.device) (D.faults config.new.device) }
+    ensures ok { let s = state_of (D.trace config.old.device) in
+        IfOk result (λ x. Passes C.sum_of config.old.config.segment_size s.log.bytes s.blobs.file (model_of first) segments.now (Some end) (Recovered (result_of x))) }
+    ensures corrupt { let s = state_of (D.trace config.old.device) in
+        IsCorruption result → Passes C.sum_of config.old.config.segment_size s.log.bytes s.blobs.file (model_of first) segments.now (Some end) Damaged }
+    ensures answers { let blobs = (state_of (D.trace config.old.device)).blobs.file in
+        ItemAnswers C.sum_of blobs result (D.faults config.old.device) (D.faults config.new.device) }
     ensures reads { OnlyReads D.trace config.old config.new }
 {
     match passes_below(config, segments, end) {
-        Ok(passes) => {
+        Ok(passes) => resolve_and_apply(config, passes, first, end),
+        Err(e) => Err(e),
+    }
+}
+
+/// What comes of what was met, with its blobs.
+fn resolve_and_apply<D: Device, C: Checksum>(
+    config: &mut RunningConfig<D, C>,
+    passes: Vec<Pass>,
+    first: Snapshot,
+    end: u64,
+) -> Result<Recovery>
+    requires end { end < 2 ^ 63 }
+    requires fits { All (IsPass config.old.config.segment_size) passes.items }
+    requires last { OpensLast end (map pass_of passes.items) }
+    requires kinds { All (λ p. All (λ m. NamesKind m.what) p.scan.met.items) passes.items }
+    ensures ok { let blobs = (state_of (D.trace config.old.device)).blobs.file in
+        IfOk result (λ x. PassesOver C.sum_of config.old.config.segment_size blobs (model_of first) end (map pass_of passes.items) (Recovered (result_of x))) }
+    ensures corrupt { let blobs = (state_of (D.trace config.old.device)).blobs.file in
+        IsCorruption result → PassesOver C.sum_of config.old.config.segment_size blobs (model_of first) end (map pass_of passes.items) Damaged }
+    ensures answers { let blobs = (state_of (D.trace config.old.device)).blobs.file in
+        ItemAnswers C.sum_of blobs result (D.faults config.old.device) (D.faults config.new.device) }
+    ensures reads { OnlyReads D.trace config.old config.new }
+{
+    let mut passes = passes;
+    match resolve_passes(config, &mut passes, end) {
+        Ok(()) => {
             let size = config.config.segment_size;
             outcome_of(config.alloc(), size, first, end, &passes)
         }
         Err(e) => Err(e),
     }
+}
+
+/// Looks for the blobs of all that was met in these segments, in each up to a batch that does not end below `end`.
+/// `Corruption` comes where a blob doesn't pass for its record.
+fn resolve_passes<D: Device, C: Checksum>(
+    config: &mut RunningConfig<D, C>,
+    passes: &mut [Pass],
+    end: u64,
+) -> Result<()>
+    requires end { end < 2 ^ 63 }
+    requires kinds { All (λ p. All (λ m. NamesKind m.what) p.scan.met.items) passes.old }
+    ensures passes { let blobs = (state_of (D.trace config.old.device)).blobs.file in
+        OnOk result (map pass_of passes.new ≡ map (resolved_scan blobs end) (map pass_of passes.old)) }
+    ensures good { let blobs = (state_of (D.trace config.old.device)).blobs.file in
+        OnOk result (MeetsBadPass C.sum_of blobs end (map pass_of passes.old) → ⊥) }
+    ensures bad { let blobs = (state_of (D.trace config.old.device)).blobs.file in
+        IsCorruption result → MeetsBadPass C.sum_of blobs end (map pass_of passes.old) }
+    ensures answers { let blobs = (state_of (D.trace config.old.device)).blobs.file in
+        ItemAnswers C.sum_of blobs result (D.faults config.old.device) (D.faults config.new.device) }
+    ensures reads { OnlyReads D.trace config.old config.new }
+{
+    for i in 0..passes.len() {
+        match resolve_pass(config, &mut passes[i], end) {
+            Ok(()) => {}
+            Err(e) => return Err(e),
+        }
+    }
+    Ok(())
+}
+
+/// Looks for the blobs of what was met in one segment, up to such a batch.
+fn resolve_pass<D: Device, C: Checksum>(
+    config: &mut RunningConfig<D, C>,
+    pass: &mut Pass,
+    end: u64,
+) -> Result<()>
+    requires end { end < 2 ^ 63 }
+    requires kinds { All (λ m. NamesKind m.what) pass.old.scan.met.items }
+    ensures pass { let blobs = (state_of (D.trace config.old.device)).blobs.file in
+        OnOk result (pass_of pass.new ≡ resolved_scan blobs end (pass_of pass.old)) }
+    ensures good { let blobs = (state_of (D.trace config.old.device)).blobs.file in
+        OnOk result (MeetsBadBlob C.sum_of blobs (before_open end pass.old.scan.met.items) → ⊥) }
+    ensures bad { let blobs = (state_of (D.trace config.old.device)).blobs.file in
+        IsCorruption result → MeetsBadBlob C.sum_of blobs (before_open end pass.old.scan.met.items) }
+    ensures answers { let blobs = (state_of (D.trace config.old.device)).blobs.file in
+        ItemAnswers C.sum_of blobs result (D.faults config.old.device) (D.faults config.new.device) }
+    ensures reads { OnlyReads D.trace config.old config.new }
+{
+    resolve(config, &mut pass.scan.met, end)
 }
 
 // The tail.
@@ -207,27 +284,55 @@ fn scan_of<D: Device, C: Checksum>(
     }
 }
 
+/// The same, with its blobs. `Corruption` comes also where a record is met whose blob doesn't pass for it.
+fn sound_scan_of<D: Device, C: Checksum>(
+    config: &mut RunningConfig<D, C>,
+    segment: &Segment,
+) -> Result<SegmentScan>
+    requires { CanBeRead config.old.config.segment_size (state_of (D.trace config.old.device)).log.bytes segment.now }
+    ensures scan { IfOk result (λ s. IsScanned C.sum_of config.old.config.segment_size (state_of (D.trace config.old.device)).log.bytes
+        (scanned_of segment.now s)) }
+    ensures stop { IfOk result (λ s. (20 ≤ s.stop) × (s.stop ≤ config.old.config.segment_size)) }
+    ensures good { let blobs = (state_of (D.trace config.old.device)).blobs.file in IfOk result (λ s. MeetsBadBlob C.sum_of blobs s.met.items → ⊥) }
+    ensures damaged { let old = state_of (D.trace config.old.device) in let size = config.old.config.segment_size in
+        IsCorruption result → IsDamagedIn C.sum_of size old.log.bytes segment.now.slot segment.now.place
+        ⊎ MeetsBadBlobIn C.sum_of size old.log.bytes old.blobs.file segment.now }
+    ensures answers { let blobs = (state_of (D.trace config.old.device)).blobs.file in
+        ItemAnswers C.sum_of blobs result (D.faults config.old.device) (D.faults config.new.device) }
+    ensures reads { OnlyReads D.trace config.old config.new }
+{
+    match scan_of(config, segment) {
+        Ok(scan) => match check(config, &scan.met) {
+            Ok(()) => Ok(scan),
+            Err(e) => Err(e),
+        },
+        Err(e) => Err(e),
+    }
+}
+
 /// Where the reading of the tail ends, where a segment of it is there. `Corruption` comes where a damaged
-/// record is met.
+/// record is met, or one whose blob doesn't pass for it.
 fn tail_end<D: Device, C: Checksum>(
     config: &mut RunningConfig<D, C>,
     segments: &[Segment],
     begin: u64,
 ) -> Result<Option<u64>>
     requires ready { (s : Segment) → Contains segments.now s → CanBeRead config.old.config.segment_size (state_of (D.trace config.old.device)).log.bytes s }
-    ensures end { IfOk result (λ o. (scanned : List Scanned) × IsTail C.sum_of config.old.config.segment_size
-        (state_of (D.trace config.old.device)).log.bytes segments.now begin scanned × (tail_end scanned ≡ o)) }
+    ensures end { let old = state_of (D.trace config.old.device) in
+        IfOk result (λ o. (scanned : List Scanned) × IsTail C.sum_of config.old.config.segment_size old.log.bytes segments.now begin scanned
+        × HaveGoodBlobs C.sum_of old.blobs.file scanned × (tail_end scanned ≡ o)) }
     ensures small { IfOk result (λ o. IfSome o (λ end. end < 2 ^ 63)) }
-    ensures damaged { IsCorruption result → IsDamagedTail C.sum_of config.old.config.segment_size
-        (state_of (D.trace config.old.device)).log.bytes segments.now begin }
-    ensures answers { DeviceAnswers result (D.faults config.old.device) (D.faults config.new.device) }
+    ensures damaged { let old = state_of (D.trace config.old.device) in
+        IsCorruption result → IsDamagedTail C.sum_of config.old.config.segment_size old.log.bytes old.blobs.file segments.now begin }
+    ensures answers { let blobs = (state_of (D.trace config.old.device)).blobs.file in
+        ItemAnswers C.sum_of blobs result (D.faults config.old.device) (D.faults config.new.device) }
     ensures reads { OnlyReads D.trace config.old config.new }
 {
     let size = config.config.segment_size;
     let mut place = begin;
     let mut end = None;
     while let Some(segment) = segment_at(segments, place) {
-        match scan_of(config, &segment) {
+        match sound_scan_of(config, &segment) {
             Ok(scan) => {
                 end = Some(place + scan.stop);
                 if is_broken(scan.ending) {

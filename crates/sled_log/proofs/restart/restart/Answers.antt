@@ -4,7 +4,7 @@ use Rattle.sled_codec.specs.declared.serialization.snapshot.Snapshot.{Snapshot}
 use Rattle.sled_store.specs.Moments.{LeavesOnly}
 use Rattle.sled_store.specs.Script.{Performs, after_all}
 use Rattle.sled_store.proofs.Traces.MomentLemmas.{joined}
-use Rattle.sled_store.specs.Causes.{DeviceAnswers}
+use Rattle.sled_store.specs.Blobs.{ItemAnswers}
 use Rattle.sled_core.specs.Recoverable.{LeavesRecoverable, NoForeign, RecoverableIfOwn}
 use Rattle.sled_core.proofs.Holds.ReachLemmas.{fits_leaves}
 use Rattle.sled_log.specs.Orderly.{CanRecover}
@@ -61,7 +61,8 @@ returns-in-Ok-clause-did g c =
       c.in-Ok.ensures.answers.0,
       subst (λ n. RecoveryCalls sum n (after_all (flushing c.args.log) (trace (device_of c.args.log))) (trace new.device)) sizes
           (subst (λ (t : Trace). RecoveryCalls sum config.config.segment_size t (trace new.device)) came c.read_snapshot_or_default-snapshot.ensures.calls),
-      subst (λ n. DeviceAnswers c.read_snapshot_or_default-snapshot.result n (g.D.Device.faults new.device)) counted c.read_snapshot_or_default-snapshot.ensures.answers,
+      subst (λ n. ItemAnswers sum (state_of (after_all (flushing c.args.log) (trace (device_of c.args.log)))).blobs.file c.read_snapshot_or_default-snapshot.result n (g.D.Device.faults new.device)) counted
+          (subst (λ (t : Trace). ItemAnswers sum (state_of t).blobs.file c.read_snapshot_or_default-snapshot.result (g.D.Device.faults config.device) (g.D.Device.faults new.device)) came c.read_snapshot_or_default-snapshot.ensures.answers),
     )
 
 pub returns-in-Ok-clause-crash : goal.returns-in-Ok-clause-crash

@@ -1,4 +1,4 @@
-use Rattle.std.proofs.Common.{◌≡◌, ◌*◌, ◌/◌, ◌≤◌, ◌∙◌, ℕ, ℤ, List, [], ◌∷◌, take, pos, None, ap, sym, subst, arith}
+use Rattle.std.proofs.Common.{◌≡◌, ◌*◌, ◌/◌, ◌≤◌, ◌∙◌, ℕ, ℤ, List, [], ◌∷◌, take, pos, ap, sym, subst, arith}
 use Rattle.std.proofs.lemmas.List.{take-take}
 use Rattle.sled_codec.specs.Record.{IsHeader}
 use Rattle.sled_codec.specs.Snapshots.{SnapshotModel, model_of}
@@ -37,4 +37,4 @@ returns-clause-ok g c =
     let none : (place : ℕ) (mark : ℤ) → least_place size first ≤ place → IsHeader g.C.Checksum.sum_of (take 20 log) (pos place) mark → ⊥ = λ place mark le h.
     c.in-None.ensures.none place mark (subst (λ n. n / size * size ≤ place) (sym c.stable_place.ensures.place) le)
     (subst (λ (l : List ℕ). IsHeader g.C.Checksum.sum_of l (pos place) mark) (sym (header_there size log c.in_ok-buf.buf.buf.items c.args.config.now.config.least c.in_ok-buf.ensures.bytes)) h) in
-    nothing_found g.C.Checksum.sum_of size log first (omega (arith, c.args.config.now.config.least)) (none_found g.C.Checksum.sum_of size log (least_place size first) c.requires.short none)
+    nothing_found g.C.Checksum.sum_of size log (state_of (g.D.Device.trace c.args.config.now.device)).blobs.file first (omega (arith, c.args.config.now.config.least)) (none_found g.C.Checksum.sum_of size log (least_place size first) c.requires.short none)

@@ -1,5 +1,5 @@
 use Rattle.std.proofs.Common.{◌≡◌, ◌⊎◌, ◌∙◌, ◌≤◌, ℕ, List, [], ◌∷◌, length, refl, rules, inl, inr, sym, subst, arith}
-use Rattle.sled_store.specs.Device.{Trace, Synced, NamesSynced, state_of}
+use Rattle.sled_store.specs.Device.{Trace, Synced, NamesSynced, content_of, state_of}
 use Rattle.sled_store.specs.SnapshotFiles.{BeginsFrom}
 use Rattle.sled_store.proofs.Traces.ScriptLemmas.{performs_whole}
 use Rattle.sled_log.specs.Recovery.{RecoveryResult, Recovered, Recovers}
@@ -27,9 +27,8 @@ returns-in-Ok-write_back-clause-comes g c =
     let recovers = recovers_settled sum old settled c.in_ok-settle.ensures.done size (Recovered x) c.in-Ok.ensures.ok in
     let writes = writes_settled sum old mid is_mid x new c.write_back.ensures.calls in
     let back = c.in-Ok-write_back.ensures in
-    let log : List ℕ = (state_of settled).log.bytes in
-    let met = subst (λ (h : Trace). Recovers sum size log (state_of h).snapshots.file (Recovered x)) (sym c.in-Ok.ensures.reads.unwritten) c.in-Ok.ensures.ok in
-    let again = begins_again sum size log (omega (arith, c.args.config.now.config.least)) x (state_of mid) (state_of new) back.written met back.fits in
+    let met = subst (λ (h : Trace). Recovers sum size (content_of (state_of h)) (Recovered x)) (sym c.in-Ok.ensures.reads.unwritten) c.in-Ok.ensures.ok in
+    let again = begins_again sum size (omega (arith, c.args.config.now.config.least)) x (state_of mid) (state_of new) back.written met back.fits in
     let as_before = subst (λ (h : Trace). (again.0 ≡ x.model) ⊎ BeginsFrom sum (state_of h).snapshots.file again.0) is_mid again.4 in
     record {
       calls = inr (x, recovers, writes.0, writes.1, writes.2);

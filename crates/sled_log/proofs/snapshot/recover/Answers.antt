@@ -1,7 +1,7 @@
-use Rattle.std.proofs.Common.{◌≡◌, ◌∙◌, ℕ, ℤ, List, Option, None, subst, inl, inr, refl}
+use Rattle.std.proofs.Common.{◌≡◌, ◌∙◌, ℕ, List, subst, inl, inr, refl}
 use Rattle.sled_codec.specs.Snapshots.{SnapshotModel, model_of}
 use Rattle.sled_store.specs.declared.config.Config.{Config}
-use Rattle.sled_store.specs.Device.{Trace, state_of}
+use Rattle.sled_store.specs.Device.{Content, Trace, content_of, state_of}
 use Rattle.sled_core.proofs.Read.ReadingLemmas.{if_ok}
 use Rattle.sled_store.specs.SnapshotFiles.{BeginsFrom, IsDamagedSnapshot}
 use Rattle.sled_log.specs.WritesBack.{result_of}
@@ -9,21 +9,21 @@ use Rattle.sled_log.specs.Recovery.{ContinuesFrom, Recovers, Outcome, Recovered,
 use Rattle.sled_log.proofs.snapshot.recover.Goals as goal
 
 -- a snapshot that recovery begins from, and what comes of it there
-from_it : (sum : List ℕ → ℕ) (size : ℕ) (log : List ℕ) (snapshots : ℤ → Option (List ℕ)) (first : SnapshotModel) (o : Outcome)
-    → BeginsFrom sum snapshots first → ContinuesFrom sum size log first o → Recovers sum size log snapshots o
+from_it : (sum : List ℕ → ℕ) (size : ℕ) (content : Content) (first : SnapshotModel) (o : Outcome)
+    → BeginsFrom sum content.snapshots first → ContinuesFrom sum size content.log content.blobs first o → Recovers sum size content o
 unfolding Recovers
-from_it sum size log snapshots first o begins comes = inr (first, begins, comes)
+from_it sum size content first o begins comes = inr (first, begins, comes)
 
-damaged_newest : (sum : List ℕ → ℕ) (size : ℕ) (log : List ℕ) (snapshots : ℤ → Option (List ℕ)) → IsDamagedSnapshot sum snapshots → Recovers sum size log snapshots Damaged
+damaged_newest : (sum : List ℕ → ℕ) (size : ℕ) (content : Content) → IsDamagedSnapshot sum content.snapshots → Recovers sum size content Damaged
 unfolding Recovers
-damaged_newest sum size log snapshots damaged = inl (refl, damaged)
+damaged_newest sum size content damaged = inl (refl, damaged)
 
 -- what comes of it, where the device and the configuration are as they were
 comes_as : (sum : List ℕ → ℕ) (first : SnapshotModel) (o : Outcome) (old new : Config) (before after : Trace) → new ≡ old → after ≡ before
-    → ContinuesFrom sum new.segment_size (state_of after).log.bytes first o → ContinuesFrom sum old.segment_size (state_of before).log.bytes first o
+    → ContinuesFrom sum new.segment_size (state_of after).log.bytes (state_of after).blobs.file first o → ContinuesFrom sum old.segment_size (state_of before).log.bytes (state_of before).blobs.file first o
 comes_as sum first o old new before after same_config same_trace comes =
-    subst (λ (x : Config). ContinuesFrom sum x.segment_size (state_of before).log.bytes first o) same_config
-    (subst (λ (t : Trace). ContinuesFrom sum new.segment_size (state_of t).log.bytes first o) same_trace comes)
+    subst (λ (x : Config). ContinuesFrom sum x.segment_size (state_of before).log.bytes (state_of before).blobs.file first o) same_config
+    (subst (λ (t : Trace). ContinuesFrom sum new.segment_size (state_of t).log.bytes (state_of t).blobs.file first o) same_trace comes)
 
 begins_as : (sum : List ℕ → ℕ) (first : SnapshotModel) (before after : Trace) → after ≡ before → BeginsFrom sum (state_of after).snapshots.file first → BeginsFrom sum (state_of before).snapshots.file first
 begins_as sum first before after same begins = subst (λ (t : Trace). BeginsFrom sum (state_of t).snapshots.file first) same begins
@@ -35,7 +35,7 @@ returns-in-Ok-clause-ok g c =
     let cfg : Config = c.args.config.now.config in
     let first : SnapshotModel = model_of c.in-Ok.first in
     if_ok c.continue_from.result _ _ (λ x comes.
-    from_it sum cfg.segment_size (state_of before).log.bytes (state_of before).snapshots.file first (Recovered (result_of x))
+    from_it sum cfg.segment_size (content_of (state_of before)) first (Recovered (result_of x))
     (begins_as sum first before _ c.len.ensures.trace c.in-Ok.ensures.ok)
     (comes_as sum first (Recovered (result_of x)) cfg _ before _ c.in-Ok.ensures.reads.config (c.in-Ok.ensures.reads.unwritten ∙ c.len.ensures.trace) comes))
     c.continue_from.ensures.ok
@@ -46,7 +46,7 @@ returns-in-Ok-clause-corrupt g c = λ corrupt.
     let before : Trace = g.D.Device.trace c.args.config.now.device in
     let cfg : Config = c.args.config.now.config in
     let first : SnapshotModel = model_of c.in-Ok.first in
-    inr (from_it sum cfg.segment_size (state_of before).log.bytes (state_of before).snapshots.file first Damaged
+    inr (from_it sum cfg.segment_size (content_of (state_of before)) first Damaged
     (begins_as sum first before _ c.len.ensures.trace c.in-Ok.ensures.ok)
     (comes_as sum first Damaged cfg _ before _ c.in-Ok.ensures.reads.config (c.in-Ok.ensures.reads.unwritten ∙ c.len.ensures.trace) (c.continue_from.ensures.corrupt corrupt)))
 
@@ -54,5 +54,5 @@ pub returns-in-Err-clause-corrupt : goal.returns-in-Err-clause-corrupt
 returns-in-Err-clause-corrupt g c = λ corrupt.
     let sum : List ℕ → ℕ = g.C.Checksum.sum_of in
     let before : Trace = g.D.Device.trace c.args.config.now.device in
-    inr (damaged_newest sum c.args.config.now.config.segment_size (state_of before).log.bytes (state_of before).snapshots.file
+    inr (damaged_newest sum c.args.config.now.config.segment_size (content_of (state_of before))
     (subst (λ (t : Trace). IsDamagedSnapshot sum (state_of t).snapshots.file) c.len.ensures.trace (c.in-Err.ensures.corrupt corrupt)))

@@ -88,7 +88,7 @@ returns-in-Err-clause-step g c = λ k at.
           let whole = c.in-Err.ensures.undamaged k.history k.acknowledged k.floor can in
           let sizes : c.read_snapshot_or_default.new.config.config.segment_size ≡ size = ap (λ (x : Config). x.segment_size) c.read_snapshot_or_default.ensures.config.config in (
             k,
-            (cause_of Snapshot c.in-Err.e _ _ c.in-Err.ensures.answers whole, refl),
+            (cause_of Snapshot sum (state_of old).blobs.file c.in-Err.e _ _ c.in-Err.ensures.answers whole, refl),
             record {
               formed = at.formed;
               left = subst (λ n. LeavesRecoverable sum n k.history k.acknowledged k.floor (state_of new)) (sym sizes)

@@ -1,8 +1,8 @@
 use Rattle.std.proofs.Common.{◌≡◌, ◌∙◌, ◌+◌, ◌<◌, ℕ, List, ◌∷◌, length, map, drop, get_or, None, ap, sym}
 use Rattle.sled_codec.specs.Snapshots.{page_of}
 use Rattle.sled_log.specs.declared.snapshot.reference.Pass.{Pass}
-use Rattle.sled_log.specs.Recovery.{Scanned, given, open_at, table_of, has_no_table}
-use Rattle.sled_log.specs.Plain.{pass_of, passed_all, stop_of}
+use Rattle.sled_log.specs.Recovery.{passed_all, Scanned, given, open_at, table_of, has_no_table}
+use Rattle.sled_log.specs.Plain.{pass_of, stop_of}
 use Rattle.sled_log.proofs.Reference.PlainSegments.{behind}
 use Rattle.sled_log.proofs.Reference.PlainPasses.{table_on, fine_on, bad_on, stop_none}
 use Rattle.sled_log.proofs.snapshot.reference.apply_passes.Goals as goal

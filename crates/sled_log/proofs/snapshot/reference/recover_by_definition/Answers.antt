@@ -1,10 +1,10 @@
 use Rattle.sled_core.proofs.Read.ReadingLemmas.{if_ok}
 use Rattle.sled_codec.specs.Snapshots.{SnapshotModel, model_of}
 use Rattle.sled_store.specs.declared.config.Config.{Config}
-use Rattle.sled_store.specs.Device.{Trace, state_of}
+use Rattle.sled_store.specs.Device.{Trace, content_of, state_of}
 use Rattle.sled_log.specs.Recovery.{Recovered, Damaged, ContinuesFrom}
 use Rattle.sled_log.specs.WritesBack.{result_of}
-use Rattle.sled_log.proofs.Reference.PlainSame.{was_so}
+use Rattle.sled_log.proofs.Reference.PlainSame.{was_so_in}
 use Rattle.sled_log.proofs.Reference.PlainWhole.{recovers_from, recovers_damaged}
 use Rattle.sled_log.proofs.snapshot.reference.recover_by_definition.Goals as goal
 
@@ -14,8 +14,8 @@ returns-in-Ok-clause-ok g c =
     let before : Trace = g.D.Device.trace c.args.config.now.device in
     let first : SnapshotModel = model_of c.in-Ok.first in
     if_ok c.continue_by_definition.result _ _ (λ x comes.
-    recovers_from g.C.Checksum.sum_of cfg.segment_size (state_of before).log.bytes (state_of before).snapshots.file first (Recovered (result_of x)) c.in-Ok.ensures.ok
-    (was_so (λ n l. ContinuesFrom g.C.Checksum.sum_of n l first (Recovered (result_of x))) cfg c.read_newest.new.config.config before (g.D.Device.trace c.read_newest.new.config.device) c.in-Ok.ensures.reads.config c.in-Ok.ensures.reads.unwritten comes))
+    recovers_from g.C.Checksum.sum_of cfg.segment_size (content_of (state_of before)) first (Recovered (result_of x)) c.in-Ok.ensures.ok
+    (was_so_in (λ n s. ContinuesFrom g.C.Checksum.sum_of n s.log.bytes s.blobs.file first (Recovered (result_of x))) cfg c.read_newest.new.config.config before (g.D.Device.trace c.read_newest.new.config.device) c.in-Ok.ensures.reads.config c.in-Ok.ensures.reads.unwritten comes))
     c.continue_by_definition.ensures.ok
 
 pub returns-in-Ok-clause-corrupt : goal.returns-in-Ok-clause-corrupt
@@ -23,10 +23,10 @@ returns-in-Ok-clause-corrupt g c = λ corrupt.
     let cfg : Config = c.args.config.now.config in
     let before : Trace = g.D.Device.trace c.args.config.now.device in
     let first : SnapshotModel = model_of c.in-Ok.first in
-    recovers_from g.C.Checksum.sum_of cfg.segment_size (state_of before).log.bytes (state_of before).snapshots.file first Damaged c.in-Ok.ensures.ok
-    (was_so (λ n l. ContinuesFrom g.C.Checksum.sum_of n l first Damaged) cfg c.read_newest.new.config.config before (g.D.Device.trace c.read_newest.new.config.device) c.in-Ok.ensures.reads.config c.in-Ok.ensures.reads.unwritten (c.continue_by_definition.ensures.corrupt corrupt))
+    recovers_from g.C.Checksum.sum_of cfg.segment_size (content_of (state_of before)) first Damaged c.in-Ok.ensures.ok
+    (was_so_in (λ n s. ContinuesFrom g.C.Checksum.sum_of n s.log.bytes s.blobs.file first Damaged) cfg c.read_newest.new.config.config before (g.D.Device.trace c.read_newest.new.config.device) c.in-Ok.ensures.reads.config c.in-Ok.ensures.reads.unwritten (c.continue_by_definition.ensures.corrupt corrupt))
 
 pub returns-in-Err-clause-corrupt : goal.returns-in-Err-clause-corrupt
 returns-in-Err-clause-corrupt g c = λ corrupt.
     let before : Trace = g.D.Device.trace c.args.config.now.device in
-    recovers_damaged g.C.Checksum.sum_of c.args.config.now.config.segment_size (state_of before).log.bytes (state_of before).snapshots.file (c.in-Err.ensures.corrupt corrupt)
+    recovers_damaged g.C.Checksum.sum_of c.args.config.now.config.segment_size (content_of (state_of before)) (c.in-Err.ensures.corrupt corrupt)

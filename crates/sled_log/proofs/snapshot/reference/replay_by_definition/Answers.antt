@@ -1,16 +1,16 @@
-use Rattle.std.proofs.Common.{◌≡◌, ◌∙◌, ◌⊎◌, ℕ, List, subst}
+use Rattle.std.proofs.Common.{◌∙◌, ℕ, List, Some, subst}
 use Rattle.std.specs.List.{Contains}
 use Rattle.sled_core.proofs.Read.ReadingLemmas.{if_ok}
 use Rattle.sled_core.specs.declared.iterator.Segment.{Segment}
 use Rattle.sled_codec.specs.Snapshots.{SnapshotModel, model_of}
 use Rattle.sled_store.specs.declared.config.Config.{Config}
 use Rattle.sled_store.specs.Device.{Trace, state_of}
-use Rattle.sled_log.specs.Recovery.{Scanned, IsTail, IsDamagedTail, begun_below, AreReplayed, IsDamagedPass, outcome_of, Recovered, Damaged, least_place}
+use Rattle.sled_log.specs.Recovery.{IsTail, IsDamagedTail, Passes, Recovered, Damaged, least_place}
 use Rattle.sled_log.specs.Plain.{CanBeRead}
 use Rattle.sled_log.specs.WritesBack.{result_of}
-use Rattle.sled_log.proofs.Reference.PlainSame.{was_so, still_so}
+use Rattle.sled_log.proofs.Reference.PlainSame.{was_so_in, still_so}
 use Rattle.sled_log.proofs.Reference.PlainFound.{all_ready}
-use Rattle.sled_log.proofs.Reference.PlainWhole.{begins_there, comes_damaged, comes_unchanged, comes_passed, comes_corrupt}
+use Rattle.sled_log.proofs.Reference.PlainWhole.{begins_there, comes_damaged, comes_unchanged, comes_passing}
 use Rattle.sled_log.proofs.snapshot.reference.replay_by_definition.Goals as goal
 
 pub tail_end-requires : goal.tail_end-requires
@@ -38,10 +38,10 @@ returns-in-Ok-Some-clause-ok g c =
     let begins = begins_there size c.stable_place.result c.tail_begins.result first ss c.tail_begins.ensures c.stable_place.ensures.place in
     let tail = c.in-Ok-Some.ensures.end in
     if_ok c.pass_over.result _ _ (λ x passed.
-    let passes = was_so (λ n l. (xs : List Scanned) × AreReplayed g.C.Checksum.sum_of n l end (begun_below end ss) xs × (outcome_of n first end xs ≡ Recovered (result_of x))) cfg c.tail_end.new.config.config before (g.D.Device.trace c.tail_end.new.config.device)
-    c.in-Ok-Some.ensures.reads.config c.in-Ok-Some.ensures.reads.unwritten passed in
-    comes_passed g.C.Checksum.sum_of size log first ss c.requires.ordering tail.0 (subst (λ n. IsTail g.C.Checksum.sum_of size log ss n tail.0) begins tail.1) end (tail.2 ∙ c.in-Ok-Some.field-0-is)
-    (Recovered (result_of x)) passes.0 passes.1 passes.2)
+    comes_passing g.C.Checksum.sum_of size log (state_of before).blobs.file first ss c.requires.ordering tail.0 (subst (λ n. IsTail g.C.Checksum.sum_of size log ss n tail.0) begins tail.1) tail.2 end (tail.3 ∙ c.in-Ok-Some.field-0-is)
+    (Recovered (result_of x))
+    (was_so_in (λ n s. Passes g.C.Checksum.sum_of n s.log.bytes s.blobs.file first ss (Some end) (Recovered (result_of x))) cfg c.tail_end.new.config.config before (g.D.Device.trace c.tail_end.new.config.device)
+    c.in-Ok-Some.ensures.reads.config c.in-Ok-Some.ensures.reads.unwritten passed))
     c.pass_over.ensures.ok
 
 pub returns-in-Ok-Some-clause-corrupt : goal.returns-in-Ok-Some-clause-corrupt
@@ -55,8 +55,8 @@ returns-in-Ok-Some-clause-corrupt g c = λ corrupt.
     let end : ℕ = c.in-Ok-Some.end in
     let begins = begins_there size c.stable_place.result c.tail_begins.result first ss c.tail_begins.ensures c.stable_place.ensures.place in
     let tail = c.in-Ok-Some.ensures.end in
-    comes_corrupt g.C.Checksum.sum_of size log first ss c.requires.ordering tail.0 (subst (λ n. IsTail g.C.Checksum.sum_of size log ss n tail.0) begins tail.1) end (tail.2 ∙ c.in-Ok-Some.field-0-is)
-    (was_so (λ n l. IsDamagedPass g.C.Checksum.sum_of n l end (begun_below end ss) ⊎ ((xs : List Scanned) × AreReplayed g.C.Checksum.sum_of n l end (begun_below end ss) xs × (outcome_of n first end xs ≡ Damaged))) cfg c.tail_end.new.config.config before (g.D.Device.trace c.tail_end.new.config.device)
+    comes_passing g.C.Checksum.sum_of size log (state_of before).blobs.file first ss c.requires.ordering tail.0 (subst (λ n. IsTail g.C.Checksum.sum_of size log ss n tail.0) begins tail.1) tail.2 end (tail.3 ∙ c.in-Ok-Some.field-0-is) Damaged
+    (was_so_in (λ n s. Passes g.C.Checksum.sum_of n s.log.bytes s.blobs.file first ss (Some end) Damaged) cfg c.tail_end.new.config.config before (g.D.Device.trace c.tail_end.new.config.device)
     c.in-Ok-Some.ensures.reads.config c.in-Ok-Some.ensures.reads.unwritten (c.pass_over.ensures.corrupt corrupt))
 
 pub returns-in-Ok-None-clause-ok : goal.returns-in-Ok-None-clause-ok
@@ -68,7 +68,7 @@ returns-in-Ok-None-clause-ok g c =
     let first : SnapshotModel = model_of c.args.first in
     let begins = begins_there size c.stable_place.result c.tail_begins.result first ss c.tail_begins.ensures c.stable_place.ensures.place in
     let tail = c.in-Ok-None.ensures.end in
-    comes_unchanged g.C.Checksum.sum_of size log first ss c.requires.ordering tail.0 (subst (λ n. IsTail g.C.Checksum.sum_of size log ss n tail.0) begins tail.1) (tail.2 ∙ c.in-Ok-None.field-0-is)
+    comes_unchanged g.C.Checksum.sum_of size log (state_of (g.D.Device.trace c.args.config.now.device)).blobs.file first ss c.requires.ordering tail.0 (subst (λ n. IsTail g.C.Checksum.sum_of size log ss n tail.0) begins tail.1) tail.2 (tail.3 ∙ c.in-Ok-None.field-0-is)
 
 pub returns-in-Err-clause-corrupt : goal.returns-in-Err-clause-corrupt
 returns-in-Err-clause-corrupt g c = λ corrupt.
@@ -78,4 +78,4 @@ returns-in-Err-clause-corrupt g c = λ corrupt.
     let ss : List Segment = c.args.segments.now in
     let first : SnapshotModel = model_of c.args.first in
     let begins = begins_there size c.stable_place.result c.tail_begins.result first ss c.tail_begins.ensures c.stable_place.ensures.place in
-    comes_damaged g.C.Checksum.sum_of size log first ss c.requires.ordering (subst (λ n. IsDamagedTail g.C.Checksum.sum_of size log ss n) begins (c.in-Err.ensures.damaged corrupt))
+    comes_damaged g.C.Checksum.sum_of size log (state_of (g.D.Device.trace c.args.config.now.device)).blobs.file first ss c.requires.ordering (subst (λ n. IsDamagedTail g.C.Checksum.sum_of size log (state_of (g.D.Device.trace c.args.config.now.device)).blobs.file ss n) begins (c.in-Err.ensures.damaged corrupt))

@@ -1,0 +1,168 @@
+-- The blobs of what the plain pass meets, segment by segment.
+use Rattle.std.proofs.Common.{◌≡◌, ◌↔◌, ◌⊎◌, ◌∙◌, ◌+◌, ◌<◌, ◌≤◌, ◌^◌, ℕ, ℤ, suc, List, [], ◌∷◌, ◌++◌, length, map, set, get_or, take, drop, append_assoc, append-nil, Option, Some, None, refl, sym, ap, subst, arith, inl, inr}
+use Rattle.std.specs.List.{All}
+use Rattle.std.proofs.lemmas.List.{drop_more, take_more_set, drop-set-lt, map-append}
+use Rattle.std.proofs.lemmas.List.Elements.{All-cons, All-head, All-nil, All-tail}
+use Rattle.sled_core.specs.declared.iterator.scan.ScannedRecord.{ScannedRecord}
+use Rattle.sled_core.specs.declared.iterator.Segment.{Segment}
+use Rattle.sled_store.specs.Device.{Trace, state_of}
+use Rattle.sled_store.proofs.Segments.Elements.{in_cases, in_nothing}
+use Rattle.sled_log.specs.declared.snapshot.reference.Pass.{Pass}
+use Rattle.sled_log.specs.Recovery.{Scanned, StopsOrGoesOn, AreReplayed, before_open, open_at, passed_in, passed_all, NamesKind, MeetsBadBlob, HaveGoodBlobs, resolved_scan, resolved_before}
+use Rattle.sled_log.specs.Plain.{IsPass, pass_of, OpensLast, MeetsBadPass}
+use Rattle.sled_log.proofs.Replay.BlobLemmas.{all_before_open, bad_behind, bad_first, bad_cases}
+use Rattle.sled_log.proofs.Replay.LookLemmas.{all_with_blobs, path_kinds, bad_still}
+
+abbrev pub HasKinds : Pass → Type 0
+HasKinds p = All (λ m. NamesKind m.what) p.scan.met.items
+
+-- What was read in a pass: kinds are known, and only in the last one a batch is open.
+module _ (sum : List ℕ → ℕ) (size : ℕ) (log : List ℕ) (end : ℕ) where
+  pub opens_last : (ss : List Segment) (xs : List Scanned) → AreReplayed sum size log end ss xs → OpensLast end xs
+  opens_last ss [] are = tt
+  opens_last [] (x ∷ xs) are = absurd are
+  opens_last (s ∷ ss) (x ∷ xs) are = by (open_at end x.met) are.2 (opens_last ss xs) where
+    by : (o : Option ℕ) → StopsOrGoesOn o xs (AreReplayed sum size log end ss xs) → (AreReplayed sum size log end ss xs → OpensLast end xs) → StopsOrGoesOn o xs (OpensLast end xs)
+    by (Some p) on others = on
+    by None on others = others on
+
+  pub pass_kinds : (ss : List Segment) (ps : List Pass) → AreReplayed sum size log end ss (map pass_of ps) → All HasKinds ps
+  pass_kinds ss [] are = All-nil HasKinds
+  pass_kinds [] (p ∷ ps) are = absurd are
+  pass_kinds (s ∷ ss) (p ∷ ps) are =
+      All-cons HasKinds p ps (path_kinds sum size log p.segment.slot p.segment.place 20 p.scan.met.items p.scan.stop are.1.0) (by (open_at end p.scan.met.items) are.2 (pass_kinds ss ps)) where
+        none : (qs : List Pass) → map pass_of qs ≡ [] → All HasKinds qs
+        none [] is = All-nil HasKinds
+        none (q ∷ qs) is = absurd (cc)
+
+        by : (o : Option ℕ) → StopsOrGoesOn o (map pass_of ps) (AreReplayed sum size log end ss (map pass_of ps)) → (AreReplayed sum size log end ss (map pass_of ps) → All HasKinds ps) → All HasKinds ps
+        by (Some place) on others = none ps on
+        by None on others = others on
+
+-- What is bad in these segments is bad in all that the pass meets.
+module _ (sum : List ℕ → ℕ) (blobs : ℤ → Option (List ℕ)) where
+  bad_front : (xs ys : List ScannedRecord) → MeetsBadBlob sum blobs xs → MeetsBadBlob sum blobs (xs ++ ys)
+  bad_front [] ys bad = absurd (in_nothing bad.0 bad.1)
+  bad_front (x ∷ xs) ys bad = elim (bad_cases sum blobs x xs bad) [
+    | inl here ↦ bad_first sum blobs x (xs ++ ys) here
+    | inr later ↦ bad_behind sum blobs x (xs ++ ys) (bad_front xs ys later)
+  ]
+
+  bad_back : (xs ys : List ScannedRecord) → MeetsBadBlob sum blobs ys → MeetsBadBlob sum blobs (xs ++ ys)
+  bad_back [] ys bad = bad
+  bad_back (x ∷ xs) ys bad = bad_behind sum blobs x (xs ++ ys) (bad_back xs ys bad)
+
+  bad_in_two : (xs ys : List ScannedRecord) → MeetsBadBlob sum blobs (xs ++ ys) → MeetsBadBlob sum blobs xs ⊎ MeetsBadBlob sum blobs ys
+  bad_in_two [] ys bad = inr bad
+  bad_in_two (x ∷ xs) ys bad = elim (bad_cases sum blobs x (xs ++ ys) bad) [
+    | inl here ↦ inl (bad_first sum blobs x xs here)
+    | inr later ↦ elim (bad_in_two xs ys later) [
+      | inl front ↦ inl (bad_behind sum blobs x xs front)
+      | inr back ↦ inr back
+    ]
+  ]
+
+  module _ (end : ℕ) where
+    passed_none : (s : Scanned) (ss : List Scanned) → passed_in end s None ss ≡ s.met ++ passed_all end ss
+    passed_none s [] = sym (append-nil s.met)
+    passed_none s (t ∷ ts) = refl
+
+    none_last : (ss : List Scanned) → ss ≡ [] → MeetsBadPass sum blobs end ss → ⊥
+    none_last ss is bad = subst (λ (l : List Scanned). MeetsBadPass sum blobs end l) is bad
+
+    pub bad_to_all : (ss : List Scanned) → OpensLast end ss → MeetsBadPass sum blobs end ss → MeetsBadBlob sum blobs (passed_all end ss)
+    bad_to_all [] last bad = absurd bad
+    bad_to_all (s ∷ ss) last bad = by (open_at end s.met) refl last bad (bad_to_all ss) where
+      by : (o : Option ℕ) → open_at end s.met ≡ o → StopsOrGoesOn o ss (OpensLast end ss) → MeetsBadBlob sum blobs (before_open end s.met) ⊎ MeetsBadPass sum blobs end ss
+          → (OpensLast end ss → MeetsBadPass sum blobs end ss → MeetsBadBlob sum blobs (passed_all end ss)) → MeetsBadBlob sum blobs (passed_in end s o ss)
+      by (Some p) is on (inl here) others = here
+      by (Some p) is on (inr later) others = absurd (none_last ss on later)
+      by None is on (inl here) others =
+          subst (MeetsBadBlob sum blobs) (sym (passed_none s ss)) (bad_front s.met (passed_all end ss) (subst (MeetsBadBlob sum blobs) (all_before_open end s.met is) here))
+      by None is on (inr later) others = subst (MeetsBadBlob sum blobs) (sym (passed_none s ss)) (bad_back s.met (passed_all end ss) (others on later))
+
+    pub bad_of_all : (ss : List Scanned) → OpensLast end ss → MeetsBadBlob sum blobs (passed_all end ss) → MeetsBadPass sum blobs end ss
+    bad_of_all [] last bad = absurd (in_nothing bad.0 bad.1)
+    bad_of_all (s ∷ ss) last bad = by (open_at end s.met) refl last bad (bad_of_all ss) where
+      by : (o : Option ℕ) → open_at end s.met ≡ o → StopsOrGoesOn o ss (OpensLast end ss) → MeetsBadBlob sum blobs (passed_in end s o ss)
+          → (OpensLast end ss → MeetsBadBlob sum blobs (passed_all end ss) → MeetsBadPass sum blobs end ss) → MeetsBadBlob sum blobs (before_open end s.met) ⊎ MeetsBadPass sum blobs end ss
+      by (Some p) is on bad others = inl bad
+      by None is on bad others = elim (bad_in_two s.met (passed_all end ss) (subst (MeetsBadBlob sum blobs) (passed_none s ss) bad)) [
+        | inl here ↦ inl (subst (MeetsBadBlob sum blobs) (sym (all_before_open end s.met is)) here)
+        | inr later ↦ inr (others on later)
+      ]
+
+-- One segment after another gets its blobs.
+module _ (sum : List ℕ → ℕ) (blobs : ℤ → Option (List ℕ)) (end : ℕ) (ps : List Pass) (i : ℕ) (d : Pass) (lt : i < length ps) where
+  abbrev R : Scanned → Scanned
+  R = resolved_scan blobs end
+
+  -- kinds of those that are left
+  pub kinds_here : All HasKinds (drop i ps) → HasKinds (get_or ps i d)
+  kinds_here all = All-head HasKinds (get_or ps i d) (drop (i + 1) ps) (subst (All HasKinds) (drop_more ps i d lt) all)
+
+  pub kinds_on : (x : Pass) → All HasKinds (drop i ps) → All HasKinds (drop (i + 1) (set ps i x))
+  kinds_on x all = subst (All HasKinds) (sym (drop-set-lt (i + 1) ps i x (omega arith))) (All-tail HasKinds (get_or ps i d) (drop (i + 1) ps) (subst (All HasKinds) (drop_more ps i d lt) all))
+
+  pub bad_pass_here : MeetsBadBlob sum blobs (before_open end (get_or ps i d).scan.met.items) → MeetsBadPass sum blobs end (map pass_of (drop i ps))
+  bad_pass_here bad = subst (λ (l : List Pass). MeetsBadPass sum blobs end (map pass_of l)) (sym (drop_more ps i d lt)) (inl bad)
+
+  pub bad_pass_on : (x : Pass) (all : Type 0) → (MeetsBadBlob sum blobs (before_open end (get_or ps i d).scan.met.items) → ⊥) → (MeetsBadPass sum blobs end (map pass_of (drop i ps)) ↔ all)
+      → MeetsBadPass sum blobs end (map pass_of (drop (i + 1) (set ps i x))) ↔ all
+  bad_pass_on x all fine both =
+      subst (λ (l : List Pass). MeetsBadPass sum blobs end (map pass_of l) ↔ all) (sym (drop-set-lt (i + 1) ps i x (omega arith))) (
+        λ bad. both.0 (subst (λ (l : List Pass). MeetsBadPass sum blobs end (map pass_of l)) (sym (drop_more ps i d lt)) (inr bad)),
+        λ bad. elim (subst (λ (l : List Pass). MeetsBadPass sum blobs end (map pass_of l)) (drop_more ps i d lt) (both.1 bad)) [
+          | inl here ↦ absurd (fine here)
+          | inr later ↦ later
+        ],
+      )
+
+  pub passes_on : (x : Pass) → pass_of x ≡ R (pass_of (get_or ps i d))
+      → map pass_of (take (i + 1) (set ps i x)) ++ map R (map pass_of (drop (i + 1) (set ps i x))) ≡ map pass_of (take i ps) ++ map R (map pass_of (drop i ps))
+  passes_on x is =
+      ap (λ (l : List Pass). map pass_of l ++ map R (map pass_of (drop (i + 1) (set ps i x)))) (take_more_set ps i x lt)
+      ∙ ap (λ (l : List Pass). map pass_of (take i ps ++ x ∷ []) ++ map R (map pass_of l)) (drop-set-lt (i + 1) ps i x (omega arith))
+      ∙ ap (λ (l : List Scanned). l ++ map R (map pass_of (drop (i + 1) ps))) (map-append pass_of (take i ps) (x ∷ []))
+      ∙ append_assoc (map pass_of (take i ps)) (pass_of x ∷ []) (map R (map pass_of (drop (i + 1) ps)))
+      ∙ ap (λ (y : Scanned). map pass_of (take i ps) ++ y ∷ map R (map pass_of (drop (i + 1) ps))) is
+      ∙ ap (λ (l : List Pass). map pass_of (take i ps) ++ map R (map pass_of l)) (sym (drop_more ps i d lt))
+
+-- their ends and their records lie where they did
+module _ (size : ℕ) (blobs : ℤ → Option (List ℕ)) (end : ℕ) where
+  pub pass_fits : (p q : Pass) → pass_of q ≡ resolved_scan blobs end (pass_of p) → IsPass size p → IsPass size q
+  pass_fits p q is fits =
+      let segment : q.segment ≡ p.segment = ap (λ (s : Scanned). s.segment) is in
+      let met : q.scan.met.items ≡ resolved_before blobs end p.scan.met.items = ap (λ (s : Scanned). s.met) is in
+      let stop : q.scan.stop ≡ p.scan.stop = ap (λ (s : Scanned). s.stop) is in
+      record {
+        slot = subst (λ (s : Segment). s.slot + size < 2 ^ 63) (sym segment) fits.slot;
+        place = subst (λ (s : Segment). s.place + size < 2 ^ 63) (sym segment) fits.place;
+        stop = subst (λ n. n ≤ size) (sym stop) fits.stop;
+        places = subst (λ (s : Segment). All (λ (m : ScannedRecord). m.place < s.place + size) q.scan.met.items) (sym segment)
+            (subst (All (λ (m : ScannedRecord). m.place < p.segment.place + size)) (sym met)
+            (all_with_blobs blobs (λ (m : ScannedRecord). m.place < p.segment.place + size) (λ m lt. lt) end p.scan.met.items fits.places));
+      }
+
+  pub passes_fit : (ps qs : List Pass) → map pass_of qs ≡ map (resolved_scan blobs end) (map pass_of ps) → All (IsPass size) ps → All (IsPass size) qs
+  passes_fit ps [] is fits = All-nil (IsPass size)
+  passes_fit [] (q ∷ qs) is fits = absurd (cc)
+  passes_fit (p ∷ ps) (q ∷ qs) is fits =
+      let first : pass_of q ≡ resolved_scan blobs end (pass_of p) = cc in
+      let others : map pass_of qs ≡ map (resolved_scan blobs end) (map pass_of ps) = cc in
+      All-cons (IsPass size) q qs (pass_fits p q first (All-head (IsPass size) p ps fits)) (passes_fit ps qs others (All-tail (IsPass size) p ps fits))
+
+-- blobs that pass at one moment pass at another one between which the device was only read
+pub still_fine : (sum : List ℕ → ℕ) (ms : List ScannedRecord) (t u : Trace) → t ≡ u → (MeetsBadBlob sum (state_of t).blobs.file ms → ⊥) → MeetsBadBlob sum (state_of u).blobs.file ms → ⊥
+still_fine sum ms t u same fine bad = fine (bad_still sum ms ms u t refl (sym same) bad)
+
+-- one more segment of the tail has blobs that pass
+pub good_more : (sum : List ℕ → ℕ) (blobs : ℤ → Option (List ℕ)) (before : List Scanned) (x : Scanned) → HaveGoodBlobs sum blobs before → (MeetsBadBlob sum blobs x.met → ⊥) → HaveGoodBlobs sum blobs (before ++ x ∷ [])
+good_more sum blobs [] x good fine s there bad = elim (in_cases x s [] there) [
+  | inl same ↦ fine (subst (λ (y : Scanned). MeetsBadBlob sum blobs y.met) (sym same) bad)
+  | inr none ↦ in_nothing s none
+]
+good_more sum blobs (y ∷ before) x good fine s there bad = elim (in_cases y s (before ++ x ∷ []) there) [
+  | inl same ↦ good s (0, omega arith, same) bad
+  | inr later ↦ good_more sum blobs before x (λ t in_rest. good t (suc in_rest.0, let below = in_rest.1 in omega (arith, below), in_rest.2)) fine s later bad
+]

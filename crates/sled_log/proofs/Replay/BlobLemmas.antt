@@ -1,0 +1,180 @@
+-- What the blobs of records change in what a pass meets: neither where it stops nor where its records lie.
+use Rattle.std.proofs.Common.{◌≡◌, ◌⊎◌, ◌∙◌, ◌≤◌, ℕ, ℤ, suc, Bool, true, false, if◌then◌else◌, List, [], ◌∷◌, ◌++◌, map, is_some, Option, Some, None, refl, sym, ap, subst, arith, inl, inr}
+use Rattle.sled_codec.specs.Kinds.{log_kind_of}
+use Rattle.sled_codec.specs.declared.result.DiskPtr.TheVariants.{Blob}
+use Rattle.sled_codec.specs.History.{Message}
+use Rattle.sled_store.proofs.Segments.Elements.{in_cases, in_nothing}
+use Rattle.sled_core.specs.declared.iterator.scan.ScannedRecord.{ScannedRecord}
+use Rattle.sled_core.specs.declared.iterator.scan.RecordContent.{RecordContent}
+use Rattle.sled_core.specs.declared.iterator.scan.RecordContent.TheVariants.{Gives, NamesBlob, Skipped, BatchStart}
+use Rattle.sled_core.proofs.Read.PathLemmas.{met_of}
+use Rattle.sled_log.specs.Recovery.{Scanned, opens, before_open, open_at, stops_in, passed_in, cut_of, HasBadBlob, MeetsBadBlob, HaveGoodBlobs, with_blob, resolved, resolved_before, resolved_scan}
+use Rattle.sled_log.proofs.Replay.LineLemmas.{LieBelow, IsLine, all_below}
+
+-- where no batch is open all is met before one
+pub all_before_open : (end : ℕ) (ms : List ScannedRecord) → open_at end ms ≡ None → before_open end ms ≡ ms
+all_before_open end [] none = refl
+all_before_open end (m ∷ ms) none = by_test (opens end m.what) none (all_before_open end ms) where
+  by_test : (b : Bool) → (if b then Some m.place else open_at end ms) ≡ None → (open_at end ms ≡ None → before_open end ms ≡ ms) → (if b then [] else m ∷ before_open end ms) ≡ m ∷ ms
+  by_test true is rest = absurd (cc)
+  by_test false is rest = ap (λ (l : List ScannedRecord). m ∷ l) (rest is)
+
+module _ (blobs : ℤ → Option (List ℕ)) (end : ℕ) where
+  -- a record with its blob begins a batch where it did
+  opens_with : (what : RecordContent) → opens end (with_blob blobs what) ≡ opens end what
+  opens_with (Gives kind page pointer) = refl
+  opens_with (NamesBlob kind page lid place) = by_test (is_some (blobs place)) where
+    by_test : (b : Bool) → opens end (if b then Gives (log_kind_of kind) page (Blob lid place) else Skipped) ≡ false
+    by_test true = refl
+    by_test false = refl
+  opens_with Skipped = refl
+  opens_with (BatchStart peg) = refl
+
+  open_resolved : (ms : List ScannedRecord) → open_at end (resolved_before blobs end ms) ≡ open_at end ms
+  open_resolved [] = refl
+  open_resolved (m ∷ ms) = by_test (opens end m.what) refl (open_resolved ms) where
+    by_test : (b : Bool) → opens end m.what ≡ b → open_at end (resolved_before blobs end ms) ≡ open_at end ms
+        → open_at end (if b then m ∷ ms else resolved blobs m ∷ resolved_before blobs end ms) ≡ (if b then Some m.place else open_at end ms)
+    by_test true is rest = ap (λ (x : Bool). if x then Some m.place else open_at end ms) is
+    by_test false is rest = ap (λ (x : Bool). if x then Some m.place else open_at end (resolved_before blobs end ms)) (opens_with m.what ∙ is) ∙ rest
+
+  before_resolved : (ms : List ScannedRecord) → before_open end (resolved_before blobs end ms) ≡ map (resolved blobs) (before_open end ms)
+  before_resolved [] = refl
+  before_resolved (m ∷ ms) = by_test (opens end m.what) refl (before_resolved ms) where
+    by_test : (b : Bool) → opens end m.what ≡ b → before_open end (resolved_before blobs end ms) ≡ map (resolved blobs) (before_open end ms)
+        → before_open end (if b then m ∷ ms else resolved blobs m ∷ resolved_before blobs end ms) ≡ map (resolved blobs) (if b then [] else m ∷ before_open end ms)
+    by_test true is rest = ap (λ (x : Bool). if x then [] else m ∷ before_open end ms) is
+    by_test false is rest =
+        ap (λ (x : Bool). if x then [] else resolved blobs m ∷ before_open end (resolved_before blobs end ms)) (opens_with m.what ∙ is)
+        ∙ ap (λ (l : List ScannedRecord). resolved blobs m ∷ l) rest
+
+  all_resolved : (ms : List ScannedRecord) → open_at end ms ≡ None → resolved_before blobs end ms ≡ map (resolved blobs) ms
+  all_resolved ms none =
+      sym (all_before_open end (resolved_before blobs end ms) (open_resolved ms ∙ none)) ∙ before_resolved ms ∙ ap (map (resolved blobs)) (all_before_open end ms none)
+
+  abbrev R : Scanned → Scanned
+  R = resolved_scan blobs end
+
+  -- the pass stops where it did
+  stops_resolved : (s : Scanned) (ss : List Scanned) (o : Option ℕ) → stops_in end (R s) o (map R ss) ≡ stops_in end s o ss
+  stops_resolved s ss (Some p) = refl
+  stops_resolved s [] None = refl
+  stops_resolved s (t ∷ ts) None = ap (λ o. stops_in end (R t) o (map R ts)) (open_resolved t.met) ∙ stops_resolved t ts (open_at end t.met)
+
+  map_both : (xs ys : List ScannedRecord) → map (resolved blobs) xs ++ map (resolved blobs) ys ≡ map (resolved blobs) (xs ++ ys)
+  map_both [] ys = refl
+  map_both (x ∷ xs) ys = ap (λ (l : List ScannedRecord). resolved blobs x ∷ l) (map_both xs ys)
+
+  -- and meets the same with its blobs
+  passed_resolved : (s : Scanned) (ss : List Scanned) (o : Option ℕ) → open_at end s.met ≡ o → passed_in end (R s) o (map R ss) ≡ map (resolved blobs) (passed_in end s o ss)
+  passed_resolved s ss (Some p) is = before_resolved s.met
+  passed_resolved s [] None is = all_resolved s.met is
+  passed_resolved s (t ∷ ts) None is =
+      ap (λ o. resolved_before blobs end s.met ++ passed_in end (R t) o (map R ts)) (open_resolved t.met)
+      ∙ ap (λ (l : List ScannedRecord). resolved_before blobs end s.met ++ l) (passed_resolved t ts (open_at end t.met) refl)
+      ∙ ap (λ (l : List ScannedRecord). l ++ map (resolved blobs) (passed_in end t (open_at end t.met) ts)) (all_resolved s.met is)
+      ∙ map_both s.met (passed_in end t (open_at end t.met) ts)
+
+  lie_resolved : (at : ℕ) (ms : List ScannedRecord) → LieBelow at ms → LieBelow at (map (resolved blobs) ms)
+  lie_resolved at [] lie = tt
+  lie_resolved at (m ∷ ms) lie = (lie.0, lie_resolved at ms lie.1)
+
+  -- so all of it lies below the cut
+  pub all_below_resolved : (sum : List ℕ → ℕ) (size : ℕ) (log : List ℕ) (large : 20 ≤ size) (s : Scanned) (ss : List Scanned) → IsLine sum size log large (s ∷ ss)
+      → LieBelow (cut_of size (stops_in end (R s) (open_at end (R s).met) (map R ss))).0 (passed_in end (R s) (open_at end (R s).met) (map R ss))
+  all_below_resolved sum size log large s ss line =
+      let opened : open_at end (R s).met ≡ open_at end s.met = open_resolved s.met in
+      let stops = ap (λ o. stops_in end (R s) o (map R ss)) opened ∙ stops_resolved s ss (open_at end s.met) in
+      let passed = ap (λ o. passed_in end (R s) o (map R ss)) opened ∙ passed_resolved s ss (open_at end s.met) refl in
+      let below = lie_resolved (cut_of size (stops_in end s (open_at end s.met) ss)).0 (passed_in end s (open_at end s.met) ss) (all_below sum size log large end s ss line) in
+      subst (λ at. LieBelow (cut_of size at).0 (passed_in end (R s) (open_at end (R s).met) (map R ss))) (sym stops)
+      (subst (LieBelow (cut_of size (stops_in end s (open_at end s.met) ss)).0) (sym passed) below)
+
+-- Blobs that don't pass.
+module _ (sum : List ℕ → ℕ) (blobs : ℤ → Option (List ℕ)) where
+  pub bad_behind : (x : ScannedRecord) (ms : List ScannedRecord) → MeetsBadBlob sum blobs ms → MeetsBadBlob sum blobs (x ∷ ms)
+  bad_behind x ms bad = (bad.0, (suc bad.1.0, let below = bad.1.1 in omega (arith, below), bad.1.2), bad.2)
+
+  pub bad_first : (x : ScannedRecord) (ms : List ScannedRecord) → HasBadBlob sum blobs x.what → MeetsBadBlob sum blobs (x ∷ ms)
+  bad_first x ms bad = (x, (0, omega arith, refl), bad)
+
+  -- one of these, or one behind it
+  pub bad_cases : (x : ScannedRecord) (ms : List ScannedRecord) → MeetsBadBlob sum blobs (x ∷ ms) → HasBadBlob sum blobs x.what ⊎ MeetsBadBlob sum blobs ms
+  bad_cases x ms bad = elim (in_cases x bad.0 ms bad.1) [
+    | inl same ↦ inl (subst (λ (y : ScannedRecord). HasBadBlob sum blobs y.what) (sym same) bad.2)
+    | inr later ↦ inr (bad.0, later, bad.2)
+  ]
+
+  -- where there are no blobs
+  none_bad : ((n : ℤ) → blobs n ≡ None) → (what : RecordContent) → HasBadBlob sum blobs what → ⊥
+  none_bad none (Gives kind page pointer) bad = bad
+  none_bad none (NamesBlob kind page lid place) bad = let both : None ≡ Some bad.0 = sym (none place) ∙ bad.1 in cc
+  none_bad none Skipped bad = bad
+  none_bad none (BatchStart peg) bad = bad
+
+  pub meets_no_bad : ((n : ℤ) → blobs n ≡ None) → (ms : List ScannedRecord) → MeetsBadBlob sum blobs ms → ⊥
+  meets_no_bad none ms bad = none_bad none bad.0.what bad.2
+
+  -- a record with its blob names none
+  with_none_bad : (what : RecordContent) → HasBadBlob sum blobs (with_blob blobs what) → ⊥
+  with_none_bad (Gives kind page pointer) bad = bad
+  with_none_bad (NamesBlob kind page lid place) bad = by_test (is_some (blobs place)) bad where
+    by_test : (b : Bool) → HasBadBlob sum blobs (if b then Gives (log_kind_of kind) page (Blob lid place) else Skipped) → ⊥
+    by_test true bad = bad
+    by_test false bad = bad
+  with_none_bad Skipped bad = bad
+  with_none_bad (BatchStart peg) bad = bad
+
+  module _ (end : ℕ) where
+    -- a bad one is met before a batch that is open, or is left behind that
+    pub bad_either : (ms : List ScannedRecord) → MeetsBadBlob sum blobs ms → MeetsBadBlob sum blobs (before_open end ms) ⊎ MeetsBadBlob sum blobs (resolved_before blobs end ms)
+    bad_either [] bad = absurd (in_nothing bad.0 bad.1)
+    bad_either (m ∷ ms) bad = by_test (opens end m.what) (bad_either ms) where
+      by_test : (b : Bool) → (MeetsBadBlob sum blobs ms → MeetsBadBlob sum blobs (before_open end ms) ⊎ MeetsBadBlob sum blobs (resolved_before blobs end ms))
+          → MeetsBadBlob sum blobs (if b then [] else m ∷ before_open end ms) ⊎ MeetsBadBlob sum blobs (if b then m ∷ ms else resolved blobs m ∷ resolved_before blobs end ms)
+      by_test true rest = inr bad
+      by_test false rest = elim (bad_cases m ms bad) [
+        | inl here ↦ inl (bad_first m (before_open end ms) here)
+        | inr later ↦ elim (rest later) [
+          | inl before ↦ inl (bad_behind m (before_open end ms) before)
+          | inr left ↦ inr (bad_behind (resolved blobs m) (resolved_before blobs end ms) left)
+        ]
+      ]
+
+    -- and none is left that wasn't there
+    pub bad_left : (ms : List ScannedRecord) → MeetsBadBlob sum blobs (resolved_before blobs end ms) → MeetsBadBlob sum blobs ms
+    bad_left [] bad = bad
+    bad_left (m ∷ ms) bad = by_test (opens end m.what) (bad_left ms) bad where
+      by_test : (b : Bool) → (MeetsBadBlob sum blobs (resolved_before blobs end ms) → MeetsBadBlob sum blobs ms)
+          → MeetsBadBlob sum blobs (if b then m ∷ ms else resolved blobs m ∷ resolved_before blobs end ms) → MeetsBadBlob sum blobs (m ∷ ms)
+      by_test true rest bad = bad
+      by_test false rest bad = elim (bad_cases (resolved blobs m) (resolved_before blobs end ms) bad) [
+        | inl here ↦ absurd (with_none_bad m.what here)
+        | inr later ↦ bad_behind m ms (rest later)
+      ]
+
+    pub bad_before : (ms : List ScannedRecord) → MeetsBadBlob sum blobs (before_open end ms) → MeetsBadBlob sum blobs ms
+    bad_before [] bad = bad
+    bad_before (m ∷ ms) bad = by_test (opens end m.what) (bad_before ms) bad where
+      by_test : (b : Bool) → (MeetsBadBlob sum blobs (before_open end ms) → MeetsBadBlob sum blobs ms) → MeetsBadBlob sum blobs (if b then [] else m ∷ before_open end ms) → MeetsBadBlob sum blobs (m ∷ ms)
+      by_test true rest bad = absurd (in_nothing bad.0 bad.1)
+      by_test false rest bad = elim (bad_cases m (before_open end ms) bad) [
+        | inl here ↦ bad_first m ms here
+        | inr later ↦ bad_behind m ms (rest later)
+      ]
+
+  -- of one segment
+  pub bad_passed : (end : ℕ) (s : Scanned) → MeetsBadBlob sum blobs (passed_in end s (open_at end s.met) []) → MeetsBadBlob sum blobs s.met
+  bad_passed end s bad = by (open_at end s.met) bad where
+    by : (o : Option ℕ) → MeetsBadBlob sum blobs (passed_in end s o []) → MeetsBadBlob sum blobs s.met
+    by (Some place) bad = bad_before end s.met bad
+    by None bad = bad
+
+  -- where there are no blobs none is bad in any segment
+  pub good_blobs : ((n : ℤ) → blobs n ≡ None) → (scanned : List Scanned) → HaveGoodBlobs sum blobs scanned
+  good_blobs none scanned s there = meets_no_bad none s.met
+
+-- messages that hold their items stay as they are
+pub messages_resolved : (blobs : ℤ → Option (List ℕ)) (end : ℕ) (ms : List Message) → resolved_before blobs end (map met_of ms) ≡ map met_of ms
+messages_resolved blobs end [] = refl
+messages_resolved blobs end (m ∷ ms) = ap (λ (l : List ScannedRecord). met_of m ∷ l) (messages_resolved blobs end ms)
