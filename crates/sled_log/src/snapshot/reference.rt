@@ -142,7 +142,8 @@ fn pass_over<D: Device, C: Checksum>(
     requires ready { (s : Segment) → Contains segments.now s → CanBeRead config.old.config.segment_size (state_of (D.trace config.old.device)).log.bytes s }
     requires end { end < 2 ^ 63 }
     ensures ok { let s = state_of (D.trace config.old.device) in
-        IfOk result (λ x. Passes C.sum_of config.old.config.segment_size s.log.bytes s.blobs.file (model_of first) segments.now (Some end) (Recovered (result_of x))) }
+        IfOk result (λ x. Passes C.sum_of config.old.config.segment_size s.log.bytes s.blobs.file
+        (model_of first) segments.now (Some end) (Recovered (result_of x))) }
     ensures corrupt { let s = state_of (D.trace config.old.device) in
         IsCorruption result → Passes C.sum_of config.old.config.segment_size s.log.bytes s.blobs.file (model_of first) segments.now (Some end) Damaged }
     ensures answers { let blobs = (state_of (D.trace config.old.device)).blobs.file in
