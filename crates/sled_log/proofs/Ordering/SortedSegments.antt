@@ -4,7 +4,7 @@ use Rattle.std.specs.List.{Contains, AllPairs, AllAdjacentBelow}
 use Rattle.std.specs.List.Sorted.{IsPermutation, IsNonDecreasingBy}
 use Rattle.std.proofs.Math.Dec.{eqb}
 use Rattle.std.proofs.lemmas.Bool.Decides.{eqb_tells, nat_tests}
-use Rattle.std.proofs.lemmas.Bool.{cases_lt, true≢false}
+use Rattle.std.proofs.lemmas.Bool.{cases_lt, eqb-false}
 use Rattle.std.proofs.lemmas.List.{get_or_default}
 use Rattle.std.proofs.lemmas.List.Elements.{Contains-get_or}
 use Rattle.std.proofs.lemmas.List.Sorted.{Contains-permutation, IsPermutation-sym}
@@ -18,6 +18,7 @@ use Rattle.sled_log.specs.Ordering.{AreCollected, ShareAPlace}
 abbrev same_slot : Segment → Segment → Bool
 same_slot s t = eqb s.slot t.slot
 
+-- a test of two numbers is the same the other way round
 flips : (a b : ℕ) → eqb a b ≡ eqb b a
 flips a b = ⊎_elim same other (eqb_tells a b) where
   same : (eqb a b ≡ true) × (a ≡ b) → eqb a b ≡ eqb b a
@@ -26,14 +27,11 @@ flips a b = ⊎_elim same other (eqb_tells a b) where
   other : (eqb a b ≡ false) × (a ≢ b) → eqb a b ≡ eqb b a
   other both = both.0 ∙ sym (ne_eqb b a (λ is. both.1 (sym is)))
 
-apart_test : (a b : ℕ) → eqb a b ≡ false → a ≢ b
-apart_test a b differ is = ⊎_elim (λ both. absurd (true≢false (sym both.0 ∙ differ))) (λ both. both.1 is) (eqb_tells a b)
-
 -- segments of different slots stay so when they change places
 pub apart_permuted : (ss ts : List Segment) → IsPermutation ss ts → AllPairs (λ s t. s.slot ≢ t.slot) ss → AllPairs (λ s t. s.slot ≢ t.slot) ts
 apart_permuted ss ts moves apart = λ i j d lt within.
     let distinct = IsDistinct-from_apart same_slot ss (λ k l x below in_range. ne_eqb (get_or ss k x).slot (get_or ss l x).slot (apart k l x below in_range)) in
-    apart_test (get_or ts i d).slot (get_or ts j d).slot (apart_from_distinct same_slot ts i j d (IsDistinct-IsPermutation same_slot (λ s t. flips s.slot t.slot) ss ts moves distinct) lt within)
+    eqb-false (get_or ts i d).slot (get_or ts j d).slot (apart_from_distinct same_slot ts i j d (IsDistinct-IsPermutation same_slot (λ s t. flips s.slot t.slot) ss ts moves distinct) lt within)
 
 -- each begins above the one before it
 pub ascends : (ss : List Segment) → AllAdjacentBelow (λ s t. s.place < t.place) ss (length ss) → is_ascending ss ≡ true
