@@ -68,8 +68,9 @@ pub struct SegmentScan {
     pub ending: ScanEnd,
 }
 
-/// Returns all that is met in a segment, by place. The buffer has the bytes of its slot. It asks that the slot begins at a multiple of the size of segments, and that the slot and
-/// the segment end below 2^63. `segment_in` does not test that, so its caller does.
+/// Returns all that is met in a segment, by place. The buffer has the bytes of its slot. It asks that the slot begins
+/// at a multiple of the size of segments, and that the slot and the segment end below 2^63. `segment_in` does not test
+/// that, so its caller does.
 ///
 /// # Errors
 ///
