@@ -1,12 +1,13 @@
--- What the plain recovery speaks of, beside what recovery makes of a log file.
-use Rattle.std.specs.Prelude.{◌≡◌, ◌⊎◌, ℤ, ◌+◌, ◌/◌, ◌%◌, ◌^◌, ◌≤◌, ◌<◌, ℕ, List, [], ◌∷◌, length, Option, Some, None}
+-- What the code of recovery speaks of, beside what recovery makes of a log file.
+use Rattle.std.specs.Prelude.{◌≡◌, ◌⊎◌, ℤ, ◌+◌, ◌/◌, ◌%◌, ◌^◌, ◌≤◌, ◌<◌, ℕ, List, [], ◌∷◌, length, map, is_some, if◌then◌else◌, Option, Some, None, Contains}
 use Rattle.std.specs.List.{All}
+use Rattle.sled_codec.specs.Snapshots.{SnapshotModel}
 use Rattle.sled_core.specs.declared.iterator.scan.ScannedRecord.{ScannedRecord}
 use Rattle.sled_core.specs.declared.iterator.Segment.{Segment}
 use Rattle.sled_core.specs.Reading.{IsMalformed}
 use Rattle.sled_core.specs.Scan.{IsPath}
-use Rattle.sled_log.specs.declared.snapshot.reference.Pass.{Pass}
-use Rattle.sled_log.specs.Recovery.{Scanned, open_at, stops_in, scanned_of, StopsOrGoesOn, before_open, MeetsBadBlob}
+use Rattle.sled_log.specs.declared.snapshot.pass.Pass.{Pass}
+use Rattle.sled_log.specs.Recovery.{Scanned, Outcome, AreScanned, AreReplayed, IsDamagedPass, Passes, open_at, stops_in, scanned_of, StopsOrGoesOn, before_open, MeetsBadBlob, HaveGoodBlobs, resolved_scan}
 
 -- A segment can be read: its slot is one of the file, and its ends are places and offsets.
 pub record CanBeRead (size : ℕ) (log : List ℕ) (s : Segment) : Type 0 where
@@ -49,3 +50,35 @@ OpensLast end (s ∷ ss) = StopsOrGoesOn (open_at end s.met) ss (OpensLast end s
 abbrev pub MeetsBadPass : (List ℕ → ℕ) → (ℤ → Option (List ℕ)) → ℕ → List Scanned → Type 0
 MeetsBadPass sum blobs end [] = ⊥
 MeetsBadPass sum blobs end (s ∷ ss) = MeetsBadBlob sum blobs (before_open end s.met) ⊎ MeetsBadPass sum blobs end ss
+
+-- The segments up to the first one with a batch that is open, and that one.
+abbrev pub up_to_open : ℕ → List Scanned → List Scanned
+up_to_open end [] = []
+up_to_open end (s ∷ ss) = if is_some (open_at end s.met) then s ∷ [] else s ∷ up_to_open end ss
+
+-- These are what the pass meets in segments, with their blobs, each of which is missing or passes for its record.
+pub record AreResolved (sum : List ℕ → ℕ) (size : ℕ) (log : List ℕ) (blobs : ℤ → Option (List ℕ)) (end : ℕ) (segments : List Segment) (passes : List Scanned) : Type 0 where
+  pub scanned : List Scanned
+  pub replayed : AreReplayed sum size log end segments scanned
+  pub fine : MeetsBadPass sum blobs end scanned → ⊥
+  pub is : passes ≡ map (resolved_scan blobs end) scanned
+
+-- A damaged record is met in the pass over segments, or one whose blob doesn't pass for it.
+abbrev pub IsBadPass : (List ℕ → ℕ) → ℕ → List ℕ → (ℤ → Option (List ℕ)) → ℕ → List Segment → Type 0
+IsBadPass sum size log blobs end segments =
+    IsDamagedPass sum size log end segments ⊎ ((scanned : List Scanned) × AreReplayed sum size log end segments scanned × MeetsBadPass sum blobs end scanned)
+
+-- These are all that is met in segments, with the blobs of what is met before a batch that is open. All blobs were looked at.
+pub record AreLookedUp (sum : List ℕ → ℕ) (size : ℕ) (log : List ℕ) (blobs : ℤ → Option (List ℕ)) (end : ℕ) (segments : List Segment) (passes : List Scanned) : Type 0 where
+  pub scanned : List Scanned
+  pub are : AreScanned sum size log segments scanned
+  pub good : HaveGoodBlobs sum blobs scanned
+  pub is : passes ≡ map (resolved_scan blobs end) scanned
+
+-- a blob that doesn't pass for its record is met in one of these
+abbrev pub MeetsBadTail : (List ℕ → ℕ) → (ℤ → Option (List ℕ)) → List Scanned → Type 0
+MeetsBadTail sum blobs scanned = (s : Scanned) × Contains scanned s × MeetsBadBlob sum blobs s.met
+
+-- what comes of a tail whose blobs were looked at
+abbrev pub PassesBehind : (List ℕ → ℕ) → ℕ → List ℕ → (ℤ → Option (List ℕ)) → SnapshotModel → List Segment → ℕ → List Scanned → Outcome → Type 0
+PassesBehind sum size log blobs first ordering end scanned o = HaveGoodBlobs sum blobs scanned × Passes sum size log blobs first ordering (Some end) o

@@ -22,7 +22,7 @@ range_of (Some shred_range) = Some (shred_range.at, shred_range.len)
 
 -- what recovery concludes, as code holds it
 abbrev pub result_of : Recovery → RecoveryResult
-result_of x = record { model = model_of x.snapshot; shred_range = range_of x.shred_range; is_new = x.is_new }
+result_of x = record { model = model_of x.snapshot; shred_range = range_of x.shred_range; is_new = x.is_new; unread = x.unread.items }
 
 -- The calls.
 

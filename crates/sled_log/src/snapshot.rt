@@ -1,5 +1,5 @@
 //! Recovery: what the device has, read into a table of pages (`specs/Recovery.antt`).
-ghost use Rattle.std.specs.Prelude.{◌↔◌, ◌≢◌, IsTrue, ◌≡◌, ◌⊎◌, ◌+◌, ◌-◌, ◌^◌, ◌*◌, ◌/◌, ◌%◌, ◌≤◌, ◌<◌, ℕ, false, Some, [], ◌∷◌, length, None, IfOk, OnOk};
+ghost use Rattle.std.specs.Prelude.{◌↔◌, ◌≢◌, IsTrue, ◌≡◌, ◌⊎◌, ◌+◌, ◌^◌, ◌%◌, ◌≤◌, ◌<◌, ℕ, Some, [], ◌∷◌, length, drop, map, IfOk, OnOk, Contains};
 ghost use Rattle.sled_codec.specs.Errors.{IsCorruption};
 ghost use Rattle.sled_codec.specs.History.{History, below};
 ghost use Rattle.sled_codec.specs.Snapshots.{model_of, stable_place};
@@ -9,8 +9,7 @@ ghost use Rattle.sled_store.specs.Script.{Performs};
 ghost use Rattle.std.specs.List.{All};
 ghost use Rattle.sled_store.specs.Blobs.{ItemAnswers};
 ghost use Rattle.sled_store.specs.Causes.{DeviceAnswers};
-ghost use Rattle.sled_core.specs.Reading.{file_of};
-ghost use Rattle.sled_core.specs.Scan.{IsFoundSegment, IsMisplaced};
+ghost use Rattle.sled_core.specs.declared.iterator.Segment.{Segment};
 ghost use Rattle.sled_core.specs.Good.{IsGood};
 ghost use Rattle.sled_core.specs.Recoverable.{RecoverableIfOwn, LeavesRecoverable};
 ghost use Rattle.sled_core.specs.Keeps.{ConfigKept, OnlyReads};
@@ -18,32 +17,35 @@ ghost use Rattle.sled_core.specs.Running.{Ready};
 ghost use Rattle.sled_codec.specs.PageTables.{IsTable};
 ghost use Rattle.sled_log.specs.Restores.{ComesOf, IsBeyondRecovery, RecoveryCalls, Restores};
 ghost use Rattle.sled_log.specs.Orderly.{CanRecover};
-ghost use Rattle.sled_log.specs.Recovery.{least_place, tail_begins, IsOrdering, Recovered, Damaged, ContinuesFrom, Recovers, NamesKind, MeetsBadBlob, resolved_before};
+ghost use Rattle.sled_log.specs.Recovery.{least_place, IsOrdering, AreScanned, begun_below, Passes, Recovered, Damaged, ContinuesFrom, Recovers};
+ghost use Rattle.sled_log.specs.Plain.{CanBeRead, IsPass, pass_of, AreLookedUp, MeetsBadTail, PassesBehind};
 ghost use Rattle.sled_log.specs.WritesBack.{result_of};
 
 pub(crate) mod blobs;
 pub(crate) mod file;
 pub(crate) mod ordering;
 pub(crate) mod page_table;
+pub(crate) mod pass;
 pub(crate) mod recovery;
 pub mod reference;
 pub(crate) mod replay;
+pub(crate) mod tail;
 pub(crate) mod write_back;
 
-use crate::snapshot::blobs::{check, resolve};
 use crate::snapshot::file::read_newest;
+use crate::snapshot::ordering::find_segments;
+use crate::snapshot::pass::{Pass, join, outcome_of, read_below, slots_of};
 use crate::snapshot::recovery::Recovery;
-use crate::snapshot::replay::replay;
+use crate::snapshot::replay::unchanged;
+use crate::snapshot::tail::{count_below, look_up, read_tail, tail_begins};
 use crate::snapshot::write_back::write_back;
-use sled_codec::result::{Error, Result};
+use sled_codec::result::Result;
 use sled_codec::serialization::Checksum;
 pub use sled_codec::serialization::snapshot::{Entry, PageState, Snapshot};
-use sled_core::iterator::scan::{ScannedRecord, scan};
-use sled_core::iterator::{Segment, read_slot, segment_in};
-use sled_core::logger::read_at::BasedBuf;
+use sled_core::iterator::Segment;
 use sled_store::{Device, RunningConfig};
 
-/// Recovers the table of pages from a device whose log file is no longer than a segment, and returns it. First it
+/// Recovers the table of pages from a device, and returns it. First it
 /// syncs the device. Then it reads the newest snapshot and the log file, and at last it fills the rest of the
 /// active segment with zeros and, where the table goes beyond that snapshot, publishes a new one and removes
 /// all others.
@@ -117,34 +119,28 @@ fn settle<D: Device>(device: &mut D) -> Result<()>
     Ok(())
 }
 
-/// What recovery makes of what the device has, where the log file is no longer than a segment. It only
-/// reads. `Corruption` comes where the newest snapshot is damaged, where segments are found that can't be
-/// of one log, where a damaged record is met or one whose blob doesn't pass for it, where the table can't be one, and where
-/// the file is longer.
+/// What recovery makes of what the device has. It only reads. `Corruption` comes where the newest snapshot is damaged, where
+/// segments are found that can't be of one log, where a damaged record is met or one whose blob doesn't pass for it, and
+/// where the table can't be one.
 pub(crate) fn recover<D: Device, C: Checksum>(config: &mut RunningConfig<D, C>) -> Result<Recovery>
     ensures ok { let old = state_of (D.trace config.old.device) in
         IfOk result (λ x. Recovers C.sum_of config.old.config.segment_size (content_of old) (Recovered (result_of x))) }
-    ensures corrupt { IsCorruption result → IsBeyondRecovery C.sum_of config.old.config.segment_size (state_of (D.trace config.old.device)) }
-    ensures short { OnOk result (length (state_of (D.trace config.old.device)).log.bytes ≤ config.old.config.segment_size) }
+    ensures corrupt { IsCorruption result → Recovers C.sum_of config.old.config.segment_size (content_of (state_of (D.trace config.old.device))) Damaged }
     ensures answers { let blobs = (state_of (D.trace config.old.device)).blobs.file in
         ItemAnswers C.sum_of blobs result (D.faults config.old.device) (D.faults config.new.device) }
     ensures reads { OnlyReads D.trace config.old config.new }
 {
-    if config.device.len()? > config.config.segment_size {
-        return Err(Error::Corruption { at: None });
-    }
     match read_newest(config) {
         Ok(first) => continue_from(config, first),
         Err(e) => Err(e),
     }
 }
 
-/// What recovery makes of the log file from a snapshot on, where that is no longer than a segment.
+/// What recovery makes of the log file from a snapshot on.
 fn continue_from<D: Device, C: Checksum>(
     config: &mut RunningConfig<D, C>,
     first: Snapshot,
 ) -> Result<Recovery>
-    requires short { length (state_of (D.trace config.old.device)).log.bytes ≤ config.old.config.segment_size }
     ensures ok { let s = state_of (D.trace config.old.device) in
         IfOk result (λ x. ContinuesFrom C.sum_of config.old.config.segment_size s.log.bytes s.blobs.file (model_of first) (Recovered (result_of x))) }
     ensures corrupt { let s = state_of (D.trace config.old.device) in
@@ -155,78 +151,104 @@ fn continue_from<D: Device, C: Checksum>(
 {
     let size = config.config.segment_size;
     let least = first.stable_place() / size * size;
-    let buf = read_slot(config, 0)?;
-    match segment_in(&config.checksum, &buf, least) {
-        Some(segment) => continue_in(config, &buf, &segment, first),
-        None => Ok(Recovery {
-            snapshot: first,
-            is_new: false,
-            shred_range: None,
-        }),
+    match find_segments(config, least) {
+        Ok(segments) => continue_over(config, &segments, first),
+        Err(e) => Err(e),
     }
 }
 
-/// The same, where a segment was found.
-fn continue_in<D: Device, C: Checksum>(
+/// The same, where these are the segments that are found.
+fn continue_over<D: Device, C: Checksum>(
     config: &mut RunningConfig<D, C>,
-    buf: &BasedBuf,
-    segment: &Segment,
+    segments: &[Segment],
     first: Snapshot,
 ) -> Result<Recovery>
-    requires slot { buf.now.offset ≡ 0 }
-    requires own { segment.now.slot ≡ 0 }
-    requires found { let size = config.old.config.segment_size in
-        IsFoundSegment C.sum_of size (file_of buf.now) (least_place size (model_of first)) segment.now }
-    requires only { let size = config.old.config.segment_size in
-        (IsMisplaced size segment.now → ⊥) → IsOrdering C.sum_of size (file_of buf.now) (least_place size (model_of first)) (segment.now ∷ []) }
-    ensures ok { let blobs = (state_of (D.trace config.old.device)).blobs.file in
-        IfOk result (λ x. ContinuesFrom C.sum_of config.old.config.segment_size (file_of buf.now) blobs (model_of first) (Recovered (result_of x))) }
-    ensures corrupt { let blobs = (state_of (D.trace config.old.device)).blobs.file in
-        IsCorruption result → ContinuesFrom C.sum_of config.old.config.segment_size (file_of buf.now) blobs (model_of first) Damaged }
+    requires ordering { IsOrdering C.sum_of config.old.config.segment_size (state_of (D.trace config.old.device)).log.bytes
+        (least_place config.old.config.segment_size (model_of first)) segments.now }
+    requires small { length (state_of (D.trace config.old.device)).log.bytes + config.old.config.segment_size < 2 ^ 63 }
+    ensures ok { let s = state_of (D.trace config.old.device) in
+        IfOk result (λ x. ContinuesFrom C.sum_of config.old.config.segment_size s.log.bytes s.blobs.file (model_of first) (Recovered (result_of x))) }
+    ensures corrupt { let s = state_of (D.trace config.old.device) in
+        IsCorruption result → ContinuesFrom C.sum_of config.old.config.segment_size s.log.bytes s.blobs.file (model_of first) Damaged }
     ensures answers { let blobs = (state_of (D.trace config.old.device)).blobs.file in
         ItemAnswers C.sum_of blobs result (D.faults config.old.device) (D.faults config.new.device) }
     ensures reads { OnlyReads D.trace config.old config.new }
 {
     let size = config.config.segment_size;
-    if is_misplaced(size, segment.place) {
-        return Err(Error::Corruption { at: None });
-    }
     let least = first.stable_place() / size * size;
-    if tail_begins(size, least, segment) != segment.place {
-        return Ok(Recovery {
-            snapshot: first,
-            is_new: false,
-            shred_range: None,
-        });
-    }
-    let mut scan = match scan(config, buf, segment.place) {
-        Ok(scan) => scan,
-        Err(e) => return Err(e),
-    };
-    match look_up(config, &mut scan.met, segment.place + scan.stop) {
-        Ok(()) => replay(config.alloc(), size, first, segment, &scan),
+    let begin = tail_begins(size, least, segments);
+    let from = count_below(segments, begin);
+    match read_tail(config, &segments[from..], begin) {
+        Ok(tail) => match tail.end {
+            Some(end) => replay_tail(config, segments, from, tail.passes, end, first),
+            None => Ok(unchanged(first, slots_of(config.alloc(), segments)?)),
+        },
         Err(e) => Err(e),
     }
 }
 
-/// Looks for the blobs of all records of a segment that ends there: of those that are applied, and of those behind a batch
-/// that is open.
-fn look_up<D: Device, C: Checksum>(
+/// What comes of the tail, which begins with the segment at `from` and ends at `end`: its blobs, and the pass.
+fn replay_tail<D: Device, C: Checksum>(
     config: &mut RunningConfig<D, C>,
-    met: &mut [ScannedRecord],
+    segments: &[Segment],
+    from: usize,
+    tail: Vec<Pass>,
     end: u64,
-) -> Result<()>
+    first: Snapshot,
+) -> Result<Recovery>
+    requires ready { (s : Segment) → Contains segments.now s → CanBeRead config.old.config.segment_size (state_of (D.trace config.old.device)).log.bytes s }
+    requires from { from ≤ length segments.now }
     requires end { end < 2 ^ 63 }
-    requires kinds { All (λ m. NamesKind m.what) met.old }
-    ensures met { let blobs = (state_of (D.trace config.old.device)).blobs.file in OnOk result (met.new ≡ resolved_before blobs end met.old) }
-    ensures good { let blobs = (state_of (D.trace config.old.device)).blobs.file in OnOk result (MeetsBadBlob C.sum_of blobs met.old → ⊥) }
-    ensures bad { let blobs = (state_of (D.trace config.old.device)).blobs.file in IsCorruption result → MeetsBadBlob C.sum_of blobs met.old }
+    requires fits { All (IsPass config.old.config.segment_size) tail.items }
+    requires scanned { AreScanned C.sum_of config.old.config.segment_size (state_of (D.trace config.old.device)).log.bytes
+        (begun_below end (drop from segments.now)) (map pass_of tail.items) }
+    ensures ok { let s = state_of (D.trace config.old.device) in
+        IfOk result (λ x. PassesBehind C.sum_of config.old.config.segment_size s.log.bytes s.blobs.file (model_of first) segments.now end
+        (map pass_of tail.items) (Recovered (result_of x))) }
+    ensures corrupt { let s = state_of (D.trace config.old.device) in
+        IsCorruption result → MeetsBadTail C.sum_of s.blobs.file (map pass_of tail.items)
+        ⊎ PassesBehind C.sum_of config.old.config.segment_size s.log.bytes s.blobs.file (model_of first) segments.now end (map pass_of tail.items) Damaged }
     ensures answers { let blobs = (state_of (D.trace config.old.device)).blobs.file in
         ItemAnswers C.sum_of blobs result (D.faults config.old.device) (D.faults config.new.device) }
     ensures reads { OnlyReads D.trace config.old config.new }
 {
-    match resolve(config, met, end) {
-        Ok(()) => check(config, met),
+    let mut tail = tail;
+    match look_up(config, &mut tail, end) {
+        Ok(()) => pass_over(config, segments, from, tail, end, first),
+        Err(e) => Err(e),
+    }
+}
+
+/// What comes of the pass over the segments before that tail and over the tail, which has its blobs.
+fn pass_over<D: Device, C: Checksum>(
+    config: &mut RunningConfig<D, C>,
+    segments: &[Segment],
+    from: usize,
+    tail: Vec<Pass>,
+    end: u64,
+    first: Snapshot,
+) -> Result<Recovery>
+    requires ready { (s : Segment) → Contains segments.now s → CanBeRead config.old.config.segment_size (state_of (D.trace config.old.device)).log.bytes s }
+    requires from { from ≤ length segments.now }
+    requires end { end < 2 ^ 63 }
+    requires fits { All (IsPass config.old.config.segment_size) tail.items }
+    requires tail { let s = state_of (D.trace config.old.device) in
+        AreLookedUp C.sum_of config.old.config.segment_size s.log.bytes s.blobs.file end (begun_below end (drop from segments.now)) (map pass_of tail.items) }
+    ensures ok { let s = state_of (D.trace config.old.device) in
+        IfOk result (λ x. Passes C.sum_of config.old.config.segment_size s.log.bytes s.blobs.file
+        (model_of first) segments.now (Some end) (Recovered (result_of x))) }
+    ensures corrupt { let s = state_of (D.trace config.old.device) in
+        IsCorruption result → Passes C.sum_of config.old.config.segment_size s.log.bytes s.blobs.file (model_of first) segments.now (Some end) Damaged }
+    ensures answers { let blobs = (state_of (D.trace config.old.device)).blobs.file in
+        ItemAnswers C.sum_of blobs result (D.faults config.old.device) (D.faults config.new.device) }
+    ensures reads { OnlyReads D.trace config.old config.new }
+{
+    match read_below(config, &segments[..from], end) {
+        Ok(before) => {
+            let passes = join(before, tail, end)?;
+            let size = config.config.segment_size;
+            outcome_of(config.alloc(), size, first, end, &passes, segments)
+        }
         Err(e) => Err(e),
     }
 }
@@ -237,13 +259,4 @@ pub(crate) fn is_misplaced(size: u64, place: u64) -> bool
     ensures { IsTrue result ↔ ((place % size ≢ 0) ⊎ (2 ^ 63 ≤ place + size)) }
 {
     place % size != 0 || place >= (1 << 63) - size
-}
-
-/// Where the tail begins, where one segment is found.
-fn tail_begins(size: u64, least: u64, segment: &Segment) -> u64
-    requires { 0 < size }
-    ensures { result ≡ tail_begins size least (segment.now ∷ []) }
-{
-    let mark = u64::try_from(segment.mark).unwrap_or(0);
-    mark.max(least) / size * size
 }

@@ -89,7 +89,10 @@ fn said(rt: &HostRuntime, tally: &mut Tally<'_>) -> bool {
 fn run(alloc: Global, name: &str, text: &str, tally: &mut Tally<'_>) {
     match name {
         "recovery.txt" => recovery::run(alloc, text, By::Call, tally),
-        "plain.txt" => recovery::run(alloc, text, By::Plain, tally),
+        "plain.txt" => {
+            recovery::run(alloc, text, By::Plain, tally);
+            recovery::run(alloc, text, By::Call, tally);
+        }
         "calls.txt" => {
             if let Err(Fault(why)) = calls::run(alloc, text, tally) {
                 tally.case(0, "lines", why);

@@ -7,7 +7,7 @@ use Rattle.sled_core.specs.declared.iterator.scan.ScannedRecord.{ScannedRecord}
 use Rattle.sled_core.specs.declared.iterator.Segment.{Segment}
 use Rattle.sled_store.specs.Device.{Trace, state_of}
 use Rattle.sled_store.proofs.Segments.Elements.{in_cases, in_nothing}
-use Rattle.sled_log.specs.declared.snapshot.reference.Pass.{Pass}
+use Rattle.sled_log.specs.declared.snapshot.pass.Pass.{Pass}
 use Rattle.sled_log.specs.Recovery.{Scanned, StopsOrGoesOn, AreReplayed, before_open, open_at, passed_in, passed_all, NamesKind, MeetsBadBlob, HaveGoodBlobs, resolved_scan, resolved_before}
 use Rattle.sled_log.specs.Plain.{IsPass, pass_of, OpensLast, MeetsBadPass}
 use Rattle.sled_log.proofs.Replay.BlobLemmas.{all_before_open, bad_behind, bad_first, bad_cases}

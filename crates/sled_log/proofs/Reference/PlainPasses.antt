@@ -5,7 +5,7 @@ use Rattle.std.specs.Option.{unwrap_or}
 use Rattle.std.specs.List.{All, AllByRecursion}
 use Rattle.std.proofs.lemmas.List.Elements.{recursion_from_All}
 use Rattle.sled_codec.specs.Snapshots.{Page, SnapshotModel, stable_place}
-use Rattle.sled_log.specs.declared.snapshot.reference.Pass.{Pass}
+use Rattle.sled_log.specs.declared.snapshot.pass.Pass.{Pass}
 use Rattle.sled_core.specs.declared.iterator.scan.ScannedRecord.{ScannedRecord}
 use Rattle.sled_core.specs.declared.iterator.Segment.{Segment}
 use Rattle.sled_log.specs.Recovery.{passed_all, Scanned, Applied, Recovered, Damaged, unchanged, outcome_of, concluded, cut_of, applied_of, before_open, open_at, passed_in, stops_in, given, has_no_table, table_of, table_with}

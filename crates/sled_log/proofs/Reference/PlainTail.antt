@@ -7,7 +7,7 @@ use Rattle.std.proofs.lemmas.List.Elements.{recursion_from_All}
 use Rattle.sled_core.specs.declared.iterator.Segment.{Segment}
 use Rattle.sled_core.specs.declared.iterator.scan.ScanEnd.{ScanEnd}
 use Rattle.sled_core.specs.declared.iterator.scan.ScanEnd.TheVariants.{Full, Capped, Broken}
-use Rattle.sled_log.specs.declared.snapshot.reference.Pass.{Pass}
+use Rattle.sled_log.specs.declared.snapshot.pass.Pass.{Pass}
 use Rattle.sled_log.specs.Recovery.{Scanned, IsScanned, GoesOn, IsTail, IsTailPart, tail_end, begun_below, AreScanned, AreClosed, IsReplayed, StopsOrGoesOn, AreReplayed, IsDamagedPass, open_at}
 use Rattle.sled_log.specs.Plain.{pass_of, IsDamagedBefore}
 use Rattle.sled_log.proofs.Replay.PassedLemmas.{whole_passed}

@@ -3,7 +3,7 @@ use Rattle.sled_codec.specs.Snapshots.{model_of}
 use Rattle.sled_core.proofs.Read.ReadingLemmas.{if_ok}
 use Rattle.sled_store.specs.declared.config.Config.{Config}
 use Rattle.sled_store.specs.Device.{Trace, state_of}
-use Rattle.sled_log.specs.declared.snapshot.reference.Pass.{Pass}
+use Rattle.sled_log.specs.declared.snapshot.pass.Pass.{Pass}
 use Rattle.sled_log.specs.Recovery.{Recovered, Damaged, PassesOver, begun_below}
 use Rattle.sled_log.specs.Plain.{pass_of}
 use Rattle.sled_log.specs.WritesBack.{result_of}

@@ -4,7 +4,7 @@ use Rattle.sled_codec.specs.Snapshots.{SnapshotModel, model_of}
 use Rattle.sled_core.proofs.Read.ReadingLemmas.{if_ok}
 use Rattle.sled_store.specs.declared.config.Config.{Config}
 use Rattle.sled_store.specs.Device.{state_of}
-use Rattle.sled_log.specs.declared.snapshot.reference.Pass.{Pass}
+use Rattle.sled_log.specs.declared.snapshot.pass.Pass.{Pass}
 use Rattle.sled_log.specs.Recovery.{Scanned, Outcome, Recovered, Damaged, PassesOver, outcome_of, resolved_scan}
 use Rattle.sled_log.specs.Plain.{IsPass, MeetsBadPass, OpensLast, pass_of}
 use Rattle.sled_log.specs.WritesBack.{result_of}
