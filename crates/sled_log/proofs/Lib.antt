@@ -1,6 +1,7 @@
 pub mod Ordering
 pub mod OwnBlobs
 pub mod PageTable
+mod Passes
 pub mod PublicLaws
 mod Reference
 pub mod Replay

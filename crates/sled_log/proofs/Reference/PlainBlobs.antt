@@ -11,7 +11,7 @@ use Rattle.sled_log.specs.declared.snapshot.pass.Pass.{Pass}
 use Rattle.sled_log.specs.Recovery.{Scanned, StopsOrGoesOn, AreReplayed, before_open, open_at, passed_in, passed_all, NamesKind, MeetsBadBlob, HaveGoodBlobs, resolved_scan, resolved_before}
 use Rattle.sled_log.specs.Plain.{IsPass, pass_of, OpensLast, MeetsBadPass}
 use Rattle.sled_log.proofs.Replay.BlobLemmas.{all_before_open, bad_behind, bad_first, bad_cases}
-use Rattle.sled_log.proofs.Replay.LookLemmas.{all_with_blobs, path_kinds, bad_still}
+use Rattle.sled_log.proofs.Replay.LookLemmas.{all_with_blobs, path_kinds, bad_still, written}
 
 abbrev pub HasKinds : Pass → Type 0
 HasKinds p = All (λ m. NamesKind m.what) p.scan.met.items
@@ -166,3 +166,17 @@ good_more sum blobs (y ∷ before) x good fine s there bad = elim (in_cases y s 
   | inl same ↦ good s (0, omega arith, same) bad
   | inr later ↦ good_more sum blobs before x (λ t in_rest. good t (suc in_rest.0, let below = in_rest.1 in omega (arith, below), in_rest.2)) fine s later bad
 ]
+
+-- A vector of segments that got their blobs, at a moment between which and another one the device was only read.
+pub resolved_vec : (end n : ℕ) (ps now mid rest : List Pass) (t u : Trace) → length mid ≡ n → map pass_of mid ≡ map (resolved_scan (state_of t).blobs.file end) (map pass_of now) → now ≡ ps → t ≡ u
+    → map pass_of (take n (mid ++ rest)) ≡ map (resolved_scan (state_of u).blobs.file end) (map pass_of ps)
+resolved_vec end n ps now mid rest t u long is same read =
+    ap (map pass_of) (written n mid rest long)
+    ∙ is
+    ∙ ap (λ (l : List Pass). map (resolved_scan (state_of t).blobs.file end) (map pass_of l)) same
+    ∙ ap (λ (x : Trace). map (resolved_scan (state_of x).blobs.file end) (map pass_of ps)) read
+
+-- what is bad in segments at one moment is bad at another one between which the device was only read
+pub bad_pass_still : (sum : List ℕ → ℕ) (end : ℕ) (now ps : List Pass) (t u : Trace) → now ≡ ps → t ≡ u → MeetsBadPass sum (state_of t).blobs.file end (map pass_of now) → MeetsBadPass sum (state_of u).blobs.file end (map pass_of ps)
+bad_pass_still sum end now ps t u same read bad =
+    subst (λ (x : Trace). MeetsBadPass sum (state_of x).blobs.file end (map pass_of ps)) read (subst (λ (l : List Pass). MeetsBadPass sum (state_of t).blobs.file end (map pass_of l)) same bad)

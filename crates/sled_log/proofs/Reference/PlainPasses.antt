@@ -105,16 +105,16 @@ pub stop_fits : (size end : ℕ) (ps : List Pass) (at : Segment × ℕ) → All 
 stop_fits size end ps at all is = subst (FitsStop size) is (stops_fit size end None ps (recursion_from_All (IsPass size) ps all) tt)
 
 -- The outcome.
-module _ (size : ℕ) (first : SnapshotModel) (end : ℕ) where
+module _ (size : ℕ) (first : SnapshotModel) (end : ℕ) (unread : List ℕ) where
   -- where the pass stops
-  pub outcome_some : (ss : List Scanned) (at : Segment × ℕ) → stop_of end None ss ≡ Some at → outcome_of size first end ss ≡ concluded size first (given (stable_place first.stable) (passed_all end ss)) (cut_of size at)
+  pub outcome_some : (ss : List Scanned) (at : Segment × ℕ) → stop_of end None ss ≡ Some at → outcome_of size first end ss unread ≡ concluded size first unread (given (stable_place first.stable) (passed_all end ss)) (cut_of size at)
   outcome_some [] at is = cc
   outcome_some (s ∷ ss) at is =
       let stops : stops_in end s (open_at end s.met) ss ≡ at = cc in
-      ap (λ (x : Segment × ℕ). concluded size first (given (stable_place first.stable) (passed_all end (s ∷ ss))) (cut_of size x)) stops
+      ap (λ (x : Segment × ℕ). concluded size first unread (given (stable_place first.stable) (passed_all end (s ∷ ss))) (cut_of size x)) stops
 
   -- where there is no segment
-  pub outcome_none : (ss : List Scanned) → stop_of end None ss ≡ None → outcome_of size first end ss ≡ Recovered (unchanged first)
+  pub outcome_none : (ss : List Scanned) → stop_of end None ss ≡ None → outcome_of size first end ss unread ≡ Recovered (unchanged first unread)
   outcome_none [] is = refl
   outcome_none (s ∷ ss) is = cc
 
@@ -123,9 +123,9 @@ module _ (size : ℕ) (first : SnapshotModel) (end : ℕ) where
   passed_nothing (s ∷ ss) is = cc
 
   -- where a message is of a page that no table has
-  pub outcome_bad : (ss : List Scanned) → has_no_table (given (stable_place first.stable) (passed_all end ss)) ≡ true → outcome_of size first end ss ≡ Damaged
+  pub outcome_bad : (ss : List Scanned) → has_no_table (given (stable_place first.stable) (passed_all end ss)) ≡ true → outcome_of size first end ss unread ≡ Damaged
   outcome_bad [] bad = cc
-  outcome_bad (s ∷ ss) bad = no_table_damaged size first (given (stable_place first.stable) (passed_all end (s ∷ ss))) (cut_of size (stops_in end s (open_at end s.met) ss)) bad
+  outcome_bad (s ∷ ss) bad = no_table_damaged size first unread (given (stable_place first.stable) (passed_all end (s ∷ ss))) (cut_of size (stops_in end s (open_at end s.met) ss)) bad
 
 -- an active slot that is the one where a pass stops
 pub slot_fits : (o : Option ℕ) (slot size : ℕ) → IfSome o (λ n. n ≡ slot) → slot + size < 2 ^ 63 → IfSome o (λ n. n + size < 2 ^ 63)

@@ -1,5 +1,5 @@
 -- What is met in a slot of a log file hangs on the bytes of that slot alone.
-use Rattle.std.proofs.Common.{◌≡◌, ◌∙◌, ◌+◌, ◌-◌, ◌/◌, ◌%◌, ◌<◌, ◌≤◌, ℕ, List, [], ◌∷◌, ◌++◌, length, take, drop, replicate, sym, ap, subst, arith, length-append, length-take, length-drop}
+use Rattle.std.proofs.Common.{◌≡◌, ◌∙◌, ◌+◌, ◌-◌, ◌/◌, ◌%◌, ◌<◌, ◌≤◌, ℕ, List, [], ◌∷◌, ◌++◌, length, take, drop, replicate, ◌^◌, Option, Some, None, IfNone, sym, ap, subst, arith, length-append, length-take, length-drop}
 use Rattle.std.proofs.lemmas.List.{drop-drop, drop-take, take-take, drop-append-le, drop_all, length-replicate}
 use Rattle.sled_codec.specs.declared.serialization.message.MessageHeader.{MessageHeader}
 use Rattle.sled_codec.specs.Places.{part}
@@ -9,7 +9,10 @@ use Rattle.sled_core.specs.declared.iterator.scan.ScanEnd.TheVariants.{Full, Cap
 use Rattle.sled_core.specs.declared.logger.read_at.BasedBuf.{BasedBuf}
 use Rattle.sled_core.specs.Reading.{IsMalformed, StandsAt, file_of}
 use Rattle.sled_core.specs.Scan.{IsMet, EndsThere, IsPath, IsEnd, IsScan, IsDamagedIn}
+use Rattle.sled_core.specs.declared.iterator.Segment.{Segment}
 use Rattle.sled_core.proofs.Read.ScanLemmas.{aligned_offset}
+use Rattle.sled_log.specs.Recovery.{open_at}
+use Rattle.sled_log.specs.Plain.{CanBeRead, IsDamagedBefore}
 
 -- The second file has all that the first one has in a slot.
 pub record HasSlot (size slot : ℕ) (a b : List ℕ) : Type 0 where
@@ -131,3 +134,53 @@ module _ (sum : List ℕ → ℕ) (size : ℕ) (slot : ℕ) (log : List ℕ) (b 
   damaged_whole place damaged =
       damaged_in_slot sum size slot aligned (replicate slot 0 ++ part log slot size) log (in_file size slot log inside) (in_buffer size slot log inside) place
       (read_so (λ n l at. IsDamagedIn sum n l at place) damaged)
+
+-- The same of a segment as the pass reads it, from a buffer with the bytes of its slot.
+module _ (sum : List ℕ → ℕ) (size : ℕ) (s : Segment) (log : List ℕ) (b : BasedBuf) (own : ℕ) (same : own ≡ size) (offset : b.offset ≡ s.slot) (is : b.buf.items ≡ part log s.slot size) where
+  alone_so : (P : ℕ → List ℕ → Type 0) → P own (file_of b) → P size (replicate s.slot 0 ++ part log s.slot size)
+  alone_so P holds = subst (λ n. P n (replicate s.slot 0 ++ part log s.slot size)) same (subst (λ (l : List ℕ). P own l) (file_alone b size s.slot log offset is) holds)
+
+  if_none : (o : Option ℕ) (A B : Type 0) → (A → B) → IfNone o A → IfNone o B
+  if_none None A B then holds = then holds
+  if_none (Some place) A B then holds = tt
+
+  -- it can be read there
+  pub ready_alone : CanBeRead size log s → CanBeRead own (file_of b) s
+  ready_alone ready =
+      let all : length (file_of b) ≡ length (replicate b.offset 0) + length b.buf.items = length-append (replicate b.offset 0) b.buf.items in
+      let zeros : length (replicate b.offset 0) ≡ b.offset = length-replicate {A = ℕ} b.offset 0 in
+      record {
+        aligned = subst (λ n. s.slot % n ≡ 0) (sym same) ready.aligned;
+        inside = omega (arith, all, zeros, offset);
+        slot = subst (λ n. s.slot + n < 2 ^ 63) (sym same) ready.slot;
+        place = subst (λ n. s.place + n < 2 ^ 63) (sym same) ready.place;
+      }
+
+  module _ (ready : CanBeRead size log s) where
+    abbrev alone_file : List ℕ
+    alone_file = replicate s.slot 0 ++ part log s.slot size
+
+    pub replayed_whole : (end : ℕ) (ms : List ScannedRecord) (stop : ℕ) (why : ScanEnd) → IsPath sum own (file_of b) s.slot s.place 20 ms stop × IfNone (open_at end ms) (IsEnd sum own (file_of b) s.slot s.place stop why)
+        → IsPath sum size log s.slot s.place 20 ms stop × IfNone (open_at end ms) (IsEnd sum size log s.slot s.place stop why)
+    replayed_whole end ms stop why read =
+        let there = in_file size s.slot log ready.inside in
+        let back = in_buffer size s.slot log ready.inside in
+        let path = alone_so (λ n l. IsPath sum n l s.slot s.place 20 ms stop) read.0 in
+        let ends = alone_so (λ n l. IfNone (open_at end ms) (IsEnd sum n l s.slot s.place stop why)) read.1 in
+        (path_in sum size s.slot ready.aligned alone_file log there back s.place 20 ms stop path,
+          if_none (open_at end ms) (IsEnd sum size alone_file s.slot s.place stop why) (IsEnd sum size log s.slot s.place stop why) (end_in sum size s.slot ready.aligned alone_file log there back s.place stop why) ends)
+
+    pub damaged_before_whole : (end : ℕ) → IsDamagedBefore sum own (file_of b) end s → IsDamagedBefore sum size log end s
+    damaged_before_whole end bad =
+        let there = in_file size s.slot log ready.inside in
+        let back = in_buffer size s.slot log ready.inside in
+        let d = alone_so (λ n l. IsDamagedBefore sum n l end s) bad in
+        let room = d.room in
+        record {
+          met = d.met;
+          next = d.next;
+          path = path_in sum size s.slot ready.aligned alone_file log there back s.place 20 d.met d.next d.path;
+          not_open = d.not_open;
+          room = d.room;
+          damaged = damaged_at sum size s.slot ready.aligned alone_file log there back d.next (s.place / size) (omega (arith, room)) d.damaged;
+        }

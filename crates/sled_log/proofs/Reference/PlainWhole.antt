@@ -4,7 +4,7 @@ use Rattle.sled_codec.specs.Snapshots.{SnapshotModel, stable_place}
 use Rattle.sled_store.specs.Device.{Content}
 use Rattle.sled_store.specs.SnapshotFiles.{BeginsFrom, IsDamagedSnapshot}
 use Rattle.sled_core.specs.declared.iterator.Segment.{Segment}
-use Rattle.sled_log.specs.Recovery.{Scanned, IsOrdering, IsUnordered, IsTail, IsDamagedTail, tail_begins, tail_end, HaveGoodBlobs, Passes, Outcome, Recovered, Damaged, unchanged, least_place, ContinuesFrom, Recovers}
+use Rattle.sled_log.specs.Recovery.{Scanned, IsOrdering, IsUnordered, IsTail, IsDamagedTail, tail_begins, tail_end, HaveGoodBlobs, Passes, Outcome, Recovered, Damaged, unchanged, slots_of, least_place, ContinuesFrom, Recovers}
 
 -- where the tail begins, from the place that a snapshot ends with
 pub begins_there : (size stable begin : ℕ) (first : SnapshotModel) (ss : List Segment) → begin ≡ tail_begins size (stable / size * size) ss → stable ≡ stable_place first.stable → begin ≡ tail_begins size (least_place size first) ss
@@ -24,9 +24,9 @@ module _ (sum : List ℕ → ℕ) (size : ℕ) (log : List ℕ) (blobs : ℤ →
 
     module _ (scanned : List Scanned) (tail : IsTail sum size log ordering (tail_begins size (least_place size first) ordering) scanned) (good : HaveGoodBlobs sum blobs scanned) where
       -- no tail
-      pub comes_unchanged : tail_end scanned ≡ None → ContinuesFrom sum size log blobs first (Recovered (unchanged first))
+      pub comes_unchanged : tail_end scanned ≡ None → ContinuesFrom sum size log blobs first (Recovered (unchanged first (slots_of ordering)))
       unfolding ContinuesFrom
-      comes_unchanged none = inr (ordering, are, inr (scanned, tail, good, subst (λ e. Passes sum size log blobs first ordering e (Recovered (unchanged first))) (sym none) refl))
+      comes_unchanged none = inr (ordering, are, inr (scanned, tail, good, subst (λ e. Passes sum size log blobs first ordering e (Recovered (unchanged first (slots_of ordering)))) (sym none) refl))
 
       -- what comes of the pass
       pub comes_passing : (end : ℕ) → tail_end scanned ≡ Some end → (o : Outcome) → Passes sum size log blobs first ordering (Some end) o → ContinuesFrom sum size log blobs first o

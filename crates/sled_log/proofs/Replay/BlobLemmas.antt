@@ -30,7 +30,7 @@ module _ (blobs : ℤ → Option (List ℕ)) (end : ℕ) where
   opens_with Skipped = refl
   opens_with (BatchStart peg) = refl
 
-  open_resolved : (ms : List ScannedRecord) → open_at end (resolved_before blobs end ms) ≡ open_at end ms
+  pub open_resolved : (ms : List ScannedRecord) → open_at end (resolved_before blobs end ms) ≡ open_at end ms
   open_resolved [] = refl
   open_resolved (m ∷ ms) = by_test (opens end m.what) refl (open_resolved ms) where
     by_test : (b : Bool) → opens end m.what ≡ b → open_at end (resolved_before blobs end ms) ≡ open_at end ms

@@ -1,76 +1,29 @@
-use Rattle.std.proofs.Common.{◌≤◌, ◌<◌, ◌+◌, ◌/◌, ◌++◌, ◌∷◌, ◌∙◌, [], ℕ, List, sym, subst, arith}
-use Rattle.std.proofs.lemmas.List.Elements.{All-same, All-push}
-use Rattle.sled_store.specs.declared.config.Config.{Config}
-use Rattle.sled_store.specs.Device.{Trace, state_of}
-use Rattle.sled_core.specs.declared.iterator.scan.ScannedRecord.{ScannedRecord}
+use Rattle.std.proofs.Common.{ℕ, List, ap}
+use Rattle.sled_core.proofs.Read.ReadingLemmas.{if_ok}
 use Rattle.sled_core.specs.declared.iterator.Segment.{Segment}
-use Rattle.sled_core.specs.declared.iterator.scan.Step.TheVariants.{Meets, Ends}
-use Rattle.sled_core.specs.Scan.{IsPath, IsStep, HasPlace, IsEnd}
-use Rattle.sled_core.proofs.Read.ScanLemmas.{one_more, ends_here}
-use Rattle.sled_log.specs.Recovery.{open_at}
-use Rattle.sled_log.proofs.Reference.PlainRecords.{stays_closed, asks_nothing}
-use Rattle.sled_log.proofs.Replay.PassedLemmas.{asked}
-use Rattle.sled_log.proofs.Reference.PlainSame.{was_so}
+use Rattle.sled_store.specs.Device.{state_of}
+use Rattle.sled_store.specs.declared.config.Config.{Config}
+use Rattle.sled_log.proofs.Reference.PlainSlots.{ready_alone, replayed_whole, damaged_before_whole}
 use Rattle.sled_log.proofs.snapshot.pass.records.scan_up_to.Goals as goal
 
-pub returns-then-opens-clause-passed : goal.returns-then-opens-clause-passed
-returns-then-opens-clause-passed g c =
-    let size : ℕ = c.args.config.now.config.segment_size in
-    let before : Trace = g.D.Device.trace c.args.config.now.device in
-    let log : List ℕ = (state_of before).log.bytes in
-    let s : Segment = c.args.segment.now in
-    let at : ℕ = c.loop-stop.stop in
-    let m : ScannedRecord = c.in-Ok-Meets.m in
-    let room : at + 32 ≤ size = omega (arith, c.loop-stop.invariant.last, c.loop-stop-test.true) in
-    let step = was_so (λ n l. IsStep g.C.Checksum.sum_of n l (s.slot + at) (s.place + at) (s.place / n) (Meets m)) c.args.config.now.config c.loop-stop.config.config before (g.D.Device.trace c.loop-stop.config.device)
-    c.loop-stop.invariant.config c.loop-stop.invariant.trace (rw c.in-Ok-Meets.field-0-is at c.in-Ok-Meets.ensures.step) in
-    let items = c.in_ok-push-in-Ok-Meets.ensures.items in
-    let path = one_more g.C.Checksum.sum_of size log s.slot s.place 20 c.loop-stop.met.items at m c.loop-stop.invariant.path room step.0 step.1 in (
-      subst (λ (ms : List ScannedRecord). IsPath g.C.Checksum.sum_of size log s.slot s.place 20 ms (at + m.len)) (sym items) path,
-      asks_nothing c.args.end c.loop-stop.met.items c.push.new.self.items m (size < at + m.len + 32) items c.loop-stop.invariant.closed (sym c.opens.ensures ∙ c.if-opens.true),
-    )
-
-pub loop-stop-preserved : goal.loop-stop-preserved
-loop-stop-preserved g c =
+pub scan_slot-requires-clause-ready : goal.scan_slot-requires-clause-ready
+scan_slot-requires-clause-ready g c =
     let cfg : Config = c.args.config.now.config in
-    let size : ℕ = cfg.segment_size in
-    let before : Trace = g.D.Device.trace c.args.config.now.device in
-    let log : List ℕ = (state_of before).log.bytes in
-    let s : Segment = c.args.segment.now in
-    let at : ℕ = c.loop-stop.stop in
-    let m : ScannedRecord = c.in-Ok-Meets.m in
-    let room : at + 32 ≤ size = omega (arith, c.loop-stop.invariant.last, c.loop-stop-test.true) in
-    let step = was_so (λ n l. IsStep g.C.Checksum.sum_of n l (s.slot + at) (s.place + at) (s.place / n) (Meets m)) cfg c.loop-stop.config.config before (g.D.Device.trace c.loop-stop.config.device) c.loop-stop.invariant.config c.loop-stop.invariant.trace
-    (rw c.in-Ok-Meets.field-0-is at c.in-Ok-Meets.ensures.step) in
-    let fits : HasPlace c.loop-stop.config.config.segment_size at (Meets m) = rw c.in-Ok-Meets.field-0-is at c.in-Ok-Meets.ensures.room in
-    let inside : at + m.len ≤ size = subst (λ (x : Config). at + m.len ≤ x.segment_size) c.loop-stop.invariant.config fits.1 in
-    let items = c.in_ok-push-in-Ok-Meets.ensures.items in
-    let path = one_more g.C.Checksum.sum_of size log s.slot s.place 20 c.loop-stop.met.items at m c.loop-stop.invariant.path room step.0 step.1 in
-    let Below : ScannedRecord → Type 0 = λ x. x.place < s.place + size in
-    record {
-      path = subst (λ (ms : List ScannedRecord). IsPath g.C.Checksum.sum_of size log s.slot s.place 20 ms (at + m.len)) (sym items) path;
-      closed = stays_closed c.args.end c.loop-stop.met.items c.push.new.self.items m items c.loop-stop.invariant.closed (sym c.opens.ensures ∙ c.if-opens.false);
-      behind = omega (arith, c.loop-stop.invariant.behind);
-      within = omega (arith, inside);
-      places = All-same Below c.push.new.self.items (c.loop-stop.met.items ++ m ∷ []) items (All-push Below c.loop-stop.met.items m c.loop-stop.invariant.places (omega (arith, step.0, room)));
-      trace = c.step_at.ensures.reads.unwritten ∙ c.loop-stop.invariant.trace;
-      faults = c.in-Ok-Meets.ensures.answers ∙ c.loop-stop.invariant.faults;
-      config = c.step_at.ensures.reads.config ∙ c.loop-stop.invariant.config;
-      checksum = c.step_at.ensures.reads.checksum ∙ c.loop-stop.invariant.checksum;
-      last = c.loop-stop.invariant.last;
-      ready = c.loop-stop.invariant.ready;
-    }
+    let log : List ℕ = (state_of (g.D.Device.trace c.args.config.now.device)).log.bytes in
+    ready_alone g.C.Checksum.sum_of cfg.segment_size c.args.segment.now log c.in-Ok.buf _ (ap (λ (x : Config). x.segment_size) c.in-Ok.ensures.config) c.in-Ok.ensures.offset c.in-Ok.ensures.bytes c.requires.ready
 
-pub returns-in-Ok-Ends-clause-passed : goal.returns-in-Ok-Ends-clause-passed
-returns-in-Ok-Ends-clause-passed g c =
-    let size : ℕ = c.args.config.now.config.segment_size in
-    let before : Trace = g.D.Device.trace c.args.config.now.device in
-    let log : List ℕ = (state_of before).log.bytes in
-    let s : Segment = c.args.segment.now in
-    let at : ℕ = c.loop-stop.stop in
-    let room : at + 32 ≤ size = omega (arith, c.loop-stop.invariant.last, c.loop-stop-test.true) in
-    let step = was_so (λ n l. IsStep g.C.Checksum.sum_of n l (s.slot + at) (s.place + at) (s.place / n) (Ends c.in-Ok-Ends.ending)) c.args.config.now.config c.loop-stop.config.config before (g.D.Device.trace c.loop-stop.config.device)
-    c.loop-stop.invariant.config c.loop-stop.invariant.trace (rw c.in-Ok-Ends.field-0-is at c.in-Ok-Ends.ensures.step) in (
-      c.loop-stop.invariant.path,
-      asked (open_at c.args.end c.loop-stop.met.items) (IsEnd g.C.Checksum.sum_of size log s.slot s.place at c.in-Ok-Ends.ending) (ends_here g.C.Checksum.sum_of size log s.slot s.place at c.in-Ok-Ends.ending room step),
-    )
+pub returns-in-Ok-clause-passed : goal.returns-in-Ok-clause-passed
+returns-in-Ok-clause-passed g c =
+    let cfg : Config = c.args.config.now.config in
+    let log : List ℕ = (state_of (g.D.Device.trace c.args.config.now.device)).log.bytes in
+    let same = ap (λ (x : Config). x.segment_size) c.in-Ok.ensures.config in
+    if_ok c.scan_slot.result _ _
+    (λ x read. replayed_whole g.C.Checksum.sum_of cfg.segment_size c.args.segment.now log c.in-Ok.buf _ same c.in-Ok.ensures.offset c.in-Ok.ensures.bytes c.requires.ready c.args.end x.met.items x.stop x.ending read)
+    c.scan_slot.ensures.passed
+
+pub returns-in-Ok-clause-damaged : goal.returns-in-Ok-clause-damaged
+returns-in-Ok-clause-damaged g c = λ corrupt.
+    let cfg : Config = c.args.config.now.config in
+    let log : List ℕ = (state_of (g.D.Device.trace c.args.config.now.device)).log.bytes in
+    let same = ap (λ (x : Config). x.segment_size) c.in-Ok.ensures.config in
+    damaged_before_whole g.C.Checksum.sum_of cfg.segment_size c.args.segment.now log c.in-Ok.buf _ same c.in-Ok.ensures.offset c.in-Ok.ensures.bytes c.requires.ready c.args.end (c.scan_slot.ensures.damaged corrupt)

@@ -1,16 +1,16 @@
 use Rattle.std.proofs.Common.{◌+◌, ◌-◌, ◌≡◌, ◌≤◌, ◌<◌, None}
 use Rattle.std.specs.List.{All}
-use Rattle.sled_store.specs.Device.{state_of}
+use Rattle.sled_core.specs.Reading.{file_of}
 use Rattle.sled_core.specs.Scan.{IsPath}
 use Rattle.sled_log.specs.Recovery.{open_at}
 use Rattle.sled_log.specs.Plain.{CanBeRead}
-use Rattle.sled_log.proofs.snapshot.pass.records.scan_up_to.Given as goal
+use Rattle.sled_log.proofs.snapshot.pass.records.scan_slot.Given as goal
 
 -- what was met so far leads to where the reading stands, no batch is open in it, and the device is as it was
 abbrev pub invariant-loop-stop : goal.invariant-loop-stop
 invariant-loop-stop g l =
     record {
-      path : IsPath g.C.Checksum.sum_of l.fn.config.config.segment_size (state_of (g.D.Device.trace l.fn.config.device)).log.bytes l.segment.slot l.segment.place 20 l.met.items l.stop;
+      path : IsPath g.C.Checksum.sum_of l.fn.config.config.segment_size (file_of l.buf) l.segment.slot l.segment.place 20 l.met.items l.stop;
       closed : open_at l.fn.end l.met.items ≡ None;
       behind : 20 ≤ l.stop;
       within : l.stop ≤ l.fn.config.config.segment_size;
@@ -20,7 +20,8 @@ invariant-loop-stop g l =
       config : l.config.config ≡ l.fn.config.config;
       checksum : l.config.checksum ≡ l.fn.config.checksum;
       last : l.last + 32 ≡ l.fn.config.config.segment_size;
-      ready : CanBeRead l.fn.config.config.segment_size (state_of (g.D.Device.trace l.fn.config.device)).log.bytes l.segment;
+      slot : l.buf.offset ≡ l.segment.slot;
+      ready : CanBeRead l.fn.config.config.segment_size (file_of l.buf) l.segment;
     }
 
 abbrev pub decreases-loop-stop : goal.decreases-loop-stop
