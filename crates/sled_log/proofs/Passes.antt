@@ -1,1 +1,4 @@
+pub mod Ascending
 pub mod Joined
+pub mod LookedUp
+pub mod TailRead

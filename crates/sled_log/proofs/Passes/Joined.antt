@@ -29,7 +29,7 @@ module _ (sum : List ℕ → ℕ) (size : ℕ) (log : List ℕ) (end : ℕ) wher
   replayed_on [] ts (x ∷ xs) ys are scanned = absurd are
   replayed_on (s ∷ ss) ts [] ys are scanned = absurd are
   replayed_on (s ∷ ss) ts (x ∷ xs) ys are scanned = by (open_at end x.met) refl are.2 (λ on. replayed_on ss ts xs ys on scanned) where
-    abbrev rest : List Scanned
+    rest : List Scanned
     rest = up_to_open end (xs ++ ys)
 
     by : (o : Option ℕ) → open_at end x.met ≡ o → StopsOrGoesOn o xs (AreReplayed sum size log end ss xs) → (AreReplayed sum size log end ss xs → AreReplayed sum size log end (ss ++ ts) rest)
@@ -96,7 +96,7 @@ module _ (sum : List ℕ → ℕ) (blobs : ℤ → Option (List ℕ)) (end : ℕ
   up_to_resolved [] = refl
   up_to_resolved (x ∷ xs) =
       ap (λ o. if is_some o then R x ∷ [] else R x ∷ up_to_open end (map R xs)) (open_resolved blobs end x.met) ∙ by (is_some (open_at end x.met)) (up_to_resolved xs) where
-        abbrev R : Scanned → Scanned
+        R : Scanned → Scanned
         R = resolved_scan blobs end
 
         by : (b : Bool) → up_to_open end (map R xs) ≡ map R (up_to_open end xs) → (if b then R x ∷ [] else R x ∷ up_to_open end (map R xs)) ≡ map R (if b then x ∷ [] else x ∷ up_to_open end xs)

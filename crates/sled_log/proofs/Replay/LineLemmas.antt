@@ -155,7 +155,7 @@ module _ (size : ℕ) (some : 0 < size) where
   lower low place [] lt above = tt
   lower low place (s ∷ ss) lt above = (omega (arith, lt, above.0), lower low place ss lt above.1)
 
-  both : (a b : Bool) → (a && b) ≡ true → (a ≡ true) × (b ≡ true)
+  pub both : (a b : Bool) → (a && b) ≡ true → (a ≡ true) × (b ≡ true)
   both true b is = (refl, is)
   both false b is = absurd (cc)
 
@@ -186,7 +186,7 @@ module _ (size : ℕ) (some : 0 < size) where
       by_test false rest = rest
 
   -- two multiples of the size are that far apart
-  apart : (a b : ℕ) → a % size ≡ 0 → b % size ≡ 0 → a < b → a + size ≤ b
+  pub apart : (a b : ℕ) → a % size ≡ 0 → b % size ≡ 0 → a < b → a + size ≤ b
   apart a b at_a at_b less =
       let whole_a : a ≡ a / size * size = omega (arith, mod-add-div' a size, at_a) in
       let whole_b : b ≡ b / size * size = omega (arith, mod-add-div' b size, at_b) in

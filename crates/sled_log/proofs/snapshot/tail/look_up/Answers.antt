@@ -1,0 +1,36 @@
+use Rattle.std.proofs.Common.{◌≡◌, ◌∙◌, ℕ, List, map, sym, ap, subst}
+use Rattle.sled_store.specs.Device.{Trace, state_of}
+use Rattle.sled_log.specs.declared.snapshot.pass.Pass.{Pass}
+use Rattle.sled_log.specs.Recovery.{HaveGoodBlobs, resolved_scan, Scanned}
+use Rattle.sled_log.specs.Plain.{MeetsBadTail, pass_of}
+use Rattle.sled_log.proofs.PageTable.TableLemmas.{on_ok}
+use Rattle.sled_log.proofs.Passes.LookedUp.{bad_in_looked, bad_in_pass, good_looked, kinds_looked}
+use Rattle.sled_log.proofs.snapshot.tail.look_up.Goals as goal
+
+pub check_passes-requires : goal.check_passes-requires
+check_passes-requires g c =
+    let blobs = (state_of (g.D.Device.trace c.args.config.now.device)).blobs.file in
+    record { kinds = kinds_looked g.C.Checksum.sum_of blobs c.args.end c.args.passes.now c.resolve_passes.new.passes c.in-Ok.ensures.passes c.requires.kinds; }
+
+pub returns-in-Ok-clause-good : goal.returns-in-Ok-clause-good
+returns-in-Ok-clause-good g c =
+    let sum : List ℕ → ℕ = g.C.Checksum.sum_of in
+    let old : Trace = g.D.Device.trace c.args.config.now.device in
+    let ps : List Pass = c.args.passes.now in
+    on_ok c.check_passes.result _ (HaveGoodBlobs sum (state_of old).blobs.file (map pass_of ps))
+    (λ good. good_looked sum (state_of old).blobs.file c.args.end (map pass_of ps) c.in-Ok.ensures.good
+    (subst (λ (l : List Scanned). HaveGoodBlobs sum (state_of old).blobs.file l) c.in-Ok.ensures.passes
+    (subst (λ (t : Trace). HaveGoodBlobs sum (state_of t).blobs.file (map pass_of c.resolve_passes.new.passes)) c.in-Ok.ensures.reads.unwritten good)))
+    c.check_passes.ensures.good
+
+pub returns-in-Ok-clause-bad : goal.returns-in-Ok-clause-bad
+returns-in-Ok-clause-bad g c = λ corrupt.
+    let sum : List ℕ → ℕ = g.C.Checksum.sum_of in
+    let old : Trace = g.D.Device.trace c.args.config.now.device in
+    bad_in_looked sum (state_of old).blobs.file c.args.end (map pass_of c.args.passes.now)
+    (subst (λ (l : List Scanned). MeetsBadTail sum (state_of old).blobs.file l) c.in-Ok.ensures.passes
+    (subst (λ (t : Trace). MeetsBadTail sum (state_of t).blobs.file (map pass_of c.resolve_passes.new.passes)) c.in-Ok.ensures.reads.unwritten (c.check_passes.ensures.bad corrupt)))
+
+pub returns-in-Err-clause-bad : goal.returns-in-Err-clause-bad
+returns-in-Err-clause-bad g c = λ corrupt.
+    bad_in_pass g.C.Checksum.sum_of (state_of (g.D.Device.trace c.args.config.now.device)).blobs.file c.args.end (map pass_of c.args.passes.now) (c.in-Err.ensures.bad corrupt)
