@@ -5,13 +5,14 @@ use Rattle.std.proofs.lemmas.List.{map-append, take_more}
 use Rattle.std.proofs.lemmas.List.Elements.{All-cons, All-head, All-nil, All-tail, Contains-get_or}
 use Rattle.sled_store.specs.Device.{Trace, state_of}
 use Rattle.sled_store.proofs.Segments.Elements.{in_cases, in_first, in_nothing, in_rest}
+use Rattle.sled_core.specs.declared.iterator.Segment.{Segment}
 use Rattle.sled_core.specs.declared.iterator.scan.ScannedRecord.{ScannedRecord}
 use Rattle.sled_log.specs.declared.snapshot.pass.Pass.{Pass}
-use Rattle.sled_log.specs.Recovery.{Scanned, HaveGoodBlobs, MeetsBadBlob, NamesKind, before_open, resolved_before, resolved_scan}
+use Rattle.sled_log.specs.Recovery.{Scanned, AreScanned, HaveGoodBlobs, MeetsBadBlob, NamesKind, before_open, resolved_before, resolved_scan}
 use Rattle.sled_log.specs.Plain.{MeetsBadPass, MeetsBadTail, pass_of}
 use Rattle.sled_log.proofs.Reference.PlainBlobs.{HasKinds, good_more}
 use Rattle.sled_log.proofs.Replay.BlobLemmas.{bad_before, bad_either, bad_left}
-use Rattle.sled_log.proofs.Replay.LookLemmas.{kinds_with_blobs}
+use Rattle.sled_log.proofs.Replay.LookLemmas.{kinds_with_blobs, scan_kinds}
 
 pub in_map : {X Y : Type 0} (f : X → Y) (xs : List X) (x : X) → Contains xs x → Contains (map f xs) (f x)
 in_map f [] x there = absurd (in_nothing x there)
@@ -74,3 +75,10 @@ bad_here sum t u ps i d lt same bad = (
   in_map pass_of ps (get_or ps i d) (Contains-get_or ps i d lt),
   subst (λ (x : Trace). MeetsBadBlob sum (state_of x).blobs.file (get_or ps i d).scan.met.items) same bad,
 )
+
+-- what was read to the end is of kinds that are known
+pub scanned_kinds : (sum : List ℕ → ℕ) (size : ℕ) (log : List ℕ) (ss : List Segment) (ps : List Pass) → AreScanned sum size log ss (map pass_of ps) → All HasKinds ps
+scanned_kinds sum size log ss [] are = All-nil HasKinds
+scanned_kinds sum size log [] (p ∷ ps) are = absurd are
+scanned_kinds sum size log (s ∷ ss) (p ∷ ps) are =
+    All-cons HasKinds p ps (scan_kinds sum size log p.segment.slot p.segment.place p.scan.met.items p.scan.stop p.scan.ending are.1) (scanned_kinds sum size log ss ps are.2)
