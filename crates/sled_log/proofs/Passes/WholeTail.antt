@@ -1,7 +1,7 @@
 -- A tail that was read of the segments from an index on is the tail of all of them.
-use Rattle.std.proofs.Common.{◌≡◌, ◌≢◌, ◌∙◌, ◌*◌, ◌/◌, ◌%◌, ◌+◌, ◌<◌, ◌≤◌, ℕ, ℤ, zero, suc, List, [], ◌∷◌, ◌++◌, map, take, drop, Option, Some, None, refl, sym, ap, subst, arith, inl, inr}
+use Rattle.std.proofs.Common.{◌≡◌, ◌≢◌, ◌∙◌, ◌*◌, ◌/◌, ◌%◌, ◌+◌, ◌<◌, ◌≤◌, ℕ, ℤ, zero, suc, List, [], ◌∷◌, ◌++◌, map, take, drop, Option, Some, None, refl, sym, ap, subst, arith, inl, inr, length, length-drop, ◌-◌}
 use Rattle.std.specs.List.{All, Contains}
-use Rattle.std.proofs.lemmas.List.{take-append-drop}
+use Rattle.std.proofs.lemmas.List.{take-append-drop, take_all}
 use Rattle.std.proofs.lemmas.List.Elements.{All-contains, Contains-append_cases, Contains-append_left, Contains-append_right}
 use Rattle.sled_core.specs.declared.iterator.Segment.{Segment}
 use Rattle.sled_core.specs.declared.iterator.scan.ScanEnd.{ScanEnd}
@@ -112,3 +112,7 @@ module _ (sum : List ℕ → ℕ) (size : ℕ) (log : List ℕ) where
           at = led.4;
           damaged = inr (bad.0, refl, led.5, bad.2);
         }
+
+-- a slice from an index to the end
+pub sliced : (ss : List Segment) (n : ℕ) → take (length ss - n) (drop n ss) ≡ drop n ss
+sliced ss n = let long = length-drop n ss in take_all (length ss - n) (drop n ss) (omega (arith, long))
