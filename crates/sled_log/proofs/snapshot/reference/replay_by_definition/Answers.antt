@@ -1,11 +1,11 @@
-use Rattle.std.proofs.Common.{◌∙◌, ℕ, List, Some, subst}
+use Rattle.std.proofs.Common.{◌≡◌, ◌∙◌, ℕ, List, Some, ap, sym, subst}
 use Rattle.std.specs.List.{Contains}
 use Rattle.sled_core.proofs.Read.ReadingLemmas.{if_ok}
 use Rattle.sled_core.specs.declared.iterator.Segment.{Segment}
 use Rattle.sled_codec.specs.Snapshots.{SnapshotModel, model_of}
 use Rattle.sled_store.specs.declared.config.Config.{Config}
 use Rattle.sled_store.specs.Device.{Trace, state_of}
-use Rattle.sled_log.specs.Recovery.{IsTail, IsDamagedTail, Passes, Recovered, Damaged, least_place}
+use Rattle.sled_log.specs.Recovery.{ContinuesFrom, unchanged, slots_of, IsTail, IsDamagedTail, Passes, Recovered, Damaged, least_place}
 use Rattle.sled_log.specs.Plain.{CanBeRead}
 use Rattle.sled_log.specs.WritesBack.{result_of}
 use Rattle.sled_log.proofs.Reference.PlainSame.{was_so_in, still_so}
@@ -59,16 +59,19 @@ returns-in-Ok-Some-clause-corrupt g c = λ corrupt.
     (was_so_in (λ n s. Passes g.C.Checksum.sum_of n s.log.bytes s.blobs.file first ss (Some end) Damaged) cfg c.tail_end.new.config.config before (g.D.Device.trace c.tail_end.new.config.device)
     c.in-Ok-Some.ensures.reads.config c.in-Ok-Some.ensures.reads.unwritten (c.pass_over.ensures.corrupt corrupt))
 
-pub returns-in-Ok-None-clause-ok : goal.returns-in-Ok-None-clause-ok
-returns-in-Ok-None-clause-ok g c =
+pub returns-in_ok-slots_of-in-Ok-None-clause-ok : goal.returns-in_ok-slots_of-in-Ok-None-clause-ok
+returns-in_ok-slots_of-in-Ok-None-clause-ok g c =
     let cfg : Config = c.args.config.now.config in
     let size : ℕ = cfg.segment_size in
     let log : List ℕ = (state_of (g.D.Device.trace c.args.config.now.device)).log.bytes in
+    let blobs = (state_of (g.D.Device.trace c.args.config.now.device)).blobs.file in
     let ss : List Segment = c.args.segments.now in
     let first : SnapshotModel = model_of c.args.first in
     let begins = begins_there size c.stable_place.result c.tail_begins.result first ss c.tail_begins.ensures c.stable_place.ensures.place in
     let tail = c.in-Ok-None.ensures.end in
-    comes_unchanged g.C.Checksum.sum_of size log (state_of (g.D.Device.trace c.args.config.now.device)).blobs.file first ss c.requires.ordering tail.0 (subst (λ n. IsTail g.C.Checksum.sum_of size log ss n tail.0) begins tail.1) tail.2 (tail.3 ∙ c.in-Ok-None.field-0-is)
+    let is : result_of c.unchanged.result ≡ unchanged first (slots_of ss) = c.unchanged.ensures ∙ ap (unchanged first) c.in_ok-slots_of-in-Ok-None.ensures.slots in
+    subst (λ x. ContinuesFrom g.C.Checksum.sum_of size log blobs first (Recovered x)) (sym is)
+    (comes_unchanged g.C.Checksum.sum_of size log blobs first ss c.requires.ordering tail.0 (subst (λ n. IsTail g.C.Checksum.sum_of size log ss n tail.0) begins tail.1) tail.2 (tail.3 ∙ c.in-Ok-None.field-0-is))
 
 pub returns-in-Err-clause-corrupt : goal.returns-in-Err-clause-corrupt
 returns-in-Err-clause-corrupt g c = λ corrupt.
