@@ -3,7 +3,6 @@ pub mod OwnBlobs
 pub mod PageTable
 mod Passes
 pub mod PublicLaws
-mod Reference
 pub mod Replay
 pub mod Sessions
 pub mod SnapshotFile

@@ -1,6 +1,15 @@
 pub mod Ascending
+pub mod Behind
+pub mod Blobs
+pub mod Continues
+pub mod Found
 pub mod Joined
 pub mod LookedUp
+pub mod Outcomes
+pub mod Records
+pub mod Same
+pub mod Slots
 pub mod TailRead
+pub mod Tails
 pub mod Whole
 pub mod WholeTail

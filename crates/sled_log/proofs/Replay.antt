@@ -1,5 +1,4 @@
 pub mod BlobLemmas
-pub mod FindLemmas
 pub mod FirstConclusion
 pub mod FirstRecovers
 pub mod FirstSnapshot

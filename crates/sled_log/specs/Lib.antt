@@ -1,7 +1,7 @@
 pub mod Ordering
 pub mod Orderly
 pub mod OwnPast
-pub mod Plain
+pub mod Passes
 pub mod Recovery
 pub mod Replaces
 pub mod Restores

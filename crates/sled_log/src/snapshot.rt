@@ -18,7 +18,7 @@ ghost use Rattle.sled_codec.specs.PageTables.{IsTable};
 ghost use Rattle.sled_log.specs.Restores.{ComesOf, IsBeyondRecovery, RecoveryCalls, Restores};
 ghost use Rattle.sled_log.specs.Orderly.{CanRecover};
 ghost use Rattle.sled_log.specs.Recovery.{least_place, IsOrdering, AreScanned, begun_below, Passes, Recovered, Damaged, ContinuesFrom, Recovers};
-ghost use Rattle.sled_log.specs.Plain.{CanBeRead, IsPass, pass_of, AreLookedUp, MeetsBadTail, PassesBehind};
+ghost use Rattle.sled_log.specs.Passes.{CanBeRead, IsPass, pass_of, AreLookedUp, MeetsBadTail, PassesBehind};
 ghost use Rattle.sled_log.specs.WritesBack.{result_of};
 
 pub(crate) mod blobs;
@@ -45,7 +45,7 @@ pub use sled_codec::serialization::snapshot::{Entry, PageState, Snapshot};
 use sled_core::iterator::Segment;
 use sled_store::{Device, RunningConfig};
 
-/// Recovers the table of pages from a device, and returns it. First it
+/// Recovers the table of pages from a device whose log file is no longer than a segment, and returns it. First it
 /// syncs the device. Then it reads the newest snapshot and the log file, and at last it fills the rest of the
 /// active segment with zeros and, where the table goes beyond that snapshot, publishes a new one and removes
 /// all others.

@@ -1,5 +1,5 @@
 -- Segments by place: what lies behind an index begins above, and what begins below a place stands first.
-use Rattle.std.proofs.Common.{◌≡◌, ◌∙◌, ◌+◌, ◌%◌, ◌<◌, ◌≤◌, ◌&&◌, ℕ, zero, suc, Bool, true, false, nat_lt, leb, List, [], ◌∷◌, ◌++◌, length, get_or, take, drop, if◌then◌else◌, refl, sym, ap, subst, arith, inl, inr, length-take, length-drop, get_or-take, get_or-drop}
+use Rattle.std.proofs.Common.{◌≡◌, ◌∙◌, ◌+◌, ◌%◌, ◌<◌, ◌≤◌, ℕ, zero, suc, Bool, true, false, nat_lt, List, [], ◌∷◌, ◌++◌, length, get_or, take, drop, if◌then◌else◌, refl, sym, ap, subst, arith, inl, inr, length-take, length-drop, get_or-take, get_or-drop}
 use Rattle.std.specs.List.{All, AllAdjacentBelow, Contains}
 use Rattle.std.specs.List.Sorted.{IsNonDecreasingBy}
 use Rattle.std.proofs.lemmas.Bool.Decides.{nat_tests}
@@ -7,7 +7,7 @@ use Rattle.std.proofs.lemmas.List.{append-nil, drop_more, take_all, take_more, t
 use Rattle.std.proofs.lemmas.List.Elements.{All-cons, All-contains, All-head, All-nil, All-push, All-tail, All-weaker, Contains-append_cases}
 use Rattle.std.proofs.lemmas.List.Sorted.{IsNonDecreasingBy-from_all_adjacent}
 use Rattle.sled_core.specs.declared.iterator.Segment.{Segment}
-use Rattle.sled_store.proofs.Segments.Elements.{in_cases, in_first, in_nothing, in_rest, all_from_in}
+use Rattle.sled_store.proofs.Segments.Elements.{in_cases, all_from_in}
 use Rattle.sled_log.specs.Recovery.{begun_below, is_ascending}
 use Rattle.sled_log.proofs.Replay.LineLemmas.{apart, both}
 use Rattle.sled_log.proofs.Passes.Joined.{begun_append}

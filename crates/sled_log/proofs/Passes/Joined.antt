@@ -1,12 +1,12 @@
 -- The pass over segments and then over the tail behind them: what is met in both, up to the first batch that is open.
-use Rattle.std.proofs.Common.{◌≡◌, ◌⊎◌, ◌∙◌, ◌+◌, ◌<◌, ◌≤◌, ℕ, ℤ, Bool, true, false, nat_lt, List, [], ◌∷◌, ◌++◌, length, map, take, drop, append_assoc, Option, Some, None, is_some, if◌then◌else◌, refl, sym, ap, subst, arith, inl, inr}
+use Rattle.std.proofs.Common.{◌≡◌, ◌⊎◌, ◌∙◌, ◌≤◌, ℕ, ℤ, Bool, true, false, nat_lt, List, [], ◌∷◌, ◌++◌, length, map, drop, append_assoc, Option, Some, None, is_some, if◌then◌else◌, refl, sym, ap, subst, arith, inl, inr}
 use Rattle.std.proofs.lemmas.List.{length-map, map-append}
 use Rattle.sled_codec.specs.Snapshots.{SnapshotModel}
 use Rattle.sled_core.specs.declared.iterator.Segment.{Segment}
 use Rattle.sled_store.proofs.Segments.Elements.{in_first, in_rest}
-use Rattle.sled_log.specs.Recovery.{Scanned, Outcome, Damaged, AreScanned, AreReplayed, StopsOrGoesOn, IsDamagedPass, Passes, MeetsBadBlob, HaveGoodBlobs, before_open, begun_below, open_at, outcome_of, resolved_scan, slots_of}
-use Rattle.sled_log.specs.Plain.{AreLookedUp, AreResolved, IsBadPass, MeetsBadPass, OpensLast, up_to_open}
-use Rattle.sled_log.proofs.Reference.PlainBlobs.{bad_of_all, bad_to_all, opens_last}
+use Rattle.sled_log.specs.Recovery.{Scanned, Outcome, Damaged, AreScanned, AreReplayed, StopsOrGoesOn, Passes, MeetsBadBlob, HaveGoodBlobs, before_open, begun_below, open_at, outcome_of, resolved_scan, slots_of}
+use Rattle.sled_log.specs.Passes.{AreLookedUp, AreResolved, IsBadPass, MeetsBadPass, OpensLast, up_to_open}
+use Rattle.sled_log.proofs.Passes.Blobs.{bad_of_all, bad_to_all, opens_last}
 use Rattle.sled_log.proofs.Replay.BlobLemmas.{bad_before, open_resolved}
 use Rattle.sled_log.proofs.Replay.PassedLemmas.{whole_passed}
 
@@ -150,7 +150,7 @@ module _ (sum : List ℕ → ℕ) (size : ℕ) (log : List ℕ) (blobs : ℤ →
           inr (
             λ bad. are.fine (bad_of_all sum blobs end are.scanned (opens_last sum size log end (begun_below end ordering) are.scanned are.replayed) bad),
             sym comes ∙ ap (λ (l : List Scanned). outcome_of size first end l (slots_of (drop (length ps) ordering))) are.is
-            ∙ ap (λ n. outcome_of size first end (map R are.scanned) (slots_of (drop n ordering))) long,
+                ∙ ap (λ n. outcome_of size first end (map R are.scanned) (slots_of (drop n ordering))) long,
           ),
         )
 

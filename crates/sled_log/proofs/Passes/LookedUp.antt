@@ -1,5 +1,5 @@
 -- Blobs that were looked for in segments, up to a batch that is open and then behind it: what is good or bad in all of them.
-use Rattle.std.proofs.Common.{◌≡◌, ◌+◌, ◌<◌, ℕ, ℤ, List, [], ◌∷◌, ◌++◌, length, map, get_or, take, drop, Option, refl, sym, ap, subst, arith, inl, inr, ◌∙◌}
+use Rattle.std.proofs.Common.{◌≡◌, ◌+◌, ◌<◌, ℕ, ℤ, List, [], ◌∷◌, ◌++◌, length, map, get_or, take, Option, sym, ap, subst, inl, inr, ◌∙◌}
 use Rattle.std.specs.List.{All, Contains}
 use Rattle.std.proofs.lemmas.List.{map-append, take_more}
 use Rattle.std.proofs.lemmas.List.Elements.{All-cons, All-head, All-nil, All-tail, Contains-get_or}
@@ -9,8 +9,8 @@ use Rattle.sled_core.specs.declared.iterator.Segment.{Segment}
 use Rattle.sled_core.specs.declared.iterator.scan.ScannedRecord.{ScannedRecord}
 use Rattle.sled_log.specs.declared.snapshot.pass.Pass.{Pass}
 use Rattle.sled_log.specs.Recovery.{Scanned, AreScanned, HaveGoodBlobs, MeetsBadBlob, NamesKind, before_open, resolved_before, resolved_scan}
-use Rattle.sled_log.specs.Plain.{MeetsBadPass, MeetsBadTail, pass_of}
-use Rattle.sled_log.proofs.Reference.PlainBlobs.{HasKinds, good_more}
+use Rattle.sled_log.specs.Passes.{MeetsBadPass, MeetsBadTail, pass_of}
+use Rattle.sled_log.proofs.Passes.Blobs.{HasKinds, good_more}
 use Rattle.sled_log.proofs.Replay.BlobLemmas.{bad_before, bad_either, bad_left}
 use Rattle.sled_log.proofs.Replay.LookLemmas.{kinds_with_blobs, scan_kinds}
 

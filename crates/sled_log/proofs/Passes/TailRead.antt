@@ -1,8 +1,8 @@
 -- The tail as it is read, one segment behind another, of segments by place.
-use Rattle.std.proofs.Common.{◌≡◌, ◌+◌, ◌%◌, ◌^◌, ◌<◌, ◌≤◌, ℕ, List, [], ◌∷◌, ◌++◌, take, drop, Option, Some, None, IfSome, refl, sym, subst, arith}
+use Rattle.std.proofs.Common.{◌≡◌, ◌+◌, ◌%◌, ◌^◌, ◌<◌, ◌≤◌, ℕ, List, [], ◌∷◌, ◌++◌, take, drop, Option, Some, None, IfSome, sym, subst}
 use Rattle.std.specs.List.{All}
 use Rattle.sled_core.specs.declared.iterator.Segment.{Segment}
-use Rattle.sled_log.specs.Recovery.{Scanned, IsScanned, IsTail, AreScanned, GoesOn, begun_below}
+use Rattle.sled_log.specs.Recovery.{Scanned, IsScanned, AreScanned, begun_below}
 use Rattle.sled_log.proofs.Passes.Ascending.{begun_walked}
 
 -- an end in the segment before a place

@@ -1,5 +1,5 @@
 -- The pass over all segments that begin below the end of a tail, and what comes of it.
-use Rattle.std.proofs.Common.{◌≡◌, ◌∙◌, ◌+◌, ◌≤◌, ◌<◌, ◌^◌, ℕ, ℤ, List, ◌++◌, length, map, take, drop, Option, Some, refl, sym, ap, subst, arith}
+use Rattle.std.proofs.Common.{◌≡◌, ◌≤◌, ℕ, ℤ, List, ◌++◌, length, map, take, drop, Option, Some, sym, subst, arith}
 use Rattle.std.specs.List.{All}
 use Rattle.std.proofs.lemmas.List.{length-map}
 use Rattle.std.proofs.lemmas.List.Elements.{All-same}
@@ -8,7 +8,7 @@ use Rattle.sled_core.specs.declared.iterator.Segment.{Segment}
 use Rattle.sled_store.specs.declared.config.Config.{Config}
 use Rattle.sled_log.specs.declared.snapshot.pass.Pass.{Pass}
 use Rattle.sled_log.specs.Recovery.{Scanned, Outcome, Passes, begun_below, outcome_of, slots_of}
-use Rattle.sled_log.specs.Plain.{AreLookedUp, AreResolved, IsBadPass, IsPass, pass_of, up_to_open}
+use Rattle.sled_log.specs.Passes.{AreLookedUp, AreResolved, IsBadPass, IsPass, pass_of, up_to_open}
 use Rattle.sled_log.proofs.Passes.Ascending.{begun_split}
 use Rattle.sled_log.proofs.Passes.Joined.{bad_on, joined, passes_of, resolved_length}
 

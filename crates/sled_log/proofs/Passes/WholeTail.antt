@@ -1,15 +1,14 @@
 -- A tail that was read of the segments from an index on is the tail of all of them.
-use Rattle.std.proofs.Common.{◌≡◌, ◌≢◌, ◌∙◌, ◌*◌, ◌/◌, ◌%◌, ◌+◌, ◌<◌, ◌≤◌, ℕ, ℤ, zero, suc, List, [], ◌∷◌, ◌++◌, map, take, drop, Option, Some, None, refl, sym, ap, subst, arith, inl, inr, length, length-drop, ◌-◌}
+use Rattle.std.proofs.Common.{◌≡◌, ◌≢◌, ◌%◌, ◌+◌, ◌<◌, ◌≤◌, ℕ, ℤ, zero, suc, List, [], ◌∷◌, take, drop, Option, None, refl, sym, subst, arith, inl, inr, length, length-drop, ◌-◌}
 use Rattle.std.specs.List.{All, Contains}
 use Rattle.std.proofs.lemmas.List.{take-append-drop, take_all}
 use Rattle.std.proofs.lemmas.List.Elements.{All-contains, Contains-append_cases, Contains-append_left, Contains-append_right}
 use Rattle.sled_core.specs.declared.iterator.Segment.{Segment}
 use Rattle.sled_core.specs.declared.iterator.scan.ScanEnd.{ScanEnd}
 use Rattle.sled_core.specs.declared.iterator.scan.ScanEnd.TheVariants.{Full, Capped, Broken}
-use Rattle.sled_core.specs.Scan.{IsMisplaced}
 use Rattle.sled_store.proofs.Segments.Elements.{in_cases, in_nothing, all_from_in}
 use Rattle.sled_log.specs.Recovery.{Scanned, IsScanned, IsOrdering, IsTail, IsTailPart, IsDamagedTail, GoesOn, HaveGoodBlobs, tail_end}
-use Rattle.sled_log.specs.Plain.{MeetsBadTail}
+use Rattle.sled_log.specs.Passes.{MeetsBadTail}
 
 -- those from an index on are among all
 pub in_dropped : (n : ℕ) (ss : List Segment) (s : Segment) → Contains (drop n ss) s → Contains ss s

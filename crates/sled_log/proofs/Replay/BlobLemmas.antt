@@ -163,13 +163,6 @@ module _ (sum : List ℕ → ℕ) (blobs : ℤ → Option (List ℕ)) where
         | inr later ↦ bad_behind m ms (rest later)
       ]
 
-  -- of one segment
-  pub bad_passed : (end : ℕ) (s : Scanned) → MeetsBadBlob sum blobs (passed_in end s (open_at end s.met) []) → MeetsBadBlob sum blobs s.met
-  bad_passed end s bad = by (open_at end s.met) bad where
-    by : (o : Option ℕ) → MeetsBadBlob sum blobs (passed_in end s o []) → MeetsBadBlob sum blobs s.met
-    by (Some place) bad = bad_before end s.met bad
-    by None bad = bad
-
   -- where there are no blobs none is bad in any segment
   pub good_blobs : ((n : ℤ) → blobs n ≡ None) → (scanned : List Scanned) → HaveGoodBlobs sum blobs scanned
   good_blobs none scanned s there = meets_no_bad none s.met

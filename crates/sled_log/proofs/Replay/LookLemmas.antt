@@ -141,12 +141,6 @@ module _ (sum : List ℕ → ℕ) (size : ℕ) (log : List ℕ) (slot place : �
 pub written : {X : Type 0} (n : ℕ) (ns rest : List X) → length ns ≡ n → take n (ns ++ rest) ≡ ns
 written n ns rest is = ap (λ k. take k (ns ++ rest)) (sym is) ∙ take-append_seam ns rest
 
--- it has its records with their blobs
-pub has_blobs : (n end : ℕ) (ns rest now items : List ScannedRecord) (t u : Trace) → length ns ≡ n → ns ≡ resolved_before (state_of t).blobs.file end now → now ≡ items → t ≡ u
-    → take n (ns ++ rest) ≡ resolved_before (state_of u).blobs.file end items
-has_blobs n end ns rest now items t u long is same read =
-    written n ns rest long ∙ is ∙ ap (resolved_before (state_of t).blobs.file end) same ∙ ap (λ (x : Trace). resolved_before (state_of x).blobs.file end items) read
-
 -- what is bad among them is bad at another moment between which the device was only read
 pub bad_still : (sum : List ℕ → ℕ) (now items : List ScannedRecord) (t u : Trace) → now ≡ items → t ≡ u → MeetsBadBlob sum (state_of t).blobs.file now → MeetsBadBlob sum (state_of u).blobs.file items
 bad_still sum now items t u same read bad = subst (λ (x : Trace). MeetsBadBlob sum (state_of x).blobs.file items) read (subst (MeetsBadBlob sum (state_of t).blobs.file) same bad)

@@ -10,7 +10,7 @@ use Rattle.sled_core.specs.declared.iterator.Segment.{Segment}
 use Rattle.sled_core.specs.Scan.{IsFoundSegment}
 use Rattle.sled_core.specs.LogFile.{StandIn, HasHeader, IsEmpty}
 use Rattle.sled_core.proofs.Flush.LogFileLemmas.{stand_grows, header_there, stand_below}
-use Rattle.sled_log.proofs.Replay.FindLemmas.{is_found, only_found}
+use Rattle.sled_core.proofs.Read.FoundLemmas.{is_found, only_found}
 
 -- The only segment of a log file: messages stand behind its header, and no record behind them.
 pub record IsOnlySegment (sum : List ℕ → ℕ) (size : ℕ) (log : List ℕ) (site : SegmentPosition) (end : ℕ) (own : List Message) : Type 0 where

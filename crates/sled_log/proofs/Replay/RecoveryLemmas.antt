@@ -4,13 +4,9 @@ use Rattle.std.specs.Option.{unwrap_or}
 use Rattle.std.specs.List.{All, AllByRecursion}
 use Rattle.std.proofs.lemmas.List.Elements.{recursion_from_All}
 use Rattle.std.proofs.lemmas.Bool.Decides.{nat_tests}
-use Rattle.std.specs.Prelude.{Result, Ok, Err, IfOk, OnOk}
-use Rattle.sled_codec.specs.declared.result.Error.{Error}
-use Rattle.sled_log.specs.declared.snapshot.recovery.Recovery.{Recovery}
 use Rattle.sled_codec.specs.Snapshots.{SnapshotModel, stable_place}
 use Rattle.sled_core.specs.declared.iterator.scan.ScannedRecord.{ScannedRecord}
 use Rattle.sled_core.specs.declared.iterator.Segment.{Segment}
-use Rattle.sled_log.specs.WritesBack.{result_of}
 use Rattle.sled_log.specs.Recovery.{Scanned, Applied, Outcome, Recovered, Damaged, RecoveryResult, shred_range_of, is_beyond, opens, before_open, open_at, passed_in, stops_in, concluded, outcome_of, given, cut_of, has_no_table, are_whole, table_of}
 
 -- where no batch is open, all that is met lies before one
@@ -58,23 +54,6 @@ module _ (size : ℕ) (first : SnapshotModel) (unread : List ℕ) (messages : Li
   pub no_table_damaged : has_no_table messages ≡ true → concluded size first unread messages cut ≡ Damaged
   no_table_damaged is = ap (λ a. chosen a (nat_lt cut.0 (stable_place first.stable)) (are_whole (table_of first.pages messages))) is
 
-  low_cut : (a : Bool) → chosen a true (are_whole (table_of first.pages messages)) ≡ Damaged
-  low_cut true = refl
-  low_cut false = refl
-
-  pub low_cut_damaged : cut.0 < stable_place first.stable → concluded size first unread messages cut ≡ Damaged
-  low_cut_damaged lt =
-      let below : nat_lt cut.0 (stable_place first.stable) ≡ true = grind (arith, nat_tests, lt) in
-      ap (λ b. chosen (has_no_table messages) b (are_whole (table_of first.pages messages))) below ∙ low_cut (has_no_table messages)
-
-  not_whole : (a b : Bool) → chosen a b false ≡ Damaged
-  not_whole true b = refl
-  not_whole false true = refl
-  not_whole false false = refl
-
-  pub not_whole_damaged : are_whole (table_of first.pages messages) ≡ false → concluded size first unread messages cut ≡ Damaged
-  not_whole_damaged is = ap (chosen (has_no_table messages) (nat_lt cut.0 (stable_place first.stable))) is ∙ not_whole (has_no_table messages) (nat_lt cut.0 (stable_place first.stable))
-
 -- where a batch is open lies a record that is met
 open_in : (end limit : ℕ) (ms : List ScannedRecord) (else_at : ℕ) → AllByRecursion (λ m. m.place < limit) ms → else_at ≤ limit → unwrap_or (open_at end ms) else_at ≤ limit
 open_in end limit [] else_at small le = le
@@ -85,8 +64,3 @@ open_in end limit (m ∷ ms) else_at small le = by_test (opens end m.what) small
 
 pub open_below : (end limit : ℕ) (ms : List ScannedRecord) (else_at : ℕ) → All (λ m. m.place < limit) ms → else_at ≤ limit → unwrap_or (open_at end ms) else_at ≤ limit
 open_below end limit ms else_at small le = open_in end limit ms else_at (recursion_from_All (λ m. m.place < limit) ms small) le
-
--- where a snapshot is made, and this is so of it, that is the outcome
-pub made_well : (r : Result Recovery Error) (made_of : RecoveryResult) (A : Type 0) (o : Outcome) → IfOk r (λ x. result_of x ≡ made_of) → OnOk r A → (A → o ≡ Recovered made_of) → IfOk r (λ x. o ≡ Recovered (result_of x))
-made_well (Ok x) made_of A o is holds leads = leads holds ∙ ap Recovered (sym is)
-made_well (Err e) made_of A o is holds leads = tt

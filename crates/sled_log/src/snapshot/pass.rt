@@ -11,7 +11,7 @@ ghost use Rattle.sled_core.specs.Keeps.{OnlyReads};
 ghost use Rattle.sled_core.specs.declared.iterator.Segment.{Segment};
 ghost use Rattle.sled_log.specs.Recovery.{passed_all, AreReplayed, begun_below, IsDamagedPass, Recovered, Damaged, outcome_of, given, has_no_table, table_of, NamesKind, MeetsBadBlob, resolved_scan, before_open, slots_of};
 ghost use Rattle.sled_log.specs.WritesBack.{result_of};
-ghost use Rattle.sled_log.specs.Plain.{CanBeRead, IsPass, pass_of, stop_of, MeetsBadPass, AreResolved, IsBadPass, up_to_open};
+ghost use Rattle.sled_log.specs.Passes.{CanBeRead, IsPass, pass_of, stop_of, MeetsBadPass, AreResolved, IsBadPass, up_to_open};
 
 pub(crate) mod records;
 

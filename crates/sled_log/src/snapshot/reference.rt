@@ -11,7 +11,7 @@ ghost use Rattle.sled_core.specs.Scan.{IsDamagedIn};
 ghost use Rattle.sled_core.specs.declared.iterator.Segment.{Segment};
 ghost use Rattle.sled_log.specs.Recovery.{Scanned, IsScanned, IsOrdering, IsTail, IsDamagedTail, tail_end, Recovered, Damaged, RecoveryResult, least_place, scanned_of, ContinuesFrom, Recovers, Passes, MeetsBadBlob, MeetsBadBlobIn, HaveGoodBlobs};
 ghost use Rattle.sled_log.specs.WritesBack.{result_of};
-ghost use Rattle.sled_log.specs.Plain.{CanBeRead};
+ghost use Rattle.sled_log.specs.Passes.{CanBeRead};
 
 use crate::snapshot::blobs::check;
 use crate::snapshot::file::read_newest;

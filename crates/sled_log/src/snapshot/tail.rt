@@ -10,7 +10,7 @@ ghost use Rattle.sled_core.specs.Keeps.{OnlyReads};
 ghost use Rattle.sled_core.specs.Scan.{IsDamagedIn};
 ghost use Rattle.sled_core.specs.declared.iterator.Segment.{Segment};
 ghost use Rattle.sled_log.specs.Recovery.{IsScanned, IsTail, IsDamagedTail, AreScanned, begun_below, is_ascending, tail_begins, tail_end, scanned_of, NamesKind, HaveGoodBlobs, resolved_scan};
-ghost use Rattle.sled_log.specs.Plain.{CanBeRead, IsPass, MeetsBadTail, pass_of};
+ghost use Rattle.sled_log.specs.Passes.{CanBeRead, IsPass, MeetsBadTail, pass_of};
 
 use crate::snapshot::blobs::check;
 use crate::snapshot::pass::{Pass, resolve_passes};
@@ -175,4 +175,3 @@ pub(crate) fn is_broken(ending: ScanEnd) -> bool
         ScanEnd::Full | ScanEnd::Capped => false,
     }
 }
-

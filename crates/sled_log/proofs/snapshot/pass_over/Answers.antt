@@ -4,7 +4,7 @@ use Rattle.sled_core.proofs.Read.ReadingLemmas.{if_ok}
 use Rattle.sled_store.specs.declared.config.Config.{Config}
 use Rattle.sled_store.specs.Device.{State, state_of}
 use Rattle.sled_log.specs.Recovery.{Passes, Recovered, Damaged}
-use Rattle.sled_log.specs.Plain.{pass_of}
+use Rattle.sled_log.specs.Passes.{pass_of}
 use Rattle.sled_log.specs.WritesBack.{result_of}
 use Rattle.sled_log.proofs.Passes.WholeTail.{in_taken}
 use Rattle.sled_log.proofs.Passes.Joined.{passes_damaged}

@@ -4,8 +4,8 @@ use Rattle.sled_store.specs.declared.config.Config.{Config}
 use Rattle.sled_store.specs.Device.{Trace, content_of, state_of}
 use Rattle.sled_log.specs.Recovery.{Recovered, Damaged, ContinuesFrom}
 use Rattle.sled_log.specs.WritesBack.{result_of}
-use Rattle.sled_log.proofs.Reference.PlainSame.{was_so_in}
-use Rattle.sled_log.proofs.Reference.PlainWhole.{recovers_from, recovers_damaged}
+use Rattle.sled_log.proofs.Passes.Same.{was_so_in}
+use Rattle.sled_log.proofs.Passes.Continues.{recovers_from, recovers_damaged}
 use Rattle.sled_log.proofs.snapshot.recover.Goals as goal
 
 pub returns-in-Ok-clause-ok : goal.returns-in-Ok-clause-ok

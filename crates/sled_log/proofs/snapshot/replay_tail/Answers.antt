@@ -1,4 +1,4 @@
-use Rattle.std.proofs.Common.{◌≡◌, ◌∙◌, ℕ, List, Some, map, length, take, drop, ◌++◌, ap, refl, sym, subst, inl, inr}
+use Rattle.std.proofs.Common.{◌∙◌, ℕ, List, Some, map, length, take, drop, ◌++◌, refl, sym, subst, inl, inr}
 use Rattle.std.specs.List.{All, Contains}
 use Rattle.sled_codec.specs.Snapshots.{model_of}
 use Rattle.sled_core.proofs.Read.ReadingLemmas.{if_ok}
@@ -6,12 +6,12 @@ use Rattle.sled_core.specs.declared.iterator.Segment.{Segment}
 use Rattle.sled_store.specs.declared.config.Config.{Config}
 use Rattle.sled_store.specs.Device.{State, Trace, state_of}
 use Rattle.sled_log.specs.declared.snapshot.pass.Pass.{Pass}
-use Rattle.sled_log.specs.Recovery.{AreScanned, HaveGoodBlobs, Passes, Recovered, Damaged, begun_below}
-use Rattle.sled_log.specs.Plain.{AreLookedUp, CanBeRead, IsPass, MeetsBadTail, PassesBehind, pass_of}
+use Rattle.sled_log.specs.Recovery.{HaveGoodBlobs, Passes, Recovered, Damaged, begun_below}
+use Rattle.sled_log.specs.Passes.{AreLookedUp, CanBeRead, IsPass, MeetsBadTail, PassesBehind, pass_of}
 use Rattle.sled_log.specs.WritesBack.{result_of}
 use Rattle.sled_log.proofs.Passes.LookedUp.{scanned_kinds}
-use Rattle.sled_log.proofs.Reference.PlainBlobs.{HasKinds, passes_fit, resolved_vec}
-use Rattle.sled_log.proofs.Reference.PlainSame.{still_so, still_so_in, was_so_in}
+use Rattle.sled_log.proofs.Passes.Blobs.{HasKinds, passes_fit, resolved_vec}
+use Rattle.sled_log.proofs.Passes.Same.{still_so, still_so_in, was_so_in}
 use Rattle.sled_log.proofs.snapshot.replay_tail.Goals as goal
 
 -- the vector behind the look for blobs
@@ -64,8 +64,11 @@ returns-in-Ok-clause-ok g c =
     let s : State = state_of old in
     let good = subst (λ (l : List Pass). HaveGoodBlobs sum s.blobs.file (map pass_of l)) c.deref_mut.ensures.value c.in-Ok.ensures.good in
     if_ok c.pass_over.result _ (λ x. PassesBehind sum cfg.segment_size s.log.bytes s.blobs.file (model_of c.args.first) c.args.segments.now c.args.end (map pass_of c.args.tail.items) (Recovered (result_of x)))
-    (λ x passes. (good, was_so_in (λ n t. Passes sum n t.log.bytes t.blobs.file (model_of c.args.first) c.args.segments.now (Some c.args.end) (Recovered (result_of x))) cfg c.look_up.new.config.config old (g.D.Device.trace c.look_up.new.config.device)
-    c.in-Ok.ensures.reads.config c.in-Ok.ensures.reads.unwritten passes))
+    (λ x passes. (
+      good,
+      was_so_in (λ n t. Passes sum n t.log.bytes t.blobs.file (model_of c.args.first) c.args.segments.now (Some c.args.end) (Recovered (result_of x))) cfg c.look_up.new.config.config old (g.D.Device.trace c.look_up.new.config.device)
+          c.in-Ok.ensures.reads.config c.in-Ok.ensures.reads.unwritten passes,
+    ))
     c.pass_over.ensures.ok
 
 pub returns-in-Ok-clause-corrupt : goal.returns-in-Ok-clause-corrupt
@@ -75,8 +78,11 @@ returns-in-Ok-clause-corrupt g c = λ corrupt.
     let old : Trace = g.D.Device.trace c.args.config.now.device in
     let s : State = state_of old in
     let good = subst (λ (l : List Pass). HaveGoodBlobs sum s.blobs.file (map pass_of l)) c.deref_mut.ensures.value c.in-Ok.ensures.good in
-    inr (good, was_so_in (λ n t. Passes sum n t.log.bytes t.blobs.file (model_of c.args.first) c.args.segments.now (Some c.args.end) Damaged) cfg c.look_up.new.config.config old (g.D.Device.trace c.look_up.new.config.device)
-    c.in-Ok.ensures.reads.config c.in-Ok.ensures.reads.unwritten (c.pass_over.ensures.corrupt corrupt))
+    inr (
+      good,
+      was_so_in (λ n t. Passes sum n t.log.bytes t.blobs.file (model_of c.args.first) c.args.segments.now (Some c.args.end) Damaged) cfg c.look_up.new.config.config old (g.D.Device.trace c.look_up.new.config.device)
+          c.in-Ok.ensures.reads.config c.in-Ok.ensures.reads.unwritten (c.pass_over.ensures.corrupt corrupt),
+    )
 
 pub returns-in-Err-clause-corrupt : goal.returns-in-Err-clause-corrupt
 returns-in-Err-clause-corrupt g c = λ corrupt.

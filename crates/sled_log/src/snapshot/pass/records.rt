@@ -9,13 +9,13 @@ ghost use Rattle.sled_core.specs.Keeps.{OnlyReads};
 ghost use Rattle.sled_core.specs.Reading.{IsMalformed, file_of};
 ghost use Rattle.sled_core.specs.Scan.{HasPlace, IsStep};
 ghost use Rattle.sled_log.specs.Recovery.{IsReplayed, open_at, scanned_of};
-ghost use Rattle.sled_log.specs.Plain.{CanBeRead, IsDamagedBefore};
+ghost use Rattle.sled_log.specs.Passes.{CanBeRead, IsDamagedBefore};
 
 use crate::snapshot::page_table::opens;
 use sled_codec::result::Result;
 use sled_codec::serialization::{Checksum, SegmentNumber};
-use sled_core::iterator::{Segment, read_slot};
 use sled_core::iterator::scan::{ScanEnd, ScannedRecord, SegmentScan, Step, step_of};
+use sled_core::iterator::{Segment, read_slot};
 use sled_core::logger::read_at::BasedBuf;
 use sled_core::logger::read_message::read_record;
 use sled_store::segment::{MAX_MSG_HEADER_LEN, SEG_HEADER_LEN};

@@ -4,7 +4,7 @@ use Rattle.sled_store.specs.Device.{state_of}
 use Rattle.sled_core.specs.declared.iterator.Segment.{Segment}
 use Rattle.sled_core.specs.Scan.{IsFoundSegment}
 use Rattle.sled_log.specs.Ordering.{AreCollected}
-use Rattle.sled_log.proofs.Reference.PlainSame.{was_so}
+use Rattle.sled_log.proofs.Passes.Same.{was_so}
 use Rattle.sled_log.proofs.Ordering.CollectedLemmas.{none_more, one_more, all_slots}
 use Rattle.sled_log.proofs.snapshot.ordering.collect_segments.Goals.{in-Some+in_ok-push, in_default}
 use Rattle.sled_log.proofs.snapshot.ordering.collect_segments.Goals as goal

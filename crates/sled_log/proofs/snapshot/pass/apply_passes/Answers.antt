@@ -2,9 +2,9 @@ use Rattle.std.proofs.Common.{◌≡◌, ◌∙◌, ◌+◌, ◌<◌, ℕ, List,
 use Rattle.sled_codec.specs.Snapshots.{page_of}
 use Rattle.sled_log.specs.declared.snapshot.pass.Pass.{Pass}
 use Rattle.sled_log.specs.Recovery.{passed_all, Scanned, given, open_at, table_of, has_no_table}
-use Rattle.sled_log.specs.Plain.{pass_of, stop_of}
-use Rattle.sled_log.proofs.Reference.PlainSegments.{behind}
-use Rattle.sled_log.proofs.Reference.PlainPasses.{table_on, fine_on, bad_on, stop_none}
+use Rattle.sled_log.specs.Passes.{pass_of, stop_of}
+use Rattle.sled_log.proofs.Passes.Behind.{behind}
+use Rattle.sled_log.proofs.Passes.Outcomes.{table_on, fine_on, bad_on, stop_none}
 use Rattle.sled_log.proofs.snapshot.pass.apply_passes.Goals as goal
 
 -- the pass at an index, and those behind it

@@ -1,7 +1,7 @@
 use Rattle.std.proofs.Common.{◌≡◌, drop, map, None}
 use Rattle.sled_codec.specs.Snapshots.{page_of}
 use Rattle.sled_log.specs.Recovery.{passed_all, table_of, given, has_no_table}
-use Rattle.sled_log.specs.Plain.{pass_of, stop_of}
+use Rattle.sled_log.specs.Passes.{pass_of, stop_of}
 use Rattle.sled_log.proofs.snapshot.pass.apply_passes.Given as goal
 
 -- what is left makes of the table so far what all makes of the table before, and stops where all stops

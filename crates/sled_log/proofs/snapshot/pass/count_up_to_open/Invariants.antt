@@ -1,5 +1,5 @@
 use Rattle.std.proofs.Common.{◌≡◌, ◌++◌, map, take, drop}
-use Rattle.sled_log.specs.Plain.{pass_of, up_to_open}
+use Rattle.sled_log.specs.Passes.{pass_of, up_to_open}
 use Rattle.sled_log.proofs.snapshot.pass.count_up_to_open.Given as goal
 
 -- no batch is open in those so far

@@ -1,5 +1,5 @@
 use Rattle.std.proofs.Common.{◌∙◌, sym, arith}
-use Rattle.sled_log.proofs.Reference.PlainPasses.{stop_fits, slot_fits}
+use Rattle.sled_log.proofs.Passes.Outcomes.{stop_fits, slot_fits}
 use Rattle.sled_log.proofs.snapshot.pass.outcome_of.Goals as goal
 
 pub cut_of-requires-clause-place : goal.cut_of-requires-clause-place

@@ -8,10 +8,10 @@ use Rattle.sled_store.specs.declared.config.Config.{Config}
 use Rattle.sled_store.specs.Device.{Trace, state_of}
 use Rattle.sled_log.specs.declared.snapshot.pass.Pass.{Pass}
 use Rattle.sled_log.specs.Recovery.{Scanned, IsScanned, IsReplayed, AreReplayed, AreClosed, begun_below, open_at}
-use Rattle.sled_log.specs.Plain.{CanBeRead, IsPass, IsDamagedBefore, pass_of}
-use Rattle.sled_log.proofs.Reference.PlainSame.{was_so, still_so}
+use Rattle.sled_log.specs.Passes.{CanBeRead, IsPass, IsDamagedBefore, pass_of}
+use Rattle.sled_log.proofs.Passes.Same.{was_so, still_so}
 use Rattle.sled_log.proofs.Replay.PassedLemmas.{no_value, passed_whole}
-use Rattle.sled_log.proofs.Reference.PlainTail.{begun_here, split_more, are_scanned, closed_more, passed_behind, passed_open, damaged_behind}
+use Rattle.sled_log.proofs.Passes.Tails.{begun_here, split_more, are_scanned, closed_more, passed_behind, passed_open, damaged_behind}
 use Rattle.sled_log.proofs.snapshot.pass.passes_below.Goals as goal
 
 -- what stands for a segment that isn't there

@@ -2,7 +2,7 @@ use Rattle.std.proofs.Common.{◌≡◌, ◌++◌, drop, map}
 use Rattle.std.specs.List.{All}
 use Rattle.sled_store.specs.Device.{state_of}
 use Rattle.sled_log.specs.Recovery.{IsScanned, AreClosed, begun_below}
-use Rattle.sled_log.specs.Plain.{IsPass, pass_of}
+use Rattle.sled_log.specs.Passes.{IsPass, pass_of}
 use Rattle.sled_log.proofs.snapshot.pass.passes_below.Given as goal
 
 -- those so far were read to their ends, with no batch that is open, and the rest is left

@@ -1,11 +1,10 @@
-use Rattle.std.proofs.Common.{◌≡◌, ◌∙◌, ℕ, ℤ, List, Option, length, map, take, drop, ◌++◌, refl, sym, ap, subst, inl, inr}
+use Rattle.std.proofs.Common.{◌∙◌, ℕ, List, length, map, take, drop, ◌++◌, sym, subst, inr}
 use Rattle.std.specs.List.{All}
-use Rattle.sled_store.specs.declared.config.Config.{Config}
 use Rattle.sled_store.specs.Device.{Trace, state_of}
 use Rattle.sled_log.specs.declared.snapshot.pass.Pass.{Pass}
 use Rattle.sled_log.specs.Recovery.{begun_below}
-use Rattle.sled_log.specs.Plain.{IsPass, pass_of}
-use Rattle.sled_log.proofs.Reference.PlainBlobs.{HasKinds, pass_kinds, passes_fit, resolved_vec, bad_pass_still}
+use Rattle.sled_log.specs.Passes.{pass_of}
+use Rattle.sled_log.proofs.Passes.Blobs.{HasKinds, pass_kinds, passes_fit, resolved_vec, bad_pass_still}
 use Rattle.sled_log.proofs.snapshot.pass.read_below.Goals as goal
 
 pub resolve_passes-requires-clause-kinds : goal.resolve_passes-requires-clause-kinds

@@ -3,8 +3,8 @@ use Rattle.std.proofs.lemmas.List.{length-set}
 use Rattle.sled_store.specs.Device.{Trace, state_of}
 use Rattle.sled_log.specs.declared.snapshot.pass.Pass.{Pass}
 use Rattle.sled_log.specs.Recovery.{before_open, resolved_scan}
-use Rattle.sled_log.specs.Plain.{MeetsBadPass, pass_of}
-use Rattle.sled_log.proofs.Reference.PlainBlobs.{kinds_here, kinds_on, bad_pass_on, passes_on, still_fine}
+use Rattle.sled_log.specs.Passes.{MeetsBadPass, pass_of}
+use Rattle.sled_log.proofs.Passes.Blobs.{kinds_here, kinds_on, bad_pass_on, passes_on, still_fine}
 use Rattle.sled_log.proofs.snapshot.pass.resolve_passes.Goals as goal
 
 pub resolve_pass-requires-clause-kinds : goal.resolve_pass-requires-clause-kinds

@@ -2,7 +2,7 @@ use Rattle.std.proofs.Common.{◌≡◌, ◌↔◌, ◌++◌, ◌^◌, ◌<◌, 
 use Rattle.std.specs.List.{All}
 use Rattle.sled_store.specs.Device.{state_of}
 use Rattle.sled_log.specs.Recovery.{NamesKind, resolved_scan}
-use Rattle.sled_log.specs.Plain.{MeetsBadPass, pass_of}
+use Rattle.sled_log.specs.Passes.{MeetsBadPass, pass_of}
 use Rattle.sled_log.proofs.snapshot.pass.resolve_passes.Given as goal
 
 -- those so far have their blobs, and what is left is as it was; the device was only read

@@ -3,7 +3,7 @@ use Rattle.sled_codec.specs.Snapshots.{model_of}
 use Rattle.sled_store.specs.declared.config.Config.{Config}
 use Rattle.sled_store.specs.Device.{state_of}
 use Rattle.sled_log.specs.Recovery.{IsUnordered}
-use Rattle.sled_log.proofs.Reference.PlainWhole.{comes_unordered}
+use Rattle.sled_log.proofs.Passes.Continues.{comes_unordered}
 use Rattle.sled_log.proofs.snapshot.reference.continue_by_definition.Goals as goal
 
 pub returns-in-Err-clause-corrupt : goal.returns-in-Err-clause-corrupt

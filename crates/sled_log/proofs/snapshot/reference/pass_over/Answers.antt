@@ -5,7 +5,7 @@ use Rattle.sled_store.specs.declared.config.Config.{Config}
 use Rattle.sled_store.specs.Device.{State, state_of}
 use Rattle.sled_log.specs.declared.snapshot.pass.Pass.{Pass}
 use Rattle.sled_log.specs.Recovery.{Passes, Recovered, Damaged, begun_below}
-use Rattle.sled_log.specs.Plain.{AreResolved, pass_of}
+use Rattle.sled_log.specs.Passes.{AreResolved, pass_of}
 use Rattle.sled_log.specs.WritesBack.{result_of}
 use Rattle.sled_log.proofs.Passes.Joined.{passes_damaged}
 use Rattle.sled_log.proofs.Passes.Whole.{fits_by, no_more, passes_by}

@@ -6,11 +6,11 @@ use Rattle.sled_codec.specs.Snapshots.{SnapshotModel, model_of}
 use Rattle.sled_store.specs.declared.config.Config.{Config}
 use Rattle.sled_store.specs.Device.{Trace, state_of}
 use Rattle.sled_log.specs.Recovery.{ContinuesFrom, unchanged, slots_of, IsTail, IsDamagedTail, Passes, Recovered, Damaged, least_place}
-use Rattle.sled_log.specs.Plain.{CanBeRead}
+use Rattle.sled_log.specs.Passes.{CanBeRead}
 use Rattle.sled_log.specs.WritesBack.{result_of}
-use Rattle.sled_log.proofs.Reference.PlainSame.{was_so_in, still_so}
-use Rattle.sled_log.proofs.Reference.PlainFound.{all_ready}
-use Rattle.sled_log.proofs.Reference.PlainWhole.{begins_there, comes_damaged, comes_unchanged, comes_passing}
+use Rattle.sled_log.proofs.Passes.Same.{was_so_in, still_so}
+use Rattle.sled_log.proofs.Passes.Found.{all_ready}
+use Rattle.sled_log.proofs.Passes.Continues.{begins_there, comes_damaged, comes_unchanged, comes_passing}
 use Rattle.sled_log.proofs.snapshot.reference.replay_by_definition.Goals as goal
 
 pub tail_end-requires : goal.tail_end-requires

@@ -4,10 +4,10 @@ use Rattle.sled_core.specs.declared.iterator.scan.ScanEnd.TheVariants.{Broken}
 use Rattle.sled_store.specs.declared.config.Config.{Config}
 use Rattle.sled_store.specs.Device.{state_of}
 use Rattle.sled_log.specs.Recovery.{Scanned, IsScanned, scanned_of}
-use Rattle.sled_log.specs.Plain.{CanBeRead}
-use Rattle.sled_log.proofs.Reference.PlainBlobs.{good_more, still_fine}
-use Rattle.sled_log.proofs.Reference.PlainSame.{was_so, still_so}
-use Rattle.sled_log.proofs.Reference.PlainTail.{part_more, tail_ends, tail_breaks, end_of_last}
+use Rattle.sled_log.specs.Passes.{CanBeRead}
+use Rattle.sled_log.proofs.Passes.Blobs.{good_more, still_fine}
+use Rattle.sled_log.proofs.Passes.Same.{was_so, still_so}
+use Rattle.sled_log.proofs.Passes.Tails.{part_more, tail_ends, tail_breaks, end_of_last}
 use Rattle.sled_log.proofs.snapshot.reference.tail_end.Goals as goal
 
 -- an end within a segment that can be read

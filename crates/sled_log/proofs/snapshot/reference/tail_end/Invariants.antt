@@ -3,7 +3,7 @@ use Rattle.std.specs.List.{Contains}
 use Rattle.sled_core.specs.declared.iterator.Segment.{Segment}
 use Rattle.sled_store.specs.Device.{state_of}
 use Rattle.sled_log.specs.Recovery.{Scanned, IsTailPart, HaveGoodBlobs, tail_end}
-use Rattle.sled_log.specs.Plain.{CanBeRead}
+use Rattle.sled_log.specs.Passes.{CanBeRead}
 use Rattle.sled_log.proofs.snapshot.reference.tail_end.Given as goal
 
 -- the tail up to the place was read

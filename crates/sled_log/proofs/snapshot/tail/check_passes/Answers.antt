@@ -1,9 +1,9 @@
-use Rattle.std.proofs.Common.{◌≡◌, ◌∙◌, ◌≤◌, ◌+◌, ◌<◌, ℕ, List, length, map, get_or, take, ap, subst}
+use Rattle.std.proofs.Common.{◌∙◌, ℕ, List, map, ap, subst}
 use Rattle.std.proofs.lemmas.List.{take_all}
 use Rattle.sled_store.specs.Device.{Trace, state_of}
 use Rattle.sled_log.specs.declared.snapshot.pass.Pass.{Pass}
 use Rattle.sled_log.specs.Recovery.{HaveGoodBlobs, MeetsBadBlob}
-use Rattle.sled_log.specs.Plain.{pass_of}
+use Rattle.sled_log.specs.Passes.{pass_of}
 use Rattle.sled_log.proofs.Passes.LookedUp.{bad_here, good_next}
 use Rattle.sled_log.proofs.snapshot.tail.check_passes.Goals as goal
 

@@ -1,7 +1,7 @@
-use Rattle.std.proofs.Common.{◌≡◌, ◌<◌, ℕ, length, map, take}
+use Rattle.std.proofs.Common.{◌≡◌, map, take}
 use Rattle.sled_store.specs.Device.{state_of}
 use Rattle.sled_log.specs.Recovery.{HaveGoodBlobs}
-use Rattle.sled_log.specs.Plain.{pass_of}
+use Rattle.sled_log.specs.Passes.{pass_of}
 use Rattle.sled_log.proofs.snapshot.tail.check_passes.Given as goal
 
 -- the blobs of those so far are good; the device was only read

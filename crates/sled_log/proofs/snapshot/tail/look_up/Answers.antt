@@ -1,8 +1,8 @@
-use Rattle.std.proofs.Common.{◌≡◌, ◌∙◌, ℕ, List, map, sym, ap, subst}
+use Rattle.std.proofs.Common.{ℕ, List, map, subst}
 use Rattle.sled_store.specs.Device.{Trace, state_of}
 use Rattle.sled_log.specs.declared.snapshot.pass.Pass.{Pass}
-use Rattle.sled_log.specs.Recovery.{HaveGoodBlobs, resolved_scan, Scanned}
-use Rattle.sled_log.specs.Plain.{MeetsBadTail, pass_of}
+use Rattle.sled_log.specs.Recovery.{HaveGoodBlobs, Scanned}
+use Rattle.sled_log.specs.Passes.{MeetsBadTail, pass_of}
 use Rattle.sled_log.proofs.PageTable.TableLemmas.{on_ok}
 use Rattle.sled_log.proofs.Passes.LookedUp.{bad_in_looked, bad_in_pass, good_looked, kinds_looked}
 use Rattle.sled_log.proofs.snapshot.tail.look_up.Goals as goal
@@ -10,7 +10,7 @@ use Rattle.sled_log.proofs.snapshot.tail.look_up.Goals as goal
 pub check_passes-requires : goal.check_passes-requires
 check_passes-requires g c =
     let blobs = (state_of (g.D.Device.trace c.args.config.now.device)).blobs.file in
-    record { kinds = kinds_looked g.C.Checksum.sum_of blobs c.args.end c.args.passes.now c.resolve_passes.new.passes c.in-Ok.ensures.passes c.requires.kinds; }
+    record { kinds = kinds_looked g.C.Checksum.sum_of blobs c.args.end c.args.passes.now c.resolve_passes.new.passes c.in-Ok.ensures.passes c.requires.kinds }
 
 pub returns-in-Ok-clause-good : goal.returns-in-Ok-clause-good
 returns-in-Ok-clause-good g c =

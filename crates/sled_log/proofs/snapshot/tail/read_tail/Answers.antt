@@ -1,5 +1,5 @@
-use Rattle.std.proofs.Common.{◌≡◌, ◌≢◌, ◌∙◌, ◌+◌, ◌%◌, ◌≤◌, ◌<◌, ◌^◌, ◌++◌, ◌∷◌, [], ℕ, List, length, map, get_or, take, drop, Option, Some, pos, ap, sym, subst, refl, arith, inl}
-use Rattle.std.specs.List.{All, Contains}
+use Rattle.std.proofs.Common.{◌≡◌, ◌≢◌, ◌∙◌, ◌+◌, ◌≤◌, ◌<◌, ◌++◌, ◌∷◌, [], ℕ, List, length, map, get_or, take, Some, pos, ap, sym, subst, refl, arith, inl}
+use Rattle.std.specs.List.{All}
 use Rattle.std.proofs.lemmas.List.{map-append, take_more}
 use Rattle.std.proofs.lemmas.List.Elements.{All-same, All-push, Contains-get_or}
 use Rattle.std.proofs.Math.Nat.{add-mod_right}
@@ -11,11 +11,11 @@ use Rattle.sled_store.specs.declared.config.Config.{Config}
 use Rattle.sled_store.specs.Device.{Trace, state_of}
 use Rattle.sled_log.specs.declared.snapshot.pass.Pass.{Pass}
 use Rattle.sled_log.specs.Recovery.{Scanned, IsScanned, IsTail, IsTailPart, AreScanned, tail_end}
-use Rattle.sled_log.specs.Plain.{CanBeRead, IsPass, pass_of}
+use Rattle.sled_log.specs.Passes.{CanBeRead, IsPass, pass_of}
 use Rattle.sled_log.proofs.Passes.Ascending.{ascends_left, ended_on, left_on, none_at, none_left}
 use Rattle.sled_log.proofs.Passes.TailRead.{EndsBefore, scanned_more, begun_of}
-use Rattle.sled_log.proofs.Reference.PlainSame.{was_so, still_so}
-use Rattle.sled_log.proofs.Reference.PlainTail.{part_more, tail_ends, tail_breaks, end_of_last}
+use Rattle.sled_log.proofs.Passes.Same.{was_so, still_so}
+use Rattle.sled_log.proofs.Passes.Tails.{part_more, tail_ends, tail_breaks, end_of_last}
 use Rattle.sled_log.proofs.snapshot.tail.read_tail.Goals as goal
 
 -- what stands for a segment that isn't there

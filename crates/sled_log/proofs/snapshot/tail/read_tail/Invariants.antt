@@ -2,7 +2,7 @@ use Rattle.std.proofs.Common.{◌≡◌, ◌+◌, ◌%◌, ◌≤◌, true, drop
 use Rattle.std.specs.List.{All}
 use Rattle.sled_store.specs.Device.{state_of}
 use Rattle.sled_log.specs.Recovery.{IsTailPart, AreScanned, is_ascending, tail_end}
-use Rattle.sled_log.specs.Plain.{IsPass, pass_of}
+use Rattle.sled_log.specs.Passes.{IsPass, pass_of}
 use Rattle.sled_log.proofs.Passes.TailRead.{EndsBefore}
 use Rattle.sled_log.proofs.snapshot.tail.read_tail.Given as goal
 

@@ -8,7 +8,7 @@ use Rattle.sled_core.specs.declared.iterator.scan.Step.TheVariants.{Meets, Ends}
 use Rattle.sled_core.specs.Scan.{IsPath, IsStep, HasPlace, IsEnd}
 use Rattle.sled_core.proofs.Read.ScanLemmas.{one_more, ends_here}
 use Rattle.sled_log.specs.Recovery.{open_at}
-use Rattle.sled_log.proofs.Reference.PlainRecords.{stays_closed, asks_nothing}
+use Rattle.sled_log.proofs.Passes.Records.{stays_closed, asks_nothing}
 use Rattle.sled_log.proofs.Replay.PassedLemmas.{asked}
 use Rattle.sled_log.proofs.snapshot.pass.records.scan_slot.Goals as goal
 

@@ -3,7 +3,7 @@ use Rattle.std.specs.List.{All}
 use Rattle.sled_core.specs.Reading.{file_of}
 use Rattle.sled_core.specs.Scan.{IsPath}
 use Rattle.sled_log.specs.Recovery.{open_at}
-use Rattle.sled_log.specs.Plain.{CanBeRead}
+use Rattle.sled_log.specs.Passes.{CanBeRead}
 use Rattle.sled_log.proofs.snapshot.pass.records.scan_slot.Given as goal
 
 -- what was met so far leads to where the reading stands, no batch is open in it, and the device is as it was

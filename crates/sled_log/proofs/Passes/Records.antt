@@ -1,4 +1,4 @@
--- A segment of the pass in the plain recovery, record by record.
+-- A segment of the pass, record by record.
 use Rattle.std.proofs.Common.{◌≡◌, ℕ, Bool, true, false, List, [], ◌∷◌, ◌++◌, Option, Some, None, IfNone, if◌then◌else◌, refl, sym, ap, subst, ◌∙◌}
 use Rattle.sled_core.specs.declared.iterator.scan.ScannedRecord.{ScannedRecord}
 use Rattle.sled_log.specs.Recovery.{opens, open_at}

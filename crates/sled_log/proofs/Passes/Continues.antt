@@ -1,4 +1,4 @@
--- The plain recovery as a whole: what comes of its steps.
+-- Recovery as a whole: what comes of its steps.
 use Rattle.std.proofs.Common.{◌≡◌, ◌∙◌, ◌*◌, ◌/◌, ap, ℕ, ℤ, List, Option, Some, None, refl, sym, subst, inl, inr}
 use Rattle.sled_codec.specs.Snapshots.{SnapshotModel, stable_place}
 use Rattle.sled_store.specs.Device.{Content}

@@ -6,7 +6,7 @@ use Rattle.sled_core.specs.declared.iterator.Segment.{Segment}
 use Rattle.sled_core.specs.Scan.{IsFoundSegment, IsMisplaced}
 use Rattle.sled_core.proofs.Read.FoundLemmas.{found_there}
 use Rattle.sled_log.specs.Recovery.{IsOrdering}
-use Rattle.sled_log.specs.Plain.{CanBeRead}
+use Rattle.sled_log.specs.Passes.{CanBeRead}
 
 module _ (sum : List ℕ → ℕ) (size : ℕ) (log : List ℕ) (least : ℕ) where
   -- one that begins where it can

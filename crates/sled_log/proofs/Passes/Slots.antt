@@ -12,7 +12,7 @@ use Rattle.sled_core.specs.Scan.{IsMet, EndsThere, IsPath, IsEnd, IsScan, IsDama
 use Rattle.sled_core.specs.declared.iterator.Segment.{Segment}
 use Rattle.sled_core.proofs.Read.ScanLemmas.{aligned_offset}
 use Rattle.sled_log.specs.Recovery.{open_at}
-use Rattle.sled_log.specs.Plain.{CanBeRead, IsDamagedBefore}
+use Rattle.sled_log.specs.Passes.{CanBeRead, IsDamagedBefore}
 
 -- The second file has all that the first one has in a slot.
 pub record HasSlot (size slot : ℕ) (a b : List ℕ) : Type 0 where
@@ -166,9 +166,10 @@ module _ (sum : List ℕ → ℕ) (size : ℕ) (s : Segment) (log : List ℕ) (b
         let there = in_file size s.slot log ready.inside in
         let back = in_buffer size s.slot log ready.inside in
         let path = alone_so (λ n l. IsPath sum n l s.slot s.place 20 ms stop) read.0 in
-        let ends = alone_so (λ n l. IfNone (open_at end ms) (IsEnd sum n l s.slot s.place stop why)) read.1 in
-        (path_in sum size s.slot ready.aligned alone_file log there back s.place 20 ms stop path,
-          if_none (open_at end ms) (IsEnd sum size alone_file s.slot s.place stop why) (IsEnd sum size log s.slot s.place stop why) (end_in sum size s.slot ready.aligned alone_file log there back s.place stop why) ends)
+        let ends = alone_so (λ n l. IfNone (open_at end ms) (IsEnd sum n l s.slot s.place stop why)) read.1 in (
+          path_in sum size s.slot ready.aligned alone_file log there back s.place 20 ms stop path,
+          if_none (open_at end ms) (IsEnd sum size alone_file s.slot s.place stop why) (IsEnd sum size log s.slot s.place stop why) (end_in sum size s.slot ready.aligned alone_file log there back s.place stop why) ends,
+        )
 
     pub damaged_before_whole : (end : ℕ) → IsDamagedBefore sum own (file_of b) end s → IsDamagedBefore sum size log end s
     damaged_before_whole end bad =

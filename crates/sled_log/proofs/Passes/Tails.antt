@@ -1,4 +1,4 @@
--- The tail and the pass in the plain recovery, segment by segment.
+-- The tail and the pass, segment by segment.
 use Rattle.std.proofs.Common.{◌≡◌, ◌≢◌, ◌∙◌, ◌+◌, ◌<◌, ◌≤◌, ℕ, Bool, true, false, nat_lt, List, [], ◌∷◌, ◌++◌, length, map, drop, get_or, Option, Some, None, is_some, if◌then◌else◌, refl, sym, ap, subst, arith, append_assoc}
 use Rattle.std.specs.List.{All, AllByRecursion, Contains}
 use Rattle.std.proofs.lemmas.Bool.Decides.{nat_tests}
@@ -9,9 +9,9 @@ use Rattle.sled_core.specs.declared.iterator.scan.ScanEnd.{ScanEnd}
 use Rattle.sled_core.specs.declared.iterator.scan.ScanEnd.TheVariants.{Full, Capped, Broken}
 use Rattle.sled_log.specs.declared.snapshot.pass.Pass.{Pass}
 use Rattle.sled_log.specs.Recovery.{Scanned, IsScanned, GoesOn, IsTail, IsTailPart, tail_end, begun_below, AreScanned, AreClosed, IsReplayed, StopsOrGoesOn, AreReplayed, IsDamagedPass, open_at}
-use Rattle.sled_log.specs.Plain.{pass_of, IsDamagedBefore}
+use Rattle.sled_log.specs.Passes.{pass_of, IsDamagedBefore}
 use Rattle.sled_log.proofs.Replay.PassedLemmas.{whole_passed}
-use Rattle.sled_log.proofs.Reference.PlainSegments.{behind}
+use Rattle.sled_log.proofs.Passes.Behind.{behind}
 
 -- behind a segment that isn't broken more may come
 goes_on : (why : ScanEnd) (rest : List Scanned) (on : Type 0) → why ≢ Broken → on → GoesOn why rest on

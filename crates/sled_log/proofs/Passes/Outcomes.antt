@@ -1,4 +1,4 @@
--- The pass over several segments in the plain recovery: what it meets, and where it stops.
+-- The pass over several segments: what it meets, where it stops, and what comes of it.
 use Rattle.std.proofs.Common.{◌≡◌, ◌∙◌, ◌+◌, ◌<◌, ◌≤◌, ℕ, Bool, true, false, ◌||◌, ◌==◌, ◌^◌, ◌-◌, nat_lt, List, [], ◌∷◌, ◌++◌, Option, Some, None, if◌then◌else◌, refl, sym, ap, subst, map, IfSome, arith, append_assoc}
 use Rattle.std.proofs.lemmas.List.{append-nil}
 use Rattle.std.specs.Option.{unwrap_or}
@@ -9,7 +9,7 @@ use Rattle.sled_log.specs.declared.snapshot.pass.Pass.{Pass}
 use Rattle.sled_core.specs.declared.iterator.scan.ScannedRecord.{ScannedRecord}
 use Rattle.sled_core.specs.declared.iterator.Segment.{Segment}
 use Rattle.sled_log.specs.Recovery.{passed_all, Scanned, Applied, Recovered, Damaged, unchanged, outcome_of, concluded, cut_of, applied_of, before_open, open_at, passed_in, stops_in, given, has_no_table, table_of, table_with}
-use Rattle.sled_log.specs.Plain.{IsPass, pass_of, stop_of}
+use Rattle.sled_log.specs.Passes.{IsPass, pass_of, stop_of}
 use Rattle.sled_log.proofs.Replay.RecoveryLemmas.{before_none, open_below, no_table_damaged}
 
 -- One segment, and those behind it.

@@ -1,4 +1,4 @@
--- The blobs of what the plain pass meets, segment by segment.
+-- The blobs of what a pass meets, segment by segment.
 use Rattle.std.proofs.Common.{◌≡◌, ◌↔◌, ◌⊎◌, ◌∙◌, ◌+◌, ◌<◌, ◌≤◌, ◌^◌, ℕ, ℤ, suc, List, [], ◌∷◌, ◌++◌, length, map, set, get_or, take, drop, append_assoc, append-nil, Option, Some, None, refl, sym, ap, subst, arith, inl, inr}
 use Rattle.std.specs.List.{All}
 use Rattle.std.proofs.lemmas.List.{drop_more, take_more_set, drop-set-lt, map-append}
@@ -9,7 +9,7 @@ use Rattle.sled_store.specs.Device.{Trace, state_of}
 use Rattle.sled_store.proofs.Segments.Elements.{in_cases, in_nothing}
 use Rattle.sled_log.specs.declared.snapshot.pass.Pass.{Pass}
 use Rattle.sled_log.specs.Recovery.{Scanned, StopsOrGoesOn, AreReplayed, before_open, open_at, passed_in, passed_all, NamesKind, MeetsBadBlob, HaveGoodBlobs, resolved_scan, resolved_before}
-use Rattle.sled_log.specs.Plain.{IsPass, pass_of, OpensLast, MeetsBadPass}
+use Rattle.sled_log.specs.Passes.{IsPass, pass_of, OpensLast, MeetsBadPass}
 use Rattle.sled_log.proofs.Replay.BlobLemmas.{all_before_open, bad_behind, bad_first, bad_cases}
 use Rattle.sled_log.proofs.Replay.LookLemmas.{all_with_blobs, path_kinds, bad_still, written}
 

@@ -16,5 +16,6 @@ module _ (P : ℕ → List ℕ → Type 0) (old new : Config) (before after : Tr
 module _ (P : ℕ → State → Type 0) (old new : Config) (before after : Trace) (same_config : new ≡ old) (same_trace : after ≡ before) where
   pub was_so_in : P new.segment_size (state_of after) → P old.segment_size (state_of before)
   was_so_in holds = subst (λ (x : Config). P x.segment_size (state_of before)) same_config (subst (λ (t : Trace). P new.segment_size (state_of t)) same_trace holds)
+
   pub still_so_in : P old.segment_size (state_of before) → P new.segment_size (state_of after)
   still_so_in holds = subst (λ (x : Config). P x.segment_size (state_of after)) (sym same_config) (subst (λ (t : Trace). P old.segment_size (state_of t)) (sym same_trace) holds)
