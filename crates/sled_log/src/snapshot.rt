@@ -16,7 +16,7 @@ ghost use Rattle.sled_core.specs.Recoverable.{RecoverableIfOwn, LeavesRecoverabl
 ghost use Rattle.sled_core.specs.Keeps.{ConfigKept, OnlyReads};
 ghost use Rattle.sled_core.specs.Running.{Ready};
 ghost use Rattle.sled_codec.specs.PageTables.{IsTable};
-ghost use Rattle.sled_log.specs.Restores.{ComesOf, IsBeyondRecovery, RecoveryCalls, Restores};
+ghost use Rattle.sled_log.specs.Restores.{ComesOf, RecoveryCalls, Restores};
 ghost use Rattle.sled_log.specs.Orderly.{CanRecover};
 ghost use Rattle.sled_log.specs.Recovery.{least_place, tail_begins, IsOrdering, Recovered, Damaged, ContinuesFrom, Recovers, NamesKind, MeetsBadBlob, resolved_before};
 ghost use Rattle.sled_log.specs.WritesBack.{result_of};
@@ -43,10 +43,10 @@ use sled_core::iterator::{Segment, read_slot, segment_in};
 use sled_core::logger::read_at::BasedBuf;
 use sled_store::{Device, RunningConfig};
 
-/// Recovers the table of pages from a device whose log file is no longer than a segment, and returns it. First it
-/// syncs the device. Then it reads the newest snapshot and the log file, and at last it fills the rest of the
-/// active segment with zeros and, where the table goes beyond that snapshot, publishes a new one and removes
-/// all others.
+/// Recovers the table of pages from a device, and returns it. First it syncs the device. Then it reads the newest
+/// snapshot and the log file, and at last it writes back what it concludes: it fills the rest of the active segment
+/// with zeros; where the table goes beyond that snapshot, it publishes a new one and removes all others; it overwrites
+/// each segment that it found and did not read with zeros; and it removes every blob at or above the place of the table.
 ///
 /// Where each content that a crash leaves can be recovered, for a history, the end of what was acknowledged and
 /// a floor, that stays so at each moment, the content is no damage, and the snapshot is good for them; then all
@@ -56,13 +56,13 @@ use sled_store::{Device, RunningConfig};
 ///
 /// `Corruption` where the newest snapshot is damaged, where segments are found that can't be of one log, where a
 /// damaged record is met, where the blob of a record doesn't pass for it (named where its checksum fails), where the table
-/// can't be one, and where the file is longer than a segment; nothing was written then. `Io` where the device failed, and `OutOfMemory`.
+/// can't be one; nothing was written then. `Io` where the device failed, and `OutOfMemory`.
 pub fn read_snapshot_or_default<D: Device, C: Checksum>(
     config: &mut RunningConfig<D, C>,
 ) -> Result<Snapshot>
     ensures ok { IfOk result (λ s. Restores C.sum_of config.old.config.segment_size (D.trace config.old.device) (D.trace config.new.device) (model_of s)) }
     ensures calls { RecoveryCalls C.sum_of config.old.config.segment_size (D.trace config.old.device) (D.trace config.new.device) }
-    ensures corrupt { IsCorruption result → IsBeyondRecovery C.sum_of config.old.config.segment_size (state_of (D.trace config.old.device))
+    ensures corrupt { IsCorruption result → Recovers C.sum_of config.old.config.segment_size (content_of (state_of (D.trace config.old.device))) Damaged
         × (D.trace config.new.device ≡ NamesSynced ∷ Synced ∷ D.trace config.old.device) }
     ensures answers { let blobs = (state_of (D.trace config.old.device)).blobs.file in
         ItemAnswers C.sum_of blobs result (D.faults config.old.device) (D.faults config.new.device) }
@@ -124,8 +124,8 @@ fn settle<D: Device>(device: &mut D) -> Result<()>
 pub(crate) fn recover<D: Device, C: Checksum>(config: &mut RunningConfig<D, C>) -> Result<Recovery>
     ensures ok { let old = state_of (D.trace config.old.device) in
         IfOk result (λ x. Recovers C.sum_of config.old.config.segment_size (content_of old) (Recovered (result_of x))) }
-    ensures corrupt { IsCorruption result → IsBeyondRecovery C.sum_of config.old.config.segment_size (state_of (D.trace config.old.device)) }
-    ensures short { OnOk result (length (state_of (D.trace config.old.device)).log.bytes ≤ config.old.config.segment_size) }
+    ensures corrupt { let old = state_of (D.trace config.old.device) in
+        IsCorruption result → Recovers C.sum_of config.old.config.segment_size (content_of old) Damaged }
     ensures answers { let blobs = (state_of (D.trace config.old.device)).blobs.file in
         ItemAnswers C.sum_of blobs result (D.faults config.old.device) (D.faults config.new.device) }
     ensures reads { OnlyReads D.trace config.old config.new }
@@ -162,6 +162,7 @@ fn continue_from<D: Device, C: Checksum>(
             snapshot: first,
             is_new: false,
             shred_range: None,
+            unread: Vec::new(config.alloc()),
         }),
     }
 }
@@ -197,6 +198,7 @@ fn continue_in<D: Device, C: Checksum>(
             snapshot: first,
             is_new: false,
             shred_range: None,
+            unread: Vec::new(config.alloc()),
         });
     }
     let mut scan = match scan(config, buf, segment.place) {

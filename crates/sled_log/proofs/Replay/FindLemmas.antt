@@ -27,7 +27,7 @@ passed_alone sum size log end s scan = (refl, whole_passed sum size log end s sc
 -- What comes of one segment, or of none.
 module _ (sum : List ℕ → ℕ) (size : ℕ) (log : List ℕ) (blobs : ℤ → Option (List ℕ)) (first : SnapshotModel) (some : 0 < size) where
   -- no segment is found: the snapshot stays
-  pub nothing_found : IsOrdering sum size log (least_place size first) [] → ContinuesFrom sum size log blobs first (Recovered (unchanged first))
+  pub nothing_found : IsOrdering sum size log (least_place size first) [] → ContinuesFrom sum size log blobs first (Recovered (unchanged first []))
   unfolding ContinuesFrom
   nothing_found none = inr ([], none, inr ([], λ s there. absurd (in_nothing s there), λ s there. absurd (in_nothing s there), refl))
 
@@ -38,7 +38,7 @@ module _ (sum : List ℕ → ℕ) (size : ℕ) (log : List ℕ) (blobs : ℤ →
 
   module _ (s : Segment) (ordering : IsOrdering sum size log (least_place size first) (s ∷ [])) where
     -- the tail begins elsewhere: the snapshot stays
-    pub not_read : s.place ≢ tail_begins size (least_place size first) (s ∷ []) → ContinuesFrom sum size log blobs first (Recovered (unchanged first))
+    pub not_read : s.place ≢ tail_begins size (least_place size first) (s ∷ []) → ContinuesFrom sum size log blobs first (Recovered (unchanged first (s.slot ∷ [])))
     unfolding ContinuesFrom
     not_read elsewhere = inr (s ∷ [], ordering, inr ([], λ t there at. elsewhere (ap (λ (x : Segment). x.place) (only_in s t there) ∙ at), λ t there. absurd (in_nothing t there), refl))
 
@@ -82,7 +82,7 @@ module _ (sum : List ℕ → ℕ) (size : ℕ) (log : List ℕ) (blobs : ℤ →
 
       -- all that is met in it is applied
       pub replayed : (met : List ScannedRecord) (stop : ℕ) (why : ScanEnd) (o : Outcome) → IsScan sum size log s.slot s.place met stop why → 20 ≤ stop → (MeetsBadBlob sum blobs met → ⊥)
-          → outcome_of size first (s.place + stop) (record { segment = s; met = resolved_before blobs (s.place + stop) met; stop = stop; why = why } ∷ []) ≡ o → ContinuesFrom sum size log blobs first o
+          → outcome_of size first (s.place + stop) (record { segment = s; met = resolved_before blobs (s.place + stop) met; stop = stop; why = why } ∷ []) [] ≡ o → ContinuesFrom sum size log blobs first o
       unfolding ContinuesFrom
       replayed met stop why o scan le good is =
           let end : ℕ = s.place + stop in

@@ -76,12 +76,6 @@ later_performed es old new came = let run = performs_throughout (λ s. Unit {0})
 pub later_all : (es : List Event) (old new : Trace) → new ≡ after_all es old → IsLater old new
 later_all es old new is = later_performed es old new (performs_whole es old new is)
 
--- and by those of a recovery
-pub later_recovered : (sum : List ℕ → ℕ) (size : ℕ) (old new : Trace) → RecoveryCalls sum size old new → IsLater old new
-later_recovered sum size old new (inl settling) = later_performed (Synced ∷ NamesSynced ∷ []) old new settling
-later_recovered sum size old new (inr (x, recovers, ns, may, inl begun)) = later_performed (Synced ∷ NamesSynced ∷ shredding x.shred_range) old new begun
-later_recovered sum size old new (inr (x, recovers, ns, may, inr made)) = later_performed (Synced ∷ NamesSynced ∷ writing_back sum x ns) old new made.1
-
 -- one configuration runs on after another
 pub runs_on_both : {D C : Type 0} (trace : D → Trace) (old mid new : RunningConfig D C) → RunsOn trace old mid → RunsOn trace mid new → RunsOn trace old new
 runs_on_both trace old mid new first second = record {
