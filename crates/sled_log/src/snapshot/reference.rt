@@ -127,6 +127,7 @@ fn replay_by_definition<D: Device, C: Checksum>(
             snapshot: first,
             is_new: false,
             shred_range: None,
+            unread: Vec::new(config.alloc()),
         }),
         Err(e) => Err(e),
     }
@@ -168,9 +169,9 @@ fn resolve_and_apply<D: Device, C: Checksum>(
     requires last { OpensLast end (map pass_of passes.items) }
     requires kinds { All (λ p. All (λ m. NamesKind m.what) p.scan.met.items) passes.items }
     ensures ok { let blobs = (state_of (D.trace config.old.device)).blobs.file in
-        IfOk result (λ x. PassesOver C.sum_of config.old.config.segment_size blobs (model_of first) end (map pass_of passes.items) (Recovered (result_of x))) }
+        IfOk result (λ x. PassesOver C.sum_of config.old.config.segment_size blobs (model_of first) end (map pass_of passes.items) [] (Recovered (result_of x))) }
     ensures corrupt { let blobs = (state_of (D.trace config.old.device)).blobs.file in
-        IsCorruption result → PassesOver C.sum_of config.old.config.segment_size blobs (model_of first) end (map pass_of passes.items) Damaged }
+        IsCorruption result → PassesOver C.sum_of config.old.config.segment_size blobs (model_of first) end (map pass_of passes.items) [] Damaged }
     ensures answers { let blobs = (state_of (D.trace config.old.device)).blobs.file in
         ItemAnswers C.sum_of blobs result (D.faults config.old.device) (D.faults config.new.device) }
     ensures reads { OnlyReads D.trace config.old config.new }
@@ -407,8 +408,8 @@ fn outcome_of(
     requires some { 0 < size }
     requires end { end < 2 ^ 63 }
     requires fits { All (IsPass size) passes.now }
-    ensures ok { IfOk result (λ x. outcome_of size (model_of first) end (map pass_of passes.now) ≡ Recovered (result_of x)) }
-    ensures corrupt { IsCorruption result → outcome_of size (model_of first) end (map pass_of passes.now) ≡ Damaged }
+    ensures ok { IfOk result (λ x. outcome_of size (model_of first) end (map pass_of passes.now) [] ≡ Recovered (result_of x)) }
+    ensures corrupt { IsCorruption result → outcome_of size (model_of first) end (map pass_of passes.now) [] ≡ Damaged }
     ensures errors { IfErr result IsDecodeError }
 {
     let least = first.stable_place();
@@ -418,7 +419,14 @@ fn outcome_of(
         pt: mut pages,
     } = first;
     match apply_passes(alloc, &mut pages, passes, least, end) {
-        Ok(Some((segment, at))) => conclude(size, pages, was, least, cut_of(size, &segment, at)),
+        Ok(Some((segment, at))) => conclude(
+            alloc,
+            size,
+            pages,
+            was,
+            least,
+            cut_of(size, &segment, at),
+        ),
         Ok(None) => Ok(Recovery {
             snapshot: Snapshot {
                 stable_lsn: was,
@@ -427,6 +435,7 @@ fn outcome_of(
             },
             is_new: false,
             shred_range: None,
+            unread: Vec::new(alloc),
         }),
         Err(e) => Err(e),
     }

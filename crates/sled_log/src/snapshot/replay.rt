@@ -28,9 +28,9 @@ pub(crate) fn replay(
     requires stop { scan.now.stop ≤ size }
     requires places { All (λ m. m.place < segment.now.place + size) scan.now.met.items }
     ensures ok { let end = segment.now.place + scan.now.stop in
-        IfOk result (λ x. outcome_of size (model_of first) end (scanned_of segment.now scan.now ∷ []) ≡ Recovered (result_of x)) }
+        IfOk result (λ x. outcome_of size (model_of first) end (scanned_of segment.now scan.now ∷ []) [] ≡ Recovered (result_of x)) }
     ensures corrupt { IsCorruption result
-        → outcome_of size (model_of first) (segment.now.place + scan.now.stop) (scanned_of segment.now scan.now ∷ []) ≡ Damaged }
+        → outcome_of size (model_of first) (segment.now.place + scan.now.stop) (scanned_of segment.now scan.now ∷ []) [] ≡ Damaged }
     ensures errors { IfErr result IsDecodeError }
 {
     let least = first.stable_place();
@@ -42,6 +42,7 @@ pub(crate) fn replay(
     } = first;
     match apply_all(alloc, &mut pages, &scan.met, least, end) {
         Ok(stop) => conclude(
+            alloc,
             size,
             pages,
             was,
@@ -54,6 +55,7 @@ pub(crate) fn replay(
 
 /// A snapshot of a table with this cut, unless it can't be one.
 pub(crate) fn conclude(
+    alloc: Global,
     size: u64,
     pages: Vec<PageState>,
     was: Option<i64>,
@@ -67,6 +69,7 @@ pub(crate) fn conclude(
       model = record { stable = Some (pos cut.0); active = cut.1; pages = map page_of pages.items };
       shred_range = shred_range_of size cut.0 cut.1;
       is_new = is_beyond was cut.0;
+      unread = [];
     }) }
     ensures fine { OnOk result ((least ≤ cut.0) × (are_whole (map page_of pages.items) ≡ true)) }
     ensures corrupt { IsCorruption result → (cut.0 < least) ⊎ (are_whole (map page_of pages.items) ≡ false) }
@@ -87,6 +90,7 @@ pub(crate) fn conclude(
         snapshot,
         is_new: was.is_none_or(|place| place < cut.0 as i64),
         shred_range: shred_range_of(size, cut.0, cut.1),
+        unread: Vec::new(alloc),
     })
 }
 
