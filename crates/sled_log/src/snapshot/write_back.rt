@@ -3,15 +3,14 @@
 //!
 //! The table is committed first. Only then is taken away what it doesn't have, so that a recovery that is cut off
 //! before finds all of it again.
-ghost use Rattle.std.specs.Prelude.{◌≡◌, ◌^◌, ◌-ℤ◌, ◌∷◌, [], ℕ, ℤ, pos, replicate, OnOk};
-ghost use Rattle.std.specs.Option.{unwrap_or};
+ghost use Rattle.std.specs.Prelude.{◌≡◌, ◌∷◌, [], length, replicate, OnOk};
 ghost use Rattle.sled_codec.specs.Errors.{IsCorruption};
 ghost use Rattle.sled_codec.specs.Snapshots.{model_of, FitsSnapshot};
 ghost use Rattle.sled_store.specs.Device.{state_of, Wrote, Synced};
 ghost use Rattle.sled_store.specs.Script.{Performs, after_all};
 ghost use Rattle.sled_store.specs.Causes.{DeviceAnswers};
 ghost use Rattle.sled_core.specs.Keeps.{ConfigKept};
-ghost use Rattle.sled_log.specs.WritesBack.{result_of, range_of, shredding, zeroing, forgotten_from, HasPublished, Publishes, HasCommitted, CommitsBehind};
+ghost use Rattle.sled_log.specs.WritesBack.{result_of, range_of, shredding, zeroing, HasPublished, Publishes, HasCommitted, CommitsBehind};
 ghost use Rattle.sled_log.specs.WritesBack.{HasForgotten, Forgets, HasWrittenBack, WritesBack, IsWrittenBack, FitsIfNew};
 
 use crate::snapshot::file::{encode_file, publish, remove_others};
@@ -144,16 +143,15 @@ fn zero_unread<D: Device, C: Checksum>(
     if unread.is_empty() {
         return Ok(());
     }
-    let size = config.config.segment_size;
-    let zeros = vec![in config.alloc(); 0; size as usize]?;
-    zero_slots(&mut config.device, size, unread, &zeros)
+    let zeros = vec![in config.alloc(); 0; config.config.segment_size as usize]?;
+    zero_slots(&mut config.device, unread, &zeros)
 }
 
-/// Writes a segment of zeros over each of these slots, and syncs it.
-fn zero_slots<D: Device>(device: &mut D, size: u64, slots: &[LogOffset], zeros: &[u8]) -> Result<()>
-    requires zeros { zeros.now ≡ replicate size 0 }
-    ensures done { OnOk result (D.trace device.new ≡ after_all (zeroing size slots.now) (D.trace device.old)) }
-    ensures calls { Performs (zeroing size slots.now) (D.trace device.old) (D.trace device.new) }
+/// Writes these zeros, a segment of them, over each of these slots, and syncs each.
+fn zero_slots<D: Device>(device: &mut D, slots: &[LogOffset], zeros: &[u8]) -> Result<()>
+    requires zeros { zeros.now ≡ replicate (length zeros.now) 0 }
+    ensures done { OnOk result (D.trace device.new ≡ after_all (zeroing (length zeros.now) slots.now) (D.trace device.old)) }
+    ensures calls { Performs (zeroing (length zeros.now) slots.now) (D.trace device.old) (D.trace device.new) }
     ensures answers { DeviceAnswers result (D.faults device.old) (D.faults device.new) }
     ensures readable { IsCorruption result → ⊥ }
 {

@@ -1,4 +1,4 @@
-use Rattle.std.proofs.Common.{◌≡◌, ◌∙◌, ℕ, List, [], ◌∷◌, subst, take, get_or}
+use Rattle.std.proofs.Common.{◌≡◌, ◌∙◌, ℕ, List, [], ◌∷◌, length, subst, take, get_or}
 use Rattle.std.proofs.lemmas.List.{take_all}
 use Rattle.sled_store.specs.Device.{Trace, Wrote, Synced}
 use Rattle.sled_store.specs.Script.{Performs, after_all}
@@ -13,7 +13,7 @@ returns-in_err-write_settled-clause-calls g c =
     let new : Trace = g.D.Device.trace c.write_settled.new.device in
     let slots : List ℕ = c.args.slots.now in
     let i : ℕ = c.loop-slot.slot-index in
-    zeroing_begun c.args.size slots i 0 c.loop-slot-test.true old (g.D.Device.trace c.loop-slot.device) new c.loop-slot.invariant.zeroed
+    zeroing_begun (length c.args.zeros.now) slots i 0 c.loop-slot-test.true old (g.D.Device.trace c.loop-slot.device) new c.loop-slot.invariant.zeroed
     (subst (λ (b : List ℕ). Performs (Wrote (get_or slots i 0) b b ∷ Synced ∷ []) (g.D.Device.trace c.loop-slot.device) new) c.requires.zeros c.write_settled.ensures.calls)
 
 pub loop-slot-preserved : goal.loop-slot-preserved
@@ -23,7 +23,7 @@ loop-slot-preserved g c =
     let slots : List ℕ = c.args.slots.now in
     let i : ℕ = c.loop-slot.slot-index in
     record {
-      zeroed = zeroed_more c.args.size slots i 0 c.loop-slot-test.true (g.D.Device.trace c.args.device.now) mid new c.loop-slot.invariant.zeroed
+      zeroed = zeroed_more (length c.args.zeros.now) slots i 0 c.loop-slot-test.true (g.D.Device.trace c.args.device.now) mid new c.loop-slot.invariant.zeroed
           (subst (λ (b : List ℕ). new ≡ Synced ∷ Wrote (get_or slots i 0) b b ∷ mid) c.requires.zeros c.in_ok-write_settled.ensures.done);
       faults = c.in_ok-write_settled.ensures.answers ∙ c.loop-slot.invariant.faults;
     }
@@ -31,7 +31,7 @@ loop-slot-preserved g c =
 pub returns-clause-done : goal.returns-clause-done
 returns-clause-done g c =
     let slots : List ℕ = c.args.slots.now in
-    subst (λ (l : List ℕ). g.D.Device.trace c.loop-slot.device ≡ after_all (zeroing c.args.size l) (g.D.Device.trace c.args.device.now)) (take_all c.loop-slot.slot-index slots c.loop-slot-test.false) c.loop-slot.invariant.zeroed
+    subst (λ (l : List ℕ). g.D.Device.trace c.loop-slot.device ≡ after_all (zeroing (length c.args.zeros.now) l) (g.D.Device.trace c.args.device.now)) (take_all c.loop-slot.slot-index slots c.loop-slot-test.false) c.loop-slot.invariant.zeroed
 
 pub returns-clause-calls : goal.returns-clause-calls
-returns-clause-calls g c = performs_whole (zeroing c.args.size c.args.slots.now) _ _ (returns-clause-done g c)
+returns-clause-calls g c = performs_whole (zeroing (length c.args.zeros.now) c.args.slots.now) _ _ (returns-clause-done g c)
