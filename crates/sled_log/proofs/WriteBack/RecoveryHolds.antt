@@ -1,5 +1,5 @@
 -- What a recovery does for a history, where it can go on from each content that a crash leaves: it keeps that at each moment, meets no damage, and gives a good snapshot.
-use Rattle.std.proofs.Common.{◌≡◌, ◌∙◌, ◌∷◌, ◌≤◌, ◌<◌, ◌^◌, ℕ, true, List, Option, Some, None, MatchOption, length, replicate, ap, arith, inl, inr}
+use Rattle.std.proofs.Common.{◌≡◌, ◌∙◌, ◌∷◌, ◌≤◌, ◌<◌, ◌^◌, ℕ, true, List, Option, Some, None, ap}
 use Rattle.sled_codec.specs.History.{History, below}
 use Rattle.sled_codec.specs.Snapshots.{FitsSnapshot, stable_place}
 use Rattle.sled_store.specs.Device.{Trace, LogState, state_of, content_of, Synced, NamesSynced, at_rest, overwritten}

@@ -1,5 +1,5 @@
 -- Where all of a history is on the device, recovery leaves snapshot and device ready for a log that holds it.
-use Rattle.std.proofs.Common.{◌≡◌, ◌∙◌, ◌≤◌, ◌<◌, ◌+◌, ◌-◌, ◌*◌, ◌/◌, ◌%◌, ◌||◌, ◌&&◌, ℕ, ℤ, pos, Bool, true, false, nat_lt, nat_le, if◌then◌else◌, List, [], ◌∷◌, ◌++◌, length, map, replicate, Option, Some, None, MatchOption, refl, sym, ap, subst, arith, inl, inr}
+use Rattle.std.proofs.Common.{◌≡◌, ◌∙◌, ◌≤◌, ◌<◌, ◌+◌, ◌-◌, ◌*◌, ◌/◌, ◌%◌, ◌||◌, ◌&&◌, ℕ, ℤ, pos, Bool, true, false, nat_lt, nat_le, if◌then◌else◌, List, [], ◌∷◌, ◌++◌, length, map, replicate, Option, Some, None, refl, sym, ap, subst, arith, inl, inr}
 use Rattle.std.specs.List.{All, Contains, filter}
 use Rattle.std.proofs.Math.Nat.{mod-add-div', div-eq_of_lt, add-mod_right}
 use Rattle.std.proofs.Math.Bool.{or-true}
@@ -14,14 +14,16 @@ use Rattle.sled_codec.specs.PageTables.{IsTable}
 use Rattle.sled_codec.specs.WellFormed.{IsWellFormed}
 use Rattle.sled_codec.specs.Snapshots.{SnapshotModel, stable_place}
 use Rattle.std.specs.Prelude.{Result, Ok, Err, IfOk, OnOk}
-use Rattle.sled_store.specs.Device.{State, LogState, Synced, NamesSynced, step, at_rest, content_of, overwritten}
+use Rattle.sled_core.specs.declared.logger.Log.{Log}
+use Rattle.sled_store.specs.Device.{Trace, State, LogState, state_of, Synced, NamesSynced, step, at_rest, content_of, overwritten}
 use Rattle.sled_store.specs.SnapshotFiles.{BeginsFrom}
 use Rattle.sled_core.specs.declared.iobuf.SegmentPosition.{SegmentPosition}
 use Rattle.sled_core.specs.declared.iterator.Segment.{Segment}
 use Rattle.sled_core.specs.Scan.{IsFoundSegment, IsMisplaced}
 use Rattle.sled_store.specs.Begin.{is_used, is_active}
 use Rattle.sled_core.specs.LogFile.{StandIn, StandsElsewhere, IsLogFile}
-use Rattle.sled_core.specs.Fits.{IsBegunFrom, IsKept}
+use Rattle.sled_core.specs.Fits.{IsBegunFrom, IsKept, fault_of, device_of, segment_size_of}
+use Rattle.sled_core.specs.Running.{Fits}
 use Rattle.sled_core.specs.Ready.{StandsUsed, HasFile, IsReady}
 use Rattle.sled_core.proofs.Read.ScanLemmas.{aligned_offset}
 use Rattle.sled_core.proofs.Flush.LogFileLemmas.{stands_some, stand_none}
@@ -286,6 +288,12 @@ module _ (sum : List ℕ → ℕ) (size : ℕ) (log : List ℕ) (snapshots : ℤ
             let begins : BeginsFrom sum new.snapshots.file first = begins_with sum snapshots new first first begun.begins (subst (λ (w : SnapshotModel). BeginsAgain sum snapshots new w) (ap (λ (y : RecoveryResult). y.model) same) again) (λ stable pages. refl) in
             subst (λ (w : SnapshotModel). IsReady sum size new w H) (sym (ap (λ (y : RecoveryResult). y.model) same)) (ready_first unbegun blobs x on logs begins))
       ]
+
+-- the log file of a log that fits a history is no longer than a segment, where it keeps no failure
+pub fits_short : {D C : Type 0} (trace : D → Trace) (sum : List ℕ → ℕ) (log : Log D C) (H : History) (A f : ℕ) (U : List Message) → Fits trace sum log H A f U → fault_of log ≡ None
+    → length (state_of (trace (device_of log))).log.bytes ≤ segment_size_of log
+unfolding Fits
+fits_short trace sum log H A f U fits none = fits.short none
 
 -- a state whose log file and names were settled
 abbrev pub state_settled : State → State

@@ -147,14 +147,6 @@ module _ (sum : List ℕ → ℕ) (x : RecoveryResult) (old mid new : Trace) (ca
     subst (λ (b : Bool). Performs (shredding x.shred_range ++ (if b then publishing sum x.model ns else [])) old new) (sym is_new) (performs_behind (shredding x.shred_range) (publishing sum x.model ns) old mid new came calls),
   )
 
-  -- nothing more is to be published where it is not new
-  pub has_committed_old : x.is_new ≡ false → new ≡ mid → HasCommitted sum x old new
-  has_committed_old is_old same = (
-    [],
-    (λ is_new. let no = is_old in cc),
-    same ∙ came ∙ sym (after_joined (shredding x.shred_range) [] old) ∙ ap (λ (b : Bool). after_all (shredding x.shred_range ++ (if b then publishing sum x.model [] else [])) old) (sym is_old),
-  )
-
 -- The table was committed, and then the rest was begun to be forgotten.
 module _ (sum : List ℕ → ℕ) (size : ℕ) (x : RecoveryResult) (old mid new : Trace) (has : HasCommitted sum x old mid) where
   same_blobs : (state_of mid).blobs.file ≡ (state_of old).blobs.file

@@ -1,4 +1,4 @@
-use Rattle.std.proofs.Common.{◌≡◌, ◌⊎◌, ◌∙◌, ℕ, List, [], ◌∷◌, refl, rules, inl, inr, sym, ap, subst, arith}
+use Rattle.std.proofs.Common.{◌≡◌, ◌⊎◌, ◌∙◌, ℕ, [], ◌∷◌, refl, rules, inl, inr, sym, ap, subst, arith}
 use Rattle.sled_store.specs.Device.{Trace, Synced, NamesSynced, content_of, state_of}
 use Rattle.sled_store.specs.declared.config.Config.{Config}
 use Rattle.sled_store.specs.SnapshotFiles.{BeginsFrom}

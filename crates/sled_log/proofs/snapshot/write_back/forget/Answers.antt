@@ -1,6 +1,6 @@
-use Rattle.std.proofs.Common.{◌≡◌, ℕ, ℤ, List, subst}
+use Rattle.std.proofs.Common.{◌≡◌, ℤ, List, subst}
 use Rattle.std.specs.Prelude.{OnOk}
-use Rattle.std.specs.Int.{w64, cast_signed, cast_unsigned}
+use Rattle.std.specs.Int.{w64}
 use Rattle.std.proofs.lemmas.Int.{to_z-of_z}
 use Rattle.sled_store.specs.Blobs.{removing_blobs, AreFrom, MayGo}
 use Rattle.sled_store.specs.Device.{Trace, state_of}

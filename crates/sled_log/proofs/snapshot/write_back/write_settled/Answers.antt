@@ -1,4 +1,4 @@
-use Rattle.std.proofs.Common.{List, [], ◌∷◌, ℕ}
+use Rattle.std.proofs.Common.{[], ◌∷◌}
 use Rattle.sled_store.specs.Device.{Trace, Wrote, Synced}
 use Rattle.sled_store.proofs.Traces.ScriptLemmas.{performs_all, stop_call, performs_none}
 use Rattle.sled_log.proofs.snapshot.write_back.write_settled.Goals as goal

@@ -1,4 +1,4 @@
-use Rattle.std.proofs.Common.{◌≡◌, ◌∙◌, ℕ, List, [], ◌∷◌, length, subst, take, get_or}
+use Rattle.std.proofs.Common.{◌≡◌, ◌∙◌, ℕ, List, [], ◌∷◌, length, subst, get_or}
 use Rattle.std.proofs.lemmas.List.{take_all}
 use Rattle.sled_store.specs.Device.{Trace, Wrote, Synced}
 use Rattle.sled_store.specs.Script.{Performs, after_all}
