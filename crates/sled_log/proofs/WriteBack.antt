@@ -1,4 +1,5 @@
 pub mod AfterRecovery
+pub mod ForgetLemmas
 pub mod MomentsLemmas
 pub mod ReadyAfter
 pub mod RecoveryHolds

@@ -1,14 +1,14 @@
 -- What recovery makes of a device, and what it gives.
-use Rattle.std.specs.Prelude.{◌≡◌, ◌⊎◌, ◌≤◌, ◌<◌, ℕ, ℤ, true, List, [], ◌∷◌, length, Option, Result, IfOk}
+use Rattle.std.specs.Prelude.{◌≡◌, ◌⊎◌, ℕ, ℤ, List, [], ◌∷◌, Option, Result, IfOk}
 use Rattle.sled_codec.specs.declared.result.Error.{Error}
 use Rattle.sled_codec.specs.declared.serialization.snapshot.Snapshot.{Snapshot}
 use Rattle.sled_codec.specs.Errors.{IsCorruption}
-use Rattle.sled_codec.specs.Snapshots.{SnapshotModel, model_of, FitsSnapshot}
+use Rattle.sled_codec.specs.Snapshots.{SnapshotModel, model_of}
 use Rattle.sled_store.specs.Device.{Trace, State, Synced, NamesSynced, state_of, content_of}
 use Rattle.sled_store.specs.Script.{Performs}
 use Rattle.sled_store.specs.SnapshotFiles.{BeginsFrom}
 use Rattle.sled_log.specs.Recovery.{RecoveryResult, Damaged, Recovered, Recovers}
-use Rattle.sled_log.specs.WritesBack.{HasWrittenBack, IsWrittenBack, MayBeRemoved, WritesBehind, snapshot_number_of}
+use Rattle.sled_log.specs.WritesBack.{HasWrittenBack, IsWrittenBack, WritesBehind, FitsIfNew}
 
 -- The newest snapshot now has the table of this one, and is this one or was there before.
 abbrev pub BeginsAgain : (List ℕ → ℕ) → (ℤ → Option (List ℕ)) → State → SnapshotModel → Type 0
@@ -18,26 +18,20 @@ BeginsAgain sum snapshots new s = (first : SnapshotModel) × BeginsFrom sum new.
 abbrev pub RecoveryCalls : (List ℕ → ℕ) → ℕ → Trace → Trace → Type 0
 RecoveryCalls sum size old new =
     Performs (Synced ∷ NamesSynced ∷ []) old new
-    ⊎ ((x : RecoveryResult) × Recovers sum size (content_of (state_of old)) (Recovered x)
-    × (numbers : List ℤ) × MayBeRemoved (state_of old).snapshots.file (snapshot_number_of x.model) numbers × WritesBehind (Synced ∷ NamesSynced ∷ []) sum x numbers old new)
-
--- The log file of a device is longer than a segment, or what the device has is damaged.
-abbrev pub IsBeyondRecovery : (List ℕ → ℕ) → ℕ → State → Type 0
-IsBeyondRecovery sum size device = (size < length device.log.bytes) ⊎ Recovers sum size (content_of device) Damaged
+    ⊎ ((x : RecoveryResult) × Recovers sum size (content_of (state_of old)) (Recovered x) × WritesBehind (Synced ∷ NamesSynced ∷ []) sum size x old new)
 
 -- A recovery came to a conclusion, wrote it back, and gives its snapshot.
 pub record Restores (sum : List ℕ → ℕ) (size : ℕ) (old new : Trace) (s : SnapshotModel) : Type 0 where
   pub conclusion : RecoveryResult
   pub recovers : Recovers sum size (content_of (state_of old)) (Recovered conclusion)
   pub model : s ≡ conclusion.model
-  pub written : IsWrittenBack sum conclusion (state_of (NamesSynced ∷ Synced ∷ old)) (state_of new)
-  pub done : HasWrittenBack sum conclusion (NamesSynced ∷ Synced ∷ old) new
-  pub fits : conclusion.is_new ≡ true → FitsSnapshot conclusion.model
+  pub written : IsWrittenBack sum size conclusion (state_of (NamesSynced ∷ Synced ∷ old)) (state_of new)
+  pub done : HasWrittenBack sum size conclusion (NamesSynced ∷ Synced ∷ old) new
+  pub fits : FitsIfNew conclusion
   pub newest : BeginsAgain sum (state_of old).snapshots.file (state_of new) s
-  pub short : length (state_of old).log.bytes ≤ size
 
 -- What came of a recovery, whatever it answers: the calls that it made, what it gives, and that it wrote nothing where it met damage.
 pub record ComesOf (sum : List ℕ → ℕ) (size : ℕ) (old new : Trace) (result : Result Snapshot Error) : Type 0 where
   pub calls : RecoveryCalls sum size old new
   pub ok : IfOk result (λ s. Restores sum size old new (model_of s))
-  pub corrupt : IsCorruption result → IsBeyondRecovery sum size (state_of old) × (new ≡ NamesSynced ∷ Synced ∷ old)
+  pub corrupt : IsCorruption result → Recovers sum size (content_of (state_of old)) Damaged × (new ≡ NamesSynced ∷ Synced ∷ old)

@@ -69,7 +69,7 @@ pub record HasRecovered (sum : List ℕ → ℕ) (size : ℕ) (old new : DeviceV
   pub conclusion : RecoveryResult
   pub recovers : Recovers sum size (content_of (state_of old.trace)) (Recovered conclusion)
   pub shown : s ≡ conclusion.model
-  pub written : HasWrittenBack sum conclusion (NamesSynced ∷ Synced ∷ old.trace) new.trace
+  pub written : HasWrittenBack sum size conclusion (NamesSynced ∷ Synced ∷ old.trace) new.trace
   pub failures : new.failures ≡ old.failures
 
 -- the calls that the start of a log makes: the slots of the file that the snapshot doesn't use are filled with zeros

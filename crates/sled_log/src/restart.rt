@@ -17,7 +17,7 @@ ghost use Rattle.sled_core.specs.Ready.{IsReady};
 ghost use Rattle.sled_core.specs.Recoverable.{NoForeign, RecoverableIfOwn};
 ghost use Rattle.sled_core.specs.Running.{Fits};
 ghost use Rattle.sled_log.specs.Orderly.{IsOrderly};
-ghost use Rattle.sled_log.specs.Restarts.{Restarts};
+ghost use Rattle.sled_log.specs.Restarts.{LiesInSegment, Restarts};
 
 use crate::snapshot::{Snapshot, read_snapshot_or_default};
 use sled_codec::result::Result;
@@ -26,9 +26,9 @@ use sled_core::logger::Log;
 use sled_store::{Device, RunningConfig};
 
 /// Writes what a log holds, gives the log up, and recovers its device. Returns what the log ran on, and what was
-/// recovered. Where all of this succeeds, the table is
-/// that of all completed messages, its place lies past each of them, and `Log::start` on the snapshot gives a
-/// log that holds them again. No reservation may be open.
+/// recovered. Where all of this succeeds, and the log file lies in one segment then, the table is that of all completed
+/// messages, its place lies past each of them, and `Log::start` on the snapshot gives a log that holds them again. No
+/// reservation may be open.
 ///
 /// # Errors
 ///
@@ -36,11 +36,11 @@ use sled_store::{Device, RunningConfig};
 /// comes back with each of them.
 pub fn restart<D: Device, C: Checksum>(log: Log<D, C>) -> (RunningConfig<D, C>, Result<Snapshot>)
     requires ended { NoneOpen log }
-    ensures table { (H : History) → Holds D.trace C.sum_of log H → IsWellFormed H
+    ensures table { (H : History) → Holds D.trace C.sum_of log H → IsWellFormed H → LiesInSegment D.trace C.sum_of log H
         → IfOk result.1 (λ s. IsTable (model_of s).pages H (stable_place s.stable_lsn)) }
-    ensures past { (H : History) → Holds D.trace C.sum_of log H → IsWellFormed H
+    ensures past { (H : History) → Holds D.trace C.sum_of log H → IsWellFormed H → LiesInSegment D.trace C.sum_of log H
         → IfOk result.1 (λ s. All (λ m. m.place + m.size ≤ stable_place s.stable_lsn) H.messages) }
-    ensures ready { (H : History) → Holds D.trace C.sum_of log H → IsWellFormed H
+    ensures ready { (H : History) → Holds D.trace C.sum_of log H → IsWellFormed H → LiesInSegment D.trace C.sum_of log H
         → IfOk result.1 (λ s. IsReady C.sum_of (segment_size_of log) (state_of (D.trace result.0.device)) (model_of s) H) }
     ensures did { let old = device_of log in let new = result.0.device in
         Restarts C.sum_of (segment_size_of log) (flushing log) (fault_of log) result.1 (D.trace old) (D.trace new) (D.faults old) (D.faults new) }

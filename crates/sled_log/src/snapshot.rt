@@ -15,7 +15,7 @@ ghost use Rattle.sled_core.specs.Recoverable.{RecoverableIfOwn, LeavesRecoverabl
 ghost use Rattle.sled_core.specs.Keeps.{ConfigKept, OnlyReads};
 ghost use Rattle.sled_core.specs.Running.{Ready};
 ghost use Rattle.sled_codec.specs.PageTables.{IsTable};
-ghost use Rattle.sled_log.specs.Restores.{ComesOf, IsBeyondRecovery, RecoveryCalls, Restores};
+ghost use Rattle.sled_log.specs.Restores.{ComesOf, RecoveryCalls, Restores};
 ghost use Rattle.sled_log.specs.Orderly.{CanRecover};
 ghost use Rattle.sled_log.specs.Recovery.{least_place, IsOrdering, AreScanned, begun_below, Passes, Recovered, Damaged, ContinuesFrom, Recovers};
 ghost use Rattle.sled_log.specs.Passes.{CanBeRead, IsPass, pass_of, AreLookedUp, MeetsBadTail, PassesBehind};
@@ -45,10 +45,10 @@ pub use sled_codec::serialization::snapshot::{Entry, PageState, Snapshot};
 use sled_core::iterator::Segment;
 use sled_store::{Device, RunningConfig};
 
-/// Recovers the table of pages from a device whose log file is no longer than a segment, and returns it. First it
-/// syncs the device. Then it reads the newest snapshot and the log file, and at last it fills the rest of the
-/// active segment with zeros and, where the table goes beyond that snapshot, publishes a new one and removes
-/// all others.
+/// Recovers the table of pages from a device, and returns it. First it syncs the device. Then it reads the newest
+/// snapshot and the log file, and at last it writes back what it concludes: it fills the rest of the active segment
+/// with zeros; where the table goes beyond that snapshot, it publishes a new one and removes all others; it overwrites
+/// each segment that it found and did not read with zeros; and it removes every blob at or above the place of the table.
 ///
 /// Where each content that a crash leaves can be recovered, for a history, the end of what was acknowledged and
 /// a floor, that stays so at each moment, the content is no damage, and the snapshot is good for them; then all
@@ -58,13 +58,13 @@ use sled_store::{Device, RunningConfig};
 ///
 /// `Corruption` where the newest snapshot is damaged, where segments are found that can't be of one log, where a
 /// damaged record is met, where the blob of a record doesn't pass for it (named where its checksum fails), where the table
-/// can't be one, and where the file is longer than a segment; nothing was written then. `Io` where the device failed, and `OutOfMemory`.
+/// can't be one; nothing was written then. `Io` where the device failed, and `OutOfMemory`.
 pub fn read_snapshot_or_default<D: Device, C: Checksum>(
     config: &mut RunningConfig<D, C>,
 ) -> Result<Snapshot>
     ensures ok { IfOk result (λ s. Restores C.sum_of config.old.config.segment_size (D.trace config.old.device) (D.trace config.new.device) (model_of s)) }
     ensures calls { RecoveryCalls C.sum_of config.old.config.segment_size (D.trace config.old.device) (D.trace config.new.device) }
-    ensures corrupt { IsCorruption result → IsBeyondRecovery C.sum_of config.old.config.segment_size (state_of (D.trace config.old.device))
+    ensures corrupt { IsCorruption result → Recovers C.sum_of config.old.config.segment_size (content_of (state_of (D.trace config.old.device))) Damaged
         × (D.trace config.new.device ≡ NamesSynced ∷ Synced ∷ D.trace config.old.device) }
     ensures answers { let blobs = (state_of (D.trace config.old.device)).blobs.file in
         ItemAnswers C.sum_of blobs result (D.faults config.old.device) (D.faults config.new.device) }

@@ -108,10 +108,11 @@ module _ (sum : List ℕ → ℕ) (size : ℕ) (content : Content) (H : History)
       model = record { stable = Some (pos cut); active = first_active size begun.stop; pages = table_of first.pages applied_all };
       shred_range = shred_range_of size cut (first_active size begun.stop);
       is_new = is_beyond first.stable cut;
+      unread = [];
     }
 
-    pub comes_is : comes sum size content.log first_site begun.stop begun.own begun_only first least ≡ concluded size first applied_all (cut, first_active size begun.stop)
-    comes_is = ap (concluded size first applied_all) (cut_is size begun.stop (segment sum size content.log first_site begun.stop begun.own begun_only) refl refl)
+    pub comes_is : comes sum size content.log first_site begun.stop begun.own begun_only first least ≡ concluded size first [] applied_all (cut, first_active size begun.stop)
+    comes_is = ap (concluded size first [] applied_all) (cut_is size begun.stop (segment sum size content.log first_site begun.stop begun.own begun_only) refl refl)
 
     pub goes_on : IsWellFormed H → IsTable first.pages H (stable_place first.stable) → (x : RecoveryResult) → ContinuesFrom sum size content.log content.blobs first (Recovered x) → GoesOnIn sum size content.log H A first x
     goes_on formed table x on =
@@ -123,6 +124,7 @@ module _ (sum : List ℕ → ℕ) (size : ℕ) (content : Content) (H : History)
           active = ap (λ (y : RecoveryResult). y.model.active) (sym same);
           shred_range = ap (λ (y : RecoveryResult). y.shred_range) (sym same);
           is_new = ap (λ (y : RecoveryResult). y.is_new) (sym same);
+          unread = ap (λ (y : RecoveryResult). y.unread) (sym same);
           table = subst (λ (y : RecoveryResult). IsTable y.model.pages H cut) same (applied_table formed table);
           fits = fits_cut;
         }
@@ -157,7 +159,7 @@ concludes_in sum size content H A f some small orderly in_first x recovers = by 
   table : IsTable in_first.first.pages H (stable_place in_first.first.stable)
   table = (first_is_table sum size content.snapshots H f in_first.first in_first.snapshots).0
 
-  stays : NoneFrom sum size content H A in_first.first some small in_first.segment → x ≡ unchanged in_first.first
+  stays : NoneFrom sum size content H A in_first.first some small in_first.segment → x ≡ unchanged in_first.first []
   stays none = stays_at sum size content.log content.blobs in_first.first (λ s found. absurd (none s found)) x on
 
   by : IsUnbegun sum size content.log A (stable_place in_first.first.stable) ⊎ IsBegun sum size content.log H A (stable_place in_first.first.stable) → ConcludesIn sum size content H A in_first.first x

@@ -1,5 +1,5 @@
 -- A recoverable content, all of whose log is in its first segment, is not damaged.
-use Rattle.std.proofs.Common.{◌≡◌, ◌≢◌, ◌⊎◌, ◌≤◌, ◌<◌, ◌-◌, ◌^◌, ◌∙◌, ℕ, false, List, sym, ap, arith, inl, inr}
+use Rattle.std.proofs.Common.{◌≡◌, ◌≢◌, ◌⊎◌, ◌≤◌, ◌<◌, ◌-◌, ◌^◌, ◌∙◌, ℕ, false, List, [], sym, ap, arith, inl, inr}
 use Rattle.std.specs.List.{filter}
 use Rattle.std.proofs.Math.Nat.{zero-mod}
 use Rattle.std.proofs.lemmas.Bool.{cases_lt}
@@ -37,8 +37,8 @@ module _ (sum : List ℕ → ℕ) (size : ℕ) (content : Content) (H : History)
       ∙ have_tables (filter (between sum size content H A first some small in_first begun low) H.messages) (All-filter (between sum size content H A first some small in_first begun low) (λ m. m.page ≢ 2 ^ 64 - 1) H.messages orderly.formed.pages)
 
   -- what is applied makes a table
-  is_concluded : concluded size first given_all (cut, first_active size begun.stop) ≡ Recovered (made sum size content H A first some small in_first begun least)
-  is_concluded = concluded_well size first given_all (cut, first_active size begun.stop) have_all begun.not_below
+  is_concluded : concluded size first [] given_all (cut, first_active size begun.stop) ≡ Recovered (made sum size content H A first some small in_first begun least)
+  is_concluded = concluded_well size first [] given_all (cut, first_active size begun.stop) have_all begun.not_below
       (table_whole H cut _ orderly (applied_table sum size content H A first some small in_first begun least orderly.formed is))
 
   -- the first segment begins where one may

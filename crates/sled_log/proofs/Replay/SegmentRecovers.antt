@@ -1,5 +1,5 @@
 -- What recovery concludes from a log file with one segment, in which messages stand one behind another and no record behind them, or with none.
-use Rattle.std.proofs.Common.{◌≡◌, ◌≢◌, ◌<◌, ◌+◌, ◌*◌, ◌/◌, ◌∙◌, ℕ, ℤ, pos, negsuc, max, Bool, true, ◌&&◌, nat_lt, nat_le, if◌then◌else◌, List, [], ◌∷◌, map, Option, Some, None, refl, sym, ap, subst, arith, inl, inr}
+use Rattle.std.proofs.Common.{◌≡◌, ◌≢◌, ◌<◌, ◌+◌, ◌*◌, ◌/◌, ◌∙◌, ℕ, ℤ, pos, negsuc, max, Bool, true, ◌&&◌, nat_lt, nat_le, if◌then◌else◌, List, [], ◌∷◌, length, drop, map, Option, Some, None, refl, sym, ap, subst, arith, inl, inr}
 use Rattle.std.specs.List.{filter}
 use Rattle.std.specs.Option.{unwrap_or}
 use Rattle.std.proofs.Math.Nat.{mod-add-div'}
@@ -16,7 +16,7 @@ use Rattle.sled_core.specs.declared.iterator.scan.ScanEnd.TheVariants.{Full, Cap
 use Rattle.sled_core.specs.Scan.{IsFoundSegment, IsMisplaced, IsPath, IsScan}
 use Rattle.sled_core.proofs.Read.PathLemmas.{met_of, scan_is}
 use Rattle.sled_store.proofs.Segments.Elements.{no_element, in_nothing, only_in}
-use Rattle.sled_log.specs.Recovery.{Scanned, IsScanned, IsOrdering, IsTail, GoesOn, IsReplayed, StopsOrGoesOn, AreReplayed, begun_below, RecoveryResult, Outcome, Recovered, Damaged, Applied, applied, given, open_at, tail_end, tail_begins, place_of_mark, least_place, outcome_of, concluded, unchanged, Passes, Replays, resolved_scan, ContinuesFrom, Recovers, cut_of}
+use Rattle.sled_log.specs.Recovery.{Scanned, IsScanned, IsOrdering, IsTail, GoesOn, IsReplayed, StopsOrGoesOn, AreReplayed, begun_below, RecoveryResult, Outcome, Recovered, Damaged, Applied, applied, given, open_at, tail_end, tail_begins, place_of_mark, least_place, outcome_of, concluded, unchanged, Passes, Replays, resolved_scan, slots_of, ContinuesFrom, Recovers, cut_of}
 use Rattle.sled_log.proofs.SnapshotFile.BeginLemmas.{one_begin}
 use Rattle.sled_log.proofs.Replay.RecoveryLemmas.{one_outcome}
 use Rattle.sled_log.proofs.Replay.OneSegment.{path_closed, given_messages, no_open_batch, all_before, only_one}
@@ -45,12 +45,12 @@ module _ (sum : List ℕ → ℕ) (size : ℕ) (log : List ℕ) (blobs : ℤ →
   pub none_ordered : (ordering : List Segment) → IsOrdering sum size log (least_place size first) ordering → ordering ≡ []
   none_ordered ordering is = no_element ordering (λ t there. is.placed t there (none t ((is.found t).0 there)))
 
-  nothing_read : (tail : ℕ) (x : RecoveryResult) → Replays sum size log blobs first [] tail (Recovered x) → x ≡ unchanged first
+  nothing_read : (tail : ℕ) (x : RecoveryResult) → Replays sum size log blobs first [] tail (Recovered x) → x ≡ unchanged first []
   nothing_read tail x (inl damaged) = let no : Recovered x ≡ Damaged = damaged.0 in cc
   nothing_read tail x (inr ([], none, good, passes)) = ap (λ (o : Outcome). conclusion_in o x) passes
   nothing_read tail x (inr (s ∷ ss, there, good, passes)) = absurd (in_nothing s.segment there.0)
 
-  pub stays_at : (x : RecoveryResult) → ContinuesFrom sum size log blobs first (Recovered x) → x ≡ unchanged first
+  pub stays_at : (x : RecoveryResult) → ContinuesFrom sum size log blobs first (Recovered x) → x ≡ unchanged first []
   unfolding ContinuesFrom
   stays_at x (inl damaged) = let no : Recovered x ≡ Damaged = damaged.0 in cc
   stays_at x (inr (ordering, is, replays)) =
@@ -104,18 +104,18 @@ module _ (sum : List ℕ → ℕ) (size : ℕ) (log : List ℕ) (site : SegmentP
   messages = map applied (filter (λ m. nat_le (stable_place first.stable) m.place && nat_lt m.place (site.place + end)) own)
 
   abbrev pub comes : Outcome
-  comes = concluded size first messages (cut_of size (found, site.place + end))
+  comes = concluded size first [] messages (cut_of size (found, site.place + end))
 
   pub given_is : given (stable_place first.stable) (map met_of own) ≡ messages
   given_is = given_messages (stable_place first.stable) (site.place + end) own (λ k d lt. (own_below sum size log site end own only k d lt).0)
 
   -- what comes of the pass over it
-  pass_is : (why : ScanEnd) → outcome_of size first (site.place + end) (record { segment = found; met = map met_of own; stop = end; why = why } ∷ []) ≡ comes
+  pass_is : (why : ScanEnd) → outcome_of size first (site.place + end) (record { segment = found; met = map met_of own; stop = end; why = why } ∷ []) [] ≡ comes
   pass_is why =
-      one_outcome size first (site.place + end) (record { segment = found; met = map met_of own; stop = end; why = why })
-      ∙ ap (λ (l : List ScannedRecord). concluded size first (given (stable_place first.stable) l) (cut_of size (found, unwrap_or (open_at (site.place + end) (map met_of own)) (site.place + end)))) (all_before (site.place + end) own)
-      ∙ ap (λ (o : Option ℕ). concluded size first (given (stable_place first.stable) (map met_of own)) (cut_of size (found, unwrap_or o (site.place + end)))) (no_open_batch (site.place + end) own)
-      ∙ ap (λ (l : List Applied). concluded size first l (cut_of size (found, site.place + end))) given_is
+      one_outcome size first [] (site.place + end) (record { segment = found; met = map met_of own; stop = end; why = why })
+      ∙ ap (λ (l : List ScannedRecord). concluded size first [] (given (stable_place first.stable) l) (cut_of size (found, unwrap_or (open_at (site.place + end) (map met_of own)) (site.place + end)))) (all_before (site.place + end) own)
+      ∙ ap (λ (o : Option ℕ). concluded size first [] (given (stable_place first.stable) (map met_of own)) (cut_of size (found, unwrap_or o (site.place + end)))) (no_open_batch (site.place + end) own)
+      ∙ ap (λ (l : List Applied). concluded size first [] l (cut_of size (found, site.place + end))) given_is
 
   -- the pass reads all of it, since no batch is open
   passed_is : (p : Scanned) → p.segment ≡ found → IsReplayed sum size log (site.place + end) p → (open_at (site.place + end) p.met ≡ None) × IsScanned sum size log p
@@ -129,14 +129,14 @@ module _ (sum : List ℕ → ℕ) (size : ℕ) (log : List ℕ) (site : SegmentP
   no_more (p ∷ ps) on = absurd on
 
   pub passes_are : (blobs : ℤ → Option (List ℕ)) (passes : List Scanned) → AreReplayed sum size log (site.place + end) (found ∷ []) passes
-      → outcome_of size first (site.place + end) (map (resolved_scan blobs (site.place + end)) passes) ≡ comes
+      → outcome_of size first (site.place + end) (map (resolved_scan blobs (site.place + end)) passes) (slots_of (drop (length passes) (found ∷ []))) ≡ comes
   passes_are blobs [] are = absurd are
   passes_are blobs (p ∷ ps) are =
       let whole = passed_is p are.0 are.1 in
       let alone : ps ≡ [] = no_more ps (subst (λ o. StopsOrGoesOn o ps (AreReplayed sum size log (site.place + end) [] ps)) whole.0 are.2) in
-      ap (λ (l : List Scanned). outcome_of size first (site.place + end) (map (resolved_scan blobs (site.place + end)) (p ∷ l))) alone
-      ∙ ap (λ (x : Scanned). outcome_of size first (site.place + end) (resolved_scan blobs (site.place + end) x ∷ [])) (scanned_is p are.0 whole.1).0
-      ∙ ap (λ (l : List ScannedRecord). outcome_of size first (site.place + end) (record { segment = found; met = l; stop = end; why = p.why } ∷ [])) (messages_resolved blobs (site.place + end) own)
+      ap (λ (l : List Scanned). outcome_of size first (site.place + end) (map (resolved_scan blobs (site.place + end)) (p ∷ l)) (slots_of (drop (length (p ∷ l)) (found ∷ [])))) alone
+      ∙ ap (λ (x : Scanned). outcome_of size first (site.place + end) (resolved_scan blobs (site.place + end) x ∷ []) []) (scanned_is p are.0 whole.1).0
+      ∙ ap (λ (l : List ScannedRecord). outcome_of size first (site.place + end) (record { segment = found; met = l; stop = end; why = p.why } ∷ []) []) (messages_resolved blobs (site.place + end) own)
       ∙ pass_is p.why
 
   pub below_end : begun_below (site.place + end) (found ∷ []) ≡ found ∷ []

@@ -33,7 +33,7 @@ module _ (sum : List ℕ → ℕ) (size : ℕ) (log : List ℕ) (blobs : ℤ →
 
   none_replayed : (tail : ℕ) → Replays sum size log blobs first [] tail Damaged → ⊥
   none_replayed tail (inl (is, damaged)) = in_nothing damaged.segment damaged.there
-  none_replayed tail (inr ([], missing, good, passes)) = let no : Damaged ≡ Recovered (unchanged first) = passes in cc
+  none_replayed tail (inr ([], missing, good, passes)) = let no : Damaged ≡ Recovered (unchanged first []) = passes in cc
   none_replayed tail (inr (s ∷ ss, there, good, passes)) = in_nothing s.segment there.0
 
   pub none_damaged : ContinuesFrom sum size log blobs first Damaged → ⊥

@@ -16,7 +16,7 @@ use Rattle.sled_codec.specs.Snapshots.{SnapshotModel}
 use Rattle.sled_store.specs.declared.device.choice.Choice.{Choice}
 use Rattle.sled_store.specs.declared.config.RunningConfig.{RunningConfig}
 use Rattle.sled_store.specs.Chosen.{MayBeChosen}
-use Rattle.sled_store.specs.Device.{Event, Left, Trace, State, Content, Synced, NamesSynced, Crashed, Settled, state_of, fresh, step, content_left, Leaves, names_at_rest}
+use Rattle.sled_store.specs.Device.{Event, Left, Trace, State, Content, Crashed, Settled, state_of, fresh, step, content_left, Leaves, names_at_rest}
 use Rattle.sled_store.specs.Moments.{IsLater}
 use Rattle.sled_store.specs.Noted.{left_of}
 use Rattle.sled_store.specs.Script.{Performs, Along, after_all}
@@ -42,8 +42,6 @@ use Rattle.sled_log.specs.declared.session.command.Reply.TheVariants as reply
 use Rattle.sled_log.specs.RunStates.{DeviceView, LogView, RunState, recovered, with_log, started_on}
 use Rattle.sled_log.specs.Runs.{IsOwn, IsOutOfTurn, IsRefusedWhere, IsCause, HasRecovered, StartActs, OpenActs, CrashActs, Acts, IsGoodFor, flushed, ended, FlushStep, CompleteStep, ReplaceStep, IsStep, Runs}
 use Rattle.sled_log.specs.RunPhases.{IsOpenAt, IsClosedAt, IsAt, Unstored, Shows, SaysWhy, log_shown, stands, size_of, traces, device_in, RunsOn, CarriesOut}
-use Rattle.sled_log.specs.WritesBack.{shredding, writing_back}
-use Rattle.sled_log.specs.Restores.{RecoveryCalls}
 use Rattle.sled_log.proofs.Sessions.RunHistories.{none_orderly}
 
 -- a place as code holds it
@@ -75,12 +73,6 @@ later_performed es old new came = let run = performs_throughout (λ s. Unit {0})
 -- what is made by a list of calls is later
 pub later_all : (es : List Event) (old new : Trace) → new ≡ after_all es old → IsLater old new
 later_all es old new is = later_performed es old new (performs_whole es old new is)
-
--- and by those of a recovery
-pub later_recovered : (sum : List ℕ → ℕ) (size : ℕ) (old new : Trace) → RecoveryCalls sum size old new → IsLater old new
-later_recovered sum size old new (inl settling) = later_performed (Synced ∷ NamesSynced ∷ []) old new settling
-later_recovered sum size old new (inr (x, recovers, ns, may, inl begun)) = later_performed (Synced ∷ NamesSynced ∷ shredding x.shred_range) old new begun
-later_recovered sum size old new (inr (x, recovers, ns, may, inr made)) = later_performed (Synced ∷ NamesSynced ∷ writing_back sum x ns) old new made.1
 
 -- one configuration runs on after another
 pub runs_on_both : {D C : Type 0} (trace : D → Trace) (old mid new : RunningConfig D C) → RunsOn trace old mid → RunsOn trace mid new → RunsOn trace old new

@@ -1,5 +1,5 @@
 -- A recovery would begin from what one answered before, once that is written back.
-use Rattle.std.proofs.Common.{◌≡◌, ◌≢◌, ◌⊎◌, ◌∙◌, ◌||◌, ◌≤◌, ◌%◌, ◌≤ℤ◌, ◌<◌, map, ℕ, ℤ, zero, suc, pos, negsuc, Bool, true, false, not, nat_lt, if◌then◌else◌, List, [], ◌∷◌, Option, Some, None, IsSome, refl, sym, ap, subst, arith, inl, inr}
+use Rattle.std.proofs.Common.{◌≡◌, ◌≢◌, ◌⊎◌, ◌∙◌, ◌||◌, ◌≤◌, ◌%◌, ◌≤ℤ◌, ◌<◌, map, ℕ, ℤ, zero, suc, pos, negsuc, Bool, true, false, not, nat_lt, if◌then◌else◌, List, [], ◌∷◌, length, drop, Option, Some, None, IsSome, refl, sym, ap, subst, arith, inl, inr}
 use Rattle.std.specs.Bool.{MatchBool}
 use Rattle.std.specs.Ordering.{int_eq}
 use Rattle.std.specs.Cmp.{signed_Decides}
@@ -11,18 +11,18 @@ use Rattle.sled_core.specs.declared.iterator.scan.ScannedRecord.{ScannedRecord}
 use Rattle.sled_core.specs.declared.iterator.Segment.{Segment}
 use Rattle.sled_store.specs.Device.{State, content_of}
 use Rattle.sled_store.specs.SnapshotFiles.{BeginsFrom}
-use Rattle.sled_log.specs.Recovery.{RecoveryResult, Scanned, Recovered, Damaged, unchanged, concluded, outcome_of, given, has_no_table, are_whole, table_of, is_beyond, cut_of, stops_in, passed_in, open_at, begun_below, resolved_scan, AreReplayed, IsOrdering, Passes, ContinuesFrom, Recovers}
+use Rattle.sled_log.specs.Recovery.{RecoveryResult, Scanned, Recovered, Damaged, unchanged, concluded, outcome_of, given, has_no_table, are_whole, table_of, is_beyond, cut_of, stops_in, passed_in, open_at, begun_below, resolved_scan, slots_of, AreReplayed, IsOrdering, Passes, ContinuesFrom, Recovers}
 use Rattle.sled_log.specs.WritesBack.{short_file, snapshot_number_of, IsOnlySnapshot, IsWrittenBack}
 use Rattle.sled_log.proofs.Replay.LineLemmas.{LieBelow, none_given, chain_of, chain_begun, line_of}
 use Rattle.sled_log.proofs.Replay.BlobLemmas.{all_below_resolved}
 
 -- a table of messages that lie below its cut
 abbrev IsConcluded : ℕ → SnapshotModel → RecoveryResult → Type 0
-IsConcluded size first x = (met : List ScannedRecord) × (cut : ℕ × Option ℕ) × LieBelow cut.0 met × (concluded size first (given (stable_place first.stable) met) cut ≡ Recovered x)
+IsConcluded size first x = (unread : List ℕ) × (met : List ScannedRecord) × (cut : ℕ × Option ℕ) × LieBelow cut.0 met × (concluded size first unread (given (stable_place first.stable) met) cut ≡ Recovered x)
 
 -- recovery concludes that the snapshot stays, or such a table
 abbrev Comes : ℕ → SnapshotModel → RecoveryResult → Type 0
-Comes size first x = (x ≡ unchanged first) ⊎ IsConcluded size first x
+Comes size first x = ((unread : List ℕ) × (x ≡ unchanged first unread)) ⊎ IsConcluded size first x
 
 -- a number that cannot be other than 0
 not_none : (n : ℕ) → (n ≢ 0 → ⊥) → n ≡ 0
@@ -31,22 +31,22 @@ not_none (suc n) h = absurd (h (λ e. omega (arith, e)))
 
 module _ (sum : List ℕ → ℕ) (size : ℕ) (log : List ℕ) (blobs : ℤ → Option (List ℕ)) (large : 20 ≤ size) (first : SnapshotModel) (x : RecoveryResult) where
   -- of segments that are read
-  from_passes : (ordering : List Segment) (least end : ℕ) (passes : List Scanned) → IsOrdering sum size log least ordering → AreReplayed sum size log end (begun_below end ordering) passes
-      → Recovered x ≡ outcome_of size first end (map (resolved_scan blobs end) passes) → Comes size first x
-  from_passes ordering least end [] is are comes = inl (cc)
-  from_passes ordering least end (s ∷ ss) is are comes =
+  from_passes : (unread : List ℕ) (ordering : List Segment) (least end : ℕ) (passes : List Scanned) → IsOrdering sum size log least ordering → AreReplayed sum size log end (begun_below end ordering) passes
+      → Recovered x ≡ outcome_of size first end (map (resolved_scan blobs end) passes) unread → Comes size first x
+  from_passes unread ordering least end [] is are comes = inl (unread, cc)
+  from_passes unread ordering least end (s ∷ ss) is are comes =
       let some : 0 < size = omega (arith, large) in
       let chain = chain_begun size some end ordering (chain_of size some ordering is.ascending (λ t there. (not_none (t.place % size) (λ odd. is.placed t there (inl odd)), ((is.found t).0 there).slot))) in
       let line = line_of size some sum log large end (begun_below end ordering) (s ∷ ss) chain are in
       let t = resolved_scan blobs end s in
       let ts = map (resolved_scan blobs end) ss in
-      inr (passed_in end t (open_at end t.met) ts, cut_of size (stops_in end t (open_at end t.met) ts), all_below_resolved blobs end sum size log large s ss line, sym comes)
+      inr (unread, passed_in end t (open_at end t.met) ts, cut_of size (stops_in end t (open_at end t.met) ts), all_below_resolved blobs end sum size log large s ss line, sym comes)
 
   by_end : (ordering : List Segment) (least : ℕ) → IsOrdering sum size log least ordering → (end : Option ℕ) → Passes sum size log blobs first ordering end (Recovered x) → Comes size first x
-  by_end ordering least is None comes = inl (cc)
+  by_end ordering least is None comes = inl (slots_of ordering, cc)
   by_end ordering least is (Some end) (inl damaged) = let no = damaged.0 in absurd (cc)
   by_end ordering least is (Some end) (inr (passes, are, inl damaged)) = let no = damaged.0 in absurd (cc)
-  by_end ordering least is (Some end) (inr (passes, are, inr (good, comes))) = from_passes ordering least end passes is are comes
+  by_end ordering least is (Some end) (inr (passes, are, inr (good, comes))) = from_passes (slots_of (drop (length passes) ordering)) ordering least end passes is are comes
 
   comes_of : ContinuesFrom sum size log blobs first (Recovered x) → Comes size first x
   unfolding ContinuesFrom
@@ -75,8 +75,8 @@ at_place (Some (pos n)) cut beyond low =
 module _ (size : ℕ) (first : SnapshotModel) (x : RecoveryResult) where
   -- where it is not new, the snapshot has the same place and the same pages
   stays_old : Comes size first x → x.is_new ≡ false → (first.stable ≡ x.model.stable) × (first.pages ≡ x.model.pages)
-  stays_old (inl same) is_old = (ap (λ (y : RecoveryResult). y.model.stable) (sym same), ap (λ (y : RecoveryResult). y.model.pages) (sym same))
-  stays_old (inr (met, cut, lie, is)) is_old =
+  stays_old (inl (unread, same)) is_old = (ap (λ (y : RecoveryResult). y.model.stable) (sym same), ap (λ (y : RecoveryResult). y.model.pages) (sym same))
+  stays_old (inr (unread, met, cut, lie, is)) is_old =
       let messages = given (stable_place first.stable) met in
       let parts = chosen_well (has_no_table messages) (nat_lt cut.0 (stable_place first.stable)) (are_whole (table_of first.pages messages)) _ x is in
       let there = at_place first.stable cut.0 (ap (λ (y : RecoveryResult). y.is_new) parts.1 ∙ is_old) parts.0 in
@@ -85,8 +85,8 @@ module _ (size : ℕ) (first : SnapshotModel) (x : RecoveryResult) where
 
   -- where it is new, the table has a place
   new_place : Comes size first x → x.is_new ≡ true → (cut : ℕ) × (x.model.stable ≡ Some (pos cut))
-  new_place (inl same) is_new = let no : x.is_new ≡ false = ap (λ (y : RecoveryResult). y.is_new) same in absurd (cc)
-  new_place (inr (met, cut, lie, is)) is_new =
+  new_place (inl (unread, same)) is_new = let no : x.is_new ≡ false = ap (λ (y : RecoveryResult). y.is_new) same in absurd (cc)
+  new_place (inr (unread, met, cut, lie, is)) is_new =
       let messages = given (stable_place first.stable) met in
       let parts = chosen_well (has_no_table messages) (nat_lt cut.0 (stable_place first.stable)) (are_whole (table_of first.pages messages)) _ x is in
       (cut.0, sym (ap (λ (y : RecoveryResult). y.model.stable) parts.1))
@@ -111,7 +111,7 @@ begins_from_only sum file s cut place fits only = inr (
         absurd (cc)
 
 -- The whole.
-module _ (sum : List ℕ → ℕ) (size : ℕ) (large : 20 ≤ size) (x : RecoveryResult) (old new : State) (back : IsWrittenBack sum x old new) where
+module _ (sum : List ℕ → ℕ) (size : ℕ) (large : 20 ≤ size) (x : RecoveryResult) (old new : State) (back : IsWrittenBack sum size x old new) where
   -- a recovery of the new state begins from the same place and the same pages: from the table, or from the snapshot from which that began
   abbrev pub BeginsThere : Type 0
   BeginsThere = (first : SnapshotModel) × BeginsFrom sum new.snapshots.file first × (first.stable ≡ x.model.stable) × (first.pages ≡ x.model.pages) × ((first ≡ x.model) ⊎ BeginsFrom sum old.snapshots.file first)

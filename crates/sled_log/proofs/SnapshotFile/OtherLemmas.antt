@@ -91,11 +91,16 @@ same_others file old kept ns same are = record {
   ascending = are.ascending;
 }
 
--- What removals leave.
+-- What removals of names leave.
 
 -- the file of a snapshot
 abbrev pub file_at : Trace → ℤ → Option (List ℕ)
 file_at h n = (state_of h).snapshots.file n
+
+-- names, once these were removed
+abbrev pub all_unnamed : NamesState → List ℤ → NamesState
+all_unnamed s [] = s
+all_unnamed s (n ∷ ns) = all_unnamed (unnamed s n true) ns
 
 abbrev left_of : Bool → Option (List ℕ) → Option (List ℕ)
 left_of gone file = if gone then None else file
@@ -117,41 +122,56 @@ still_none true file none = refl
 still_none false file none = none
 
 -- one removal
-stays_at : (h : Trace) (m n : ℤ) → m ≢ n → file_at (SnapshotRemoved m true ∷ h) n ≡ file_at h n
-stays_at h m n other =
-    unnamed_file (state_of h).snapshots m n true
-    ∙ ap (λ (b : Bool). left_of b (file_at h n)) (and_false (is_some (file_at h m)) (int_eq m n) (other_name m n other))
+stays_at : (s : NamesState) (m n : ℤ) → m ≢ n → (unnamed s m true).file n ≡ s.file n
+stays_at s m n other =
+    unnamed_file s m n true
+    ∙ ap (λ (b : Bool). left_of b (s.file n)) (and_false (is_some (s.file m)) (int_eq m n) (other_name m n other))
 
-missing_at : (h : Trace) (m n : ℤ) → file_at h n ≡ None → file_at (SnapshotRemoved m true ∷ h) n ≡ None
-missing_at h m n none = unnamed_file (state_of h).snapshots m n true ∙ still_none (is_some (file_at h m) && int_eq m n) (file_at h n) none
+missing_at : (s : NamesState) (m n : ℤ) → s.file n ≡ None → (unnamed s m true).file n ≡ None
+missing_at s m n none = unnamed_file s m n true ∙ still_none (is_some (s.file m) && int_eq m n) (s.file n) none
 
 gone_if_there : (file : Option (List ℕ)) → left_of (is_some file && true) file ≡ None
 gone_if_there None = refl
 gone_if_there (Some bytes) = refl
 
-gone_at : (h : Trace) (n : ℤ) → file_at (SnapshotRemoved n true ∷ h) n ≡ None
-gone_at h n =
-    unnamed_file (state_of h).snapshots n n true
-    ∙ ap (λ (b : Bool). left_of (is_some (file_at h n) && b) (file_at h n)) (same_name n n refl)
-    ∙ gone_if_there (file_at h n)
+gone_at : (s : NamesState) (n : ℤ) → (unnamed s n true).file n ≡ None
+gone_at s n =
+    unnamed_file s n n true
+    ∙ ap (λ (b : Bool). left_of (is_some (s.file n) && b) (s.file n)) (same_name n n refl)
+    ∙ gone_if_there (s.file n)
 
 -- any number of them
-pub missing_after : (n : ℤ) (ns : List ℤ) (h : Trace) → file_at h n ≡ None → file_at (after_all (removing ns) h) n ≡ None
-missing_after n [] h none = none
-missing_after n (m ∷ ns) h none = missing_after n ns (SnapshotRemoved m true ∷ h) (missing_at h m n none)
+pub missing_from : (n : ℤ) (ns : List ℤ) (s : NamesState) → s.file n ≡ None → (all_unnamed s ns).file n ≡ None
+missing_from n [] s none = none
+missing_from n (m ∷ ns) s none = missing_from n ns (unnamed s m true) (missing_at s m n none)
 
-pub gone_after : (n : ℤ) (ns : List ℤ) (h : Trace) → Contains ns n → file_at (after_all (removing ns) h) n ≡ None
-gone_after n [] h there = absurd (contains_none n there)
-gone_after n (m ∷ ns) h there = elim (contains_one_of m n ns there) [
-  | inl same ↦ missing_after n ns (SnapshotRemoved m true ∷ h) (subst (λ (k : ℤ). file_at (SnapshotRemoved k true ∷ h) n ≡ None) (sym same) (gone_at h n))
-  | inr rest ↦ gone_after n ns (SnapshotRemoved m true ∷ h) rest
+pub gone_from : (n : ℤ) (ns : List ℤ) (s : NamesState) → Contains ns n → (all_unnamed s ns).file n ≡ None
+gone_from n [] s there = absurd (contains_none n there)
+gone_from n (m ∷ ns) s there = elim (contains_one_of m n ns there) [
+  | inl same ↦ missing_from n ns (unnamed s m true) (subst (λ (k : ℤ). (unnamed s k true).file n ≡ None) (sym same) (gone_at s n))
+  | inr rest ↦ gone_from n ns (unnamed s m true) rest
 ]
 
+pub kept_from : (n : ℤ) (ns : List ℤ) (s : NamesState) → (Contains ns n → ⊥) → (all_unnamed s ns).file n ≡ s.file n
+kept_from n [] s others = refl
+kept_from n (m ∷ ns) s others =
+    kept_from n ns (unnamed s m true) (λ there. others (contains_more m n ns there))
+    ∙ stays_at s m n (λ same. others (contains_head m n ns same))
+
+-- What removals of snapshots leave.
+
+removed_names : (ns : List ℤ) (h : Trace) → (state_of (after_all (removing ns) h)).snapshots ≡ all_unnamed (state_of h).snapshots ns
+removed_names [] h = refl
+removed_names (m ∷ ns) h = removed_names ns (SnapshotRemoved m true ∷ h)
+
+pub missing_after : (n : ℤ) (ns : List ℤ) (h : Trace) → file_at h n ≡ None → file_at (after_all (removing ns) h) n ≡ None
+missing_after n ns h none = ap (λ (s : NamesState). s.file n) (removed_names ns h) ∙ missing_from n ns (state_of h).snapshots none
+
+pub gone_after : (n : ℤ) (ns : List ℤ) (h : Trace) → Contains ns n → file_at (after_all (removing ns) h) n ≡ None
+gone_after n ns h there = ap (λ (s : NamesState). s.file n) (removed_names ns h) ∙ gone_from n ns (state_of h).snapshots there
+
 pub kept_after : (n : ℤ) (ns : List ℤ) (h : Trace) → (Contains ns n → ⊥) → file_at (after_all (removing ns) h) n ≡ file_at h n
-kept_after n [] h others = refl
-kept_after n (m ∷ ns) h others =
-    kept_after n ns (SnapshotRemoved m true ∷ h) (λ there. others (contains_more m n ns there))
-    ∙ stays_at h m n (λ same. others (contains_head m n ns same))
+kept_after n ns h others = ap (λ (s : NamesState). s.file n) (removed_names ns h) ∙ kept_from n ns (state_of h).snapshots others
 
 -- the log file and the blobs stay
 pub log_after : (ns : List ℤ) (h : Trace) → (state_of (after_all (removing ns) h)).log ≡ (state_of h).log

@@ -2,19 +2,22 @@
 use Rattle.std.proofs.Common.{◌≡◌, ◌≢◌, ◌∙◌, ◌≤◌, ◌<◌, ◌-◌, ◌≤ℤ◌, ◌^◌, ℕ, ℤ, suc, pos, negsuc, Bool, true, false, if◌then◌else◌, List, [], ◌∷◌, ◌++◌, length, replicate, Option, Some, None, refl, sym, ap, subst, arith, inl, inr}
 use Rattle.std.specs.List.{Contains}
 use Rattle.std.proofs.lemmas.Bool.Decides.{nat_tests}
+use Rattle.std.proofs.lemmas.List.{append-nil}
 use Rattle.sled_codec.specs.History.{History, below}
 use Rattle.sled_codec.specs.Snapshots.{SnapshotModel, FitsSnapshot, stable_place}
 use Rattle.sled_store.specs.Device.{Event, Synced, NamesSynced, Trace, NamesState, Temporary, State, state_of, content_of, unnamed, renamed, names_synced}
+use Rattle.sled_store.specs.Script.{after_all}
 use Rattle.sled_store.proofs.Traces.ScriptLemmas.{EndsIn, ends_in}
 use Rattle.sled_core.specs.Recoverable.{IsBegun, IsRecoverableInFirst, LeavesRecoverable, first_cut}
 use Rattle.sled_core.specs.Running.{CanBegin, NamesFit, NoBlobs}
 use Rattle.sled_core.proofs.Holds.CallMoments.{Reaches}
 use Rattle.sled_core.proofs.Read.FirstBegun.{first_cut_within}
 use Rattle.sled_log.specs.Recovery.{RecoveryResult, shred_range_of, is_beyond}
-use Rattle.sled_log.specs.WritesBack.{shredding, removing, publishing_file, publishing, writing_back, snapshot_number_of, short_file, AreOthers, HasWrittenBack}
-use Rattle.sled_log.proofs.Replay.FirstConclusion.{first_active, GoesOnIn, StaysIn, ConcludesIn}
+use Rattle.sled_log.specs.WritesBack.{shredding, removing, publishing_file, publishing, committing, writing_back, forgotten_from, snapshot_number_of, short_file, AreOthers, HasWrittenBack}
+use Rattle.sled_log.proofs.Replay.FirstConclusion.{first_active, GoesOnIn, StaysIn, ConcludesIn, all_read}
 use Rattle.sled_log.proofs.PageTable.BelowLemmas.{no_batches_below, begun_below, file_below, new_below, can_below}
 use Rattle.sled_log.proofs.WriteBack.MomentsLemmas.{tip_cases, reaches_cut, reaches_shredded, blobs_synced, resting, resting_kept}
+use Rattle.sled_log.proofs.WriteBack.ForgetLemmas.{nothing_forgotten}
 use Rattle.sled_log.proofs.SnapshotFile.PublishLemmas.{listed_below, IsNewTable, IsPublished, published_synced, published_removed, published_fit, settled_fit}
 use Rattle.sled_log.proofs.WriteBack.RecoveryMoments.{can_begin, settled_names, no_blobs, new_table, number_is}
 
@@ -116,7 +119,7 @@ module _ (sum : List ℕ → ℕ) (size : ℕ) (H : History) (A f : ℕ) (large 
           (blobs_synced (names_synced (state_of old).blobs) (no_blobs sum size H A f large small old is))
           (published_synced names (pos cut) bytes (settled_names sum size H A f large small old)))
 
-      goes_end : (x.is_new ≡ true → FitsSnapshot x.model) → (x.is_new ≡ true → AreOthers (state_of old).snapshots.file (snapshot_number_of x.model) ns) → EndsIn (IsCutOff sum size H A cut) (writing_back sum x ns) (settled_with (state_of old).log.bytes (state_of old).placed)
+      goes_end : (x.is_new ≡ true → FitsSnapshot x.model) → (x.is_new ≡ true → AreOthers (state_of old).snapshots.file (snapshot_number_of x.model) ns) → EndsIn (IsCutOff sum size H A cut) (committing sum x ns) (settled_with (state_of old).log.bytes (state_of old).placed)
       goes_end fits are =
           let es : List Event = if x.is_new then publishing sum x.model ns else [] in
           subst (λ (shred_range : Option (ℕ × ℕ)). EndsIn (IsCutOff sum size H A cut) (shredding shred_range ++ es) (settled_with (state_of old).log.bytes (state_of old).placed)) (sym goes.shred_range)
@@ -130,13 +133,21 @@ module _ (sum : List ℕ → ℕ) (size : ℕ) (H : History) (A f : ℕ) (large 
               unpublished_end cut (omega (arith, least, goes.begun.not_below)) new placed reaches
 
     -- Where all was written back, all is cut off at the place of the table.
-    pub cut_off_after : ConcludesIn sum size (content_of (state_of old)) H A is.first x → (x.is_new ≡ true → FitsSnapshot x.model) → (new : Trace) → HasWrittenBack sum x (NamesSynced ∷ Synced ∷ old) new
+    pub cut_off_after : ConcludesIn sum size (content_of (state_of old)) H A is.first x → (x.is_new ≡ true → FitsSnapshot x.model) → (new : Trace) → HasWrittenBack sum size x (NamesSynced ∷ Synced ∷ old) new
         → IsCutOff sum size H A (stable_place x.model.stable) (state_of new)
-    cut_off_after concludes fits new (ns, are, came) =
-        subst (λ (h : Trace). IsCutOff sum size H A (stable_place x.model.stable) (state_of h)) (sym came) (ends_in (IsCutOff sum size H A (stable_place x.model.stable)) (writing_back sum x ns) (NamesSynced ∷ Synced ∷ old) (ends concludes))
+    cut_off_after concludes fits new (ns, are, places, from, came) =
+        subst (λ (h : Trace). IsCutOff sum size H A (stable_place x.model.stable) (state_of h)) (sym (came ∙ ap (λ (es : List Event). after_all es (NamesSynced ∷ Synced ∷ old)) no_more))
+        (ends_in (IsCutOff sum size H A (stable_place x.model.stable)) (committing sum x ns) (NamesSynced ∷ Synced ∷ old) (ends concludes))
       where
-        ends : ConcludesIn sum size (content_of (state_of old)) H A is.first x → EndsIn (IsCutOff sum size H A (stable_place x.model.stable)) (writing_back sum x ns) (settled_with (state_of old).log.bytes (state_of old).placed)
-        ends (inl stays) = subst (λ (y : RecoveryResult). EndsIn (IsCutOff sum size H A (stable_place y.model.stable)) (writing_back sum y ns) (settled_with (state_of old).log.bytes (state_of old).placed)) (sym stays.is) (stays_end stays)
+        -- nothing is to be forgotten
+        no_more : writing_back sum size x ns places ≡ committing sum x ns
+        no_more =
+            ap (λ (es : List Event). committing sum x ns ++ es)
+            (nothing_forgotten size x.unread (all_read sum size (content_of (state_of old)) H A is.first x concludes) (state_of old).blobs.file is.segment.blobs (forgotten_from x.model) places (inr from))
+            ∙ append-nil (committing sum x ns)
+
+        ends : ConcludesIn sum size (content_of (state_of old)) H A is.first x → EndsIn (IsCutOff sum size H A (stable_place x.model.stable)) (committing sum x ns) (settled_with (state_of old).log.bytes (state_of old).placed)
+        ends (inl stays) = subst (λ (y : RecoveryResult). EndsIn (IsCutOff sum size H A (stable_place y.model.stable)) (committing sum y ns) (settled_with (state_of old).log.bytes (state_of old).placed)) (sym stays.is) (stays_end stays)
         ends (inr goes) =
             let place : stable_place x.model.stable ≡ first_cut size goes.begun.stop = ap stable_place goes.stable in
-            subst (λ n. EndsIn (IsCutOff sum size H A n) (writing_back sum x ns) (settled_with (state_of old).log.bytes (state_of old).placed)) (sym place) (goes_end goes ns fits are)
+            subst (λ n. EndsIn (IsCutOff sum size H A n) (committing sum x ns) (settled_with (state_of old).log.bytes (state_of old).placed)) (sym place) (goes_end goes ns fits are)

@@ -1,5 +1,5 @@
 -- Behind a recovery of a content all of whose log is in its first segment, snapshot and device are ready for a log that holds what lies below the cut.
-use Rattle.std.proofs.Common.{◌≡◌, ◌∙◌, ◌≤◌, ◌<◌, ◌+◌, ◌-◌, ◌%◌, ◌^◌, ℕ, pos, Bool, true, false, nat_lt, if◌then◌else◌, List, [], length, replicate, Option, Some, None, MatchOption, refl, sym, ap, subst, arith, inl, inr}
+use Rattle.std.proofs.Common.{◌≡◌, ◌∙◌, ◌≤◌, ◌<◌, ◌+◌, ◌-◌, ◌%◌, ◌^◌, ℕ, pos, Bool, true, false, nat_lt, if◌then◌else◌, List, [], length, replicate, Option, Some, None, refl, sym, ap, subst, arith, inl, inr}
 use Rattle.std.specs.List.{All}
 use Rattle.std.proofs.Math.Nat.{mod-eq_of_lt}
 use Rattle.std.proofs.lemmas.Bool.Decides.{nat_tests}
@@ -18,7 +18,7 @@ use Rattle.sled_core.proofs.Flush.LogFileLemmas.{stand_grows}
 use Rattle.sled_core.proofs.Torn.TornZeros.{zeros_short}
 use Rattle.sled_log.specs.Orderly.{IsOrderly}
 use Rattle.sled_log.specs.Recovery.{RecoveryResult, unchanged, shred_range_of}
-use Rattle.sled_log.specs.WritesBack.{IsWrittenBack}
+use Rattle.sled_log.specs.WritesBack.{IsWrittenBack, after_shredding, after_zeroing}
 use Rattle.sled_log.proofs.WriteBack.AfterRecovery.{IsCutOff}
 use Rattle.sled_log.proofs.PageTable.BelowLemmas.{drops_high, no_batches_below, messages_below}
 use Rattle.sled_log.proofs.Replay.FirstConclusion.{first_active, GoesOnIn, StaysIn, ConcludesIn}
@@ -126,11 +126,12 @@ module _ (sum : List ℕ → ℕ) (size : ℕ) (old new : State) (H : History) (
       λ i. record { stable = stable i; active = active_is i; pages = x.model.pages }
 
   -- and the rest of the segment was filled
-  filled : IsWrittenBack sum x (step NamesSynced (step Synced old)) new → new.log ≡ at_rest (shredded size log first_site stop)
+  filled : IsWrittenBack sum size x (step NamesSynced (step Synced old)) new → new.log ≡ at_rest (shredded size log first_site stop)
   filled back =
       let cut_place : cut % size ≡ stop = ap (λ n. n % size) within.1 ∙ offset in
       let shred_range : x.shred_range ≡ Some (first_site.slot + stop, size - stop) = goes.shred_range ∙ ap (shred_range_of size cut) within.2 ∙ ap (λ n. Some (first_site.slot + n, size - n)) cut_place in
-      subst (λ (t : Option (ℕ × ℕ)). MatchOption t (new.log ≡ at_rest log) (λ shred_range. new.log ≡ at_rest (overwritten log shred_range.0 (replicate shred_range.1 0)))) shred_range back.log
+      let shredded_only : new.log ≡ after_shredding x.shred_range (at_rest log) = back.log ∙ ap (λ (slots : List ℕ). after_zeroing size slots (after_shredding x.shred_range (at_rest log))) goes.unread in
+      subst (λ (t : Option (ℕ × ℕ)). new.log ≡ after_shredding t (at_rest log)) shred_range shredded_only
 
   filled_short : length (shredded size log first_site stop) ≤ size
   filled_short =
@@ -150,7 +151,7 @@ module _ (sum : List ℕ → ℕ) (size : ℕ) (old new : State) (H : History) (
       subst (λ (l : List Message). StandIn sum size log first_site 20 l stop) (sym own) goes.begun.stand
 
   -- the log goes on behind the messages
-  goes_on_ready : IsWrittenBack sum x (step NamesSynced (step Synced old)) new → BeginsAgain sum old.snapshots.file new x.model → IsReady sum size new x.model (below H cut)
+  goes_on_ready : IsWrittenBack sum size x (step NamesSynced (step Synced old)) new → BeginsAgain sum old.snapshots.file new x.model → IsReady sum size new x.model (below H cut)
   goes_on_ready back again =
       let begins : BeginsFrom sum new.snapshots.file x.model = begins_with sum old.snapshots.file new x.model is.first is.snapshots.begins again same_first in
       let table : IsTable x.model.pages (below H cut) end = subst (IsTable x.model.pages (below H cut)) at_end ((table_below H cut x.model.pages).1 goes.table) in
@@ -158,7 +159,7 @@ module _ (sum : List ℕ → ℕ) (size : ℕ) (old new : State) (H : History) (
       (segment_ready sum size log first_site stop (below H cut) long (omega (arith, room)) (zero_mod size) goes.begun.header own_stand (no_batches_below H cut is.segment.batches) x.model.pages table new (filled back)
       (subst (λ (s : SnapshotModel). BeginsFrom sum new.snapshots.file s) shot_is begins))
 
-  goes_ready : IsWrittenBack sum x (step NamesSynced (step Synced old)) new → BeginsAgain sum old.snapshots.file new x.model → IsCutOff sum size H A (stable_place x.model.stable) new
+  goes_ready : IsWrittenBack sum size x (step NamesSynced (step Synced old)) new → BeginsAgain sum old.snapshots.file new x.model → IsCutOff sum size H A (stable_place x.model.stable) new
       → IsReadyFor sum size new x.model (below H (stable_place x.model.stable)) A (stable_place x.model.stable)
   goes_ready back again off = record {
     ready = subst (λ n. IsReady sum size new x.model (below H n)) (sym place_is) (goes_on_ready back again);
@@ -175,10 +176,10 @@ module _ (sum : List ℕ → ℕ) (size : ℕ) (old new : State) (H : History) (
   -- ready for what lies below the place of a snapshot, with that for the floor
   abbrev ReadyWith : RecoveryResult → Type 0
   ReadyWith y =
-      IsWrittenBack sum y (step NamesSynced (step Synced old)) new → IsCutOff sum size H A (stable_place y.model.stable) new
+      IsWrittenBack sum size y (step NamesSynced (step Synced old)) new → IsCutOff sum size H A (stable_place y.model.stable) new
       → IsReadyFor sum size new y.model (below H (stable_place y.model.stable)) A (stable_place y.model.stable)
 
-  unbegun_kept : IsUnbegun sum size old.log.bytes A (stable_place is.first.stable) → ReadyWith (unchanged is.first)
+  unbegun_kept : IsUnbegun sum size old.log.bytes A (stable_place is.first.stable) → ReadyWith (unchanged is.first [])
   unbegun_kept unbegun back off =
       let place : ℕ = stable_place is.first.stable in
       let none : is.first.active ≡ None = none_active size place is.first.active unbegun.at_first is.snapshots.active in
@@ -202,7 +203,7 @@ module _ (sum : List ℕ → ℕ) (size : ℕ) (old new : State) (H : History) (
 
 -- All was written back, and the cut lies within the first segment: snapshot and device are ready for what lies below it, with it for the floor.
 pub ready_after : (sum : List ℕ → ℕ) (size : ℕ) (old new : State) (H : History) (A f : ℕ) → 256 ≤ size → size < 2 ^ 63 → IsOrderly H → (is : IsRecoverableInFirst sum size (content_of old) H A f)
-    → (x : RecoveryResult) → ConcludesIn sum size (content_of old) H A is.first x → IsWrittenBack sum x (step NamesSynced (step Synced old)) new → BeginsAgain sum old.snapshots.file new x.model
+    → (x : RecoveryResult) → ConcludesIn sum size (content_of old) H A is.first x → IsWrittenBack sum size x (step NamesSynced (step Synced old)) new → BeginsAgain sum old.snapshots.file new x.model
     → IsCutOff sum size H A (stable_place x.model.stable) new → stable_place x.model.stable < size → Ready sum size new x.model (below H (stable_place x.model.stable)) A (stable_place x.model.stable)
 unfolding Ready
 ready_after sum size old new H A f some small orderly is x concludes back again off less = elim concludes [

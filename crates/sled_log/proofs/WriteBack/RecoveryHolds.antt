@@ -1,5 +1,5 @@
 -- What a recovery does for a history, where it can go on from each content that a crash leaves: it keeps that at each moment, meets no damage, and gives a good snapshot.
-use Rattle.std.proofs.Common.{◌≡◌, ◌⊎◌, ◌∷◌, ◌≤◌, ◌<◌, ◌^◌, ℕ, true, List, Option, Some, None, MatchOption, length, replicate, ap, arith, inl, inr}
+use Rattle.std.proofs.Common.{◌≡◌, ◌∙◌, ◌∷◌, ◌≤◌, ◌<◌, ◌^◌, ℕ, true, List, Option, Some, None, ap}
 use Rattle.sled_codec.specs.History.{History, below}
 use Rattle.sled_codec.specs.Snapshots.{FitsSnapshot, stable_place}
 use Rattle.sled_store.specs.Device.{Trace, LogState, state_of, content_of, Synced, NamesSynced, at_rest, overwritten}
@@ -11,9 +11,9 @@ use Rattle.sled_core.specs.Running.{Ready}
 use Rattle.sled_core.proofs.Read.FirstSegment.{first_part}
 use Rattle.sled_log.specs.Recovery.{RecoveryResult, Recovered, Damaged, Recovers}
 use Rattle.sled_log.specs.Orderly.{CanRecover}
-use Rattle.sled_log.specs.WritesBack.{IsWrittenBack, HasWrittenBack}
+use Rattle.sled_log.specs.WritesBack.{IsWrittenBack, HasWrittenBack, after_shredding, after_zeroing}
 use Rattle.sled_log.specs.Restores.{RecoveryCalls}
-use Rattle.sled_log.proofs.Replay.FirstConclusion.{ConcludesIn}
+use Rattle.sled_log.proofs.Replay.FirstConclusion.{ConcludesIn, all_read}
 use Rattle.sled_log.proofs.Replay.FirstRecovers.{concludes_in}
 use Rattle.sled_log.proofs.Replay.FirstUndamaged.{not_damaged}
 use Rattle.sled_log.proofs.Replay.GoodLemmas.{IsLeftBy, good_written}
@@ -23,7 +23,7 @@ use Rattle.sled_log.proofs.WriteBack.ReadyAfter.{ready_after}
 use Rattle.sled_log.proofs.WriteBack.RestartLemmas.{BeginsAgain}
 
 -- the bytes of a log file that was written back
-left_by : (old new : LogState) (shred_range : Option (ℕ × ℕ)) → MatchOption shred_range (new ≡ at_rest old.bytes) (λ t. new ≡ at_rest (overwritten old.bytes t.0 (replicate t.1 0))) → IsLeftBy old.bytes new.bytes shred_range
+left_by : (old new : LogState) (shred_range : Option (ℕ × ℕ)) → new ≡ after_shredding shred_range (at_rest old.bytes) → IsLeftBy old.bytes new.bytes shred_range
 left_by old new None is = ap (λ (s : LogState). s.bytes) is
 left_by old new (Some t) is = ap (λ (s : LogState). s.bytes) is
 
@@ -37,19 +37,22 @@ module _ (sum : List ℕ → ℕ) (size : ℕ) (large : 256 ≤ size) (small : s
   holds_throughout new calls = recovery_throughout sum size H A f old new large small can.left can.own (λ is x recovers. concludes_in sum size (content_of (state_of old)) H A f large small can.orderly is x recovers) calls
 
   -- no damage is met
-  pub meets_no_damage : (size < length (state_of old).log.bytes) ⊎ Recovers sum size (content_of (state_of old)) Damaged → ⊥
-  meets_no_damage (inl long) = let short = in_first.segment.short in omega (arith, long, short)
-  meets_no_damage (inr damaged) = not_damaged sum size (content_of (state_of old)) H A f large small can.orderly in_first damaged
+  pub meets_no_damage : Recovers sum size (content_of (state_of old)) Damaged → ⊥
+  meets_no_damage damaged = not_damaged sum size (content_of (state_of old)) H A f large small can.orderly in_first damaged
 
   -- Where it succeeded.
   module _ (new : Trace) (x : RecoveryResult) (recovers : Recovers sum size (content_of (state_of old)) (Recovered x))
-      (written : IsWrittenBack sum x (state_of (NamesSynced ∷ Synced ∷ old)) (state_of new)) (made : HasWrittenBack sum x (NamesSynced ∷ Synced ∷ old) new) (fits : x.is_new ≡ true → FitsSnapshot x.model) where
+      (written : IsWrittenBack sum size x (state_of (NamesSynced ∷ Synced ∷ old)) (state_of new)) (made : HasWrittenBack sum size x (NamesSynced ∷ Synced ∷ old) new) (fits : x.is_new ≡ true → FitsSnapshot x.model) where
     pub concludes : ConcludesIn sum size (content_of (state_of old)) H A in_first.first x
     concludes = concludes_in sum size (content_of (state_of old)) H A f large small can.orderly in_first x recovers
 
+    -- no segment was overwritten
+    shredded_only : (state_of new).log ≡ after_shredding x.shred_range (at_rest (state_of old).log.bytes)
+    shredded_only = written.log ∙ ap (λ (slots : List ℕ). after_zeroing size slots (after_shredding x.shred_range (at_rest (state_of old).log.bytes))) (all_read sum size (content_of (state_of old)) H A in_first.first x concludes)
+
     -- the snapshot is good for the content that is left
     pub is_good : IsGood sum size (content_of (state_of new)) H A f x.model
-    is_good = good_written sum size (content_of (state_of old)) (content_of (state_of new)) H A f large small can.orderly in_first x concludes (left_by (state_of old).log (state_of new).log x.shred_range written.log)
+    is_good = good_written sum size (content_of (state_of old)) (content_of (state_of new)) H A f large small can.orderly in_first x concludes (left_by (state_of old).log (state_of new).log x.shred_range shredded_only)
 
     -- what lies past its place is forgotten
     pub is_cut_off : IsCutOff sum size H A (stable_place x.model.stable) (state_of new)

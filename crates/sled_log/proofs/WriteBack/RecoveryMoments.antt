@@ -11,7 +11,8 @@ use Rattle.sled_store.specs.Device.{Event, Synced, NamesSynced, Trace, State, st
 use Rattle.sled_store.specs.Durable.{IsSettledName}
 use Rattle.sled_store.specs.Foreign.{NoForeignLog}
 use Rattle.sled_store.specs.Moments.{LeavesOnly}
-use Rattle.sled_store.specs.Script.{Along}
+use Rattle.sled_store.specs.Blobs.{MayGo}
+use Rattle.sled_store.specs.Script.{Along, Performs}
 use Rattle.sled_store.proofs.LogFile.LogLemmas.{at_rest_left}
 use Rattle.sled_store.proofs.Names.NamesLemmas.{settled_name_synced}
 use Rattle.sled_store.proofs.Traces.ScriptLemmas.{performs_throughout}
@@ -24,9 +25,11 @@ use Rattle.sled_core.proofs.Read.FirstSegment.{first_part}
 use Rattle.sled_core.proofs.Flush.LogFileLemmas.{stand_grows}
 use Rattle.sled_log.specs.Recovery.{RecoveryResult, Recovered, Recovers}
 use Rattle.sled_log.specs.Restores.{RecoveryCalls}
-use Rattle.sled_log.specs.WritesBack.{shredding, removing, publishing_file, publishing, writing_back, snapshot_number_of, short_file, MayBeRemoved, WritesBehind}
-use Rattle.sled_log.proofs.Replay.FirstConclusion.{first_active, GoesOnIn, ConcludesIn}
+use Rattle.sled_log.specs.WritesBack.{shredding, removing, publishing_file, publishing, committing, writing_back, forgotten_from, snapshot_number_of, short_file, MayBeRemoved, FitsIfNew, WritesBehind}
+use Rattle.sled_log.proofs.Replay.FirstConclusion.{first_active, GoesOnIn, ConcludesIn, all_read}
 use Rattle.sled_log.proofs.WriteBack.MomentsLemmas.{at_place, resting, resting_kept, none_synced, publishing_along, shredding_along}
+use Rattle.sled_store.proofs.Segments.Elements.{in_nothing}
+use Rattle.sled_log.proofs.WriteBack.ForgetLemmas.{nothing_forgotten}
 use Rattle.sled_log.proofs.SnapshotFile.PublishLemmas.{IsNewTable, settled_fit}
 
 -- The table that is concluded.
@@ -67,6 +70,12 @@ module _ (sum : List ℕ → ℕ) (size : ℕ) (log : List ℕ) (H : History) (A
   -- under the place where it ends
   pub number_is : snapshot_number_of x.model ≡ pos cut_of
   number_is = ap (λ (o : Option ℤ). unwrap_or o (pos 0)) goes.stable
+
+-- where no table is new, nothing is published, whichever snapshots there are
+none_published : (sum : List ℕ → ℕ) (x : RecoveryResult) → x.is_new ≡ false → (ns ms : List ℤ) → committing sum x ns ≡ committing sum x ms
+none_published sum x is_old ns ms =
+    ap (λ (b : Bool). shredding x.shred_range ++ (if b then publishing sum x.model ns else [])) is_old
+    ∙ ap (λ (b : Bool). shredding x.shred_range ++ (if b then publishing sum x.model ms else [])) (sym is_old)
 
 -- what may be removed is not the one that is kept
 removed_apart : (file : ℤ → Option (List ℕ)) (kept : ℤ) (ns : List ℤ) → MayBeRemoved file kept ns → (n : ℤ) → Contains ns n → n ≢ kept
@@ -127,7 +136,7 @@ module _ (sum : List ℕ → ℕ) (size : ℕ) (H : History) (A f : ℕ) (large 
         resting_kept sum size H A f large small is.segment.batches (state_of old).log.bytes (names_synced (state_of old).blobs) (names_synced (state_of old).snapshots) (state_of old).temporary (state_of old).placed
         (stable_place is.first.stable) reaches_first no_blobs (names_fit (stable_place is.first.stable) (omega arith))
 
-    module _ (x : RecoveryResult) (ns : List ℤ) (may : MayBeRemoved (state_of old).snapshots.file (snapshot_number_of x.model) ns) where
+    module _ (x : RecoveryResult) (ns : List ℤ) (apart : (n : ℤ) → Contains ns n → n ≢ snapshot_number_of x.model) where
       -- Where it goes on, the calls that fill the rest of the segment come first.
       module _ (goes : GoesOnIn sum size (state_of old).log.bytes H A is.first x) where
         -- where the new table ends
@@ -152,23 +161,23 @@ module _ (sum : List ℕ → ℕ) (size : ℕ) (H : History) (A f : ℕ) (large 
         published_along : FitsSnapshot x.model → (new : List ℕ) (placed : List (ℕ × List ℕ)) → Reaches sum size new H A cut → Along Kept (publishing sum x.model ns) (settled_with new placed)
         published_along fits new placed reaches =
             let number : snapshot_number_of x.model ≡ pos cut = number_is sum size (state_of old).log.bytes H A is.first x some goes in
-            let apart : (n : ℤ) → Contains ns n → n ≢ pos cut = λ n there. subst (λ (k : ℤ). n ≢ k) number (removed_apart (state_of old).snapshots.file (snapshot_number_of x.model) ns may n there) in
+            let apart_there : (n : ℤ) → Contains ns n → n ≢ pos cut = λ n there. subst (λ (k : ℤ). n ≢ k) number (apart n there) in
             subst (λ (k : ℤ). Along Kept (publishing_file (short_file sum x.model) k ++ removing ns) (settled_with new placed)) (sym number)
             (publishing_along sum size H A f large small is.segment.batches cut x.model (new_table sum size (state_of old).log.bytes H A is.first x some goes fits) (state_of old).snapshots.file (can_begin cut goes.begun.not_below) new reaches
-            ns (names_synced (state_of old).blobs) (names_synced (state_of old).snapshots) (state_of old).temporary placed refl settled_names apart no_blobs)
+            ns (names_synced (state_of old).blobs) (names_synced (state_of old).snapshots) (state_of old).temporary placed refl settled_names apart_there no_blobs)
 
-        goes_along : (x.is_new ≡ true → FitsSnapshot x.model) → Along Kept (writing_back sum x ns) settled
+        goes_along : (x.is_new ≡ true → FitsSnapshot x.model) → Along Kept (committing sum x ns) settled
         goes_along fits = filled_along (if x.is_new then publishing sum x.model ns else []) (λ new placed reaches. by new placed reaches x.is_new refl)
           where
             by : (new : List ℕ) (placed : List (ℕ × List ℕ)) → Reaches sum size new H A cut → (b : Bool) → x.is_new ≡ b → Along Kept (if b then publishing sum x.model ns else []) (settled_with new placed)
             by new placed reaches true is_new = published_along (fits is_new) new placed reaches
             by new placed reaches false is_new = kept_there new placed reaches
 
-      -- So all calls keep it, and so do those alone that fill the rest of the segment.
+      -- So all calls keep it that commit the table, and so do those alone that fill the rest of the segment.
 
-      pub writing_along : ConcludesIn sum size (content_of (state_of old)) H A is.first x → (x.is_new ≡ true → FitsSnapshot x.model) → Along Kept (writing_back sum x ns) settled
-      writing_along (inl stays) fits = subst (λ (y : RecoveryResult). Along Kept (writing_back sum y ns) settled) (sym stays.is) settled_kept
-      writing_along (inr goes) fits = goes_along goes fits
+      pub committing_along : ConcludesIn sum size (content_of (state_of old)) H A is.first x → FitsIfNew x → Along Kept (committing sum x ns) settled
+      committing_along (inl stays) fits = subst (λ (y : RecoveryResult). Along Kept (committing sum y ns) settled) (sym stays.is) settled_kept
+      committing_along (inr goes) fits = goes_along goes fits
 
       pub filling_along : ConcludesIn sum size (content_of (state_of old)) H A is.first x → Along Kept (shredding x.shred_range) settled
       filling_along (inl stays) = subst (λ (y : RecoveryResult). Along Kept (shredding y.shred_range) settled) (sym stays.is) settled_kept
@@ -186,19 +195,36 @@ module _ (sum : List ℕ → ℕ) (size : ℕ) (H : History) (A f : ℕ) (large 
       pub settling_along : Along Kept (Synced ∷ NamesSynced ∷ []) (state_of old)
       settling_along = settling_then [] (settled_kept is) (settled_kept is)
 
-      module _ (x : RecoveryResult) (concludes : ConcludesIn sum size (content_of (state_of old)) H A is.first x) (ns : List ℤ) (may : MayBeRemoved (state_of old).snapshots.file (snapshot_number_of x.model) ns) where
-        -- all calls
-        pub recovery_along : (x.is_new ≡ true → FitsSnapshot x.model) → Along Kept (Synced ∷ NamesSynced ∷ writing_back sum x ns) (state_of old)
-        recovery_along fits = settling_then (writing_back sum x ns) (settled_kept is) (writing_along is x ns may concludes fits)
-
+      module _ (x : RecoveryResult) (concludes : ConcludesIn sum size (content_of (state_of old)) H A is.first x) where
         -- those up to the end of the filling, for a table that has no spelling
-        pub begun_along : Along Kept (Synced ∷ NamesSynced ∷ shredding x.shred_range) (state_of old)
-        begun_along = settling_then (shredding x.shred_range) (settled_kept is) (filling_along is x ns may concludes)
+        begun_along : Along Kept (Synced ∷ NamesSynced ∷ shredding x.shred_range) (state_of old)
+        begun_along = settling_then (shredding x.shred_range) (settled_kept is) (filling_along is x [] (λ n there. absurd (in_nothing n there)) concludes)
+
+        -- all that commit the table
+        committed_along : (ns : List ℤ) → ((n : ℤ) → Contains ns n → n ≢ snapshot_number_of x.model) → FitsIfNew x → Along Kept (Synced ∷ NamesSynced ∷ committing sum x ns) (state_of old)
+        committed_along ns apart fits = settling_then (committing sum x ns) (settled_kept is) (committing_along is x ns apart concludes fits)
+
+        -- nothing is to be forgotten, so that these are all calls
+        no_more : (places : List ℤ) → MayGo (state_of old).blobs.file (forgotten_from x.model) places → (ns : List ℤ) → writing_back sum size x ns places ≡ committing sum x ns
+        no_more places may ns =
+            ap (λ (es : List Event). committing sum x ns ++ es)
+            (nothing_forgotten size x.unread (all_read sum size (content_of (state_of old)) H A is.first x concludes) (state_of old).blobs.file is.segment.blobs (forgotten_from x.model) places may)
+            ∙ append-nil (committing sum x ns)
 
         -- as many of them as were made
-        pub behind_throughout : (new : Trace) → WritesBehind (Synced ∷ NamesSynced ∷ []) sum x ns old new → LeavesOnly (RecoverableIfOwn sum size H A f) old new
-        behind_throughout new (inl calls) = performs_throughout Kept (Synced ∷ NamesSynced ∷ shredding x.shred_range) old new calls begun_along
-        behind_throughout new (inr calls) = performs_throughout Kept (Synced ∷ NamesSynced ∷ writing_back sum x ns) old new calls.1 (recovery_along calls.0)
+        pub behind_throughout : (new : Trace) → WritesBehind (Synced ∷ NamesSynced ∷ []) sum size x old new → LeavesOnly (RecoverableIfOwn sum size H A f) old new
+        behind_throughout new (inl (inl calls)) = performs_throughout Kept (Synced ∷ NamesSynced ∷ shredding x.shred_range) old new calls begun_along
+        behind_throughout new (inl (inr (fits, ns, may, calls))) =
+            performs_throughout Kept (Synced ∷ NamesSynced ∷ committing sum x ns) old new calls (committed_along ns (removed_apart (state_of old).snapshots.file (snapshot_number_of x.model) ns may) fits)
+        behind_throughout new (inr (fits, ns, are, places, may, calls)) =
+            all_made x.is_new refl (subst (λ (es : List Event). Performs (Synced ∷ NamesSynced ∷ es) old new) (no_more places may ns) calls)
+          where
+            all_made : (b : Bool) → x.is_new ≡ b → Performs (Synced ∷ NamesSynced ∷ committing sum x ns) old new → LeavesOnly (RecoverableIfOwn sum size H A f) old new
+            all_made true is_new made =
+                performs_throughout Kept (Synced ∷ NamesSynced ∷ committing sum x ns) old new made (committed_along ns (removed_apart (state_of old).snapshots.file (snapshot_number_of x.model) ns (inr (are is_new))) fits)
+            all_made false is_old made =
+                performs_throughout Kept (Synced ∷ NamesSynced ∷ committing sum x []) old new (subst (λ (es : List Event). Performs (Synced ∷ NamesSynced ∷ es) old new) (none_published sum x is_old ns []) made)
+                (committed_along [] (λ n there. absurd (in_nothing n there)) fits)
 
 -- A recovery keeps at each moment what a crash leaves recoverable.
 pub recovery_throughout : (sum : List ℕ → ℕ) (size : ℕ) (H : History) (A f : ℕ) (old new : Trace) → 256 ≤ size → size < 2 ^ 63
@@ -209,5 +235,5 @@ recovery_throughout sum size H A f old new large small kept own concludes calls 
     let is : IsRecoverableInFirst sum size (content_of (state_of old)) H A f = first_part sum size (content_of (state_of old)) H A f (kept (content_of (state_of old)) (read_left old) own) in
     elim calls [
       | inl settling ↦ performs_throughout (LeavesRecoverable sum size H A f) (Synced ∷ NamesSynced ∷ []) old new settling (settling_along sum size H A f large small old kept own.log is)
-      | inr (x, recovers, ns, may, behind) ↦ behind_throughout sum size H A f large small old kept own.log is x (concludes is x recovers) ns may new behind
+      | inr (x, recovers, behind) ↦ behind_throughout sum size H A f large small old kept own.log is x (concludes is x recovers) new behind
     ]

@@ -1,5 +1,5 @@
 -- Where all of a history is on the device, recovery leaves snapshot and device ready for a log that holds it.
-use Rattle.std.proofs.Common.{◌≡◌, ◌∙◌, ◌≤◌, ◌<◌, ◌+◌, ◌-◌, ◌*◌, ◌/◌, ◌%◌, ◌||◌, ◌&&◌, ℕ, ℤ, pos, Bool, true, false, nat_lt, nat_le, if◌then◌else◌, List, [], ◌∷◌, ◌++◌, length, map, replicate, Option, Some, None, MatchOption, refl, sym, ap, subst, arith, inl, inr}
+use Rattle.std.proofs.Common.{◌≡◌, ◌∙◌, ◌≤◌, ◌<◌, ◌+◌, ◌-◌, ◌*◌, ◌/◌, ◌%◌, ◌||◌, ◌&&◌, ℕ, ℤ, pos, Bool, true, false, nat_lt, nat_le, if◌then◌else◌, List, [], ◌∷◌, ◌++◌, length, map, replicate, Option, Some, None, refl, sym, ap, subst, arith, inl, inr}
 use Rattle.std.specs.List.{All, Contains, filter}
 use Rattle.std.proofs.Math.Nat.{mod-add-div', div-eq_of_lt, add-mod_right}
 use Rattle.std.proofs.Math.Bool.{or-true}
@@ -14,21 +14,23 @@ use Rattle.sled_codec.specs.PageTables.{IsTable}
 use Rattle.sled_codec.specs.WellFormed.{IsWellFormed}
 use Rattle.sled_codec.specs.Snapshots.{SnapshotModel, stable_place}
 use Rattle.std.specs.Prelude.{Result, Ok, Err, IfOk, OnOk}
-use Rattle.sled_store.specs.Device.{State, LogState, Synced, NamesSynced, step, at_rest, content_of, overwritten}
+use Rattle.sled_core.specs.declared.logger.Log.{Log}
+use Rattle.sled_store.specs.Device.{Trace, State, LogState, state_of, Synced, NamesSynced, step, at_rest, content_of, overwritten}
 use Rattle.sled_store.specs.SnapshotFiles.{BeginsFrom}
 use Rattle.sled_core.specs.declared.iobuf.SegmentPosition.{SegmentPosition}
 use Rattle.sled_core.specs.declared.iterator.Segment.{Segment}
 use Rattle.sled_core.specs.Scan.{IsFoundSegment, IsMisplaced}
 use Rattle.sled_store.specs.Begin.{is_used, is_active}
 use Rattle.sled_core.specs.LogFile.{StandIn, StandsElsewhere, IsLogFile}
-use Rattle.sled_core.specs.Fits.{IsBegunFrom, IsKept}
+use Rattle.sled_core.specs.Fits.{IsBegunFrom, IsKept, fault_of, device_of, segment_size_of}
+use Rattle.sled_core.specs.Running.{Fits}
 use Rattle.sled_core.specs.Ready.{StandsUsed, HasFile, IsReady}
 use Rattle.sled_core.proofs.Read.ScanLemmas.{aligned_offset}
 use Rattle.sled_core.proofs.Flush.LogFileLemmas.{stands_some, stand_none}
 use Rattle.sled_core.proofs.Read.GivesLemmas.{StandsWhole, own_stands}
 use Rattle.sled_log.specs.Recovery.{RecoveryResult, Recovered, Damaged, Applied, applied, has_no_table, are_whole, table_of, unchanged, concluded, cut_of, is_filled, shred_range_of, is_beyond, least_place, ContinuesFrom, Recovers}
 pub use Rattle.sled_log.specs.Restores.{BeginsAgain}
-use Rattle.sled_log.specs.WritesBack.{IsWrittenBack}
+use Rattle.sled_log.specs.WritesBack.{IsWrittenBack, after_shredding, after_zeroing}
 use Rattle.sled_log.proofs.PageTable.FoldLemmas.{fold_all}
 use Rattle.sled_log.proofs.SnapshotFile.NewestLemmas.{chosen_well}
 use Rattle.sled_log.proofs.SnapshotFile.BeginLemmas.{one_begin}
@@ -38,6 +40,10 @@ use Rattle.sled_log.proofs.WriteBack.SegmentReady.{shredded, segment_ready}
 use Rattle.sled_log.proofs.Replay.OnlySegment.{IsOnlySegment, segment, slot_first, own_below, none_above}
 use Rattle.sled_log.proofs.Replay.KeptRecovers.{only_segment, own_all}
 use Rattle.sled_log.proofs.Replay.SegmentRecovers.{continues_from, stays_at, messages, given_is, concludes}
+
+-- a log file as it is left where a conclusion was written back
+abbrev IsLeftBy : ℕ → List ℕ → RecoveryResult → LogState → Type 0
+IsLeftBy size log x new = new ≡ after_zeroing size x.unread (after_shredding x.shred_range (at_rest log))
 
 -- a segment that is found where recovery succeeds is not misplaced
 none_misplaced : (sum : List ℕ → ℕ) (size : ℕ) (log : List ℕ) (blobs : ℤ → Option (List ℕ)) (first : SnapshotModel) (x : RecoveryResult) → ContinuesFrom sum size log blobs first (Recovered x) → (y : Segment) → IsFoundSegment sum size log (least_place size first) y → IsMisplaced size y → ⊥
@@ -210,8 +216,8 @@ module _ (sum : List ℕ → ℕ) (size : ℕ) (log : List ℕ) (snapshots : ℤ
         (table_of first.pages given_all) (table_there end (omega arith)) new log_is begins
 
     -- The snapshot is that of the filled segment or of the one that goes on.
-    module _ (x : RecoveryResult) (is : concluded size first given_all (cut_of size (found, end)) ≡ Recovered x)
-        (log_is : MatchOption x.shred_range (new.log ≡ at_rest log) (λ shred_range. new.log ≡ at_rest (overwritten log shred_range.0 (replicate shred_range.1 0)))) (again : BeginsAgain sum snapshots new x.model) where
+    module _ (x : RecoveryResult) (is : concluded size first [] given_all (cut_of size (found, end)) ≡ Recovered x)
+        (log_is : IsLeftBy size log x new.log) (again : BeginsAgain sum snapshots new x.model) where
       -- where recovery would begin from the first snapshot again, its place is the cut
       from_first : (s : SnapshotModel) → x.model ≡ s → (first.stable ≡ s.stable → first.pages ≡ s.pages → first ≡ s) → BeginsFrom sum new.snapshots.file s
       from_first s same grown = begins_with sum snapshots new s first begun.begins (subst (λ (w : SnapshotModel). BeginsAgain sum snapshots new w) same again) grown
@@ -221,12 +227,13 @@ module _ (sum : List ℕ → ℕ) (size : ℕ) (log : List ℕ) (snapshots : ℤ
         model = record { stable = Some (pos cut.0); active = cut.1; pages = table_of first.pages given_all };
         shred_range = shred_range_of size cut.0 cut.1;
         is_new = is_beyond first.stable cut.0;
+        unread = [];
       }
 
       -- what was concluded, where this is the cut
       made_is : (cut : ℕ × Option ℕ) → cut_of size (found, end) ≡ cut → made_at cut ≡ x
       made_is cut at =
-          (chosen_well (has_no_table given_all) (nat_lt cut.0 c0) (are_whole (table_of first.pages given_all)) (made_at cut) x (ap (concluded size first given_all) (sym at) ∙ is)).1
+          (chosen_well (has_no_table given_all) (nat_lt cut.0 c0) (are_whole (table_of first.pages given_all)) (made_at cut) x (ap (concluded size first [] given_all) (sym at) ∙ is)).1
 
       not_full : first.stable ≡ Some (pos (site.place + size)) → ⊥
       not_full at =
@@ -239,7 +246,7 @@ module _ (sum : List ℕ → ℕ) (size : ℕ) (log : List ℕ) (snapshots : ℤ
       ready_filled at =
           let made = made_is (site.place + size, None) at in
           let model : x.model ≡ full_shot = ap (λ (y : RecoveryResult). y.model) (sym made) in
-          let logs : new.log ≡ at_rest log = subst (λ (t : Option (ℕ × ℕ)). MatchOption t (new.log ≡ at_rest log) (λ shred_range. new.log ≡ at_rest (overwritten log shred_range.0 (replicate shred_range.1 0)))) (ap (λ (y : RecoveryResult). y.shred_range) (sym made)) log_is in
+          let logs : new.log ≡ at_rest log = subst (λ (y : RecoveryResult). IsLeftBy size log y new.log) (sym made) log_is in
           subst (λ (w : SnapshotModel). IsReady sum size new w H) (sym model) (ready_full logs (from_first full_shot model (λ stable pages. absurd (not_full stable))))
 
       ready_going : from + 32 ≤ size → cut_of size (found, end) ≡ (end, Some site.slot) → IsReady sum size new x.model H
@@ -249,7 +256,7 @@ module _ (sum : List ℕ → ℕ) (size : ℕ) (log : List ℕ) (snapshots : ℤ
           let made = made_is (end, Some site.slot) at in
           let model : x.model ≡ tip_shot = ap (λ (y : RecoveryResult). y.model) (sym made) in
           let logs : new.log ≡ at_rest (overwritten log (site.slot + end % size) (replicate (size - end % size) 0)) =
-          subst (λ (t : Option (ℕ × ℕ)). MatchOption t (new.log ≡ at_rest log) (λ shred_range. new.log ≡ at_rest (overwritten log shred_range.0 (replicate shred_range.1 0)))) (ap (λ (y : RecoveryResult). y.shred_range) (sym made)) log_is in
+          subst (λ (y : RecoveryResult). IsLeftBy size log y new.log) (sym made) log_is in
           let grown : first.stable ≡ tip_shot.stable → first.pages ≡ tip_shot.pages → first ≡ tip_shot = λ stable pages.
           let c_is : c0 ≡ end = ap stable_place stable in
           let active : first.active ≡ Some site.slot = begun.active (omega (arith, ap (λ n. n % size) c_is, off, long)) in
@@ -266,7 +273,7 @@ module _ (sum : List ℕ → ℕ) (size : ℕ) (log : List ℕ) (snapshots : ℤ
             ready_going room (ap (λ (t : Bool). if t then (site.place + size, None) else (end, Some site.slot)) filled)
 
   -- Recovery leaves snapshot and device ready for a log that holds the history.
-  pub ready_after : (blobs : ℤ → Option (List ℕ)) (x : RecoveryResult) → Recovers sum size (record { log = log; blobs = blobs; snapshots = snapshots }) (Recovered x) → MatchOption x.shred_range (new.log ≡ at_rest log) (λ shred_range. new.log ≡ at_rest (overwritten log shred_range.0 (replicate shred_range.1 0)))
+  pub ready_after : (blobs : ℤ → Option (List ℕ)) (x : RecoveryResult) → Recovers sum size (record { log = log; blobs = blobs; snapshots = snapshots }) (Recovered x) → IsLeftBy size log x new.log
       → BeginsAgain sum snapshots new x.model → IsReady sum size new x.model H
   ready_after blobs x recovers log_is again =
       let on = continues_from sum size (record { log = log; blobs = blobs; snapshots = snapshots }) first x begun.begins recovers in
@@ -276,11 +283,17 @@ module _ (sum : List ℕ → ℕ) (size : ℕ) (log : List ℕ) (snapshots : ℤ
             ready_begun long x (concludes sum size log site from file.own (only long) first begun.least blobs x on) log_is again)
         | inr none ↦ (
             let unbegun : from ≡ 0 = omega (arith, none) in
-            let same : x ≡ unchanged first = stays_at sum size log blobs first (λ s is. file.alone unbegun s (subst (λ n. IsFoundSegment sum size log n s) begun.least is)) x on in
-            let logs : new.log ≡ at_rest log = subst (λ (t : Option (ℕ × ℕ)). MatchOption t (new.log ≡ at_rest log) (λ shred_range. new.log ≡ at_rest (overwritten log shred_range.0 (replicate shred_range.1 0)))) (ap (λ (y : RecoveryResult). y.shred_range) same) log_is in
+            let same : x ≡ unchanged first [] = stays_at sum size log blobs first (λ s is. file.alone unbegun s (subst (λ n. IsFoundSegment sum size log n s) begun.least is)) x on in
+            let logs : new.log ≡ at_rest log = subst (λ (y : RecoveryResult). IsLeftBy size log y new.log) same log_is in
             let begins : BeginsFrom sum new.snapshots.file first = begins_with sum snapshots new first first begun.begins (subst (λ (w : SnapshotModel). BeginsAgain sum snapshots new w) (ap (λ (y : RecoveryResult). y.model) same) again) (λ stable pages. refl) in
             subst (λ (w : SnapshotModel). IsReady sum size new w H) (sym (ap (λ (y : RecoveryResult). y.model) same)) (ready_first unbegun blobs x on logs begins))
       ]
+
+-- the log file of a log that fits a history is no longer than a segment, where it keeps no failure
+pub fits_short : {D C : Type 0} (trace : D → Trace) (sum : List ℕ → ℕ) (log : Log D C) (H : History) (A f : ℕ) (U : List Message) → Fits trace sum log H A f U → fault_of log ≡ None
+    → length (state_of (trace (device_of log))).log.bytes ≤ segment_size_of log
+unfolding Fits
+fits_short trace sum log H A f U fits none = fits.short none
 
 -- a state whose log file and names were settled
 abbrev pub state_settled : State → State
@@ -299,7 +312,7 @@ if_all (Err e) P Q R S follows p q log = tt
 -- The same, from what is kept on the device and what recovery says of its writes.
 pub ready_kept : (sum : List ℕ → ℕ) (size : ℕ) (site : SegmentPosition) (from : ℕ) (device new : State) (H : History) → IsKept sum size site from device H → IsWellFormed H → 256 ≤ size → length device.log.bytes ≤ size
     → (s : SnapshotModel) (x : RecoveryResult) → Recovers sum size (content_of device) (Recovered x) → s ≡ x.model
-    → IsWrittenBack sum x (state_settled device) new → BeginsAgain sum device.snapshots.file new s → IsReady sum size new s H
+    → IsWrittenBack sum size x (state_settled device) new → BeginsAgain sum device.snapshots.file new s → IsReady sum size new s H
 ready_kept sum size site from device new H kept formed some short s x recovers same back again =
     let log : List ℕ = device.log.bytes in
     let there : kept.on_device.log ≡ device.log.bytes = sym (ap (λ (l : LogState). l.bytes) kept.on_device.settled) in

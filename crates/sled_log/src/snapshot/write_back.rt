@@ -1,18 +1,24 @@
-//! What recovery writes back: zeros behind the cut, and a new snapshot (`specs/WritesBack.antt`).
-ghost use Rattle.std.specs.Prelude.{◌≡◌, ◌-◌, ◌/◌, ◌<◌, true, Some, OnOk};
+//! What recovery writes back: zeros behind the cut, a new snapshot, and then zeros over the segments that it didn't
+//! read, and no blob past the cut (`specs/WritesBack.antt`).
+//!
+//! The table is committed first. Only then is taken away what it doesn't have, so that a recovery that is cut off
+//! before finds all of it again.
+ghost use Rattle.std.specs.Prelude.{◌≡◌, ◌∷◌, [], length, replicate, OnOk};
 ghost use Rattle.sled_codec.specs.Errors.{IsCorruption};
 ghost use Rattle.sled_codec.specs.Snapshots.{model_of, FitsSnapshot};
-ghost use Rattle.sled_store.specs.Device.{state_of};
+ghost use Rattle.sled_store.specs.Device.{state_of, Wrote, Synced};
 ghost use Rattle.sled_store.specs.Script.{Performs, after_all};
 ghost use Rattle.sled_store.specs.Causes.{DeviceAnswers};
 ghost use Rattle.sled_core.specs.Keeps.{ConfigKept};
-ghost use Rattle.sled_log.specs.WritesBack.{result_of, range_of, shredding, HasPublished, Publishes, HasWrittenBack, WritesBack, IsWrittenBack};
+ghost use Rattle.sled_log.specs.WritesBack.{result_of, range_of, shredding, zeroing, HasPublished, Publishes, HasCommitted, CommitsBehind};
+ghost use Rattle.sled_log.specs.WritesBack.{HasForgotten, Forgets, HasWrittenBack, WritesBack, IsWrittenBack, FitsIfNew};
 
 use crate::snapshot::file::{encode_file, publish, remove_others};
 use crate::snapshot::recovery::{Recovery, ShredRange};
-use sled_codec::result::{Error, Result};
+use sled_codec::result::{Error, LogOffset, Lsn, Result};
 use sled_codec::serialization::snapshot::Snapshot;
 use sled_codec::serialization::{Checksum, Serialize};
+use sled_store::blob_io::gc_blobs;
 use sled_store::{Device, RunningConfig};
 
 /// Writes what a recovery leaves to be written.
@@ -20,11 +26,29 @@ pub(crate) fn write_back<D: Device, C: Checksum>(
     config: &mut RunningConfig<D, C>,
     recovery: &Recovery,
 ) -> Result<()>
-    ensures done { OnOk result (HasWrittenBack C.sum_of (result_of recovery.now) (D.trace config.old.device) (D.trace config.new.device)) }
+    ensures done { let size = config.old.config.segment_size in
+        OnOk result (HasWrittenBack C.sum_of size (result_of recovery.now) (D.trace config.old.device) (D.trace config.new.device)) }
     ensures written { let old = state_of (D.trace config.old.device) in let new = state_of (D.trace config.new.device) in
-        OnOk result (IsWrittenBack C.sum_of (result_of recovery.now) old new) }
-    ensures calls { WritesBack C.sum_of (result_of recovery.now) (D.trace config.old.device) (D.trace config.new.device) }
-    ensures fits { OnOk result (recovery.now.is_new ≡ true → FitsSnapshot (model_of recovery.now.snapshot)) }
+        OnOk result (IsWrittenBack C.sum_of config.old.config.segment_size (result_of recovery.now) old new) }
+    ensures calls { WritesBack C.sum_of config.old.config.segment_size (result_of recovery.now) (D.trace config.old.device) (D.trace config.new.device) }
+    ensures fits { OnOk result (FitsIfNew (result_of recovery.now)) }
+    ensures answers { DeviceAnswers result (D.faults config.old.device) (D.faults config.new.device) }
+    ensures readable { IsCorruption result → ⊥ }
+    ensures config { ConfigKept config.old config.new }
+{
+    commit(config, recovery)?;
+    let least = recovery.snapshot.stable_lsn.unwrap_or(i64::MIN);
+    forget(config, &recovery.unread, least)
+}
+
+/// Fills the rest of the active segment with zeros, and publishes a table that is new.
+fn commit<D: Device, C: Checksum>(
+    config: &mut RunningConfig<D, C>,
+    recovery: &Recovery,
+) -> Result<()>
+    ensures done { OnOk result (HasCommitted C.sum_of (result_of recovery.now) (D.trace config.old.device) (D.trace config.new.device)) }
+    ensures calls { CommitsBehind [] C.sum_of (result_of recovery.now) (D.trace config.old.device) (D.trace config.new.device) }
+    ensures fits { OnOk result (FitsIfNew (result_of recovery.now)) }
     ensures answers { DeviceAnswers result (D.faults config.old.device) (D.faults config.new.device) }
     ensures readable { IsCorruption result → ⊥ }
     ensures config { ConfigKept config.old config.new }
@@ -51,8 +75,18 @@ fn shred<D: Device, C: Checksum>(
         return Ok(());
     };
     let zeros = vec![in config.alloc(); 0; shred_range.len as usize]?;
-    config.device.write_at(shred_range.at, &zeros)?;
-    config.device.sync()?;
+    write_settled(&mut config.device, shred_range.at, &zeros)
+}
+
+/// Writes bytes to the log file, and syncs it.
+fn write_settled<D: Device>(device: &mut D, at: LogOffset, bytes: &[u8]) -> Result<()>
+    ensures done { OnOk result (D.trace device.new ≡ Synced ∷ Wrote at bytes.now bytes.now ∷ D.trace device.old) }
+    ensures calls { Performs (Wrote at bytes.now bytes.now ∷ Synced ∷ []) (D.trace device.old) (D.trace device.new) }
+    ensures answers { DeviceAnswers result (D.faults device.old) (D.faults device.new) }
+    ensures readable { IsCorruption result → ⊥ }
+{
+    device.write_at(at, bytes)?;
+    device.sync()?;
     Ok(())
 }
 
@@ -75,4 +109,54 @@ fn publish_new<D: Device, C: Checksum>(
     let bytes = encode_file(config.alloc(), &config.checksum, snapshot)?;
     publish(&mut config.device, &bytes, number)?;
     remove_others(&mut config.device, number)
+}
+
+/// Takes away what the table doesn't have: overwrites these segments with zeros, and then removes every blob at or
+/// above a place. A crash may bring the blobs back until names are synced; a later recovery removes them again.
+fn forget<D: Device, C: Checksum>(
+    config: &mut RunningConfig<D, C>,
+    unread: &[LogOffset],
+    least: Lsn,
+) -> Result<()>
+    ensures done { let size = config.old.config.segment_size in
+        OnOk result (HasForgotten size unread.now least (D.trace config.old.device) (D.trace config.new.device)) }
+    ensures calls { Forgets config.old.config.segment_size unread.now least (D.trace config.old.device) (D.trace config.new.device) }
+    ensures answers { DeviceAnswers result (D.faults config.old.device) (D.faults config.new.device) }
+    ensures readable { IsCorruption result → ⊥ }
+    ensures config { ConfigKept config.old config.new }
+{
+    zero_unread(config, unread)?;
+    gc_blobs(config, least)
+}
+
+/// Overwrites the segments in these slots with zeros, each synced before the next one is begun.
+fn zero_unread<D: Device, C: Checksum>(
+    config: &mut RunningConfig<D, C>,
+    unread: &[LogOffset],
+) -> Result<()>
+    ensures done { OnOk result (D.trace config.new.device ≡ after_all (zeroing config.old.config.segment_size unread.now) (D.trace config.old.device)) }
+    ensures calls { Performs (zeroing config.old.config.segment_size unread.now) (D.trace config.old.device) (D.trace config.new.device) }
+    ensures answers { DeviceAnswers result (D.faults config.old.device) (D.faults config.new.device) }
+    ensures readable { IsCorruption result → ⊥ }
+    ensures config { ConfigKept config.old config.new }
+{
+    if unread.is_empty() {
+        return Ok(());
+    }
+    let zeros = vec![in config.alloc(); 0; config.config.segment_size as usize]?;
+    zero_slots(&mut config.device, unread, &zeros)
+}
+
+/// Writes these zeros, a segment of them, over each of these slots, and syncs each.
+fn zero_slots<D: Device>(device: &mut D, slots: &[LogOffset], zeros: &[u8]) -> Result<()>
+    requires zeros { zeros.now ≡ replicate (length zeros.now) 0 }
+    ensures done { OnOk result (D.trace device.new ≡ after_all (zeroing (length zeros.now) slots.now) (D.trace device.old)) }
+    ensures calls { Performs (zeroing (length zeros.now) slots.now) (D.trace device.old) (D.trace device.new) }
+    ensures answers { DeviceAnswers result (D.faults device.old) (D.faults device.new) }
+    ensures readable { IsCorruption result → ⊥ }
+{
+    for slot in slots {
+        write_settled(device, *slot, zeros)?;
+    }
+    Ok(())
 }

@@ -1,4 +1,4 @@
-use Rattle.std.proofs.Common.{◌≡◌, ◌∙◌, ◌≤◌, ◌+◌, ℕ, sym, ap, subst, inl, inr}
+use Rattle.std.proofs.Common.{◌≡◌, ◌∙◌, ◌≤◌, ◌+◌, ℕ, length, sym, ap, subst, inl, inr}
 use Rattle.std.specs.Prelude.{Err, IfOk}
 use Rattle.sled_codec.specs.declared.serialization.snapshot.Snapshot.{Snapshot}
 use Rattle.sled_store.specs.Moments.{LeavesOnly}
@@ -20,11 +20,11 @@ use Rattle.sled_store.specs.Device.{State, Trace, state_of, content_of}
 use Rattle.sled_core.specs.Fits.{IsKept, device_of, fault_of, flushing, segment_size_of}
 use Rattle.sled_core.specs.Ready.{IsReady}
 use Rattle.sled_core.proofs.Read.ReadingLemmas.{if_ok}
-use Rattle.sled_log.proofs.WriteBack.RestartLemmas.{ready_kept}
+use Rattle.sled_log.proofs.WriteBack.RestartLemmas.{ready_kept, fits_short}
 use Rattle.sled_log.proofs.restart.restart.Goals as goal
 
 pub returns-in-Ok-clause-ready : goal.returns-in-Ok-clause-ready
-returns-in-Ok-clause-ready g c = λ H holds formed.
+returns-in-Ok-clause-ready g c = λ H holds formed inside.
     let log = c.flush-flushed.new.self in
     let size : ℕ = c.halt-config.result.config.segment_size in
     let device : State = state_of (g.D.Device.trace c.halt-config.result.device) in
@@ -33,18 +33,27 @@ returns-in-Ok-clause-ready g c = λ H holds formed.
     subst (λ (x : RunningConfig _ _). IsKept g.C.Checksum.sum_of x.config.segment_size log.site log.buffer.written_len (state_of (g.D.Device.trace x.device)) H) (sym c.halt-config.ensures.config) (c.in-Ok.ensures.records H holds) in
     let sizes : size ≡ segment_size_of c.args.log = ap (λ (x : RunningConfig _ _). x.config.segment_size) c.halt-config.ensures.config ∙ c.flush-flushed.ensures.position.size in
     let many = c.halt-config.result.config.least in
+    let came : g.D.Device.trace c.halt-config.result.device ≡ after_all (flushing c.args.log) (g.D.Device.trace (device_of c.args.log)) =
+    ap (λ (x : RunningConfig _ _). g.D.Device.trace x.device) c.halt-config.ensures.config ∙ c.in-Ok.ensures.calls in
+    let short : length device.log.bytes ≤ size = elim inside [
+      | inl short ↦
+          subst (λ (t : Trace). length (state_of t).log.bytes ≤ size) (sym came) (subst (λ (n : ℕ). length (state_of (after_all (flushing c.args.log) (g.D.Device.trace (device_of c.args.log)))).log.bytes ≤ n) (sym sizes) short)
+      | inr (A, f, U, fits) ↦
+          subst (λ (x : RunningConfig _ _). length (state_of (g.D.Device.trace x.device)).log.bytes ≤ x.config.segment_size) (sym c.halt-config.ensures.config)
+          (fits_short g.D.Device.trace g.C.Checksum.sum_of log H A f U (c.flush-flushed.ensures.keeps.fits H A f U fits) c.in-Ok.ensures.answers.1)
+    ] in
     subst (λ (n : ℕ). IfOk c.read_snapshot_or_default-snapshot.result (λ s. IsReady g.C.Checksum.sum_of n new (model_of s) H)) sizes
     (if_ok c.read_snapshot_or_default-snapshot.result _ (λ s. IsReady g.C.Checksum.sum_of size new (model_of s) H)
-    (λ s ok. ready_kept g.C.Checksum.sum_of size log.site log.buffer.written_len device new H kept formed many ok.short (model_of s) ok.conclusion ok.recovers ok.model ok.written ok.newest)
+    (λ s ok. ready_kept g.C.Checksum.sum_of size log.site log.buffer.written_len device new H kept formed many short (model_of s) ok.conclusion ok.recovers ok.model ok.written ok.newest)
     c.read_snapshot_or_default-snapshot.ensures.ok)
 
 pub returns-in-Ok-clause-table : goal.returns-in-Ok-clause-table
-returns-in-Ok-clause-table g c = λ H holds formed.
-    if_ok c.read_snapshot_or_default-snapshot.result _ (λ s. IsTable (model_of s).pages H (stable_place s.stable_lsn)) (λ s ready. ready.table) (returns-in-Ok-clause-ready g c H holds formed)
+returns-in-Ok-clause-table g c = λ H holds formed inside.
+    if_ok c.read_snapshot_or_default-snapshot.result _ (λ s. IsTable (model_of s).pages H (stable_place s.stable_lsn)) (λ s ready. ready.table) (returns-in-Ok-clause-ready g c H holds formed inside)
 
 pub returns-in-Ok-clause-past : goal.returns-in-Ok-clause-past
-returns-in-Ok-clause-past g c = λ H holds formed.
-    if_ok c.read_snapshot_or_default-snapshot.result _ (λ s. All (λ (m : Message). m.place + m.size ≤ stable_place s.stable_lsn) H.messages) (λ s ready k d lt. (ready.below k d lt).1) (returns-in-Ok-clause-ready g c H holds formed)
+returns-in-Ok-clause-past g c = λ H holds formed inside.
+    if_ok c.read_snapshot_or_default-snapshot.result _ (λ s. All (λ (m : Message). m.place + m.size ≤ stable_place s.stable_lsn) H.messages) (λ s ready k d lt. (ready.below k d lt).1) (returns-in-Ok-clause-ready g c H holds formed inside)
 
 -- the size is the same behind flush and halt
 pub returns-in-Ok-clause-did : goal.returns-in-Ok-clause-did

@@ -13,7 +13,8 @@ use Rattle.sled_log.specs.RunStates.{DeviceView, ShowsActive}
 use Rattle.sled_log.specs.Runs.{HasRecovered, StartActs}
 use Rattle.sled_log.specs.RunPhases.{IsClosedAt, IsRecoveredAt, Unstored, SaysWhy, device_in, view_by}
 use Rattle.sled_log.proofs.Sessions.RunHistories.{orderly, forgotten, has_of_table}
-use Rattle.sled_log.proofs.Sessions.RunLemmas.{later_recovered, runs_on_both, cause_of, open_turn, open_acts, open_step}
+use Rattle.sled_log.proofs.WriteBack.RecoveryLater.{recovery_later}
+use Rattle.sled_log.proofs.Sessions.RunLemmas.{runs_on_both, cause_of, open_turn, open_acts, open_step}
 use Rattle.sled_log.proofs.Sessions.RunLogs.{good_moves}
 use Rattle.sled_log.proofs.Replay.ShownLemmas.{shows_active}
 use Rattle.sled_log.proofs.session.step.open.Goals as goal
@@ -65,7 +66,7 @@ returns-in-Ok-clause-on g c =
     record {
       runs_on = runs_on_both g.D.Device.trace c.args.config config _
           (record {
-            later = later_recovered g.C.Checksum.sum_of c.args.config.config.segment_size _ _ c.read_snapshot_or_default.ensures.calls;
+            later = recovery_later g.C.Checksum.sum_of c.args.config.config.segment_size _ _ c.read_snapshot_or_default.ensures.calls;
             kept = c.read_snapshot_or_default.ensures.config;
           })
           c.start.ensures.on.runs_on;
@@ -100,7 +101,7 @@ returns-in-Err-clause-step g c = λ k at.
 pub returns-in-Err-clause-on : goal.returns-in-Err-clause-on
 returns-in-Err-clause-on g c = record {
   runs_on = record {
-    later = later_recovered g.C.Checksum.sum_of c.args.config.config.segment_size _ _ c.read_snapshot_or_default.ensures.calls;
+    later = recovery_later g.C.Checksum.sum_of c.args.config.config.segment_size _ _ c.read_snapshot_or_default.ensures.calls;
     kept = c.read_snapshot_or_default.ensures.config;
   };
   can_go_on = tt;
