@@ -1,3 +1,4 @@
 pub mod OneReading
 pub mod OneTail
+pub mod Rows
 pub mod Undamaged
