@@ -1,4 +1,5 @@
 pub mod OneReading
 pub mod OneTail
+pub mod PassedMessages
 pub mod Rows
 pub mod Undamaged
