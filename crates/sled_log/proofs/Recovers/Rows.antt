@@ -3,7 +3,7 @@ use Rattle.std.proofs.Common.{⊎_elim, ◌≡◌, ◌⊎◌, ◌∙◌, ◌+◌
 use Rattle.std.specs.List.{Contains}
 use Rattle.std.proofs.lemmas.Bool.{cases_lt, ltb-true}
 use Rattle.std.proofs.lemmas.Bool.Decides.{nat_tests}
-use Rattle.std.proofs.lemmas.List.Elements.{Contains-append_left, Contains-append_right}
+use Rattle.std.proofs.lemmas.List.Elements.{Contains-append_left, Contains-append_right, Contains-append_cases}
 use Rattle.sled_core.specs.declared.iterator.Segment.{Segment}
 use Rattle.sled_core.specs.declared.iterator.scan.ScannedRecord.{ScannedRecord}
 use Rattle.sled_core.specs.Scan.{IsPath, IsScan}
@@ -12,6 +12,7 @@ use Rattle.sled_core.proofs.Read.ScanLemmas.{met_fits}
 use Rattle.sled_store.proofs.Segments.Elements.{in_first, in_rest, in_cases, in_nothing}
 use Rattle.sled_log.specs.Recovery.{IsOrdering, Scanned, IsScanned, AreScanned, opens, open_at, before_open, passed_in, stops_in, is_filled, cut_of}
 use Rattle.sled_log.proofs.Replay.LineLemmas.{path_within, apart}
+use Rattle.sled_log.proofs.Replay.BlobLemmas.{all_before_open}
 use Rattle.sled_log.proofs.Recovers.OneTail.{Rises, rises_of, place_aligned, segment_there, from_below}
 
 -- Records one behind another.
@@ -91,6 +92,18 @@ module _ (sum : List ℕ → ℕ) (size : ℕ) (log : List ℕ) (slot place : �
           let whole = stand_in (place + at) (m ∷ ms) (place + next) (path_stands at (m ∷ ms) next path) x there in
           absurd (omega (arith, below, same, whole.0, path.1))
       by false found rest = ⊎_elim (λ is. subst (Contains (m ∷ before_open end ms)) is (in_first m (before_open end ms))) (λ later. in_rest m x (before_open end ms) (rest found x later below)) (in_cases m x ms there)
+
+-- Before a batch that is open none that is open begins.
+
+before_closed : (end : ℕ) (ms : List ScannedRecord) (x : ScannedRecord) → Contains (before_open end ms) x → opens end x.what ≡ false
+before_closed end [] x there = absurd (in_nothing x there)
+before_closed end (m ∷ ms) x there = by (opens end m.what) refl there (before_closed end ms x) where
+  by : (b : Bool) → opens end m.what ≡ b → Contains (if b then [] else m ∷ before_open end ms) x → (Contains (before_open end ms) x → opens end x.what ≡ false) → opens end x.what ≡ false
+  by true test at rest = absurd (in_nothing x at)
+  by false test at rest = ⊎_elim (λ is. subst (λ (y : ScannedRecord). opens end y.what ≡ false) is test) rest (in_cases m x (before_open end ms) at)
+
+all_closed : (end : ℕ) (ms : List ScannedRecord) → open_at end ms ≡ None → (x : ScannedRecord) → Contains ms x → opens end x.what ≡ false
+all_closed end ms none x there = before_closed end ms x (subst (λ (l : List ScannedRecord). Contains l x) (sym (all_before_open end ms none)) there)
 
 -- The cut is where the pass stopped, or the end of a segment that has no room left.
 pub cut_cases : (size : ℕ) (at : Segment × ℕ) → ((cut_of size at).0 ≡ at.1) ⊎ (((cut_of size at).0 ≡ at.0.place + size) × (at.0.place + size < at.1 + 32))
@@ -228,3 +241,12 @@ module _ (sum : List ℕ → ℕ) (size : ℕ) (log : List ℕ) (some : 256 ≤ 
         (λ same. Contains-append_left s.met (passed_in end u (open_at end u.met) us) x (subst (λ (y : Scanned). Contains y.met x) (sym same) met))
         (λ later. Contains-append_right s.met (passed_in end u (open_at end u.met) us) x (passed_has u us (open_at end u.met) row.2 refl t later x met below))
         (in_cases s t (u ∷ us) there)
+
+    -- and no batch that is open begins with what it meets
+    pub passed_closed : (s : Scanned) (ss : List Scanned) (o : Option ℕ) → open_at end s.met ≡ o → (x : ScannedRecord) → Contains (passed_in end s o ss) x → opens end x.what ≡ false
+    passed_closed s ss (Some p) is x there = before_closed end s.met x there
+    passed_closed s [] None is x there = all_closed end s.met is x there
+    passed_closed s (t ∷ ts) None is x there = ⊎_elim
+        (λ own. all_closed end s.met is x own)
+        (λ later. passed_closed t ts (open_at end t.met) refl x later)
+        (Contains-append_cases s.met (passed_in end t (open_at end t.met) ts) x there)
