@@ -6,7 +6,7 @@ use Rattle.std.proofs.lemmas.Bool.Decides.{nat_tests}
 use Rattle.std.proofs.lemmas.List.Elements.{Contains-append_left, Contains-append_right, Contains-append_cases}
 use Rattle.sled_core.specs.declared.iterator.Segment.{Segment}
 use Rattle.sled_core.specs.declared.iterator.scan.ScannedRecord.{ScannedRecord}
-use Rattle.sled_core.specs.Scan.{IsPath, IsScan}
+use Rattle.sled_core.specs.Scan.{IsPath, IsEnd, IsScan}
 use Rattle.sled_core.specs.Recoverable.{scanned_below}
 use Rattle.sled_core.proofs.Read.ScanLemmas.{met_fits}
 use Rattle.sled_store.proofs.Segments.Elements.{in_first, in_rest, in_cases, in_nothing}
@@ -162,6 +162,10 @@ module _ (sum : List ℕ → ℕ) (size : ℕ) (log : List ℕ) (some : 256 ≤ 
   pub stop_inside : (s : Scanned) → IsWhole s → s.stop ≤ size
   unfolding IsScan
   stop_inside s whole = path_within sum size log s.segment.slot s.segment.place whole.2 20 s.met s.stop (omega (arith, some)) whole.0.0
+
+  pub end_there : (s : Scanned) → IsWhole s → IsEnd sum size log s.segment.slot s.segment.place s.stop s.why
+  unfolding IsScan
+  end_there s whole = whole.0.1
 
   pub covers : (s : Scanned) → IsWhole s → (p : ℕ) → s.segment.place + 20 ≤ p → p < s.segment.place + s.stop → (x : ScannedRecord) × Contains s.met x × (x.place ≤ p) × (p < x.place + x.len)
   unfolding IsScan
