@@ -4,5 +4,6 @@ pub mod OneTail
 pub mod PassCut
 pub mod PassTable
 pub mod PassedMessages
+pub mod RecoversGood
 pub mod Rows
 pub mod Undamaged
