@@ -1,5 +1,5 @@
 -- The cut of a recoverable log file splits neither a message nor a batch.
-use Rattle.std.proofs.Common.{⊎_elim, ◌≡◌, ◌≢◌, ◌⊎◌, ◌∙◌, ◌+◌, ◌-◌, ◌*◌, ◌/◌, ◌%◌, ◌<◌, ◌≤◌, ◌<ℤ◌, ◌≤ℤ◌, ℕ, ℤ, pos, negsuc, max, Bool, true, false, int_le, nat_lt, nat_le, T, List, [], ◌∷◌, Option, Some, refl, sym, ap, subst, arith, inl, inr}
+use Rattle.std.proofs.Common.{⊎_elim, ◌≡◌, ◌⊎◌, ◌∙◌, ◌+◌, ◌-◌, ◌*◌, ◌/◌, ◌%◌, ◌<◌, ◌≤◌, ◌<ℤ◌, ◌≤ℤ◌, ℕ, ℤ, pos, negsuc, max, Bool, true, false, int_le, nat_lt, nat_le, T, List, [], ◌∷◌, Option, Some, refl, sym, ap, subst, arith, inl, inr}
 use Rattle.std.specs.List.{Contains}
 use Rattle.std.proofs.lemmas.Bool.{cases_lt, ltb-true, leb-true}
 use Rattle.std.proofs.lemmas.Bool.Decides.{nat_tests}
@@ -10,13 +10,13 @@ use Rattle.sled_store.proofs.Segments.Elements.{in_first, in_rest}
 use Rattle.sled_core.specs.declared.iterator.Segment.{Segment}
 use Rattle.sled_core.specs.declared.iterator.scan.ScannedRecord.{ScannedRecord}
 use Rattle.sled_core.specs.declared.iterator.scan.RecordContent.{RecordContent}
-use Rattle.sled_core.specs.declared.iterator.scan.RecordContent.TheVariants.{Gives, NamesBlob, Skipped, BatchStart}
+use Rattle.sled_core.specs.declared.iterator.scan.RecordContent.TheVariants.{BatchStart}
 use Rattle.sled_core.specs.declared.iterator.scan.ScanEnd.{ScanEnd}
 use Rattle.sled_core.specs.declared.iterator.scan.ScanEnd.TheVariants.{Full, Capped, Broken}
 use Rattle.sled_core.specs.Scan.{IsEnd}
-use Rattle.sled_core.specs.Recoverable.{BeginsInSegment, IsOfHistory, IsRecoverableLog, NamesBlobOf, scanned_below}
+use Rattle.sled_core.specs.Recoverable.{BeginsInSegment, IsOfHistory, IsRecoverableLog, scanned_below}
 use Rattle.sled_core.proofs.Read.FoundLemmas.{pos_injective}
-use Rattle.sled_log.specs.Recovery.{Scanned, place_of_mark, greatest_mark, tail_begins, tail_end, opens, open_at, cut_of, least_place}
+use Rattle.sled_log.specs.Recovery.{Scanned, place_of_mark, greatest_mark, tail_begins, tail_end, opens, open_at, least_place}
 use Rattle.sled_log.proofs.PageTable.Ascending.{Ascends, one_at_place}
 use Rattle.sled_log.proofs.Recovers.PassCut.{further, known, whole, tail_has, put_down, passed, stop, cut_place, stopped, last_known, stop_below, cut_bounds, no_higher, passed_stands, met_below, ends_below, end_passed}
 use Rattle.sled_log.proofs.Recovers.Rows.{stand_in, end_there, covers, cut_cases, passed_closed}
@@ -87,11 +87,11 @@ module _ (sum : List ℕ → ℕ) (size : ℕ) (log : List ℕ) (some : 256 ≤ 
     | inr (s, there, mark) ↦ ⊎_elim
         (λ lower. let under : greatest < cut.0 = mark_below s.mark greatest cut.0 mark lower in omega (arith, begins_at.1, under))
         (λ within.
-            let same : greatest ≡ within.0 = pos_injective greatest within.0 (sym mark ∙ within.1) in
-            let top = put_down size (cut.0 + (size - 1)) in
-            let under : begins < raised size cut.0 = omega (arith, begins_at.1, same, within.2) in
-            let far = further sum size log some H A first cut is begins (raised size cut.0) begins_at.0 top.1 under in
-            omega (arith, far, top.0, some))
+        let same : greatest ≡ within.0 = pos_injective greatest within.0 (sym mark ∙ within.1) in
+        let top = put_down size (cut.0 + (size - 1)) in
+        let under : begins < raised size cut.0 = omega (arith, begins_at.1, same, within.2) in
+        let far = further sum size log some H A first cut is begins (raised size cut.0) begins_at.0 top.1 under in
+        omega (arith, far, top.0, some))
         (is.marks_below s there)
   ]
 
@@ -99,9 +99,9 @@ module _ (sum : List ℕ → ℕ) (size : ℕ) (log : List ℕ) (some : 256 ≤ 
   record_of : (x : ScannedRecord) → IsOfHistory sum size log H x → (m : Message) → Contains H.messages m → x.place ≤ m.place → m.place < x.place + x.len → (x.place ≡ m.place) × (x.len ≡ m.size)
   record_of x (inl (n, there, meets, stands, alone, apart)) m known above under = ⊎_elim
       (λ at.
-          let place = meets.place in
-          let same : m ≡ n = one_at_place H.messages m n ordered known there (omega (arith, at, above, place)) in
-          (omega (arith, at, above), meets.len ∙ ap (λ (y : Message). y.size) (sym same)))
+      let place = meets.place in
+      let same : m ≡ n = one_at_place H.messages m n ordered known there (omega (arith, at, above, place)) in
+      (omega (arith, at, above), meets.len ∙ ap (λ (y : Message). y.size) (sym same)))
       (λ behind. absurd (omega (arith, behind, under)))
       (alone m known)
   record_of x (inr (inl (b, there, place, what, alone, apart))) m known above under = ⊎_elim (λ at. absurd (omega (arith, at, above))) (λ behind. absurd (omega (arith, behind, under))) (alone m known)
@@ -243,11 +243,11 @@ module _ (sum : List ℕ → ℕ) (size : ℕ) (log : List ℕ) (some : 256 ≤ 
       by_mark since under (inr (t, known_t, mark)) = ⊎_elim
           (λ before. absurd (let early : greatest < b.low = mark_below t.mark greatest b.low mark before in omega (arith, early, under, begins_at.1)))
           (λ behind. let ended : b.peg ≤ greatest = mark_above t.mark greatest b.peg mark behind in ⊎_elim
-              (λ low. let early : greatest < cut.0 = mark_below t.mark greatest cut.0 mark low in omega (arith, ended, early))
-              (λ within.
-                  let same : greatest ≡ within.0 = pos_injective greatest within.0 (sym mark ∙ within.1) in
-                  ⊎_elim (λ early. early) (λ late. absurd (omega (arith, late, ended, same))) (within.5 b there))
-              (is.marks_below t known_t))
+          (λ low. let early : greatest < cut.0 = mark_below t.mark greatest cut.0 mark low in omega (arith, ended, early))
+          (λ within.
+          let same : greatest ≡ within.0 = pos_injective greatest within.0 (sym mark ∙ within.1) in
+          ⊎_elim (λ early. early) (λ late. absurd (omega (arith, late, ended, same))) (within.5 b there))
+          (is.marks_below t known_t))
           ((is.marks t known_t).apart b there)
 
       -- the record of its beginning
@@ -293,9 +293,9 @@ module _ (sum : List ℕ → ℕ) (size : ℕ) (log : List ℕ) (some : 256 ≤ 
           ⊎_elim
           (λ open_one. at_open open_one.0 open_one.1 open_one.2 open_one.3 open_one.4)
           (λ all.
-              let far = end_passed sum size log some H A first cut is end s ss ends below all.1 in
-              let bound = (cut_bounds sum size log some H A first cut is end s ss ends below).0 in
-              omega (arith, ended, far, bound))
+          let far = end_passed sum size log some H A first cut is end s ss ends below all.1 in
+          let bound = (cut_bounds sum size log some H A first cut is end s ss ends below).0 in
+          omega (arith, ended, far, bound))
           (stopped sum size log some H A first cut is end s ss ends below).why
       in_tail (t, known_t, inr (capped, past, within)) = ⊎_elim (λ under. absurd (omega (arith, under, past))) (λ over. absurd (omega (arith, over, within))) ((is.caps t known_t capped).1 b there)
 

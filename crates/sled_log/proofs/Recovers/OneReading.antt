@@ -7,7 +7,6 @@ use Rattle.std.proofs.lemmas.List.{append-nil}
 use Rattle.std.proofs.lemmas.List.Elements.{Contains-append_left, Contains-push}
 use Rattle.sled_codec.specs.declared.serialization.message.MessageHeader.{MessageHeader}
 use Rattle.sled_codec.specs.declared.serialization.message.MessageKind.TheVariants as kind
-use Rattle.sled_codec.specs.Kinds.{log_kind_of}
 use Rattle.sled_codec.specs.Spelling.{SpellsSigned}
 use Rattle.sled_core.specs.declared.iterator.Segment.{Segment}
 use Rattle.sled_core.specs.declared.iterator.scan.ScannedRecord.{ScannedRecord}
@@ -15,7 +14,7 @@ use Rattle.sled_core.specs.declared.iterator.scan.RecordContent.{RecordContent}
 use Rattle.sled_core.specs.declared.iterator.scan.RecordContent.TheVariants.{Gives, NamesBlob, Skipped, BatchStart}
 use Rattle.sled_core.specs.declared.iterator.scan.ScanEnd.{ScanEnd}
 use Rattle.sled_core.specs.declared.iterator.scan.ScanEnd.TheVariants.{Full, Capped, Broken}
-use Rattle.sled_core.specs.Reading.{IsMalformed, is_inline, is_blob}
+use Rattle.sled_core.specs.Reading.{IsMalformed, is_blob}
 use Rattle.sled_core.specs.Scan.{Says, IsMet, IsPath, IsEnd, EndsThere, IsScan, IsDamagedIn}
 use Rattle.sled_core.proofs.Read.GivesLemmas.{one_header, one_body, one_len, blob_apart}
 use Rattle.sled_core.proofs.Read.PathLemmas.{not_inline}

@@ -1,5 +1,5 @@
 -- The pass over a recoverable log file: where it stops, against the tail and the cut.
-use Rattle.std.proofs.Common.{⊎_elim, ◌≡◌, ◌≢◌, ◌⊎◌, ◌∙◌, ◌+◌, ◌*◌, ◌/◌, ◌%◌, ◌<◌, ◌≤◌, ℕ, suc, true, false, List, [], ◌∷◌, Option, Some, None, refl, sym, ap, subst, arith, inl, inr}
+use Rattle.std.proofs.Common.{⊎_elim, ◌≡◌, ◌∙◌, ◌+◌, ◌*◌, ◌/◌, ◌%◌, ◌<◌, ◌≤◌, ℕ, suc, List, [], ◌∷◌, Option, Some, refl, sym, ap, subst, arith, inl, inr}
 use Rattle.std.specs.List.{Contains}
 use Rattle.std.proofs.Math.Nat.{mod-add-div', mul-mod_left, suc-mul}
 use Rattle.std.proofs.lemmas.Bool.{cases_lt, cases_order}
@@ -9,14 +9,13 @@ use Rattle.sled_core.specs.declared.iterator.Segment.{Segment}
 use Rattle.sled_core.specs.declared.iterator.scan.ScannedRecord.{ScannedRecord}
 use Rattle.sled_core.specs.declared.iterator.scan.ScanEnd.{ScanEnd}
 use Rattle.sled_core.specs.declared.iterator.scan.ScanEnd.TheVariants.{Full, Capped, Broken}
-use Rattle.sled_core.specs.Scan.{IsFoundSegment, IsEnd, IsScan}
+use Rattle.sled_core.specs.Scan.{IsScan}
 use Rattle.sled_core.specs.Recoverable.{IsRecoverableLog, IsSegmentOf, MeetsMessage, scanned_below, cut_over, cut_from}
-use Rattle.sled_store.proofs.Segments.Elements.{in_first, in_rest, in_cases, in_nothing}
-use Rattle.sled_log.specs.Recovery.{Scanned, IsScanned, GoesOn, IsTail, tail_begins, tail_end, opens, open_at, passed_in, stops_in, cut_of, least_place}
+use Rattle.sled_log.specs.Recovery.{Scanned, IsScanned, GoesOn, IsTail, tail_begins, tail_end, open_at, passed_in, stops_in, cut_of, least_place}
 use Rattle.sled_log.proofs.Replay.LineLemmas.{apart}
 use Rattle.sled_log.proofs.Recovers.OneReading.{one_scan, met_there}
-use Rattle.sled_log.proofs.Recovers.OneTail.{Rises, rises_of, one_at_place, place_aligned, scan_there, segment_there, reading_there, in_below, from_below}
-use Rattle.sled_log.proofs.Recovers.Rows.{Stand, stand_in, stand_rises, IsWhole, IsRow, row_ordered, row_below, row_whole, met_stand, stop_inside, covers, cut_cases, IsStopIn, stop_in, passed_stand, passed_has}
+use Rattle.sled_log.proofs.Recovers.OneTail.{Rises, rises_of, one_at_place, scan_there, segment_there, reading_there, in_below, from_below}
+use Rattle.sled_log.proofs.Recovers.Rows.{Stand, stand_in, stand_rises, IsWhole, IsRow, row_ordered, row_below, row_whole, met_stand, stop_inside, cut_cases, IsStopIn, stop_in, passed_stand, passed_has}
 
 -- what is left of an option
 pub some_is : (a b : ℕ) → Some a ≡ Some b → a ≡ b
@@ -158,8 +157,8 @@ module _ (sum : List ℕ → ℕ) (size : ℕ) (log : List ℕ) (some : 256 ≤ 
     pub stop_below : stop.1 ≤ stopped.last.segment.place + stopped.last.stop
     stop_below = ⊎_elim
         (λ at_open.
-            let at = stand_in (stopped.last.segment.place + 20) stopped.last.met (stopped.last.segment.place + stopped.last.stop) (met_stand sum size log some stopped.last (whole stopped.last last_known.0)) at_open.0 at_open.1 in
-            omega (arith, at.2, at_open.2))
+        let at = stand_in (stopped.last.segment.place + 20) stopped.last.met (stopped.last.segment.place + stopped.last.stop) (met_stand sum size log some stopped.last (whole stopped.last last_known.0)) at_open.0 at_open.1 in
+        omega (arith, at.2, at_open.2))
         (λ all. omega (arith, all.0)) stopped.why
 
     -- The cut is no lower than where the pass stops, and no higher than where that segment ends.

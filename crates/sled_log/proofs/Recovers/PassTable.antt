@@ -1,17 +1,16 @@
 -- What a pass over a recoverable log file applies to the table of the snapshot makes the table below the cut.
-use Rattle.std.proofs.Common.{⊎_elim, ◌≡◌, ◌≢◌, ◌∙◌, ◌<◌, ◌≤◌, ◌-◌, ◌^◌, ℕ, ℤ, false, List, [], ◌∷◌, map, Option, Some, sym, ap, subst, arith, inl, inr}
+use Rattle.std.proofs.Common.{◌≡◌, ◌≢◌, ◌∙◌, ◌<◌, ◌≤◌, ◌-◌, ◌^◌, ℕ, ℤ, false, List, ◌∷◌, map, Option, Some, sym, ap, subst, arith}
 use Rattle.std.specs.List.{All, Contains}
 use Rattle.std.proofs.lemmas.List.Elements.{All-contains}
 use Rattle.sled_codec.specs.History.{Message, History, table}
 use Rattle.sled_codec.specs.PageTables.{IsTable}
-use Rattle.sled_codec.specs.Snapshots.{Page, SnapshotModel, stable_place}
-use Rattle.sled_codec.specs.WellFormed.{IsWellFormed}
+use Rattle.sled_codec.specs.Snapshots.{SnapshotModel, stable_place}
 use Rattle.sled_store.proofs.Segments.Elements.{all_from_in}
 use Rattle.sled_store.proofs.Segments.TableEntries.{from_table}
 use Rattle.sled_core.specs.declared.iterator.scan.ScannedRecord.{ScannedRecord}
 use Rattle.sled_core.specs.Recoverable.{IsRecoverableLog, AreRecoverableBlobs, scanned_below}
 use Rattle.sled_log.specs.Orderly.{IsOrderly}
-use Rattle.sled_log.specs.Recovery.{Scanned, Applied, applied, tail_end, given, resolved, table_of, has_no_table, IsSublist}
+use Rattle.sled_log.specs.Recovery.{Scanned, Applied, tail_end, given, resolved, table_of, has_no_table, IsSublist}
 use Rattle.sled_log.proofs.PageTable.Ascending.{Ascends, apart_ascends}
 use Rattle.sled_log.proofs.PageTable.FoldLemmas.{fold}
 use Rattle.sled_log.proofs.PageTable.WholeTables.{have_tables}

@@ -1,10 +1,10 @@
 -- What a pass meets of a history: its messages in their order, but those whose blob is missing.
-use Rattle.std.proofs.Common.{⊎_elim, ◌≡◌, ◌⊎◌, ◌∙◌, ◌+◌, ◌<◌, ◌≤◌, ◌==◌, ℕ, ℤ, pos, Bool, true, false, nat_lt, is_some, if◌then◌else◌, List, [], ◌∷◌, ◌++◌, map, Option, Some, None, refl, sym, ap, subst, arith, inl, inr}
+use Rattle.std.proofs.Common.{⊎_elim, ◌≡◌, ◌∙◌, ◌+◌, ◌<◌, ◌≤◌, ◌==◌, ℕ, ℤ, pos, Bool, true, false, nat_lt, is_some, if◌then◌else◌, List, [], ◌∷◌, ◌++◌, map, Option, Some, None, refl, sym, ap, subst, arith, inl, inr}
 use Rattle.std.specs.List.{Contains}
-use Rattle.std.proofs.lemmas.Bool.{cases_lt, ltb-true, ltb-false}
+use Rattle.std.proofs.lemmas.Bool.{cases_lt}
 use Rattle.std.proofs.lemmas.Bool.Decides.{nat_tests}
 use Rattle.sled_codec.specs.declared.result.DiskPtr.{DiskPtr}
-use Rattle.sled_codec.specs.declared.result.DiskPtr.TheVariants.{Inline, Blob}
+use Rattle.sled_codec.specs.declared.result.DiskPtr.TheVariants.{Blob}
 use Rattle.sled_codec.specs.declared.serialization.message.LogKind.{LogKind}
 use Rattle.sled_codec.specs.declared.serialization.message.LogKind.TheVariants as does
 use Rattle.sled_codec.specs.declared.serialization.message.MessageKind.{MessageKind}
@@ -39,12 +39,15 @@ pub ascending_sublist : (xs ys : List Message) → Ascends xs → Ascends ys →
 ascending_sublist [] ys up down there = tt
 ascending_sublist (x ∷ xs) [] up down there = absurd (in_nothing x (there x (in_first x xs)))
 ascending_sublist (x ∷ xs) (y ∷ ys) up down there = ⊎_elim
-    (λ is. inl (sym is, ascending_sublist xs ys up.1 down.1 (λ m at. ⊎_elim
-        (λ same. absurd (omega (arith, later_above x xs m up at, ap (λ (z : Message). z.place) (sym is ∙ same))))
-        (λ rest. rest) (in_cases y m ys (there m (in_rest x m xs at))))))
+    (λ is. inl (
+      sym is,
+      ascending_sublist xs ys up.1 down.1 (λ m at. ⊎_elim
+          (λ same. absurd (omega (arith, later_above x xs m up at, ap (λ (z : Message). z.place) (sym is ∙ same))))
+          (λ rest. rest) (in_cases y m ys (there m (in_rest x m xs at)))),
+    ))
     (λ later. inr (ascending_sublist (x ∷ xs) ys up down.1 (λ m at. ⊎_elim
-        (λ same. absurd (behind m at (later_above y ys x down later) (ap (λ (z : Message). z.place) same)))
-        (λ rest. rest) (in_cases y m ys (there m at)))))
+    (λ same. absurd (behind m at (later_above y ys x down later) (ap (λ (z : Message). z.place) same)))
+    (λ rest. rest) (in_cases y m ys (there m at)))))
     (in_cases y x ys (there x (in_first x xs)))
   where
     behind : (m : Message) → Contains (x ∷ xs) m → y.place < x.place → y.place ≡ m.place → ⊥
@@ -92,8 +95,8 @@ module _ (sum : List ℕ → ℕ) (size : ℕ) (log : List ℕ) (blobs : ℤ →
           ascends = (all_from_in (λ n. m.place < n.place) L (λ n there. let of = are.of n there in omega (arith, of.2, stand.1, place)), are.ascends);
           all = λ y n there also meets_n high item. ⊎_elim
               (λ first.
-                  let places : m.place ≡ n.place = sym place ∙ ap (λ (z : ScannedRecord). z.place) first ∙ meets_n.place in
-                  subst (Contains (m ∷ L)) (one_at_place H.messages m n ordered known also places) (in_first m L))
+              let places : m.place ≡ n.place = sym place ∙ ap (λ (z : ScannedRecord). z.place) first ∙ meets_n.place in
+              subst (Contains (m ∷ L)) (one_at_place H.messages m n ordered known also places) (in_first m L))
               (λ later. in_rest m n L (are.all y n later also meets_n high item))
               (in_cases x y ms there);
         }
@@ -108,12 +111,15 @@ module _ (sum : List ℕ → ℕ) (size : ℕ) (log : List ℕ) (blobs : ℤ →
 
   -- The messages among records of the history.
   pub messages_met : (from : ℕ) (ms : List ScannedRecord) (to : ℕ) → Stand from ms to → ((x : ScannedRecord) → Contains ms x → IsOfHistory sum size log H x) → (L : List Message) × AreMet from ms to L
-  messages_met from [] to stand truth = ([], record {
-    is = refl;
-    of = λ m there. absurd (in_nothing m there);
-    ascends = tt;
-    all = λ x m there known meets above item. absurd (in_nothing x there);
-  })
+  messages_met from [] to stand truth = (
+    [],
+    record {
+      is = refl;
+      of = λ m there. absurd (in_nothing m there);
+      ascends = tt;
+      all = λ x m there known meets above item. absurd (in_nothing x there);
+    },
+  )
   messages_met from (x ∷ ms) to stand truth = by (messages_met (x.place + x.len) ms to stand.2 (λ y there. truth y (in_rest x y ms there))) where
     none_given : x.place < low → given low (map (resolved blobs) (x ∷ ms)) ≡ given low (map (resolved blobs) ms)
     none_given below =
@@ -146,12 +152,15 @@ module _ (sum : List ℕ → ℕ) (size : ℕ) (log : List ℕ) (blobs : ℤ →
       there b is = what_applied (NamesBlob k m.page lid place) what ∙ ap (λ t. applied_of (resolved blobs x) (if t then Gives (log_kind_of k) m.page (Blob lid place) else Skipped)) is
 
       by_blob : (o : Option (List ℕ)) → blobs place ≡ o → Out
-      by_blob None is = (L, passed_by from x ms to stand L are (nothing above (there false (ap is_some is))) (λ n also meets_n high item.
-          let places : m.place ≡ n.place = sym meets.place ∙ meets_n.place in
-          let same : m ≡ n = one_at_place H.messages m n ordered known also places in
-          let has = subst (HasItem sum blobs m) pointer (subst (λ (z : Message). HasItem sum blobs z z.pointer) (sym same) item) in
-          let both : None ≡ Some has.file = sym is ∙ has.there in
-          cc))
+      by_blob None is = (
+        L,
+        passed_by from x ms to stand L are (nothing above (there false (ap is_some is))) (λ n also meets_n high item.
+            let places : m.place ≡ n.place = sym meets.place ∙ meets_n.place in
+            let same : m ≡ n = one_at_place H.messages m n ordered known also places in
+            let has = subst (HasItem sum blobs m) pointer (subst (λ (z : Message). HasItem sum blobs z z.pointer) (sym same) item) in
+            let both : None ≡ Some has.file = sym is ∙ has.there in
+            cc),
+      )
       by_blob (Some file) is =
           let at = meets.place in
           let len = meets.len in

@@ -1,5 +1,5 @@
 -- What recovery makes of a recoverable content is good: with the cut for its place, it is the table of the history below the cut, and each entry reads its own bytes.
-use Rattle.std.proofs.Common.{⊎_elim, ◌≡◌, ◌∙◌, ◌<◌, ◌≤◌, ◌^◌, ℕ, ℤ, pos, false, List, [], ◌∷◌, map, Option, Some, None, refl, sym, ap, subst, arith, inl, inr}
+use Rattle.std.proofs.Common.{◌≡◌, ◌∙◌, ◌≤◌, ℕ, List, ◌∷◌, Option, Some, refl, sym, ap, subst, arith, inl, inr}
 use Rattle.std.specs.List.{Contains}
 use Rattle.sled_codec.specs.declared.result.DiskPtr.{DiskPtr}
 use Rattle.sled_codec.specs.declared.result.DiskPtr.TheVariants.{Inline, Blob}
@@ -7,10 +7,10 @@ use Rattle.sled_codec.specs.History.{Message, History, table, CutFits}
 use Rattle.sled_codec.specs.PageTables.{IsTable}
 use Rattle.sled_codec.specs.Snapshots.{SnapshotModel, stable_place}
 use Rattle.sled_store.specs.Device.{Content}
-use Rattle.sled_core.specs.Good.{ReadsAt, Reads, IsGood}
+use Rattle.sled_core.specs.Good.{ReadsAt, IsGood}
 use Rattle.sled_core.specs.Recoverable.{AreRecoverableSnapshots, IsRecoverableLog, AreRecoverableBlobs, StandsInline, HasItem, scanned_below}
 use Rattle.sled_log.specs.Orderly.{IsOrderly}
-use Rattle.sled_log.specs.Recovery.{Scanned, Applied, Outcome, Recovered, RecoveryResult, tail_end, table_of, cut_of, concluded, unchanged, ContinuesFrom, Recovers}
+use Rattle.sled_log.specs.Recovery.{Scanned, Applied, Outcome, Recovered, RecoveryResult, tail_end, concluded, unchanged, ContinuesFrom, Recovers}
 use Rattle.sled_log.proofs.PageTable.Ascending.{apart_ascends}
 use Rattle.sled_log.proofs.PageTable.WholeTables.{table_whole}
 use Rattle.sled_log.proofs.Replay.FirstSnapshot.{first_is_table, no_damaged_snapshot}

@@ -1,8 +1,7 @@
 -- Segments one behind another: where the records lie that a pass over them meets, where it stops, and that it meets each record below the cut.
-use Rattle.std.proofs.Common.{⊎_elim, ◌≡◌, ◌⊎◌, ◌∙◌, ◌+◌, ◌/◌, ◌%◌, ◌<◌, ◌≤◌, ℕ, Bool, true, false, nat_lt, if◌then◌else◌, List, [], ◌∷◌, ◌++◌, Option, Some, None, refl, sym, ap, subst, arith, inl, inr}
+use Rattle.std.proofs.Common.{⊎_elim, ◌≡◌, ◌⊎◌, ◌+◌, ◌/◌, ◌%◌, ◌<◌, ◌≤◌, ℕ, Bool, true, false, nat_lt, if◌then◌else◌, List, [], ◌∷◌, ◌++◌, Option, Some, None, refl, sym, ap, subst, arith, inl, inr}
 use Rattle.std.specs.List.{Contains}
 use Rattle.std.proofs.lemmas.Bool.{cases_lt, ltb-true}
-use Rattle.std.proofs.lemmas.Bool.Decides.{nat_tests}
 use Rattle.std.proofs.lemmas.List.Elements.{Contains-append_left, Contains-append_right, Contains-append_cases}
 use Rattle.sled_core.specs.declared.iterator.Segment.{Segment}
 use Rattle.sled_core.specs.declared.iterator.scan.ScannedRecord.{ScannedRecord}
@@ -205,15 +204,18 @@ module _ (sum : List ℕ → ℕ) (size : ℕ) (log : List ℕ) (some : 256 ≤ 
           last = rest.last;
           there = in_rest s rest.last (t ∷ ts) rest.there;
           segment = rest.segment;
-          why = ⊎_elim inl (λ all. inr (all.0, λ u there. ⊎_elim
-              (λ same.
-                  let far = row.1 t (in_first t ts) in
-                  let inside = stop_inside s row.0 in
-                  let next = all.1 t (in_first t ts) in
-                  let long = stand_rises (t.segment.place + 20) t.met (t.segment.place + t.stop) (met_stand t row.2.0) in
-                  omega (arith, far, inside, next, long, ap (λ (y : Scanned). y.segment.place + y.stop) same))
-              (λ later. all.1 u later)
-              (in_cases s u (t ∷ ts) there))) rest.why;
+          why = ⊎_elim inl (λ all. inr (
+            all.0,
+            λ u there. ⊎_elim
+                (λ same.
+                let far = row.1 t (in_first t ts) in
+                let inside = stop_inside s row.0 in
+                let next = all.1 t (in_first t ts) in
+                let long = stand_rises (t.segment.place + 20) t.met (t.segment.place + t.stop) (met_stand t row.2.0) in
+                omega (arith, far, inside, next, long, ap (λ (y : Scanned). y.segment.place + y.stop) same))
+                (λ later. all.1 u later)
+                (in_cases s u (t ∷ ts) there),
+          )) rest.why;
         }
 
     -- What it meets lies one behind another up to there.
@@ -236,9 +238,9 @@ module _ (sum : List ℕ → ℕ) (size : ℕ) (log : List ℕ) (some : 256 ≤ 
         let under : x.place < p = ⊎_elim (λ same. omega (arith, below, same)) (λ filled. absurd (omega (arith, filled.1, room))) (cut_cases size (s.segment, p)) in
         ⊎_elim (λ same. before_opened s row.0 p is x (subst (λ (y : Scanned). Contains y.met x) (sym same) met) under)
         (λ later.
-            let far = row.1 t later in
-            let above = (stand_in (t.segment.place + 20) t.met (t.segment.place + t.stop) (met_stand t (row_whole ss row.2 t later)) x met).0 in
-            absurd (omega (arith, far, above, under, room)))
+        let far = row.1 t later in
+        let above = (stand_in (t.segment.place + 20) t.met (t.segment.place + t.stop) (met_stand t (row_whole ss row.2 t later)) x met).0 in
+        absurd (omega (arith, far, above, under, room)))
         (in_cases s t ss there)
     passed_has s [] None row is t there x met below = ⊎_elim (λ same. subst (λ (y : Scanned). Contains y.met x) (sym same) met) (λ none. absurd (in_nothing t none)) (in_cases s t [] there)
     passed_has s (u ∷ us) None row is t there x met below = ⊎_elim

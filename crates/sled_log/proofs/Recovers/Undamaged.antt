@@ -1,5 +1,5 @@
 -- A recoverable log file is not damaged, and what comes of it is what comes of a pass over all its segments up to the end of the tail.
-use Rattle.std.proofs.Common.{⊎_elim, ◌≡◌, ◌⊎◌, ◌∙◌, ◌+◌, ◌<◌, ℕ, ℤ, Bool, true, false, nat_lt, if◌then◌else◌, List, [], ◌∷◌, ◌++◌, length, drop, map, Option, Some, None, refl, sym, ap, subst, inl, inr}
+use Rattle.std.proofs.Common.{⊎_elim, ◌≡◌, ◌⊎◌, ◌∙◌, ℕ, ℤ, Bool, true, false, nat_lt, if◌then◌else◌, List, [], ◌∷◌, length, drop, map, Option, Some, None, refl, sym, ap, subst, inl, inr}
 use Rattle.std.specs.List.{Contains}
 use Rattle.std.proofs.lemmas.List.Elements.{Contains-append_cases, Contains-append_right}
 use Rattle.sled_codec.specs.History.{History}
@@ -9,10 +9,10 @@ use Rattle.sled_core.specs.declared.iterator.scan.ScannedRecord.{ScannedRecord}
 use Rattle.sled_core.specs.Scan.{IsDamagedIn}
 use Rattle.sled_core.specs.Recoverable.{IsOfHistory, IsRecoverableLog, AreRecoverableBlobs, PassesIfThere, scanned_below, cut_over, cut_from}
 use Rattle.sled_store.proofs.Segments.Elements.{in_first, in_rest, in_cases, in_nothing}
-use Rattle.sled_log.specs.Recovery.{IsUnordered, IsOrdering, Scanned, IsScanned, IsTail, tail_begins, tail_end, begun_below, opens, before_open, open_at, stops_in, cut_of, least_place, AreReplayed, HasBadBlob, MeetsBadBlob, resolved, resolved_scan, given, passed_in, passed_all, Outcome, Damaged, Recovered, concluded, unchanged, outcome_of, IsDamagedTail, IsDamagedPass, PassesOver, slots_of, Passes, Replays, ContinuesFrom}
+use Rattle.sled_log.specs.Recovery.{IsUnordered, Scanned, IsScanned, tail_begins, tail_end, begun_below, opens, before_open, open_at, stops_in, cut_of, least_place, AreReplayed, HasBadBlob, MeetsBadBlob, resolved, resolved_scan, given, passed_in, Outcome, Recovered, concluded, unchanged, outcome_of, IsDamagedTail, IsDamagedPass, PassesOver, slots_of, Passes, Replays, ContinuesFrom}
 use Rattle.sled_log.proofs.Replay.BlobLemmas.{open_resolved, stops_resolved, passed_resolved}
-use Rattle.sled_log.proofs.Recovers.OneReading.{scan_undamaged, one_scan}
-use Rattle.sled_log.proofs.Recovers.OneTail.{Rises, rises_of, one_at_place, one_ordering, one_tail, scan_there, segment_there, reading_there, scans_below, from_below, IsSamePass, same_pass}
+use Rattle.sled_log.proofs.Recovers.OneReading.{scan_undamaged}
+use Rattle.sled_log.proofs.Recovers.OneTail.{Rises, rises_of, one_at_place, one_ordering, one_tail, scan_there, reading_there, scans_below, from_below, IsSamePass, same_pass}
 
 -- What a pass meets stands in one of its segments.
 
