@@ -1,4 +1,5 @@
 pub mod CutLemmas
+pub mod LeftOut
 pub mod OneReading
 pub mod OneTail
 pub mod PassCut

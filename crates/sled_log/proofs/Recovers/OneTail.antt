@@ -179,7 +179,7 @@ passes_on end p (x ∷ xs) (q ∷ ps) same = (ap (λ (l : List ScannedRecord). p
 
 module _ (sum : List ℕ → ℕ) (size : ℕ) (log : List ℕ) (end : ℕ) where
   -- what is replayed of a segment, up to a batch that is open, stands at the beginning of it
-  begins_alike : (p x : Scanned) → p.segment ≡ x.segment → IsReplayed sum size log end p → IsScanned sum size log x → (place : ℕ) → open_at end p.met ≡ Some place
+  pub begins_alike : (p x : Scanned) → p.segment ≡ x.segment → IsReplayed sum size log end p → IsScanned sum size log x → (place : ℕ) → open_at end p.met ≡ Some place
       → (open_at end x.met ≡ Some place) × (before_open end x.met ≡ before_open end p.met)
   unfolding IsScan
   begins_alike p x same replayed scan place is =

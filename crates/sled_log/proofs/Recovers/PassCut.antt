@@ -135,7 +135,7 @@ module _ (sum : List ℕ → ℕ) (size : ℕ) (log : List ℕ) (some : 256 ≤ 
     pub cut_place : cut.0 ≡ (cut_of size stop).0
     cut_place = ap (λ (c : ℕ × Option ℕ). c.0) cut_is
 
-    own_row : IsRow sum size log some (s ∷ ss)
+    pub own_row : IsRow sum size log some (s ∷ ss)
     own_row = subst (IsRow sum size log some) below (row_below sum size log some end is.scanned row)
 
     pub in_pass : (t : Scanned) → Contains is.scanned t → t.segment.place < end → Contains (s ∷ ss) t
@@ -151,7 +151,7 @@ module _ (sum : List ℕ → ℕ) (size : ℕ) (log : List ℕ) (some : 256 ≤ 
     pub last_known : Contains is.scanned stopped.last × (stopped.last.segment.place < end)
     last_known = from_pass stopped.last stopped.there
 
-    last_place : stop.0.place ≡ stopped.last.segment.place
+    pub last_place : stop.0.place ≡ stopped.last.segment.place
     last_place = ap (λ (x : Segment). x.place) stopped.segment
 
     pub stop_below : stop.1 ≤ stopped.last.segment.place + stopped.last.stop

@@ -112,33 +112,43 @@ module _ (sum : List ℕ → ℕ) (size : ℕ) (log : List ℕ) (blobs : ℤ →
         ∙ ap (λ (l : List ScannedRecord). concluded size first unread (given (stable_place first.stable) l) (cut_of size (stops_in end (R p) (open_at end (R p).met) (map R ps)))) passed
         ∙ ap (λ (at : Segment × ℕ). concluded size first unread (given (stable_place first.stable) (map (resolved blobs) (passed_in end s (open_at end s.met) ss))) (cut_of size at)) stops
 
+  -- no segment is read by the pass
+  abbrev pub ReadsNone : List ℕ → Type 0
+  ReadsNone unread = ((tail_end is.tail ≡ None) × (unread ≡ slots_of is.ordering)) ⊎ ((end : ℕ) × (tail_end is.tail ≡ Some end) × (scanned_below end is.scanned ≡ []))
+
+  -- the slots of the segments that a pass did not read
+  abbrev pub left_of : List Scanned → List ℕ
+  left_of passes = slots_of (drop (length passes) is.ordering)
+
   -- The snapshot stays, and its place is the cut; or a pass over segments that begin below the end of the tail gives the outcome.
   abbrev pub Comes : Outcome → Type 0
   Comes o =
-      ((unread : List ℕ) × (cut ≡ (stable_place first.stable, first.active)) × (o ≡ Recovered (unchanged first unread)))
-      ⊎ ((end : ℕ) × (s : Scanned) × (ss : List Scanned) × (unread : List ℕ) × (tail_end is.tail ≡ Some end) × (scanned_below end is.scanned ≡ s ∷ ss) × ComesOf end s ss unread o)
+      ((unread : List ℕ) × ReadsNone unread × (cut ≡ (stable_place first.stable, first.active)) × (o ≡ Recovered (unchanged first unread)))
+      ⊎ ((end : ℕ) × (s : Scanned) × (ss : List Scanned) × (passes : List Scanned) × (tail_end is.tail ≡ Some end) × (scanned_below end is.scanned ≡ s ∷ ss)
+      × AreReplayed sum size log end (begun_below end is.ordering) passes × ComesOf end s ss (left_of passes) o)
 
   cut_at : (o : Option ℕ) → tail_end is.tail ≡ o → cut ≡ cut_from size first is.scanned o
   cut_at o ends = is.is_cut ∙ ap (cut_from size first is.scanned) ends
 
   -- where a pass was made
-  over : (end : ℕ) → tail_end is.tail ≡ Some end → (passes : List Scanned) → AreReplayed sum size log end (begun_below end is.ordering) passes → (unread : List ℕ) (o : Outcome)
-      → PassesOver sum size blobs first end passes unread o → Comes o
-  over end ends passes replayed unread o result = by (scanned_below end is.scanned) passes refl (same_pass sum size log end (begun_below end is.ordering) (scanned_below end is.scanned) passes (scans_below sum size log end is.ordering is.scanned is.reads) replayed) result where
-    by : (xs ps : List Scanned) → scanned_below end is.scanned ≡ xs → IsSamePass end xs ps → PassesOver sum size blobs first end ps unread o → Comes o
-    by [] [] below same (inl bad) = let there = bad.1 in absurd (in_nothing there.0 there.1)
-    by [] [] below same (inr fine) = inl (unread, cut_at (Some end) ends ∙ ap (cut_over size first end) below, fine.1)
-    by [] (p ∷ ps) below same result = absurd same
-    by (x ∷ xs) [] below same result = absurd same
-    by (x ∷ xs) (p ∷ ps) below same (inl bad) =
-        let there = bad.1 in
-        absurd (none_bad there.0 (passed_truth end x xs below there.0 (subst (λ (l : List ScannedRecord). Contains l there.0) same.0 there.1)) there.2)
-    by (x ∷ xs) (p ∷ ps) below same (inr fine) = inr (end, x, xs, unread, ends, below, comes_of end x p xs ps unread o same fine.1)
+  over : (end : ℕ) → tail_end is.tail ≡ Some end → (passes : List Scanned) → AreReplayed sum size log end (begun_below end is.ordering) passes → (o : Outcome)
+      → PassesOver sum size blobs first end passes (left_of passes) o → Comes o
+  over end ends passes replayed o result =
+      by (scanned_below end is.scanned) passes refl (same_pass sum size log end (begun_below end is.ordering) (scanned_below end is.scanned) passes (scans_below sum size log end is.ordering is.scanned is.reads) replayed) result where
+        by : (xs ps : List Scanned) → scanned_below end is.scanned ≡ xs → IsSamePass end xs ps → PassesOver sum size blobs first end ps (left_of passes) o → Comes o
+        by [] [] below same (inl bad) = let there = bad.1 in absurd (in_nothing there.0 there.1)
+        by [] [] below same (inr fine) = inl (left_of passes, inr (end, ends, below), cut_at (Some end) ends ∙ ap (cut_over size first end) below, fine.1)
+        by [] (p ∷ ps) below same result = absurd same
+        by (x ∷ xs) [] below same result = absurd same
+        by (x ∷ xs) (p ∷ ps) below same (inl bad) =
+            let there = bad.1 in
+            absurd (none_bad there.0 (passed_truth end x xs below there.0 (subst (λ (l : List ScannedRecord). Contains l there.0) same.0 there.1)) there.2)
+        by (x ∷ xs) (p ∷ ps) below same (inr fine) = inr (end, x, xs, passes, ends, below, replayed, comes_of end x p xs ps (left_of passes) o same fine.1)
 
   passes_come : (o : Outcome) (e : Option ℕ) → tail_end is.tail ≡ e → Passes sum size log blobs first is.ordering e o → Comes o
-  passes_come o None ends result = inl (slots_of is.ordering, cut_at None ends, result)
+  passes_come o None ends result = inl (slots_of is.ordering, inl (ends, refl), cut_at None ends, result)
   passes_come o (Some end) ends (inl damaged) = absurd (no_damaged_pass end damaged.1)
-  passes_come o (Some end) ends (inr (passes, replayed, result)) = over end ends passes replayed (slots_of (drop (length passes) is.ordering)) o result
+  passes_come o (Some end) ends (inr (passes, replayed, result)) = over end ends passes replayed o result
 
   replays_come : (o : Outcome) → Replays sum size log blobs first is.ordering (tail_begins size least is.ordering) o → Comes o
   replays_come o (inl damaged) = absurd (no_damaged_tail damaged.1)
