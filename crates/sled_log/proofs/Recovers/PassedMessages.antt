@@ -15,18 +15,13 @@ use Rattle.sled_core.specs.declared.iterator.scan.ScannedRecord.{ScannedRecord}
 use Rattle.sled_core.specs.declared.iterator.scan.RecordContent.{RecordContent}
 use Rattle.sled_core.specs.declared.iterator.scan.RecordContent.TheVariants.{Gives, NamesBlob, Skipped, BatchStart}
 use Rattle.sled_core.specs.Recoverable.{HasItem, NamesBlobOf, MeetsMessage, IsOfHistory}
+use Rattle.sled_core.proofs.Read.PathLemmas.{back_if}
 use Rattle.sled_store.proofs.Segments.Elements.{in_first, in_rest, in_cases, in_nothing, all_from_in}
 use Rattle.sled_log.specs.Recovery.{Applied, applied, applied_of, given, resolved, with_blob, IsSublist}
 use Rattle.sled_log.proofs.PageTable.Ascending.{Ascends, later_above, one_at_place}
 use Rattle.sled_log.proofs.Recovers.Rows.{Stand, stand_in}
 
--- The kind of a message with a blob says what it does.
-
-back_if : (b c : Bool) (x y z k : MessageKind) (d : LogKind) → log_kind_of x ≡ d → log_kind_of y ≡ d → log_kind_of z ≡ d → (if b then Some x else if c then Some y else Some z) ≡ Some k → log_kind_of k ≡ d
-back_if true c x y z k d ix iy iz is = let same : x ≡ k = cc in sym (ap log_kind_of same) ∙ ix
-back_if false true x y z k d ix iy iz is = let same : y ≡ k = cc in sym (ap log_kind_of same) ∙ iy
-back_if false false x y z k d ix iy iz is = let same : z ≡ k = cc in sym (ap log_kind_of same) ∙ iz
-
+-- the kind of a message with a blob says what it does
 blob_kind_back : (does_it : LogKind) (page : ℕ) (k : MessageKind) → kind_written does_it page true ≡ Some k → log_kind_of k ≡ does_it
 blob_kind_back does.Replace page k is = back_if (page == 1) (page == 0) _ _ _ k does.Replace refl refl refl is
 blob_kind_back does.Link page k is = let same : kind.BlobLink ≡ k = cc in sym (ap log_kind_of same)

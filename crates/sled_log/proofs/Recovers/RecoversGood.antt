@@ -8,9 +8,9 @@ use Rattle.sled_codec.specs.PageTables.{IsTable}
 use Rattle.sled_codec.specs.Snapshots.{SnapshotModel, stable_place}
 use Rattle.sled_store.specs.Device.{Content}
 use Rattle.sled_core.specs.Good.{ReadsAt, IsGood}
-use Rattle.sled_core.specs.Recoverable.{AreRecoverableSnapshots, IsRecoverableLog, AreRecoverableBlobs, StandsInline, HasItem, scanned_below}
+use Rattle.sled_core.specs.Recoverable.{AreRecoverableSnapshots, IsRecoverableLog, AreRecoverableBlobs, StandsInline, HasItem, scanned_below, Recoverable}
 use Rattle.sled_log.specs.Orderly.{IsOrderly}
-use Rattle.sled_log.specs.Recovery.{Scanned, Applied, Outcome, Recovered, RecoveryResult, shred_range_of, is_beyond, begun_below, AreReplayed, tail_end, concluded, unchanged, ContinuesFrom, Recovers}
+use Rattle.sled_log.specs.Recovery.{Scanned, Applied, Outcome, Damaged, Recovered, RecoveryResult, shred_range_of, is_beyond, begun_below, AreReplayed, tail_end, concluded, unchanged, ContinuesFrom, Recovers}
 use Rattle.sled_log.proofs.PageTable.Ascending.{apart_ascends}
 use Rattle.sled_log.proofs.PageTable.WholeTables.{table_whole}
 use Rattle.sled_log.proofs.Replay.FirstSnapshot.{first_is_table, no_damaged_snapshot}
@@ -119,6 +119,15 @@ module _ (sum : List ℕ → ℕ) (size : ℕ) (content : Content) (H : History)
   pub recovers_well : (o : Outcome) → Recovers sum size content o → (x : RecoveryResult) × (o ≡ Recovered x) × RecoversWell x
   recovers_well o recovers = answer o (what_comes sum size content.log content.blobs H A first cut is are o (goes_on sum size content H f first snapshots o recovers))
 
+-- outcomes that are one give one result
+result_in : RecoveryResult → Outcome → RecoveryResult
+result_in x Damaged = x
+result_in x (Recovered y) = y
+
+one_result : (x y : RecoveryResult) → Recovered x ≡ Recovered y → x ≡ y
+unfolding result_in
+one_result x y same = ap (result_in x) same
+
 -- A recoverable content is recovered, and the answer is good.
 pub recovers_good : (sum : List ℕ → ℕ) (size : ℕ) (content : Content) (H : History) (A f : ℕ) → 256 ≤ size → IsOrderly H → (first : SnapshotModel) (cut : ℕ × Option ℕ)
     → AreRecoverableSnapshots sum size content.snapshots H f first → IsRecoverableLog sum size content.log H A first cut → AreRecoverableBlobs sum content.blobs H cut.0
@@ -128,3 +137,19 @@ recovers_good sum size content H A f some orderly first cut snapshots is are o r
     let comes = recovers_well sum size content H A f some orderly first cut snapshots is are o recovers in
     let well = comes.2 in
     (comes.0, comes.1, well.place, well.good)
+
+-- So a recoverable content isn't damaged, and each recovery of it is good.
+module _ (sum : List ℕ → ℕ) (size : ℕ) (content : Content) (H : History) (A f : ℕ) (some : 256 ≤ size) (orderly : IsOrderly H) (is : Recoverable sum size content H A f) where
+  pub recoverable_undamaged : Recovers sum size content Damaged → ⊥
+  unfolding Recoverable
+  recoverable_undamaged recovers =
+      let comes = recovers_good sum size content H A f some orderly is.first is.cut is.snapshots is.log is.blobs Damaged recovers in
+      let no : Damaged ≡ Recovered comes.0 = comes.1 in
+      cc
+
+  pub recoverable_good : (x : RecoveryResult) → Recovers sum size content (Recovered x) → IsGood sum size content H A f x.model
+  unfolding Recoverable
+  recoverable_good x recovers =
+      let comes = recovers_good sum size content H A f some orderly is.first is.cut is.snapshots is.log is.blobs (Recovered x) recovers in
+      let same : Recovered x ≡ Recovered comes.0 = comes.1 in
+      subst (λ (y : RecoveryResult). IsGood sum size content H A f y.model) (sym (one_result x comes.0 same)) comes.3
