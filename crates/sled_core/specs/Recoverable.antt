@@ -140,11 +140,11 @@ pub record LiesInSegment (size : ℕ) (m : Message) : Type 0 where
   pub begins : BeginsInSegment size m.place
   pub ends : m.place % size + m.size ≤ size
 
--- A batch begins where a record can, and ends behind its beginning. Each other one ends before it begins, or begins behind its end.
+-- A batch begins where a record can. No other one begins there, and one that begins within it ends within it.
 pub record IsPlacedBatch (size : ℕ) (H : History) (b : Batch) : Type 0 where
   pub begins : BeginsInSegment size b.low
-  pub pegged : b.low < b.peg
-  pub apart : (c : Batch) → Contains H.batches c → (c ≡ b) ⊎ (c.peg < b.low) ⊎ (b.peg < c.low)
+  pub alone : (c : Batch) → Contains H.batches c → c.low ≡ b.low → c ≡ b
+  pub nested : (c : Batch) → Contains H.batches c → b.low < c.low → c.low ≤ b.peg → c.peg ≤ b.peg
 
 -- those that begin below a place
 abbrev pub scanned_below : ℕ → List Scanned → List Scanned

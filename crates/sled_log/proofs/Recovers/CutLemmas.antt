@@ -254,22 +254,13 @@ module _ (sum : List ℕ → ℕ) (size : ℕ) (log : List ℕ) (some : 256 ≤ 
       its : (t : Scanned) → Contains is.scanned t → (x : ScannedRecord) → Contains t.met x → x.place ≤ b.low → b.low < x.place + x.len → (x.place ≡ b.low) × (x.what ≡ BatchStart (pos b.peg))
       its t known_t x met above under =
           let found = batch_of x (is.truth t x known_t met) b there above under in
-          let c : Batch = found.0 in
-          let placed_b = is.batched b there lower in
-          let placed_c = is.batched c found.1 (omega (arith, found.2, lower)) in
-          let pegged_b = placed_b.pegged in
-          let pegged_c = placed_c.pegged in
-          let same : c ≡ b = elim (placed_b.apart c found.1) [
-            | inl one ↦ one
-            | inr (inl before) ↦ absurd (omega (arith, before, found.2, pegged_c))
-            | inr (inr behind) ↦ absurd (omega (arith, behind, found.2, pegged_b))
-          ] in
+          let same : found.0 ≡ b = (is.batched b there lower).alone found.0 found.1 found.2 in
           (found.3, found.4 ∙ ap (λ (y : Batch). BatchStart (pos y.peg)) same)
 
       -- where the pass stops at a batch that is open, this one ends before that
       at_open : (z : ScannedRecord) → Contains (stopped sum size log some H A first cut is end s ss ends below).last.met z → z.place ≡ (stop sum size log some H A first cut is end s ss ends below).1 → opens end z.what ≡ true
-          → (stop sum size log some H A first cut is end s ss ends below).1 + 32 ≤ (stopped sum size log some H A first cut is end s ss ends below).last.segment.place + size → b.peg < cut.0
-      at_open z met at opened room =
+          → (stop sum size log some H A first cut is end s ss ends below).1 + 32 ≤ (stopped sum size log some H A first cut is end s ss ends below).last.segment.place + size → b.peg < end → b.peg < cut.0
+      at_open z met at opened room ended =
           let last = last_known sum size log some H A first cut is end s ss ends below in
           let found = opened_of end z (is.truth (stopped sum size log some H A first cut is end s ss ends below).last z last.0 met) opened in
           let c : Batch = found.0 in
@@ -279,10 +270,11 @@ module _ (sum : List ℕ → ℕ) (size : ℕ) (log : List ℕ) (some : 256 ≤ 
             | inl same ↦ cut_place sum size log some H A first cut is end s ss ends below ∙ same
             | inr filled ↦ absurd (omega (arith, filled.1, at_stop, room))
           ] in
-          elim ((is.batched b there lower).apart c found.1) [
-            | inl one ↦ absurd (omega (arith, ap (λ (y : Batch). y.low) one, found.2, at, is_stop, lower))
-            | inr (inl before) ↦ absurd (omega (arith, before, found.3, lower, is_stop, low))
-            | inr (inr behind) ↦ omega (arith, behind, found.2, at, is_stop)
+          elim (cases_lt b.peg c.low) [
+            | inl early ↦ omega (arith, early, found.2, at, is_stop)
+            | inr late ↦ (
+                let within = (is.batched b there lower).nested c found.1 (omega (arith, found.2, at, is_stop, lower)) late in
+                absurd (omega (arith, within, found.3, ended)))
           ]
 
       in_tail : IsCovered b.low → b.peg < cut.0
@@ -291,7 +283,7 @@ module _ (sum : List ℕ → ℕ) (size : ℕ) (log : List ℕ) (some : 256 ≤ 
           let passes = met_below sum size log some H A first cut is end s ss ends below t known_t x met (omega (arith, same.0, lower)) in
           let ended : b.peg < end = closed_is end x.what b.peg (passed_closed sum size log some end s ss (open_at end s.met) refl x passes) same.1 in
           ⊎_elim
-          (λ open_one. at_open open_one.0 open_one.1 open_one.2 open_one.3 open_one.4)
+          (λ open_one. at_open open_one.0 open_one.1 open_one.2 open_one.3 open_one.4 ended)
           (λ all.
           let far = end_passed sum size log some H A first cut is end s ss ends below all.1 in
           let bound = (cut_bounds sum size log some H A first cut is end s ss ends below).0 in
