@@ -7,4 +7,5 @@ pub mod PassTable
 pub mod PassedMessages
 pub mod RecoversGood
 pub mod Rows
+pub mod TailBegins
 pub mod Undamaged

@@ -1,12 +1,10 @@
 -- The cut of a recoverable log file splits neither a message nor a batch.
-use Rattle.std.proofs.Common.{⊎_elim, ◌≡◌, ◌⊎◌, ◌∙◌, ◌+◌, ◌-◌, ◌*◌, ◌/◌, ◌%◌, ◌<◌, ◌≤◌, ◌<ℤ◌, ◌≤ℤ◌, ℕ, ℤ, pos, negsuc, max, Bool, true, false, int_le, nat_lt, nat_le, T, List, [], ◌∷◌, Option, Some, refl, sym, ap, subst, arith, inl, inr}
+use Rattle.std.proofs.Common.{⊎_elim, ◌≡◌, ◌⊎◌, ◌∙◌, ◌+◌, ◌*◌, ◌/◌, ◌%◌, ◌<◌, ◌≤◌, ℕ, pos, true, false, int_le, List, ◌∷◌, Option, Some, refl, sym, ap, arith, inl, inr}
 use Rattle.std.specs.List.{Contains}
-use Rattle.std.proofs.lemmas.Bool.{cases_lt, ltb-true, leb-true}
+use Rattle.std.proofs.lemmas.Bool.{cases_lt}
 use Rattle.std.proofs.lemmas.Bool.Decides.{nat_tests}
-use Rattle.sled_codec.specs.Coords.{raised}
 use Rattle.sled_codec.specs.History.{Message, Batch, History, CutFits}
 use Rattle.sled_codec.specs.Snapshots.{SnapshotModel, stable_place}
-use Rattle.sled_store.proofs.Segments.Elements.{in_first, in_rest}
 use Rattle.sled_core.specs.declared.iterator.Segment.{Segment}
 use Rattle.sled_core.specs.declared.iterator.scan.ScannedRecord.{ScannedRecord}
 use Rattle.sled_core.specs.declared.iterator.scan.RecordContent.{RecordContent}
@@ -15,41 +13,11 @@ use Rattle.sled_core.specs.declared.iterator.scan.ScanEnd.{ScanEnd}
 use Rattle.sled_core.specs.declared.iterator.scan.ScanEnd.TheVariants.{Full, Capped, Broken}
 use Rattle.sled_core.specs.Scan.{IsEnd}
 use Rattle.sled_core.specs.Recoverable.{BeginsInSegment, IsOfHistory, IsRecoverableLog, scanned_below}
-use Rattle.sled_core.proofs.Read.FoundLemmas.{pos_injective}
-use Rattle.sled_log.specs.Recovery.{Scanned, place_of_mark, greatest_mark, tail_begins, tail_end, opens, open_at, least_place}
+use Rattle.sled_log.specs.Recovery.{Scanned, cut_of, tail_begins, tail_end, opens, open_at, least_place}
 use Rattle.sled_log.proofs.PageTable.Ascending.{Ascends, one_at_place}
-use Rattle.sled_log.proofs.Recovers.PassCut.{further, known, whole, tail_has, put_down, passed, stop, cut_place, stopped, last_known, stop_below, cut_bounds, no_higher, passed_stands, met_below, ends_below, end_passed}
-use Rattle.sled_log.proofs.Recovers.Rows.{stand_in, end_there, covers, cut_cases, passed_closed}
-
--- The greatest mark is the place that it is not below, or a mark.
-greatest_is : (least : ℕ) (ss : List Segment) → (greatest_mark least ss ≡ least) ⊎ ((s : Segment) × Contains ss s × (s.mark ≡ pos (greatest_mark least ss)))
-greatest_is least [] = inl refl
-greatest_is least (s ∷ ss) = by s.mark refl (greatest_is least ss) where
-  Is : ℕ → Type 0
-  Is n = (n ≡ least) ⊎ ((t : Segment) × Contains (s ∷ ss) t × (t.mark ≡ pos n))
-
-  later : (greatest_mark least ss ≡ least) ⊎ ((t : Segment) × Contains ss t × (t.mark ≡ pos (greatest_mark least ss))) → Is (greatest_mark least ss)
-  later (inl at) = inl at
-  later (inr (t, there, at)) = inr (t, in_rest s t ss there, at)
-
-  by : (mark : ℤ) → s.mark ≡ mark → (greatest_mark least ss ≡ least) ⊎ ((t : Segment) × Contains ss t × (t.mark ≡ pos (greatest_mark least ss))) → Is (max (place_of_mark s.mark) (greatest_mark least ss))
-  by (pos n) at rest = elim (cases_lt n (greatest_mark least ss)) [
-    | inl lower ↦ subst Is (omega (arith, lower, ap place_of_mark at)) (later rest)
-    | inr higher ↦ inr (s, in_first s ss, at ∙ ap pos (omega (arith, higher, ap place_of_mark at)))
-  ]
-  by (negsuc n) at rest = subst Is (omega (arith, ap place_of_mark at)) (later rest)
-
--- orders of a mark that is a place
-
-passes : (b : Bool) → T b → b ≡ true
-passes true holds = refl
-passes false holds = absurd holds
-
-mark_below : (mark : ℤ) (n p : ℕ) → mark ≡ pos n → mark <ℤ pos p → n < p
-mark_below mark n p is below = let both : pos n <ℤ pos p = subst (λ z. z <ℤ pos p) is below in ltb-true n p (passes (nat_lt n p) both.lt)
-
-mark_above : (mark : ℤ) (n p : ℕ) → mark ≡ pos n → pos p ≤ℤ mark → p ≤ n
-mark_above mark n p is above = let both : pos p ≤ℤ pos n = subst (λ z. pos p ≤ℤ z) is above in leb-true p n (passes (nat_le p n) both.le)
+use Rattle.sled_log.proofs.Recovers.PassCut.{further, known, whole, tail_has, put_down, passed, stop, cut_place, stopped, last_known, last_place, stop_below, cut_bounds, no_higher, passed_stands, met_below, ends_below, end_passed}
+use Rattle.sled_log.proofs.Recovers.TailBegins.{begins_at, begins_low, ends_before}
+use Rattle.sled_log.proofs.Recovers.Rows.{IsStopIn, stand_in, end_there, covers, cut_cases, passed_closed}
 
 -- a batch that is open is one
 open_is : (end : ℕ) (what : RecordContent) (peg : ℕ) → opens end what ≡ true → what ≡ BatchStart (pos peg) → end ≤ peg
@@ -64,36 +32,14 @@ closed_is end what peg is at =
 
 module _ (sum : List ℕ → ℕ) (size : ℕ) (log : List ℕ) (some : 256 ≤ size) (H : History) (A : ℕ) (first : SnapshotModel) (cut : ℕ × Option ℕ) (is : IsRecoverableLog sum size log H A first cut)
     (ordered : Ascends H.messages) (fits : CutFits H (stable_place first.stable)) where
-  abbrev least : ℕ
-  least = least_place size first
-
-  abbrev greatest : ℕ
-  greatest = greatest_mark least is.ordering
-
   abbrev begins : ℕ
-  begins = tail_begins size least is.ordering
+  begins = tail_begins size (least_place size first) is.ordering
 
-  -- the tail begins at a multiple of the size, no higher than the greatest mark
-  begins_at : (begins % size ≡ 0) × (begins ≤ greatest)
-  begins_at = let parts = put_down size greatest in (parts.1, omega (arith, parts.0))
+  begins_at_multiple : begins % size ≡ 0
+  begins_at_multiple = (begins_at sum size log some H A first cut is).0
 
-  -- and no higher than the cut
-  begins_low : begins ≤ cut.0
-  begins_low = elim (greatest_is least is.ordering) [
-    | inl at ↦ (
-        let low = put_down size (stable_place first.stable) in
-        let above = is.not_below in
-        omega (arith, begins_at.1, at, low.0, above))
-    | inr (s, there, mark) ↦ ⊎_elim
-        (λ lower. let under : greatest < cut.0 = mark_below s.mark greatest cut.0 mark lower in omega (arith, begins_at.1, under))
-        (λ within.
-        let same : greatest ≡ within.0 = pos_injective greatest within.0 (sym mark ∙ within.1) in
-        let top = put_down size (cut.0 + (size - 1)) in
-        let under : begins < raised size cut.0 = omega (arith, begins_at.1, same, within.2) in
-        let far = further sum size log some H A first cut is begins (raised size cut.0) begins_at.0 top.1 under in
-        omega (arith, far, top.0, some))
-        (is.marks_below s there)
-  ]
+  multiples : (a b : ℕ) → a % size ≡ 0 → b % size ≡ 0 → a < b → a + size ≤ b
+  multiples = further sum size log some H A first cut is
 
   -- Where a batch begins and a message begins within a record, that is the record.
   record_of : (x : ScannedRecord) → IsOfHistory sum size log H x → (m : Message) → Contains H.messages m → x.place ≤ m.place → m.place < x.place + x.len → (x.place ≡ m.place) × (x.len ≡ m.size)
@@ -125,12 +71,39 @@ module _ (sum : List ℕ → ℕ) (size : ℕ) (log : List ℕ) (some : 256 ≤ 
   opened_of end x (inr (inr (what, alone, apart))) opened = let no : false ≡ true = sym (ap (opens end) what) ∙ opened in cc
 
   module _ (end : ℕ) (s : Scanned) (ss : List Scanned) (ends : tail_end is.tail ≡ Some end) (below : scanned_below end is.scanned ≡ s ∷ ss) where
+    -- where the pass stops, in which segment, and the cut there
+
+    abbrev at_stop : Segment × ℕ
+    at_stop = stop sum size log some H A first cut is end s ss ends below
+
+    abbrev stops : IsStopIn sum size log some end s ss at_stop
+    stops = stopped sum size log some H A first cut is end s ss ends below
+
+    abbrev final : Scanned
+    final = stops.last
+
+    final_known : Contains is.scanned final × (final.segment.place < end)
+    final_known = last_known sum size log some H A first cut is end s ss ends below
+
+    final_place : at_stop.0.place ≡ final.segment.place
+    final_place = last_place sum size log some H A first cut is end s ss ends below
+
+    at_cut : cut.0 ≡ (cut_of size at_stop).0
+    at_cut = cut_place sum size log some H A first cut is end s ss ends below
+
+    bounds : (at_stop.1 ≤ cut.0) × (cut.0 ≤ final.segment.place + size)
+    bounds = cut_bounds sum size log some H A first cut is end s ss ends below
+
+    -- a record below the cut is met by the pass
+    meets : (t : Scanned) → Contains is.scanned t → (x : ScannedRecord) → Contains t.met x → x.place < cut.0 → Contains (passed sum size log some H A first cut is end s ss ends below) x
+    meets = met_below sum size log some H A first cut is end s ss ends below
+
     -- the pass stops no higher than the tail
-    stop_low : (stop sum size log some H A first cut is end s ss ends below).1 ≤ end
+    stop_low : at_stop.1 ≤ end
     stop_low =
-        let last = last_known sum size log some H A first cut is end s ss ends below in
+        let last = final_known in
         let at = stop_below sum size log some H A first cut is end s ss ends below in
-        let low = ends_below sum size log some H A first cut is end s ss ends below (stopped sum size log some H A first cut is end s ss ends below).last last.0 last.1 in
+        let low = ends_below sum size log some H A first cut is end s ss ends below final last.0 last.1 in
         omega (arith, at, low)
 
     -- Nothing begins below the cut where the reading of the last segment ended for a record that is broken.
@@ -139,16 +112,12 @@ module _ (sum : List ℕ → ℕ) (size : ℕ) (log : List ℕ) (some : 256 ≤ 
         let room = at.room in
         let parts = put_down size p in
         let low = stop_low in
-        elim (cut_cases size (stop sum size log some H A first cut is end s ss ends below)) [
-          | inl same ↦ omega (arith, same, cut_place sum size log some H A first cut is end s ss ends below, lower, above, low)
+        elim (cut_cases size at_stop) [
+          | inl same ↦ omega (arith, same, at_cut, lower, above, low)
           | inr filled ↦ (
-              let at_cut : cut.0 ≡ (stopped sum size log some H A first cut is end s ss ends below).last.segment.place + size = cut_place sum size log some H A first cut is end s ss ends below ∙ filled.0 ∙ ap (λ (y : Segment). y.place + size) (stopped sum size log some H A first cut is end s ss ends below).segment in
-              let at_stop = ap (λ (y : Segment). y.place) (stopped sum size log some H A first cut is end s ss ends below).segment in
-              let last = last_known sum size log some H A first cut is end s ss ends below in
-              let last_at = (whole sum size log some H A first cut is (stopped sum size log some H A first cut is end s ss ends below).last last.0).1 in
-              let under : (stopped sum size log some H A first cut is end s ss ends below).last.segment.place < p / size * size = omega (arith, filled.1, at_stop, low, above, room, parts.0) in
-              let far = further sum size log some H A first cut is (stopped sum size log some H A first cut is end s ss ends below).last.segment.place (p / size * size) last_at parts.1 under in
-              omega (arith, far, at_cut, lower, parts.0))
+              let under : final.segment.place < p / size * size = omega (arith, filled.1, final_place, low, above, room, parts.0) in
+              let far = multiples final.segment.place (p / size * size) (whole sum size log some H A first cut is final final_known.0).1 parts.1 under in
+              omega (arith, far, filled.0, at_cut, final_place, lower, parts.0))
         ]
 
     -- A record of the tail has this place, or it lies behind a Cap.
@@ -169,13 +138,13 @@ module _ (sum : List ℕ → ℕ) (size : ℕ) (log : List ℕ) (some : 256 ≤ 
 
       low : begins ≤ z
       low = elim (cases_lt z begins) [
-        | inl under ↦ (let far = further sum size log some H A first cut is z begins parts.1 begins_at.0 under in absurd (omega (arith, far, above, parts.0, within)))
+        | inl under ↦ (let far = multiples z begins parts.1 begins_at_multiple under in absurd (omega (arith, far, above, parts.0, within)))
         | inr le ↦ le
       ]
 
       high : z < end
       high =
-          let last = last_known sum size log some H A first cut is end s ss ends below in
+          let last = final_known in
           let bound = no_higher sum size log some H A first cut is end s ss ends below z parts.1 (omega (arith, lower, parts.0)) in
           let begun = last.1 in
           omega (arith, bound, begun)
@@ -197,7 +166,7 @@ module _ (sum : List ℕ → ℕ) (size : ℕ) (log : List ℕ) (some : 256 ≤ 
 
       by_tail : IsCovered p
       by_tail =
-          let found = tail_has sum size log some H A first cut is begins is.tail is.is_tail begins_at.0 end ends z parts.1 low high in
+          let found = tail_has sum size log some H A first cut is begins is.tail is.is_tail begins_at_multiple end ends z parts.1 low high in
           in_segment found.0 found.1.0 found.1.1 found.1.2
 
     -- Messages.
@@ -214,16 +183,16 @@ module _ (sum : List ℕ → ℕ) (size : ℕ) (log : List ℕ) (some : 256 ≤ 
       before_tail under =
           let lies = (is.placed m there lower).ends in
           let parts = put_down size m.place in
-          let far = further sum size log some H A first cut is (m.place / size * size) begins parts.1 begins_at.0 (omega (arith, under, parts.0)) in
-          let low = begins_low in
+          let far = multiples (m.place / size * size) begins parts.1 begins_at_multiple (omega (arith, under, parts.0)) in
+          let low = begins_low sum size log some H A first cut is in
           omega (arith, lies, parts.0, far, low)
 
       in_tail : IsCovered m.place → m.place + m.size ≤ cut.0
       in_tail (t, known_t, inl (x, met, above, under)) =
           let same = record_of x (is.truth t x known_t met) m there above under in
-          let passes = met_below sum size log some H A first cut is end s ss ends below t known_t x met (omega (arith, same.0, lower)) in
+          let passes = meets t known_t x met (omega (arith, same.0, lower)) in
           let stands = stand_in s.segment.place (passed sum size log some H A first cut is end s ss ends below) _ (passed_stands sum size log some H A first cut is end s ss ends below) x passes in
-          let bound = (cut_bounds sum size log some H A first cut is end s ss ends below).0 in
+          let bound = bounds.0 in
           omega (arith, stands.2, same.0, same.1, bound)
       in_tail (t, known_t, inr (capped, past, within)) = ⊎_elim (λ under. absurd (omega (arith, under, past))) (λ over. absurd (omega (arith, over, within))) ((is.caps t known_t capped).0 m there)
 
@@ -233,23 +202,10 @@ module _ (sum : List ℕ → ℕ) (size : ℕ) (log : List ℕ) (some : 256 ≤ 
     fits_batch b there lower = elim (cases_lt b.low (stable_place first.stable)) [
       | inl early ↦ (let ended = fits.batches b there early in let above = is.not_below in omega (arith, ended, above))
       | inr since ↦ elim (cases_lt b.low begins) [
-        | inl under ↦ by_mark since under (greatest_is least is.ordering)
+        | inl under ↦ ends_before sum size log some H A first cut is b there since under
         | inr above ↦ in_tail (covered b.low above lower (is.batched b there lower).begins)
       ]
     ] where
-      -- the greatest mark lies in no batch
-      by_mark : stable_place first.stable ≤ b.low → b.low < begins → (greatest ≡ least) ⊎ ((t : Segment) × Contains is.ordering t × (t.mark ≡ pos greatest)) → b.peg < cut.0
-      by_mark since under (inl at) = (let low = put_down size (stable_place first.stable) in absurd (omega (arith, begins_at.1, at, low.0, since, under)))
-      by_mark since under (inr (t, known_t, mark)) = ⊎_elim
-          (λ before. absurd (let early : greatest < b.low = mark_below t.mark greatest b.low mark before in omega (arith, early, under, begins_at.1)))
-          (λ behind. let ended : b.peg ≤ greatest = mark_above t.mark greatest b.peg mark behind in ⊎_elim
-          (λ low. let early : greatest < cut.0 = mark_below t.mark greatest cut.0 mark low in omega (arith, ended, early))
-          (λ within.
-          let same : greatest ≡ within.0 = pos_injective greatest within.0 (sym mark ∙ within.1) in
-          ⊎_elim (λ early. early) (λ late. absurd (omega (arith, late, ended, same))) (within.5 b there))
-          (is.marks_below t known_t))
-          ((is.marks t known_t).apart b there)
-
       -- the record of its beginning
       its : (t : Scanned) → Contains is.scanned t → (x : ScannedRecord) → Contains t.met x → x.place ≤ b.low → b.low < x.place + x.len → (x.place ≡ b.low) × (x.what ≡ BatchStart (pos b.peg))
       its t known_t x met above under =
@@ -258,17 +214,14 @@ module _ (sum : List ℕ → ℕ) (size : ℕ) (log : List ℕ) (some : 256 ≤ 
           (found.3, found.4 ∙ ap (λ (y : Batch). BatchStart (pos y.peg)) same)
 
       -- where the pass stops at a batch that is open, this one ends before that
-      at_open : (z : ScannedRecord) → Contains (stopped sum size log some H A first cut is end s ss ends below).last.met z → z.place ≡ (stop sum size log some H A first cut is end s ss ends below).1 → opens end z.what ≡ true
-          → (stop sum size log some H A first cut is end s ss ends below).1 + 32 ≤ (stopped sum size log some H A first cut is end s ss ends below).last.segment.place + size → b.peg < end → b.peg < cut.0
+      at_open : (z : ScannedRecord) → Contains final.met z → z.place ≡ at_stop.1 → opens end z.what ≡ true
+          → at_stop.1 + 32 ≤ final.segment.place + size → b.peg < end → b.peg < cut.0
       at_open z met at opened room ended =
-          let last = last_known sum size log some H A first cut is end s ss ends below in
-          let found = opened_of end z (is.truth (stopped sum size log some H A first cut is end s ss ends below).last z last.0 met) opened in
+          let found = opened_of end z (is.truth final z final_known.0 met) opened in
           let c : Batch = found.0 in
-          let low = stop_low in
-          let at_stop = ap (λ (y : Segment). y.place) (stopped sum size log some H A first cut is end s ss ends below).segment in
-          let is_stop : cut.0 ≡ (stop sum size log some H A first cut is end s ss ends below).1 = elim (cut_cases size (stop sum size log some H A first cut is end s ss ends below)) [
-            | inl same ↦ cut_place sum size log some H A first cut is end s ss ends below ∙ same
-            | inr filled ↦ absurd (omega (arith, filled.1, at_stop, room))
+          let is_stop : cut.0 ≡ at_stop.1 = elim (cut_cases size at_stop) [
+            | inl same ↦ at_cut ∙ same
+            | inr filled ↦ absurd (omega (arith, filled.1, final_place, room))
           ] in
           elim (cases_lt b.peg c.low) [
             | inl early ↦ omega (arith, early, found.2, at, is_stop)
@@ -280,15 +233,15 @@ module _ (sum : List ℕ → ℕ) (size : ℕ) (log : List ℕ) (some : 256 ≤ 
       in_tail : IsCovered b.low → b.peg < cut.0
       in_tail (t, known_t, inl (x, met, above, under)) =
           let same = its t known_t x met above under in
-          let passes = met_below sum size log some H A first cut is end s ss ends below t known_t x met (omega (arith, same.0, lower)) in
+          let passes = meets t known_t x met (omega (arith, same.0, lower)) in
           let ended : b.peg < end = closed_is end x.what b.peg (passed_closed sum size log some end s ss (open_at end s.met) refl x passes) same.1 in
           ⊎_elim
           (λ open_one. at_open open_one.0 open_one.1 open_one.2 open_one.3 open_one.4 ended)
           (λ all.
           let far = end_passed sum size log some H A first cut is end s ss ends below all.1 in
-          let bound = (cut_bounds sum size log some H A first cut is end s ss ends below).0 in
+          let bound = bounds.0 in
           omega (arith, ended, far, bound))
-          (stopped sum size log some H A first cut is end s ss ends below).why
+          stops.why
       in_tail (t, known_t, inr (capped, past, within)) = ⊎_elim (λ under. absurd (omega (arith, under, past))) (λ over. absurd (omega (arith, over, within))) ((is.caps t known_t capped).1 b there)
 
     -- The cut splits neither.
