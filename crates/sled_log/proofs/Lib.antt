@@ -3,6 +3,7 @@ pub mod OwnBlobs
 pub mod PageTable
 mod Passes
 pub mod PublicLaws
+pub mod Recovers
 pub mod Replay
 pub mod Sessions
 pub mod SnapshotFile

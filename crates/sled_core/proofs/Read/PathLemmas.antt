@@ -46,7 +46,7 @@ zeros_empty sum size log lid number zero h body len s =
 
 -- the kind that a message is written under says what it does
 
-back_if : (b c : Bool) (x y z k : MessageKind) (d : LogKind) → log_kind_of x ≡ d → log_kind_of y ≡ d → log_kind_of z ≡ d → (if b then Some x else if c then Some y else Some z) ≡ Some k → log_kind_of k ≡ d
+pub back_if : (b c : Bool) (x y z k : MessageKind) (d : LogKind) → log_kind_of x ≡ d → log_kind_of y ≡ d → log_kind_of z ≡ d → (if b then Some x else if c then Some y else Some z) ≡ Some k → log_kind_of k ≡ d
 back_if true c x y z k d ix iy iz is = let same : x ≡ k = cc in sym (ap log_kind_of same) ∙ ix
 back_if false true x y z k d ix iy iz is = let same : y ≡ k = cc in sym (ap log_kind_of same) ∙ iy
 back_if false false x y z k d ix iy iz is = let same : z ≡ k = cc in sym (ap log_kind_of same) ∙ iz

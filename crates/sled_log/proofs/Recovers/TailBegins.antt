@@ -1,0 +1,93 @@
+-- Where the tail of a recoverable log file begins: no higher than the cut, and in no batch.
+use Rattle.std.proofs.Common.{⊎_elim, ◌≡◌, ◌⊎◌, ◌∙◌, ◌+◌, ◌-◌, ◌%◌, ◌<◌, ◌≤◌, ◌<ℤ◌, ◌≤ℤ◌, ℕ, ℤ, pos, negsuc, max, Bool, true, false, nat_lt, nat_le, T, List, [], ◌∷◌, Option, refl, sym, ap, subst, arith, inl, inr}
+use Rattle.std.specs.List.{Contains}
+use Rattle.std.proofs.lemmas.Bool.{cases_lt, ltb-true, leb-true}
+use Rattle.sled_codec.specs.Coords.{raised}
+use Rattle.sled_codec.specs.History.{Batch, History}
+use Rattle.sled_codec.specs.Snapshots.{SnapshotModel, stable_place}
+use Rattle.sled_store.proofs.Segments.Elements.{in_first, in_rest}
+use Rattle.sled_core.specs.declared.iterator.Segment.{Segment}
+use Rattle.sled_core.specs.Recoverable.{IsRecoverableLog}
+use Rattle.sled_core.proofs.Read.FoundLemmas.{pos_injective}
+use Rattle.sled_log.specs.Recovery.{place_of_mark, greatest_mark, tail_begins, least_place}
+use Rattle.sled_log.proofs.Recovers.PassCut.{further, put_down}
+
+-- The greatest mark is the place that it is not below, or a mark.
+greatest_is : (least : ℕ) (ss : List Segment) → (greatest_mark least ss ≡ least) ⊎ ((s : Segment) × Contains ss s × (s.mark ≡ pos (greatest_mark least ss)))
+greatest_is least [] = inl refl
+greatest_is least (s ∷ ss) = by s.mark refl (greatest_is least ss) where
+  Is : ℕ → Type 0
+  Is n = (n ≡ least) ⊎ ((t : Segment) × Contains (s ∷ ss) t × (t.mark ≡ pos n))
+
+  later : (greatest_mark least ss ≡ least) ⊎ ((t : Segment) × Contains ss t × (t.mark ≡ pos (greatest_mark least ss))) → Is (greatest_mark least ss)
+  later (inl at) = inl at
+  later (inr (t, there, at)) = inr (t, in_rest s t ss there, at)
+
+  by : (mark : ℤ) → s.mark ≡ mark → (greatest_mark least ss ≡ least) ⊎ ((t : Segment) × Contains ss t × (t.mark ≡ pos (greatest_mark least ss))) → Is (max (place_of_mark s.mark) (greatest_mark least ss))
+  by (pos n) at rest = elim (cases_lt n (greatest_mark least ss)) [
+    | inl lower ↦ subst Is (omega (arith, lower, ap place_of_mark at)) (later rest)
+    | inr higher ↦ inr (s, in_first s ss, at ∙ ap pos (omega (arith, higher, ap place_of_mark at)))
+  ]
+  by (negsuc n) at rest = subst Is (omega (arith, ap place_of_mark at)) (later rest)
+
+-- orders of a mark that is a place
+
+passes : (b : Bool) → T b → b ≡ true
+passes true holds = refl
+passes false holds = absurd holds
+
+mark_below : (mark : ℤ) (n p : ℕ) → mark ≡ pos n → mark <ℤ pos p → n < p
+mark_below mark n p is below = let both : pos n <ℤ pos p = subst (λ z. z <ℤ pos p) is below in ltb-true n p (passes (nat_lt n p) both.lt)
+
+mark_above : (mark : ℤ) (n p : ℕ) → mark ≡ pos n → pos p ≤ℤ mark → p ≤ n
+mark_above mark n p is above = let both : pos p ≤ℤ pos n = subst (λ z. pos p ≤ℤ z) is above in leb-true p n (passes (nat_le p n) both.le)
+
+module _ (sum : List ℕ → ℕ) (size : ℕ) (log : List ℕ) (some : 256 ≤ size) (H : History) (A : ℕ) (first : SnapshotModel) (cut : ℕ × Option ℕ) (is : IsRecoverableLog sum size log H A first cut) where
+  abbrev least : ℕ
+  least = least_place size first
+
+  abbrev greatest : ℕ
+  greatest = greatest_mark least is.ordering
+
+  abbrev pub begins : ℕ
+  begins = tail_begins size least is.ordering
+
+  -- the tail begins at a multiple of the size, no higher than the greatest mark
+  pub begins_at : (begins % size ≡ 0) × (begins ≤ greatest)
+  begins_at = let parts = put_down size greatest in (parts.1, omega (arith, parts.0))
+
+  -- and no higher than the cut
+  pub begins_low : begins ≤ cut.0
+  begins_low = elim (greatest_is least is.ordering) [
+    | inl at ↦ (
+        let low = put_down size (stable_place first.stable) in
+        let above = is.not_below in
+        omega (arith, begins_at.1, at, low.0, above))
+    | inr (s, there, mark) ↦ ⊎_elim
+        (λ lower. let under : greatest < cut.0 = mark_below s.mark greatest cut.0 mark lower in omega (arith, begins_at.1, under))
+        (λ within.
+        let same : greatest ≡ within.0 = pos_injective greatest within.0 (sym mark ∙ within.1) in
+        let top = put_down size (cut.0 + (size - 1)) in
+        let under : begins < raised size cut.0 = omega (arith, begins_at.1, same, within.2) in
+        let far = further sum size log some H A first cut is begins (raised size cut.0) begins_at.0 top.1 under in
+        omega (arith, far, top.0, some))
+        (is.marks_below s there)
+  ]
+
+  -- The greatest mark lies in no batch: one that begins between the snapshot and the tail ends below the cut.
+  pub ends_before : (b : Batch) → Contains H.batches b → stable_place first.stable ≤ b.low → b.low < begins → b.peg < cut.0
+  ends_before b there since under = by (greatest_is least is.ordering) where
+    ended : (t : Segment) → Contains is.ordering t → t.mark ≡ pos greatest → b.peg ≤ greatest → b.peg < cut.0
+    ended t known_t mark low = ⊎_elim
+        (λ lower. let early : greatest < cut.0 = mark_below t.mark greatest cut.0 mark lower in omega (arith, low, early))
+        (λ within.
+        let same : greatest ≡ within.0 = pos_injective greatest within.0 (sym mark ∙ within.1) in
+        ⊎_elim (λ early. early) (λ late. absurd (omega (arith, late, low, same))) (within.5 b there))
+        (is.marks_below t known_t)
+
+    by : (greatest ≡ least) ⊎ ((t : Segment) × Contains is.ordering t × (t.mark ≡ pos greatest)) → b.peg < cut.0
+    by (inl at) = let low = put_down size (stable_place first.stable) in absurd (omega (arith, begins_at.1, at, low.0, since, under))
+    by (inr (t, known_t, mark)) = ⊎_elim
+        (λ before. absurd (let early : greatest < b.low = mark_below t.mark greatest b.low mark before in omega (arith, early, under, begins_at.1)))
+        (λ behind. ended t known_t mark (mark_above t.mark greatest b.peg mark behind))
+        ((is.marks t known_t).apart b there)
