@@ -2,3 +2,4 @@ pub mod TornFlush
 pub mod TornLemmas
 pub mod TornRecords
 pub mod TornZeros
+pub mod ZeroedSlots

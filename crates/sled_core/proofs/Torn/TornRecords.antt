@@ -69,7 +69,7 @@ module _ (sum : List ℕ → ℕ) (size : ℕ) (log : List ℕ) (site : SegmentP
       ∙ ap (take len) (drop-drop at site.slot log)
 
   -- a reader comes from a record that it has come to, to the end of that record
-  record_reached : (number first at : ℕ) (h : MessageHeader) (body : List ℕ) (len : ℕ) → at < size → StandsAt sum size log (site.slot + at) number h body len
+  pub record_reached : (number first at : ℕ) (h : MessageHeader) (body : List ℕ) (len : ℕ) → at < size → StandsAt sum size log (site.slot + at) number h body len
       → IsReached sum size number (part log site.slot size) first at → IsReached sum size number (part log site.slot size) first (at + len)
   record_reached number first at h body len below s reached =
       let inside = s.in_slot in let there = s.in_file in
