@@ -30,7 +30,7 @@ use Rattle.sled_core.proofs.Flush.LogFileLemmas.{stand_grows, stand-append, reco
 use Rattle.sled_core.proofs.Torn.TornLemmas.{after_write, left_grows, part_left}
 
 -- one text is the other, or isn't
-same_or_not : (xs ys : List ℕ) → (xs ≡ ys) ⊎ (xs ≡ ys → ⊥)
+pub same_or_not : (xs ys : List ℕ) → (xs ≡ ys) ⊎ (xs ≡ ys → ⊥)
 same_or_not xs ys = elim (cases_Bool (bytes_eq xs ys)) [
   | inl same ↦ inl ((bytes_eq-Decides xs ys).0 same)
   | inr other ↦ inr (λ is. let both = (bytes_eq-Decides xs ys).1 is in cc)

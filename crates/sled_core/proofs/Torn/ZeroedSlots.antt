@@ -28,7 +28,7 @@ module _ (sum : List ℕ → ℕ) (size : ℕ) (old : List ℕ) (at count : ℕ)
   abbrev zeros : List ℕ
   zeros = replicate count 0
 
-  grows : length old ≤ length left
+  pub grows : length old ≤ length left
   grows = left_grows old at zeros now left no_more leaves
 
   long : length zeros ≡ count
@@ -90,7 +90,7 @@ module _ (sum : List ℕ → ℕ) (size : ℕ) (old : List ℕ) (at count : ℕ)
             ∙ ap (λ (l : List ℕ). get_or l 4 0) zero ∙ get_or-replicate len 4 0 0 (omega (arith, some)) in
             zeros_empty sum size left (slot * size + from) (place / size) kind h body len s
 
-        same : part old (slot * size + from) len ≡ part left (slot * size + from) len
+        pub same : part old (slot * size + from) len ≡ part left (slot * size + from) len
         same = elim (stood_or_zeros (slot * size + from) (part left (slot * size + from) len)
             (only_own.records slot place mark from len h.kind h.pid body header reached fits (record_of_stands sum size left (slot * size + from) (place / size) h body len s)).1) [
           | inl stood ↦ ap (part old (slot * size + from)) (sym whole) ∙ stood

@@ -1,0 +1,96 @@
+-- What is met in a segment after zeros were written over a part of the log file, and a crash: what was met before, or the beginning of it.
+use Rattle.std.proofs.Common.{◌≡◌, ◌⊎◌, ◌≤◌, ◌<◌, ◌+◌, ◌*◌, ◌/◌, ◌∙◌, ℕ, ℤ, pos, List, [], ◌∷◌, ◌++◌, length, replicate, sym, ap, arith, refl, subst, inl, inr}
+use Rattle.sled_codec.specs.declared.serialization.message.MessageHeader.{MessageHeader}
+use Rattle.sled_codec.specs.Places.{part}
+use Rattle.sled_codec.specs.Record.{IsHeader}
+use Rattle.sled_store.specs.Device.{LeavesLog}
+use Rattle.sled_store.specs.Foreign.{IsReached, at_first, NoForeignLog}
+use Rattle.sled_core.specs.declared.iterator.scan.ScannedRecord.{ScannedRecord}
+use Rattle.sled_core.specs.declared.iterator.scan.ScanEnd.{ScanEnd}
+use Rattle.sled_core.specs.declared.iterator.scan.ScanEnd.TheVariants.{Full, Capped, Broken}
+use Rattle.sled_core.specs.LogFile.{IsEmpty}
+use Rattle.sled_core.specs.Reading.{StandsAt}
+use Rattle.sled_core.specs.Scan.{IsMet, IsPath, IsEnd, EndsThere, IsScan}
+use Rattle.sled_core.proofs.Flush.LogFileLemmas.{record_moved}
+use Rattle.sled_core.proofs.Read.GivesLemmas.{one_len}
+use Rattle.sled_core.proofs.Read.ScanLemmas.{ends_here}
+use Rattle.sled_core.proofs.Torn.TornLemmas.{after_write}
+use Rattle.sled_core.proofs.Torn.TornRecords.{same_or_not}
+use Rattle.sled_core.proofs.Torn.ZeroedSlots.{grows, same, stood, reached_behind}
+
+-- A reading of a segment from an offset on, of which what is met is what these begin with.
+pub record ReadsFirst (sum : List ℕ → ℕ) (size : ℕ) (log : List ℕ) (slot place from : ℕ) (met : List ScannedRecord) : Type 0 where
+  pub found : List ScannedRecord
+  pub rest : List ScannedRecord
+  pub whole : met ≡ found ++ rest
+  pub stop : ℕ
+  pub why : ScanEnd
+  pub path : IsPath sum size log slot place from found stop
+  pub end : IsEnd sum size log slot place stop why
+
+module _ (sum : List ℕ → ℕ) (size : ℕ) (old : List ℕ) (at count : ℕ) (now left : List ℕ) (no_more : length now ≤ length (replicate {A = ℕ} count 0)) (leaves : LeavesLog (after_write old at (replicate count 0) now) left)
+    {placed : List (ℕ × List ℕ)} (only_own : NoForeignLog sum size (after_write old at (replicate count 0) now) placed left)
+    (slot place : ℕ) (mark : ℤ) (header : IsHeader sum (part left (slot * size) 20) (pos place) mark) where
+  -- a reader of what is left comes to this offset
+  abbrev Comes : ℕ → Type 0
+  Comes from = IsReached sum size (place / size) (part left (slot * size) size) 20 from
+
+  module _ (from : ℕ) (comes : Comes from) (room : from + 32 ≤ size) where
+    below : from < size
+    below = omega (arith, room)
+
+    -- where a record stood it still does, or none does
+    still : (h : MessageHeader) (body : List ℕ) (len : ℕ) → StandsAt sum size old (slot * size + from) (place / size) h body len
+        → StandsAt sum size left (slot * size + from) (place / size) h body len ⊎ IsEmpty sum size left (slot * size + from) (place / size)
+    still h body len s = elim (same_or_not (part left (slot * size + from) len) (part old (slot * size + from) len)) [
+      | inl alike ↦ (
+          let there = s.in_file in
+          let long = grows sum size old at count now left no_more leaves in
+          inl (record_moved sum size old left (slot * size + from) (place / size) h body len alike (omega (arith, there, long)) s))
+      | inr other ↦ inr (λ h' body' len' s'. (
+          let before = stood sum size old at count now left no_more leaves only_own slot place mark header from comes below h' body' len' s' in
+          let one : len' ≡ len = one_len sum size old (slot * size + from) (place / size) h' h body' body len' len before s in
+          other (subst (λ n. part left (slot * size + from) n ≡ part old (slot * size + from) n) one (sym (same sum size old at count now left no_more leaves only_own slot place mark header from comes below h' body' len' s')))))
+    ]
+
+    -- where none stood none does
+    still_none : IsEmpty sum size old (slot * size + from) (place / size) → IsEmpty sum size left (slot * size + from) (place / size)
+    still_none none h body len s = none h body len (stood sum size old at count now left no_more leaves only_own slot place mark header from comes below h body len s)
+
+    -- the reading ends where none does
+    stops_here : (met : List ScannedRecord) → IsEmpty sum size left (slot * size + from) (place / size) → ReadsFirst sum size left (slot * size) place from met
+    unfolding EndsThere
+    stops_here met none = record { found = []; rest = met; whole = refl; stop = from; why = Broken; path = refl; end = (room, none) }
+
+    -- a cap still stands there, or nothing does
+    capped : EndsThere sum size old (slot * size + from) (place / size) Capped → ReadsFirst sum size left (slot * size) place from []
+    unfolding EndsThere
+    capped (h, body, len, stands, is_cap) = elim (still h body len stands) [
+      | inl there ↦ record { found = []; rest = []; whole = refl; stop = from; why = Capped; path = refl; end = (room, (h, body, len, there, is_cap)) }
+      | inr none ↦ stops_here [] none
+    ]
+
+  -- where the reading ended before, it ends
+  ended : (from : ℕ) → Comes from → (why : ScanEnd) → IsEnd sum size old (slot * size) place from why → ReadsFirst sum size left (slot * size) place from []
+  unfolding EndsThere
+  ended from comes Full full = record { found = []; rest = []; whole = refl; stop = from; why = Full; path = refl; end = full }
+  ended from comes Capped (room, cap) = capped from comes room cap
+  ended from comes Broken (room, none) = stops_here from comes room [] (still_none from comes room none)
+
+  -- The reading of what is left meets what was met before, or the beginning of it.
+  pub reads_on : (from : ℕ) (met : List ScannedRecord) (stop : ℕ) (why : ScanEnd) → Comes from → IsPath sum size old (slot * size) place from met stop → IsEnd sum size old (slot * size) place stop why
+      → ReadsFirst sum size left (slot * size) place from met
+  unfolding IsMet
+  reads_on from [] stop why comes path end = ended from comes why (subst (λ n. IsEnd sum size old (slot * size) place n why) path end)
+  reads_on from (m ∷ ms) stop why comes (room, at_place, (h, body, stands, says), path) end = elim (still from comes room h body m.len stands) [
+    | inl there ↦ (
+        let comes_behind = reached_behind sum size old at count now left no_more leaves only_own slot place mark header from comes (below from comes room) h body m.len there in
+        let on = reads_on (from + m.len) ms stop why comes_behind path end in
+        record { found = m ∷ on.found; rest = on.rest; whole = ap (λ (l : List ScannedRecord). m ∷ l) on.whole; stop = on.stop; why = on.why; path = (room, at_place, (h, body, there, says), on.path); end = on.end })
+    | inr none ↦ stops_here from comes room (m ∷ ms) none
+  ]
+
+  -- so it is with a whole scan
+  pub scan_left : (met : List ScannedRecord) (stop : ℕ) (why : ScanEnd) → IsScan sum size old (slot * size) place met stop why → ReadsFirst sum size left (slot * size) place 20 met
+  unfolding IsScan
+  scan_left met stop why (path, end) = reads_on 20 met stop why at_first path end
