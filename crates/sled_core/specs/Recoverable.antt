@@ -83,6 +83,10 @@ pub record MeetsMessage (x : ScannedRecord) (m : Message) : Type 0 where
   pub len : x.len ≡ m.size
   pub what : (x.what ≡ Gives m.kind m.page m.pointer) ⊎ NamesBlobOf x.what m
 
+-- no batch of a history ends from one place up to another
+abbrev pub NoBatchEnds : History → ℕ → ℕ → Type 0
+NoBatchEnds H from to = (b : Batch) → Contains H.batches b → (b.peg < from) ⊎ (to ≤ b.peg)
+
 -- the record of a message stands at its pointer, where it has the item
 abbrev pub StandsInline : (List ℕ → ℕ) → ℕ → List ℕ → Message → DiskPtr → Type 0
 StandsInline sum size log m (Inline lid) = MessageStands sum size log lid (m.place / size) m
@@ -121,9 +125,26 @@ pub record IsMarkOf (H : History) (s : Segment) : Type 0 where
   pub below : s.mark <ℤ pos s.place
   pub apart : (b : Batch) → Contains H.batches b → (s.mark <ℤ pos b.low) ⊎ (pos b.peg ≤ℤ s.mark)
 
--- A mark lies below the cut; or below the end of the segment of the cut, where nothing of the history begins between the two. (A stable end behind a Cap is the end of its segment, and the cut is where the Cap begins.)
+-- A mark lies below the cut; or below the end of the segment of the cut, where nothing of the history begins between the two, and no batch ends. (A stable end behind a Cap is the end of its segment, and the cut is where the Cap begins.)
 abbrev pub IsMarkBelow : ℕ → History → ℕ → ℤ → Type 0
-IsMarkBelow size H cut mark = (mark <ℤ pos cut) ⊎ ((n : ℕ) × (mark ≡ pos n) × (n < raised size cut) × NoMessageBegins H cut (n + 1) × NoBatchBegins H cut (n + 1))
+IsMarkBelow size H cut mark =
+    (mark <ℤ pos cut) ⊎ ((n : ℕ) × (mark ≡ pos n) × (n < raised size cut) × NoMessageBegins H cut (n + 1) × NoBatchBegins H cut (n + 1) × NoBatchEnds H cut (n + 1))
+
+-- A record can begin at a place: behind the header of its segment, where the longest header of a record has room.
+pub record BeginsInSegment (size place : ℕ) : Type 0 where
+  pub behind : 20 ≤ place % size
+  pub room : place % size + 32 ≤ size
+
+-- A message lies in one segment.
+pub record LiesInSegment (size : ℕ) (m : Message) : Type 0 where
+  pub begins : BeginsInSegment size m.place
+  pub ends : m.place % size + m.size ≤ size
+
+-- A batch begins where a record can, and ends behind its beginning. Each other one ends before it begins, or begins behind its end.
+pub record IsPlacedBatch (size : ℕ) (H : History) (b : Batch) : Type 0 where
+  pub begins : BeginsInSegment size b.low
+  pub pegged : b.low < b.peg
+  pub apart : (c : Batch) → Contains H.batches c → (c ≡ b) ⊎ (c.peg < b.low) ⊎ (b.peg < c.low)
 
 -- those that begin below a place
 abbrev pub scanned_below : ℕ → List Scanned → List Scanned
@@ -140,7 +161,7 @@ abbrev pub cut_from : ℕ → SnapshotModel → List Scanned → Option ℕ → 
 cut_from size first scanned None = (stable_place first.stable, first.active)
 cut_from size first scanned (Some end) = cut_over size first end (scanned_below end scanned)
 
--- The segments that are found are of the history, and those that a table below the cut needs are there. The cut passes what was acknowledged.
+-- The segments that are found are of the history, and those that a table below the cut needs are there. The cut passes what was acknowledged. What begins below the cut lies as a log places it.
 pub record IsRecoverableLog (sum : List ℕ → ℕ) (size : ℕ) (log : List ℕ) (H : History) (A : ℕ) (first : SnapshotModel) (cut : ℕ × Option ℕ) : Type 0 where
   pub ordering : List Segment
   pub numbers : IsOrdering sum size log (least_place size first) ordering
@@ -156,6 +177,8 @@ pub record IsRecoverableLog (sum : List ℕ → ℕ) (size : ℕ) (log : List �
   pub not_below : stable_place first.stable ≤ cut.0
   pub passes : A ≤ cut.0
   pub marks_below : (s : Segment) → Contains ordering s → IsMarkBelow size H cut.0 s.mark
+  pub placed : (m : Message) → Contains H.messages m → m.place < cut.0 → LiesInSegment size m
+  pub batched : (b : Batch) → Contains H.batches b → b.low < cut.0 → IsPlacedBatch size H b
   pub needed : (page : ℕ) (m : Message) → Contains (table H cut.0 page) m → IsSegmentOf sum size log H cut.0 m × StandsInline sum size log m m.pointer
 
 -- The blobs.

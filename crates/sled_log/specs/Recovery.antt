@@ -1,6 +1,6 @@
 -- What recovery makes of a content: which snapshot it begins from, which segments it finds, where the tail of the log ends,
 -- which messages it applies, and the cut. Stated for any number of segments and for all kinds of messages.
-use Rattle.std.specs.Prelude.{◌≡◌, ◌≢◌, ◌⊎◌, ◌+◌, ◌-◌, ◌/◌, ◌%◌, ◌^◌, ◌≤◌, ℕ, ℤ, pos, nat_lt, int_lt, Bool, true, false, ◌&&◌, ◌||◌, not, ◌==◌, if◌then◌else◌, List, [], ◌∷◌, ◌++◌, length, set, get_or, replicate, Option, Some, None, IfNone, is_some, map, Contains}
+use Rattle.std.specs.Prelude.{◌≡◌, ◌≢◌, ◌⊎◌, ◌+◌, ◌-◌, ◌/◌, ◌%◌, ◌^◌, ◌≤◌, ℕ, ℤ, pos, nat_lt, int_lt, Bool, true, false, ◌&&◌, ◌||◌, not, ◌==◌, if◌then◌else◌, List, [], ◌∷◌, ◌++◌, length, drop, set, get_or, replicate, Option, Some, None, IfNone, is_some, map, Contains}
 use Rattle.sled_codec.specs.declared.serialization.message.LogKind.{LogKind}
 use Rattle.sled_codec.specs.declared.serialization.message.LogKind.TheVariants as does
 use Rattle.sled_codec.specs.declared.serialization.message.MessageKind.TheVariants.{Corrupted}
@@ -168,6 +168,8 @@ pub record RecoveryResult : Type 0 where
   pub shred_range : Option (ℕ × ℕ)
   -- the table ends above the snapshot that it began from, or that had no place
   pub is_new : Bool
+  -- the slots of the segments that are found and that the pass did not read, by their places
+  pub unread : List ℕ
 
 -- what recovery answers
 pub data Outcome : Type 0 where
@@ -185,23 +187,24 @@ is_beyond None cut = true
 is_beyond (Some place) cut = int_lt place (pos cut)
 
 -- A table with this cut, unless it can't be one.
-abbrev pub concluded : ℕ → SnapshotModel → List Applied → ℕ × Option ℕ → Outcome
-concluded size first messages cut =
+abbrev pub concluded : ℕ → SnapshotModel → List ℕ → List Applied → ℕ × Option ℕ → Outcome
+concluded size first unread messages cut =
     if has_no_table messages || nat_lt cut.0 (stable_place first.stable) || not (are_whole (table_of first.pages messages)) then Damaged
     else Recovered (record {
       model = record { stable = Some (pos cut.0); active = cut.1; pages = table_of first.pages messages };
       shred_range = shred_range_of size cut.0 cut.1;
       is_new = is_beyond first.stable cut.0;
+      unread = unread;
     })
 
--- the snapshot stays as it was, and nothing is left to be written
-abbrev pub unchanged : SnapshotModel → RecoveryResult
-unchanged first = record { model = first; shred_range = None; is_new = false }
+-- the snapshot stays as it was, and no segment was read
+abbrev pub unchanged : SnapshotModel → List ℕ → RecoveryResult
+unchanged first unread = record { model = first; shred_range = None; is_new = false; unread = unread }
 
--- What comes of the segments that the pass reads. Where it reads none, the snapshot stays as it was.
-abbrev pub outcome_of : ℕ → SnapshotModel → ℕ → List Scanned → Outcome
-outcome_of size first end [] = Recovered (unchanged first)
-outcome_of size first end (s ∷ ss) = concluded size first (given (stable_place first.stable) (passed_in end s (open_at end s.met) ss)) (cut_of size (stops_in end s (open_at end s.met) ss))
+-- What comes of the segments that the pass reads, where these slots have the others. Where it reads none, the snapshot stays as it was.
+abbrev pub outcome_of : ℕ → SnapshotModel → ℕ → List Scanned → List ℕ → Outcome
+outcome_of size first end [] unread = Recovered (unchanged first unread)
+outcome_of size first end (s ∷ ss) unread = concluded size first unread (given (stable_place first.stable) (passed_in end s (open_at end s.met) ss)) (cut_of size (stops_in end s (open_at end s.met) ss))
 
 -- The whole.
 
@@ -241,17 +244,21 @@ pub record IsDamagedPass (sum : List ℕ → ℕ) (size : ℕ) (log : List ℕ) 
   pub damaged : IsMalformed sum size log (segment.slot + next) (segment.place / size)
 
 -- what comes of the segments that the pass reads, with their blobs
-abbrev pub PassesOver : (List ℕ → ℕ) → ℕ → (ℤ → Option (List ℕ)) → SnapshotModel → ℕ → List Scanned → Outcome → Type 0
-PassesOver sum size blobs first end passes o =
+abbrev pub PassesOver : (List ℕ → ℕ) → ℕ → (ℤ → Option (List ℕ)) → SnapshotModel → ℕ → List Scanned → List ℕ → Outcome → Type 0
+PassesOver sum size blobs first end passes unread o =
     ((o ≡ Damaged) × MeetsBadBlob sum blobs (passed_all end passes))
-    ⊎ ((MeetsBadBlob sum blobs (passed_all end passes) → ⊥) × (o ≡ outcome_of size first end (map (resolved_scan blobs end) passes)))
+    ⊎ ((MeetsBadBlob sum blobs (passed_all end passes) → ⊥) × (o ≡ outcome_of size first end (map (resolved_scan blobs end) passes) unread))
+
+-- the slots of these segments
+abbrev pub slots_of : List Segment → List ℕ
+slots_of segments = map (λ s. s.slot) segments
 
 -- what comes of a tail that ends there
 abbrev pub Passes : (List ℕ → ℕ) → ℕ → List ℕ → (ℤ → Option (List ℕ)) → SnapshotModel → List Segment → Option ℕ → Outcome → Type 0
-Passes sum size log blobs first ordering None o = o ≡ Recovered (unchanged first)
+Passes sum size log blobs first ordering None o = o ≡ Recovered (unchanged first (slots_of ordering))
 Passes sum size log blobs first ordering (Some end) o =
     ((o ≡ Damaged) × IsDamagedPass sum size log end (begun_below end ordering))
-    ⊎ ((passes : List Scanned) × AreReplayed sum size log end (begun_below end ordering) passes × PassesOver sum size blobs first end passes o)
+    ⊎ ((passes : List Scanned) × AreReplayed sum size log end (begun_below end ordering) passes × PassesOver sum size blobs first end passes (slots_of (drop (length passes) ordering)) o)
 
 -- the blob of each record that is met in these is missing or passes for it
 abbrev pub HaveGoodBlobs : (List ℕ → ℕ) → (ℤ → Option (List ℕ)) → List Scanned → Type 0

@@ -1,7 +1,7 @@
 -- A first segment that was begun is found, its messages are met in it, and each entry of a table up to its end is one of them.
-use Rattle.std.proofs.Common.{⊎_elim, ◌≡◌, ◌⊎◌, ◌≤◌, ◌<◌, ◌+◌, ◌*◌, ◌/◌, ◌^◌, ◌-ℤ◌, ◌∙◌, ℕ, ℤ, pos, Bool, true, false, nat_lt, if◌then◌else◌, List, [], ◌∷◌, length, take, Option, Some, None, sym, ap, arith, refl, subst, inl, inr}
+use Rattle.std.proofs.Common.{⊎_elim, ◌≡◌, ◌⊎◌, ◌≤◌, ◌<◌, ◌+◌, ◌*◌, ◌/◌, ◌%◌, ◌^◌, ◌-ℤ◌, ◌∙◌, ℕ, ℤ, pos, Bool, true, false, nat_lt, if◌then◌else◌, List, [], ◌∷◌, length, take, Option, Some, None, sym, ap, arith, refl, subst, inl, inr}
 use Rattle.std.specs.List.{Contains}
-use Rattle.std.proofs.Math.Nat.{div-eq_of_lt}
+use Rattle.std.proofs.Math.Nat.{div-eq_of_lt, mod-eq_of_lt}
 use Rattle.std.proofs.lemmas.List.Elements.{Contains-append_cases, Contains-append_left, All-contains}
 use Rattle.sled_codec.specs.declared.result.DiskPtr.TheVariants.{Inline, Blob}
 use Rattle.sled_codec.specs.Record.{IsHeader}
@@ -11,14 +11,14 @@ use Rattle.sled_store.specs.Device.{Content}
 use Rattle.sled_core.specs.declared.iterator.Segment.{Segment}
 use Rattle.sled_core.specs.Scan.{IsFoundSegment, IsMisplaced}
 use Rattle.sled_core.specs.Tail.{IsOrdering, cut_of}
-use Rattle.sled_core.specs.Recoverable.{NoMessageBegins, NoBatchBegins, StandsInline, HasItem, PassesIfThere, AreRecoverableBlobs, IsOfHistory, IsReachedIn, IsSegmentOf, IsMarkOf, first_site, first_cut, IsBegun}
+use Rattle.sled_core.specs.Recoverable.{NoMessageBegins, NoBatchBegins, StandsInline, HasItem, PassesIfThere, AreRecoverableBlobs, IsOfHistory, IsReachedIn, IsSegmentOf, IsMarkOf, LiesInSegment, first_site, first_cut, IsBegun}
 use Rattle.sled_store.proofs.Segments.Elements.{in_nothing}
 use Rattle.sled_store.proofs.Segments.TableEntries.{from_table}
 use Rattle.sled_core.proofs.Read.FoundLemmas.{is_found, only_found, one_found}
 use Rattle.sled_core.proofs.Read.GivesLemmas.{StandsWhole, own_stands}
 use Rattle.sled_core.proofs.Read.PathLemmas.{met_of}
 use Rattle.sled_core.proofs.Read.StandLemmas.{apart_of_two, all_reached}
-use Rattle.sled_core.proofs.Flush.LogFileLemmas.{stand_below, stand_apart}
+use Rattle.sled_core.proofs.Flush.LogFileLemmas.{stand_above, stand_below, stand_apart}
 
 -- the first segment, with its mark
 abbrev pub first_segment : Segment
@@ -126,6 +126,19 @@ module _ (sum : List ℕ → ℕ) (size : ℕ) (content : Content) (H : History)
   pub of_history : (m : Message) → Contains begun.own m → IsOfHistory sum size log H (met_of m)
   of_history m there =
       inl (m, own_there m there, record { place = refl; len = refl; what = inl refl }, stands_inline m there, none_within m there, no_batch_begins H m.place (m.place + m.size) no_batches)
+
+  -- a message below the cut lies in the segment
+  pub lies_first : (m : Message) → Contains H.messages m → m.place < first_cut size stop → LiesInSegment size m
+  lies_first m there below =
+      let own : Contains begun.own m = own_of m there below in
+      let above = All-contains (λ x. (first_site.place + 20 ≤ x.place) × (20 + 32 ≤ size)) begun.own m (stand_above sum size content.log first_site 20 begun.own stop begun.stand) own in
+      let ends = (All-contains (λ x. (x.place < first_site.place + stop) × (x.place + x.size ≤ first_site.place + stop)) begun.own m (stand_below sum size content.log first_site 20 begun.own stop begun.stand) own).1 in
+      let inside = begun.inside in
+      let is = reached m own in
+      let room = is.room in
+      let place = is.place in
+      let offset : m.place % size ≡ m.place = mod-eq_of_lt (omega (arith, room, place)) in
+      record { begins = record { behind = omega (arith, above.0, offset); room = omega (arith, room, place, offset) }; ends = omega (arith, ends, inside, offset) }
 
   -- each entry of a table up to the cut has its segment
   pub entry_there : (cut page : ℕ) (m : Message) → cut ≤ first_cut size stop → Contains (table H cut page) m → IsSegmentOf sum size log H cut m × StandsInline sum size log m m.pointer

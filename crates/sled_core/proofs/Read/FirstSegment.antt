@@ -1,11 +1,11 @@
 -- Where all of the log is in its first segment, what is asked of the whole log file holds.
-use Rattle.std.proofs.Common.{◌≡◌, ◌≢◌, ◌≤◌, ◌<◌, ◌<ℤ◌, ◌+◌, ◌*◌, ◌/◌, ◌%◌, ◌^◌, ◌∙◌, ℕ, ℤ, pos, max, Bool, true, false, nat_lt, if◌then◌else◌, List, [], ◌∷◌, length, map, Option, Some, None, sym, ap, arith, refl, subst, inl, inr}
+use Rattle.std.proofs.Common.{◌≡◌, ◌≢◌, ◌≤◌, ◌<◌, ◌+◌, ◌*◌, ◌/◌, ◌%◌, ◌^◌, ◌∙◌, ℕ, ℤ, max, Bool, true, false, nat_lt, if◌then◌else◌, List, [], ◌∷◌, length, map, Option, Some, None, sym, ap, arith, refl, subst, inl, inr}
 use Rattle.std.specs.List.{Contains}
 use Rattle.std.proofs.Math.Nat.{div-eq_of_lt, mod-add-div', mod_self}
 use Rattle.std.proofs.lemmas.Bool.{cases_lt}
 use Rattle.std.proofs.lemmas.Bool.Decides.{nat_tests}
 use Rattle.std.proofs.lemmas.List.Elements.{All-map, All-contains}
-use Rattle.sled_codec.specs.History.{Message, History, table, no_history}
+use Rattle.sled_codec.specs.History.{Message, Batch, History, table, no_history}
 use Rattle.sled_codec.specs.Snapshots.{SnapshotModel, stable_place, empty_model}
 use Rattle.sled_store.specs.Device.{Content}
 use Rattle.sled_core.specs.declared.iterator.scan.ScannedRecord.{ScannedRecord}
@@ -14,14 +14,14 @@ use Rattle.sled_core.specs.declared.iterator.scan.ScanEnd.TheVariants.{Full, Cap
 use Rattle.sled_core.specs.Scan.{IsFoundSegment}
 use Rattle.sled_core.specs.Tail.{IsOrdering, Scanned, IsScanned, GoesOn, IsTail, tail_begins, stops_in, cut_of, least_place}
 use Rattle.sled_core.specs.LogFile.{IsEmpty}
-use Rattle.sled_core.specs.Recoverable.{AreRecoverableSnapshots, AreRecoverableBlobs, StandsInline, IsMarkBelow, IsOfHistory, IsSegmentOf, IsMarkOf, cut_over, cut_from, IsRecoverableLog, first_site, first_cut, IsUnbegun, IsBegun, IsInFirstSegment, IsRecoverableInFirst, Recoverable}
+use Rattle.sled_core.specs.Recoverable.{AreRecoverableSnapshots, AreRecoverableBlobs, StandsInline, IsMarkBelow, LiesInSegment, IsPlacedBatch, IsOfHistory, IsSegmentOf, IsMarkOf, cut_over, cut_from, IsRecoverableLog, first_site, first_cut, IsUnbegun, IsBegun, IsInFirstSegment, IsRecoverableInFirst, Recoverable}
 use Rattle.sled_store.proofs.Segments.Elements.{in_nothing, only_in, in_one, all_from_in}
 use Rattle.sled_store.proofs.Segments.TableEntries.{from_table}
 use Rattle.sled_core.proofs.Read.FoundLemmas.{zero_mod, found_there, none_ordered}
 use Rattle.sled_core.proofs.Flush.LogFileLemmas.{stand_grows}
 use Rattle.sled_core.proofs.Read.PathLemmas.{met_of}
 use Rattle.sled_core.proofs.Read.StandLemmas.{ending_at, no_open_batch, scan_of}
-use Rattle.sled_core.proofs.Read.FirstBegun.{first_segment, first_cut_is, first_cut_within, no_blob_named, only, ordered, marked, of_history, entry_there, blobs_there}
+use Rattle.sled_core.proofs.Read.FirstBegun.{first_segment, first_cut_is, first_cut_within, no_blob_named, only, ordered, marked, of_history, lies_first, entry_there, blobs_there}
 
 -- a place where a segment begins is the beginning of its own
 whole_place : (size place : ℕ) → place % size ≡ 0 → place / size * size ≡ place
@@ -33,8 +33,9 @@ module _ (sum : List ℕ → ℕ) (size : ℕ) (content : Content) (H : History)
 
   -- Where the snapshot ends at the end of a segment and none is found from there on, the log ends there too.
   ends_there : place % size ≡ 0 → ((s : Segment) → IsFoundSegment sum size content.log (least_place size first) s → ⊥) → A ≤ place
+      → ((m : Message) → Contains H.messages m → m.place < place → LiesInSegment size m) → ((b : Batch) → Contains H.batches b → b.low < place → IsPlacedBatch size H b)
       → ((page : ℕ) (m : Message) → Contains (table H place page) m → IsSegmentOf sum size content.log H place m × StandsInline sum size content.log m m.pointer) → IsRecoverableLog sum size content.log H A first (place, first.active)
-  ends_there begins none passed needed =
+  ends_there begins none passed placed batched needed =
       let whole : place / size * size ≡ place = whole_place size place begins in
       record {
         ordering = [];
@@ -51,6 +52,8 @@ module _ (sum : List ℕ → ℕ) (size : ℕ) (content : Content) (H : History)
         not_below = omega arith;
         passes = passed;
         marks_below = λ s there. absurd (in_nothing s there);
+        placed = placed;
+        batched = batched;
         needed = needed;
       }
 
@@ -62,6 +65,8 @@ module _ (sum : List ℕ → ℕ) (size : ℕ) (content : Content) (H : History)
       ends_there (ap (λ n. n % size) at_first ∙ zero_mod size)
       (λ s found. unbegun.none s (record { slot = found.slot; header = found.header; not_below = omega arith }))
       (omega (arith, nothing))
+      (λ m there below. absurd (omega (arith, below, at_first)))
+      (λ b there below. absurd (omega (arith, below, at_first)))
       (λ page m there. let below = (from_table H place page m there).2 in absurd (omega (arith, below, at_first)))
 
   module _ (some : 256 ≤ size) (in_reach : size < 2 ^ 63) (no_batches : H.batches ≡ []) (short : length content.log ≤ size) (begun : IsBegun sum size content.log H A place) where
@@ -73,6 +78,9 @@ module _ (sum : List ℕ → ℕ) (size : ℕ) (content : Content) (H : History)
         let not_below = is.not_below in
         omega (arith, not_below, least, some, ap (λ (x : Segment). x.place) at_zero)
 
+    no_batched : (cut : ℕ) (b : Batch) → Contains H.batches b → b.low < cut → IsPlacedBatch size H b
+    no_batched cut b there below = absurd (in_nothing b (subst (λ (l : List Batch). Contains l b) no_batches there))
+
     filled_log : size ≤ place → IsRecoverableLog sum size content.log H A first (place, first.active)
     filled_log above =
         let inside = (first_cut_within size begun.stop begun.inside).1 in
@@ -81,7 +89,7 @@ module _ (sum : List ℕ → ℕ) (size : ℕ) (content : Content) (H : History)
         let at_end : place ≡ size = omega (arith, above, low, inside) in
         let begins : place % size ≡ 0 = ap (λ n. n % size) at_end ∙ mod_self size in
         let least : least_place size first ≡ size = whole_place size place begins ∙ at_end in
-        ends_there begins (none_from least) (omega (arith, acknowledged, inside, at_end)) (λ page m there. entry_there sum size content H A first in_reach no_batches short begun place page m low there)
+        ends_there begins (none_from least) (omega (arith, acknowledged, inside, at_end)) (λ m there below. lies_first sum size content H A first in_reach no_batches short begun m there (omega (arith, below, low))) (no_batched place) (λ page m there. entry_there sum size content H A first in_reach no_batches short begun place page m low there)
 
     abbrev scanned : Scanned
     scanned = record { segment = first_segment; met = map met_of begun.own; stop = begun.stop; why = ending_at size begun.stop }
@@ -152,6 +160,8 @@ module _ (sum : List ℕ → ℕ) (size : ℕ) (content : Content) (H : History)
             not_below = omega (arith, low, cut_place);
             passes = omega (arith, acknowledged, cut_place);
             marks_below = λ s there. subst (λ (x : Segment). IsMarkBelow size H cut.0 x.mark) (only_in first_segment s there) (inl (omega arith));
+            placed = λ m there below. lies_first sum size content H A first in_reach no_batches short begun m there (omega (arith, below, cut_place));
+            batched = no_batched cut.0;
             needed = λ page m there. entry_there sum size content H A first in_reach no_batches short begun cut.0 page m (omega (arith, cut_place)) there;
           }
 

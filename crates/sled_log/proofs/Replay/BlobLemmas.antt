@@ -30,7 +30,7 @@ module _ (blobs : ℤ → Option (List ℕ)) (end : ℕ) where
   opens_with Skipped = refl
   opens_with (BatchStart peg) = refl
 
-  open_resolved : (ms : List ScannedRecord) → open_at end (resolved_before blobs end ms) ≡ open_at end ms
+  pub open_resolved : (ms : List ScannedRecord) → open_at end (resolved_before blobs end ms) ≡ open_at end ms
   open_resolved [] = refl
   open_resolved (m ∷ ms) = by_test (opens end m.what) refl (open_resolved ms) where
     by_test : (b : Bool) → opens end m.what ≡ b → open_at end (resolved_before blobs end ms) ≡ open_at end ms
@@ -56,7 +56,7 @@ module _ (blobs : ℤ → Option (List ℕ)) (end : ℕ) where
   R = resolved_scan blobs end
 
   -- the pass stops where it did
-  stops_resolved : (s : Scanned) (ss : List Scanned) (o : Option ℕ) → stops_in end (R s) o (map R ss) ≡ stops_in end s o ss
+  pub stops_resolved : (s : Scanned) (ss : List Scanned) (o : Option ℕ) → stops_in end (R s) o (map R ss) ≡ stops_in end s o ss
   stops_resolved s ss (Some p) = refl
   stops_resolved s [] None = refl
   stops_resolved s (t ∷ ts) None = ap (λ o. stops_in end (R t) o (map R ts)) (open_resolved t.met) ∙ stops_resolved t ts (open_at end t.met)
@@ -66,7 +66,7 @@ module _ (blobs : ℤ → Option (List ℕ)) (end : ℕ) where
   map_both (x ∷ xs) ys = ap (λ (l : List ScannedRecord). resolved blobs x ∷ l) (map_both xs ys)
 
   -- and meets the same with its blobs
-  passed_resolved : (s : Scanned) (ss : List Scanned) (o : Option ℕ) → open_at end s.met ≡ o → passed_in end (R s) o (map R ss) ≡ map (resolved blobs) (passed_in end s o ss)
+  pub passed_resolved : (s : Scanned) (ss : List Scanned) (o : Option ℕ) → open_at end s.met ≡ o → passed_in end (R s) o (map R ss) ≡ map (resolved blobs) (passed_in end s o ss)
   passed_resolved s ss (Some p) is = before_resolved s.met
   passed_resolved s [] None is = all_resolved s.met is
   passed_resolved s (t ∷ ts) None is =

@@ -186,7 +186,7 @@ module _ (size : ℕ) (some : 0 < size) where
       by_test false rest = rest
 
   -- two multiples of the size are that far apart
-  apart : (a b : ℕ) → a % size ≡ 0 → b % size ≡ 0 → a < b → a + size ≤ b
+  pub apart : (a b : ℕ) → a % size ≡ 0 → b % size ≡ 0 → a < b → a + size ≤ b
   apart a b at_a at_b less =
       let whole_a : a ≡ a / size * size = omega (arith, mod-add-div' a size, at_a) in
       let whole_b : b ≡ b / size * size = omega (arith, mod-add-div' b size, at_b) in

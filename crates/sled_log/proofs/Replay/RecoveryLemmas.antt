@@ -22,7 +22,7 @@ before_none end (m ∷ ms) none = by_test (opens end m.what) (before_none end ms
   by_test false rest none = ap (λ (l : List ScannedRecord). m ∷ l) (rest none)
 
 -- The outcome of a pass over one segment.
-module _ (size : ℕ) (first : SnapshotModel) (end : ℕ) (s : Scanned) where
+module _ (size : ℕ) (first : SnapshotModel) (unread : List ℕ) (end : ℕ) (s : Scanned) where
   one_stop : (o : Option ℕ) → stops_in end s o [] ≡ (s.segment, unwrap_or o (s.segment.place + s.stop))
   one_stop None = refl
   one_stop (Some place) = refl
@@ -31,37 +31,38 @@ module _ (size : ℕ) (first : SnapshotModel) (end : ℕ) (s : Scanned) where
   one_passed None is = sym (before_none end s.met is)
   one_passed (Some place) is = refl
 
-  pub one_outcome : outcome_of size first end (s ∷ []) ≡ concluded size first (given (stable_place first.stable) (before_open end s.met)) (cut_of size (s.segment, unwrap_or (open_at end s.met) (s.segment.place + s.stop)))
+  pub one_outcome : outcome_of size first end (s ∷ []) unread ≡ concluded size first unread (given (stable_place first.stable) (before_open end s.met)) (cut_of size (s.segment, unwrap_or (open_at end s.met) (s.segment.place + s.stop)))
   one_outcome =
-      ap (λ (ms : List ScannedRecord). concluded size first (given (stable_place first.stable) ms) (cut_of size (stops_in end s (open_at end s.met) []))) (one_passed (open_at end s.met) refl)
-      ∙ ap (λ (at : Segment × ℕ). concluded size first (given (stable_place first.stable) (before_open end s.met)) (cut_of size at)) (one_stop (open_at end s.met))
+      ap (λ (ms : List ScannedRecord). concluded size first unread (given (stable_place first.stable) ms) (cut_of size (stops_in end s (open_at end s.met) []))) (one_passed (open_at end s.met) refl)
+      ∙ ap (λ (at : Segment × ℕ). concluded size first unread (given (stable_place first.stable) (before_open end s.met)) (cut_of size at)) (one_stop (open_at end s.met))
 
 -- When a pass gives a snapshot, and when the content is damaged.
-module _ (size : ℕ) (first : SnapshotModel) (messages : List Applied) (cut : ℕ × Option ℕ) where
+module _ (size : ℕ) (first : SnapshotModel) (unread : List ℕ) (messages : List Applied) (cut : ℕ × Option ℕ) where
   abbrev pub made : RecoveryResult
   made = record {
     model = record { stable = Some (pos cut.0); active = cut.1; pages = table_of first.pages messages };
     shred_range = shred_range_of size cut.0 cut.1;
     is_new = is_beyond first.stable cut.0;
+    unread = unread;
   }
 
   abbrev chosen : Bool → Bool → Bool → Outcome
   chosen a b c = if a || b || not c then Damaged else Recovered made
 
-  pub concluded_well : has_no_table messages ≡ false → stable_place first.stable ≤ cut.0 → are_whole (table_of first.pages messages) ≡ true → concluded size first messages cut ≡ Recovered made
+  pub concluded_well : has_no_table messages ≡ false → stable_place first.stable ≤ cut.0 → are_whole (table_of first.pages messages) ≡ true → concluded size first unread messages cut ≡ Recovered made
   concluded_well is le whole =
       let above : nat_lt cut.0 (stable_place first.stable) ≡ false = grind (arith, nat_tests, le) in
       ap (λ a. chosen a (nat_lt cut.0 (stable_place first.stable)) (are_whole (table_of first.pages messages))) is
       ∙ ap (λ b. chosen false b (are_whole (table_of first.pages messages))) above ∙ ap (chosen false false) whole
 
-  pub no_table_damaged : has_no_table messages ≡ true → concluded size first messages cut ≡ Damaged
+  pub no_table_damaged : has_no_table messages ≡ true → concluded size first unread messages cut ≡ Damaged
   no_table_damaged is = ap (λ a. chosen a (nat_lt cut.0 (stable_place first.stable)) (are_whole (table_of first.pages messages))) is
 
   low_cut : (a : Bool) → chosen a true (are_whole (table_of first.pages messages)) ≡ Damaged
   low_cut true = refl
   low_cut false = refl
 
-  pub low_cut_damaged : cut.0 < stable_place first.stable → concluded size first messages cut ≡ Damaged
+  pub low_cut_damaged : cut.0 < stable_place first.stable → concluded size first unread messages cut ≡ Damaged
   low_cut_damaged lt =
       let below : nat_lt cut.0 (stable_place first.stable) ≡ true = grind (arith, nat_tests, lt) in
       ap (λ b. chosen (has_no_table messages) b (are_whole (table_of first.pages messages))) below ∙ low_cut (has_no_table messages)
@@ -71,7 +72,7 @@ module _ (size : ℕ) (first : SnapshotModel) (messages : List Applied) (cut : �
   not_whole false true = refl
   not_whole false false = refl
 
-  pub not_whole_damaged : are_whole (table_of first.pages messages) ≡ false → concluded size first messages cut ≡ Damaged
+  pub not_whole_damaged : are_whole (table_of first.pages messages) ≡ false → concluded size first unread messages cut ≡ Damaged
   not_whole_damaged is = ap (chosen (has_no_table messages) (nat_lt cut.0 (stable_place first.stable))) is ∙ not_whole (has_no_table messages) (nat_lt cut.0 (stable_place first.stable))
 
 -- where a batch is open lies a record that is met

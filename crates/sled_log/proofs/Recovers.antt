@@ -1,0 +1,10 @@
+pub mod CutLemmas
+pub mod LeftOut
+pub mod OneReading
+pub mod OneTail
+pub mod PassCut
+pub mod PassTable
+pub mod PassedMessages
+pub mod RecoversGood
+pub mod Rows
+pub mod Undamaged
