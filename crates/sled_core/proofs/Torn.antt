@@ -2,3 +2,5 @@ pub mod TornFlush
 pub mod TornLemmas
 pub mod TornRecords
 pub mod TornZeros
+pub mod ZeroedScans
+pub mod ZeroedSlots

@@ -30,7 +30,7 @@ use Rattle.sled_core.proofs.Flush.LogFileLemmas.{stand_grows, stand-append, reco
 use Rattle.sled_core.proofs.Torn.TornLemmas.{after_write, left_grows, part_left}
 
 -- one text is the other, or isn't
-same_or_not : (xs ys : List ℕ) → (xs ≡ ys) ⊎ (xs ≡ ys → ⊥)
+pub same_or_not : (xs ys : List ℕ) → (xs ≡ ys) ⊎ (xs ≡ ys → ⊥)
 same_or_not xs ys = elim (cases_Bool (bytes_eq xs ys)) [
   | inl same ↦ inl ((bytes_eq-Decides xs ys).0 same)
   | inr other ↦ inr (λ is. let both = (bytes_eq-Decides xs ys).1 is in cc)
@@ -69,7 +69,7 @@ module _ (sum : List ℕ → ℕ) (size : ℕ) (log : List ℕ) (site : SegmentP
       ∙ ap (take len) (drop-drop at site.slot log)
 
   -- a reader comes from a record that it has come to, to the end of that record
-  record_reached : (number first at : ℕ) (h : MessageHeader) (body : List ℕ) (len : ℕ) → at < size → StandsAt sum size log (site.slot + at) number h body len
+  pub record_reached : (number first at : ℕ) (h : MessageHeader) (body : List ℕ) (len : ℕ) → at < size → StandsAt sum size log (site.slot + at) number h body len
       → IsReached sum size number (part log site.slot size) first at → IsReached sum size number (part log site.slot size) first (at + len)
   record_reached number first at h body len below s reached =
       let inside = s.in_slot in let there = s.in_file in

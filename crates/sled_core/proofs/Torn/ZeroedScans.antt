@@ -1,0 +1,140 @@
+-- What is met in a segment after zeros were written over a part of the log file, and a crash: what was met before, or the beginning of it.
+use Rattle.std.proofs.Common.{◌≡◌, ◌⊎◌, ◌≤◌, ◌<◌, ◌+◌, ◌*◌, ◌/◌, ◌%◌, ◌∙◌, ℕ, ℤ, pos, List, [], ◌∷◌, ◌++◌, length, replicate, sym, ap, arith, refl, subst, inl, inr}
+use Rattle.std.proofs.Math.Nat.{mul-mod_left}
+use Rattle.std.proofs.lemmas.Bool.{cases_lt}
+use Rattle.sled_codec.specs.declared.serialization.message.MessageHeader.{MessageHeader}
+use Rattle.sled_codec.specs.Places.{part}
+use Rattle.sled_codec.specs.Record.{IsHeader}
+use Rattle.sled_store.specs.Device.{LeavesLog}
+use Rattle.sled_store.specs.Foreign.{IsReached, at_first, NoForeignLog}
+use Rattle.sled_core.specs.declared.iterator.scan.ScannedRecord.{ScannedRecord}
+use Rattle.sled_core.specs.declared.iterator.scan.ScanEnd.{ScanEnd}
+use Rattle.sled_core.specs.declared.iterator.scan.ScanEnd.TheVariants.{Full, Capped, Broken}
+use Rattle.sled_core.specs.LogFile.{IsEmpty}
+use Rattle.sled_core.specs.Reading.{StandsAt}
+use Rattle.sled_core.specs.Scan.{IsMet, IsPath, IsEnd, EndsThere, IsScan}
+use Rattle.sled_core.proofs.Flush.LogFileLemmas.{record_moved}
+use Rattle.sled_core.proofs.Read.GivesLemmas.{one_len}
+use Rattle.sled_core.proofs.Read.ScanLemmas.{aligned_offset}
+use Rattle.sled_core.proofs.Torn.TornLemmas.{after_write}
+use Rattle.sled_core.proofs.Torn.TornRecords.{same_or_not}
+use Rattle.sled_core.proofs.Torn.ZeroedSlots.{grows, kept, same, stood, reached_behind, path_stays}
+
+-- A reading of a segment from an offset on, of which what is met is what these begin with. The first one that isn't met reaches above a place of the file.
+pub record ReadsFirst (sum : List ℕ → ℕ) (size : ℕ) (log : List ℕ) (slot place from at : ℕ) (met : List ScannedRecord) : Type 0 where
+  pub found : List ScannedRecord
+  pub rest : List ScannedRecord
+  pub whole : met ≡ found ++ rest
+  pub stop : ℕ
+  pub why : ScanEnd
+  pub path : IsPath sum size log slot place from found stop
+  pub end : IsEnd sum size log slot place stop why
+  pub above : (m : ScannedRecord) (ms : List ScannedRecord) → rest ≡ m ∷ ms → at < slot + stop + m.len
+
+-- the first of these, or this one
+abbrev first_of : ScannedRecord → List ScannedRecord → ScannedRecord
+first_of x [] = x
+first_of x (m ∷ ms) = m
+
+module _ (sum : List ℕ → ℕ) (size : ℕ) (old : List ℕ) (at count : ℕ) (now left : List ℕ) (no_more : length now ≤ length (replicate {A = ℕ} count 0)) (leaves : LeavesLog (after_write old at (replicate count 0) now) left)
+    {placed : List (ℕ × List ℕ)} (only_own : NoForeignLog sum size (after_write old at (replicate count 0) now) placed left)
+    (slot place : ℕ) (mark : ℤ) (header : IsHeader sum (part left (slot * size) 20) (pos place) mark) where
+  -- a reader of what is left comes to this offset
+  abbrev Comes : ℕ → Type 0
+  Comes from = IsReached sum size (place / size) (part left (slot * size) size) 20 from
+
+  module _ (from : ℕ) (comes : Comes from) (room : from + 32 ≤ size) where
+    below : from < size
+    below = omega (arith, room)
+
+    -- a record whose bytes aren't what they were reaches into the zeros
+    touched : (h : MessageHeader) (body : List ℕ) (len : ℕ) → StandsAt sum size old (slot * size + from) (place / size) h body len → (part left (slot * size + from) len ≡ part old (slot * size + from) len → ⊥) → at < slot * size + from + len
+    touched h body len s other = elim (cases_lt at (slot * size + from + len)) [
+      | inl above ↦ above
+      | inr below ↦ (let there = s.in_file in absurd (other (kept sum size old at count now left no_more leaves (slot * size + from) len there (inl below))))
+    ]
+
+    -- where a record stood it still does, or none does
+    still : (h : MessageHeader) (body : List ℕ) (len : ℕ) → StandsAt sum size old (slot * size + from) (place / size) h body len
+        → StandsAt sum size left (slot * size + from) (place / size) h body len ⊎ ((at < slot * size + from + len) × IsEmpty sum size left (slot * size + from) (place / size))
+    still h body len s = elim (same_or_not (part left (slot * size + from) len) (part old (slot * size + from) len)) [
+      | inl alike ↦ (
+          let there = s.in_file in
+          let long = grows sum size old at count now left no_more leaves in
+          inl (record_moved sum size old left (slot * size + from) (place / size) h body len alike (omega (arith, there, long)) s))
+      | inr other ↦ inr (touched h body len s other, λ h' body' len' s'. (
+          let before = stood sum size old at count now left no_more leaves only_own slot place mark header from comes below h' body' len' s' in
+          let one : len' ≡ len = one_len sum size old (slot * size + from) (place / size) h' h body' body len' len before s in
+          other (subst (λ n. part left (slot * size + from) n ≡ part old (slot * size + from) n) one (sym (same sum size old at count now left no_more leaves only_own slot place mark header from comes below h' body' len' s')))))
+    ]
+
+    -- where none stood none does
+    still_none : IsEmpty sum size old (slot * size + from) (place / size) → IsEmpty sum size left (slot * size + from) (place / size)
+    still_none none h body len s = none h body len (stood sum size old at count now left no_more leaves only_own slot place mark header from comes below h body len s)
+
+    -- the reading ends where none does
+    stops_here : (met : List ScannedRecord) → ((m : ScannedRecord) (ms : List ScannedRecord) → met ≡ m ∷ ms → at < slot * size + from + m.len) → IsEmpty sum size left (slot * size + from) (place / size) → ReadsFirst sum size left (slot * size) place from at met
+    unfolding EndsThere
+    stops_here met first none = record { found = []; rest = met; whole = refl; stop = from; why = Broken; path = refl; end = (room, none); above = first }
+
+    -- a cap still stands there, or nothing does
+    capped : EndsThere sum size old (slot * size + from) (place / size) Capped → ReadsFirst sum size left (slot * size) place from at []
+    unfolding EndsThere
+    capped (h, body, len, stands, is_cap) = elim (still h body len stands) [
+      | inl there ↦ record { found = []; rest = []; whole = refl; stop = from; why = Capped; path = refl; end = (room, (h, body, len, there, is_cap)); above = λ m ms is. cc }
+      | inr (above, none) ↦ stops_here [] (λ m ms is. cc) none
+    ]
+
+  -- where the reading ended before, it ends
+  ended : (from : ℕ) → Comes from → (why : ScanEnd) → IsEnd sum size old (slot * size) place from why → ReadsFirst sum size left (slot * size) place from at []
+  unfolding EndsThere
+  ended from comes Full full = record { found = []; rest = []; whole = refl; stop = from; why = Full; path = refl; end = full; above = λ m ms is. cc }
+  ended from comes Capped (room, cap) = capped from comes room cap
+  ended from comes Broken (room, none) = stops_here from comes room [] (λ m ms is. cc) (still_none from comes room none)
+
+  -- The reading of what is left meets what was met before, or the beginning of it.
+  pub reads_on : (from : ℕ) (met : List ScannedRecord) (stop : ℕ) (why : ScanEnd) → Comes from → IsPath sum size old (slot * size) place from met stop → IsEnd sum size old (slot * size) place stop why
+      → ReadsFirst sum size left (slot * size) place from at met
+  unfolding IsMet
+  reads_on from [] stop why comes path end = ended from comes why (subst (λ n. IsEnd sum size old (slot * size) place n why) path end)
+  reads_on from (m ∷ ms) stop why comes (room, at_place, (h, body, stands, says), path) end = elim (still from comes room h body m.len stands) [
+    | inl there ↦ (
+        let comes_behind = reached_behind sum size old at count now left no_more leaves only_own slot place mark header from comes (below from comes room) h body m.len there in
+        let on = reads_on (from + m.len) ms stop why comes_behind path end in
+        record { found = m ∷ on.found; rest = on.rest; whole = ap (λ (l : List ScannedRecord). m ∷ l) on.whole; stop = on.stop; why = on.why; path = (room, at_place, (h, body, there, says), on.path); end = on.end; above = on.above })
+    | inr (above, none) ↦ stops_here from comes room (m ∷ ms) (λ x xs is. subst (λ (l : List ScannedRecord). at < slot * size + from + (first_of x l).len) is above) none
+  ]
+
+  -- so it is with a whole scan
+  pub scan_left : (met : List ScannedRecord) (stop : ℕ) (why : ScanEnd) → IsScan sum size old (slot * size) place met stop why → ReadsFirst sum size left (slot * size) place 20 at met
+  unfolding IsScan
+  scan_left met stop why (path, end) = reads_on 20 met stop why at_first path end
+
+  -- In a slot that the zeros don't touch all is met as before.
+  module _ (apart : (slot * size + size ≤ at) ⊎ (at + count ≤ slot * size)) where
+    beside : (from : ℕ) (len : ℕ) → from + len ≤ size → (slot * size + from + len ≤ at) ⊎ (at + count ≤ slot * size + from)
+    beside from len within = elim apart [ inl before ↦ inl (omega (arith, before, within)) | inr past ↦ inr (omega (arith, past)) ]
+
+    end_same : (from : ℕ) → Comes from → (why : ScanEnd) → IsEnd sum size old (slot * size) place from why → IsEnd sum size left (slot * size) place from why
+    unfolding EndsThere
+    end_same from comes Full full = full
+    end_same from comes Capped (room, (h, body, len, s, is_cap)) =
+        let inside = s.in_slot in
+        let there = s.in_file in
+        let grown = grows sum size old at count now left no_more leaves in
+        let fits : from + len ≤ size = omega (arith, inside, aligned_offset (slot * size) from size (mul-mod_left slot size) (below from comes room)) in
+        (room, (h, body, len, record_moved sum size old left (slot * size + from) (place / size) h body len (kept sum size old at count now left no_more leaves (slot * size + from) len there (beside from len fits)) (omega (arith, there, grown)) s, is_cap))
+    end_same from comes Broken (room, none) = (room, still_none from comes room none)
+
+    comes_on : (from : ℕ) (met : List ScannedRecord) (stop : ℕ) → Comes from → IsPath sum size left (slot * size) place from met stop → Comes stop
+    unfolding IsMet
+    comes_on from [] stop comes path = subst Comes (sym path) comes
+    comes_on from (m ∷ ms) stop comes (room, at_place, (h, body, stands, says), path) =
+        comes_on (from + m.len) ms stop (reached_behind sum size old at count now left no_more leaves only_own slot place mark header from comes (below from comes room) h body m.len stands) path
+
+    pub scan_same : (met : List ScannedRecord) (stop : ℕ) (why : ScanEnd) → stop ≤ size → IsScan sum size old (slot * size) place met stop why → IsScan sum size left (slot * size) place met stop why
+    unfolding IsScan
+    scan_same met stop why within (path, end) =
+        let apart_here : (slot * size + stop ≤ at) ⊎ (at + count ≤ slot * size) = elim apart [ inl before ↦ inl (omega (arith, before, within)) | inr past ↦ inr past ] in
+        let stays = path_stays sum size old at count now left no_more leaves (slot * size) place (mul-mod_left slot size) 20 met stop apart_here path in
+        (stays, end_same stop (comes_on 20 met stop at_first stays) why end)
