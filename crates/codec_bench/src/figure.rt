@@ -37,6 +37,18 @@ impl Shortest {
             hundredths % 100
         )
     }
+
+    /// Prints how many millions of bytes a second that is, for so many bytes in a run.
+    pub fn print_rate(
+        &self,
+        rt: &HostRuntime,
+        name: &str,
+        what: &str,
+        bytes: u64,
+    ) -> io::Result<()> {
+        let rate = u128::from(bytes) * 1000 / u128::from(self.nanos.max(1));
+        println!(rt; "{name}, {what}: {rate} MB/s")
+    }
 }
 
 /// What was read is what was written, or the run counts for nothing.

@@ -10,8 +10,10 @@ mod figure;
 mod headers;
 mod logs;
 mod numbers;
+mod recoveries;
 mod sequence;
 
+use recoveries::Shape;
 use sequence::Sequence;
 use std::{env, io};
 
@@ -35,7 +37,37 @@ fn main(rt: HostRuntime) -> io::Result<()> {
     logs::measure(&rt, "records of 200 bytes", 199)?;
     logs::measure(&rt, "records of 4000 bytes", 3997)?;
     logs::measure_start(&rt)?;
+    measure_recoveries(&rt)?;
     measure_accounts(&rt)
+}
+
+// Recovery of 100 MB with bodies of some lengths, and of more and more segments with as many pages more.
+fn measure_recoveries(rt: &HostRuntime) -> io::Result<()> {
+    let long = 8388608;
+    recoveries::measure(rt, "100 MB, bodies of 11 bytes", shape(long, 12, 11, 1000))?;
+    recoveries::measure(
+        rt,
+        "100 MB, bodies of 200 bytes",
+        shape(long, 12, 200, 1000),
+    )?;
+    recoveries::measure(
+        rt,
+        "100 MB, bodies of 4000 bytes",
+        shape(long, 12, 4000, 1000),
+    )?;
+    recoveries::measure(rt, "16 segments", shape(65536, 16, 200, 1000))?;
+    recoveries::measure(rt, "160 segments", shape(65536, 160, 200, 10000))?;
+    recoveries::measure(rt, "1600 segments", shape(65536, 1600, 200, 100000))
+}
+
+// So many segments of this size, with bodies of so many bytes, of so many pages.
+fn shape(segment_size: u64, segments: u64, body: usize, pages: u64) -> Shape {
+    Shape {
+        segment_size,
+        segments,
+        body,
+        pages,
+    }
 }
 
 // The accountant, over more and more pages and segments.

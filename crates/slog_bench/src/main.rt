@@ -19,6 +19,7 @@ mod recovery;
 mod runs;
 mod scripts;
 mod segment_headers;
+mod stops;
 mod tables;
 mod tally;
 mod texts;
@@ -35,12 +36,13 @@ use tally::Tally;
 use texts::Text;
 
 // The files under `data/`, one a kind.
-const FILES: [&str; 11] = [
+const FILES: [&str; 12] = [
     "codecs.txt",
     "segment_headers.txt",
     "words.txt",
     "recovery.txt",
     "plain.txt",
+    "stops.txt",
     "calls.txt",
     "slog.txt",
     "own.txt",
@@ -93,6 +95,7 @@ fn run(alloc: Global, name: &str, text: &str, tally: &mut Tally<'_>) {
             recovery::run(alloc, text, By::Plain, tally);
             recovery::run(alloc, text, By::Call, tally);
         }
+        "stops.txt" => stops::run(alloc, text, tally),
         "calls.txt" => {
             if let Err(Fault(why)) = calls::run(alloc, text, tally) {
                 tally.case(0, "lines", why);

@@ -176,6 +176,35 @@ impl Case {
     }
 }
 
+/// Returns the size of segments and the device that these lines say. All of it is settled.
+pub fn device_of(alloc: Global, content: &[&str]) -> Outcome<(u64, MemDevice)> {
+    let mut case = Case::new(alloc, By::Plain);
+    for line in content {
+        let _ = case.content(line)?;
+    }
+    let mut device = mem::replace(&mut case.device, MemDevice::new(alloc));
+    done(device.sync())?;
+    done(device.sync_names())?;
+    Ok((case.size, device))
+}
+
+/// Returns what a recovery answered, as one text.
+pub fn table_of(alloc: Global, answer: &Result<Snapshot, Error>) -> Outcome<Text> {
+    let mut text = Text::new(alloc);
+    match answer {
+        Ok(snapshot) => {
+            let mut lines = Vec::new(alloc);
+            push_table(alloc, &mut lines, snapshot)?;
+            for line in &lines {
+                text.push(line.as_str());
+                text.push("; ");
+            }
+        }
+        Err(e) => text.error(e),
+    }
+    Ok(text)
+}
+
 // A call that fails on a device in memory found no memory.
 fn done(answer: io::Result<()>) -> Outcome<()> {
     match answer {
