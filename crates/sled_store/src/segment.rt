@@ -6,6 +6,7 @@ ghost use Rattle.sled_codec.specs.Places.{MayBegin};
 pub mod accountant;
 pub mod cleaner;
 pub mod laws;
+pub(crate) mod queue;
 pub(crate) mod slot;
 pub mod slot_table;
 pub(crate) mod sorted;

@@ -14,6 +14,7 @@ mod replacing;
 mod starting;
 
 use crate::segment::cleaner::SegmentCleaner;
+use crate::segment::queue::SortedQueue;
 pub use crate::segment::slot::CacheInfo;
 use crate::segment::slot::Slot;
 use crate::segment::sorted::SortedSet;
@@ -32,10 +33,10 @@ pub struct SegmentAccountant {
     // The slots below the tip that no segment is in.
     free: SortedSet<u64>,
     // The active segments, by place and slot.
-    active: SortedSet<(u64, u64)>,
+    active: SortedQueue<(u64, u64)>,
     inactive: SortedSet<u64>,
     // The slots that are done, by the place of their latest replacement.
-    waiting: SortedSet<(u64, u64)>,
+    waiting: SortedQueue<(u64, u64)>,
     cleaner: SegmentCleaner,
 }
 
@@ -52,9 +53,9 @@ impl SegmentAccountant {
             slots: Vec::new(alloc),
             tip: 0,
             free: SortedSet::new(alloc),
-            active: SortedSet::new(alloc),
+            active: SortedQueue::new(alloc),
             inactive: SortedSet::new(alloc),
-            waiting: SortedSet::new(alloc),
+            waiting: SortedQueue::new(alloc),
             cleaner: SegmentCleaner::new(alloc, size),
         }
     }
