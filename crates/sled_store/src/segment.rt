@@ -8,6 +8,7 @@ pub mod cleaner;
 pub mod laws;
 pub(crate) mod queue;
 pub(crate) mod slot;
+pub(crate) mod slot_set;
 pub mod slot_table;
 pub(crate) mod sorted;
 pub mod start;

@@ -17,7 +17,7 @@ use crate::segment::cleaner::SegmentCleaner;
 use crate::segment::queue::SortedQueue;
 pub use crate::segment::slot::CacheInfo;
 use crate::segment::slot::Slot;
-use crate::segment::sorted::SortedSet;
+use crate::segment::slot_set::SlotSet;
 use crate::{Device, RunningConfig};
 use sled_codec::result::{Error, LogOffset, Lsn, PageId, Result};
 use sled_codec::serialization::Checksum;
@@ -31,10 +31,10 @@ pub struct SegmentAccountant {
     // How many of them are not cut off.
     tip: u64,
     // The slots below the tip that no segment is in.
-    free: SortedSet<u64>,
+    free: SlotSet,
     // The active segments, by place and slot.
     active: SortedQueue<(u64, u64)>,
-    inactive: SortedSet<u64>,
+    inactive: SlotSet,
     // The slots that are done, by the place of their latest replacement.
     waiting: SortedQueue<(u64, u64)>,
     cleaner: SegmentCleaner,
@@ -52,9 +52,9 @@ impl SegmentAccountant {
             size,
             slots: Vec::new(alloc),
             tip: 0,
-            free: SortedSet::new(alloc),
+            free: SlotSet::new(alloc),
             active: SortedQueue::new(alloc),
-            inactive: SortedSet::new(alloc),
+            inactive: SlotSet::new(alloc),
             waiting: SortedQueue::new(alloc),
             cleaner: SegmentCleaner::new(alloc, size),
         }

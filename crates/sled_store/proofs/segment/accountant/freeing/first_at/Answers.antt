@@ -1,5 +1,5 @@
 -- The first slot behind a place lies where the place belongs.
-use Rattle.std.proofs.Common.{◌≡◌, ◌∙◌, ℕ, List, Some, None, if◌then◌else◌, sym, ap, eq-eqb}
+use Rattle.std.proofs.Common.{◌∙◌, ℕ, List, Some, None, if◌then◌else◌, sym, ap, eq-eqb}
 use Rattle.std.proofs.lemmas.Bool.{ne_eqb}
 use Rattle.sled_store.proofs.Accounts.StabilFirst.{first_is, first_by}
 use Rattle.sled_store.proofs.segment.accountant.freeing.first_at.Goals as goal

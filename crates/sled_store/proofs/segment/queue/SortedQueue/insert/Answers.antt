@@ -1,5 +1,5 @@
 -- A key that was found changes nothing, and another goes where the search ended.
-use Rattle.std.proofs.Common.{◌≡◌, ◌∙◌, ◌⊎◌, ◌<◌, ◌≤◌, ℕ, Bool, true, false, IsTrue, length, sym, ap, subst, inl, inr, arith, rules, deque_len}
+use Rattle.std.proofs.Common.{◌≡◌, ◌∙◌, ◌⊎◌, ◌<◌, ◌≤◌, ℕ, Bool, false, IsTrue, length, sym, ap, subst, inl, inr, arith, rules, deque_len}
 use Rattle.std.specs.VecDeque.{deque_capacity}
 use Rattle.std.specs.List.{list_any, insert}
 use Rattle.std.specs.List.Sorted.{IsStrictlySortedBy}

@@ -1,10 +1,9 @@
 -- A key that was found is taken out, and another was not there.
-use Rattle.std.proofs.Common.{◌≡◌, ◌∙◌, ◌<◌, length, is_some, true, sym, ap, subst, arith, rules, deque_len}
+use Rattle.std.proofs.Common.{◌≡◌, ◌∙◌, ◌<◌, length, sym, ap, subst, arith, rules, deque_len}
 use Rattle.std.specs.List.{remove}
 use Rattle.std.specs.List.Sorted.{IsStrictlySortedBy}
 use Rattle.std.specs.BTreeMap.{is_at}
 use Rattle.std.specs.Set.{remove_key}
-use Rattle.std.specs.Option.{OnSome}
 use Rattle.sled_store.proofs.Accounts.SortedLemmas.{sorted_remove, searchable, found_remove, missing_any, missing_remove}
 use Rattle.sled_store.proofs.segment.queue.SortedQueue.remove.Goals as goal
 
