@@ -3,6 +3,7 @@ pub mod ChangeLemmas
 pub mod CleanerLemmas
 pub mod HandLemmas
 pub mod IndexLemmas
+pub mod MarkLemmas
 pub mod MoveLemmas
 pub mod OldLemmas
 pub mod SortedLemmas
@@ -15,4 +16,5 @@ pub mod StabilSteps
 pub mod StartIndex
 pub mod StartPages
 pub mod StartSlots
+pub mod TreeLemmas
 pub mod WithLemmas

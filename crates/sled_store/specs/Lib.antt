@@ -18,6 +18,7 @@ pub mod OwnParts
 pub mod Script
 pub mod SegmentStates
 pub mod Segments
+pub mod SlotSets
 pub mod SlotTables
 pub mod SnapshotFiles
 pub mod Stabilizing

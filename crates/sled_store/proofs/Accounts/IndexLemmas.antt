@@ -14,13 +14,13 @@ use Rattle.sled_store.specs.SegmentStates.{SlotState, slots_where, slots_by, bes
 
 -- Numbers that are compared.
 
-less_is : (n i : ℕ) → n < i → nat_cmp n i ≡ Less
+pub less_is : (n i : ℕ) → n < i → nat_cmp n i ≡ Less
 less_is n i lt = grind (arith, nat_tests)
 
-same_is : (n i : ℕ) → n ≡ i → nat_cmp n i ≡ Equal
+pub same_is : (n i : ℕ) → n ≡ i → nat_cmp n i ≡ Equal
 same_is n i same = grind (arith, nat_tests)
 
-greater_is : (n i : ℕ) → i < n → nat_cmp n i ≡ Greater
+pub greater_is : (n i : ℕ) → i < n → nat_cmp n i ≡ Greater
 greater_is n i gt = grind (arith, nat_tests)
 
 -- Two keys that differ are put in in either order.

@@ -14,7 +14,7 @@ use Rattle.std.proofs.lemmas.Bool.Decides.{nat_tests}
 use Rattle.std.proofs.lemmas.List.Elements.{All-cons, All-tail}
 use Rattle.std.proofs.lemmas.Map.Views.{All-insert_key}
 use Rattle.sled_store.proofs.Accounts.SortedLemmas.{sorted_nil, sorted_insert}
-use Rattle.sled_store.proofs.Accounts.IndexLemmas.{by_place_total, slots_by_set, slots_by_was, length_slots_where}
+use Rattle.sled_store.proofs.Accounts.IndexLemmas.{by_place_total, slots_by_set, slots_by_was}
 use Rattle.sled_store.specs.SegmentStates.{SlotState, slots_where, slots_by, beside, by_place}
 
 all_of_none : {A : Type 0} (P : A → Type 0) → All P []
@@ -178,18 +178,6 @@ module _ (test : SlotState → Bool) where
           ap (λ l. i ∷ l) h
           ∙ sym (ap (λ r. match_ordering r (n ∷ i ∷ slots_where test (suc i) xs) (i ∷ slots_where test (suc i) xs) (i ∷ insert_key nat_cmp (slots_where test (suc i) xs) n)) (greater_is n i (omega arith)))
       by false h = h
-
-  -- a slot that does not pass leaves room in the list
-  pub length_where_less : (i k : ℕ) (xs : List SlotState) (d : SlotState) → k < length xs → test (get_or xs k d) ≡ false → length (slots_where test i xs) < length xs
-  length_where_less i k [] d lt fails = absurd (omega arith)
-  length_where_less i zero (x ∷ xs) d lt fails =
-      let same : length (slots_where test i (x ∷ xs)) ≡ length (slots_where test (suc i) xs) = ap (λ b. length (cond b (i ∷ slots_where test (suc i) xs) (slots_where test (suc i) xs))) fails in
-      omega (arith, same, length_slots_where test (suc i) xs)
-  length_where_less i (suc k) (x ∷ xs) d lt fails = by (test x) (length_where_less (suc i) k xs d (omega arith) fails)
-    where
-      by : (b : Bool) → length (slots_where test (suc i) xs) < length xs → length (cond b (i ∷ slots_where test (suc i) xs) (slots_where test (suc i) xs)) < suc (length xs)
-      by true h = omega arith
-      by false h = omega arith
 
   -- one more slot, behind all others
   pub where_behind : (i n : ℕ) (xs : List SlotState) (s : SlotState) → n ≡ i + length xs → slots_where test i (xs ++ s ∷ []) ≡ slots_where test i xs ++ cond (test s) (n ∷ []) []

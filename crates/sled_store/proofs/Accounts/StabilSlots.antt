@@ -6,14 +6,14 @@ use Rattle.std.specs.BTreeSet.{insert_key}
 use Rattle.std.specs.Set.{remove_key}
 use Rattle.sled_store.specs.declared.segment.slot.State.{State}
 use Rattle.sled_store.specs.declared.segment.slot.State.TheVariants.{Free, Active, Inactive, Draining}
-use Rattle.sled_store.specs.SegmentStates.{SlotState, is_free, is_active, is_inactive, is_draining, is_done, same_pages, slots_by, free_among, inactive_among, active_place, waited_place, free_slot, slot_at, inactive_slot, by_place}
+use Rattle.sled_store.specs.SegmentStates.{SlotState, is_free, is_active, is_inactive, is_draining, is_done, same_pages, slots_by, free_among, active_place, waited_place, free_slot, slot_at, inactive_slot, by_place}
 use Rattle.sled_store.specs.Stabilizing.{not_beside}
 use Rattle.sled_store.specs.declared.segment.slot.Slot.{Slot}
 use Rattle.sled_store.specs.declared.segment.accountant.SegmentAccountant.{SegmentAccountant}
 use Rattle.sled_store.specs.Accounts.{AreSlots, AreIndexes, slot_state, machine_of}
 use Rattle.sled_store.proofs.Accounts.AccountLemmas.{state_at, length_states}
 use Rattle.sled_store.proofs.Accounts.IndexLemmas.{slots_where_same, slots_by_same}
-use Rattle.sled_store.proofs.Accounts.StabilIndex.{slots_by_less, slots_where_more, length_where_less}
+use Rattle.sled_store.proofs.Accounts.StabilIndex.{slots_by_less, slots_where_more}
 
 pub same_or_not : (n k : ℕ) → (n ≡ k) ⊎ (n ≢ k)
 same_or_not zero zero = inl refl
@@ -112,12 +112,6 @@ module _ (tip : ℕ) (xs : List SlotState) (k : ℕ) (lt : k < length xs) (slots
   pub emptied_slots : AreSlots tip (set xs k free_slot)
   emptied_slots = changed_slots tip xs k lt slots free_slot (λ free. refl) (λ above. refl) (omega arith)
 
-  pub emptied_room : length (free_among (take tip xs)) < length xs
-  emptied_room =
-      let low : k < length (take tip xs) = omega (arith, below_tip, length-take tip xs) in
-      let taken : is_free (get_or (take tip xs) k free_slot).state ≡ false = ap (λ (s : SlotState). is_free s.state) (get_or-take tip xs k free_slot below_tip) ∙ ap is_free state_is in
-      omega (arith, length_where_less (λ s. is_free s.state) 0 k (take tip xs) free_slot low taken, length-take tip xs)
-
   pub emptied_indexes : (free : List ℕ) (active : List (ℕ × ℕ)) (inactive : List ℕ) (waiting : List (ℕ × ℕ)) → AreIndexes tip xs free active inactive waiting
       → AreIndexes tip (set xs k free_slot) (insert_key nat_cmp free k) active inactive (not_beside (get_or xs k free_slot).latest k waiting)
   emptied_indexes free active inactive waiting are =
@@ -149,9 +143,6 @@ module _ (tip : ℕ) (xs : List SlotState) (k place : ℕ) (lt : k < length xs) 
 
   pub inactive_slots : AreSlots tip (set xs k (inactive_slot (get_or xs k free_slot)))
   inactive_slots = changed_slots tip xs k lt slots (inactive_slot (get_or xs k free_slot)) (λ free. absurd (cc)) (λ above. absurd (omega (arith, under_tip))) (slots.places k)
-
-  pub inactive_room : length (inactive_among xs) < length xs
-  inactive_room = length_where_less (λ s. is_inactive s.state) 0 k xs free_slot lt (ap is_inactive was)
 
   pub inactive_indexes : (free : List ℕ) (actives : List (ℕ × ℕ)) (inactive : List ℕ) (waiting : List (ℕ × ℕ)) → AreIndexes tip xs free actives inactive waiting
       → AreIndexes tip (set xs k (inactive_slot (get_or xs k free_slot))) free (remove_key (is_at (by_place (place, k))) actives) (insert_key nat_cmp inactive k) waiting

@@ -14,9 +14,10 @@ mod replacing;
 mod starting;
 
 use crate::segment::cleaner::SegmentCleaner;
+use crate::segment::queue::SortedQueue;
 pub use crate::segment::slot::CacheInfo;
 use crate::segment::slot::Slot;
-use crate::segment::sorted::SortedSet;
+use crate::segment::slot_set::SlotSet;
 use crate::{Device, RunningConfig};
 use sled_codec::result::{Error, LogOffset, Lsn, PageId, Result};
 use sled_codec::serialization::Checksum;
@@ -30,12 +31,12 @@ pub struct SegmentAccountant {
     // How many of them are not cut off.
     tip: u64,
     // The slots below the tip that no segment is in.
-    free: SortedSet<u64>,
+    free: SlotSet,
     // The active segments, by place and slot.
-    active: SortedSet<(u64, u64)>,
-    inactive: SortedSet<u64>,
+    active: SortedQueue<(u64, u64)>,
+    inactive: SlotSet,
     // The slots that are done, by the place of their latest replacement.
-    waiting: SortedSet<(u64, u64)>,
+    waiting: SortedQueue<(u64, u64)>,
     cleaner: SegmentCleaner,
 }
 
@@ -51,10 +52,10 @@ impl SegmentAccountant {
             size,
             slots: Vec::new(alloc),
             tip: 0,
-            free: SortedSet::new(alloc),
-            active: SortedSet::new(alloc),
-            inactive: SortedSet::new(alloc),
-            waiting: SortedSet::new(alloc),
+            free: SlotSet::new(alloc),
+            active: SortedQueue::new(alloc),
+            inactive: SlotSet::new(alloc),
+            waiting: SortedQueue::new(alloc),
             cleaner: SegmentCleaner::new(alloc, size),
         }
     }

@@ -1,12 +1,9 @@
 //! Keys in ascending order, each once, in a vector. Room for keys is reserved first, and a key for which there is room
 //! is put in without taking memory.
-ghost use Rattle.std.specs.Prelude.{◌≡◌, ◌≢◌, ◌≤◌, ◌<◌, ◌+◌, ◌-◌, ◌⊎◌, [], ◌∷◌, ℕ, List, length, drop, take, is_some, option_copied, slice_get, OnOk, OnErr, IsTrue};
-ghost use Rattle.std.specs.declared.cmp.Ordering.TheVariants.{Less};
+ghost use Rattle.std.specs.Prelude.{◌≡◌, ◌≤◌, ◌<◌, ◌+◌, ◌⊎◌, [], length, OnOk, IsTrue};
 ghost use Rattle.std.specs.List.{list_any};
-ghost use Rattle.std.specs.List.Sorted.{IsPartitionPoint, IsStrictlySortedBy};
 ghost use Rattle.std.specs.BTreeMap.{is_at};
 ghost use Rattle.std.specs.BTreeSet.{insert_key};
-ghost use Rattle.std.specs.Set.{remove_key};
 
 use std::alloc::{AllocError, Global};
 use std::marker::Model;
@@ -52,37 +49,11 @@ impl<K: Ord + Copy> SortedSet<K> {
         self.items.len()
     }
 
-    /// Returns the least key.
-    pub(crate) fn first(&self) -> Option<K>
-        ensures { result ≡ slice_get self.now.0 0 }
-    {
-        self.items.first().copied()
-    }
-
-    /// Returns the greatest key.
-    pub(crate) fn last(&self) -> Option<K>
-        ensures { result ≡ slice_get self.now.0 (length self.now.0 - 1) }
-    {
-        self.items.last().copied()
-    }
-
     /// Whether it has a key.
     pub(crate) fn has(&self, key: K) -> bool
         ensures { result ≡ list_any (is_at (K.cmp key)) self.now.0 }
     {
         self.items.binary_search(&key).is_ok()
-    }
-
-    /// Returns the index of the least key that is not less than this one.
-    pub(crate) fn place(&self, key: K) -> usize
-        ensures place { IsPartitionPoint (λ k. K.cmp k key ≡ Less) (λ k. K.cmp k key ≢ Less) self.now.0 result }
-        ensures within { result ≤ length self.now.0 }
-        ensures sorted { IsStrictlySortedBy K.cmp self.now.0 }
-    {
-        match self.items.binary_search(&key) {
-            Ok(at) => at,
-            Err(at) => at,
-        }
     }
 
     /// Makes room for more keys.
@@ -105,19 +76,6 @@ impl<K: Ord + Copy> SortedSet<K> {
             Err(at) => {
                 let _ = self.items.insert(at, key);
             }
-        }
-    }
-
-    /// Takes a key out, where it is there.
-    pub(crate) fn remove(&mut self, key: K)
-        ensures keys { self.new.0 ≡ remove_key (is_at (K.cmp key)) self.old.0 }
-        ensures room { self.new.1 ≡ self.old.1 }
-    {
-        match self.items.binary_search(&key) {
-            Ok(at) => {
-                let _ = self.items.remove(at);
-            }
-            Err(_) => {}
         }
     }
 

@@ -1,19 +1,16 @@
 -- The slot is free now, and no list has it but that of the free ones.
-use Rattle.std.proofs.Common.{◌≡◌, ◌∙◌, ℕ, List, length, refl, ap, inr, arith}
+use Rattle.std.proofs.Common.{◌≡◌, ◌∙◌, ℕ, List, length, refl, ap, arith}
 use Rattle.sled_store.specs.SegmentStates.{SlotState, Machine, free_slot}
 use Rattle.sled_store.specs.Stabilizing.{not_beside}
 use Rattle.sled_store.specs.declared.segment.accountant.SegmentAccountant.{SegmentAccountant}
 use Rattle.sled_store.specs.Accounts.{machine_of}
 use Rattle.sled_store.proofs.Accounts.AccountLemmas.{states_set, updated_account}
 use Rattle.sled_store.proofs.Accounts.HandLemmas.{indexes_same}
-use Rattle.sled_store.proofs.Accounts.StabilSlots.{emptied_slots, emptied_room, emptied_indexes, slot_is}
+use Rattle.sled_store.proofs.Accounts.StabilSlots.{emptied_slots, emptied_indexes, slot_is}
 use Rattle.sled_store.proofs.segment.accountant.SegmentAccountant.empty.Goals as goal
 
 pub insert-requires : goal.insert-requires
-insert-requires c =
-    let m : Machine = machine_of c.args.self.now in
-    let few = emptied_room c.args.self.now.tip m.slots c.args.slot c.requires.slot c.requires.account.slots c.requires.done in
-    inr (omega (arith, few, ap length c.requires.account.indexes.free_is, c.requires.account.rooms.free))
+insert-requires c = omega (arith, c.requires.slot, c.requires.account.rooms.free)
 
 emptied_is : (xs ys : List SlotState) (tip : ℕ) (c d : List (ℕ × List ℕ)) → xs ≡ ys → c ≡ d → ◌≡◌ {A = Machine} (record { slots = xs; tip = tip; cleaner = c }) (record { slots = ys; tip = tip; cleaner = d })
 emptied_is xs ys tip c d same cleaner = λ i. record { slots = same i; tip = tip; cleaner = cleaner i }

@@ -1,12 +1,12 @@
 -- The segment was active, and is among the inactive ones now.
-use Rattle.std.proofs.Common.{◌≡◌, ◌∙◌, ℕ, List, length, refl, sym, ap, subst, inr, arith}
+use Rattle.std.proofs.Common.{◌≡◌, ◌∙◌, ℕ, List, refl, sym, ap, subst, arith}
 use Rattle.sled_store.specs.SegmentStates.{SlotState, Machine, is_draining, inactive_slot, slot_at}
 use Rattle.sled_store.specs.declared.segment.slot.Slot.{Slot}
 use Rattle.sled_store.specs.declared.segment.accountant.SegmentAccountant.{SegmentAccountant}
 use Rattle.sled_store.specs.Accounts.{slot_state, machine_of, HasRoomToDrain}
 use Rattle.sled_store.proofs.Accounts.AccountLemmas.{states_set, updated_account, length_states}
 use Rattle.sled_store.proofs.Accounts.HandLemmas.{indexes_same}
-use Rattle.sled_store.proofs.Accounts.StabilSlots.{inactive_slots, inactive_room, inactive_indexes, not_draining, slot_is}
+use Rattle.sled_store.proofs.Accounts.StabilSlots.{inactive_slots, inactive_indexes, not_draining, slot_is}
 use Rattle.sled_store.proofs.segment.accountant.SegmentAccountant.make_inactive.Goals as goal
 
 pub deactivate-requires : goal.deactivate-requires
@@ -16,10 +16,7 @@ deactivate-requires c =
     ∙ not_draining c.args.self.now.tip m.slots c.args.slot c.args.place c.requires.slot c.requires.account.slots c.requires.active
 
 pub insert-requires : goal.insert-requires
-insert-requires c =
-    let m : Machine = machine_of c.args.self.now in
-    let few = inactive_room c.args.self.now.tip m.slots c.args.slot c.args.place c.requires.slot c.requires.account.slots c.requires.active in
-    inr (omega (arith, few, ap length c.requires.account.indexes.inactive_is, c.requires.account.rooms.inactive))
+insert-requires c = omega (arith, c.requires.slot, c.requires.account.rooms.inactive)
 
 now_is : (old new : Slot) (t : SlotState) → slot_state new ≡ inactive_slot (slot_state old) → slot_state old ≡ t → slot_state new ≡ inactive_slot t
 now_is old new t is at = is ∙ ap inactive_slot at
