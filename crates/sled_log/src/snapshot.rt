@@ -125,7 +125,8 @@ fn settle<D: Device>(device: &mut D) -> Result<()>
 pub(crate) fn recover<D: Device, C: Checksum>(config: &mut RunningConfig<D, C>) -> Result<Recovery>
     ensures ok { let old = state_of (D.trace config.old.device) in
         IfOk result (λ x. Recovers C.sum_of config.old.config.segment_size (content_of old) (Recovered (result_of x))) }
-    ensures corrupt { IsCorruption result → Recovers C.sum_of config.old.config.segment_size (content_of (state_of (D.trace config.old.device))) Damaged }
+    ensures corrupt { let old = state_of (D.trace config.old.device) in
+        IsCorruption result → Recovers C.sum_of config.old.config.segment_size (content_of old) Damaged }
     ensures answers { let blobs = (state_of (D.trace config.old.device)).blobs.file in
         ItemAnswers C.sum_of blobs result (D.faults config.old.device) (D.faults config.new.device) }
     ensures reads { OnlyReads D.trace config.old config.new }

@@ -45,7 +45,8 @@ pub(crate) fn read_below<D: Device, C: Checksum>(
     requires ready { (s : Segment) → Contains segments.now s → CanBeRead config.old.config.segment_size (state_of (D.trace config.old.device)).log.bytes s }
     requires end { end < 2 ^ 63 }
     ensures passes { let s = state_of (D.trace config.old.device) in
-        IfOk result (λ v. AreResolved C.sum_of config.old.config.segment_size s.log.bytes s.blobs.file end (begun_below end segments.now) (map pass_of v.items)) }
+        IfOk result (λ v. AreResolved C.sum_of config.old.config.segment_size s.log.bytes s.blobs.file end
+        (begun_below end segments.now) (map pass_of v.items)) }
     ensures fits { IfOk result (λ v. All (IsPass config.old.config.segment_size) v.items) }
     ensures corrupt { let s = state_of (D.trace config.old.device) in
         IsCorruption result → IsBadPass C.sum_of config.old.config.segment_size s.log.bytes s.blobs.file end (begun_below end segments.now) }
@@ -196,7 +197,8 @@ pub(crate) fn outcome_of(
     requires long { length passes.now ≤ length segments.now }
     ensures ok { IfOk result (λ x. outcome_of size (model_of first) end (map pass_of passes.now) (slots_of (drop (length passes.now) segments.now))
         ≡ Recovered (result_of x)) }
-    ensures corrupt { IsCorruption result → outcome_of size (model_of first) end (map pass_of passes.now) (slots_of (drop (length passes.now) segments.now)) ≡ Damaged }
+    ensures corrupt { IsCorruption result
+        → outcome_of size (model_of first) end (map pass_of passes.now) (slots_of (drop (length passes.now) segments.now)) ≡ Damaged }
     ensures errors { IfErr result IsDecodeError }
 {
     let unread = slots_of(alloc, &segments[passes.len()..])?;

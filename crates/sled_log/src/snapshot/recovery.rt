@@ -12,7 +12,7 @@ pub(crate) struct Recovery {
     pub(crate) is_new: bool,
     /// The rest of the active segment behind the cut, where one was read.
     pub(crate) shred_range: Option<ShredRange>,
-    /// The slots of the segments that were found and that the pass did not read, by their places.
+    /// The slots of the segments that were found and not read, by their places.
     pub(crate) unread: Vec<LogOffset>,
 }
 
