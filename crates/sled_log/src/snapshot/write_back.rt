@@ -112,7 +112,7 @@ fn publish_new<D: Device, C: Checksum>(
 }
 
 /// Takes away what the table doesn't have: overwrites these segments with zeros, and then removes every blob at or
-/// above a place. A crash may bring the blobs back until names are synced; a later recovery removes them again.
+/// above a place. A crash may bring the blobs back until names are synced.
 fn forget<D: Device, C: Checksum>(
     config: &mut RunningConfig<D, C>,
     unread: &[LogOffset],
