@@ -1,3 +1,4 @@
+pub mod ActiveSlot
 pub mod CutLemmas
 pub mod LeftOut
 pub mod OneReading

@@ -74,34 +74,47 @@ module _ (sum : List ℕ → ℕ) (size : ℕ) (log : List ℕ) (end : ℕ) wher
         by true test [] on at rest = absurd on
         by true test (q ∷ qs) on at rest = read_first (ltb-true s.place end test) q qs (open_at end q.met) refl on.0 on.1 on.2 at rest
 
+-- a tail that ends nowhere is empty
+no_end : (tail : List Scanned) → tail_end tail ≡ None → tail ≡ []
+no_end [] none = refl
+no_end (x ∷ []) none = cc
+no_end (x ∷ y ∷ ys) none = let rest = no_end (y ∷ ys) none in cc
+
+module _ (sum : List ℕ → ℕ) (size : ℕ) (log : List ℕ) (H : History) (A : ℕ) (first : SnapshotModel) (cut : ℕ × Option ℕ) (is : IsRecoverableLog sum size log H A first cut) where
+  abbrev begins : ℕ
+  begins = tail_begins size (least_place size first) is.ordering
+
+  -- where the tail is empty it begins at the place of the snapshot
+  pub none_begins : tail_end is.tail ≡ None → begins ≡ stable_place first.stable
+  none_begins none =
+      let empty = subst (λ (l : List Scanned). IsTail sum size log is.ordering begins l) (no_end is.tail none) is.is_tail in
+      ⊎_elim (λ found. absurd (empty found.0 found.1 found.2)) (λ place. place) is.tail_there
+
 module _ (sum : List ℕ → ℕ) (size : ℕ) (log : List ℕ) (some : 256 ≤ size) (blobs : ℤ → Option (List ℕ)) (H : History) (A : ℕ) (first : SnapshotModel) (cut : ℕ × Option ℕ)
     (is : IsRecoverableLog sum size log H A first cut) (are : AreRecoverableBlobs sum blobs H cut.0) where
   -- these are slots of segments at or above the cut
   abbrev pub LieAbove : List ℕ → Type 0
   LieAbove unread = (slot : ℕ) → Contains unread slot → (u : Segment) × Contains is.ordering u × (u.slot ≡ slot) × (cut.0 ≤ u.place)
 
-  -- a tail that ends nowhere is empty
-  no_end : (tail : List Scanned) → tail_end tail ≡ None → tail ≡ []
-  no_end [] none = refl
-  no_end (x ∷ []) none = cc
-  no_end (x ∷ y ∷ ys) none = let rest = no_end (y ∷ ys) none in cc
-
-  -- Where no segment is read, all of them do.
-  pub none_left : (unread : List ℕ) → cut.0 ≡ stable_place first.stable → ReadsNone sum size log blobs H A first cut is are unread → LieAbove unread
-  none_left unread at (inl (none, all)) slot there =
-      let from = slot_from is.ordering slot (subst (λ (l : List ℕ). Contains l slot) all there) in
-      let u : Segment = from.0 in
-      let above = ((is.numbers.found u).0 from.1).not_below in
-      let empty = subst (λ (l : List Scanned). IsTail sum size log is.ordering (tail_begins size (least_place size first) is.ordering) l) (no_end is.tail none) is.is_tail in
-      let begins : tail_begins size (least_place size first) is.ordering ≡ stable_place first.stable = ⊎_elim (λ found. absurd (empty found.0 found.1 found.2)) (λ place. place) is.tail_there in
-      let aligned : stable_place first.stable % size ≡ 0 = ap (λ n. n % size) (sym begins) ∙ (put_down size _).1 in
-      let low = put_down size (stable_place first.stable) in
-      (u, from.1, from.2, omega (arith, at, above, aligned, low.0))
-  none_left unread at (inr (end, ends, below)) slot there =
+  -- the last segment of the tail begins below its end
+  pub tail_empty : (unread : List ℕ) → ReadsNone sum size log blobs H A first cut is are unread → (tail_end is.tail ≡ None) × (unread ≡ slots_of is.ordering)
+  tail_empty unread (inl none) = none
+  tail_empty unread (inr (end, ends, below)) =
       let last = tail_last sum size log some H A first cut is (tail_begins size (least_place size first) is.ordering) is.tail is.is_tail end ends in
       let y : Scanned = last.0 in
       let long = stand_rises (y.segment.place + 20) y.met (y.segment.place + y.stop) (met_stand sum size log some y (whole sum size log some H A first cut is y last.1)) in
       absurd (in_nothing y (subst (λ (l : List Scanned). Contains l y) below (in_below sum size log end is.scanned y last.1 (omega (arith, long, last.2)))))
+
+  -- Where no segment is read, all of them do.
+  pub none_left : (unread : List ℕ) → cut.0 ≡ stable_place first.stable → ReadsNone sum size log blobs H A first cut is are unread → LieAbove unread
+  none_left unread at none slot there =
+      let empty = tail_empty unread none in
+      let from = slot_from is.ordering slot (subst (λ (l : List ℕ). Contains l slot) empty.1 there) in
+      let u : Segment = from.0 in
+      let above = ((is.numbers.found u).0 from.1).not_below in
+      let aligned : stable_place first.stable % size ≡ 0 = ap (λ n. n % size) (sym (none_begins sum size log H A first cut is empty.0)) ∙ (put_down size _).1 in
+      let low = put_down size (stable_place first.stable) in
+      (u, from.1, from.2, omega (arith, at, above, aligned, low.0))
 
   -- Where a pass is made, those that it doesn't read do.
   pub some_left : (end : ℕ) (s : Scanned) (ss passes : List Scanned) → tail_end is.tail ≡ Some end → scanned_below end is.scanned ≡ s ∷ ss → AreReplayed sum size log end (begun_below end is.ordering) passes

@@ -25,6 +25,13 @@ some_is a b is = cc
 pub put_down : (size p : ℕ) → (p / size * size + p % size ≡ p) × (p / size * size % size ≡ 0)
 put_down size p = (let whole = mod-add-div' p size in omega (arith, whole), mul-mod_left (p / size) size)
 
+-- behind a multiple of a size the next one
+pub next_multiple : (size a : ℕ) → a % size ≡ 0 → (a + size) % size ≡ 0
+next_multiple size a at =
+    let parts = put_down size a in
+    let whole : a ≡ a / size * size = omega (arith, parts.0, at) in
+    ap (λ n. (n + size) % size) whole ∙ ap (λ n. n % size) (omega (arith, suc-mul (a / size) size)) ∙ mul-mod_left (suc (a / size)) size
+
 module _ (sum : List ℕ → ℕ) (size : ℕ) (log : List ℕ) (some : 256 ≤ size) (H : History) (A : ℕ) (first : SnapshotModel) (cut : ℕ × Option ℕ) (is : IsRecoverableLog sum size log H A first cut) where
   rises : Rises is.ordering
   rises = rises_of is.ordering is.numbers.ascending
@@ -106,12 +113,9 @@ module _ (sum : List ℕ → ℕ) (size : ℕ) (log : List ℕ) (some : 256 ≤ 
     on_from whole_one on rest = elim (cases_lt place z) [
       | inl higher ↦ (
           let far = further place z aligned at higher in
-          let next : (place + size) % size ≡ 0 = (let parts = put_down size place in ap (λ n. (n + size) % size) (omega (arith, parts.0, aligned)) ∙ next_aligned (place / size)) in
-          rest on next end ends z at far below)
+          rest on (next_multiple size place aligned) end ends z at far below)
       | inr le ↦ (x, (known x tail.0 tail.2, omega (arith, tail.1, le, above), λ broken. absurd (whole_one broken)))
-    ] where
-      next_aligned : (k : ℕ) → (k * size + size) % size ≡ 0
-      next_aligned k = ap (λ n. n % size) (omega (arith, suc-mul k size)) ∙ mul-mod_left (suc k) size
+    ]
 
     by : (why : ScanEnd) → x.why ≡ why → GoesOn why (y ∷ ys) (IsTail sum size log is.ordering (place + size) (y ∷ ys)) → Rest → (t : Scanned) × IsTailAt end z t
     by Broken test none rest = absurd (no_more none)

@@ -20,7 +20,8 @@ use Rattle.sled_log.proofs.Recovers.CutLemmas.{cut_fits}
 use Rattle.sled_log.proofs.Recovers.PassCut.{cut_is}
 use Rattle.sled_log.proofs.Recovers.PassTable.{applied_all, table_made, pages_fit}
 use Rattle.sled_log.proofs.Recovers.Undamaged.{ComesOf, ReadsNone, left_of, Comes, what_comes}
-use Rattle.sled_log.proofs.Recovers.LeftOut.{LieAbove, none_left, some_left}
+use Rattle.sled_log.proofs.Recovers.LeftOut.{LieAbove, tail_empty, none_left, some_left}
+use Rattle.sled_log.proofs.Recovers.ActiveSlot.{IsActive, none_active, some_active}
 
 -- recovery goes on from the snapshot that it begins from, which isn't damaged
 goes_on : (sum : List ℕ → ℕ) (size : ℕ) (content : Content) (H : History) (f : ℕ) (first : SnapshotModel) → AreRecoverableSnapshots sum size content.snapshots H f first → (o : Outcome) → Recovers sum size content o
@@ -60,10 +61,11 @@ module _ (sum : List ℕ → ℕ) (size : ℕ) (content : Content) (H : History)
   abbrev pub IsMade : RecoveryResult → Type 0
   IsMade x = (x.model.stable ≡ Some (pos cut.0)) × (x.shred_range ≡ shred_range_of size cut.0 cut.1) × (x.is_new ≡ is_beyond first.stable cut.0)
 
-  -- It is good, with the place and the active slot of the cut. The segments that were not read lie at or above the cut.
+  -- It is good, with the place and the active slot of the cut, in which a record can begin there. The segments that were not read lie at or above the cut.
   pub record RecoversWell (x : RecoveryResult) : Type 0 where
     pub place : stable_place x.model.stable ≡ cut.0
     pub active : x.model.active ≡ cut.1
+    pub is_active : IsActive sum size content.log some H A first cut is cut.0 cut.1
     pub good : IsGood sum size content H A f x.model
     pub kind : IsKept x ⊎ IsMade x
     pub unread : LieAbove sum size content.log some content.blobs H A first cut is are x.unread
@@ -81,6 +83,7 @@ module _ (sum : List ℕ → ℕ) (size : ℕ) (content : Content) (H : History)
         record {
           place = place;
           active = ap (λ (c : ℕ × Option ℕ). c.1) (sym at);
+          is_active = subst (λ (c : ℕ × Option ℕ). IsActive sum size content.log some H A first cut is c.0 c.1) (sym at) (none_active sum size content.log some H A first cut is snapshots.active (tail_empty sum size content.log some content.blobs H A first cut is are unread none).0);
           good = good_at first place (subst (IsTable first.pages H) place begins.0) (subst (CutFits H) place begins.1);
           kind = inl (refl, refl, refl);
           unread = none_left sum size content.log some content.blobs H A first cut is are unread (sym place) none;
@@ -105,6 +108,7 @@ module _ (sum : List ℕ → ℕ) (size : ℕ) (content : Content) (H : History)
         record {
           place = refl;
           active = refl;
+          is_active = some_active sum size content.log some H A first cut is end s ss ends below;
           good = good_at x.model refl is_table fits;
           kind = inr (refl, refl, refl);
           unread = some_left sum size content.log some content.blobs H A first cut is are end s ss passes ends below replayed;
