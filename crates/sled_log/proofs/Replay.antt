@@ -2,7 +2,6 @@ pub mod BlobLemmas
 pub mod FirstConclusion
 pub mod FirstRecovers
 pub mod FirstSnapshot
-pub mod FirstUndamaged
 pub mod GoodLemmas
 pub mod KeptRecovers
 pub mod LineLemmas
@@ -12,5 +11,4 @@ pub mod OnlySegment
 pub mod PassedLemmas
 pub mod RecoveryLemmas
 pub mod SegmentRecovers
-pub mod SegmentUndamaged
 pub mod ShownLemmas

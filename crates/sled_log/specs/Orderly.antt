@@ -1,9 +1,10 @@
 -- What recovery asks of a history that a log's users make, and of the device.
-use Rattle.std.specs.Prelude.{◌≤◌, ℕ, List, length}
+use Rattle.std.specs.Prelude.{◌≤◌, ℕ, List, length, Option}
 use Rattle.sled_codec.specs.History.{History, table}
 use Rattle.sled_codec.specs.WellFormed.{IsWellFormed}
-use Rattle.sled_store.specs.Device.{State, content_of}
-use Rattle.sled_core.specs.Recoverable.{NoForeign, LeavesRecoverable}
+use Rattle.sled_codec.specs.Snapshots.{SnapshotModel}
+use Rattle.sled_store.specs.Device.{Content, State, content_of}
+use Rattle.sled_core.specs.Recoverable.{AreRecoverableSnapshots, IsRecoverableLog, AreRecoverableBlobs, NoForeign, LeavesRecoverable}
 
 -- It is one that a log's users make, and no page has more than 254 Links on its Replace.
 pub record IsOrderly (H : History) : Type 0 where
@@ -15,3 +16,12 @@ pub record CanRecover (sum : List ℕ → ℕ) (size : ℕ) (device : State) (H 
   pub orderly : IsOrderly H
   pub left : LeavesRecoverable sum size H A f device
   pub own : NoForeign sum size device (content_of device)
+
+-- A content can be read back for an orderly history: its snapshots, its log file, of any number of segments, and its blobs are recoverable, with one cut.
+pub record CanRead (sum : List ℕ → ℕ) (size : ℕ) (content : Content) (H : History) (A f : ℕ) : Type 0 where
+  pub orderly : IsOrderly H
+  pub first : SnapshotModel
+  pub cut : ℕ × Option ℕ
+  pub snapshots : AreRecoverableSnapshots sum size content.snapshots H f first
+  pub log : IsRecoverableLog sum size content.log H A first cut
+  pub blobs : AreRecoverableBlobs sum content.blobs H cut.0

@@ -14,9 +14,8 @@ ghost use Rattle.sled_core.specs.Good.{IsGood};
 ghost use Rattle.sled_core.specs.Recoverable.{RecoverableIfOwn, LeavesRecoverable};
 ghost use Rattle.sled_core.specs.Keeps.{ConfigKept, OnlyReads};
 ghost use Rattle.sled_core.specs.Running.{Ready};
-ghost use Rattle.sled_codec.specs.PageTables.{IsTable};
 ghost use Rattle.sled_log.specs.Restores.{ComesOf, RecoveryCalls, Restores};
-ghost use Rattle.sled_log.specs.Orderly.{CanRecover};
+ghost use Rattle.sled_log.specs.Orderly.{CanRead, CanRecover};
 ghost use Rattle.sled_log.specs.Recovery.{least_place, IsOrdering, AreScanned, begun_below, Passes, Recovered, Damaged, ContinuesFrom, Recovers};
 ghost use Rattle.sled_log.specs.Passes.{CanBeRead, IsPass, pass_of, AreLookedUp, MeetsBadTail, PassesBehind};
 ghost use Rattle.sled_log.specs.WritesBack.{result_of};
@@ -73,13 +72,13 @@ pub fn read_snapshot_or_default<D: Device, C: Checksum>(
     ensures recoverable { let size = config.old.config.segment_size in let old = D.trace config.old.device in
         (H : History) (A f : ℕ) → CanRecover C.sum_of size (state_of old) H A f
         → LeavesOnly (RecoverableIfOwn C.sum_of size H A f) old (D.trace config.new.device) }
-    ensures undamaged { (H : History) (A f : ℕ) → CanRecover C.sum_of config.old.config.segment_size (state_of (D.trace config.old.device)) H A f
-        → IsCorruption result → ⊥ }
+    ensures undamaged { let old = content_of (state_of (D.trace config.old.device)) in
+        (H : History) (A f : ℕ) → CanRead C.sum_of config.old.config.segment_size old H A f → IsCorruption result → ⊥ }
+    ensures read { let size = config.old.config.segment_size in let old = content_of (state_of (D.trace config.old.device)) in
+        (H : History) (A f : ℕ) → CanRead C.sum_of size old H A f → IfOk result (λ s. IsGood C.sum_of size old H A f (model_of s)) }
     ensures good { let size = config.old.config.segment_size in let new = state_of (D.trace config.new.device) in
         (H : History) (A f : ℕ) → CanRecover C.sum_of size (state_of (D.trace config.old.device)) H A f
         → IfOk result (λ s. IsGood C.sum_of size (content_of new) H A f (model_of s)) }
-    ensures table { (H : History) (A f : ℕ) → CanRecover C.sum_of config.old.config.segment_size (state_of (D.trace config.old.device)) H A f
-        → IfOk result (λ s. let cut = stable_place s.stable_lsn in IsTable (model_of s).pages (below H cut) cut) }
     ensures kept { let size = config.old.config.segment_size in let new = state_of (D.trace config.new.device) in
         (H : History) (A f : ℕ) → CanRecover C.sum_of size (state_of (D.trace config.old.device)) H A f
         → IfOk result (λ s. let cut = stable_place s.stable_lsn in LeavesRecoverable C.sum_of size (below H cut) A cut new) }

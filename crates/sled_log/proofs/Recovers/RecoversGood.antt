@@ -9,7 +9,7 @@ use Rattle.sled_codec.specs.Snapshots.{SnapshotModel, stable_place}
 use Rattle.sled_store.specs.Device.{Content}
 use Rattle.sled_core.specs.Good.{ReadsAt, IsGood}
 use Rattle.sled_core.specs.Recoverable.{AreRecoverableSnapshots, IsRecoverableLog, AreRecoverableBlobs, StandsInline, HasItem, scanned_below, Recoverable}
-use Rattle.sled_log.specs.Orderly.{IsOrderly}
+use Rattle.sled_log.specs.Orderly.{IsOrderly, CanRead}
 use Rattle.sled_log.specs.Recovery.{Scanned, Applied, Outcome, Damaged, Recovered, RecoveryResult, shred_range_of, is_beyond, begun_below, AreReplayed, tail_end, concluded, unchanged, ContinuesFrom, Recovers}
 use Rattle.sled_log.proofs.PageTable.Ascending.{apart_ascends}
 use Rattle.sled_log.proofs.PageTable.WholeTables.{table_whole}
@@ -142,18 +142,24 @@ recovers_good sum size content H A f some orderly first cut snapshots is are o r
     let well = comes.2 in
     (comes.0, comes.1, well.place, well.good)
 
--- So a recoverable content isn't damaged, and each recovery of it is good.
-module _ (sum : List ℕ → ℕ) (size : ℕ) (content : Content) (H : History) (A f : ℕ) (some : 256 ≤ size) (orderly : IsOrderly H) (is : Recoverable sum size content H A f) where
-  pub recoverable_undamaged : Recovers sum size content Damaged → ⊥
-  unfolding Recoverable
-  recoverable_undamaged recovers =
-      let comes = recovers_good sum size content H A f some orderly is.first is.cut is.snapshots is.log is.blobs Damaged recovers in
-      let no : Damaged ≡ Recovered comes.0 = comes.1 in
+-- So a content that can be read back isn't damaged, and each recovery of it is good.
+module _ (sum : List ℕ → ℕ) (size : ℕ) (content : Content) (H : History) (A f : ℕ) (some : 256 ≤ size) (can : CanRead sum size content H A f) where
+  comes : (o : Outcome) → Recovers sum size content o → (x : RecoveryResult) × (o ≡ Recovered x) × (stable_place x.model.stable ≡ can.cut.0) × IsGood sum size content H A f x.model
+  comes = recovers_good sum size content H A f some can.orderly can.first can.cut can.snapshots can.log can.blobs
+
+  pub read_undamaged : Recovers sum size content Damaged → ⊥
+  read_undamaged recovers =
+      let came = comes Damaged recovers in
+      let no : Damaged ≡ Recovered came.0 = came.1 in
       cc
 
-  pub recoverable_good : (x : RecoveryResult) → Recovers sum size content (Recovered x) → IsGood sum size content H A f x.model
-  unfolding Recoverable
-  recoverable_good x recovers =
-      let comes = recovers_good sum size content H A f some orderly is.first is.cut is.snapshots is.log is.blobs (Recovered x) recovers in
-      let same : Recovered x ≡ Recovered comes.0 = comes.1 in
-      subst (λ (y : RecoveryResult). IsGood sum size content H A f y.model) (sym (one_result x comes.0 same)) comes.3
+  pub read_good : (x : RecoveryResult) → Recovers sum size content (Recovered x) → IsGood sum size content H A f x.model
+  read_good x recovers =
+      let came = comes (Recovered x) recovers in
+      let same : Recovered x ≡ Recovered came.0 = came.1 in
+      subst (λ (y : RecoveryResult). IsGood sum size content H A f y.model) (sym (one_result x came.0 same)) came.3
+
+-- What can be recovered can be read back.
+pub can_read : (sum : List ℕ → ℕ) (size : ℕ) (content : Content) (H : History) (A f : ℕ) → IsOrderly H → Recoverable sum size content H A f → CanRead sum size content H A f
+unfolding Recoverable
+can_read sum size content H A f orderly is = record { orderly = orderly; first = is.first; cut = is.cut; snapshots = is.snapshots; log = is.log; blobs = is.blobs }

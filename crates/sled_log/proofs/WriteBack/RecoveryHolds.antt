@@ -10,12 +10,12 @@ use Rattle.sled_core.specs.Recoverable.{IsRecoverableInFirst, RecoverableIfOwn}
 use Rattle.sled_core.specs.Running.{Ready}
 use Rattle.sled_core.proofs.Read.FirstSegment.{first_part}
 use Rattle.sled_log.specs.Recovery.{RecoveryResult, Recovered, Damaged, Recovers}
-use Rattle.sled_log.specs.Orderly.{CanRecover}
+use Rattle.sled_log.specs.Orderly.{CanRead, CanRecover}
 use Rattle.sled_log.specs.WritesBack.{IsWrittenBack, HasWrittenBack, after_shredding, after_zeroing}
 use Rattle.sled_log.specs.Restores.{RecoveryCalls}
+use Rattle.sled_log.proofs.Recovers.RecoversGood.{can_read}
 use Rattle.sled_log.proofs.Replay.FirstConclusion.{ConcludesIn, all_read}
 use Rattle.sled_log.proofs.Replay.FirstRecovers.{concludes_in}
-use Rattle.sled_log.proofs.Replay.FirstUndamaged.{not_damaged}
 use Rattle.sled_log.proofs.Replay.GoodLemmas.{IsLeftBy, good_written}
 use Rattle.sled_log.proofs.WriteBack.RecoveryMoments.{recovery_throughout}
 use Rattle.sled_log.proofs.WriteBack.AfterRecovery.{IsCutOff, cut_off_after}
@@ -27,6 +27,10 @@ left_by : (old new : LogState) (shred_range : Option (ℕ × ℕ)) → new ≡ a
 left_by old new None is = ap (λ (s : LogState). s.bytes) is
 left_by old new (Some t) is = ap (λ (s : LogState). s.bytes) is
 
+-- what is read of a device that can be recovered can be read back
+pub read_of : (sum : List ℕ → ℕ) (size : ℕ) (old : Trace) (H : History) (A f : ℕ) → CanRecover sum size (state_of old) H A f → CanRead sum size (content_of (state_of old)) H A f
+read_of sum size old H A f can = can_read sum size (content_of (state_of old)) H A f can.orderly (can.left (content_of (state_of old)) (read_left old) can.own)
+
 module _ (sum : List ℕ → ℕ) (size : ℕ) (large : 256 ≤ size) (small : size < 2 ^ 63) (old : Trace) (H : History) (A f : ℕ) (can : CanRecover sum size (state_of old) H A f) where
   -- what is read can be recovered
   pub in_first : IsRecoverableInFirst sum size (content_of (state_of old)) H A f
@@ -35,10 +39,6 @@ module _ (sum : List ℕ → ℕ) (size : ℕ) (large : 256 ≤ size) (small : s
   -- at each moment
   pub holds_throughout : (new : Trace) → RecoveryCalls sum size old new → LeavesOnly (RecoverableIfOwn sum size H A f) old new
   holds_throughout new calls = recovery_throughout sum size H A f old new large small can.left can.own (λ is x recovers. concludes_in sum size (content_of (state_of old)) H A f large small can.orderly is x recovers) calls
-
-  -- no damage is met
-  pub meets_no_damage : Recovers sum size (content_of (state_of old)) Damaged → ⊥
-  meets_no_damage damaged = not_damaged sum size (content_of (state_of old)) H A f large small can.orderly in_first damaged
 
   -- Where it succeeded.
   module _ (new : Trace) (x : RecoveryResult) (recovers : Recovers sum size (content_of (state_of old)) (Recovered x))

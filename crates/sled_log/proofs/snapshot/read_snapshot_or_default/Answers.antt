@@ -1,16 +1,15 @@
 use Rattle.std.proofs.Common.{◌<◌, ◌≤◌, ◌^◌, ℕ, sym, subst, arith}
 use Rattle.sled_codec.specs.History.{below}
 use Rattle.sled_codec.specs.Snapshots.{SnapshotModel, model_of, stable_place}
-use Rattle.sled_store.specs.Device.{Trace, state_of, content_of}
+use Rattle.sled_store.specs.Device.{Content, Trace, state_of, content_of}
 use Rattle.sled_core.specs.Good.{IsGood}
 use Rattle.sled_core.specs.Recoverable.{LeavesRecoverable}
 use Rattle.sled_core.proofs.Read.ReadingLemmas.{if_ok}
-use Rattle.sled_log.proofs.WriteBack.RecoveryHolds.{holds_throughout, meets_no_damage, is_good, is_cut_off, is_ready}
+use Rattle.sled_log.proofs.Recovers.RecoversGood.{read_undamaged, read_good}
+use Rattle.sled_log.proofs.WriteBack.RecoveryHolds.{holds_throughout, is_good, is_cut_off, is_ready}
 use Rattle.sled_log.proofs.WriteBack.RestartLemmas.{BeginsAgain}
 use Rattle.sled_core.specs.Running.{Ready}
-use Rattle.sled_codec.specs.PageTables.{IsTable}
 use Rattle.sled_log.proofs.WriteBack.RecoveryLater.{recovery_later}
-use Rattle.sled_log.proofs.PageTable.TableCuts.{table_below}
 use Rattle.sled_log.proofs.snapshot.read_snapshot_or_default.Goals as goal
 
 -- the size of a segment is no longer than offsets in a file
@@ -25,7 +24,16 @@ returns-clause-recoverable g c = λ H A f can.
 pub returns-clause-undamaged : goal.returns-clause-undamaged
 returns-clause-undamaged g c = λ H A f can corrupt.
     let config = c.args.config.now.config in
-    meets_no_damage g.C.Checksum.sum_of config.segment_size config.least (small config.segment_size config.most) (g.D.Device.trace c.args.config.now.device) H A f can (c.read_and_write_back.ensures.comes.corrupt corrupt).0
+    read_undamaged g.C.Checksum.sum_of config.segment_size (content_of (state_of (g.D.Device.trace c.args.config.now.device))) H A f config.least can (c.read_and_write_back.ensures.comes.corrupt corrupt).0
+
+pub returns-clause-read : goal.returns-clause-read
+returns-clause-read g c = λ H A f can.
+    let config = c.args.config.now.config in
+    let sum = g.C.Checksum.sum_of in
+    let old : Content = content_of (state_of (g.D.Device.trace c.args.config.now.device)) in
+    if_ok c.read_and_write_back.result _ (λ s. IsGood sum config.segment_size old H A f (model_of s)) (λ s ok.
+    subst (λ (x : SnapshotModel). IsGood sum config.segment_size old H A f x) (sym ok.model) (read_good sum config.segment_size old H A f config.least can ok.conclusion ok.recovers))
+    c.read_and_write_back.ensures.comes.ok
 
 pub returns-clause-good : goal.returns-clause-good
 returns-clause-good g c = λ H A f can.
@@ -61,10 +69,6 @@ returns-clause-ready g c = λ H A f can.
     (is_ready sum size config.least (small size config.most) old H A f can new ok.conclusion ok.recovers ok.written ok.done ok.fits
     (subst (λ (x : SnapshotModel). BeginsAgain sum (state_of old).snapshots.file (state_of new) x) ok.model ok.newest)))
     c.read_and_write_back.ensures.comes.ok
-
-pub returns-clause-table : goal.returns-clause-table
-returns-clause-table g c = λ H A f can.
-    if_ok c.read_and_write_back.result _ (λ s. IsTable (model_of s).pages (below H (stable_place s.stable_lsn)) (stable_place s.stable_lsn)) (λ s good. (table_below H (stable_place s.stable_lsn) (model_of s).pages).1 good.table) (returns-clause-good g c H A f can)
 
 pub returns-clause-later : goal.returns-clause-later
 returns-clause-later g c = recovery_later g.C.Checksum.sum_of c.args.config.now.config.segment_size _ _ c.read_and_write_back.ensures.comes.calls

@@ -9,6 +9,7 @@ use Rattle.sled_store.proofs.Traces.MomentLemmas.{at_last}
 use Rattle.sled_core.specs.Recoverable.{LeavesRecoverable}
 use Rattle.sled_core.specs.Running.{Ready}
 use Rattle.sled_log.specs.Orderly.{CanRecover}
+use Rattle.sled_log.proofs.WriteBack.RecoveryHolds.{read_of}
 use Rattle.sled_log.specs.RunStates.{DeviceView, ShowsActive}
 use Rattle.sled_log.specs.Runs.{HasRecovered, StartActs}
 use Rattle.sled_log.specs.RunPhases.{IsClosedAt, IsRecoveredAt, Unstored, SaysWhy, device_in, view_by}
@@ -86,7 +87,7 @@ returns-in-Err-clause-step g c = λ k at.
       acts = c.read_snapshot_or_default.ensures.calls;
       step = λ own.
           let can : CanRecover sum size (state_of old) k.history k.acknowledged k.floor = record { orderly = orderly k.history at.formed; left = at.left; own = own } in
-          let whole = c.in-Err.ensures.undamaged k.history k.acknowledged k.floor can in
+          let whole = c.in-Err.ensures.undamaged k.history k.acknowledged k.floor (read_of sum size old k.history k.acknowledged k.floor can) in
           let sizes : c.read_snapshot_or_default.new.config.config.segment_size ≡ size = ap (λ (x : Config). x.segment_size) c.read_snapshot_or_default.ensures.config.config in (
             k,
             (cause_of Snapshot sum (state_of old).blobs.file c.in-Err.e _ _ c.in-Err.ensures.answers whole, refl),
