@@ -32,17 +32,15 @@ enum Tear {
 }
 
 /// What is tried behind the first stop.
-const TEARS: [Tear; 6] = [
+const TEARS: [Tear; 4] = [
     Tear::Settled,
     Tear::Written,
-    Tear::SettledFirst(1),
-    Tear::SettledFirst(70),
-    Tear::SettledLast(1),
-    Tear::SettledLast(70),
+    Tear::SettledFirst(60),
+    Tear::SettledLast(60),
 ];
 
 /// What is tried behind the second one.
-const LATER_TEARS: [Tear; 3] = [Tear::Settled, Tear::Written, Tear::SettledFirst(50)];
+const LATER_TEARS: [Tear; 2] = [Tear::Settled, Tear::Written];
 
 /// A stop within a call, counted from 0, and what the crash leaves of it: what was settled, or what was last written with
 /// these bytes at these offsets.
