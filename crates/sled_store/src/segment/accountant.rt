@@ -1,7 +1,7 @@
 //! The accountant: which slot a segment gets, and when a segment's slot is free again (`specs/SegmentStates.antt`).
 //!
-//! What a call looks for it finds by an index: free slots, active and waiting ones by their places, inactive ones. All
-//! room is reserved before anything is changed, so that nothing has changed after `OutOfMemory`.
+//! What a call looks for it finds by an index: free and inactive slots in trees over all slots, active and waiting ones by
+//! their places in rings. All room is reserved before anything is changed, so that nothing has changed after `OutOfMemory`.
 ghost use Rattle.std.specs.Prelude.{◌≡◌, ◌↔◌, ◌≤ℤ◌, ◌≤◌, ◌+◌, ◌*◌, ◌/◌, ◌^◌, ◌<◌, length, slice_index_or, true, ℕ, [], pos, unsigned_abs, IsTrue, IsOkUnless, OnOk, OnErr, IfOk};
 ghost use Rattle.std.specs.List.{All};
 ghost use Rattle.sled_codec.specs.Pointers.{lid_of};
