@@ -1,0 +1,6 @@
+pub mod BlobsRemoved
+pub mod CutSegment
+pub mod ForgottenAbove
+pub mod PassStops
+pub mod PublishedCut
+pub mod SegmentsFrom
