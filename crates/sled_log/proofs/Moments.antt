@@ -4,3 +4,4 @@ pub mod ForgottenAbove
 pub mod PassStops
 pub mod PublishedCut
 pub mod SegmentsFrom
+pub mod ShortCut
