@@ -5,3 +5,5 @@ pub mod PassStops
 pub mod PublishedCut
 pub mod SegmentsFrom
 pub mod ShortCut
+pub mod ZeroedCut
+pub mod ZeroedParts
