@@ -62,10 +62,13 @@ module _ (sum : List ℕ → ℕ) (size : ℕ) (old : List ℕ) (at count : ℕ)
           let there = s.in_file in
           let long = grows sum size old at count now left no_more leaves in
           inl (record_moved sum size old left (slot * size + from) (place / size) h body len alike (omega (arith, there, long)) s))
-      | inr other ↦ inr (touched h body len s other, λ h' body' len' s'. (
-          let before = stood sum size old at count now left no_more leaves only_own slot place mark header from comes below h' body' len' s' in
-          let one : len' ≡ len = one_len sum size old (slot * size + from) (place / size) h' h body' body len' len before s in
-          other (subst (λ n. part left (slot * size + from) n ≡ part old (slot * size + from) n) one (sym (same sum size old at count now left no_more leaves only_own slot place mark header from comes below h' body' len' s')))))
+      | inr other ↦ inr (
+        touched h body len s other,
+        λ h' body' len' s'. (
+            let before = stood sum size old at count now left no_more leaves only_own slot place mark header from comes below h' body' len' s' in
+            let one : len' ≡ len = one_len sum size old (slot * size + from) (place / size) h' h body' body len' len before s in
+            other (subst (λ n. part left (slot * size + from) n ≡ part old (slot * size + from) n) one (sym (same sum size old at count now left no_more leaves only_own slot place mark header from comes below h' body' len' s')))),
+      )
     ]
 
     -- where none stood none does

@@ -18,7 +18,7 @@ use Rattle.sled_log.proofs.Recovers.PassCut.{put_down, some_is, known, further, 
 use Rattle.sled_log.proofs.Recovers.Rows.{IsRow, IsWhole, row_ordered, row_below, row_whole, stop_inside, met_stand, stand_rises}
 use Rattle.sled_log.proofs.Moments.CutSegment.{IsCutSegment}
 use Rattle.sled_log.proofs.Moments.PassStops.{StopsHere, stops_at}
-use Rattle.sled_log.proofs.Moments.PublishedCut.{closed_of}
+use Rattle.sled_log.proofs.Moments.FromCut.{closed_of}
 use Rattle.sled_log.proofs.Moments.SegmentsFrom.{next_aligned, lower_multiple, tail_low}
 
 -- a batch that is open at a place is open at each lower one
@@ -267,3 +267,8 @@ module _ (sum : List ℕ → ℕ) (size : ℕ) (log left : List ℕ) (some : 256
       batched = is.batched;
       needed = needed;
     }
+
+    -- it has that reading
+    pub y_kept : Contains short_kept.scanned y
+    unfolding short_kept
+    y_kept = y_there

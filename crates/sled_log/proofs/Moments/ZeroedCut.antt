@@ -54,14 +54,18 @@ module _ (sum : List ℕ → ℕ) (size : ℕ) (old : List ℕ) (some : 256 ≤ 
   abbrev least : ℕ
   least = least_place size first
 
-  z_found : IsFoundSegment sum size old least z.segment
+  pub z_found : IsFoundSegment sum size old least z.segment
   z_found = (is.numbers.found z.segment).0 (segment_there sum size old is.ordering is.scanned is.reads z its.there).0
 
-  z_scan : IsScanned sum size old z
+  pub z_scan : IsScanned sum size old z
   z_scan = (segment_there sum size old is.ordering is.scanned is.reads z its.there).1
 
-  slot_at : slot % size ≡ 0
+  pub slot_at : slot % size ≡ 0
   slot_at = subst (λ n. n % size ≡ 0) its.slot_is z_found.slot
+
+  -- the cut lies behind the header of its segment
+  pub parts : (z.segment.place + cut.0 % size ≡ cut.0) × (20 ≤ cut.0 % size)
+  parts = let low = its.low in let place = its.place in let down = put_down size cut.0 in (omega (arith, down.0, place), omega (arith, down.0, place, low))
 
   -- each record below the cut ends there or below it
   boundary : (m : ScannedRecord) → Contains z.met m → m.place < cut.0 → m.place + m.len ≤ cut.0
@@ -74,9 +78,6 @@ module _ (sum : List ℕ → ℕ) (size : ℕ) (old : List ℕ) (some : 256 ≤ 
     by (inr at_end) = let within = stand_in (z.segment.place + 20) z.met (z.segment.place + z.stop) stand m met in omega (arith, within.2, at_end)
 
   module _ (at count : ℕ) (from_cut : at ≡ slot + cut.0 % size) (to_end : at + count ≤ slot + size) (now left : List ℕ) (no_more : length now ≤ length (replicate {A = ℕ} count 0)) (leaves : LeavesLog (after_write old at (replicate count 0) now) left) where
-    parts : (z.segment.place + cut.0 % size ≡ cut.0) × (20 ≤ cut.0 % size)
-    parts = let low = its.low in let place = its.place in let down = put_down size cut.0 in (omega (arith, down.0, place), omega (arith, down.0, place, low))
-
     begins : slot + 20 ≤ at
     begins = omega (arith, from_cut, parts.1)
 
@@ -88,7 +89,7 @@ module _ (sum : List ℕ → ℕ) (size : ℕ) (old : List ℕ) (some : 256 ≤ 
           let places = one_in_slot sum size old 0 least s z.segment found z_found (same ∙ sym its.slot_is) in
           inl (omega (arith, same, places, below, parts.0, from_cut)))
       | inr other ↦ ⊎_elim (λ before. inl (omega (arith, before, inside))) (λ past. inr past)
-        (other_slot sum size old at count now left no_more leaves some slot slot_at begins to_end s.slot found.slot other)
+          (other_slot sum size old at count now left no_more leaves some slot slot_at begins to_end s.slot found.slot other)
     ]
 
     -- the record of a message that is reached lies apart from the zeros
@@ -125,14 +126,16 @@ module _ (sum : List ℕ → ℕ) (size : ℕ) (old : List ℕ) (some : 256 ≤ 
     needed_left page m there =
         let from = from_table H cut.0 page m there in
         let had = is.needed page m there in
-        let seg = had.0 in
-        (record {
-          segment = seg.segment;
-          found = found_stays sum size old at count now left no_more leaves some slot slot_at begins to_end 0 seg.segment seg.found;
-          place = seg.place;
-          reached = reached_left seg.segment seg.found m from.0 from.2 seg.reached;
-          whole = λ n known number lower. reached_left seg.segment seg.found n known lower (seg.whole n known number lower);
-        }, stands_left seg.reached.at seg.segment.slot m.pointer refl seg.reached.lid (reached_apart seg.segment seg.found m from.0 from.2 seg.reached) had.1)
+        let seg = had.0 in (
+          record {
+            segment = seg.segment;
+            found = found_stays sum size old at count now left no_more leaves some slot slot_at begins to_end 0 seg.segment seg.found;
+            place = seg.place;
+            reached = reached_left seg.segment seg.found m from.0 from.2 seg.reached;
+            whole = λ n known number lower. reached_left seg.segment seg.found n known lower (seg.whole n known number lower);
+          },
+          stands_left seg.reached.at seg.segment.slot m.pointer refl seg.reached.lid (reached_apart seg.segment seg.found m from.0 from.2 seg.reached) had.1,
+        )
       where
         stands_left : (o s : ℕ) (p : DiskPtr) → m.pointer ≡ p → lid_of m.pointer ≡ s + o → (s + o + m.size ≤ at) ⊎ (at + count ≤ s) → StandsInline sum size old m p → StandsInline sum size left m p
         stands_left o s (Inline lid) pointer offset beside stands =

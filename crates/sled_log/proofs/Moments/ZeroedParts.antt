@@ -80,7 +80,7 @@ module _ (sum : List ℕ → ℕ) (size : ℕ) (old : List ℕ) (at count : ℕ)
     | inr (inr higher) ↦ (let far = apart size (omega (arith, some)) slot a slot_at aligned higher in inr (omega (arith, far, ends)))
   ]
 
-  header_apart : (a : ℕ) → a % size ≡ 0 → (a + 20 ≤ at) ⊎ (at + count ≤ a)
+  pub header_apart : (a : ℕ) → a % size ≡ 0 → (a + 20 ≤ at) ⊎ (at + count ≤ a)
   header_apart a aligned = elim (cases_eq a slot) [
     | inl same ↦ inl (omega (arith, same, begins))
     | inr other ↦ ⊎_elim (λ before. inl (omega (arith, before, some))) (λ past. inr past) (other_slot a aligned other)
