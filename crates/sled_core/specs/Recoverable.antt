@@ -135,10 +135,16 @@ pub record BeginsInSegment (size place : ℕ) : Type 0 where
   pub behind : 20 ≤ place % size
   pub room : place % size + 32 ≤ size
 
--- A message lies in one segment.
+-- a blob that a message names has a place no higher than the message
+abbrev pub BlobIsBelow : Message → DiskPtr → Type 0
+BlobIsBelow m (Inline lid) = Unit {0}
+BlobIsBelow m (Blob lid place) = place ≤ℤ pos m.place
+
+-- A message lies in one segment, and its blob was made no later.
 pub record LiesInSegment (size : ℕ) (m : Message) : Type 0 where
   pub begins : BeginsInSegment size m.place
   pub ends : m.place % size + m.size ≤ size
+  pub blob : BlobIsBelow m m.pointer
 
 -- A batch begins where a record can. No other one begins there, and one that begins within it ends within it.
 pub record IsPlacedBatch (size : ℕ) (H : History) (b : Batch) : Type 0 where

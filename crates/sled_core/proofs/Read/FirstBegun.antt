@@ -11,7 +11,7 @@ use Rattle.sled_store.specs.Device.{Content}
 use Rattle.sled_core.specs.declared.iterator.Segment.{Segment}
 use Rattle.sled_core.specs.Scan.{IsFoundSegment, IsMisplaced}
 use Rattle.sled_core.specs.Tail.{IsOrdering, cut_of}
-use Rattle.sled_core.specs.Recoverable.{NoMessageBegins, NoBatchBegins, StandsInline, HasItem, PassesIfThere, AreRecoverableBlobs, IsOfHistory, IsReachedIn, IsSegmentOf, IsMarkOf, LiesInSegment, first_site, first_cut, IsBegun}
+use Rattle.sled_core.specs.Recoverable.{NoMessageBegins, NoBatchBegins, StandsInline, HasItem, PassesIfThere, AreRecoverableBlobs, IsOfHistory, IsReachedIn, IsSegmentOf, IsMarkOf, BlobIsBelow, LiesInSegment, first_site, first_cut, IsBegun}
 use Rattle.sled_store.proofs.Segments.Elements.{in_nothing}
 use Rattle.sled_store.proofs.Segments.TableEntries.{from_table}
 use Rattle.sled_core.proofs.Read.FoundLemmas.{is_found, only_found, one_found}
@@ -138,7 +138,7 @@ module _ (sum : List ℕ → ℕ) (size : ℕ) (content : Content) (H : History)
       let room = is.room in
       let place = is.place in
       let offset : m.place % size ≡ m.place = mod-eq_of_lt (omega (arith, room, place)) in
-      record { begins = record { behind = omega (arith, above.0, offset); room = omega (arith, room, place, offset) }; ends = omega (arith, ends, inside, offset) }
+      record { begins = record { behind = omega (arith, above.0, offset); room = omega (arith, room, place, offset) }; ends = omega (arith, ends, inside, offset); blob = subst (BlobIsBelow m) (sym (stands m own).1) tt }
 
   -- each entry of a table up to the cut has its segment
   pub entry_there : (cut page : ℕ) (m : Message) → cut ≤ first_cut size stop → Contains (table H cut page) m → IsSegmentOf sum size log H cut m × StandsInline sum size log m m.pointer

@@ -62,10 +62,13 @@ module _ (sum : List ℕ → ℕ) (size : ℕ) (old : List ℕ) (at count : ℕ)
           let there = s.in_file in
           let long = grows sum size old at count now left no_more leaves in
           inl (record_moved sum size old left (slot * size + from) (place / size) h body len alike (omega (arith, there, long)) s))
-      | inr other ↦ inr (touched h body len s other, λ h' body' len' s'. (
-          let before = stood sum size old at count now left no_more leaves only_own slot place mark header from comes below h' body' len' s' in
-          let one : len' ≡ len = one_len sum size old (slot * size + from) (place / size) h' h body' body len' len before s in
-          other (subst (λ n. part left (slot * size + from) n ≡ part old (slot * size + from) n) one (sym (same sum size old at count now left no_more leaves only_own slot place mark header from comes below h' body' len' s')))))
+      | inr other ↦ inr (
+        touched h body len s other,
+        λ h' body' len' s'. (
+            let before = stood sum size old at count now left no_more leaves only_own slot place mark header from comes below h' body' len' s' in
+            let one : len' ≡ len = one_len sum size old (slot * size + from) (place / size) h' h body' body len' len before s in
+            other (subst (λ n. part left (slot * size + from) n ≡ part old (slot * size + from) n) one (sym (same sum size old at count now left no_more leaves only_own slot place mark header from comes below h' body' len' s')))),
+      )
     ]
 
     -- where none stood none does
@@ -110,6 +113,13 @@ module _ (sum : List ℕ → ℕ) (size : ℕ) (old : List ℕ) (at count : ℕ)
   unfolding IsScan
   scan_left met stop why (path, end) = reads_on 20 met stop why at_first path end
 
+  -- A reader comes to where what is met ends.
+  pub comes_on : (from : ℕ) (met : List ScannedRecord) (stop : ℕ) → Comes from → IsPath sum size left (slot * size) place from met stop → Comes stop
+  unfolding IsMet
+  comes_on from [] stop comes path = subst Comes (sym path) comes
+  comes_on from (m ∷ ms) stop comes (room, at_place, (h, body, stands, says), path) =
+      comes_on (from + m.len) ms stop (reached_behind sum size old at count now left no_more leaves only_own slot place mark header from comes (below from comes room) h body m.len stands) path
+
   -- In a slot that the zeros don't touch all is met as before.
   module _ (apart : (slot * size + size ≤ at) ⊎ (at + count ≤ slot * size)) where
     beside : (from : ℕ) (len : ℕ) → from + len ≤ size → (slot * size + from + len ≤ at) ⊎ (at + count ≤ slot * size + from)
@@ -125,12 +135,6 @@ module _ (sum : List ℕ → ℕ) (size : ℕ) (old : List ℕ) (at count : ℕ)
         let fits : from + len ≤ size = omega (arith, inside, aligned_offset (slot * size) from size (mul-mod_left slot size) (below from comes room)) in
         (room, (h, body, len, record_moved sum size old left (slot * size + from) (place / size) h body len (kept sum size old at count now left no_more leaves (slot * size + from) len there (beside from len fits)) (omega (arith, there, grown)) s, is_cap))
     end_same from comes Broken (room, none) = (room, still_none from comes room none)
-
-    comes_on : (from : ℕ) (met : List ScannedRecord) (stop : ℕ) → Comes from → IsPath sum size left (slot * size) place from met stop → Comes stop
-    unfolding IsMet
-    comes_on from [] stop comes path = subst Comes (sym path) comes
-    comes_on from (m ∷ ms) stop comes (room, at_place, (h, body, stands, says), path) =
-        comes_on (from + m.len) ms stop (reached_behind sum size old at count now left no_more leaves only_own slot place mark header from comes (below from comes room) h body m.len stands) path
 
     pub scan_same : (met : List ScannedRecord) (stop : ℕ) (why : ScanEnd) → stop ≤ size → IsScan sum size old (slot * size) place met stop why → IsScan sum size left (slot * size) place met stop why
     unfolding IsScan

@@ -93,9 +93,9 @@ module _ (sum : List ℕ → ℕ) (size : ℕ) (old : List ℕ) (at count : ℕ)
         pub same : part old (slot * size + from) len ≡ part left (slot * size + from) len
         same = elim (stood_or_zeros (slot * size + from) (part left (slot * size + from) len)
             (only_own.records slot place mark from len h.kind h.pid body header reached fits (record_of_stands sum size left (slot * size + from) (place / size) h body len s)).1) [
-          | inl stood ↦ ap (part old (slot * size + from)) (sym whole) ∙ stood
-          | inr zero ↦ absurd (no_zeros (zero ∙ ap (λ n. replicate n 0) whole))
-        ]
+              | inl stood ↦ ap (part old (slot * size + from)) (sym whole) ∙ stood
+              | inr zero ↦ absurd (no_zeros (zero ∙ ap (λ n. replicate n 0) whole))
+            ]
 
         pub stood : StandsAt sum size old (slot * size + from) (place / size) h body len
         stood =
@@ -112,8 +112,7 @@ module _ (sum : List ℕ → ℕ) (size : ℕ) (old : List ℕ) (at count : ℕ)
       path_stood from (m ∷ ms) next reached path =
           let room = path.0 in
           let below : from < size = omega (arith, room) in
-          let met = path.2 in
-          (
+          let met = path.2 in (
             path.0,
             path.1,
             (met.0, met.1, stood from reached below met.0 met.1 m.len met.2, met.3),
@@ -129,8 +128,7 @@ module _ (sum : List ℕ → ℕ) (size : ℕ) (old : List ℕ) (at count : ℕ)
       let met = path.2 in
       let ends = path_ends slot place (from + m.len) ms next path.3 in
       let there = met.2.in_file in
-      let beside : (slot + from + m.len ≤ at) ⊎ (at + count ≤ slot + from) = elim apart [ inl before ↦ inl (omega (arith, before, ends)) | inr past ↦ inr (omega (arith, past)) ] in
-      (
+      let beside : (slot + from + m.len ≤ at) ⊎ (at + count ≤ slot + from) = elim apart [ inl before ↦ inl (omega (arith, before, ends)) | inr past ↦ inr (omega (arith, past)) ] in (
         path.0,
         path.1,
         (met.0, met.1, record_moved sum size old left (slot + from) (place / size) met.0 met.1 m.len (kept (slot + from) m.len there beside) (omega (arith, there, grows)) met.2, met.3),

@@ -58,7 +58,7 @@ filter_twice p q weaker (x ∷ xs) = by_tests (p x) (q x) refl refl (weaker x) (
   by_tests true false passes kept weaker rest = absurd (true≢false (sym (weaker refl)))
   by_tests false false passes kept weaker rest = rest
 
-below_same : (H : History) (bound cut page : ℕ) → cut ≤ bound → of_page (below H bound).messages cut page ≡ of_page H.messages cut page
+pub below_same : (H : History) (bound cut page : ℕ) → cut ≤ bound → of_page (below H bound).messages cut page ≡ of_page H.messages cut page
 unfolding of_page below
 below_same H bound cut page le =
     filter_twice (λ m. (m.page == page) && nat_lt m.place cut) (λ m. nat_lt m.place bound)

@@ -24,6 +24,12 @@ slot_from : (ss : List Segment) (slot : ℕ) → Contains (slots_of ss) slot →
 slot_from [] slot there = absurd (in_nothing slot there)
 slot_from (s ∷ ss) slot there = ⊎_elim (λ is. (s, in_first s ss, is)) (λ later. let rest = slot_from ss slot later in (rest.0, in_rest s rest.0 ss rest.1, rest.2)) (in_cases s.slot slot (slots_of ss) there)
 
+-- a tail that ends nowhere is empty
+pub no_end : (tail : List Scanned) → tail_end tail ≡ None → tail ≡ []
+no_end [] none = refl
+no_end (x ∷ []) none = cc
+no_end (x ∷ y ∷ ys) none = let rest = no_end (y ∷ ys) none in cc
+
 -- A pass stops no higher than in the first segment with a batch that is open.
 stops_first : (sum : List ℕ → ℕ) (size : ℕ) (log : List ℕ) (some : 256 ≤ size) (end : ℕ) (s : Scanned) (ss : List Scanned) (o : Option ℕ) → IsRow sum size log some (s ∷ ss) → open_at end s.met ≡ o
     → (t : Scanned) → Contains (s ∷ ss) t → (p : ℕ) → open_at end t.met ≡ Some p → (stops_in end s o ss).0.place ≤ t.segment.place
@@ -75,7 +81,7 @@ module _ (sum : List ℕ → ℕ) (size : ℕ) (log : List ℕ) (end : ℕ) wher
         by true test (q ∷ qs) on at rest = read_first (ltb-true s.place end test) q qs (open_at end q.met) refl on.0 on.1 on.2 at rest
 
 -- a tail that ends nowhere is empty
-no_end : (tail : List Scanned) → tail_end tail ≡ None → tail ≡ []
+pub no_end : (tail : List Scanned) → tail_end tail ≡ None → tail ≡ []
 no_end [] none = refl
 no_end (x ∷ []) none = cc
 no_end (x ∷ y ∷ ys) none = let rest = no_end (y ∷ ys) none in cc

@@ -13,7 +13,7 @@ use Rattle.sled_log.specs.Recovery.{place_of_mark, greatest_mark, tail_begins, l
 use Rattle.sled_log.proofs.Recovers.PassCut.{further, put_down}
 
 -- The greatest mark is the place that it is not below, or a mark.
-greatest_is : (least : ℕ) (ss : List Segment) → (greatest_mark least ss ≡ least) ⊎ ((s : Segment) × Contains ss s × (s.mark ≡ pos (greatest_mark least ss)))
+pub greatest_is : (least : ℕ) (ss : List Segment) → (greatest_mark least ss ≡ least) ⊎ ((s : Segment) × Contains ss s × (s.mark ≡ pos (greatest_mark least ss)))
 greatest_is least [] = inl refl
 greatest_is least (s ∷ ss) = by s.mark refl (greatest_is least ss) where
   Is : ℕ → Type 0
@@ -36,7 +36,7 @@ passes : (b : Bool) → T b → b ≡ true
 passes true holds = refl
 passes false holds = absurd holds
 
-mark_below : (mark : ℤ) (n p : ℕ) → mark ≡ pos n → mark <ℤ pos p → n < p
+pub mark_below : (mark : ℤ) (n p : ℕ) → mark ≡ pos n → mark <ℤ pos p → n < p
 mark_below mark n p is below = let both : pos n <ℤ pos p = subst (λ z. z <ℤ pos p) is below in ltb-true n p (passes (nat_lt n p) both.lt)
 
 mark_above : (mark : ℤ) (n p : ℕ) → mark ≡ pos n → pos p ≤ℤ mark → p ≤ n

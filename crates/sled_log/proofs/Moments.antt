@@ -1,0 +1,12 @@
+pub mod BlobsRemoved
+pub mod CutSegment
+pub mod ForgottenAbove
+pub mod FromCut
+pub mod PassStops
+pub mod PublishedCut
+pub mod SegmentsFrom
+pub mod ShortCut
+pub mod UnreadSlot
+pub mod ZeroedCut
+pub mod ZeroedParts
+pub mod ZeroedWhole

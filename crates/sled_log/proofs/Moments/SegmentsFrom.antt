@@ -1,0 +1,159 @@
+-- The segments of a log file that begin no lower than a place: their order, what is met in them, and where the tail begins.
+use Rattle.std.proofs.Common.{⊎_elim, ◌≡◌, ◌⊎◌, ◌∙◌, ◌+◌, ◌-◌, ◌*◌, ◌/◌, ◌%◌, ◌<◌, ◌≤◌, ℕ, pos, suc, max, Bool, true, false, ◌&&◌, nat_le, nat_lt, cond, List, [], ◌∷◌, Option, refl, sym, ap, subst, arith, inl, inr, lt-ltb}
+use Rattle.std.specs.List.{Contains, filter}
+use Rattle.std.proofs.Math.Nat.{mod-add-div', mul-mod_left, suc-mul}
+use Rattle.std.proofs.lemmas.Bool.{cases_lt, cases_order, leb-true, leb-false, le-leb}
+use Rattle.sled_codec.specs.Coords.{raised}
+use Rattle.sled_codec.specs.History.{History}
+use Rattle.sled_store.proofs.Segments.Elements.{in_first, in_rest, in_cases, in_nothing, in_filter, from_filter}
+use Rattle.sled_core.specs.declared.iterator.Segment.{Segment}
+use Rattle.sled_core.specs.Recoverable.{IsMarkBelow}
+use Rattle.sled_core.proofs.Read.FoundLemmas.{pos_injective}
+use Rattle.sled_log.specs.Recovery.{is_ascending, IsOrdering, Scanned, AreScanned, IsTail, greatest_mark, tail_begins}
+use Rattle.sled_log.proofs.Replay.LineLemmas.{apart}
+use Rattle.sled_log.proofs.Recovers.TailBegins.{greatest_is, mark_below}
+use Rattle.sled_log.proofs.Recovers.OneTail.{Rises, rises_of}
+use Rattle.sled_log.proofs.Recovers.PassCut.{put_down}
+
+-- those that begin no lower than a place
+abbrev pub segments_from : ℕ → List Segment → List Segment
+segments_from place = filter (λ s. nat_le place s.place)
+
+abbrev pub scanned_from : ℕ → List Scanned → List Scanned
+scanned_from place = filter (λ x. nat_le place x.segment.place)
+
+module _ (place : ℕ) where
+  pub in_segments : (ss : List Segment) (s : Segment) → Contains ss s → place ≤ s.place → Contains (segments_from place ss) s
+  in_segments ss s there above = in_filter (λ (t : Segment). nat_le place t.place) ss s there (le-leb place s.place above)
+
+  pub of_segments : (ss : List Segment) (s : Segment) → Contains (segments_from place ss) s → Contains ss s × (place ≤ s.place)
+  of_segments ss s there = let from = from_filter (λ (t : Segment). nat_le place t.place) ss s there in (from.0, leb-true place s.place from.1)
+
+  pub in_scanned : (xs : List Scanned) (x : Scanned) → Contains xs x → place ≤ x.segment.place → Contains (scanned_from place xs) x
+  in_scanned xs x there above = in_filter (λ (t : Scanned). nat_le place t.segment.place) xs x there (le-leb place x.segment.place above)
+
+  pub of_scanned : (xs : List Scanned) (x : Scanned) → Contains (scanned_from place xs) x → Contains xs x × (place ≤ x.segment.place)
+  of_scanned xs x there = let from = from_filter (λ (t : Scanned). nat_le place t.segment.place) xs x there in (from.0, leb-true place x.segment.place from.1)
+
+  rises_from : (ss : List Segment) → Rises ss → Rises (segments_from place ss)
+  rises_from [] rises = tt
+  rises_from (s ∷ ss) rises = by (nat_le place s.place) (rises_from ss rises.1) where
+    by : (b : Bool) → Rises (segments_from place ss) → Rises (cond b (s ∷ segments_from place ss) (segments_from place ss))
+    by true rest = (λ t there. rises.0 t (of_segments ss t there).0, rest)
+    by false rest = rest
+
+  -- What is met in them is met as before.
+  pub reads_from : (sum : List ℕ → ℕ) (size : ℕ) (log : List ℕ) (ss : List Segment) (xs : List Scanned) → AreScanned sum size log ss xs → AreScanned sum size log (segments_from place ss) (scanned_from place xs)
+  reads_from sum size log [] [] are = tt
+  reads_from sum size log [] (x ∷ xs) are = absurd are
+  reads_from sum size log (s ∷ ss) [] are = absurd are
+  reads_from sum size log (s ∷ ss) (x ∷ xs) are =
+      subst (λ b. AreScanned sum size log (segments_from place (s ∷ ss)) (cond b (x ∷ scanned_from place xs) (scanned_from place xs)))
+      (sym (ap (λ (y : Segment). nat_le place y.place) are.0)) (by (nat_le place s.place) (reads_from sum size log ss xs are.2))
+    where
+      by : (b : Bool) → AreScanned sum size log (segments_from place ss) (scanned_from place xs)
+          → AreScanned sum size log (cond b (s ∷ segments_from place ss) (segments_from place ss)) (cond b (x ∷ scanned_from place xs) (scanned_from place xs))
+      by true rest = (are.0, are.1, rest)
+      by false rest = rest
+
+-- segments each of which begins below all later ones ascend
+pub ascends_of : (ss : List Segment) → Rises ss → is_ascending ss ≡ true
+ascends_of [] rises = refl
+ascends_of (s ∷ []) rises = refl
+ascends_of (s ∷ t ∷ ss) rises = ap (λ (b : Bool). b && is_ascending (t ∷ ss)) (lt-ltb s.place t.place (rises.0 t (in_first t ss))) ∙ ascends_of (t ∷ ss) rises.1
+
+-- They are the ordering from that place on.
+pub ordering_from : (sum : List ℕ → ℕ) (size : ℕ) (log : List ℕ) (least place : ℕ) (ss : List Segment) → least ≤ place → IsOrdering sum size log least ss → IsOrdering sum size log place (segments_from place ss)
+ordering_from sum size log least place ss low is = record {
+  ascending = ascends_of (segments_from place ss) (rises_from place ss (rises_of ss is.ascending));
+  found = λ s. (
+    λ there. let from = of_segments place ss s there in let had = (is.found s).0 from.0 in record { slot = had.slot; header = had.header; not_below = from.1 },
+    λ has. let above = has.not_below in in_segments place ss s ((is.found s).1 (record { slot = has.slot; header = has.header; not_below = omega (arith, above, low) })) above,
+  );
+  placed = λ s there. is.placed s (of_segments place ss s there).0;
+}
+
+-- Where the tail begins.
+
+greatest_above : (least : ℕ) (ss : List Segment) → least ≤ greatest_mark least ss
+greatest_above least [] = omega arith
+greatest_above least (s ∷ ss) = let rest = greatest_above least ss in omega (arith, rest)
+
+module _ (size : ℕ) (some : 256 ≤ size) where
+  -- of the multiples of the size one lies at most a size below a place
+  pub one_multiple : (z n : ℕ) → z % size ≡ 0 → z ≤ n → n < z + size → n / size * size ≡ z
+  one_multiple z n aligned low high =
+      let parts = put_down size n in
+      let inside : n % size < size = omega (arith, some) in
+      elim (cases_order (n / size * size) z) [
+        | inl same ↦ same
+        | inr (inl under) ↦ (let far = apart size (omega (arith, some)) (n / size * size) z parts.1 aligned under in absurd (omega (arith, far, parts.0, inside, low)))
+        | inr (inr over) ↦ (let far = apart size (omega (arith, some)) z (n / size * size) aligned parts.1 over in absurd (omega (arith, far, parts.0, high)))
+      ]
+
+  -- a multiple of the size and the size are one
+  pub next_aligned : (z : ℕ) → z % size ≡ 0 → (z + size) % size ≡ 0
+  next_aligned z aligned =
+      let whole : z + size ≡ suc (z / size) * size = omega (arith, mod-add-div' z size, aligned, suc-mul (z / size) size) in
+      ap (λ n. n % size) whole ∙ mul-mod_left (suc (z / size)) size
+
+  -- a place isn't raised above the end of its segment
+  raised_within : (cut : ℕ) → raised size cut ≤ cut / size * size + size
+  raised_within cut =
+      let top = put_down size (cut + (size - 1)) in
+      let low = put_down size cut in
+      let inside : cut % size < size = omega (arith, some) in
+      elim (cases_lt (cut / size * size + size) (raised size cut)) [
+        | inl over ↦ (
+            let far = apart size (omega (arith, some)) (cut / size * size + size) (raised size cut) (next_aligned (cut / size * size) low.1) top.1 over in
+            absurd (omega (arith, far, top.0, low.0, inside, some)))
+        | inr le ↦ le
+      ]
+
+  -- of two places the lower one is put down to no higher a multiple
+  pub lower_multiple : (a b : ℕ) → a ≤ b → a / size * size ≤ b / size * size
+  lower_multiple a b le =
+      let low = put_down size a in
+      let high = put_down size b in
+      let inside : b % size < size = omega (arith, some) in
+      elim (cases_lt (b / size * size) (a / size * size)) [
+        | inl over ↦ (let far = apart size (omega (arith, some)) (b / size * size) (a / size * size) high.1 low.1 over in absurd (omega (arith, far, low.0, high.0, inside, le)))
+        | inr fits ↦ fits
+      ]
+
+  -- Where each mark lies below the cut, or in its segment, so does the greatest one.
+  module _ (H : History) (cut : ℕ) (ss : List Segment) (marks : (s : Segment) → Contains ss s → IsMarkBelow size H cut s.mark) where
+    abbrev z : ℕ
+    z = cut / size * size
+
+    low : (z + cut % size ≡ cut) × (z % size ≡ 0)
+    low = put_down size cut
+
+    inside : cut % size < size
+    inside = omega (arith, some)
+
+    greatest_under : (least : ℕ) → least ≤ z → greatest_mark least ss < z + size
+    greatest_under least not_above = by (greatest_is least ss) where
+      by : (greatest_mark least ss ≡ least) ⊎ ((s : Segment) × Contains ss s × (s.mark ≡ pos (greatest_mark least ss))) → greatest_mark least ss < z + size
+      by (inl at) = omega (arith, at, some, not_above)
+      by (inr (s, there, mark)) = ⊎_elim
+          (λ lower. let under : greatest_mark least ss < cut = mark_below s.mark (greatest_mark least ss) cut mark lower in omega (arith, under, low.0, inside))
+          (λ within.
+          let same : greatest_mark least ss ≡ within.0 = pos_injective (greatest_mark least ss) within.0 (sym mark ∙ within.1) in
+          let bound = raised_within cut in
+          omega (arith, same, within.2, bound))
+          (marks s there)
+
+    -- The tail begins with the segment of the cut or below it.
+    pub tail_low : (least : ℕ) → least ≤ z → tail_begins size least ss ≤ z
+    tail_low least not_above =
+        let under = greatest_under least not_above in
+        let parts = put_down size (greatest_mark least ss) in
+        elim (cases_lt z (greatest_mark least ss / size * size)) [
+          | inl over ↦ (let far = apart size (omega (arith, some)) z (greatest_mark least ss / size * size) low.1 parts.1 over in absurd (omega (arith, far, parts.0, under)))
+          | inr le ↦ le
+        ]
+
+    -- From there on it begins with that.
+    pub tail_from : tail_begins size z ss ≡ z
+    tail_from = one_multiple z (greatest_mark z ss) low.1 (greatest_above z ss) (greatest_under z (omega arith))
