@@ -63,7 +63,7 @@ module _ (H : History) (cut : ℕ) where
   -- Batches.
 
   placed_batch : (size : ℕ) (b : Batch) → IsPlacedBatch size H b → IsPlacedBatch size kept b
-  placed_batch size b is = record { begins = is.begins; pegged = is.pegged; apart = λ c there. is.apart c (batch_from c there).0 }
+  placed_batch size b is = record { begins = is.begins; alone = λ c there. is.alone c (batch_from c there).0; nested = λ c there. is.nested c (batch_from c there).0 }
 
   module _ (sum : List ℕ → ℕ) (size : ℕ) (log : List ℕ) where
     -- What is met below the cut is of what is kept.

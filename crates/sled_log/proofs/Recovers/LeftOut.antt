@@ -80,12 +80,6 @@ module _ (sum : List ℕ → ℕ) (size : ℕ) (log : List ℕ) (end : ℕ) wher
         by true test [] on at rest = absurd on
         by true test (q ∷ qs) on at rest = read_first (ltb-true s.place end test) q qs (open_at end q.met) refl on.0 on.1 on.2 at rest
 
--- a tail that ends nowhere is empty
-pub no_end : (tail : List Scanned) → tail_end tail ≡ None → tail ≡ []
-no_end [] none = refl
-no_end (x ∷ []) none = cc
-no_end (x ∷ y ∷ ys) none = let rest = no_end (y ∷ ys) none in cc
-
 module _ (sum : List ℕ → ℕ) (size : ℕ) (log : List ℕ) (H : History) (A : ℕ) (first : SnapshotModel) (cut : ℕ × Option ℕ) (is : IsRecoverableLog sum size log H A first cut) where
   abbrev begins : ℕ
   begins = tail_begins size (least_place size first) is.ordering
