@@ -6,6 +6,7 @@ pub mod PassStops
 pub mod PublishedCut
 pub mod SegmentsFrom
 pub mod ShortCut
+pub mod Steps
 pub mod UnreadSlot
 pub mod ZeroedCut
 pub mod ZeroedParts
