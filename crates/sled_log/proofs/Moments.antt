@@ -11,3 +11,4 @@ pub mod UnreadSlot
 pub mod ZeroedCut
 pub mod ZeroedParts
 pub mod ZeroedWhole
+pub mod ZerosStand
