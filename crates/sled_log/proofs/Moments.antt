@@ -8,6 +8,7 @@ pub mod SegmentsFrom
 pub mod ShortCut
 pub mod Steps
 pub mod UnreadSlot
+pub mod UnreadZeroed
 pub mod ZeroedCut
 pub mod ZeroedParts
 pub mod ZeroedWhole
