@@ -6,7 +6,10 @@ pub mod PassStops
 pub mod PublishedCut
 pub mod SegmentsFrom
 pub mod ShortCut
+pub mod Steps
 pub mod UnreadSlot
+pub mod UnreadZeroed
 pub mod ZeroedCut
 pub mod ZeroedParts
 pub mod ZeroedWhole
+pub mod ZerosStand

@@ -30,6 +30,11 @@ module _ (sum : List ℕ → ℕ) (size : ℕ) (log : List ℕ) (some : 256 ≤ 
     needed = is.needed;
   }
 
+  -- its segments are among all
+  pub of_all : (s : Segment) → Contains of_cut.ordering s → Contains is.ordering s
+  unfolding of_cut
+  of_all s there = (of_segments begins is.ordering s there).0
+
   -- the segment whose reading ends at the cut is among them
   pub ends_too : (z : Scanned) → EndsAtCut sum size log some is.scanned cut z → EndsAtCut sum size log some of_cut.scanned cut z
   unfolding of_cut
@@ -44,8 +49,7 @@ module _ (sum : List ℕ → ℕ) (size : ℕ) (log : List ℕ) (some : 256 ≤ 
   module _ (next : SnapshotModel) (place : stable_place next.stable ≡ cut.0) (active : next.active ≡ cut.1) where
     -- The cut is the end of a segment, and no segment begins there.
     pub published_end : cut.0 % size ≡ 0 → ((s : Segment) → Contains is.ordering s → s.place ≡ cut.0 → ⊥) → IsRecoverableLog sum size log H A next cut
-    unfolding of_cut
-    published_end aligned none = from_end sum size log some H A cut of_cut next place active aligned (λ s there. none s (of_segments begins is.ordering s there).0)
+    published_end aligned none = from_end sum size log some H A cut of_cut next place active aligned (λ s there. none s (of_all s there))
 
     -- The reading of its segment ends at the cut.
     pub published_inside : CutFits H cut.0 → (z : Scanned) → EndsAtCut sum size log some is.scanned cut z → IsRecoverableLog sum size log H A next cut

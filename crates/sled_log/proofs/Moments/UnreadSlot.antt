@@ -252,54 +252,62 @@ module _ (sum : List ℕ → ℕ) (size : ℕ) (old : List ℕ) (some : 256 ≤ 
             message_moved sum size old left lid (m.place / size) m (kept sum size old at count now left no_more leaves lid m.size there apart_here) (omega (arith, there, long)) stands_old
         stands_left r s (Blob lid place) pointer offset within apart_from stands_old = tt
 
+    -- all that is left from the segment of the cut on
+    pub left_whole : IsOfCut sum size left H A cut
+    left_whole = left_of_cut needed_left
+
+    -- Where the reading of the segment of the cut ends at the cut, it still does.
+    pub ends_left : (z : Scanned) → EndsAtCut sum size old some o.scanned cut z → EndsAtCut sum size left some left_whole.scanned cut z
+    unfolding left_of_cut left_whole
+    ends_left z ends = record {
+      there = reading_there sum size left standing read.0 read.1 z (in_filter stands o.ordering z.segment known.0 (does_stand begins z.segment found)) scan;
+      place = ends.place;
+      slot = ends.slot;
+      stop = ends.stop;
+      broken = ends.broken;
+    } where
+      known : Contains o.ordering z.segment × IsScanned sum size old z
+      known = segment_there sum size old o.ordering o.scanned o.reads z ends.there
+
+      found_old : IsFoundSegment sum size old begins z.segment
+      found_old = (o.numbers.found z.segment).0 known.0
+
+      low : z.stop ≤ size
+      low = stop_inside sum size old some z (row_whole sum size old some o.scanned (row_ordered sum size old some begins o.ordering o.scanned o.numbers o.reads) z ends.there)
+
+      under : z.segment.place < cut.0
+      under =
+          let its = row_whole sum size old some o.scanned (row_ordered sum size old some begins o.ordering o.scanned o.numbers o.reads) z ends.there in
+          let long = stand_rises (z.segment.place + 20) z.met (z.segment.place + z.stop) (met_stand sum size old some z its) in
+          let stop = ends.stop in
+          omega (arith, long, stop)
+
+      other : z.segment.slot ≢ slot
+      other same = let above = free z.segment (record { slot = found_old.slot; header = found_old.header; not_below = omega arith }) same in let lower = under in omega (arith, above, lower)
+
+      found : IsFoundSegment sum size left begins z.segment
+      found = found_beside begins z.segment other found_old
+
+      k : ℕ
+      k = z.segment.slot / size
+
+      here : z.segment.slot ≡ k * size
+      here = slot_index size z.segment.slot found_old.slot
+
+      scan : IsScanned sum size left z
+      scan =
+          let header = subst (λ n. IsHeader sum (part left n 20) (pos z.segment.place) z.segment.mark) here found.header in
+          let apart_here = subst (λ n. (n + size ≤ at) ⊎ (at + count ≤ n)) here (beside z.segment.slot found_old.slot other) in
+          let before = subst (λ n. IsScan sum size old n z.segment.place z.met z.stop z.why) here known.1 in
+          let after = scan_same sum size old at count now left no_more leaves only_own k z.segment.place z.segment.mark header apart_here z.met z.stop z.why low before in
+          subst (λ n. IsScan sum size left n z.segment.place z.met z.stop z.why) (sym here) after
+
     module _ (first : SnapshotModel) (place : stable_place first.stable ≡ cut.0) (active : first.active ≡ cut.1) where
       -- The cut is the end of a segment, and no segment begins there.
       pub unread_end : cut.0 % size ≡ 0 → ((s : Segment) → Contains o.ordering s → s.place ≡ cut.0 → ⊥) → IsRecoverableLog sum size left H A first cut
-      unfolding left_of_cut
-      unread_end aligned nothing = from_end sum size left some H A cut (left_of_cut needed_left) first place active aligned (λ s there. nothing s (from_filter stands o.ordering s there).0)
+      unfolding left_of_cut left_whole
+      unread_end aligned nothing = from_end sum size left some H A cut left_whole first place active aligned (λ s there. nothing s (from_filter stands o.ordering s there).0)
 
       -- The reading of the segment of the cut ends at the cut.
       pub unread_inside : (z : Scanned) → EndsAtCut sum size old some o.scanned cut z → IsRecoverableLog sum size left H A first cut
-      unfolding left_of_cut
-      unread_inside z ends = from_inside sum size left some H A cut (left_of_cut needed_left) first place active fits z (record {
-        there = reading_there sum size left standing read.0 read.1 z (in_filter stands o.ordering z.segment known.0 (does_stand begins z.segment found)) scan;
-        place = ends.place;
-        slot = ends.slot;
-        stop = ends.stop;
-        broken = ends.broken;
-      }) where
-        known : Contains o.ordering z.segment × IsScanned sum size old z
-        known = segment_there sum size old o.ordering o.scanned o.reads z ends.there
-
-        found_old : IsFoundSegment sum size old begins z.segment
-        found_old = (o.numbers.found z.segment).0 known.0
-
-        low : z.stop ≤ size
-        low = stop_inside sum size old some z (row_whole sum size old some o.scanned (row_ordered sum size old some begins o.ordering o.scanned o.numbers o.reads) z ends.there)
-
-        under : z.segment.place < cut.0
-        under =
-            let its = row_whole sum size old some o.scanned (row_ordered sum size old some begins o.ordering o.scanned o.numbers o.reads) z ends.there in
-            let long = stand_rises (z.segment.place + 20) z.met (z.segment.place + z.stop) (met_stand sum size old some z its) in
-            let stop = ends.stop in
-            omega (arith, long, stop)
-
-        other : z.segment.slot ≢ slot
-        other same = let above = free z.segment (record { slot = found_old.slot; header = found_old.header; not_below = omega arith }) same in let lower = under in omega (arith, above, lower)
-
-        found : IsFoundSegment sum size left begins z.segment
-        found = found_beside begins z.segment other found_old
-
-        k : ℕ
-        k = z.segment.slot / size
-
-        here : z.segment.slot ≡ k * size
-        here = slot_index size z.segment.slot found_old.slot
-
-        scan : IsScanned sum size left z
-        scan =
-            let header = subst (λ n. IsHeader sum (part left n 20) (pos z.segment.place) z.segment.mark) here found.header in
-            let apart_here = subst (λ n. (n + size ≤ at) ⊎ (at + count ≤ n)) here (beside z.segment.slot found_old.slot other) in
-            let before = subst (λ n. IsScan sum size old n z.segment.place z.met z.stop z.why) here known.1 in
-            let after = scan_same sum size old at count now left no_more leaves only_own k z.segment.place z.segment.mark header apart_here z.met z.stop z.why low before in
-            subst (λ n. IsScan sum size left n z.segment.place z.met z.stop z.why) (sym here) after
+      unread_inside z ends = from_inside sum size left some H A cut left_whole first place active fits z (ends_left z ends)

@@ -36,7 +36,8 @@ use Rattle.sled_log.proofs.Moments.PassStops.{StopsHere}
 use Rattle.sled_log.proofs.Moments.FromCut.{EndsAtCut}
 use Rattle.sled_log.proofs.Moments.ShortCut.{IsShort, short_kept, y_kept}
 use Rattle.sled_log.proofs.Moments.ZeroedCut.{z_found, z_scan, slot_at, parts, needed_left}
-use Rattle.sled_log.proofs.Moments.ZeroedParts.{one_in_slot, of_left, other_slot, header_apart, found_stays}
+use Rattle.sled_log.proofs.Moments.ZeroedParts.{one_in_slot, header_apart, found_stays}
+use Rattle.sled_log.proofs.Moments.ZerosStand.{leaves_new, no_more_than, bytes_same, slot_beside, lay_before, end_same_there, path_there, truth_there}
 
 -- The records of a path before one of them are a path to it.
 path_until : (sum : List ℕ → ℕ) (size : ℕ) (log : List ℕ) (slot place at : ℕ) (ms : List ScannedRecord) (next : ℕ) → IsPath sum size log slot place at ms next → (x : ScannedRecord) → Contains ms x
@@ -71,36 +72,31 @@ module _ (sum : List ℕ → ℕ) (size : ℕ) (old : List ℕ) (some : 256 ≤ 
   long : length zeros ≡ count
   long = length-replicate count 0
 
-  bound : length new ≤ max (length old) (at + count)
-  bound = omega (arith, length-overwritten old at zeros, long, end_of-le at (length zeros) (length zeros) (omega arith))
-
-  no_more : length zeros ≤ length zeros
-  no_more = omega arith
-
-  -- it is among what a crash may leave of the write
-  leaves : LeavesLog (after_write old at zeros zeros) new
-  leaves = record {
-    no_shorter = omega (arith, length-overwritten old at zeros);
-    no_longer = omega (arith, length-overwritten old at zeros, end_of-mono at (length zeros) (max (length zeros) (length zeros)) (omega arith));
-    kept = λ i low firm. refl;
-  }
-
-  same_part : (lid n : ℕ) → lid + n ≤ length old → (lid + n ≤ at) ⊎ (at + count ≤ lid) → part new lid n ≡ part old lid n
-  same_part = kept sum size old at count zeros new no_more leaves
-
-  beside : (a : ℕ) → a % size ≡ 0 → a ≢ slot → (a + size ≤ at) ⊎ (at + count ≤ a)
-  beside = other_slot sum size old at count zeros new no_more leaves some slot aligned behind_header (omega (arith, to_end))
-
   old_slot : slot + 20 ≤ length old
   old_slot = let there = found_there sum size old least z.segment found_z in omega (arith, there, its.slot_is)
 
+  start : slot ≤ at
+  start = let low = behind_header in omega (arith, low)
+
+  reach : slot ≤ length old
+  reach = let there = old_slot in omega (arith, there)
+
+  no_more : length zeros ≤ length zeros
+  no_more = no_more_than sum size old some H at count slot aligned start to_end reach
+
+  -- it is among what a crash may leave of the write
+  leaves : LeavesLog (after_write old at zeros zeros) new
+  leaves = leaves_new sum size old some H at count slot aligned start to_end reach
+
+  same_part : (lid n : ℕ) → lid + n ≤ length old → (lid + n ≤ at) ⊎ (at + count ≤ lid) → part new lid n ≡ part old lid n
+  same_part = bytes_same sum size old some H at count slot aligned start to_end reach
+
+  beside : (a : ℕ) → a % size ≡ 0 → a ≢ slot → (a + size ≤ at) ⊎ (at + count ≤ a)
+  beside = slot_beside sum size old some H at count slot aligned start to_end reach
+
   -- what lies in another slot lay in the file before
   in_old : (a o : ℕ) → a % size ≡ 0 → a ≢ slot → 0 < o → o ≤ size → a + o ≤ length new → a + o ≤ length old
-  in_old a o at_a other some_bytes inside there = elim (cases_order a slot) [
-    | inl same ↦ absurd (other same)
-    | inr (inl lower) ↦ (let far = apart size (omega (arith, some)) a slot at_a aligned lower in let reach = old_slot in omega (arith, far, reach, inside))
-    | inr (inr higher) ↦ (let far = apart size (omega (arith, some)) slot a aligned at_a higher in let most = bound in omega (arith, far, most, there, to_end, some_bytes))
-  ]
+  in_old = lay_before sum size old some H at count slot aligned start to_end reach
 
   -- Headers.
 
@@ -108,7 +104,7 @@ module _ (sum : List ℕ → ℕ) (size : ℕ) (old : List ℕ) (some : 256 ≤ 
   found_new low s found =
       let there = found_there sum size new low s found in
       let before : s.slot + 20 ≤ length old = elim (cases_eq s.slot slot) [
-        | inl same ↦ (let reach = old_slot in omega (arith, reach, same))
+        | inl same ↦ (let there_old = old_slot in omega (arith, there_old, same))
         | inr other ↦ in_old s.slot 20 found.slot other (omega arith) (omega (arith, some)) there
       ] in
       let apart_here = header_apart sum size old at count zeros new no_more leaves some slot aligned behind_header (omega (arith, to_end)) s.slot found.slot in
@@ -128,26 +124,7 @@ module _ (sum : List ℕ → ℕ) (size : ℕ) (old : List ℕ) (some : 256 ≤ 
   -- Other slots.
 
   end_new : (a place : ℕ) → a % size ≡ 0 → a ≢ slot → (o : ℕ) → (why : ScanEnd) → IsEnd sum size old a place o why → IsEnd sum size new a place o why
-  unfolding EndsThere
-  end_new a place at_a other o Full full = full
-  end_new a place at_a other o Capped (room, (h, body, len, s, is_cap)) =
-      let inside = s.in_slot in
-      let there = s.in_file in
-      let within : o + len ≤ size = omega (arith, inside, aligned_offset a o size at_a (omega (arith, room))) in
-      let apart_here : (a + o + len ≤ at) ⊎ (at + count ≤ a + o) = ⊎_elim (λ before. inl (omega (arith, before, within))) (λ past. inr (omega (arith, past))) (beside a at_a other) in
-      let longer = grows sum size old at count zeros new no_more leaves in
-      (room, (h, body, len, record_moved sum size old new (a + o) (place / size) h body len (same_part (a + o) len there apart_here) (omega (arith, there, longer)) s, is_cap))
-  end_new a place at_a other o Broken (room, none) = (
-    room,
-    λ h body len s. (
-        let inside = s.in_slot in
-        let enough = long_enough sum size new (a + o) (place / size) h body len s in
-        let within : o + len ≤ size = omega (arith, inside, aligned_offset a o size at_a (omega (arith, room))) in
-        let reach = s.in_file in
-        let there : a + (o + len) ≤ length old = in_old a (o + len) at_a other (omega (arith, enough)) within (omega (arith, reach)) in
-        let apart_here : (a + o + len ≤ at) ⊎ (at + count ≤ a + o) = ⊎_elim (λ before. inl (omega (arith, before, within))) (λ past. inr (omega (arith, past))) (beside a at_a other) in
-        none h body len (record_moved sum size new old (a + o) (place / size) h body len (sym (same_part (a + o) len (omega (arith, there)) apart_here)) (omega (arith, there)) s)),
-  )
+  end_new = end_same_there sum size old some H at count slot aligned start to_end reach
 
   not_here : (t : Scanned) → Contains is.scanned t → t.segment.place ≢ z.segment.place → t.segment.slot ≢ slot
   not_here t there other same =
@@ -155,7 +132,7 @@ module _ (sum : List ℕ → ℕ) (size : ℕ) (old : List ℕ) (some : 256 ≤ 
       other (one_in_slot sum size old least least t.segment z.segment found found_z (same ∙ sym its.slot_is))
 
   path_new : (a place : ℕ) → a % size ≡ 0 → (from : ℕ) (ms : List ScannedRecord) (next : ℕ) → (a + next ≤ at) ⊎ (at + count ≤ a) → IsPath sum size old a place from ms next → IsPath sum size new a place from ms next
-  path_new = path_stays sum size old at count zeros new no_more leaves
+  path_new = path_there sum size old some H at count slot aligned start to_end reach
 
   stop_apart : (t : Scanned) → Contains is.scanned t → t.segment.place ≢ z.segment.place → (t.segment.slot + t.stop ≤ at) ⊎ (at + count ≤ t.segment.slot)
   stop_apart t there other =
@@ -174,19 +151,7 @@ module _ (sum : List ℕ → ℕ) (size : ℕ) (old : List ℕ) (some : 256 ≤ 
   -- What is met is of the history.
   truth_new : (a place : ℕ) (from : ℕ) (ms : List ScannedRecord) (next : ℕ) → (a + next ≤ at) ⊎ (at + count ≤ a) → IsPath sum size old a place from ms next → IsPath sum size new a place from ms next
       → ((x : ScannedRecord) → Contains ms x → IsOfHistory sum size old H x) → (x : ScannedRecord) → Contains ms x → IsOfHistory sum size new H x
-  unfolding IsMet
-  truth_new a place from [] next apart_here path also truth x there = absurd (in_nothing x there)
-  truth_new a place from (m ∷ ms) next apart_here path also truth x there =
-      let met = path.2 in
-      let again = also.2 in
-      let reach = met.2.in_file in
-      let on = stand_rises (place + (from + m.len)) ms (place + next) (path_stands sum size old a place (from + m.len) ms next path.3) in
-      let own : (a + from + m.len ≤ at) ⊎ (at + count ≤ a + from) = ⊎_elim (λ before. inl (omega (arith, before, on))) (λ past. inr (omega (arith, past))) apart_here in
-      let alike = sym (same_part (a + from) m.len reach own) in
-      ⊎_elim
-      (λ same. subst (IsOfHistory sum size new H) same (of_left sum size old new H (a + from) (place / size) m alike again.2.in_file again (truth m (in_first m ms))))
-      (λ later. truth_new a place (from + m.len) ms next apart_here path.3 also.3 (λ y at_y. truth y (in_rest m y ms at_y)) x later)
-      (in_cases m x ms there)
+  truth_new = truth_there sum size old some H at count slot aligned start to_end reach
 
   other_truth : (t : Scanned) (x : ScannedRecord) → Contains is.scanned t → t.segment.place ≢ z.segment.place → Contains t.met x → IsOfHistory sum size new H x
   unfolding IsScan
