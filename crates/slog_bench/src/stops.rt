@@ -39,7 +39,7 @@ const TEARS: [Tear; 4] = [
     Tear::SettledLast(60),
 ];
 
-/// What is tried behind the second one.
+/// What is tried behind the second one, which comes where the first left what was settled.
 const LATER_TEARS: [Tear; 2] = [Tear::Settled, Tear::Written];
 
 /// A stop within a call, counted from 0, and what the crash leaves of it: what was settled, or what was last written with
@@ -110,9 +110,14 @@ fn judge(alloc: Global, content: &[&str]) -> Outcome<Text> {
         }
         for tear in TEARS {
             let first = case.stop(&[], call, tear)?;
-            if let Some(differs) = case.compare_behind(&first, &wanted)? {
-                return Ok(differs);
+            let came = case.answer(&[&first])?;
+            if came.as_str() != wanted.as_str() {
+                return Ok(came);
             }
+        }
+        let settled = case.stop(&[], call, Tear::Settled)?;
+        if let Some(differs) = case.compare_behind(&settled, &wanted)? {
+            return Ok(differs);
         }
     }
     Err(Fault("too many calls"))
@@ -127,12 +132,8 @@ struct Case<'a> {
 }
 
 impl<'a> Case<'a> {
-    // An answer that isn't the one that is wanted, behind this stop or behind a later one.
+    // An answer that isn't the one that is wanted, behind this stop and a later one.
     fn compare_behind(&self, first: &Stop, wanted: &Text) -> Outcome<Option<Text>> {
-        let came = self.answer(&[first])?;
-        if came.as_str() != wanted.as_str() {
-            return Ok(Some(came));
-        }
         for call in 0..CALLS {
             if !self.comes_about(&[first], call)? {
                 return Ok(None);
