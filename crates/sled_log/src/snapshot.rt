@@ -49,15 +49,17 @@ use sled_store::{Device, RunningConfig};
 /// with zeros; where the table goes beyond that snapshot, it publishes a new one and removes all others; it overwrites
 /// each segment that it found and did not read with zeros; and it removes every blob at or above the place of the table.
 ///
-/// Where each content that a crash leaves can be recovered, for a history, the end of what was acknowledged and
-/// a floor, that stays so at each moment, the content is no damage, and the snapshot is good for them; then all
-/// of this holds of what lies below its place, with that for the floor.
+/// Where the snapshots, the log file and the blobs that it reads are recoverable with one cut, for a history, the end of
+/// what was acknowledged and a floor, it meets no damage, and the snapshot is good for what it read, for any number of
+/// segments. Where moreover all of the log lies in the first segment in each content that a crash leaves, these stay
+/// recoverable at each moment, the snapshot is good for what is left, and then all of this holds of what lies below its
+/// place, with that for the floor.
 ///
 /// # Errors
 ///
 /// `Corruption` where the newest snapshot is damaged, where segments are found that can't be of one log, where a
-/// damaged record is met, where the blob of a record doesn't pass for it (named where its checksum fails), where the table
-/// can't be one; nothing was written then. `Io` where the device failed, and `OutOfMemory`.
+/// damaged record is met, where the blob of a record doesn't pass for it (named where its checksum fails), or where the
+/// table can't be one; nothing was written then. `Io` where the device failed, and `OutOfMemory`.
 pub fn read_snapshot_or_default<D: Device, C: Checksum>(
     config: &mut RunningConfig<D, C>,
 ) -> Result<Snapshot>
