@@ -9,6 +9,7 @@ pub mod SegmentsFrom
 pub mod ShortCut
 pub mod Steps
 pub mod UnreadSlot
+pub mod UnreadSlots
 pub mod UnreadWritten
 pub mod UnreadZeroed
 pub mod ZeroedCut
