@@ -1,3 +1,4 @@
+pub mod BesideZeros
 pub mod BlobsRemoved
 pub mod CutSegment
 pub mod ForgottenAbove
@@ -8,6 +9,8 @@ pub mod SegmentsFrom
 pub mod ShortCut
 pub mod Steps
 pub mod UnreadSlot
+pub mod UnreadSlots
+pub mod UnreadWritten
 pub mod UnreadZeroed
 pub mod ZeroedCut
 pub mod ZeroedParts

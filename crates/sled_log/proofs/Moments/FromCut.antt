@@ -112,63 +112,62 @@ module _ (sum : List ℕ → ℕ) (size : ℕ) (log : List ℕ) (some : 256 ≤ 
       needed = o.needed;
     }
 
-    module _ (active : next.active ≡ cut.1) where
-      -- The cut is the end of a segment, and no segment begins there.
-      pub from_end : cut.0 % size ≡ 0 → ((s : Segment) → Contains o.ordering s → s.place ≡ cut.0 → ⊥) → IsRecoverableLog sum size log H A next cut
-      from_end aligned none =
-          let same : begins ≡ cut.0 = omega (arith, parts.0, aligned) in
-          recoverable [] (λ s there at. none s there (at ∙ same)) (inr same) (λ i. (sym place i, sym active i))
+    -- The cut is the end of a segment, and no segment begins there.
+    pub from_end : next.active ≡ cut.1 → cut.0 % size ≡ 0 → ((s : Segment) → Contains o.ordering s → s.place ≡ cut.0 → ⊥) → IsRecoverableLog sum size log H A next cut
+    from_end active aligned none =
+        let same : begins ≡ cut.0 = omega (arith, parts.0, aligned) in
+        recoverable [] (λ s there at. none s there (at ∙ same)) (inr same) (λ i. (sym place i, sym active i))
 
-      -- The reading of its segment ends at the cut.
-      module _ (fits : CutFits H cut.0) (z : Scanned) (ends : EndsAtCut o.scanned cut z) where
-        abbrev end : ℕ
-        end = z.segment.place + z.stop
+    -- The reading of its segment ends at the cut. Which slot the snapshot has as active doesn't matter, since a segment is read.
+    module _ (fits : CutFits H cut.0) (z : Scanned) (ends : EndsAtCut o.scanned cut z) where
+      abbrev end : ℕ
+      end = z.segment.place + z.stop
 
-        room : z.stop + 32 ≤ size
-        room = (subst (λ (why : ScanEnd). IsEnd sum size log z.segment.slot z.segment.place z.stop why) ends.broken (end_there sum size log some z (whole z ends.there))).0
+      room : z.stop + 32 ≤ size
+      room = (subst (λ (why : ScanEnd). IsEnd sum size log z.segment.slot z.segment.place z.stop why) ends.broken (end_there sum size log some z (whole z ends.there))).0
 
-        stands_at : 20 ≤ z.stop
-        stands_at =
-            let long = stand_rises (z.segment.place + 20) z.met end (met_stand sum size log some z (whole z ends.there)) in
-            omega (arith, long)
+      stands_at : 20 ≤ z.stop
+      stands_at =
+          let long = stand_rises (z.segment.place + 20) z.met end (met_stand sum size log some z (whole z ends.there)) in
+          omega (arith, long)
 
-        closed : open_at end z.met ≡ None
-        closed = none_open end z.met (λ x met.
-            let at = stand_in (z.segment.place + 20) z.met end (met_stand sum size log some z (whole z ends.there)) x met in
-            closed_of H end x (o.truth z x ends.there met) (λ b there low.
-            let stop = ends.stop in
-            let ended = fits.batches b there (omega (arith, low, at.1, at.2, stop)) in
-            omega (arith, ended, stop)))
+      closed : open_at end z.met ≡ None
+      closed = none_open end z.met (λ x met.
+          let at = stand_in (z.segment.place + 20) z.met end (met_stand sum size log some z (whole z ends.there)) x met in
+          closed_of H end x (o.truth z x ends.there met) (λ b there low.
+          let stop = ends.stop in
+          let ended = fits.batches b there (omega (arith, low, at.1, at.2, stop)) in
+          omega (arith, ended, stop)))
 
-        one : (t : Scanned) → Contains (scanned_below end o.scanned) t → t ≡ z
-        one t there =
-            let from = from_below sum size log end o.scanned t there in
-            let above = ((o.numbers.found t.segment).0 (segment_there sum size log o.ordering o.scanned o.reads t from.0).0).not_below in
-            let stop = ends.stop in
-            let at = ends.place in
-            let same : t.segment.place ≡ z.segment.place = elim (cases_lt begins t.segment.place) [
-              | inl over ↦ (
-                  let far = apart size (omega (arith, some)) begins t.segment.place parts.1 (whole t from.0).1 over in
-                  absurd (omega (arith, far, from.1, stop, parts.0, inside)))
-              | inr le ↦ omega (arith, le, above, at)
-            ] in
-            one_reading t z from.0 ends.there same
+      one : (t : Scanned) → Contains (scanned_below end o.scanned) t → t ≡ z
+      one t there =
+          let from = from_below sum size log end o.scanned t there in
+          let above = ((o.numbers.found t.segment).0 (segment_there sum size log o.ordering o.scanned o.reads t from.0).0).not_below in
+          let stop = ends.stop in
+          let at = ends.place in
+          let same : t.segment.place ≡ z.segment.place = elim (cases_lt begins t.segment.place) [
+            | inl over ↦ (
+                let far = apart size (omega (arith, some)) begins t.segment.place parts.1 (whole t from.0).1 over in
+                absurd (omega (arith, far, from.1, stop, parts.0, inside)))
+            | inr le ↦ omega (arith, le, above, at)
+          ] in
+          one_reading t z from.0 ends.there same
 
-        only_z : scanned_below end o.scanned ≡ z ∷ []
-        only_z =
-            only_one z (scanned_below end o.scanned) (row_below sum size log some end o.scanned row) (in_below sum size log end o.scanned z ends.there (let long = stands_at in omega (arith, long))) one
+      only_z : scanned_below end o.scanned ≡ z ∷ []
+      only_z =
+          only_one z (scanned_below end o.scanned) (row_below sum size log some end o.scanned row) (in_below sum size log end o.scanned z ends.there (let long = stands_at in omega (arith, long))) one
 
-        not_filled : nat_lt (z.segment.place + size) (end + 32) ≡ false
-        not_filled = let fit = room in le-ltb (z.segment.place + size) (end + 32) (omega (arith, fit))
+      not_filled : nat_lt (z.segment.place + size) (end + 32) ≡ false
+      not_filled = let fit = room in le-ltb (z.segment.place + size) (end + 32) (omega (arith, fit))
 
-        new_cut : cut_over size next end (scanned_below end o.scanned) ≡ (end, Some z.segment.slot)
-        new_cut = ap (cut_over size next end) only_z ∙ ap (λ (o : Option ℕ). cut_of size (stops_in end z o [])) closed
-            ∙ ap (λ (b : Bool). if b then (z.segment.place + size, None) else (end, Some z.segment.slot)) not_filled
+      new_cut : cut_over size next end (scanned_below end o.scanned) ≡ (end, Some z.segment.slot)
+      new_cut = ap (cut_over size next end) only_z ∙ ap (λ (o : Option ℕ). cut_of size (stops_in end z o [])) closed
+          ∙ ap (λ (b : Bool). if b then (z.segment.place + size, None) else (end, Some z.segment.slot)) not_filled
 
-        pub from_inside : IsRecoverableLog sum size log H A next cut
-        from_inside =
-            let known = segment_there sum size log o.ordering o.scanned o.reads z ends.there in
-            let at = ends.place in
-            let there = known.0 in
-            let behind = subst (λ (why : ScanEnd). GoesOn why [] (IsTail sum size log o.ordering (begins + size) [])) (sym ends.broken) refl in
-            recoverable (z ∷ []) (there, at, known.1, behind) (inl (z.segment, there, at)) ((λ i. (sym ends.stop i, ends.slot i)) ∙ sym new_cut)
+      pub from_inside : IsRecoverableLog sum size log H A next cut
+      from_inside =
+          let known = segment_there sum size log o.ordering o.scanned o.reads z ends.there in
+          let at = ends.place in
+          let there = known.0 in
+          let behind = subst (λ (why : ScanEnd). GoesOn why [] (IsTail sum size log o.ordering (begins + size) [])) (sym ends.broken) refl in
+          recoverable (z ∷ []) (there, at, known.1, behind) (inl (z.segment, there, at)) ((λ i. (sym ends.stop i, ends.slot i)) ∙ sym new_cut)

@@ -46,11 +46,11 @@ module _ (sum : List ℕ → ℕ) (size : ℕ) (log : List ℕ) (some : 256 ≤ 
     broken = ends.broken;
   }
 
-  module _ (next : SnapshotModel) (place : stable_place next.stable ≡ cut.0) (active : next.active ≡ cut.1) where
+  module _ (next : SnapshotModel) (place : stable_place next.stable ≡ cut.0) where
     -- The cut is the end of a segment, and no segment begins there.
-    pub published_end : cut.0 % size ≡ 0 → ((s : Segment) → Contains is.ordering s → s.place ≡ cut.0 → ⊥) → IsRecoverableLog sum size log H A next cut
-    published_end aligned none = from_end sum size log some H A cut of_cut next place active aligned (λ s there. none s (of_all s there))
+    pub published_end : next.active ≡ cut.1 → cut.0 % size ≡ 0 → ((s : Segment) → Contains is.ordering s → s.place ≡ cut.0 → ⊥) → IsRecoverableLog sum size log H A next cut
+    published_end active aligned none = from_end sum size log some H A cut of_cut next place active aligned (λ s there. none s (of_all s there))
 
     -- The reading of its segment ends at the cut.
     pub published_inside : CutFits H cut.0 → (z : Scanned) → EndsAtCut sum size log some is.scanned cut z → IsRecoverableLog sum size log H A next cut
-    published_inside fits z ends = from_inside sum size log some H A cut of_cut next place active fits z (ends_too z ends)
+    published_inside fits z ends = from_inside sum size log some H A cut of_cut next place fits z (ends_too z ends)

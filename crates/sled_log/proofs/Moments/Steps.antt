@@ -52,7 +52,7 @@ module _ (sum : List ℕ → ℕ) (size : ℕ) (old : List ℕ) (some : 256 ≤ 
     -- where the reading of the segment of the cut ends at the cut
     pub unread_left : (z : Scanned) → EndsAtCut sum size old some is.scanned cut z → IsRecoverableLog sum size left H A next cut
     unread_left z ends =
-        unread_inside sum size old some H A cut (of_cut sum size old some H A first cut is) at count now left no_more leaves only_own none fits slot slot_at begin end free next place as_cut z (ends_too sum size old some H A first cut is z ends)
+        unread_inside sum size old some H A cut (of_cut sum size old some H A first cut is) at count now left no_more leaves only_own none fits slot slot_at begin end free next place z (ends_too sum size old some H A first cut is z ends)
 
     -- where the cut is the end of a segment
     pub unread_left_full : cut.1 ≡ None → IsRecoverableLog sum size left H A next cut

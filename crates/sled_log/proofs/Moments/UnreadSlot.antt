@@ -1,43 +1,37 @@
 -- Zeros are written over a slot in which no segment below the cut lies: of what a crash leaves of that, the log file can be recovered up to the same cut, under a snapshot that has the cut for its place.
-use Rattle.std.proofs.Common.{⊎_elim, ◌≡◌, ◌≢◌, ◌⊎◌, ◌∙◌, ◌+◌, ◌*◌, ◌/◌, ◌%◌, ◌<◌, ◌≤◌, ℕ, ℤ, pos, Bool, true, false, cond, List, [], ◌∷◌, ◌++◌, length, replicate, Option, Some, None, refl, sym, ap, subst, arith, inl, inr}
+use Rattle.std.proofs.Common.{⊎_elim, ◌≡◌, ◌≢◌, ◌⊎◌, ◌∙◌, ◌+◌, ◌*◌, ◌/◌, ◌%◌, ◌<◌, ◌≤◌, ℕ, pos, Bool, true, false, cond, List, [], ◌∷◌, length, replicate, Option, refl, sym, subst, arith, inl, inr}
 use Rattle.std.specs.List.{Contains, filter}
 use Rattle.std.specs.Str.{bytes_eq}
-use Rattle.std.proofs.lemmas.Bool.{cases_order}
 use Rattle.std.proofs.lemmas.List.Elements.{Contains-append_left}
 use Rattle.std.proofs.lemmas.Slice.Eq.{bytes_eq-Decides}
-use Rattle.sled_codec.specs.declared.result.DiskPtr.{DiskPtr}
-use Rattle.sled_codec.specs.declared.result.DiskPtr.TheVariants.{Inline, Blob}
 use Rattle.sled_codec.specs.History.{Message, History, table, CutFits}
 use Rattle.sled_codec.specs.Places.{part}
-use Rattle.sled_codec.specs.Pointers.{lid_of}
 use Rattle.sled_codec.specs.Record.{IsHeader}
 use Rattle.sled_codec.specs.Snapshots.{SnapshotModel, stable_place}
 use Rattle.sled_store.specs.Device.{LeavesLog}
-use Rattle.sled_store.specs.Foreign.{IsReached, at_first, NoForeignLog}
+use Rattle.sled_store.specs.Foreign.{at_first, NoForeignLog}
 use Rattle.sled_store.proofs.Segments.Elements.{in_first, in_rest, in_cases, in_nothing, in_filter, from_filter}
 use Rattle.sled_store.proofs.Segments.TableEntries.{from_table}
 use Rattle.sled_core.specs.declared.iterator.Segment.{Segment}
 use Rattle.sled_core.specs.declared.iterator.scan.ScannedRecord.{ScannedRecord}
 use Rattle.sled_core.specs.declared.iterator.scan.ScanEnd.{ScanEnd}
 use Rattle.sled_core.specs.declared.iterator.scan.ScanEnd.TheVariants.{Full, Capped, Broken}
-use Rattle.sled_core.specs.Recoverable.{NoHeaderOfZeros, StandsInline, IsOfHistory, IsReachedIn, IsSegmentOf, IsRecoverableLog}
+use Rattle.sled_core.specs.Recoverable.{NoHeaderOfZeros, StandsInline, IsSegmentOf, IsRecoverableLog}
 use Rattle.sled_core.specs.Scan.{IsFoundSegment, IsPath, IsEnd, EndsThere, IsScan}
-use Rattle.sled_core.proofs.Read.FoundLemmas.{found_there}
-use Rattle.sled_core.proofs.Read.ScanLemmas.{met_fits, aligned_offset}
 use Rattle.sled_core.proofs.Torn.TornLemmas.{after_write}
-use Rattle.sled_core.proofs.Torn.ZeroedSlots.{grows, kept, header_stood, stood, path_stood, path_stays}
+use Rattle.sled_core.proofs.Torn.ZeroedSlots.{header_stood, stood, path_stood}
 use Rattle.sled_core.proofs.Torn.ZeroedScans.{ReadsFirst, scan_left, scan_same, comes_on}
-use Rattle.sled_log.specs.Recovery.{IsOrdering, Scanned, IsScanned, AreScanned, least_place}
-use Rattle.sled_log.proofs.Replay.LineLemmas.{apart}
+use Rattle.sled_log.specs.Recovery.{IsOrdering, Scanned, IsScanned, AreScanned}
 use Rattle.sled_log.proofs.Recovers.OneReading.{one_scan}
 use Rattle.sled_log.proofs.Recovers.OneTail.{Rises, rises_of, segment_there, reading_there}
 use Rattle.sled_log.proofs.Recovers.Rows.{row_ordered, row_whole, met_stand, stand_rises, stop_inside}
+use Rattle.sled_log.proofs.Moments.BesideZeros.{beside, found_beside, needed_beside}
 use Rattle.sled_log.proofs.Moments.FromCut.{EndsAtCut, IsOfCut, from_end, from_inside}
 use Rattle.sled_log.proofs.Moments.SegmentsFrom.{ascends_of}
-use Rattle.sled_log.proofs.Moments.ZeroedParts.{slot_index, message_moved, found_before, scan_truth}
+use Rattle.sled_log.proofs.Moments.ZeroedParts.{slot_index, found_before, scan_truth}
 
 -- of segments each of which begins below all later ones, those that are kept do so too
-rises_kept : (p : Segment → Bool) (ss : List Segment) → Rises ss → Rises (filter p ss)
+pub rises_kept : (p : Segment → Bool) (ss : List Segment) → Rises ss → Rises (filter p ss)
 rises_kept p [] rises = tt
 rises_kept p (s ∷ ss) rises = by (p s) (rises_kept p ss rises.1) where
   by : (b : Bool) → Rises (filter p ss) → Rises (cond b (s ∷ filter p ss) (filter p ss))
@@ -186,71 +180,8 @@ module _ (sum : List ℕ → ℕ) (size : ℕ) (old : List ℕ) (some : 256 ≤ 
 
   -- The zeros lie in one slot, in which no segment lies that begins below the cut.
   module _ (fits : CutFits H cut.0) (slot : ℕ) (slot_at : slot % size ≡ 0) (begin : slot ≤ at) (end : at + count ≤ slot + size) (free : (s : Segment) → IsFoundSegment sum size old 0 s → s.slot ≡ slot → cut.0 ≤ s.place) where
-    beside : (a : ℕ) → a % size ≡ 0 → a ≢ slot → (a + size ≤ at) ⊎ (at + count ≤ a)
-    beside a aligned other = elim (cases_order a slot) [
-      | inl same ↦ absurd (other same)
-      | inr (inl lower) ↦ (let far = apart size (omega (arith, some)) a slot aligned slot_at lower in inl (omega (arith, far, begin)))
-      | inr (inr higher) ↦ (let far = apart size (omega (arith, some)) slot a slot_at aligned higher in inr (omega (arith, far, end)))
-    ]
-
-    -- a segment in another slot is found as before
-    found_beside : (least : ℕ) (s : Segment) → s.slot ≢ slot → IsFoundSegment sum size old least s → IsFoundSegment sum size left least s
-    found_beside least s other is =
-        let apart_here : (s.slot + 20 ≤ at) ⊎ (at + count ≤ s.slot) = ⊎_elim (λ before. inl (omega (arith, before, some))) (λ past. inr past) (beside s.slot is.slot other) in
-        let alike = kept sum size old at count now left no_more leaves s.slot 20 (found_there sum size old least s is) apart_here in
-        record { slot = is.slot; header = subst (λ (l : List ℕ). IsHeader sum l (pos s.place) s.mark) (sym alike) is.header; not_below = is.not_below }
-
-    in_slot : (s : Segment) → IsFoundSegment sum size old 0 s → (n : Message) → (r : IsReachedIn sum size old s n) → r.at + n.size ≤ size
-    in_slot s found n r =
-        let room = r.room in
-        let inside = (met_fits sum size old (s.slot + r.at) (s.place / size) r.met r.is_met).1 in
-        let offset = aligned_offset s.slot r.at size found.slot (omega (arith, room)) in
-        let long = r.meets.len in
-        omega (arith, inside, offset, long)
-
-    reached_left : (s : Segment) → IsFoundSegment sum size old 0 s → s.slot ≢ slot → (n : Message) → IsReachedIn sum size old s n → IsReachedIn sum size left s n
-    reached_left s found other n r =
-        let long = r.meets.len in
-        let within = in_slot s found n r in
-        let before : (s.slot + r.at ≤ at) ⊎ (at + count ≤ s.slot) = ⊎_elim (λ low. inl (omega (arith, low, within))) (λ past. inr past) (beside s.slot found.slot other) in
-        let behind : (s.slot + (r.at + r.met.len) ≤ at) ⊎ (at + count ≤ s.slot) = ⊎_elim (λ low. inl (omega (arith, low, within, long))) (λ past. inr past) (beside s.slot found.slot other) in
-        let one : IsPath sum size old s.slot s.place r.at (r.met ∷ []) (r.at + r.met.len) = (r.room, r.meets.place ∙ r.place, r.is_met, refl) in
-        record {
-          before = r.before;
-          at = r.at;
-          path = path_stays sum size old at count now left no_more leaves s.slot s.place found.slot 20 r.before r.at before r.path;
-          room = r.room;
-          place = r.place;
-          lid = r.lid;
-          met = r.met;
-          is_met = (path_stays sum size old at count now left no_more leaves s.slot s.place found.slot r.at (r.met ∷ []) (r.at + r.met.len) behind one).2;
-          meets = r.meets;
-        }
-
     needed_left : (page : ℕ) (m : Message) → Contains (table H cut.0 page) m → IsSegmentOf sum size left H cut.0 m × StandsInline sum size left m m.pointer
-    needed_left page m there =
-        let from = from_table H cut.0 page m there in
-        let had = o.needed page m there in
-        let seg = had.0 in
-        let other : seg.segment.slot ≢ slot = λ same. (let above = free seg.segment seg.found same in let place = seg.reached.place in omega (arith, above, from.2, place)) in (
-          record {
-            segment = seg.segment;
-            found = found_beside 0 seg.segment other seg.found;
-            place = seg.place;
-            reached = reached_left seg.segment seg.found other m seg.reached;
-            whole = λ n known number lower. reached_left seg.segment seg.found other n (seg.whole n known number lower);
-          },
-          stands_left seg.reached.at seg.segment.slot m.pointer refl seg.reached.lid (in_slot seg.segment seg.found m seg.reached) (beside seg.segment.slot seg.found.slot other) had.1,
-        )
-      where
-        stands_left : (r s : ℕ) (p : DiskPtr) → m.pointer ≡ p → lid_of m.pointer ≡ s + r → r + m.size ≤ size → (s + size ≤ at) ⊎ (at + count ≤ s) → StandsInline sum size old m p → StandsInline sum size left m p
-        stands_left r s (Inline lid) pointer offset within apart_from stands_old =
-            let here : lid ≡ s + r = ap lid_of (sym pointer) ∙ offset in
-            let there = stands_old.stands.in_file in
-            let long = grows sum size old at count now left no_more leaves in
-            let apart_here : (lid + m.size ≤ at) ⊎ (at + count ≤ lid) = ⊎_elim (λ low. inl (omega (arith, low, here, within))) (λ past. inr (omega (arith, past, here))) apart_from in
-            message_moved sum size old left lid (m.place / size) m (kept sum size old at count now left no_more leaves lid m.size there apart_here) (omega (arith, there, long)) stands_old
-        stands_left r s (Blob lid place) pointer offset within apart_from stands_old = tt
+    needed_left page m there = needed_beside sum size old some at count now left no_more leaves slot slot_at begin end H cut.0 free m (from_table H cut.0 page m there).2 (o.needed page m there)
 
     -- all that is left from the segment of the cut on
     pub left_whole : IsOfCut sum size left H A cut
@@ -286,7 +217,7 @@ module _ (sum : List ℕ → ℕ) (size : ℕ) (old : List ℕ) (some : 256 ≤ 
       other same = let above = free z.segment (record { slot = found_old.slot; header = found_old.header; not_below = omega arith }) same in let lower = under in omega (arith, above, lower)
 
       found : IsFoundSegment sum size left begins z.segment
-      found = found_beside begins z.segment other found_old
+      found = found_beside sum size old some at count now left no_more leaves slot slot_at begin end begins z.segment other found_old
 
       k : ℕ
       k = z.segment.slot / size
@@ -297,17 +228,17 @@ module _ (sum : List ℕ → ℕ) (size : ℕ) (old : List ℕ) (some : 256 ≤ 
       scan : IsScanned sum size left z
       scan =
           let header = subst (λ n. IsHeader sum (part left n 20) (pos z.segment.place) z.segment.mark) here found.header in
-          let apart_here = subst (λ n. (n + size ≤ at) ⊎ (at + count ≤ n)) here (beside z.segment.slot found_old.slot other) in
+          let apart_here = subst (λ n. (n + size ≤ at) ⊎ (at + count ≤ n)) here (beside sum size old some at count now left no_more leaves slot slot_at begin end z.segment.slot found_old.slot other) in
           let before = subst (λ n. IsScan sum size old n z.segment.place z.met z.stop z.why) here known.1 in
           let after = scan_same sum size old at count now left no_more leaves only_own k z.segment.place z.segment.mark header apart_here z.met z.stop z.why low before in
           subst (λ n. IsScan sum size left n z.segment.place z.met z.stop z.why) (sym here) after
 
-    module _ (first : SnapshotModel) (place : stable_place first.stable ≡ cut.0) (active : first.active ≡ cut.1) where
+    module _ (first : SnapshotModel) (place : stable_place first.stable ≡ cut.0) where
       -- The cut is the end of a segment, and no segment begins there.
-      pub unread_end : cut.0 % size ≡ 0 → ((s : Segment) → Contains o.ordering s → s.place ≡ cut.0 → ⊥) → IsRecoverableLog sum size left H A first cut
+      pub unread_end : first.active ≡ cut.1 → cut.0 % size ≡ 0 → ((s : Segment) → Contains o.ordering s → s.place ≡ cut.0 → ⊥) → IsRecoverableLog sum size left H A first cut
       unfolding left_of_cut left_whole
-      unread_end aligned nothing = from_end sum size left some H A cut left_whole first place active aligned (λ s there. nothing s (from_filter stands o.ordering s there).0)
+      unread_end active aligned nothing = from_end sum size left some H A cut left_whole first place active aligned (λ s there. nothing s (from_filter stands o.ordering s there).0)
 
       -- The reading of the segment of the cut ends at the cut.
       pub unread_inside : (z : Scanned) → EndsAtCut sum size old some o.scanned cut z → IsRecoverableLog sum size left H A first cut
-      unread_inside z ends = from_inside sum size left some H A cut left_whole first place active fits z (ends_left z ends)
+      unread_inside z ends = from_inside sum size left some H A cut left_whole first place fits z (ends_left z ends)
