@@ -8,7 +8,7 @@ use Rattle.sled_codec.specs.History.{History, CutFits}
 use Rattle.sled_codec.specs.PageTables.{IsTable}
 use Rattle.sled_codec.specs.Snapshots.{SnapshotModel, FitsSnapshot, short_snapshot, stable_place}
 use Rattle.sled_codec.specs.SnapshotLaws.{short_spells-snapshot}
-use Rattle.sled_store.specs.Device.{NamesState, LeavesName, renamed, unnamed, names_synced}
+use Rattle.sled_store.specs.Device.{NameState, NamesState, LeavesName, renamed, unnamed, names_synced}
 use Rattle.sled_store.specs.Durable.{IsSettledName}
 use Rattle.sled_store.proofs.Names.NamesLemmas.{settled_name_left, settled_name_synced, file_renamed, after_renamed, after_unnamed}
 use Rattle.sled_store.proofs.Crashes.SyncedLemmas.{firm_renamed}
@@ -47,15 +47,7 @@ pub settled_fit : (sum : List ℕ → ℕ) (size : ℕ) (H : History) (f reached
 settled_fit sum size H f reached names settled can left leaves own =
     subst (λ (file : ℤ → Option (List ℕ)). CanBegin sum size file H f reached) (λ i n. sym (settled_name_left names n (left n) (settled n) (leaves n)) i) can
 
--- A table with a spelling, for a cut.
-pub record IsTableAt (size : ℕ) (H : History) (cut : ℕ) (s : SnapshotModel) : Type 0 where
-  pub stable : s.stable ≡ Some (pos cut)
-  pub active : ActiveFits size cut s.active
-  pub table : IsTable s.pages H cut
-  pub fits : CutFits H cut
-  pub spelled : FitsSnapshot s
-
--- and for a cut of the first segment
+-- A table with a spelling, for a cut of the first segment.
 pub record IsNewTable (size : ℕ) (H : History) (cut : ℕ) (s : SnapshotModel) : Type 0 where
   pub stable : s.stable ≡ Some (pos cut)
   pub active : ActiveFits size cut s.active
@@ -63,9 +55,6 @@ pub record IsNewTable (size : ℕ) (H : History) (cut : ℕ) (s : SnapshotModel)
   pub table : IsTable s.pages H cut
   pub fits : CutFits H cut
   pub spelled : FitsSnapshot s
-
-table_at : (size : ℕ) (H : History) (cut : ℕ) (s : SnapshotModel) → IsNewTable size H cut s → IsTableAt size H cut s
-table_at size H cut s new = record { stable = new.stable; active = new.active; table = new.table; fits = new.fits; spelled = new.spelled }
 
 -- what a crash leaves where a file was published under a number and that was settled: each other name has its file still, or has none
 pub record IsPublished (names : NamesState) (file : ℤ → Option (List ℕ)) (number : ℤ) (bytes : List ℕ) : Type 0 where
@@ -106,10 +95,13 @@ same_or_other n m = by (int_eq n m) refl
     by true is = inl ((signed_Decides n m).0 is)
     by false is = inr (λ same. let yes = (signed_Decides n m).1 same in cc)
 
--- A new table among others.
-module _ (sum : List ℕ → ℕ) (size : ℕ) (H : History) (cut : ℕ) (s : SnapshotModel) (new : IsTableAt size H cut s) where
-  place_at : stable_place s.stable ≡ cut
-  place_at = ap stable_place new.stable
+module _ (sum : List ℕ → ℕ) (size : ℕ) (H : History) (cut : ℕ) (s : SnapshotModel) (new : IsNewTable size H cut s) where
+  -- the bytes of its file
+  abbrev bytes : List ℕ
+  bytes = short_file sum s
+
+  place : stable_place s.stable ≡ cut
+  place = ap stable_place new.stable
 
   new_file : IsTableFile sum H (pos cut) (short_file sum s)
   new_file = record {
@@ -117,23 +109,28 @@ module _ (sum : List ℕ → ℕ) (size : ℕ) (H : History) (cut : ℕ) (s : Sn
     file = record { text = short_snapshot s; spelled = short_spells-snapshot s new.spelled; is = refl; small = new.spelled.small };
     sound = sound_at s cut new.stable;
     named = new.stable;
-    table = subst (λ n. IsTable s.pages H n) (sym place_at) new.table;
-    fits = subst (λ n. CutFits H n) (sym place_at) new.fits;
+    table = subst (λ n. IsTable s.pages H n) (sym place) new.table;
+    fits = subst (λ n. CutFits H n) (sym place) new.fits;
   }
 
   -- Among these files, which are tables up to the cut,
   module _ (file : ℤ → Option (List ℕ)) (listed : (n : ℤ) (b : List ℕ) → file n ≡ Some b → IsTableFile sum H n b) (below : (n : ℤ) (b : List ℕ) → file n ≡ Some b → n ≤ℤ pos cut) (f : ℕ) (floor : f ≤ cut) where
-    -- the new one was put in, and each of the others stays or is gone: recovery begins from the new one
-    pub tables_new : (left : ℤ → Option (List ℕ)) → left (pos cut) ≡ Some (short_file sum s) → ((n : ℤ) (b : List ℕ) → n ≢ pos cut → left n ≡ Some b → file n ≡ Some b) → AreRecoverableSnapshots sum size left H f s
+    -- the new one was put in, and each of the others stays or is gone
+    begins_new : (left : ℤ → Option (List ℕ)) → left (pos cut) ≡ Some bytes → ((n : ℤ) (b : List ℕ) → n ≢ pos cut → left n ≡ Some b → file n ≡ Some b) → CanBegin sum size left H f cut
     unfolding new_file
-    tables_new left there others = record {
-      begins = inr (pos cut, short_file sum s, record { there = there; greatest = λ n some. not_above n (left n) refl some }, new_file.file, new_file.sound);
-      listed = λ n b is. elim (same_or_other n (pos cut)) [
-        | inl same ↦ table_there n b same is
-        | inr other ↦ listed n b (others n b other is)
-      ];
-      not_below = omega (arith, floor, place_at);
-      active = subst (λ n. ActiveFits size n s.active) (sym place_at) new.active;
+    begins_new left there others = record {
+      first = s;
+      tables = record {
+        begins = inr (pos cut, bytes, record { there = there; greatest = λ n some. not_above n (left n) refl some }, new_file.file, new_file.sound);
+        listed = λ n b is. elim (same_or_other n (pos cut)) [
+          | inl same ↦ table_there n b same is
+          | inr other ↦ listed n b (others n b other is)
+        ];
+        not_below = omega (arith, floor, place);
+        active = subst (λ n. ActiveFits size n s.active) (sym place) new.active;
+      };
+      slot = new.slot;
+      not_above = omega (arith, place);
     }
       where
         not_above : (n : ℤ) (o : Option (List ℕ)) → left n ≡ o → IsSome (left n) → n ≤ℤ pos cut
@@ -142,53 +139,41 @@ module _ (sum : List ℕ → ℕ) (size : ℕ) (H : History) (cut : ℕ) (s : Sn
 
         table_there : (n : ℤ) (b : List ℕ) → n ≡ pos cut → left n ≡ Some b → IsTableFile sum H n b
         table_there n b same is =
-            let is_new : short_file sum s ≡ b = cc in
+            let is_new : bytes ≡ b = cc in
             subst (λ (m : ℤ). IsTableFile sum H m b) (sym same) (subst (λ (l : List ℕ). IsTableFile sum H (pos cut) l) is_new new_file)
 
-    -- It was put in among settled names, and that isn't settled yet: a crash leaves what was there, or it too.
-    pub put_left : (N : NamesState) → N.file ≡ file → ((n : ℤ) → IsSettledName N n) → (left : ℤ → Option (List ℕ)) → ((n : ℤ) → LeavesName (renamed N (pos cut) true (record { file = Some (short_file sum s); is_unsynced = false }) (short_file sum s ∷ [])) n (left n))
-        → (left ≡ file) ⊎ AreRecoverableSnapshots sum size left H f s
-    put_left N is_file settled left leaves = elim (left_of (pos cut)) [
-      | inl old ↦ inl (λ i n. old_at n old i)
-      | inr now ↦ inr (tables_new left now.1 (λ n b other is. elim (left_of n) [ inl same ↦ sym same ∙ is | inr here ↦ absurd (other here.0) ]))
-    ]
-      where
-        left_of : (n : ℤ) → (left n ≡ file n) ⊎ ((n ≡ pos cut) × (left n ≡ Some (short_file sum s)))
-        left_of n = elim (after_renamed N (pos cut) true (record { file = Some (short_file sum s); is_unsynced = false }) (short_file sum s ∷ []) n (left n) (leaves n)) [
-          | inl was ↦ inl (settled_name_left N n (left n) (settled n) was ∙ ap (λ (g : ℤ → Option (List ℕ)). g n) is_file)
-          | inr now ↦ inr (sym ((signed_Decides (pos cut) n).0 now.0), now.1)
-        ]
+    -- No name of these is loose, and the new one was put in.
+    module _ (N : NamesState) (is_file : N.file ≡ file) (settled : (n : ℤ) → IsSettledName N n) where
+      abbrev top : NameState
+      top = record { file = Some bytes; is_unsynced = false }
 
-        old_at : (n : ℤ) → left (pos cut) ≡ file (pos cut) → left n ≡ file n
-        old_at n old = elim (left_of n) [
-          | inl same ↦ same
-          | inr here ↦ ap left here.0 ∙ old ∙ ap file (sym here.0)
-        ]
+      -- what a crash leaves of a name then
+      left_of : (n : ℤ) (left : Option (List ℕ)) → LeavesName (renamed N (pos cut) true top (bytes ∷ [])) n left → (left ≡ file n) ⊎ ((n ≡ pos cut) × (left ≡ Some bytes))
+      left_of n left leaves = elim (after_renamed N (pos cut) true top (bytes ∷ []) n left leaves) [
+        | inl was ↦ inl (settled_name_left N n left (settled n) was ∙ ap (λ (g : ℤ → Option (List ℕ)). g n) is_file)
+        | inr now ↦ inr (sym ((signed_Decides (pos cut) n).0 now.0), now.1)
+      ]
 
-    -- Its name is settled, and each of the others has its file still, or may have none: recovery begins from it.
-    pub published_left : (N : NamesState) → IsPublished N file (pos cut) (short_file sum s) → (left : ℤ → Option (List ℕ)) → ((n : ℤ) → LeavesName N n (left n)) → AreRecoverableSnapshots sum size left H f s
-    published_left N published left leaves = tables_new left (published.own (left (pos cut)) (leaves (pos cut))) (λ n b other is. elim (published.others n (left n) other (leaves n)) [
-      | inl same ↦ sym same ∙ is
-      | inr none ↦ absurd (cc)
-    ])
-
--- The same of the first segment.
-module _ (sum : List ℕ → ℕ) (size : ℕ) (H : History) (cut : ℕ) (s : SnapshotModel) (new : IsNewTable size H cut s) where
-  abbrev bytes : List ℕ
-  bytes = short_file sum s
-
-  -- Among these files, which are tables up to the cut,
-  module _ (file : ℤ → Option (List ℕ)) (listed : (n : ℤ) (b : List ℕ) → file n ≡ Some b → IsTableFile sum H n b) (below : (n : ℤ) (b : List ℕ) → file n ≡ Some b → n ≤ℤ pos cut) (f : ℕ) (floor : f ≤ cut) where
-    begins_from : (left : ℤ → Option (List ℕ)) → AreRecoverableSnapshots sum size left H f s → CanBegin sum size left H f cut
-    begins_from left tables = let place : stable_place s.stable ≡ cut = ap stable_place new.stable in record { first = s; tables = tables; slot = new.slot; not_above = omega (arith, place) }
-
-    -- Recovery can begin from the new one, or from what it could before.
-    pub put_fit : (N : NamesState) → N.file ≡ file → ((n : ℤ) → IsSettledName N n) → CanBegin sum size file H f cut → NamesFit sum size (renamed N (pos cut) true (record { file = Some bytes; is_unsynced = false }) (bytes ∷ [])) H f cut
-    put_fit N is_file settled can left leaves own = elim (put_left sum size H cut s (table_at size H cut s new) file listed below f floor N is_file settled left leaves) [
-      | inl same ↦ subst (λ (g : ℤ → Option (List ℕ)). CanBegin sum size g H f cut) (sym same) can
-      | inr tables ↦ begins_from left tables
-    ]
+      -- Recovery can begin from the new one, or from what it could before.
+      pub put_fit : CanBegin sum size file H f cut → NamesFit sum size (renamed N (pos cut) true top (bytes ∷ [])) H f cut
+      put_fit can left leaves own = elim (left_of (pos cut) (left (pos cut)) (leaves (pos cut))) [
+        | inl old ↦ subst (λ (g : ℤ → Option (List ℕ)). CanBegin sum size g H f cut) (λ i n. sym (old_at n old) i) can
+        | inr now ↦ begins_new left now.1 (λ n b other is. elim (left_of n (left n) (leaves n)) [
+          | inl same ↦ sym same ∙ is
+          | inr here ↦ absurd (other here.0)
+        ])
+      ]
+        where
+          old_at : (n : ℤ) → left (pos cut) ≡ file (pos cut) → left n ≡ file n
+          old_at n old = elim (left_of n (left n) (leaves n)) [
+            | inl same ↦ same
+            | inr here ↦ ap left here.0 ∙ old ∙ ap file (sym here.0)
+          ]
 
     -- The name of the new one is settled, and each of the others has its file still, or may have none.
-    pub published_fit : (N : NamesState) → IsPublished N file (pos cut) bytes → NamesFit sum size N H f cut
-    published_fit N published left leaves own = begins_from left (published_left sum size H cut s (table_at size H cut s new) file listed below f floor N published left leaves)
+    module _ (N : NamesState) (published : IsPublished N file (pos cut) bytes) where
+      pub published_fit : NamesFit sum size N H f cut
+      published_fit left leaves own = begins_new left (published.own (left (pos cut)) (leaves (pos cut))) (λ n b other is. elim (published.others n (left n) other (leaves n)) [
+        | inl same ↦ sym same ∙ is
+        | inr none ↦ absurd (cc)
+      ])
