@@ -7,6 +7,7 @@ pub mod PassStops
 pub mod PublishedCut
 pub mod SegmentsFrom
 pub mod ShortCut
+pub mod Shredded
 pub mod Steps
 pub mod UnreadSlot
 pub mod UnreadSlots
