@@ -3,6 +3,7 @@ pub mod BlobsRemoved
 pub mod CutSegment
 pub mod ForgottenAbove
 pub mod FromCut
+pub mod LogAlong
 pub mod PassStops
 pub mod PublishedCut
 pub mod SegmentsFrom

@@ -46,7 +46,7 @@ module _ (sum : List ℕ → ℕ) (size : ℕ) (old : List ℕ) (some : 256 ≤ 
           free = λ s found same. was.free s (found_new sum size old some H A first cut is fits slot has_slot its.0 its.1 its.2 its.3 at count refl to_end 0 s found) same;
         }
 
-    filled : IsShredded (at_rest new)
+    pub filled : IsShredded (at_rest new)
     filled =
         let stand = zeros_stand sum size old some H A first cut is fits active slot has_slot at count refl to_end in
         record {
@@ -57,7 +57,7 @@ module _ (sum : List ℕ → ℕ) (size : ℕ) (old : List ℕ) (some : 256 ≤ 
         }
 
   -- It is the end of a segment.
-  full : cut.1 ≡ None → IsShredded (at_rest old)
+  pub full : cut.1 ≡ None → IsShredded (at_rest old)
   full no_slot =
       let its = ends_segment sum size old some H A first cut is no_slot in
       record {
