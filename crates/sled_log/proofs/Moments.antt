@@ -1,4 +1,5 @@
 pub mod BesideZeros
+pub mod BlobsAlong
 pub mod BlobsRemoved
 pub mod CutSegment
 pub mod ForgottenAbove
