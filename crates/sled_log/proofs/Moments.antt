@@ -10,6 +10,7 @@ pub mod PublishedCut
 pub mod SegmentsFrom
 pub mod ShortCut
 pub mod Shredded
+pub mod SnapshotNames
 pub mod Steps
 pub mod UnreadSlot
 pub mod UnreadSlots

@@ -99,16 +99,16 @@ module _ (sum : List ℕ → ℕ) where
 module _ (sum : List ℕ → ℕ) (size : ℕ) (H : History) (A f : ℕ) (orderly : IsOrderly H) (cut : ℕ × Option ℕ) where
   -- The blobs that a recovery needs stay.
   stand_gone : (blobs : NamesState) (p : ℤ) → NamesKnow blobs (unnamed blobs p true) → pos cut.0 ≤ℤ p → ((m : Message) → Contains H.messages m → m.place < cut.0 → LiesInSegment size m) → AreOwn sum blobs
-      → BlobsStand sum size H A f orderly cut blobs → BlobsStand sum size H A f orderly cut (unnamed blobs p true)
+      → BlobsStand sum H cut.0 blobs → BlobsStand sum H cut.0 (unnamed blobs p true)
   stand_gone blobs p knows above placed own stand left leaves own_left =
       blobs_removed sum (before sum blobs p knows left leaves) left cut.0 (removed_from sum blobs p knows left leaves cut.0 above) size H placed
       (stand (before sum blobs p knows left leaves) (before_left sum blobs p knows left leaves) (before_own sum blobs p knows left leaves own own_left))
 
-  module _ (names : NamesState) (temporary : Temporary) (some : 256 ≤ size) (fits : CutFits H cut.0) (none : NoHeaderOfZeros sum) (begin : NamesBegin sum size H A f orderly cut (λ s. stable_place s.stable ≡ cut.0) names) where
+  module _ (names : NamesState) (temporary : Temporary) (some : 256 ≤ size) (fits : CutFits H cut.0) (none : NoHeaderOfZeros sum) (begin : NamesBegin sum size H f (λ s. stable_place s.stable ≡ cut.0) names) where
     abbrev device : NamesState → List ℕ → List (ℕ × List ℕ) → State
     device blobs log placed = record { log = at_rest log; blobs = blobs; snapshots = names; temporary = temporary; placed = placed }
 
-    pub removing_along : (places : List ℤ) → ((p : ℤ) → Contains places p → pos cut.0 ≤ℤ p) → (blobs : NamesState) → AreOwn sum blobs → BlobsStand sum size H A f orderly cut blobs
+    pub removing_along : (places : List ℤ) → ((p : ℤ) → Contains places p → pos cut.0 ≤ℤ p) → (blobs : NamesState) → AreOwn sum blobs → BlobsStand sum H cut.0 blobs
         → (log : List ℕ) (placed : List (ℕ × List ℕ)) → StopsAtCut sum size log some H A cut → Along (LeavesReadable sum size H A f) (removing_blobs places) (device blobs log placed)
     removing_along [] above blobs own stand log placed stops = stops_readable sum size H A f orderly cut blobs names temporary stand some fits none begin log placed stops
     removing_along (p ∷ ps) above blobs own stand log placed stops =
@@ -118,7 +118,7 @@ module _ (sum : List ℕ → ℕ) (size : ℕ) (H : History) (A f : ℕ) (orderl
         (stand_gone blobs p knows (above p (in_first p ps)) stops.parts.placed own stand) log placed stops)
 
     -- All that is taken away.
-    pub forgetting_along : (blobs : NamesState) → AreOwn sum blobs → BlobsStand sum size H A f orderly cut blobs → (unread log : List ℕ) (placed : List (ℕ × List ℕ)) → AreFree sum size log cut.0 unread → StopsAtCut sum size log some H A cut
+    pub forgetting_along : (blobs : NamesState) → AreOwn sum blobs → BlobsStand sum H cut.0 blobs → (unread log : List ℕ) (placed : List (ℕ × List ℕ)) → AreFree sum size log cut.0 unread → StopsAtCut sum size log some H A cut
         → (places : List ℤ) → ((p : ℤ) → Contains places p → pos cut.0 ≤ℤ p) → Along (LeavesReadable sum size H A f) (forgetting size unread places) (device blobs log placed)
     forgetting_along blobs own stand unread log placed are_free stops places above =
         zeroing_along sum size H A f orderly cut blobs names temporary stand some fits none begin unread log placed are_free stops (removing_blobs places)

@@ -27,6 +27,22 @@ use Rattle.sled_log.proofs.Moments.UnreadSlots.{AreFree, StopsAtCut, recoverable
 abbrev pub LeavesReadable : (List ℕ → ℕ) → ℕ → History → ℕ → ℕ → State → Type 0
 LeavesReadable sum size H A f = AllLeft (λ past left. NoForeign sum size past left → CanRead sum size left H A f)
 
+-- The parts of a state. Recovery may begin from some snapshots alone.
+
+abbrev pub NamesBegin : (List ℕ → ℕ) → ℕ → History → ℕ → (SnapshotModel → Type 0) → NamesState → Type 0
+NamesBegin sum size H f Allowed names =
+    (left : ℤ → Option (List ℕ)) → ((n : ℤ) → LeavesName names n (left n)) → NoForeignNames (λ bytes. (s : SnapshotModel) × IsSnapshotFile sum bytes s) names left
+    → (first : SnapshotModel) × AreRecoverableSnapshots sum size left H f first × Allowed first
+
+abbrev pub LogStands : (List ℕ → ℕ) → ℕ → History → ℕ → ℕ × Option ℕ → (SnapshotModel → Type 0) → LogState → List (ℕ × List ℕ) → Type 0
+LogStands sum size H A cut Allowed log placed =
+    (left : List ℕ) → LeavesLog log left → NoForeignLog sum size log placed left
+    → (first : SnapshotModel) → ActiveFits size (stable_place first.stable) first.active → Allowed first → IsRecoverableLog sum size left H A first cut
+
+abbrev pub BlobsStand : (List ℕ → ℕ) → History → ℕ → NamesState → Type 0
+BlobsStand sum H cut blobs =
+    (left : ℤ → Option (List ℕ)) → ((n : ℤ) → LeavesName blobs n (left n)) → NoForeignNames (λ bytes. (k : MessageKind) × (item : List ℕ) × IsBlob sum bytes k item) blobs left → AreRecoverableBlobs sum left H cut
+
 -- what was the log's own by one state is so by each that knows more (as `own_still` of `sled_core`, which that keeps to itself)
 own_later : (sum : List ℕ → ℕ) (size : ℕ) (s t : State) (left : Content) → Knows s t → NoForeign sum size s left → NoForeign sum size t left
 own_later sum size s t left knows own = record {
@@ -50,24 +66,8 @@ module _ (sum : List ℕ → ℕ) (size : ℕ) (H : History) (A f : ℕ) where
       )
 
   module _ (orderly : IsOrderly H) (cut : ℕ × Option ℕ) where
-    -- The parts of a state, where recovery may begin from some snapshots alone.
-
-    abbrev pub NamesBegin : (SnapshotModel → Type 0) → NamesState → Type 0
-    NamesBegin Allowed names =
-        (left : ℤ → Option (List ℕ)) → ((n : ℤ) → LeavesName names n (left n)) → NoForeignNames (λ bytes. (s : SnapshotModel) × IsSnapshotFile sum bytes s) names left
-        → (first : SnapshotModel) × AreRecoverableSnapshots sum size left H f first × Allowed first
-
-    abbrev pub LogStands : (SnapshotModel → Type 0) → LogState → List (ℕ × List ℕ) → Type 0
-    LogStands Allowed log placed =
-        (left : List ℕ) → LeavesLog log left → NoForeignLog sum size log placed left
-        → (first : SnapshotModel) → ActiveFits size (stable_place first.stable) first.active → Allowed first → IsRecoverableLog sum size left H A first cut
-
-    abbrev pub BlobsStand : NamesState → Type 0
-    BlobsStand blobs =
-        (left : ℤ → Option (List ℕ)) → ((n : ℤ) → LeavesName blobs n (left n)) → NoForeignNames (λ bytes. (k : MessageKind) × (item : List ℕ) × IsBlob sum bytes k item) blobs left → AreRecoverableBlobs sum left H cut.0
-
     -- What a crash leaves of it can be read back, where its parts can.
-    pub parts_readable : (Allowed : SnapshotModel → Type 0) (s : State) → LogStands Allowed s.log s.placed → NamesBegin Allowed s.snapshots → BlobsStand s.blobs → P s
+    pub parts_readable : (Allowed : SnapshotModel → Type 0) (s : State) → LogStands sum size H A cut Allowed s.log s.placed → NamesBegin sum size H f Allowed s.snapshots → BlobsStand sum H cut.0 s.blobs → P s
     parts_readable Allowed s log names blobs left leaves own =
         let begins = names left.snapshots leaves.snapshots own.snapshots in
         record {
@@ -79,14 +79,14 @@ module _ (sum : List ℕ → ℕ) (size : ℕ) (H : History) (A f : ℕ) where
           blobs = blobs left.blobs leaves.blobs own.blobs;
         }
 
-    module _ (blobs names : NamesState) (temporary : Temporary) (stand : BlobsStand blobs) where
+    module _ (blobs names : NamesState) (temporary : Temporary) (stand : BlobsStand sum H cut.0 blobs) where
       -- the device, with a log file that is at rest
       abbrev pub here : List ℕ → List (ℕ × List ℕ) → State
       here log placed = record { log = at_rest log; blobs = blobs; snapshots = names; temporary = temporary; placed = placed }
 
       -- Zeros are written, and synced, and then other calls are made.
-      filled_along : (Allowed : SnapshotModel → Type 0) → NamesBegin Allowed names → (log : List ℕ) (placed : List (ℕ × List ℕ)) (at count : ℕ)
-          → LogStands Allowed (after_write log at (replicate count 0) (replicate count 0)) ((at, replicate count 0) ∷ placed)
+      filled_along : (Allowed : SnapshotModel → Type 0) → NamesBegin sum size H f Allowed names → (log : List ℕ) (placed : List (ℕ × List ℕ)) (at count : ℕ)
+          → LogStands sum size H A cut Allowed (after_write log at (replicate count 0) (replicate count 0)) ((at, replicate count 0) ∷ placed)
           → (es : List Event) → Along P es (here (overwritten log at (replicate count 0)) ((at, replicate count 0) ∷ placed)) → Along P (Wrote at (replicate count 0) (replicate count 0) ∷ Synced ∷ es) (here log placed)
       filled_along Allowed begin log placed at count stands es rest =
           let wrote : Event = Wrote at (replicate count 0) (replicate count 0) in
@@ -95,7 +95,7 @@ module _ (sum : List ℕ → ℕ) (size : ℕ) (H : History) (A f : ℕ) where
 
       module _ (some : 256 ≤ size) (fits : CutFits H cut.0) (none : NoHeaderOfZeros sum) where
         -- The rest of the segment of the cut, under the snapshot that recovery began from.
-        module _ (first : SnapshotModel) (begin : NamesBegin (λ s. s ≡ first) names) (log : List ℕ) (is : IsRecoverableLog sum size log H A first cut) (active : ActiveFits size (stable_place first.stable) first.active) where
+        module _ (first : SnapshotModel) (begin : NamesBegin sum size H f (λ s. s ≡ first) names) (log : List ℕ) (is : IsRecoverableLog sum size log H A first cut) (active : ActiveFits size (stable_place first.stable) first.active) where
           pub shredding_along : (placed : List (ℕ × List ℕ)) (es : List Event)
               → ((new : List ℕ) (all : List (ℕ × List ℕ)) → IsShredded sum size log some H A first cut is fits active (at_rest new) → Along P es (here new all)) → Along P (shredding (shred_range_of size cut.0 cut.1) ++ es) (here log placed)
           shredding_along placed es rest = by cut.1 refl where
@@ -112,7 +112,7 @@ module _ (sum : List ℕ → ℕ) (size : ℕ) (H : History) (A f : ℕ) where
                 es (rest (overwritten log at zeros) ((at, zeros) ∷ placed) (filled sum size log some H A first cut is fits active slot has_slot))
 
         -- The slots that were not read, under any snapshot that has the cut for its place.
-        module _ (begin : NamesBegin (λ s. stable_place s.stable ≡ cut.0) names) where
+        module _ (begin : NamesBegin sum size H f (λ s. stable_place s.stable ≡ cut.0) names) where
           -- before and behind all of them
           pub stops_readable : (log : List ℕ) (placed : List (ℕ × List ℕ)) → StopsAtCut sum size log some H A cut → P (here log placed)
           stops_readable log placed stops =
