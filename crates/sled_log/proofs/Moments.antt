@@ -16,6 +16,7 @@ pub mod UnreadSlot
 pub mod UnreadSlots
 pub mod UnreadWritten
 pub mod UnreadZeroed
+pub mod WritingAlong
 pub mod ZeroedCut
 pub mod ZeroedParts
 pub mod ZeroedWhole
