@@ -7,6 +7,7 @@ pub mod FromCut
 pub mod LogAlong
 pub mod PassStops
 pub mod PublishedCut
+pub mod RecoveryAlong
 pub mod SegmentsFrom
 pub mod ShortCut
 pub mod Shredded

@@ -95,10 +95,14 @@ module _ (sum : List ℕ → ℕ) (size : ℕ) (H : History) (f cut : ℕ) (s : 
       pub put_begin : NamesBegin sum size H f (λ t. (t ≡ first) ⊎ (stable_place t.stable ≡ cut)) (renamed N (pos cut) true top (bytes ∷ []))
       put_begin left leaves own = elim (left_of (pos cut) (left (pos cut)) (leaves (pos cut))) [
         | inl old ↦ (first, subst (λ (g : ℤ → Option (List ℕ)). AreRecoverableSnapshots sum size g H f first) (λ i n. sym (old_at n old) i) tables, inl refl)
-        | inr now ↦ (s, begins_new left now.1 (λ n b other is. elim (left_of n (left n) (leaves n)) [
-          | inl same ↦ sym same ∙ is
-          | inr here ↦ absurd (other here.0)
-        ]), inr place)
+        | inr now ↦ (
+          s,
+          begins_new left now.1 (λ n b other is. elim (left_of n (left n) (leaves n)) [
+            | inl same ↦ sym same ∙ is
+            | inr here ↦ absurd (other here.0)
+          ]),
+          inr place,
+        )
       ]
         where
           old_at : (n : ℤ) → left (pos cut) ≡ file (pos cut) → left n ≡ file n
@@ -109,7 +113,11 @@ module _ (sum : List ℕ → ℕ) (size : ℕ) (H : History) (f cut : ℕ) (s : 
 
     -- The name of the new one is settled, and each of the others has its file still, or may have none.
     pub published_begin : (N : NamesState) → IsPublished N file (pos cut) bytes → NamesBegin sum size H f (λ t. stable_place t.stable ≡ cut) N
-    published_begin N published left leaves own = (s, begins_new left (published.own (left (pos cut)) (leaves (pos cut))) (λ n b other is. elim (published.others n (left n) other (leaves n)) [
-      | inl same ↦ sym same ∙ is
-      | inr none ↦ absurd (cc)
-    ]), place)
+    published_begin N published left leaves own = (
+      s,
+      begins_new left (published.own (left (pos cut)) (leaves (pos cut))) (λ n b other is. elim (published.others n (left n) other (leaves n)) [
+        | inl same ↦ sym same ∙ is
+        | inr none ↦ absurd (cc)
+      ]),
+      place,
+    )

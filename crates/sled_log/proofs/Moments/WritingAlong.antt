@@ -1,11 +1,11 @@
 -- What a crash leaves at each moment of the calls that write a recovery back can be read back, over any number of segments: the rest of the segment of the cut is filled, a table that is new is published and the other snapshots are removed, the slots that were not read are filled, and blobs at or above the cut are removed.
-use Rattle.std.proofs.Common.{◌≡◌, ◌≢◌, ◌⊎◌, ◌≤◌, ◌≤ℤ◌, ◌++◌, if◌then◌else◌, ℕ, ℤ, pos, Bool, true, false, List, [], ◌∷◌, Option, Some, None, refl, sym, ap, subst, inl, inr}
+use Rattle.std.proofs.Common.{◌≡◌, ◌≢◌, ◌⊎◌, ◌≤◌, ◌≤ℤ◌, ◌++◌, if◌then◌else◌, ℕ, ℤ, pos, Bool, true, false, List, [], ◌∷◌, Option, Some, refl, sym, ap, subst, inl, inr}
 use Rattle.std.specs.List.{Contains}
 use Rattle.std.specs.Option.{unwrap_or}
 use Rattle.std.proofs.lemmas.List.{append_assoc}
 use Rattle.sled_codec.specs.History.{History, CutFits}
 use Rattle.sled_codec.specs.Snapshots.{SnapshotModel, stable_place}
-use Rattle.sled_store.specs.Device.{Event, SnapshotFilled, SnapshotPublished, SnapshotRemoved, NamesSynced, NamesState, Temporary, State, step, at_rest, unnamed, renamed, names_synced}
+use Rattle.sled_store.specs.Device.{Event, SnapshotFilled, SnapshotPublished, SnapshotRemoved, NamesSynced, NamesState, Temporary, State, at_rest, unnamed, renamed, names_synced}
 use Rattle.sled_store.specs.Durable.{IsSettledName}
 use Rattle.sled_store.specs.Script.{Along}
 use Rattle.sled_store.proofs.Crashes.LeavesLemmas.{fill, publish, remove_snapshot}
@@ -14,13 +14,20 @@ use Rattle.sled_store.proofs.Segments.Elements.{in_first, in_rest}
 use Rattle.sled_core.specs.Recoverable.{ActiveFits, NoHeaderOfZeros, AreRecoverableSnapshots, IsRecoverableLog}
 use Rattle.sled_log.specs.Orderly.{IsOrderly}
 use Rattle.sled_log.specs.Recovery.{RecoveryResult, shred_range_of}
-use Rattle.sled_log.specs.WritesBack.{shredding, short_file, snapshot_number_of, removing, publishing_file, publishing, committing, forgetting, writing_back}
+use Rattle.sled_log.specs.WritesBack.{shredding, short_file, snapshot_number_of, removing, publishing_file, publishing, forgetting, writing_back}
 use Rattle.sled_log.proofs.Moments.BlobsAlong.{AreOwn, forgetting_along}
 use Rattle.sled_log.proofs.Moments.LogAlong.{LeavesReadable, NamesBegin, BlobsStand, along_call, parts_readable, shredding_along}
 use Rattle.sled_log.proofs.Moments.Shredded.{IsShredded}
-use Rattle.sled_log.proofs.Moments.SnapshotNames.{IsTableAt, synced_twice, settled_begin, put_begin, published_begin}
+use Rattle.sled_log.proofs.Moments.SnapshotNames.{IsTableAt, settled_begin, put_begin, published_begin}
 use Rattle.sled_log.proofs.Moments.UnreadSlots.{AreFree, StopsAtCut, recoverable_at}
 use Rattle.sled_log.proofs.SnapshotFile.PublishLemmas.{IsPublished, published_synced, published_removed}
+
+-- What is to be written back goes with a log file, with its cut, and with the snapshot that recovery began from.
+pub record IsConcluded (sum : List ℕ → ℕ) (size : ℕ) (H : History) (first : SnapshotModel) (cut : ℕ × Option ℕ) (log : List ℕ) (x : RecoveryResult) : Type 0 where
+  pub shred_range : x.shred_range ≡ shred_range_of size cut.0 cut.1
+  pub made : x.is_new ≡ true → IsTableAt size H cut.0 x.model
+  pub kept : x.is_new ≡ false → stable_place first.stable ≡ cut.0
+  pub unread : AreFree sum size log cut.0 x.unread
 
 module _ (sum : List ℕ → ℕ) (size : ℕ) (H : History) (A f : ℕ) (orderly : IsOrderly H) (cut : ℕ × Option ℕ) (some : 256 ≤ size) (fits : CutFits H cut.0) (none : NoHeaderOfZeros sum)
     (blobs : NamesState) (own : AreOwn sum blobs) (stand : BlobsStand sum H cut.0 blobs) (firm : names_synced blobs ≡ blobs) where
@@ -65,25 +72,19 @@ module _ (sum : List ℕ → ℕ) (size : ℕ) (H : History) (A f : ℕ) (orderl
           → Along P (publishing_file bytes (pos cut.0) ++ (removing ns ++ es)) (device names temporary log placed)
       publishing_along es ns temporary placed apart rest =
           along_call sum size H A f (SnapshotFilled bytes bytes) (SnapshotPublished (pos cut.0) true ∷ NamesSynced ∷ (removing ns ++ es)) (device names temporary log placed) (fill bytes)
-          (along_call sum size H A f (SnapshotPublished (pos cut.0) true) (NamesSynced ∷ (removing ns ++ es)) (device names filled log placed) (publish (pos cut.0))
-          (parts_readable sum size H A f orderly cut Old (device named filled log placed)
-          (λ left leaves own_left t active old. subst (λ (l : List ℕ). IsRecoverableLog sum size l H A t cut) (sym (at_rest_left log left leaves)) (under t active old))
-          (put_begin sum size H f cut.0 s new names.file first tables not_above names refl settled) stand,
-          λ torn tears. absurd tears,
-          subst (λ (b : NamesState). Along P (removing ns ++ es) (record { log = at_rest log; blobs = b; snapshots = names_synced named; temporary = filled; placed = placed })) (sym firm)
-          (removals_along es ns (names_synced named) placed apart (published_synced names (pos cut.0) bytes settled)
-          (λ last is. rest last (published_begin sum size H f cut.0 s new names.file first tables not_above last is)))))
-
-    -- What recovery concludes.
-    pub record IsConcluded (log : List ℕ) (x : RecoveryResult) : Type 0 where
-      pub shred_range : x.shred_range ≡ shred_range_of size cut.0 cut.1
-      pub made : x.is_new ≡ true → IsTableAt size H cut.0 x.model
-      pub kept : x.is_new ≡ false → stable_place first.stable ≡ cut.0
-      pub unread : AreFree sum size log cut.0 x.unread
+          (along_call sum size H A f (SnapshotPublished (pos cut.0) true) (NamesSynced ∷ (removing ns ++ es)) (device names filled log placed) (publish (pos cut.0)) (
+            parts_readable sum size H A f orderly cut Old (device named filled log placed)
+                (λ left leaves own_left t active old. subst (λ (l : List ℕ). IsRecoverableLog sum size l H A t cut) (sym (at_rest_left log left leaves)) (under t active old))
+                (put_begin sum size H f cut.0 s new names.file first tables not_above names refl settled) stand,
+            λ torn tears. absurd tears,
+            subst (λ (b : NamesState). Along P (removing ns ++ es) (record { log = at_rest log; blobs = b; snapshots = names_synced named; temporary = filled; placed = placed })) (sym firm)
+                (removals_along es ns (names_synced named) placed apart (published_synced names (pos cut.0) bytes settled)
+                (λ last is. rest last (published_begin sum size H f cut.0 s new names.file first tables not_above last is))),
+          ))
 
     -- All calls that write it back.
-    pub writing_along : (log : List ℕ) (is : IsRecoverableLog sum size log H A first cut) (x : RecoveryResult) → IsConcluded log x → (temporary : Temporary) (placed : List (ℕ × List ℕ))
-        → (ns : List ℤ) → ((n : ℤ) → Contains ns n → n ≢ pos cut.0) → (places : List ℤ) → ((p : ℤ) → Contains places p → pos cut.0 ≤ℤ p)
+    pub writing_along : (log : List ℕ) (is : IsRecoverableLog sum size log H A first cut) (x : RecoveryResult) → IsConcluded sum size H first cut log x → (temporary : Temporary) (placed : List (ℕ × List ℕ))
+        → (ns : List ℤ) → (x.is_new ≡ true → (n : ℤ) → Contains ns n → n ≢ pos cut.0) → (places : List ℤ) → ((p : ℤ) → Contains places p → pos cut.0 ≤ℤ p)
         → Along P (writing_back sum size x ns places) (device names temporary log placed)
     writing_along log is x concluded temporary placed ns apart places above =
         subst (λ (es : List Event). Along P es (device names temporary log placed)) (sym (append_assoc (shredding x.shred_range) (if x.is_new then publishing sum x.model ns else []) forget))
@@ -107,4 +108,4 @@ module _ (sum : List ℕ → ℕ) (size : ℕ) (H : History) (A f : ℕ) (orderl
             let table = concluded.made is_new in
             let number : snapshot_number_of x.model ≡ pos cut.0 = ap (λ (o : Option ℤ). unwrap_or o (pos 0)) table.stable in
             subst (λ (k : ℤ). Along P (publishing_file (short_file sum x.model) k ++ (removing ns ++ forget)) (device names temporary new all)) (sym number)
-            (publishing_along x.model table is.not_below new shredded.same_cut shredded.stops forget ns temporary all apart (λ last begin. forgets new all shredded last _ begin))
+            (publishing_along x.model table is.not_below new shredded.same_cut shredded.stops forget ns temporary all (apart is_new) (λ last begin. forgets new all shredded last _ begin))
