@@ -17,7 +17,7 @@ use Rattle.sled_store.proofs.Segments.Elements.{in_first, in_rest}
 use Rattle.sled_core.specs.Recoverable.{NoHeaderOfZeros, LiesInSegment}
 use Rattle.sled_log.specs.Orderly.{IsOrderly}
 use Rattle.sled_log.specs.WritesBack.{after_zeroing, forgetting}
-use Rattle.sled_log.proofs.Moments.BlobsRemoved.{AreRemovedFrom, blobs_removed}
+use Rattle.sled_log.proofs.Moments.BlobsRemoved.{IsAbove, AreRemovedFrom, blobs_removed}
 use Rattle.sled_log.proofs.Moments.LogAlong.{LeavesReadable, NamesBegin, BlobsStand, along_call, stops_readable, zeroing_along}
 use Rattle.sled_log.proofs.Moments.UnreadSlots.{AreFree, StopsAtCut, all_zeroed}
 
@@ -89,16 +89,16 @@ module _ (sum : List ℕ → ℕ) where
         by n bytes is (inl was) there = elim (own_left.own n bytes there is) [ inl settled ↦ inl (knows.settled n ∙ settled) | inr asked ↦ inr (asked_before n bytes asked) ]
         by n bytes is (inr is_gone) there = own.own n bytes there is
 
-      removed_from : (cut : ℕ) → pos cut ≤ℤ p → AreRemovedFrom cut before left
+      removed_from : (cut : ℕ) → IsAbove cut p → AreRemovedFrom cut before left
       unfolding file_at
       removed_from cut above n = by (after_unnamed blobs p true n (left n) (leaves n)) where
-        by : (c : MayBeGone n) → (left n ≡ file_at n c) ⊎ ((pos cut ≤ℤ n) × (left n ≡ None))
+        by : (c : MayBeGone n) → (left n ≡ file_at n c) ⊎ (IsAbove cut n × (left n ≡ None))
         by (inl was) = inl refl
-        by (inr is_gone) = inr (subst (λ (m : ℤ). pos cut ≤ℤ m) ((Decides-int_eq p n).0 is_gone.0) above, is_gone.1)
+        by (inr is_gone) = inr (subst (IsAbove cut) ((Decides-int_eq p n).0 is_gone.0) above, is_gone.1)
 
 module _ (sum : List ℕ → ℕ) (size : ℕ) (H : History) (A f : ℕ) (orderly : IsOrderly H) (cut : ℕ × Option ℕ) where
   -- The blobs that a recovery needs stay.
-  stand_gone : (blobs : NamesState) (p : ℤ) → NamesKnow blobs (unnamed blobs p true) → pos cut.0 ≤ℤ p → ((m : Message) → Contains H.messages m → m.place < cut.0 → LiesInSegment size m) → AreOwn sum blobs
+  stand_gone : (blobs : NamesState) (p : ℤ) → NamesKnow blobs (unnamed blobs p true) → IsAbove cut.0 p → ((m : Message) → Contains H.messages m → m.place < cut.0 → LiesInSegment size m) → AreOwn sum blobs
       → BlobsStand sum H cut.0 blobs → BlobsStand sum H cut.0 (unnamed blobs p true)
   stand_gone blobs p knows above placed own stand left leaves own_left =
       blobs_removed sum (before sum blobs p knows left leaves) left cut.0 (removed_from sum blobs p knows left leaves cut.0 above) size H placed
@@ -108,7 +108,7 @@ module _ (sum : List ℕ → ℕ) (size : ℕ) (H : History) (A f : ℕ) (orderl
     abbrev device : NamesState → List ℕ → List (ℕ × List ℕ) → State
     device blobs log placed = record { log = at_rest log; blobs = blobs; snapshots = names; temporary = temporary; placed = placed }
 
-    pub removing_along : (places : List ℤ) → ((p : ℤ) → Contains places p → pos cut.0 ≤ℤ p) → (blobs : NamesState) → AreOwn sum blobs → BlobsStand sum H cut.0 blobs
+    pub removing_along : (places : List ℤ) → ((p : ℤ) → Contains places p → IsAbove cut.0 p) → (blobs : NamesState) → AreOwn sum blobs → BlobsStand sum H cut.0 blobs
         → (log : List ℕ) (placed : List (ℕ × List ℕ)) → StopsAtCut sum size log some H A cut → Along (LeavesReadable sum size H A f) (removing_blobs places) (device blobs log placed)
     removing_along [] above blobs own stand log placed stops = stops_readable sum size H A f orderly cut blobs names temporary stand some fits none begin log placed stops
     removing_along (p ∷ ps) above blobs own stand log placed stops =
@@ -119,7 +119,7 @@ module _ (sum : List ℕ → ℕ) (size : ℕ) (H : History) (A f : ℕ) (orderl
 
     -- All that is taken away.
     pub forgetting_along : (blobs : NamesState) → AreOwn sum blobs → BlobsStand sum H cut.0 blobs → (unread log : List ℕ) (placed : List (ℕ × List ℕ)) → AreFree sum size log cut.0 unread → StopsAtCut sum size log some H A cut
-        → (places : List ℤ) → ((p : ℤ) → Contains places p → pos cut.0 ≤ℤ p) → Along (LeavesReadable sum size H A f) (forgetting size unread places) (device blobs log placed)
+        → (places : List ℤ) → ((p : ℤ) → Contains places p → IsAbove cut.0 p) → Along (LeavesReadable sum size H A f) (forgetting size unread places) (device blobs log placed)
     forgetting_along blobs own stand unread log placed are_free stops places above =
         zeroing_along sum size H A f orderly cut blobs names temporary stand some fits none begin unread log placed are_free stops (removing_blobs places)
         (λ all. removing_along places above blobs own stand (after_zeroing size unread (at_rest log)).bytes all (all_zeroed sum size some H A cut none unread log are_free stops))

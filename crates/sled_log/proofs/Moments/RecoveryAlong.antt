@@ -17,6 +17,7 @@ use Rattle.sled_log.specs.Orderly.{CanRead}
 use Rattle.sled_log.specs.Recovery.{RecoveryResult, shred_range_of}
 use Rattle.sled_log.specs.WritesBack.{writing_back, FitsIfNew}
 use Rattle.sled_log.proofs.Moments.BlobsAlong.{AreOwn}
+use Rattle.sled_log.proofs.Moments.BlobsRemoved.{IsAbove}
 use Rattle.sled_log.proofs.Moments.LogAlong.{LeavesReadable, BlobsStand}
 use Rattle.sled_log.proofs.Moments.SnapshotNames.{IsTableAt, synced_twice}
 use Rattle.sled_log.proofs.Moments.UnreadSlots.{free_left}
@@ -93,7 +94,7 @@ module _ (sum : List ℕ → ℕ) (size : ℕ) (H : History) (A f : ℕ) (some :
 
   module _ (can : CanRead sum size (content_of (state_of old)) H A f) (x : RecoveryResult) (well : RecoversWell sum size (content_of (state_of old)) H A f some can.orderly can.first can.cut can.snapshots can.log can.blobs x)
       (ends : IsKept sum size (content_of (state_of old)) H A f some can.orderly can.first can.cut can.snapshots can.log can.blobs x → can.cut.1 ≡ None) (fits : FitsIfNew x) where
-    pub recovery_along : (ns : List ℤ) → (x.is_new ≡ true → (n : ℤ) → Contains ns n → n ≢ pos can.cut.0) → (places : List ℤ) → ((p : ℤ) → Contains places p → pos can.cut.0 ≤ℤ p)
+    pub recovery_along : (ns : List ℤ) → (x.is_new ≡ true → (n : ℤ) → Contains ns n → n ≢ pos can.cut.0) → (places : List ℤ) → ((p : ℤ) → Contains places p → IsAbove can.cut.0 p)
         → Along (LeavesReadable sum size H A f) (Synced ∷ NamesSynced ∷ writing_back sum size x ns places) (state_of old)
     recovery_along ns apart places above = (
       kept,

@@ -16,6 +16,7 @@ use Rattle.sled_log.specs.Orderly.{IsOrderly}
 use Rattle.sled_log.specs.Recovery.{RecoveryResult, shred_range_of}
 use Rattle.sled_log.specs.WritesBack.{shredding, short_file, snapshot_number_of, removing, publishing_file, publishing, forgetting, writing_back}
 use Rattle.sled_log.proofs.Moments.BlobsAlong.{AreOwn, forgetting_along}
+use Rattle.sled_log.proofs.Moments.BlobsRemoved.{IsAbove}
 use Rattle.sled_log.proofs.Moments.LogAlong.{LeavesReadable, NamesBegin, BlobsStand, along_call, parts_readable, shredding_along}
 use Rattle.sled_log.proofs.Moments.Shredded.{IsShredded}
 use Rattle.sled_log.proofs.Moments.SnapshotNames.{IsTableAt, settled_begin, put_begin, published_begin}
@@ -84,7 +85,7 @@ module _ (sum : List ℕ → ℕ) (size : ℕ) (H : History) (A f : ℕ) (orderl
 
     -- All calls that write it back.
     pub writing_along : (log : List ℕ) (is : IsRecoverableLog sum size log H A first cut) (x : RecoveryResult) → IsConcluded sum size H first cut log x → (temporary : Temporary) (placed : List (ℕ × List ℕ))
-        → (ns : List ℤ) → (x.is_new ≡ true → (n : ℤ) → Contains ns n → n ≢ pos cut.0) → (places : List ℤ) → ((p : ℤ) → Contains places p → pos cut.0 ≤ℤ p)
+        → (ns : List ℤ) → (x.is_new ≡ true → (n : ℤ) → Contains ns n → n ≢ pos cut.0) → (places : List ℤ) → ((p : ℤ) → Contains places p → IsAbove cut.0 p)
         → Along P (writing_back sum size x ns places) (device names temporary log placed)
     writing_along log is x concluded temporary placed ns apart places above =
         subst (λ (es : List Event). Along P es (device names temporary log placed)) (sym (append_assoc (shredding x.shred_range) (if x.is_new then publishing sum x.model ns else []) forget))
