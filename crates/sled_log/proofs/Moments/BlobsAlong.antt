@@ -1,5 +1,5 @@
 -- What a crash leaves at each moment of the removal of blobs that lie at or above the cut can be read back; and so at each moment of all that a recovery takes away: the slots that it did not read, and then those blobs.
-use Rattle.std.proofs.Common.{◌≡◌, ◌⊎◌, ◌∙◌, ◌≤◌, ◌<◌, ◌≤ℤ◌, ◌++◌, ℕ, ℤ, pos, Bool, true, false, is_some, if◌then◌else◌, List, [], ◌∷◌, Option, Some, None, refl, subst, inl, inr}
+use Rattle.std.proofs.Common.{◌≡◌, ◌⊎◌, ◌∙◌, ◌≤◌, ◌<◌, ◌++◌, ℕ, ℤ, Bool, true, false, is_some, if◌then◌else◌, List, [], ◌∷◌, Option, Some, None, refl, subst, inl, inr}
 use Rattle.std.specs.List.{Contains}
 use Rattle.std.specs.Ordering.{int_eq}
 use Rattle.std.proofs.lemmas.Bool.Decides.{Decides-int_eq}

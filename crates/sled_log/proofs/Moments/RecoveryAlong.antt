@@ -1,29 +1,35 @@
 -- A whole recovery over any number of segments: what a crash leaves at each moment of it can be read back, from the first sync to the last blob that is removed.
-use Rattle.std.proofs.Common.{◌≡◌, ◌≢◌, ◌∙◌, ◌≤◌, ◌≤ℤ◌, ℕ, ℤ, pos, Bool, true, false, List, [], ◌∷◌, Option, Some, None, refl, sym, ap, subst, arith, inl, inr}
+use Rattle.std.proofs.Common.{◌≡◌, ◌≢◌, ◌∙◌, ◌≤◌, ◌≤ℤ◌, ◌-ℤ◌, ◌^◌, ◌++◌, ℕ, ℤ, pos, negsuc, Bool, true, false, List, [], ◌∷◌, Option, Some, None, refl, sym, ap, subst, arith, inl, inr}
 use Rattle.std.specs.List.{Contains}
+use Rattle.std.specs.Option.{unwrap_or}
 use Rattle.sled_codec.specs.History.{History, CutFits}
 use Rattle.sled_codec.specs.PageTables.{IsTable}
 use Rattle.sled_codec.specs.Snapshots.{SnapshotModel, stable_place}
-use Rattle.sled_store.specs.Device.{Synced, NamesSynced, NamesState, Content, Trace, state_of, content_of, step, names_synced, settled_file}
+use Rattle.sled_store.specs.Device.{Event, State, Synced, NamesSynced, NamesState, Content, Trace, state_of, content_of, step, names_synced, settled_file}
 use Rattle.sled_store.specs.Durable.{IsSettledName}
+use Rattle.sled_store.specs.Blobs.{MayGo}
+use Rattle.sled_store.specs.Moments.{Throughout}
 use Rattle.sled_store.specs.Script.{Along}
 use Rattle.sled_store.specs.Foreign.{NoForeignLog}
 use Rattle.sled_store.proofs.Crashes.SettledLemmas.{before_sync, read_left}
 use Rattle.sled_store.proofs.Crashes.SyncedLemmas.{snapshots_firm}
 use Rattle.sled_store.proofs.LogFile.LogLemmas.{at_rest_left}
 use Rattle.sled_store.proofs.Names.NamesLemmas.{settled_name_left, settled_name_synced}
+use Rattle.sled_store.proofs.Segments.Elements.{in_nothing}
+use Rattle.sled_store.proofs.Traces.ScriptLemmas.{along_first, performs_throughout}
 use Rattle.sled_core.specs.Recoverable.{ActiveFits, NoForeign, AreRecoverableBlobs}
 use Rattle.sled_log.specs.Orderly.{CanRead}
 use Rattle.sled_log.specs.Recovery.{RecoveryResult, shred_range_of}
-use Rattle.sled_log.specs.WritesBack.{writing_back, FitsIfNew}
+use Rattle.sled_log.specs.WritesBack.{shredding, committing, forgetting, forgotten_from, snapshot_number_of, writing_back, FitsIfNew, WritesBehind}
 use Rattle.sled_log.proofs.Moments.BlobsAlong.{AreOwn}
 use Rattle.sled_log.proofs.Moments.BlobsRemoved.{IsAbove}
 use Rattle.sled_log.proofs.Moments.LogAlong.{LeavesReadable, BlobsStand}
 use Rattle.sled_log.proofs.Moments.SnapshotNames.{IsTableAt, synced_twice}
 use Rattle.sled_log.proofs.Moments.UnreadSlots.{free_left}
-use Rattle.sled_log.proofs.Moments.WritingAlong.{IsConcluded, writing_along}
+use Rattle.sled_log.proofs.Moments.WritingAlong.{IsConcluded, writing_along, filling_along}
 use Rattle.sled_log.proofs.Recovers.RecoversGood.{IsKept, RecoversWell}
 use Rattle.sled_log.proofs.WriteBack.AfterRecovery.{not_beyond}
+use Rattle.sled_log.proofs.WriteBack.RecoveryMoments.{removed_apart}
 
 -- Blobs whose bytes are all settled.
 module _ (blobs : NamesState) (firm : (n : ℤ) → blobs.is_unsynced n ≡ false) where
@@ -63,15 +69,30 @@ module _ (sum : List ℕ → ℕ) (size : ℕ) (content : Content) (H : History)
     | inr made ↦ (let high = not_beyond can.first.stable can.cut.0 (sym made.2 ∙ is_old) in let low = can.log.not_below in omega (arith, high, low))
   ]
 
+  -- the rest of the segment of the cut is filled, where that is active
+  pub shreds : (IsKept sum size content H A f some can.orderly can.first can.cut can.snapshots can.log can.blobs x → can.cut.1 ≡ None) → x.shred_range ≡ shred_range_of size can.cut.0 can.cut.1
+  shreds ends = elim well.kind [ inl kept ↦ kept.1 ∙ ap (shred_range_of size can.cut.0) (sym (ends kept)) | inr made ↦ made.1 ]
+
   -- It is as its calls need it. Where the snapshot stays, the cut has to be the end of a segment.
   pub concluded : (IsKept sum size content H A f some can.orderly can.first can.cut can.snapshots can.log can.blobs x → can.cut.1 ≡ None) → FitsIfNew x
       → IsConcluded sum size H can.first can.cut content.log x
   concluded ends fits = record {
-    shred_range = elim well.kind [ inl kept ↦ kept.1 ∙ ap (shred_range_of size can.cut.0) (sym (ends kept)) | inr made ↦ made.1 ];
+    shred_range = shreds ends;
     made = new_table fits;
     kept = same_place;
     unread = free_left sum size content.log some content.blobs H A can.first can.cut can.log can.blobs x.unread well.unread;
   }
+
+-- along a list of calls it holds along those that it begins with
+along_begun : (Q : State → Type 0) (es fs : List Event) (s : State) → Along Q (es ++ fs) s → Along Q es s
+along_begun Q [] fs s along = along_first Q fs s along
+along_begun Q (e ∷ es) fs s along = (along.0, along.1, along_begun Q es fs (step e s) along.2)
+
+-- a place that isn't below the one from which on no blob is kept lies at or above the cut
+forgotten_above : (stable : Option ℤ) (cut : ℕ) → stable_place stable ≡ cut → (p : ℤ) → unwrap_or stable (pos 0 -ℤ pos (2 ^ 63)) ≤ℤ p → IsAbove cut p
+forgotten_above None cut place p low = inr (sym place)
+forgotten_above (Some (pos k)) cut place p low = inl (subst (λ n. pos n ≤ℤ p) place low)
+forgotten_above (Some (negsuc k)) cut place p low = inr (sym place)
 
 -- The calls, from the first sync on.
 module _ (sum : List ℕ → ℕ) (size : ℕ) (H : History) (A f : ℕ) (some : 256 ≤ size) (old : Trace) (kept : LeavesReadable sum size H A f (state_of old)) (own : NoForeign sum size (state_of old) (content_of (state_of old)))
@@ -93,10 +114,10 @@ module _ (sum : List ℕ → ℕ) (size : ℕ) (H : History) (A f : ℕ) (some :
   settled_names n = settled_name_synced (state_of old).snapshots n (snapshots_firm old n)
 
   module _ (can : CanRead sum size (content_of (state_of old)) H A f) (x : RecoveryResult) (well : RecoversWell sum size (content_of (state_of old)) H A f some can.orderly can.first can.cut can.snapshots can.log can.blobs x)
-      (ends : IsKept sum size (content_of (state_of old)) H A f some can.orderly can.first can.cut can.snapshots can.log can.blobs x → can.cut.1 ≡ None) (fits : FitsIfNew x) where
-    pub recovery_along : (ns : List ℤ) → (x.is_new ≡ true → (n : ℤ) → Contains ns n → n ≢ pos can.cut.0) → (places : List ℤ) → ((p : ℤ) → Contains places p → IsAbove can.cut.0 p)
+      (ends : IsKept sum size (content_of (state_of old)) H A f some can.orderly can.first can.cut can.snapshots can.log can.blobs x → can.cut.1 ≡ None) where
+    pub recovery_along : FitsIfNew x → (ns : List ℤ) → (x.is_new ≡ true → (n : ℤ) → Contains ns n → n ≢ pos can.cut.0) → (places : List ℤ) → ((p : ℤ) → Contains places p → IsAbove can.cut.0 p)
         → Along (LeavesReadable sum size H A f) (Synced ∷ NamesSynced ∷ writing_back sum size x ns places) (state_of old)
-    recovery_along ns apart places above = (
+    recovery_along fits ns apart places above = (
       kept,
       λ torn tears. absurd tears,
       (
@@ -108,3 +129,39 @@ module _ (sum : List ℕ → ℕ) (size : ℕ) (H : History) (A f : ℕ) (some :
             (state_of old).temporary (state_of old).placed ns apart places above,
       ),
     )
+
+    -- where a table has no spelling
+    begun_along : Along (LeavesReadable sum size H A f) (Synced ∷ NamesSynced ∷ shredding x.shred_range) (state_of old)
+    begun_along = (
+      kept,
+      λ torn tears. absurd tears,
+      (
+        synced_readable,
+        λ torn tears. absurd tears,
+        subst (λ (r : Option (ℕ × ℕ)). Along (LeavesReadable sum size H A f) (shredding r) (step NamesSynced (step Synced (state_of old))))
+            (sym (shreds sum size (content_of (state_of old)) H A f some can x well ends))
+            (filling_along sum size H A f can.orderly can.cut some (cut_fits sum size (content_of (state_of old)) H A f some can x well) own.zeros
+            (names_synced (state_of old).blobs) (own_settled (state_of old).blobs firm sum) (stand_settled (state_of old).blobs firm sum H can.cut.0 can.blobs) (synced_twice (state_of old).blobs)
+            (names_synced (state_of old).snapshots) settled_names can.first can.snapshots (state_of old).log.bytes can.log (state_of old).temporary (state_of old).placed),
+      ),
+    )
+
+    apart_others : FitsIfNew x → (ns : List ℤ) → ((n : ℤ) → Contains ns n → n ≢ snapshot_number_of x.model) → x.is_new ≡ true → (n : ℤ) → Contains ns n → n ≢ pos can.cut.0
+    apart_others fits ns apart is_new n there =
+        let table = new_table sum size (content_of (state_of old)) H A f some can x well fits is_new in
+        subst (λ (k : ℤ). n ≢ k) (ap (λ (o : Option ℤ). unwrap_or o (pos 0)) table.stable) (apart n there)
+
+    all_above : (places : List ℤ) → MayGo (state_of old).blobs.file (forgotten_from x.model) places → (p : ℤ) → Contains places p → IsAbove can.cut.0 p
+    all_above places (inl none) p there = absurd (in_nothing p (subst (λ (l : List ℤ). Contains l p) none there))
+    all_above places (inr are) p there = forgotten_above x.model.stable can.cut.0 well.place p ((are.each p).0 there).1
+
+    -- As many of the calls as were made kept it at each moment.
+    pub behind_throughout : (new : Trace) → WritesBehind (Synced ∷ NamesSynced ∷ []) sum size x old new → Throughout (LeavesReadable sum size H A f) old new
+    behind_throughout new (inl (inl calls)) = performs_throughout (LeavesReadable sum size H A f) (Synced ∷ NamesSynced ∷ shredding x.shred_range) old new calls begun_along
+    behind_throughout new (inl (inr (fits, ns, may, calls))) =
+        let apart = apart_others fits ns (removed_apart (state_of old).snapshots.file (snapshot_number_of x.model) ns may) in
+        performs_throughout (LeavesReadable sum size H A f) (Synced ∷ NamesSynced ∷ committing sum x ns) old new calls
+        (along_begun (LeavesReadable sum size H A f) (Synced ∷ NamesSynced ∷ committing sum x ns) (forgetting size x.unread []) (state_of old) (recovery_along fits ns apart [] (λ p there. absurd (in_nothing p there))))
+    behind_throughout new (inr (fits, ns, are, places, may, calls)) =
+        performs_throughout (LeavesReadable sum size H A f) (Synced ∷ NamesSynced ∷ writing_back sum size x ns places) old new calls
+        (recovery_along fits ns (λ is_new. apart_others fits ns (λ n there. (((are is_new).each n).0 there).1) is_new) places (all_above places may))

@@ -1,8 +1,8 @@
 -- What a crash leaves at each moment of the calls that write a recovery back can be read back, over any number of segments: the rest of the segment of the cut is filled, a table that is new is published and the other snapshots are removed, the slots that were not read are filled, and blobs at or above the cut are removed.
-use Rattle.std.proofs.Common.{◌≡◌, ◌≢◌, ◌⊎◌, ◌≤◌, ◌≤ℤ◌, ◌++◌, if◌then◌else◌, ℕ, ℤ, pos, Bool, true, false, List, [], ◌∷◌, Option, Some, refl, sym, ap, subst, inl, inr}
+use Rattle.std.proofs.Common.{◌≡◌, ◌≢◌, ◌⊎◌, ◌≤◌, ◌++◌, if◌then◌else◌, ℕ, ℤ, pos, Bool, true, false, List, [], ◌∷◌, Option, Some, refl, sym, ap, subst, inl, inr}
 use Rattle.std.specs.List.{Contains}
 use Rattle.std.specs.Option.{unwrap_or}
-use Rattle.std.proofs.lemmas.List.{append_assoc}
+use Rattle.std.proofs.lemmas.List.{append-nil, append_assoc}
 use Rattle.sled_codec.specs.History.{History, CutFits}
 use Rattle.sled_codec.specs.Snapshots.{SnapshotModel, stable_place}
 use Rattle.sled_store.specs.Device.{Event, SnapshotFilled, SnapshotPublished, SnapshotRemoved, NamesSynced, NamesState, Temporary, State, at_rest, unnamed, renamed, names_synced}
@@ -110,3 +110,17 @@ module _ (sum : List ℕ → ℕ) (size : ℕ) (H : History) (A f : ℕ) (orderl
             let number : snapshot_number_of x.model ≡ pos cut.0 = ap (λ (o : Option ℤ). unwrap_or o (pos 0)) table.stable in
             subst (λ (k : ℤ). Along P (publishing_file (short_file sum x.model) k ++ (removing ns ++ forget)) (device names temporary new all)) (sym number)
             (publishing_along x.model table is.not_below new shredded.same_cut shredded.stops forget ns temporary all (apart is_new) (λ last begin. forgets new all shredded last _ begin))
+
+    -- Nothing was written.
+    pub settled_readable : (log : List ℕ) → IsRecoverableLog sum size log H A first cut → (temporary : Temporary) (placed : List (ℕ × List ℕ)) → P (device names temporary log placed)
+    settled_readable log is temporary placed =
+        parts_readable sum size H A f orderly cut (λ t. t ≡ first) (device names temporary log placed)
+        (λ left leaves own_left t active same. subst (λ (l : List ℕ). IsRecoverableLog sum size l H A t cut) (sym (at_rest_left log left leaves)) (subst (λ (u : SnapshotModel). IsRecoverableLog sum size log H A u cut) (sym same) is))
+        (settled_begin sum size H f (λ t. t ≡ first) names settled first tables refl) stand
+
+    -- The rest of the segment of the cut is filled, and that is all.
+    pub filling_along : (log : List ℕ) → IsRecoverableLog sum size log H A first cut → (temporary : Temporary) (placed : List (ℕ × List ℕ)) → Along P (shredding (shred_range_of size cut.0 cut.1)) (device names temporary log placed)
+    filling_along log is temporary placed =
+        subst (λ (es : List Event). Along P es (device names temporary log placed)) (append-nil (shredding (shred_range_of size cut.0 cut.1)))
+        (shredding_along sum size H A f orderly cut blobs names temporary stand some fits none first (settled_begin sum size H f (λ t. t ≡ first) names settled first tables refl) log is tables.active placed []
+        (λ new all shredded. settled_readable new shredded.same_cut temporary all))
