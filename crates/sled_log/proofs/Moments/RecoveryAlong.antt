@@ -17,17 +17,18 @@ use Rattle.sled_store.proofs.LogFile.LogLemmas.{at_rest_left}
 use Rattle.sled_store.proofs.Names.NamesLemmas.{settled_name_left, settled_name_synced}
 use Rattle.sled_store.proofs.Segments.Elements.{in_nothing}
 use Rattle.sled_store.proofs.Traces.ScriptLemmas.{along_first, performs_throughout}
-use Rattle.sled_core.specs.Recoverable.{ActiveFits, NoForeign, AreRecoverableBlobs}
+use Rattle.sled_core.specs.Recoverable.{ActiveFits, NoForeign, AreRecoverableBlobs, IsRecoverableLog}
 use Rattle.sled_log.specs.Orderly.{CanRead}
-use Rattle.sled_log.specs.Recovery.{RecoveryResult, shred_range_of}
+use Rattle.sled_log.specs.Recovery.{RecoveryResult, Recovered, Recovers, shred_range_of}
+use Rattle.sled_log.specs.Restores.{RecoveryCalls}
 use Rattle.sled_log.specs.WritesBack.{shredding, committing, forgetting, forgotten_from, snapshot_number_of, writing_back, FitsIfNew, WritesBehind}
 use Rattle.sled_log.proofs.Moments.BlobsAlong.{AreOwn}
 use Rattle.sled_log.proofs.Moments.BlobsRemoved.{IsAbove}
-use Rattle.sled_log.proofs.Moments.LogAlong.{LeavesReadable, BlobsStand}
-use Rattle.sled_log.proofs.Moments.SnapshotNames.{IsTableAt, synced_twice}
+use Rattle.sled_log.proofs.Moments.LogAlong.{LeavesReadable, BlobsStand, parts_readable}
+use Rattle.sled_log.proofs.Moments.SnapshotNames.{IsTableAt, synced_twice, settled_begin}
 use Rattle.sled_log.proofs.Moments.UnreadSlots.{free_left}
 use Rattle.sled_log.proofs.Moments.WritingAlong.{IsConcluded, writing_along, filling_along}
-use Rattle.sled_log.proofs.Recovers.RecoversGood.{IsKept, RecoversWell}
+use Rattle.sled_log.proofs.Recovers.RecoversGood.{IsKept, RecoversWell, recovers_well, one_result}
 use Rattle.sled_log.proofs.WriteBack.AfterRecovery.{not_beyond}
 use Rattle.sled_log.proofs.WriteBack.RecoveryMoments.{removed_apart}
 
@@ -165,3 +166,30 @@ module _ (sum : List ℕ → ℕ) (size : ℕ) (H : History) (A f : ℕ) (some :
     behind_throughout new (inr (fits, ns, are, places, may, calls)) =
         performs_throughout (LeavesReadable sum size H A f) (Synced ∷ NamesSynced ∷ writing_back sum size x ns places) old new calls
         (recovery_along fits ns (λ is_new. apart_others fits ns (λ n there. (((are is_new).each n).0 there).1) is_new) places (all_above places may))
+
+  abbrev can : CanRead sum size (content_of (state_of old)) H A f
+  can = can_read
+
+  -- nothing was written
+  settling_along : Along (LeavesReadable sum size H A f) (Synced ∷ NamesSynced ∷ []) (state_of old)
+  settling_along = (
+    kept,
+    λ torn tears. absurd tears,
+    (
+      synced_readable,
+      λ torn tears. absurd tears,
+      parts_readable sum size H A f can.orderly can.cut (λ t. t ≡ can.first) (step NamesSynced (step Synced (state_of old)))
+          (λ left leaves own_left t active same.
+          subst (λ (l : List ℕ). IsRecoverableLog sum size l H A t can.cut) (sym (at_rest_left (state_of old).log.bytes left leaves)) (subst (λ (u : SnapshotModel). IsRecoverableLog sum size (state_of old).log.bytes H A u can.cut) (sym same) can.log))
+          (settled_begin sum size H f (λ t. t ≡ can.first) (names_synced (state_of old).snapshots) settled_names can.first can.snapshots refl) (stand_settled (state_of old).blobs firm sum H can.cut.0 can.blobs),
+    ),
+  )
+
+  -- A recovery kept at each moment that what a crash leaves can be read back. (Where the snapshot stays, the cut is the end of a segment.)
+  pub recovery_throughout : ((x : RecoveryResult) → Recovers sum size (content_of (state_of old)) (Recovered x) → IsKept sum size (content_of (state_of old)) H A f some can.orderly can.first can.cut can.snapshots can.log can.blobs x → can.cut.1 ≡ None)
+      → (new : Trace) → RecoveryCalls sum size old new → Throughout (LeavesReadable sum size H A f) old new
+  recovery_throughout ends new (inl settling) = performs_throughout (LeavesReadable sum size H A f) (Synced ∷ NamesSynced ∷ []) old new settling settling_along
+  recovery_throughout ends new (inr (x, recovers, behind)) =
+      let came = recovers_well sum size (content_of (state_of old)) H A f some can.orderly can.first can.cut can.snapshots can.log can.blobs (Recovered x) recovers in
+      let well = subst (RecoversWell sum size (content_of (state_of old)) H A f some can.orderly can.first can.cut can.snapshots can.log can.blobs) (sym (one_result x came.0 came.1)) came.2 in
+      behind_throughout can x well (ends x recovers) new behind
