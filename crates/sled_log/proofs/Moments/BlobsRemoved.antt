@@ -9,9 +9,13 @@ use Rattle.sled_store.proofs.Segments.TableEntries.{from_table}
 use Rattle.sled_core.specs.Good.{HasOwnBlob}
 use Rattle.sled_core.specs.Recoverable.{BlobIsBelow, LiesInSegment, HasItem, PassesIfThere, AreRecoverableBlobs}
 
+-- a place lies at or above a cut; where that is 0 no message lies below it, so that no place has to
+abbrev pub IsAbove : ℕ → ℤ → Type 0
+IsAbove cut n = (pos cut ≤ℤ n) ⊎ (cut ≡ 0)
+
 -- each blob is as before, or lies at or above a cut and is gone
 abbrev pub AreRemovedFrom : ℕ → (ℤ → Option (List ℕ)) → (ℤ → Option (List ℕ)) → Type 0
-AreRemovedFrom cut blobs left = (n : ℤ) → (left n ≡ blobs n) ⊎ ((pos cut ≤ℤ n) × (left n ≡ None))
+AreRemovedFrom cut blobs left = (n : ℤ) → (left n ≡ blobs n) ⊎ (IsAbove cut n × (left n ≡ None))
 
 not_above : (cut p : ℕ) (place : ℤ) → place ≤ℤ pos p → p < cut → pos cut ≤ℤ place → ⊥
 not_above cut p (pos k) old under above =
@@ -22,7 +26,7 @@ not_above cut p (negsuc k) old under above = above.le
 
 module _ (sum : List ℕ → ℕ) (blobs left : ℤ → Option (List ℕ)) (cut : ℕ) (removed : AreRemovedFrom cut blobs left) where
   stays : (place : ℤ) (p : ℕ) → place ≤ℤ pos p → p < cut → left place ≡ blobs place
-  stays place p old under = ⊎_elim (λ same. same) (λ gone. absurd (not_above cut p place old under gone.0)) (removed place)
+  stays place p old under = ⊎_elim (λ same. same) (λ gone. absurd (⊎_elim (λ above. not_above cut p place old under above) (λ none. omega (arith, none, under)) gone.0)) (removed place)
 
   item_stays : (m : Message) (pointer : DiskPtr) → m.place < cut → BlobIsBelow m pointer → HasItem sum blobs m pointer → HasItem sum left m pointer
   item_stays m (Inline lid) under old item = tt

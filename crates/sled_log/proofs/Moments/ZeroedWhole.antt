@@ -100,7 +100,7 @@ module _ (sum : List ℕ → ℕ) (size : ℕ) (old : List ℕ) (some : 256 ≤ 
 
   -- Headers.
 
-  found_new : (low : ℕ) (s : Segment) → IsFoundSegment sum size new low s → IsFoundSegment sum size old low s
+  pub found_new : (low : ℕ) (s : Segment) → IsFoundSegment sum size new low s → IsFoundSegment sum size old low s
   found_new low s found =
       let there = found_there sum size new low s found in
       let before : s.slot + 20 ≤ length old = elim (cases_eq s.slot slot) [

@@ -128,7 +128,7 @@ result_in : RecoveryResult → Outcome → RecoveryResult
 result_in x Damaged = x
 result_in x (Recovered y) = y
 
-one_result : (x y : RecoveryResult) → Recovered x ≡ Recovered y → x ≡ y
+pub one_result : (x y : RecoveryResult) → Recovered x ≡ Recovered y → x ≡ y
 unfolding result_in
 one_result x y same = ap (result_in x) same
 

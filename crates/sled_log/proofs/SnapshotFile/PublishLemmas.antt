@@ -88,7 +88,7 @@ module _ (N : NamesState) (number : ℤ) (bytes : List ℕ) where
     ];
   }
 
-same_or_other : (n m : ℤ) → (n ≡ m) ⊎ (n ≢ m)
+pub same_or_other : (n m : ℤ) → (n ≡ m) ⊎ (n ≢ m)
 same_or_other n m = by (int_eq n m) refl
   where
     by : (b : Bool) → int_eq n m ≡ b → (n ≡ m) ⊎ (n ≢ m)

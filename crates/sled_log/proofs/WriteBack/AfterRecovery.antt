@@ -28,7 +28,7 @@ pub record IsCutOff (sum : List ℕ → ℕ) (size : ℕ) (H : History) (A cut :
   pub blobs : NoBlobs s.blobs
 
 -- a cut that isn't beyond a place isn't above it
-not_beyond : (stable : Option ℤ) (cut : ℕ) → is_beyond stable cut ≡ false → cut ≤ stable_place stable
+pub not_beyond : (stable : Option ℤ) (cut : ℕ) → is_beyond stable cut ≡ false → cut ≤ stable_place stable
 not_beyond None cut is = absurd (cc)
 not_beyond (Some (negsuc n)) cut is = absurd (cc)
 not_beyond (Some (pos n)) cut is = grind (arith, nat_tests, is)

@@ -78,7 +78,7 @@ none_published sum x is_old ns ms =
     ∙ ap (λ (b : Bool). shredding x.shred_range ++ (if b then publishing sum x.model ms else [])) (sym is_old)
 
 -- what may be removed is not the one that is kept
-removed_apart : (file : ℤ → Option (List ℕ)) (kept : ℤ) (ns : List ℤ) → MayBeRemoved file kept ns → (n : ℤ) → Contains ns n → n ≢ kept
+pub removed_apart : (file : ℤ → Option (List ℕ)) (kept : ℤ) (ns : List ℤ) → MayBeRemoved file kept ns → (n : ℤ) → Contains ns n → n ≢ kept
 removed_apart file kept ns (inl none) n there = let short : length ns ≡ 0 = ap length none in absurd (omega (arith, there.1, short))
 removed_apart file kept ns (inr are) n there = ((are.each n).0 there).1
 
