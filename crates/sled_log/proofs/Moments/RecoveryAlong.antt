@@ -28,7 +28,7 @@ use Rattle.sled_log.proofs.Moments.LogAlong.{LeavesReadable, BlobsStand, parts_r
 use Rattle.sled_log.proofs.Moments.SnapshotNames.{IsTableAt, synced_twice, settled_begin}
 use Rattle.sled_log.proofs.Moments.UnreadSlots.{free_left}
 use Rattle.sled_log.proofs.Moments.WritingAlong.{IsConcluded, writing_along, filling_along}
-use Rattle.sled_log.proofs.Recovers.RecoversGood.{IsKept, RecoversWell, recovers_well, one_result}
+use Rattle.sled_log.proofs.Recovers.RecoversGood.{RecoversWell, recovers_well, one_result}
 use Rattle.sled_log.proofs.WriteBack.AfterRecovery.{not_beyond}
 use Rattle.sled_log.proofs.WriteBack.RecoveryMoments.{removed_apart}
 
@@ -71,14 +71,13 @@ module _ (sum : List ℕ → ℕ) (size : ℕ) (content : Content) (H : History)
   ]
 
   -- the rest of the segment of the cut is filled, where that is active
-  pub shreds : (IsKept sum size content H A f some can.orderly can.first can.cut can.snapshots can.log can.blobs x → can.cut.1 ≡ None) → x.shred_range ≡ shred_range_of size can.cut.0 can.cut.1
-  shreds ends = elim well.kind [ inl kept ↦ kept.1 ∙ ap (shred_range_of size can.cut.0) (sym (ends kept)) | inr made ↦ made.1 ]
+  pub shreds : x.shred_range ≡ shred_range_of size can.cut.0 can.cut.1
+  shreds = elim well.kind [ inl kept ↦ kept.1 ∙ ap (shred_range_of size can.cut.0) (sym kept.3) | inr made ↦ made.1 ]
 
-  -- It is as its calls need it. Where the snapshot stays, the cut has to be the end of a segment.
-  pub concluded : (IsKept sum size content H A f some can.orderly can.first can.cut can.snapshots can.log can.blobs x → can.cut.1 ≡ None) → FitsIfNew x
-      → IsConcluded sum size H can.first can.cut content.log x
-  concluded ends fits = record {
-    shred_range = shreds ends;
+  -- It is as its calls need it.
+  pub concluded : FitsIfNew x → IsConcluded sum size H can.first can.cut content.log x
+  concluded fits = record {
+    shred_range = shreds;
     made = new_table fits;
     kept = same_place;
     unread = free_left sum size content.log some content.blobs H A can.first can.cut can.log can.blobs x.unread well.unread;
@@ -114,8 +113,7 @@ module _ (sum : List ℕ → ℕ) (size : ℕ) (H : History) (A f : ℕ) (some :
   settled_names : (n : ℤ) → IsSettledName (names_synced (state_of old).snapshots) n
   settled_names n = settled_name_synced (state_of old).snapshots n (snapshots_firm old n)
 
-  module _ (can : CanRead sum size (content_of (state_of old)) H A f) (x : RecoveryResult) (well : RecoversWell sum size (content_of (state_of old)) H A f some can.orderly can.first can.cut can.snapshots can.log can.blobs x)
-      (ends : IsKept sum size (content_of (state_of old)) H A f some can.orderly can.first can.cut can.snapshots can.log can.blobs x → can.cut.1 ≡ None) where
+  module _ (can : CanRead sum size (content_of (state_of old)) H A f) (x : RecoveryResult) (well : RecoversWell sum size (content_of (state_of old)) H A f some can.orderly can.first can.cut can.snapshots can.log can.blobs x) where
     pub recovery_along : FitsIfNew x → (ns : List ℤ) → (x.is_new ≡ true → (n : ℤ) → Contains ns n → n ≢ pos can.cut.0) → (places : List ℤ) → ((p : ℤ) → Contains places p → IsAbove can.cut.0 p)
         → Along (LeavesReadable sum size H A f) (Synced ∷ NamesSynced ∷ writing_back sum size x ns places) (state_of old)
     recovery_along fits ns apart places above = (
@@ -126,7 +124,7 @@ module _ (sum : List ℕ → ℕ) (size : ℕ) (H : History) (A f : ℕ) (some :
         λ torn tears. absurd tears,
         writing_along sum size H A f can.orderly can.cut some (cut_fits sum size (content_of (state_of old)) H A f some can x well) own.zeros
             (names_synced (state_of old).blobs) (own_settled (state_of old).blobs firm sum) (stand_settled (state_of old).blobs firm sum H can.cut.0 can.blobs) (synced_twice (state_of old).blobs)
-            (names_synced (state_of old).snapshots) settled_names can.first can.snapshots (state_of old).log.bytes can.log x (concluded sum size (content_of (state_of old)) H A f some can x well ends fits)
+            (names_synced (state_of old).snapshots) settled_names can.first can.snapshots (state_of old).log.bytes can.log x (concluded sum size (content_of (state_of old)) H A f some can x well fits)
             (state_of old).temporary (state_of old).placed ns apart places above,
       ),
     )
@@ -140,7 +138,7 @@ module _ (sum : List ℕ → ℕ) (size : ℕ) (H : History) (A f : ℕ) (some :
         synced_readable,
         λ torn tears. absurd tears,
         subst (λ (r : Option (ℕ × ℕ)). Along (LeavesReadable sum size H A f) (shredding r) (step NamesSynced (step Synced (state_of old))))
-            (sym (shreds sum size (content_of (state_of old)) H A f some can x well ends))
+            (sym (shreds sum size (content_of (state_of old)) H A f some can x well))
             (filling_along sum size H A f can.orderly can.cut some (cut_fits sum size (content_of (state_of old)) H A f some can x well) own.zeros
             (names_synced (state_of old).blobs) (own_settled (state_of old).blobs firm sum) (stand_settled (state_of old).blobs firm sum H can.cut.0 can.blobs) (synced_twice (state_of old).blobs)
             (names_synced (state_of old).snapshots) settled_names can.first can.snapshots (state_of old).log.bytes can.log (state_of old).temporary (state_of old).placed),
@@ -185,11 +183,10 @@ module _ (sum : List ℕ → ℕ) (size : ℕ) (H : History) (A f : ℕ) (some :
     ),
   )
 
-  -- A recovery kept at each moment that what a crash leaves can be read back. (Where the snapshot stays, the cut is the end of a segment.)
-  pub recovery_throughout : ((x : RecoveryResult) → Recovers sum size (content_of (state_of old)) (Recovered x) → IsKept sum size (content_of (state_of old)) H A f some can.orderly can.first can.cut can.snapshots can.log can.blobs x → can.cut.1 ≡ None)
-      → (new : Trace) → RecoveryCalls sum size old new → Throughout (LeavesReadable sum size H A f) old new
-  recovery_throughout ends new (inl settling) = performs_throughout (LeavesReadable sum size H A f) (Synced ∷ NamesSynced ∷ []) old new settling settling_along
-  recovery_throughout ends new (inr (x, recovers, behind)) =
+  -- A recovery kept at each moment that what a crash leaves can be read back.
+  pub recovery_throughout : (new : Trace) → RecoveryCalls sum size old new → Throughout (LeavesReadable sum size H A f) old new
+  recovery_throughout new (inl settling) = performs_throughout (LeavesReadable sum size H A f) (Synced ∷ NamesSynced ∷ []) old new settling settling_along
+  recovery_throughout new (inr (x, recovers, behind)) =
       let came = recovers_well sum size (content_of (state_of old)) H A f some can.orderly can.first can.cut can.snapshots can.log can.blobs (Recovered x) recovers in
       let well = subst (RecoversWell sum size (content_of (state_of old)) H A f some can.orderly can.first can.cut can.snapshots can.log can.blobs) (sym (one_result x came.0 came.1)) came.2 in
-      behind_throughout can x well (ends x recovers) new behind
+      behind_throughout can x well new behind

@@ -14,6 +14,7 @@ use Rattle.sled_core.proofs.Read.FoundLemmas.{found_there}
 use Rattle.sled_core.proofs.Torn.TornLemmas.{after_write}
 use Rattle.sled_log.specs.Recovery.{Scanned, least_place}
 use Rattle.sled_log.specs.WritesBack.{after_zeroing}
+use Rattle.sled_log.proofs.Recovers.ActiveSlot.{no_active}
 use Rattle.sled_log.proofs.Recovers.LeftOut.{LieAbove}
 use Rattle.sled_log.proofs.Moments.FromCut.{EndsAtCut, IsOfCut, from_end, from_inside}
 use Rattle.sled_log.proofs.Moments.UnreadSlot.{unread_end, unread_inside}
@@ -56,11 +57,6 @@ module _ (sum : List ℕ → ℕ) (size : ℕ) (log : List ℕ) (some : 256 ≤ 
   pub record StopsAtCut : Type 0 where
     pub parts : IsOfCut sum size log H A cut
     pub stops : StopsIn parts
-
--- a snapshot whose place is where a segment begins has no active slot
-no_active : (size place : ℕ) (active : Option ℕ) → ActiveFits size place active → place % size ≡ 0 → active ≡ None
-no_active size place None fits aligned = refl
-no_active size place (Some slot) fits aligned = absurd (omega (arith, fits.0, aligned))
 
 module _ (sum : List ℕ → ℕ) (size : ℕ) (old : List ℕ) (some : 256 ≤ size) (H : History) (A : ℕ) (cut : ℕ × Option ℕ) (stops : StopsAtCut sum size old some H A cut) where
   -- Under a snapshot with that place it can be recovered.

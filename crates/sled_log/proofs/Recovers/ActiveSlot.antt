@@ -20,6 +20,11 @@ cut_whole size at = by (is_filled size at) refl where
   by true test = inl refl
   by false test = inr (refl, ltb-false (at.0.place + size) (at.1 + 32) test)
 
+-- a snapshot whose place is where a segment begins has no active slot
+pub no_active : (size place : ℕ) (active : Option ℕ) → ActiveFits size place active → place % size ≡ 0 → active ≡ None
+no_active size place None fits aligned = refl
+no_active size place (Some slot) fits aligned = absurd (omega (arith, fits.0, aligned))
+
 module _ (sum : List ℕ → ℕ) (size : ℕ) (log : List ℕ) (some : 256 ≤ size) (H : History) (A : ℕ) (first : SnapshotModel) (cut : ℕ × Option ℕ) (is : IsRecoverableLog sum size log H A first cut) where
   -- the active slot, if any, has a segment that is found, and the cut lies in that, where a record can begin
   pub record IsActive (place : ℕ) (active : Option ℕ) : Type 0 where
@@ -27,14 +32,13 @@ module _ (sum : List ℕ → ℕ) (size : ℕ) (log : List ℕ) (some : 256 ≤ 
     pub there : (slot : ℕ) → active ≡ Some slot → (s : Segment) × Contains is.ordering s × (s.slot ≡ slot) × (s.place ≡ place / size * size)
 
   -- Where no segment is read the place is the beginning of one, and none is active.
-  pub none_active : ActiveFits size (stable_place first.stable) first.active → tail_end is.tail ≡ None → IsActive (stable_place first.stable) first.active
-  none_active fits none = record { fits = fits; there = λ slot at. absurd (by first.active fits slot at) } where
-    begins : stable_place first.stable % size ≡ 0
-    begins = ap (λ n. n % size) (sym (none_begins sum size log H A first cut is none)) ∙ (put_down size _).1
+  pub none_slot : ActiveFits size (stable_place first.stable) first.active → tail_end is.tail ≡ None → first.active ≡ None
+  none_slot fits none = no_active size (stable_place first.stable) first.active fits (ap (λ n. n % size) (sym (none_begins sum size log H A first cut is none)) ∙ (put_down size _).1)
 
-    by : (active : Option ℕ) → ActiveFits size (stable_place first.stable) active → (slot : ℕ) → active ≡ Some slot → ⊥
-    by None fits slot at = cc
-    by (Some other) fits slot at = omega (arith, fits.0, begins)
+  pub none_active : ActiveFits size (stable_place first.stable) first.active → tail_end is.tail ≡ None → IsActive (stable_place first.stable) first.active
+  none_active fits none = record { fits = fits; there = λ slot at. absurd (no_slot slot (sym (none_slot fits none) ∙ at)) } where
+    no_slot : (slot : ℕ) → None ≡ Some slot → ⊥
+    no_slot slot is = cc
 
   -- A pass over segments that begin below the end of the tail.
   module _ (end : ℕ) (s : Scanned) (ss : List Scanned) (ends : tail_end is.tail ≡ Some end) (below : scanned_below end is.scanned ≡ s ∷ ss) where

@@ -21,7 +21,7 @@ use Rattle.sled_log.proofs.Recovers.PassCut.{cut_is}
 use Rattle.sled_log.proofs.Recovers.PassTable.{applied_all, table_made, pages_fit}
 use Rattle.sled_log.proofs.Recovers.Undamaged.{ComesOf, ReadsNone, left_of, Comes, what_comes}
 use Rattle.sled_log.proofs.Recovers.LeftOut.{LieAbove, tail_empty, none_left, some_left}
-use Rattle.sled_log.proofs.Recovers.ActiveSlot.{IsActive, none_active, some_active}
+use Rattle.sled_log.proofs.Recovers.ActiveSlot.{IsActive, none_slot, none_active, some_active}
 
 -- recovery goes on from the snapshot that it begins from, which isn't damaged
 goes_on : (sum : List ℕ → ℕ) (size : ℕ) (content : Content) (H : History) (f : ℕ) (first : SnapshotModel) → AreRecoverableSnapshots sum size content.snapshots H f first → (o : Outcome) → Recovers sum size content o
@@ -54,9 +54,9 @@ module _ (sum : List ℕ → ℕ) (size : ℕ) (content : Content) (H : History)
         table = subst (IsTable x.pages H) (sym place) made;
       }
 
-  -- What a recovery gives: the snapshot that it began from, or a table with the cut for its place.
+  -- What a recovery gives: the snapshot that it began from, where no slot is active, or a table with the cut for its place.
   abbrev pub IsKept : RecoveryResult → Type 0
-  IsKept x = (x.model ≡ first) × (x.shred_range ≡ None) × (x.is_new ≡ false)
+  IsKept x = (x.model ≡ first) × (x.shred_range ≡ None) × (x.is_new ≡ false) × (cut.1 ≡ None)
 
   abbrev pub IsMade : RecoveryResult → Type 0
   IsMade x = (x.model.stable ≡ Some (pos cut.0)) × (x.shred_range ≡ shred_range_of size cut.0 cut.1) × (x.is_new ≡ is_beyond first.stable cut.0)
@@ -85,7 +85,7 @@ module _ (sum : List ℕ → ℕ) (size : ℕ) (content : Content) (H : History)
           active = ap (λ (c : ℕ × Option ℕ). c.1) (sym at);
           is_active = subst (λ (c : ℕ × Option ℕ). IsActive sum size content.log some H A first cut is c.0 c.1) (sym at) (none_active sum size content.log some H A first cut is snapshots.active (tail_empty sum size content.log some content.blobs H A first cut is are unread none).0);
           good = good_at first place (subst (IsTable first.pages H) place begins.0) (subst (CutFits H) place begins.1);
-          kind = inl (refl, refl, refl);
+          kind = inl (refl, refl, refl, ap (λ (c : ℕ × Option ℕ). c.1) at ∙ none_slot sum size content.log some H A first cut is snapshots.active (tail_empty sum size content.log some content.blobs H A first cut is are unread none).0);
           unread = none_left sum size content.log some content.blobs H A first cut is are unread (sym place) none;
         },
       )
