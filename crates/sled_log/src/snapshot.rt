@@ -15,7 +15,7 @@ ghost use Rattle.sled_core.specs.Recoverable.{RecoverableIfOwn, LeavesRecoverabl
 ghost use Rattle.sled_core.specs.Keeps.{ConfigKept, OnlyReads};
 ghost use Rattle.sled_core.specs.Running.{Ready};
 ghost use Rattle.sled_log.specs.Restores.{ComesOf, RecoveryCalls, Restores};
-ghost use Rattle.sled_log.specs.Orderly.{CanRead, CanRecover};
+ghost use Rattle.sled_log.specs.Orderly.{CanRead, CanReadOn, CanRecover, IsReadWell, ReadableIfOwn};
 ghost use Rattle.sled_log.specs.Recovery.{least_place, IsOrdering, AreScanned, begun_below, Passes, Recovered, Damaged, ContinuesFrom, Recovers};
 ghost use Rattle.sled_log.specs.Passes.{CanBeRead, IsPass, pass_of, AreLookedUp, MeetsBadTail, PassesBehind};
 ghost use Rattle.sled_log.specs.WritesBack.{result_of};
@@ -51,9 +51,9 @@ use sled_store::{Device, RunningConfig};
 ///
 /// Where the snapshots, the log file and the blobs that it reads are recoverable with one cut, for a history, the end of
 /// what was acknowledged and a floor, it meets no damage, and the snapshot is good for what it read, for any number of
-/// segments. Where moreover all of the log lies in the first segment in each content that a crash leaves, these stay
-/// recoverable at each moment, the snapshot is good for what is left, and then all of this holds of what lies below its
-/// place, with that for the floor.
+/// segments; where that is so of each content that a crash leaves, it stays so at each moment. Where moreover all of the
+/// log lies in the first segment in each of these, the snapshot is good for what is left, and then all of this holds of
+/// what lies below its place, with that for the floor.
 ///
 /// # Errors
 ///
@@ -74,10 +74,11 @@ pub fn read_snapshot_or_default<D: Device, C: Checksum>(
     ensures recoverable { let size = config.old.config.segment_size in let old = D.trace config.old.device in
         (H : History) (A f : ℕ) → CanRecover C.sum_of size (state_of old) H A f
         → LeavesOnly (RecoverableIfOwn C.sum_of size H A f) old (D.trace config.new.device) }
-    ensures undamaged { let old = content_of (state_of (D.trace config.old.device)) in
-        (H : History) (A f : ℕ) → CanRead C.sum_of config.old.config.segment_size old H A f → IsCorruption result → ⊥ }
+    ensures readable { let size = config.old.config.segment_size in let old = D.trace config.old.device in
+        (H : History) (A f : ℕ) → CanReadOn C.sum_of size (state_of old) H A f
+        → LeavesOnly (ReadableIfOwn C.sum_of size H A f) old (D.trace config.new.device) }
     ensures read { let size = config.old.config.segment_size in let old = content_of (state_of (D.trace config.old.device)) in
-        (H : History) (A f : ℕ) → CanRead C.sum_of size old H A f → IfOk result (λ s. IsGood C.sum_of size old H A f (model_of s)) }
+        (H : History) (A f : ℕ) → CanRead C.sum_of size old H A f → IsReadWell C.sum_of size old H A f result }
     ensures good { let size = config.old.config.segment_size in let new = state_of (D.trace config.new.device) in
         (H : History) (A f : ℕ) → CanRecover C.sum_of size (state_of (D.trace config.old.device)) H A f
         → IfOk result (λ s. IsGood C.sum_of size (content_of new) H A f (model_of s)) }

@@ -17,15 +17,12 @@ use Rattle.sled_store.proofs.Traces.ScriptLemmas.{along_first}
 use Rattle.sled_core.specs.Recoverable.{ActiveFits, NoForeign, NoHeaderOfZeros, AreRecoverableSnapshots, IsRecoverableLog, AreRecoverableBlobs}
 use Rattle.sled_core.proofs.Torn.TornLemmas.{after_write}
 use Rattle.sled_log.specs.Orderly.{IsOrderly, CanRead}
+pub use Rattle.sled_log.specs.Orderly.{LeavesReadable}
 use Rattle.sled_log.specs.Recovery.{shred_range_of}
 use Rattle.sled_log.specs.WritesBack.{shredding, zeroing, after_zeroing}
 use Rattle.sled_log.proofs.Moments.Shredded.{IsShredded, filled, full}
 use Rattle.sled_log.proofs.Moments.Steps.{zeros_left}
 use Rattle.sled_log.proofs.Moments.UnreadSlots.{AreFree, StopsAtCut, recoverable_at, zeroing_left, one_zeroed, still_free}
-
--- whatever a crash leaves in which only the log's own writes pass can be read back
-abbrev pub LeavesReadable : (List ℕ → ℕ) → ℕ → History → ℕ → ℕ → State → Type 0
-LeavesReadable sum size H A f = AllLeft (λ past left. NoForeign sum size past left → CanRead sum size left H A f)
 
 -- The parts of a state. Recovery may begin from some snapshots alone.
 

@@ -5,6 +5,7 @@ use Rattle.sled_store.specs.Device.{Content, Trace, state_of, content_of}
 use Rattle.sled_core.specs.Good.{IsGood}
 use Rattle.sled_core.specs.Recoverable.{LeavesRecoverable}
 use Rattle.sled_core.proofs.Read.ReadingLemmas.{if_ok}
+use Rattle.sled_log.proofs.Moments.RecoveryAlong.{recovery_throughout}
 use Rattle.sled_log.proofs.Recovers.RecoversGood.{read_undamaged, read_good}
 use Rattle.sled_log.proofs.WriteBack.RecoveryHolds.{holds_throughout, is_good, is_cut_off, is_ready}
 use Rattle.sled_log.proofs.WriteBack.RestartLemmas.{BeginsAgain}
@@ -21,19 +22,21 @@ returns-clause-recoverable g c = λ H A f can.
     let config = c.args.config.now.config in
     holds_throughout g.C.Checksum.sum_of config.segment_size config.least (small config.segment_size config.most) (g.D.Device.trace c.args.config.now.device) H A f can _ c.read_and_write_back.ensures.comes.calls
 
-pub returns-clause-undamaged : goal.returns-clause-undamaged
-returns-clause-undamaged g c = λ H A f can corrupt.
+pub returns-clause-readable : goal.returns-clause-readable
+returns-clause-readable g c = λ H A f can.
     let config = c.args.config.now.config in
-    read_undamaged g.C.Checksum.sum_of config.segment_size (content_of (state_of (g.D.Device.trace c.args.config.now.device))) H A f config.least can (c.read_and_write_back.ensures.comes.corrupt corrupt).0
+    recovery_throughout g.C.Checksum.sum_of config.segment_size H A f config.least (g.D.Device.trace c.args.config.now.device) can.left can.own can.firm _ c.read_and_write_back.ensures.comes.calls
 
 pub returns-clause-read : goal.returns-clause-read
 returns-clause-read g c = λ H A f can.
     let config = c.args.config.now.config in
     let sum = g.C.Checksum.sum_of in
-    let old : Content = content_of (state_of (g.D.Device.trace c.args.config.now.device)) in
-    if_ok c.read_and_write_back.result _ (λ s. IsGood sum config.segment_size old H A f (model_of s)) (λ s ok.
-    subst (λ (x : SnapshotModel). IsGood sum config.segment_size old H A f x) (sym ok.model) (read_good sum config.segment_size old H A f config.least can ok.conclusion ok.recovers))
-    c.read_and_write_back.ensures.comes.ok
+    let old : Content = content_of (state_of (g.D.Device.trace c.args.config.now.device)) in (
+      λ corrupt. read_undamaged sum config.segment_size old H A f config.least can (c.read_and_write_back.ensures.comes.corrupt corrupt).0,
+      if_ok c.read_and_write_back.result _ (λ s. IsGood sum config.segment_size old H A f (model_of s)) (λ s ok.
+          subst (λ (x : SnapshotModel). IsGood sum config.segment_size old H A f x) (sym ok.model) (read_good sum config.segment_size old H A f config.least can ok.conclusion ok.recovers))
+          c.read_and_write_back.ensures.comes.ok,
+    )
 
 pub returns-clause-good : goal.returns-clause-good
 returns-clause-good g c = λ H A f can.

@@ -87,7 +87,7 @@ returns-in-Err-clause-step g c = λ k at.
       acts = c.read_snapshot_or_default.ensures.calls;
       step = λ own.
           let can : CanRecover sum size (state_of old) k.history k.acknowledged k.floor = record { orderly = orderly k.history at.formed; left = at.left; own = own } in
-          let whole = c.in-Err.ensures.undamaged k.history k.acknowledged k.floor (read_of sum size old k.history k.acknowledged k.floor can) in
+          let whole = (c.in-Err.ensures.read k.history k.acknowledged k.floor (read_of sum size old k.history k.acknowledged k.floor can)).0 in
           let sizes : c.read_snapshot_or_default.new.config.config.segment_size ≡ size = ap (λ (x : Config). x.segment_size) c.read_snapshot_or_default.ensures.config.config in (
             k,
             (cause_of Snapshot sum (state_of old).blobs.file c.in-Err.e _ _ c.in-Err.ensures.answers whole, refl),
