@@ -4,6 +4,7 @@ pub mod OwnBlobs
 pub mod PageTable
 mod Passes
 pub mod PublicLaws
+pub mod Reached
 pub mod Recovers
 pub mod Replay
 pub mod Sessions

@@ -1,5 +1,6 @@
 pub mod Ascending
 pub mod BelowLemmas
+pub mod EarlierEntries
 pub mod FoldLemmas
 pub mod PageRuns
 pub mod PageStates

@@ -1,6 +1,8 @@
 pub mod ActiveSlot
+pub mod Covered
 pub mod CutLemmas
 pub mod LeftOut
+pub mod OfHistory
 pub mod OneReading
 pub mod OneTail
 pub mod PassCut
@@ -9,4 +11,5 @@ pub mod PassedMessages
 pub mod RecoversGood
 pub mod Rows
 pub mod TailBegins
+pub mod Tails
 pub mod Undamaged

@@ -75,7 +75,7 @@ ordering_from sum size log least place ss low is = record {
 
 -- Where the tail begins.
 
-greatest_above : (least : ℕ) (ss : List Segment) → least ≤ greatest_mark least ss
+pub greatest_above : (least : ℕ) (ss : List Segment) → least ≤ greatest_mark least ss
 greatest_above least [] = omega arith
 greatest_above least (s ∷ ss) = let rest = greatest_above least ss in omega (arith, rest)
 

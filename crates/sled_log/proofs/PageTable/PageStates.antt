@@ -48,7 +48,7 @@ last_found (m ∷ ms) b order is = by_cases (last_beginning ms) (begins_page m.k
       }
 
 -- the last one is found
-last_is : (ms : List Message) (b : Message) → Ascends ms → IsLast ms b → last_beginning ms ≡ Some b
+pub last_is : (ms : List Message) (b : Message) → Ascends ms → IsLast ms b → last_beginning ms ≡ Some b
 last_is ms b order is_last = by_cases (last_beginning ms) (none_begins ms) (λ x. last_found ms x order) where
   by_cases : (o : Option Message) → (o ≡ None → All (λ x. begins_page x.kind ≡ false) ms) → ((x : Message) → o ≡ Some x → IsLast ms x) → o ≡ Some b
   by_cases None none found = absurd (begins_false b ms (none refl) is_last.there is_last.begins)

@@ -15,20 +15,11 @@ use Rattle.sled_core.specs.Scan.{IsEnd}
 use Rattle.sled_core.specs.Recoverable.{BeginsInSegment, IsOfHistory, IsRecoverableLog, scanned_below}
 use Rattle.sled_log.specs.Recovery.{Scanned, cut_of, tail_begins, tail_end, opens, open_at, least_place}
 use Rattle.sled_log.proofs.PageTable.Ascending.{Ascends, one_at_place}
+use Rattle.sled_log.proofs.Recovers.Covered.{PassEnds, IsCovered, covered}
+use Rattle.sled_log.proofs.Recovers.OfHistory.{closed_is, opened_of, batch_of, message_of}
 use Rattle.sled_log.proofs.Recovers.PassCut.{further, known, whole, tail_has, put_down, passed, stop, cut_place, stopped, last_known, last_place, stop_below, cut_bounds, no_higher, passed_stands, met_below, ends_below, end_passed}
 use Rattle.sled_log.proofs.Recovers.TailBegins.{begins_at, begins_low, ends_before}
 use Rattle.sled_log.proofs.Recovers.Rows.{IsStopIn, stand_in, end_there, covers, cut_cases, passed_closed}
-
--- a batch that is open is one
-open_is : (end : ℕ) (what : RecordContent) (peg : ℕ) → opens end what ≡ true → what ≡ BatchStart (pos peg) → end ≤ peg
-open_is end what peg is at =
-    let test : int_le (pos end) (pos peg) ≡ true = ap (opens end) (sym at) ∙ is in
-    grind (arith, nat_tests, test)
-
-closed_is : (end : ℕ) (what : RecordContent) (peg : ℕ) → opens end what ≡ false → what ≡ BatchStart (pos peg) → peg < end
-closed_is end what peg is at =
-    let test : int_le (pos end) (pos peg) ≡ false = ap (opens end) (sym at) ∙ is in
-    grind (arith, nat_tests, test)
 
 module _ (sum : List ℕ → ℕ) (size : ℕ) (log : List ℕ) (some : 256 ≤ size) (H : History) (A : ℕ) (first : SnapshotModel) (cut : ℕ × Option ℕ) (is : IsRecoverableLog sum size log H A first cut)
     (ordered : Ascends H.messages) (fits : CutFits H (stable_place first.stable)) where
@@ -40,35 +31,6 @@ module _ (sum : List ℕ → ℕ) (size : ℕ) (log : List ℕ) (some : 256 ≤ 
 
   multiples : (a b : ℕ) → a % size ≡ 0 → b % size ≡ 0 → a < b → a + size ≤ b
   multiples = further sum size log some H A first cut is
-
-  -- Where a batch begins and a message begins within a record, that is the record.
-  record_of : (x : ScannedRecord) → IsOfHistory sum size log H x → (m : Message) → Contains H.messages m → x.place ≤ m.place → m.place < x.place + x.len → (x.place ≡ m.place) × (x.len ≡ m.size)
-  record_of x (inl (n, there, meets, stands, alone, apart)) m known above under = ⊎_elim
-      (λ at.
-      let place = meets.place in
-      let same : m ≡ n = one_at_place H.messages m n ordered known there (omega (arith, at, above, place)) in
-      (omega (arith, at, above), meets.len ∙ ap (λ (y : Message). y.size) (sym same)))
-      (λ behind. absurd (omega (arith, behind, under)))
-      (alone m known)
-  record_of x (inr (inl (b, there, place, what, alone, apart))) m known above under = ⊎_elim (λ at. absurd (omega (arith, at, above))) (λ behind. absurd (omega (arith, behind, under))) (alone m known)
-  record_of x (inr (inr (what, alone, apart))) m known above under = ⊎_elim (λ at. absurd (omega (arith, at, above))) (λ behind. absurd (omega (arith, behind, under))) (alone m known)
-
-  batch_of : (x : ScannedRecord) → IsOfHistory sum size log H x → (b : Batch) → Contains H.batches b → x.place ≤ b.low → b.low < x.place + x.len → (c : Batch) × Contains H.batches c × (c.low ≡ b.low) × (x.place ≡ b.low) × (x.what ≡ BatchStart (pos c.peg))
-  batch_of x (inl (n, there, meets, stands, alone, apart)) b known above under = ⊎_elim (λ at. absurd (omega (arith, at, above))) (λ behind. absurd (omega (arith, behind, under))) (apart b known)
-  batch_of x (inr (inl (c, there, place, what, alone, apart))) b known above under = ⊎_elim
-      (λ at. (c, there, omega (arith, at, above, place), omega (arith, at, above), what))
-      (λ behind. absurd (omega (arith, behind, under)))
-      (apart b known)
-  batch_of x (inr (inr (what, alone, apart))) b known above under = ⊎_elim (λ at. absurd (omega (arith, at, above))) (λ behind. absurd (omega (arith, behind, under))) (apart b known)
-
-  -- a record with which a batch begins that is open
-  opened_of : (end : ℕ) (x : ScannedRecord) → IsOfHistory sum size log H x → opens end x.what ≡ true → (c : Batch) × Contains H.batches c × (x.place ≡ c.low) × (end ≤ c.peg)
-  opened_of end x (inl (n, there, meets, stands, alone, apart)) opened = elim meets.what [
-    | inl gives ↦ (let no : false ≡ true = sym (ap (opens end) gives) ∙ opened in cc)
-    | inr names ↦ (let no : false ≡ true = sym (ap (opens end) names.5) ∙ opened in cc)
-  ]
-  opened_of end x (inr (inl (c, there, place, what, alone, apart))) opened = (c, there, place, open_is end x.what c.peg opened what)
-  opened_of end x (inr (inr (what, alone, apart))) opened = let no : false ≡ true = sym (ap (opens end) what) ∙ opened in cc
 
   module _ (end : ℕ) (s : Scanned) (ss : List Scanned) (ends : tail_end is.tail ≡ Some end) (below : scanned_below end is.scanned ≡ s ∷ ss) where
     -- where the pass stops, in which segment, and the cut there
@@ -106,68 +68,27 @@ module _ (sum : List ℕ → ℕ) (size : ℕ) (log : List ℕ) (some : 256 ≤ 
         let low = ends_below sum size log some H A first cut is end s ss ends below final last.0 last.1 in
         omega (arith, at, low)
 
-    -- Nothing begins below the cut where the reading of the last segment ended for a record that is broken.
-    none_behind : (p : ℕ) → p < cut.0 → BeginsInSegment size p → end ≤ p → ⊥
-    none_behind p lower at above =
-        let room = at.room in
-        let parts = put_down size p in
-        let low = stop_low in
-        elim (cut_cases size at_stop) [
-          | inl same ↦ omega (arith, same, at_cut, lower, above, low)
-          | inr filled ↦ (
-              let under : final.segment.place < p / size * size = omega (arith, filled.1, final_place, low, above, room, parts.0) in
-              let far = multiples final.segment.place (p / size * size) (whole sum size log some H A first cut is final final_known.0).1 parts.1 under in
-              omega (arith, far, filled.0, at_cut, final_place, lower, parts.0))
-        ]
+    pass_ends : PassEnds sum size log some is.scanned begins end cut.0
+    pass_ends = record {
+      at = at_stop;
+      final = final;
+      known = final_known.0;
+      begun = final_known.1;
+      place = final_place;
+      is_cut = at_cut;
+      low = stop_low;
+      no_higher = no_higher sum size log some H A first cut is end s ss ends below;
+      aligned = begins_at_multiple;
+      has = tail_has sum size log some H A first cut is begins is.tail is.is_tail begins_at_multiple end ends;
+      whole = whole sum size log some H A first cut is;
+    }
 
-    -- A record of the tail has this place, or it lies behind a Cap.
-    abbrev IsCovered : ℕ → Type 0
-    IsCovered p = (t : Scanned) × Contains is.scanned t
-        × (((x : ScannedRecord) × Contains t.met x × (x.place ≤ p) × (p < x.place + x.len)) ⊎ ((t.why ≡ Capped) × (t.segment.place + t.stop ≤ p) × (p < t.segment.place + size)))
+    -- A record of the tail has a place below the cut, or it lies behind a Cap.
+    abbrev Covers : ℕ → Type 0
+    Covers p = IsCovered sum size log some is.scanned begins end cut.0 pass_ends p
 
-    covered : (p : ℕ) → begins ≤ p → p < cut.0 → BeginsInSegment size p → IsCovered p
-    covered p above lower at = by_tail where
-      z : ℕ
-      z = p / size * size
-
-      parts : (z + p % size ≡ p) × (z % size ≡ 0)
-      parts = put_down size p
-
-      within : p % size < size
-      within = let room = at.room in omega (arith, room)
-
-      low : begins ≤ z
-      low = elim (cases_lt z begins) [
-        | inl under ↦ (let far = multiples z begins parts.1 begins_at_multiple under in absurd (omega (arith, far, above, parts.0, within)))
-        | inr le ↦ le
-      ]
-
-      high : z < end
-      high =
-          let last = final_known in
-          let bound = no_higher sum size log some H A first cut is end s ss ends below z parts.1 (omega (arith, lower, parts.0)) in
-          let begun = last.1 in
-          omega (arith, bound, begun)
-
-      behind : (t : Scanned) → Contains is.scanned t → t.segment.place ≡ z → (t.why ≡ Broken → end ≡ t.segment.place + t.stop) → t.segment.place + t.stop ≤ p
-          → (why : ScanEnd) → t.why ≡ why → IsEnd sum size log t.segment.slot t.segment.place t.stop why → IsCovered p
-      behind t there place broken_last past Full test ends_so = let room = at.room in absurd (omega (arith, ends_so, past, place, parts.0, room))
-      behind t there place broken_last past Capped test ends_so = (t, there, inr (test, past, omega (arith, place, parts.0, within)))
-      behind t there place broken_last past Broken test ends_so = absurd (none_behind p lower at (omega (arith, broken_last test, past)))
-
-      in_segment : (t : Scanned) → Contains is.scanned t → t.segment.place ≡ z → (t.why ≡ Broken → end ≡ t.segment.place + t.stop) → IsCovered p
-      in_segment t there place broken_last =
-          let read = whole sum size log some H A first cut is t there in
-          let off = at.behind in
-          elim (cases_lt p (t.segment.place + t.stop)) [
-            | inl inside ↦ (t, there, inl (covers sum size log some t read p (omega (arith, off, place, parts.0)) inside))
-            | inr past ↦ behind t there place broken_last past t.why refl (end_there sum size log some t read)
-          ]
-
-      by_tail : IsCovered p
-      by_tail =
-          let found = tail_has sum size log some H A first cut is begins is.tail is.is_tail begins_at_multiple end ends z parts.1 low high in
-          in_segment found.0 found.1.0 found.1.1 found.1.2
+    covered_at : (p : ℕ) → begins ≤ p → p < cut.0 → BeginsInSegment size p → Covers p
+    covered_at = covered sum size log some is.scanned begins end cut.0 pass_ends
 
     -- Messages.
 
@@ -176,7 +97,7 @@ module _ (sum : List ℕ → ℕ) (size : ℕ) (log : List ℕ) (some : 256 ≤ 
       | inl early ↦ (let ended = fits.messages m there early in let above = is.not_below in omega (arith, ended, above))
       | inr since ↦ elim (cases_lt m.place begins) [
         | inl under ↦ before_tail under
-        | inr above ↦ in_tail (covered m.place above lower (is.placed m there lower).begins)
+        | inr above ↦ in_tail (covered_at m.place above lower (is.placed m there lower).begins)
       ]
     ] where
       before_tail : m.place < begins → m.place + m.size ≤ cut.0
@@ -187,14 +108,16 @@ module _ (sum : List ℕ → ℕ) (size : ℕ) (log : List ℕ) (some : 256 ≤ 
           let low = begins_low sum size log some H A first cut is in
           omega (arith, lies, parts.0, far, low)
 
-      in_tail : IsCovered m.place → m.place + m.size ≤ cut.0
-      in_tail (t, known_t, inl (x, met, above, under)) =
-          let same = record_of x (is.truth t x known_t met) m there above under in
-          let passes = meets t known_t x met (omega (arith, same.0, lower)) in
+      in_tail : Covers m.place → m.place + m.size ≤ cut.0
+      in_tail (t, known_t, place_t, inl (x, met, above, under)) =
+          let its = (message_of sum size log H ordered x (is.truth t x known_t met) m there above under).0 in
+          let place = its.place in
+          let len = its.len in
+          let passes = meets t known_t x met (omega (arith, place, lower)) in
           let stands = stand_in s.segment.place (passed sum size log some H A first cut is end s ss ends below) _ (passed_stands sum size log some H A first cut is end s ss ends below) x passes in
           let bound = bounds.0 in
-          omega (arith, stands.2, same.0, same.1, bound)
-      in_tail (t, known_t, inr (capped, past, within)) = ⊎_elim (λ under. absurd (omega (arith, under, past))) (λ over. absurd (omega (arith, over, within))) ((is.caps t known_t capped).0 m there)
+          omega (arith, stands.2, place, len, bound)
+      in_tail (t, known_t, place_t, inr (capped, past, within)) = ⊎_elim (λ under. absurd (omega (arith, under, past))) (λ over. absurd (omega (arith, over, within))) ((is.caps t known_t capped).0 m there)
 
     -- Batches.
 
@@ -203,13 +126,13 @@ module _ (sum : List ℕ → ℕ) (size : ℕ) (log : List ℕ) (some : 256 ≤ 
       | inl early ↦ (let ended = fits.batches b there early in let above = is.not_below in omega (arith, ended, above))
       | inr since ↦ elim (cases_lt b.low begins) [
         | inl under ↦ ends_before sum size log some H A first cut is b there since under
-        | inr above ↦ in_tail (covered b.low above lower (is.batched b there lower).begins)
+        | inr above ↦ in_tail (covered_at b.low above lower (is.batched b there lower).begins)
       ]
     ] where
       -- the record of its beginning
       its : (t : Scanned) → Contains is.scanned t → (x : ScannedRecord) → Contains t.met x → x.place ≤ b.low → b.low < x.place + x.len → (x.place ≡ b.low) × (x.what ≡ BatchStart (pos b.peg))
       its t known_t x met above under =
-          let found = batch_of x (is.truth t x known_t met) b there above under in
+          let found = batch_of sum size log H x (is.truth t x known_t met) b there above under in
           let same : found.0 ≡ b = (is.batched b there lower).alone found.0 found.1 found.2 in
           (found.3, found.4 ∙ ap (λ (y : Batch). BatchStart (pos y.peg)) same)
 
@@ -217,7 +140,7 @@ module _ (sum : List ℕ → ℕ) (size : ℕ) (log : List ℕ) (some : 256 ≤ 
       at_open : (z : ScannedRecord) → Contains final.met z → z.place ≡ at_stop.1 → opens end z.what ≡ true
           → at_stop.1 + 32 ≤ final.segment.place + size → b.peg < end → b.peg < cut.0
       at_open z met at opened room ended =
-          let found = opened_of end z (is.truth final z final_known.0 met) opened in
+          let found = opened_of sum size log H end z (is.truth final z final_known.0 met) opened in
           let c : Batch = found.0 in
           let is_stop : cut.0 ≡ at_stop.1 = elim (cut_cases size at_stop) [
             | inl same ↦ at_cut ∙ same
@@ -230,8 +153,8 @@ module _ (sum : List ℕ → ℕ) (size : ℕ) (log : List ℕ) (some : 256 ≤ 
                 absurd (omega (arith, within, found.3, ended)))
           ]
 
-      in_tail : IsCovered b.low → b.peg < cut.0
-      in_tail (t, known_t, inl (x, met, above, under)) =
+      in_tail : Covers b.low → b.peg < cut.0
+      in_tail (t, known_t, place_t, inl (x, met, above, under)) =
           let same = its t known_t x met above under in
           let passes = meets t known_t x met (omega (arith, same.0, lower)) in
           let ended : b.peg < end = closed_is end x.what b.peg (passed_closed sum size log some end s ss (open_at end s.met) refl x passes) same.1 in
@@ -242,7 +165,7 @@ module _ (sum : List ℕ → ℕ) (size : ℕ) (log : List ℕ) (some : 256 ≤ 
           let bound = bounds.0 in
           omega (arith, ended, far, bound))
           stops.why
-      in_tail (t, known_t, inr (capped, past, within)) = ⊎_elim (λ under. absurd (omega (arith, under, past))) (λ over. absurd (omega (arith, over, within))) ((is.caps t known_t capped).1 b there)
+      in_tail (t, known_t, place_t, inr (capped, past, within)) = ⊎_elim (λ under. absurd (omega (arith, under, past))) (λ over. absurd (omega (arith, over, within))) ((is.caps t known_t capped).1 b there)
 
     -- The cut splits neither.
     pub cut_fits : CutFits H cut.0

@@ -15,22 +15,9 @@ use Rattle.sled_log.specs.Recovery.{Scanned, IsScanned, GoesOn, IsTail, tail_beg
 use Rattle.sled_log.proofs.Replay.LineLemmas.{apart}
 use Rattle.sled_log.proofs.Recovers.OneReading.{one_scan, met_there}
 use Rattle.sled_log.proofs.Recovers.OneTail.{Rises, rises_of, one_at_place, scan_there, segment_there, reading_there, in_below, from_below}
+pub use Rattle.sled_log.proofs.Recovers.Tails.{some_is, put_down, next_multiple}
+use Rattle.sled_log.proofs.Recovers.Tails as tails
 use Rattle.sled_log.proofs.Recovers.Rows.{Stand, stand_in, stand_rises, IsWhole, IsRow, row_ordered, row_below, row_whole, met_stand, stop_inside, cut_cases, IsStopIn, stop_in, passed_stand, passed_has}
-
--- what is left of an option
-pub some_is : (a b : ℕ) → Some a ≡ Some b → a ≡ b
-some_is a b is = cc
-
--- the multiple of a size at or below a place
-pub put_down : (size p : ℕ) → (p / size * size + p % size ≡ p) × (p / size * size % size ≡ 0)
-put_down size p = (let whole = mod-add-div' p size in omega (arith, whole), mul-mod_left (p / size) size)
-
--- behind a multiple of a size the next one
-pub next_multiple : (size a : ℕ) → a % size ≡ 0 → (a + size) % size ≡ 0
-next_multiple size a at =
-    let parts = put_down size a in
-    let whole : a ≡ a / size * size = omega (arith, parts.0, at) in
-    ap (λ n. (n + size) % size) whole ∙ ap (λ n. n % size) (omega (arith, suc-mul (a / size) size)) ∙ mul-mod_left (suc (a / size)) size
 
 module _ (sum : List ℕ → ℕ) (size : ℕ) (log : List ℕ) (some : 256 ≤ size) (H : History) (A : ℕ) (first : SnapshotModel) (cut : ℕ × Option ℕ) (is : IsRecoverableLog sum size log H A first cut) where
   rises : Rises is.ordering
@@ -42,7 +29,7 @@ module _ (sum : List ℕ → ℕ) (size : ℕ) (log : List ℕ) (some : 256 ≤ 
 
   -- a reading of one of the segments
   pub known : (s : Scanned) → Contains is.ordering s.segment → IsScanned sum size log s → Contains is.scanned s
-  known s there scan = reading_there sum size log is.ordering is.scanned is.reads s there scan
+  known = tails.known sum size log some (least_place size first) is.ordering is.numbers is.scanned is.reads
 
   pub row : IsRow sum size log some is.scanned
   row = row_ordered sum size log some (least_place size first) is.ordering is.scanned is.numbers is.reads
@@ -52,10 +39,7 @@ module _ (sum : List ℕ → ℕ) (size : ℕ) (log : List ℕ) (some : 256 ≤ 
 
   -- two readings at one place are one
   pub one_reading : (s t : Scanned) → Contains is.scanned s → Contains is.scanned t → s.segment.place ≡ t.segment.place → s ≡ t
-  one_reading s t here there places =
-      let a = segment_there sum size log is.ordering is.scanned is.reads s here in
-      let b = segment_there sum size log is.ordering is.scanned is.reads t there in
-      one_scan sum size log s t (one_at_place is.ordering rises s.segment t.segment a.0 b.0 places) a.1 b.1
+  one_reading = tails.one_reading sum size log some (least_place size first) is.ordering is.numbers is.scanned is.reads
 
   -- Each entry that doesn't lie below the snapshot is met in one of the segments.
   pub entry_met : (m : Message) → stable_place first.stable ≤ m.place → IsSegmentOf sum size log H cut.0 m → (t : Scanned) × (x : ScannedRecord) × Contains is.scanned t × Contains t.met x × MeetsMessage x m
@@ -78,52 +62,14 @@ module _ (sum : List ℕ → ℕ) (size : ℕ) (log : List ℕ) (some : 256 ≤ 
 
   -- The last segment of the tail.
   pub tail_last : (place : ℕ) (tail : List Scanned) → IsTail sum size log is.ordering place tail → (end : ℕ) → tail_end tail ≡ Some end → (t : Scanned) × Contains is.scanned t × (end ≡ t.segment.place + t.stop)
-  tail_last place [] tail end ends = cc
-  tail_last place (x ∷ []) tail end ends = (x, known x tail.0 tail.2, some_is end (x.segment.place + x.stop) (sym ends))
-  tail_last place (x ∷ y ∷ ys) tail end ends = by x.why tail.3 (tail_last (place + size) (y ∷ ys)) where
-    by : (why : ScanEnd) → GoesOn why (y ∷ ys) (IsTail sum size log is.ordering (place + size) (y ∷ ys))
-        → (IsTail sum size log is.ordering (place + size) (y ∷ ys) → (e : ℕ) → tail_end (y ∷ ys) ≡ Some e → (t : Scanned) × Contains is.scanned t × (e ≡ t.segment.place + t.stop))
-        → (t : Scanned) × Contains is.scanned t × (end ≡ t.segment.place + t.stop)
-    by Broken none rest = absurd (no_more none)
-      where
-        no_more : (y ∷ ys) ≡ [] → ⊥
-        no_more none = cc
-    by Full on rest = rest on end ends
-    by Capped on rest = rest on end ends
+  tail_last = tails.tail_last sum size log some (least_place size first) is.ordering is.numbers is.scanned is.reads
 
   -- The tail has each segment from its beginning on. One that is broken is the last.
   abbrev pub IsTailAt : ℕ → ℕ → Scanned → Type 0
   IsTailAt end z t = Contains is.scanned t × (t.segment.place ≡ z) × (t.why ≡ Broken → end ≡ t.segment.place + t.stop)
 
   pub tail_has : (place : ℕ) (tail : List Scanned) → IsTail sum size log is.ordering place tail → place % size ≡ 0 → (end : ℕ) → tail_end tail ≡ Some end → (z : ℕ) → z % size ≡ 0 → place ≤ z → z < end → (t : Scanned) × IsTailAt end z t
-  tail_has place [] tail aligned end ends z at above below = cc
-  tail_has place (x ∷ []) tail aligned end ends z at above below =
-      let there = known x tail.0 tail.2 in
-      let inside = stop_inside sum size log some x (whole x there) in
-      let is_end : x.segment.place + x.stop ≡ end = some_is (x.segment.place + x.stop) end ends in
-      elim (cases_lt place z) [
-        | inl higher ↦ (let far = further place z aligned at higher in absurd (omega (arith, far, below, is_end, inside, tail.1)))
-        | inr le ↦ (x, (there, omega (arith, tail.1, le, above), λ broken. sym is_end))
-      ]
-  tail_has place (x ∷ y ∷ ys) tail aligned end ends z at above below = by x.why refl tail.3 (tail_has (place + size) (y ∷ ys)) where
-    Rest : Type 0
-    Rest = IsTail sum size log is.ordering (place + size) (y ∷ ys) → (place + size) % size ≡ 0 → (e : ℕ) → tail_end (y ∷ ys) ≡ Some e → (w : ℕ) → w % size ≡ 0 → place + size ≤ w → w < e → (t : Scanned) × IsTailAt e w t
-
-    on_from : (x.why ≡ Broken → ⊥) → IsTail sum size log is.ordering (place + size) (y ∷ ys) → Rest → (t : Scanned) × IsTailAt end z t
-    on_from whole_one on rest = elim (cases_lt place z) [
-      | inl higher ↦ (
-          let far = further place z aligned at higher in
-          rest on (next_multiple size place aligned) end ends z at far below)
-      | inr le ↦ (x, (known x tail.0 tail.2, omega (arith, tail.1, le, above), λ broken. absurd (whole_one broken)))
-    ]
-
-    by : (why : ScanEnd) → x.why ≡ why → GoesOn why (y ∷ ys) (IsTail sum size log is.ordering (place + size) (y ∷ ys)) → Rest → (t : Scanned) × IsTailAt end z t
-    by Broken test none rest = absurd (no_more none)
-      where
-        no_more : (y ∷ ys) ≡ [] → ⊥
-        no_more none = cc
-    by Full test on rest = on_from (λ broken. let no : Full ≡ Broken = sym test ∙ broken in cc) on rest
-    by Capped test on rest = on_from (λ broken. let no : Capped ≡ Broken = sym test ∙ broken in cc) on rest
+  tail_has = tails.tail_has sum size log some (least_place size first) is.ordering is.numbers is.scanned is.reads
 
   -- A pass over segments that begin below the end of the tail.
   module _ (end : ℕ) (s : Scanned) (ss : List Scanned) (ends : tail_end is.tail ≡ Some end) (below : scanned_below end is.scanned ≡ s ∷ ss) where

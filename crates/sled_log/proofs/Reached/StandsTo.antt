@@ -1,0 +1,147 @@
+-- A log file that is read without a gap up to a place that the log has reached: the tail ends there or above, or nothing stands from the snapshot on.
+use Rattle.std.proofs.Common.{⊎_elim, ◌≡◌, ◌≢◌, ◌⊎◌, ◌∙◌, ◌+◌, ◌-◌, ◌*◌, ◌/◌, ◌%◌, ◌<◌, ◌≤◌, ℕ, pos, List, [], ◌∷◌, Option, Some, None, refl, sym, ap, arith, inl, inr}
+use Rattle.std.specs.List.{Contains}
+use Rattle.std.proofs.lemmas.Bool.{cases_lt}
+use Rattle.sled_codec.specs.Coords.{raised}
+use Rattle.sled_codec.specs.History.{Message, Batch, History, table}
+use Rattle.sled_codec.specs.Snapshots.{SnapshotModel, stable_place}
+use Rattle.sled_core.specs.declared.iterator.Segment.{Segment}
+use Rattle.sled_core.specs.declared.iterator.scan.ScannedRecord.{ScannedRecord}
+use Rattle.sled_core.specs.declared.iterator.scan.ScanEnd.{ScanEnd}
+use Rattle.sled_core.specs.declared.iterator.scan.ScanEnd.TheVariants.{Full, Capped, Broken}
+use Rattle.sled_core.specs.Recoverable.{NoMessageBegins, NoBatchBegins, StandsInline, IsOfHistory, IsSegmentOf, IsMarkOf, IsMarkBelow, LiesInSegment, IsPlacedBatch}
+use Rattle.sled_core.proofs.Read.FoundLemmas.{pos_injective}
+use Rattle.sled_log.specs.Recovery.{Scanned, IsOrdering, AreScanned, GoesOn, IsTail, greatest_mark, tail_begins, tail_end, least_place}
+use Rattle.sled_log.proofs.Recovers.OneTail.{segment_there}
+use Rattle.sled_log.proofs.Recovers.TailBegins.{greatest_is, mark_below}
+use Rattle.sled_log.proofs.Recovers.Tails.{put_down, known, one_reading, tail_some, tail_there}
+use Rattle.sled_log.proofs.Moments.SegmentsFrom.{greatest_above, one_multiple, next_aligned, lower_multiple, tail_low}
+
+-- The segments that are found from that of the snapshot on are of the history, and up to a place that the log has reached they are read without a gap. What is found beyond is of the history too, however much of it there is.
+pub record StandsTo (sum : List ℕ → ℕ) (size : ℕ) (log : List ℕ) (H : History) (A : ℕ) (first : SnapshotModel) (reach : ℕ) : Type 0 where
+  pub ordering : List Segment
+  pub numbers : IsOrdering sum size log (least_place size first) ordering
+  pub scanned : List Scanned
+  pub reads : AreScanned sum size log ordering scanned
+  pub marks : (s : Segment) → Contains ordering s → IsMarkOf H s
+  pub truth : (s : Scanned) (x : ScannedRecord) → Contains scanned s → Contains s.met x → IsOfHistory sum size log H x
+  pub caps : (s : Scanned) → Contains scanned s → s.why ≡ Capped → NoMessageBegins H (s.segment.place + s.stop) (s.segment.place + size) × NoBatchBegins H (s.segment.place + s.stop) (s.segment.place + size)
+  pub not_below : stable_place first.stable ≤ reach
+  pub passes : A ≤ reach
+  pub marks_below : (s : Segment) → Contains ordering s → IsMarkBelow size H reach s.mark
+  pub placed : (m : Message) → Contains H.messages m → LiesInSegment size m
+  pub batched : (b : Batch) → Contains H.batches b → IsPlacedBatch size H b
+  -- no batch is open there
+  pub closed : (b : Batch) → Contains H.batches b → b.low < reach → b.peg < reach
+  -- each segment that begins below it is there, and is read up to it or leads to the next one
+  pub gapless : (z : ℕ) → z % size ≡ 0 → least_place size first ≤ z → z < reach
+      → (t : Scanned) × Contains scanned t × (t.segment.place ≡ z) × ((reach ≤ z + t.stop) ⊎ ((t.why ≢ Broken) × (u : Segment) × Contains ordering u × (u.place ≡ z + size)))
+  pub needed : (page : ℕ) (m : Message) → Contains (table H reach page) m → IsSegmentOf sum size log H reach m × StandsInline sum size log m m.pointer
+
+module _ (sum : List ℕ → ℕ) (size : ℕ) (log : List ℕ) (some : 256 ≤ size) (H : History) (A : ℕ) (first : SnapshotModel) (reach : ℕ) (is : StandsTo sum size log H A first reach) where
+  abbrev pub least : ℕ
+  least = least_place size first
+
+  abbrev pub begins : ℕ
+  begins = tail_begins size least is.ordering
+
+  abbrev place : ℕ
+  place = stable_place first.stable
+
+  -- The tail reaches as far, from any of these segments on.
+  Reaches : List Scanned → Type 0
+  Reaches tail = (end : ℕ) × (tail_end tail ≡ Some end) × (reach ≤ end)
+
+  tail_reaches : (z : ℕ) (tail : List Scanned) → IsTail sum size log is.ordering z tail → z % size ≡ 0 → least ≤ z → z < reach → Reaches tail
+  unfolding Reaches
+  tail_reaches z [] tail aligned low under =
+      let found = is.gapless z aligned low under in
+      absurd (tail found.0.segment (segment_there sum size log is.ordering is.scanned is.reads found.0 found.1).0 found.2)
+  tail_reaches z (x ∷ []) tail aligned low under =
+      let found = is.gapless z aligned low under in
+      let there = known sum size log some least is.ordering is.numbers is.scanned is.reads x tail.0 tail.2 in
+      let same : found.0 ≡ x = one_reading sum size log some least is.ordering is.numbers is.scanned is.reads found.0 x found.1 there (found.2 ∙ sym tail.1) in
+      ⊎_elim
+      (λ far. (x.segment.place + x.stop, refl, omega (arith, far, tail.1, ap (λ (t : Scanned). t.stop) same)))
+      (λ leads. absurd (no_end x.why tail.3 (λ broken. leads.0 (ap (λ (t : Scanned). t.why) same ∙ broken)) leads.1 leads.2 leads.3))
+      found.3
+    where
+      no_end : (why : ScanEnd) → GoesOn why [] (IsTail sum size log is.ordering (z + size) []) → (why ≢ Broken) → (u : Segment) → Contains is.ordering u → u.place ≡ z + size → ⊥
+      no_end Broken none other u there at = other refl
+      no_end Full none other u there at = none u there at
+      no_end Capped none other u there at = none u there at
+  tail_reaches z (x ∷ y ∷ ys) tail aligned low under = by x.why tail.3 (tail_reaches (z + size) (y ∷ ys)) where
+    Rest : Type 0
+    Rest = IsTail sum size log is.ordering (z + size) (y ∷ ys) → (z + size) % size ≡ 0 → least ≤ z + size → z + size < reach → Reaches (y ∷ ys)
+
+    next : IsTail sum size log is.ordering (z + size) (y ∷ ys) → Rest → Reaches (x ∷ y ∷ ys)
+    next on rest = elim (cases_lt (z + size) reach) [
+      | inl below ↦ rest on (next_aligned size some z aligned) (omega (arith, low)) below
+      | inr past ↦ (let e = tail_some sum size log some least is.ordering is.numbers is.scanned is.reads (z + size) y ys on in (e.0, e.1, omega (arith, e.2, past)))
+    ]
+
+    by : (why : ScanEnd) → GoesOn why (y ∷ ys) (IsTail sum size log is.ordering (z + size) (y ∷ ys)) → Rest → Reaches (x ∷ y ∷ ys)
+    by Broken none rest = absurd (no_more none)
+      where
+        no_more : (y ∷ ys) ≡ [] → ⊥
+        no_more none = cc
+    by Full on rest = next on rest
+    by Capped on rest = next on rest
+
+  -- Where the tail begins: at the segment of the snapshot or above it, and no higher than the place that was reached.
+
+  aligned : begins % size ≡ 0
+  aligned = (put_down size (greatest_mark least is.ordering)).1
+
+  pub begins_above : least ≤ begins
+  begins_above =
+      let low = put_down size place in
+      let own = put_down size least in
+      let far = lower_multiple size some least (greatest_mark least is.ordering) (greatest_above least is.ordering) in
+      omega (arith, far, own.0, low.1)
+
+  pub begins_below : begins ≤ reach / size * size
+  begins_below = tail_low size some H reach is.ordering is.marks_below least (lower_multiple size some place reach is.not_below)
+
+  -- Where it begins at that place, that is the snapshot's own.
+  snapshot_there : begins ≡ reach → place ≡ reach
+  snapshot_there at = by (greatest_is least is.ordering) where
+    greatest : ℕ
+    greatest = greatest_mark least is.ordering
+
+    low : begins ≤ greatest
+    low = let parts = put_down size greatest in omega (arith, parts.0)
+
+    not_raised : raised size reach ≡ reach
+    not_raised = one_multiple size some reach (reach + (size - 1)) (ap (λ n. n % size) (sym at) ∙ aligned) (omega arith) (omega (arith, some))
+
+    by : (greatest ≡ least) ⊎ ((s : Segment) × Contains is.ordering s × (s.mark ≡ pos greatest)) → place ≡ reach
+    by (inl same) =
+        let parts = put_down size place in
+        let above = is.not_below in
+        omega (arith, same, low, at, parts.0, above)
+    by (inr (s, there, mark)) = ⊎_elim
+        (λ lower. let under : greatest < reach = mark_below s.mark greatest reach mark lower in absurd (omega (arith, under, low, at)))
+        (λ within.
+        let same : greatest ≡ within.0 = pos_injective greatest within.0 (sym mark ∙ within.1) in
+        absurd (omega (arith, same, within.2, not_raised, low, at)))
+        (is.marks_below s there)
+
+  -- The tail of the log file.
+
+  pub the_tail : (tail : List Scanned) × IsTail sum size log is.ordering begins tail
+  the_tail = tail_there sum size log some least is.ordering is.numbers is.scanned is.reads begins
+
+  -- It ends at that place or above, or there is none, and the snapshot ends there.
+  pub tail_ends : (tail : List Scanned) → IsTail sum size log is.ordering begins tail → ((tail_end tail ≡ None) × (begins ≡ reach) × (place ≡ reach)) ⊎ ((end : ℕ) × (tail_end tail ≡ Some end) × (reach ≤ end))
+  unfolding Reaches
+  tail_ends tail is_tail = elim (cases_lt begins reach) [
+    | inl under ↦ inr (tail_reaches begins tail is_tail aligned begins_above under)
+    | inr le ↦ (
+        let parts = put_down size reach in
+        let low = begins_below in
+        by (omega (arith, le, low, parts.0)) tail is_tail)
+  ] where
+    by : begins ≡ reach → (xs : List Scanned) → IsTail sum size log is.ordering begins xs → ((tail_end xs ≡ None) × (begins ≡ reach) × (place ≡ reach)) ⊎ ((end : ℕ) × (tail_end xs ≡ Some end) × (reach ≤ end))
+    by at [] is_it = inl (refl, at, snapshot_there at)
+    by at (x ∷ xs) is_it = let e = tail_some sum size log some least is.ordering is.numbers is.scanned is.reads begins x xs is_it in inr (e.0, e.1, omega (arith, e.2, at))

@@ -1,0 +1,160 @@
+-- The tail over segments that are found: it has each of them from its beginning on, up to one that is broken, and where it ends.
+use Rattle.std.proofs.Common.{⊎_elim, ◌≡◌, ◌≢◌, ◌⊎◌, ◌∙◌, ◌+◌, ◌*◌, ◌/◌, ◌%◌, ◌<◌, ◌≤◌, ℕ, suc, List, [], ◌∷◌, Option, Some, refl, sym, ap, subst, arith, inl, inr}
+use Rattle.std.specs.List.{Contains}
+use Rattle.std.proofs.Math.Nat.{mod-add-div', mul-mod_left, suc-mul}
+use Rattle.std.proofs.lemmas.Bool.{cases_lt, cases_order}
+use Rattle.sled_store.proofs.Segments.Elements.{in_first, in_rest, in_cases, in_nothing}
+use Rattle.sled_core.specs.declared.iterator.Segment.{Segment}
+use Rattle.sled_core.specs.declared.iterator.scan.ScanEnd.{ScanEnd}
+use Rattle.sled_core.specs.declared.iterator.scan.ScanEnd.TheVariants.{Full, Capped, Broken}
+use Rattle.sled_log.specs.Recovery.{IsOrdering, Scanned, IsScanned, AreScanned, GoesOn, IsTail, tail_end}
+use Rattle.sled_log.proofs.Replay.LineLemmas.{apart}
+use Rattle.sled_log.proofs.Recovers.OneReading.{one_scan}
+use Rattle.sled_log.proofs.Recovers.OneTail.{Rises, rises_of, one_at_place, scan_there, segment_there, reading_there}
+use Rattle.sled_log.proofs.Recovers.Rows.{IsWhole, IsRow, row_ordered, row_whole, stop_inside}
+
+-- what is left of an option
+pub some_is : (a b : ℕ) → Some a ≡ Some b → a ≡ b
+some_is a b is = cc
+
+-- the multiple of a size at or below a place
+pub put_down : (size p : ℕ) → (p / size * size + p % size ≡ p) × (p / size * size % size ≡ 0)
+put_down size p = (let whole = mod-add-div' p size in omega (arith, whole), mul-mod_left (p / size) size)
+
+-- behind a multiple of a size the next one
+pub next_multiple : (size a : ℕ) → a % size ≡ 0 → (a + size) % size ≡ 0
+next_multiple size a at =
+    let parts = put_down size a in
+    let whole : a ≡ a / size * size = omega (arith, parts.0, at) in
+    ap (λ n. (n + size) % size) whole ∙ ap (λ n. n % size) (omega (arith, suc-mul (a / size) size)) ∙ mul-mod_left (suc (a / size)) size
+
+module _ (sum : List ℕ → ℕ) (size : ℕ) (log : List ℕ) (some : 256 ≤ size) (least : ℕ) (ordering : List Segment) (numbers : IsOrdering sum size log least ordering) (scanned : List Scanned) (reads : AreScanned sum size log ordering scanned) where
+  abbrev rises : Rises ordering
+  rises = rises_of ordering numbers.ascending
+
+  -- of two multiples of the size the lower is a whole size lower
+  pub further : (a b : ℕ) → a % size ≡ 0 → b % size ≡ 0 → a < b → a + size ≤ b
+  further = apart size (omega (arith, some))
+
+  -- a reading of one of the segments
+  pub known : (s : Scanned) → Contains ordering s.segment → IsScanned sum size log s → Contains scanned s
+  known s there scan = reading_there sum size log ordering scanned reads s there scan
+
+  pub row : IsRow sum size log some scanned
+  row = row_ordered sum size log some least ordering scanned numbers reads
+
+  pub whole : (s : Scanned) → Contains scanned s → IsWhole sum size log some s
+  whole s there = row_whole sum size log some scanned row s there
+
+  -- two readings at one place are one
+  pub one_reading : (s t : Scanned) → Contains scanned s → Contains scanned t → s.segment.place ≡ t.segment.place → s ≡ t
+  one_reading s t here there places =
+      let a = segment_there sum size log ordering scanned reads s here in
+      let b = segment_there sum size log ordering scanned reads t there in
+      one_scan sum size log s t (one_at_place ordering rises s.segment t.segment a.0 b.0 places) a.1 b.1
+
+  -- The last segment of the tail.
+  pub tail_last : (place : ℕ) (tail : List Scanned) → IsTail sum size log ordering place tail → (end : ℕ) → tail_end tail ≡ Some end → (t : Scanned) × Contains scanned t × (end ≡ t.segment.place + t.stop)
+  tail_last place [] tail end ends = cc
+  tail_last place (x ∷ []) tail end ends = (x, known x tail.0 tail.2, some_is end (x.segment.place + x.stop) (sym ends))
+  tail_last place (x ∷ y ∷ ys) tail end ends = by x.why tail.3 (tail_last (place + size) (y ∷ ys)) where
+    by : (why : ScanEnd) → GoesOn why (y ∷ ys) (IsTail sum size log ordering (place + size) (y ∷ ys))
+        → (IsTail sum size log ordering (place + size) (y ∷ ys) → (e : ℕ) → tail_end (y ∷ ys) ≡ Some e → (t : Scanned) × Contains scanned t × (e ≡ t.segment.place + t.stop))
+        → (t : Scanned) × Contains scanned t × (end ≡ t.segment.place + t.stop)
+    by Broken none rest = absurd (no_more none)
+      where
+        no_more : (y ∷ ys) ≡ [] → ⊥
+        no_more none = cc
+    by Full on rest = rest on end ends
+    by Capped on rest = rest on end ends
+
+  -- The tail has each segment from its beginning on. One that is broken is the last.
+  abbrev pub IsTailAt : ℕ → ℕ → Scanned → Type 0
+  IsTailAt end z t = Contains scanned t × (t.segment.place ≡ z) × (t.why ≡ Broken → end ≡ t.segment.place + t.stop)
+
+  pub tail_has : (place : ℕ) (tail : List Scanned) → IsTail sum size log ordering place tail → place % size ≡ 0 → (end : ℕ) → tail_end tail ≡ Some end → (z : ℕ) → z % size ≡ 0 → place ≤ z → z < end → (t : Scanned) × IsTailAt end z t
+  tail_has place [] tail aligned end ends z at above below = cc
+  tail_has place (x ∷ []) tail aligned end ends z at above below =
+      let there = known x tail.0 tail.2 in
+      let inside = stop_inside sum size log some x (whole x there) in
+      let is_end : x.segment.place + x.stop ≡ end = some_is (x.segment.place + x.stop) end ends in
+      elim (cases_lt place z) [
+        | inl higher ↦ (let far = further place z aligned at higher in absurd (omega (arith, far, below, is_end, inside, tail.1)))
+        | inr le ↦ (x, (there, omega (arith, tail.1, le, above), λ broken. sym is_end))
+      ]
+  tail_has place (x ∷ y ∷ ys) tail aligned end ends z at above below = by x.why refl tail.3 (tail_has (place + size) (y ∷ ys)) where
+    Rest : Type 0
+    Rest = IsTail sum size log ordering (place + size) (y ∷ ys) → (place + size) % size ≡ 0 → (e : ℕ) → tail_end (y ∷ ys) ≡ Some e → (w : ℕ) → w % size ≡ 0 → place + size ≤ w → w < e → (t : Scanned) × IsTailAt e w t
+
+    on_from : (x.why ≡ Broken → ⊥) → IsTail sum size log ordering (place + size) (y ∷ ys) → Rest → (t : Scanned) × IsTailAt end z t
+    on_from whole_one on rest = elim (cases_lt place z) [
+      | inl higher ↦ (
+          let far = further place z aligned at higher in
+          rest on (next_multiple size place aligned) end ends z at far below)
+      | inr le ↦ (x, (known x tail.0 tail.2, omega (arith, tail.1, le, above), λ broken. absurd (whole_one broken)))
+    ]
+
+    by : (why : ScanEnd) → x.why ≡ why → GoesOn why (y ∷ ys) (IsTail sum size log ordering (place + size) (y ∷ ys)) → Rest → (t : Scanned) × IsTailAt end z t
+    by Broken test none rest = absurd (no_more none)
+      where
+        no_more : (y ∷ ys) ≡ [] → ⊥
+        no_more none = cc
+    by Full test on rest = on_from (λ broken. let no : Full ≡ Broken = sym test ∙ broken in cc) on rest
+    by Capped test on rest = on_from (λ broken. let no : Capped ≡ Broken = sym test ∙ broken in cc) on rest
+
+  -- It ends at or above the place where it begins.
+  pub tail_some : (place : ℕ) (x : Scanned) (xs : List Scanned) → IsTail sum size log ordering place (x ∷ xs) → (end : ℕ) × (tail_end (x ∷ xs) ≡ Some end) × (place ≤ end)
+  tail_some place x [] tail = (x.segment.place + x.stop, refl, omega (arith, tail.1))
+  tail_some place x (y ∷ ys) tail = by x.why tail.3 (tail_some (place + size) y ys) where
+    Rest : Type 0
+    Rest = IsTail sum size log ordering (place + size) (y ∷ ys) → (end : ℕ) × (tail_end (y ∷ ys) ≡ Some end) × (place + size ≤ end)
+
+    next : IsTail sum size log ordering (place + size) (y ∷ ys) → Rest → (end : ℕ) × (tail_end (y ∷ ys) ≡ Some end) × (place ≤ end)
+    next on rest = let e = rest on in (e.0, e.1, omega (arith, e.2))
+
+    by : (why : ScanEnd) → GoesOn why (y ∷ ys) (IsTail sum size log ordering (place + size) (y ∷ ys)) → Rest → (end : ℕ) × (tail_end (y ∷ ys) ≡ Some end) × (place ≤ end)
+    by Broken none rest = absurd (no_more none)
+      where
+        no_more : (y ∷ ys) ≡ [] → ⊥
+        no_more none = cc
+    by Full on rest = next on rest
+    by Capped on rest = next on rest
+
+  -- There is a tail, wherever it is to begin.
+  module _ where
+    abbrev Tail : ℕ → Type 0
+    Tail z = (tail : List Scanned) × IsTail sum size log ordering z tail
+
+    -- the segments from a place on are among these
+    abbrev Has : ℕ → List Scanned → Type 0
+    Has z xs = (s : Segment) → Contains ordering s → z ≤ s.place → (x : Scanned) × Contains xs x × (x.segment ≡ s)
+
+    has_later : (z : ℕ) (x : Scanned) (xs : List Scanned) (w : ℕ) → z ≤ w → x.segment.place < w → Has z (x ∷ xs) → Has w xs
+    has_later z x xs w low under has s there above =
+        let found = has s there (omega (arith, low, above)) in
+        ⊎_elim
+        (λ same. absurd (omega (arith, under, above, ap (λ (t : Scanned). t.segment.place) same, ap (λ (t : Segment). t.place) found.2)))
+        (λ later. (found.0, later, found.2))
+        (in_cases x found.0 xs found.1)
+
+    tail_among : (xs : List Scanned) → IsRow sum size log some xs → ((x : Scanned) → Contains xs x → Contains ordering x.segment) → (z : ℕ) → Has z xs → Tail z
+    tail_among [] stands of z has = ([], λ s there at. in_nothing (has s there (omega (arith, at))).0 (has s there (omega (arith, at))).1)
+    tail_among (x ∷ xs) stands of z has = elim (cases_order x.segment.place z) [
+      | inl same ↦ from_here same x.why refl (tail_among xs stands.2 (λ t there. of t (in_rest x t xs there)) (z + size) (has_later z x xs (z + size) (omega arith) (omega (arith, same, some)) has))
+      | inr (inl under) ↦ tail_among xs stands.2 (λ t there. of t (in_rest x t xs there)) z (has_later z x xs z (omega arith) under has)
+      | inr (inr over) ↦ ([], λ s there at.
+          let found = has s there (omega (arith, at)) in
+          ⊎_elim
+          (λ same. omega (arith, over, at, ap (λ (t : Scanned). t.segment.place) same, ap (λ (t : Segment). t.place) found.2))
+          (λ later. let far = stands.1 found.0 later in omega (arith, far, over, at, ap (λ (t : Segment). t.place) found.2))
+          (in_cases x found.0 xs found.1))
+    ] where
+      from_here : x.segment.place ≡ z → (why : ScanEnd) → x.why ≡ why → Tail (z + size) → Tail z
+      from_here same Broken test rest = (x ∷ [], (of x (in_first x xs), same, stands.0.0, subst (λ (w : ScanEnd). GoesOn w [] (IsTail sum size log ordering (z + size) [])) (sym test) refl))
+      from_here same Full test rest = (x ∷ rest.0, (of x (in_first x xs), same, stands.0.0, subst (λ (w : ScanEnd). GoesOn w rest.0 (IsTail sum size log ordering (z + size) rest.0)) (sym test) rest.1))
+      from_here same Capped test rest = (x ∷ rest.0, (of x (in_first x xs), same, stands.0.0, subst (λ (w : ScanEnd). GoesOn w rest.0 (IsTail sum size log ordering (z + size) rest.0)) (sym test) rest.1))
+
+    pub tail_there : (z : ℕ) → Tail z
+    tail_there z = tail_among scanned row (λ x there. (segment_there sum size log ordering scanned reads x there).0) z all where
+      all : Has z scanned
+      all s there above = let found = scan_there sum size log ordering scanned reads s there in (found.0, found.1, found.2)
