@@ -1,1 +1,2 @@
+pub mod ReachedCut
 pub mod StandsTo

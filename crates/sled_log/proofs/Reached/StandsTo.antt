@@ -90,7 +90,7 @@ module _ (sum : List ℕ → ℕ) (size : ℕ) (log : List ℕ) (some : 256 ≤ 
 
   -- Where the tail begins: at the segment of the snapshot or above it, and no higher than the place that was reached.
 
-  aligned : begins % size ≡ 0
+  pub aligned : begins % size ≡ 0
   aligned = (put_down size (greatest_mark least is.ordering)).1
 
   pub begins_above : least ≤ begins
