@@ -1,0 +1,151 @@
+-- The entries of a table below the cut of such a log file are there, each in its segment, and so is all of that segment below the cut.
+use Rattle.std.proofs.Common.{⊎_elim, ◌≡◌, ◌⊎◌, ◌∙◌, ◌+◌, ◌*◌, ◌/◌, ◌%◌, ◌<◌, ◌≤◌, ℕ, ℤ, List, [], ◌∷◌, Option, Some, refl, sym, ap, subst, arith, inl, inr}
+use Rattle.std.specs.List.{Contains}
+use Rattle.std.proofs.lemmas.Bool.{cases_lt}
+use Rattle.sled_codec.specs.declared.serialization.message.MessageHeader.{MessageHeader}
+use Rattle.sled_codec.specs.Pointers.{lid_of}
+use Rattle.sled_codec.specs.History.{Message, History, table}
+use Rattle.sled_codec.specs.Snapshots.{SnapshotModel}
+use Rattle.sled_store.proofs.Segments.Elements.{in_cases, in_nothing}
+use Rattle.sled_store.proofs.Segments.TableEntries.{from_table}
+use Rattle.sled_core.specs.declared.iterator.Segment.{Segment}
+use Rattle.sled_core.specs.declared.iterator.scan.ScannedRecord.{ScannedRecord}
+use Rattle.sled_core.specs.declared.iterator.scan.RecordContent.{RecordContent}
+use Rattle.sled_core.specs.declared.iterator.scan.RecordContent.TheVariants.{Gives, NamesBlob}
+use Rattle.sled_core.specs.Recoverable.{NamesBlobOf, MeetsMessage, StandsInline, IsReachedIn, IsSegmentOf}
+use Rattle.sled_core.specs.Scan.{IsFoundSegment, IsMet, IsPath, IsScan, Says}
+use Rattle.sled_log.specs.Recovery.{Scanned, IsScanned}
+use Rattle.sled_log.proofs.PageTable.Ascending.{Ascends}
+use Rattle.sled_log.proofs.PageTable.EarlierEntries.{entry_earlier}
+use Rattle.sled_log.proofs.Recovers.Covered.{PassEnds, IsCovered, covered}
+use Rattle.sled_log.proofs.Recovers.OfHistory.{message_of}
+use Rattle.sled_log.proofs.Recovers.OneTail.{Rises, rises_of, one_at_place, segment_there}
+use Rattle.sled_log.proofs.Recovers.Tails.{put_down, one_reading}
+use Rattle.sled_log.proofs.Moments.SegmentsFrom.{lower_multiple}
+use Rattle.sled_log.proofs.Reached.StandsTo.{StandsTo, least, begins, begins_below}
+
+-- The records of a path before one of them lead to it.
+pub path_to : (sum : List ℕ → ℕ) (size : ℕ) (log : List ℕ) (slot place at : ℕ) (ms : List ScannedRecord) (next : ℕ) → IsPath sum size log slot place at ms next → (x : ScannedRecord) → Contains ms x
+    → (before : List ScannedRecord) × (o : ℕ) × (IsPath sum size log slot place at before o × (o + 32 ≤ size) × (x.place ≡ place + o) × IsMet sum size log (slot + o) (place / size) x)
+path_to sum size log slot place at [] next path x there = absurd (in_nothing x there)
+path_to sum size log slot place at (m ∷ ms) next path x there = ⊎_elim
+    (λ same. ([], at, (refl, path.0, sym (ap (λ (y : ScannedRecord). y.place) same) ∙ path.1, subst (IsMet sum size log (slot + at) (place / size)) same path.2)))
+    (λ later. let rest = path_to sum size log slot place (at + m.len) ms next path.3 x later in (m ∷ rest.0, rest.1, ((path.0, path.1, path.2, rest.2.0), rest.2.1, rest.2.2, rest.2.3)))
+    (in_cases m x ms there)
+
+-- The pointer of a message that is met has the offset at which it is met.
+met_lid : (sum : List ℕ → ℕ) (size : ℕ) (log : List ℕ) (lid number : ℕ) (x : ScannedRecord) (m : Message) → IsMet sum size log lid number x → MeetsMessage x m → lid_of m.pointer ≡ lid
+unfolding IsMet
+met_lid sum size log lid number x m (h, body, stands, says) meets = elim meets.what [
+  | inl gives ↦ (let says_so = subst (Says h body lid) gives says in ap lid_of says_so.3)
+  | inr names ↦ (let says_so = subst (Says h body lid) names.5 says in ap lid_of names.3 ∙ says_so.2)
+]
+
+module _ (sum : List ℕ → ℕ) (size : ℕ) (log : List ℕ) where
+  -- a message that is met in a segment which was read to its end is reached in it
+  pub reached_of : (t : Scanned) → IsScanned sum size log t → (x : ScannedRecord) → Contains t.met x → (m : Message) → MeetsMessage x m → IsReachedIn sum size log t.segment m
+  unfolding IsScan
+  reached_of t scan x met m meets =
+      let to = path_to sum size log t.segment.slot t.segment.place 20 t.met t.stop scan.0 x met in record {
+        before = to.0;
+        at = to.1;
+        path = to.2.0;
+        room = to.2.1;
+        place = sym meets.place ∙ to.2.2;
+        lid = met_lid sum size log (t.segment.slot + to.1) (t.segment.place / size) x m to.2.3 meets;
+        met = x;
+        is_met = to.2.3;
+        meets = meets;
+      }
+
+module _ (sum : List ℕ → ℕ) (size : ℕ) (log : List ℕ) (some : 256 ≤ size) (H : History) (A : ℕ) (first : SnapshotModel) (reach : ℕ) (is : StandsTo sum size log H A first reach) (ordered : Ascends H.messages)
+    (end cut : ℕ) (ends : PassEnds sum size log some is.scanned (begins sum size log some H A first reach is) end cut) (far : reach ≤ cut) where
+  abbrev from : ℕ
+  from = least sum size log some H A first reach is
+
+  abbrev begin : ℕ
+  begin = begins sum size log some H A first reach is
+
+  rises : Rises is.ordering
+  rises = rises_of is.ordering is.numbers.ascending
+
+  -- the segment of a message is there, and the message is met in it
+  abbrev IsReadIn : Message → Scanned → Type 0
+  IsReadIn m t = Contains is.scanned t × (t.segment.place ≡ m.place / size * size) × IsReachedIn sum size log t.segment m × StandsInline sum size log m m.pointer
+
+  -- Each message between the beginning of the tail and the cut is reached.
+  read_at : (m : Message) → Contains H.messages m → begin ≤ m.place → m.place < cut → (t : Scanned) × IsReadIn m t
+  read_at m there above lower = by (covered sum size log some is.scanned begin end cut ends m.place above lower (is.placed m there).begins) where
+    by : IsCovered sum size log some is.scanned begin end cut ends m.place → (t : Scanned) × IsReadIn m t
+    by (t, known, place, inl (x, met, low, high)) =
+        let its = message_of sum size log H ordered x (is.truth t x known met) m there low high in
+        let scan = (segment_there sum size log is.ordering is.scanned is.reads t known).1 in
+        (t, (known, place, reached_of sum size log t scan x met m its.0, its.1))
+    by (t, known, place, inr (capped, past, within)) = ⊎_elim (λ under. absurd (omega (arith, under, past))) (λ over. absurd (omega (arith, over, within))) ((is.caps t known capped).0 m there)
+
+  -- a message in a segment of one that lies at the place that was reached or above it lies in the tail
+  high_there : (m n : Message) → reach ≤ m.place → n.place / size ≡ m.place / size → begin ≤ n.place
+  high_there m n above same =
+      let low = begins_below sum size log some H A first reach is in
+      let multiple = lower_multiple size some reach m.place above in
+      let own = put_down size n.place in
+      omega (arith, low, multiple, own.0, ap (λ k. k * size) same)
+
+  -- Entries at that place or above it.
+
+  high_entry : (m : Message) → Contains H.messages m → reach ≤ m.place → m.place < cut → IsSegmentOf sum size log H cut m × StandsInline sum size log m m.pointer
+  high_entry m there above lower =
+      let its = read_at m there (high_there m m above refl) lower in
+      let t : Scanned = its.0 in
+      let known = its.1.0 in
+      let found = (is.numbers.found t.segment).0 (segment_there sum size log is.ordering is.scanned is.reads t known).0 in (
+        record {
+          segment = t.segment;
+          found = record { slot = found.slot; header = found.header; not_below = omega arith };
+          place = its.1.1;
+          reached = its.1.2;
+          whole = λ n known_n same under.
+              let other = read_at n known_n (high_there m n above same) under in
+              let one : other.0 ≡ t =
+              one_reading sum size log some from is.ordering is.numbers is.scanned is.reads other.0 t other.1.0 known (other.1.1 ∙ ap (λ k. k * size) same ∙ sym its.1.1) in
+              subst (λ (u : Scanned). IsReachedIn sum size log u.segment n) one other.1.2;
+        },
+        its.1.3,
+      )
+
+  -- Entries below it.
+
+  -- where a message of the segment lies higher, the segment is one of those that are found
+  low_segment : (m : Message) (of : IsSegmentOf sum size log H reach m) → (n : Message) → Contains H.messages n → n.place / size ≡ m.place / size → reach ≤ n.place → n.place < cut → IsReachedIn sum size log of.segment n
+  low_segment m of n there same above lower =
+      let other = read_at n there (high_there n n above refl) lower in
+      let known = (segment_there sum size log is.ordering is.scanned is.reads other.0 other.1.0).0 in
+      let places : of.segment.place ≡ other.0.segment.place = of.place ∙ sym (ap (λ k. k * size) same) ∙ sym other.1.1 in
+      let its = of.found in
+      let found = (is.numbers.found other.0.segment).0 known in
+      let low = found.not_below in
+      let there_too = (is.numbers.found of.segment).1 (record { slot = its.slot; header = its.header; not_below = omega (arith, low, places) }) in
+      let one : other.0.segment ≡ of.segment = one_at_place is.ordering rises other.0.segment of.segment known there_too (sym places) in
+      subst (λ (u : Segment). IsReachedIn sum size log u n) one other.1.2
+
+  low_entry : (m : Message) → IsSegmentOf sum size log H reach m → IsSegmentOf sum size log H cut m
+  low_entry m of = record {
+    segment = of.segment;
+    found = of.found;
+    place = of.place;
+    reached = of.reached;
+    whole = λ n there same under. elim (cases_lt n.place reach) [
+      | inl low ↦ of.whole n there same low
+      | inr high ↦ low_segment m of n there same high under
+    ];
+  }
+
+  pub entries_there : (page : ℕ) (m : Message) → Contains (table H cut page) m → IsSegmentOf sum size log H cut m × StandsInline sum size log m m.pointer
+  entries_there page m entry =
+      let from_H = from_table H cut page m entry in
+      elim (cases_lt m.place reach) [
+        | inl low ↦ (
+            let had = is.needed page m (entry_earlier H ordered reach cut page far m low entry) in
+            (low_entry m had.0, had.1))
+        | inr high ↦ high_entry m from_H.0 high from_H.2
+      ]

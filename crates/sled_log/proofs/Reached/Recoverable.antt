@@ -1,0 +1,102 @@
+-- A log file that is read without a gap up to a place that the log has reached can be recovered, and the cut is that place or lies above it.
+use Rattle.std.proofs.Common.{⊎_elim, ◌≡◌, ◌⊎◌, ◌∙◌, ◌+◌, ◌-◌, ◌*◌, ◌/◌, ◌<◌, ◌≤◌, ◌<ℤ◌, ℕ, ℤ, pos, negsuc, List, [], ◌∷◌, Option, Some, None, refl, sym, ap, subst, arith, inl, inr, lt→ltb}
+use Rattle.std.specs.List.{Contains}
+use Rattle.std.proofs.lemmas.Bool.{cases_lt}
+use Rattle.sled_codec.specs.Coords.{raised}
+use Rattle.sled_codec.specs.History.{Message, History, table}
+use Rattle.sled_codec.specs.Snapshots.{SnapshotModel, stable_place}
+use Rattle.sled_core.specs.declared.iterator.Segment.{Segment}
+use Rattle.sled_core.specs.Recoverable.{StandsInline, IsMarkBelow, IsSegmentOf, IsRecoverableLog, cut_from}
+use Rattle.sled_log.specs.Recovery.{Scanned, IsTail, tail_begins, tail_end, least_place}
+use Rattle.sled_log.proofs.PageTable.Ascending.{Ascends}
+use Rattle.sled_log.proofs.Recovers.TailBegins.{mark_below}
+use Rattle.sled_log.proofs.Recovers.Tails.{put_down}
+use Rattle.sled_log.proofs.Moments.SegmentsFrom.{lower_multiple}
+use Rattle.sled_log.proofs.Reached.ReachedCut.{some_read, cut, cut_far, cut_is, pass_ends}
+use Rattle.sled_log.proofs.Reached.ReachedEntries.{entries_there}
+use Rattle.sled_log.proofs.Reached.StandsTo.{StandsTo, begins, the_tail, tail_ends}
+
+-- less than a natural number is less than a greater one
+less_than : (mark : ℤ) (low high : ℕ) → low ≤ high → mark <ℤ pos low → mark <ℤ pos high
+less_than (pos n) low high le lt = let under : n < low = mark_below (pos n) n low refl lt in omega (arith, lt→ltb, le, under)
+less_than (negsuc n) low high le lt = omega arith
+
+module _ (sum : List ℕ → ℕ) (size : ℕ) (log : List ℕ) (some : 256 ≤ size) (H : History) (A : ℕ) (first : SnapshotModel) (reach : ℕ) (is : StandsTo sum size log H A first reach) (ordered : Ascends H.messages) where
+  -- A mark that lies below the place does so below a higher one.
+  mark_higher : (c : ℕ) → reach ≤ c → (mark : ℤ) → IsMarkBelow size H reach mark → IsMarkBelow size H c mark
+  mark_higher c far mark (inl lower) = inl (less_than mark reach c far lower)
+  mark_higher c far mark (inr (n, at, under, message, batch, ended)) = elim (cases_lt n c) [
+    | inl below ↦ inl (subst (λ (z : ℤ). z <ℤ pos c) (sym at) (omega (arith, lt→ltb, below)))
+    | inr above ↦ (
+        let multiple = lower_multiple size some (reach + (size - 1)) (c + (size - 1)) (omega (arith, far)) in
+        inr (
+          n,
+          at,
+          omega (arith, under, multiple),
+          λ m there. ⊎_elim (λ early. inl (omega (arith, early, far))) (λ late. inr late) (message m there),
+          λ b there. ⊎_elim (λ early. inl (omega (arith, early, far))) (λ late. inr late) (batch b there),
+          λ b there. ⊎_elim (λ early. inl (omega (arith, early, far))) (λ late. inr late) (ended b there),
+        ))
+  ]
+
+  abbrev begin : ℕ
+  begin = begins sum size log some H A first reach is
+
+  -- where the tail begins a segment is found, or the snapshot ends there
+  abbrev Begun : Type 0
+  Begun = ((s : Segment) × Contains is.ordering s × (s.place ≡ begin)) ⊎ (begin ≡ stable_place first.stable)
+
+  -- With this tail and this cut.
+  recoverable : (tail : List Scanned) → IsTail sum size log is.ordering begin tail → Begun → (c : ℕ × Option ℕ) → c ≡ cut_from size first is.scanned (tail_end tail) → reach ≤ c.0
+      → ((page : ℕ) (m : Message) → Contains (table H c.0 page) m → IsSegmentOf sum size log H c.0 m × StandsInline sum size log m m.pointer) → IsRecoverableLog sum size log H A first c
+  recoverable tail is_tail begun c is_cut far needed =
+      let low = is.not_below in
+      let acknowledged = is.passes in
+      record {
+        ordering = is.ordering;
+        numbers = is.numbers;
+        scanned = is.scanned;
+        reads = is.reads;
+        tail = tail;
+        is_tail = is_tail;
+        marks = is.marks;
+        truth = is.truth;
+        caps = is.caps;
+        tail_there = begun;
+        is_cut = is_cut;
+        not_below = omega (arith, low, far);
+        passes = omega (arith, acknowledged, far);
+        marks_below = λ s there. mark_higher c.0 far s.mark (is.marks_below s there);
+        placed = λ m there under. is.placed m there;
+        batched = λ b there under. is.batched b there;
+        needed = needed;
+      }
+
+  -- where a tail has segments, the first one begins where it does
+  begun_there : (tail : List Scanned) → IsTail sum size log is.ordering begin tail → (end : ℕ) → tail_end tail ≡ Some end → Begun
+  begun_there [] is_tail end ends = cc
+  begun_there (x ∷ xs) is_tail end ends = inl (x.segment, is_tail.0, is_tail.1)
+
+  by_tail : (tail : List Scanned) → (is_tail : IsTail sum size log is.ordering begin tail)
+      → ((tail_end tail ≡ None) × (begin ≡ reach) × (stable_place first.stable ≡ reach)) ⊎ ((end : ℕ) × (tail_end tail ≡ Some end) × (reach ≤ end))
+      → (c : ℕ × Option ℕ) × (reach ≤ c.0) × IsRecoverableLog sum size log H A first c
+  by_tail tail is_tail (inl (none, at, place)) = (
+    (stable_place first.stable, first.active),
+    omega (arith, place),
+    recoverable tail is_tail (inr (at ∙ sym place)) (stable_place first.stable, first.active) (sym (ap (cut_from size first is.scanned) none)) (omega (arith, place))
+        (λ page m entry. subst (λ n. IsSegmentOf sum size log H n m × StandsInline sum size log m m.pointer) (sym place) (is.needed page m (subst (λ n. Contains (table H n page) m) place entry))),
+  )
+  by_tail tail is_tail (inr (end, ends, far)) =
+      let read = some_read sum size log some H A first reach is tail is_tail end ends far in
+      let c : ℕ × Option ℕ = cut sum size log some H A first reach is tail is_tail end ends far read.0 read.1 read.2 in
+      let high : reach ≤ c.0 = cut_far sum size log some H A first reach is tail is_tail end ends far read.0 read.1 read.2 in (
+        c,
+        high,
+        recoverable tail is_tail (begun_there tail is_tail end ends) c (sym (cut_is sum size log some H A first reach is tail is_tail end ends far read.0 read.1 read.2)) high
+            (entries_there sum size log some H A first reach is ordered end c.0 (pass_ends sum size log some H A first reach is tail is_tail end ends far read.0 read.1 read.2) high),
+      )
+
+  pub reached_recoverable : (c : ℕ × Option ℕ) × (reach ≤ c.0) × IsRecoverableLog sum size log H A first c
+  reached_recoverable =
+      let tail = the_tail sum size log some H A first reach is in
+      by_tail tail.0 tail.1 (tail_ends sum size log some H A first reach is tail.0 tail.1)
