@@ -2,7 +2,9 @@ pub mod TornFlush
 pub mod TornLemmas
 pub mod TornRecords
 pub mod TornZeros
+pub mod WrittenBehind
 pub mod WrittenBeside
 pub mod WrittenParts
+pub mod WrittenRecords
 pub mod ZeroedScans
 pub mod ZeroedSlots

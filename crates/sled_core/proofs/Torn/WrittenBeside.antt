@@ -12,7 +12,7 @@ use Rattle.sled_core.specs.declared.iterator.scan.ScanEnd.{ScanEnd}
 use Rattle.sled_core.specs.Scan.{IsFoundSegment, IsScan}
 use Rattle.sled_core.proofs.Read.FoundLemmas.{found_there}
 use Rattle.sled_core.proofs.Torn.TornLemmas.{after_write, part_left}
-use Rattle.sled_core.proofs.Torn.WrittenParts.{twenty, in_this_file, header_where, scan_apart}
+use Rattle.sled_core.proofs.Torn.WrittenParts.{twenty, in_this_file, header_where, scan_apart, scan_back}
 
 -- the header that is found in a slot, where its bytes are the same
 pub found_moved : (sum : List ℕ → ℕ) (size : ℕ) (log log' : List ℕ) (least : ℕ) (s : Segment) → part log' s.slot 20 ≡ part log s.slot 20 → IsFoundSegment sum size log least s → IsFoundSegment sum size log' least s
@@ -69,3 +69,7 @@ module _ (sum : List ℕ → ℕ) (size : ℕ) (long : 20 ≤ size) (old : List 
     pub scan_stays : (place : ℕ) (mark : ℤ) → IsHeader sum (part left (k * size) 20) (pos place) mark
         → (met : List ScannedRecord) (stop : ℕ) (why : ScanEnd) → IsScan sum size old (k * size) place met stop why → IsScan sum size left (k * size) place met stop why
     scan_stays place mark header = scan_apart sum size old (slot * size + from) asked now left no_more leaves only_own k place mark header apart
+
+    pub scan_stood : (place : ℕ) (mark : ℤ) → IsHeader sum (part left (k * size) 20) (pos place) mark
+        → (met : List ScannedRecord) (stop : ℕ) (why : ScanEnd) → IsScan sum size left (k * size) place met stop why → IsScan sum size old (k * size) place met stop why
+    scan_stood place mark header = scan_back sum size old (slot * size + from) asked now left no_more leaves only_own k place mark header apart

@@ -15,7 +15,7 @@ use Rattle.sled_core.specs.declared.iterator.scan.ScanEnd.TheVariants.{Full, Cap
 use Rattle.sled_core.specs.LogFile.{IsEmpty}
 use Rattle.sled_core.specs.Reading.{StandsAt}
 use Rattle.sled_core.specs.Scan.{IsMet, IsPath, IsEnd, EndsThere, IsScan}
-use Rattle.sled_core.proofs.Flush.LogFileLemmas.{record_moved, part_laid}
+use Rattle.sled_core.proofs.Flush.LogFileLemmas.{record_moved, file_grows, part_kept, part_laid}
 use Rattle.sled_core.proofs.Read.ScanLemmas.{aligned_offset}
 use Rattle.sled_core.proofs.Torn.TornLemmas.{after_write, left_grows, part_left}
 use Rattle.sled_core.proofs.Torn.TornRecords.{the_only, record_of_stands, long_enough, record_reached}
@@ -61,27 +61,43 @@ module _ (sum : List ℕ → ℕ) (size : ℕ) (log : List ℕ) where
   path_rises slot place from [] next path = omega (arith, path)
   path_rises slot place from (m ∷ ms) next path = let rest = path_rises slot place (from + m.len) ms next path.3 in omega (arith, rest)
 
+  -- what is met up to a place, and then behind it
+  pub paths_joined : (slot place from : ℕ) (ms : List ScannedRecord) (mid : ℕ) (more : List ScannedRecord) (next : ℕ) → IsPath sum size log slot place from ms mid → IsPath sum size log slot place mid more next
+      → IsPath sum size log slot place from (ms ++ more) next
+  paths_joined slot place from [] mid more next path rest = subst (λ n. IsPath sum size log slot place n more next) path rest
+  paths_joined slot place from (m ∷ ms) mid more next path rest = (path.0, path.1, path.2, paths_joined slot place (from + m.len) ms mid more next path.3 rest)
+
+-- What stands outside a range of a file stands in another one too that has the same bytes there.
+module _ (sum : List ℕ → ℕ) (size : ℕ) (old new : List ℕ) (at n : ℕ) (grows : length old ≤ length new) (same : (lid len : ℕ) → lid + len ≤ length old → (lid + len ≤ at) ⊎ (at + n ≤ lid) → part new lid len ≡ part old lid len) where
+  record_kept : (lid number : ℕ) (h : MessageHeader) (body : List ℕ) (len : ℕ) → (lid + len ≤ at) ⊎ (at + n ≤ lid) → StandsAt sum size old lid number h body len → StandsAt sum size new lid number h body len
+  record_kept lid number h body len apart s = let there = s.in_file in record_moved sum size old new lid number h body len (same lid len there apart) (omega (arith, there, grows)) s
+
+  path_kept : (slot place : ℕ) → slot % size ≡ 0 → (from : ℕ) (ms : List ScannedRecord) (next : ℕ) → (slot + min next size ≤ at) ⊎ (at + n ≤ slot) → IsPath sum size old slot place from ms next → IsPath sum size new slot place from ms next
+  unfolding IsMet
+  path_kept slot place aligned from [] next apart path = path
+  path_kept slot place aligned from (m ∷ ms) next apart (room, at_place, (h, body, stands, says), path) =
+      let ends = path_rises sum size old slot place (from + m.len) ms next path in
+      let within = in_segment sum size old slot aligned from (place / size) h body m.len (omega (arith, room)) stands in
+      let beside : (slot + from + m.len ≤ at) ⊎ (at + n ≤ slot + from) = elim apart [ inl before ↦ inl (omega (arith, before, ends, within)) | inr past ↦ inr (omega (arith, past)) ] in (
+        room,
+        at_place,
+        (h, body, record_kept (slot + from) (place / size) h body m.len beside stands, says),
+        path_kept slot place aligned (from + m.len) ms next apart path,
+      )
+
+-- What was met before a write, or in another slot, is met behind all of it.
+pub path_whole : (sum : List ℕ → ℕ) (size : ℕ) (old : List ℕ) (at : ℕ) (asked : List ℕ) (slot place : ℕ) → slot % size ≡ 0 → (from : ℕ) (ms : List ScannedRecord) (next : ℕ) → (slot + min next size ≤ at) ⊎ (at + length asked ≤ slot)
+    → IsPath sum size old slot place from ms next → IsPath sum size (overwritten old at asked) slot place from ms next
+path_whole sum size old at asked = path_kept sum size old (overwritten old at asked) at (length asked) (file_grows sum size old at asked) (part_kept sum size old at asked)
+
 module _ (sum : List ℕ → ℕ) (size : ℕ) (old : List ℕ) (at : ℕ) (asked now left : List ℕ) (no_more : length now ≤ length asked) (leaves : LeavesLog (after_write old at asked now) left) where
   -- A record that the write doesn't touch stands.
   pub record_stays : (lid number : ℕ) (h : MessageHeader) (body : List ℕ) (len : ℕ) → (lid + len ≤ at) ⊎ (at + length asked ≤ lid) → StandsAt sum size old lid number h body len → StandsAt sum size left lid number h body len
-  record_stays lid number h body len apart s =
-      let there = s.in_file in
-      let grown = left_grows old at asked now left no_more leaves in
-      record_moved sum size old left lid number h body len (part_left old at asked now left no_more leaves lid len there apart) (omega (arith, there, grown)) s
+  record_stays = record_kept sum size old left at (length asked) (left_grows old at asked now left no_more leaves) (part_left old at asked now left no_more leaves)
 
   -- What was met before the write, or in another slot, still is.
   pub path_stays : (slot place : ℕ) → slot % size ≡ 0 → (from : ℕ) (ms : List ScannedRecord) (next : ℕ) → (slot + min next size ≤ at) ⊎ (at + length asked ≤ slot) → IsPath sum size old slot place from ms next → IsPath sum size left slot place from ms next
-  unfolding IsMet
-  path_stays slot place aligned from [] next apart path = path
-  path_stays slot place aligned from (m ∷ ms) next apart (room, at_place, (h, body, stands, says), path) =
-      let ends = path_rises sum size old slot place (from + m.len) ms next path in
-      let within = in_segment sum size old slot aligned from (place / size) h body m.len (omega (arith, room)) stands in
-      let beside : (slot + from + m.len ≤ at) ⊎ (at + length asked ≤ slot + from) = elim apart [ inl before ↦ inl (omega (arith, before, ends, within)) | inr past ↦ inr (omega (arith, past)) ] in (
-        room,
-        at_place,
-        (h, body, record_stays (slot + from) (place / size) h body m.len beside stands, says),
-        path_stays slot place aligned (from + m.len) ms next apart path,
-      )
+  path_stays = path_kept sum size old left at (length asked) (left_grows old at asked now left no_more leaves) (part_left old at asked now left no_more leaves)
 
   -- what the write covers is read where all of it was written
   pub covered_new : (lid len : ℕ) → length (part left lid len) ≡ len → Covers (at, asked) lid (part left lid len) → part (overwritten old at asked) lid len ≡ part left lid len
@@ -135,13 +151,16 @@ module _ (sum : List ℕ → ℕ) (size : ℕ) (old : List ℕ) (at : ℕ) (aske
                   absurd (elim apart [ inl before ↦ omega (arith, before, begins, fits, some) | inr past ↦ omega (arith, past, ends, whole, some) ]))
             ]
 
+        stays_apart : (from : ℕ) → from < size → (h : MessageHeader) (body : List ℕ) (len : ℕ) → StandsAt sum size old (slot * size + from) (place / size) h body len → StandsAt sum size left (slot * size + from) (place / size) h body len
+        stays_apart from below h body len s =
+            let fits = in_segment sum size old (slot * size) (mul-mod_left slot size) from (place / size) h body len below s in
+            let beside : (slot * size + from + len ≤ at) ⊎ (at + length asked ≤ slot * size + from) = elim apart [ inl before ↦ inl (omega (arith, before, fits)) | inr past ↦ inr (omega (arith, past)) ] in
+            record_stays (slot * size + from) (place / size) h body len beside s
+
         end_same : (from : ℕ) → ComesTo sum size left (slot * size) place from → (why : ScanEnd) → IsEnd sum size old (slot * size) place from why → IsEnd sum size left (slot * size) place from why
         unfolding EndsThere
         end_same from comes Full full = full
-        end_same from comes Capped (room, (h, body, len, s, is_cap)) =
-            let fits = in_segment sum size old (slot * size) (mul-mod_left slot size) from (place / size) h body len (omega (arith, room)) s in
-            let beside : (slot * size + from + len ≤ at) ⊎ (at + length asked ≤ slot * size + from) = elim apart [ inl before ↦ inl (omega (arith, before, fits)) | inr past ↦ inr (omega (arith, past)) ] in
-            (room, (h, body, len, record_stays (slot * size + from) (place / size) h body len beside s, is_cap))
+        end_same from comes Capped (room, (h, body, len, s, is_cap)) = (room, (h, body, len, stays_apart from (omega (arith, room)) h body len s, is_cap))
         end_same from comes Broken (room, none) = (room, λ h body len s. none h body len (stood_apart from comes (omega (arith, room)) h body len s))
 
         -- All is met as before.
@@ -152,3 +171,27 @@ module _ (sum : List ℕ → ℕ) (size : ℕ) (old : List ℕ) (at : ℕ) (aske
             let beside : (slot * size + min stop size ≤ at) ⊎ (at + length asked ≤ slot * size) = elim apart [ inl before ↦ inl (omega (arith, before)) | inr past ↦ inr past ] in
             let stays = path_stays (slot * size) place aligned 20 met stop beside path in
             (stays, end_same stop (comes_along sum size left (slot * size) aligned place 20 met stop stays at_first) why end)
+
+        path_back : (from : ℕ) → ComesTo sum size left (slot * size) place from → (ms : List ScannedRecord) (next : ℕ) → IsPath sum size left (slot * size) place from ms next → IsPath sum size old (slot * size) place from ms next
+        unfolding IsMet
+        path_back from comes [] next path = path
+        path_back from comes (m ∷ ms) next (room, at_place, (h, body, stands, says), path) =
+            let below : from < size = omega (arith, room) in (
+              room,
+              at_place,
+              (h, body, stood_apart from comes below h body m.len stands, says),
+              path_back (from + m.len) (comes_behind sum size left (slot * size) (mul-mod_left slot size) place from h body m.len below stands comes) ms next path,
+            )
+
+        end_back : (from : ℕ) → ComesTo sum size left (slot * size) place from → (why : ScanEnd) → IsEnd sum size left (slot * size) place from why → IsEnd sum size old (slot * size) place from why
+        unfolding EndsThere
+        end_back from comes Full full = full
+        end_back from comes Capped (room, (h, body, len, s, is_cap)) = (room, (h, body, len, stood_apart from comes (omega (arith, room)) h body len s, is_cap))
+        end_back from comes Broken (room, none) = (room, λ h body len s. none h body len (stays_apart from (omega (arith, room)) h body len s))
+
+        -- And all that is met was met before.
+        pub scan_back : (met : List ScannedRecord) (stop : ℕ) (why : ScanEnd) → IsScan sum size left (slot * size) place met stop why → IsScan sum size old (slot * size) place met stop why
+        unfolding IsScan
+        scan_back met stop why (path, end) =
+            let comes = comes_along sum size left (slot * size) (mul-mod_left slot size) place 20 met stop path at_first in
+            (path_back 20 at_first met stop path, end_back stop comes why end)
