@@ -2,6 +2,7 @@ pub mod TornFlush
 pub mod TornLemmas
 pub mod TornRecords
 pub mod TornZeros
+pub mod WrittenBegun
 pub mod WrittenBehind
 pub mod WrittenBeside
 pub mod WrittenParts

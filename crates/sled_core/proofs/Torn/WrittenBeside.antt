@@ -1,5 +1,5 @@
 -- Where a write to one slot was torn, the other slots have the same segments as before, and all is met in them as before.
-use Rattle.std.proofs.Common.{◌≡◌, ◌≢◌, ◌⊎◌, ◌≤◌, ◌<◌, ◌+◌, ◌*◌, ◌/◌, ◌%◌, ◌∙◌, ℕ, ℤ, pos, List, length, sym, ap, arith, subst, inl, inr}
+use Rattle.std.proofs.Common.{◌≡◌, ◌≢◌, ◌⊎◌, ◌≤◌, ◌<◌, ◌+◌, ◌*◌, ℕ, ℤ, pos, List, length, sym, arith, subst, inl, inr}
 use Rattle.std.proofs.Math.Nat.{mul-le-mul_right, suc-mul}
 use Rattle.std.proofs.lemmas.Bool.{cases_order}
 use Rattle.sled_codec.specs.Places.{part}
@@ -12,7 +12,7 @@ use Rattle.sled_core.specs.declared.iterator.scan.ScanEnd.{ScanEnd}
 use Rattle.sled_core.specs.Scan.{IsFoundSegment, IsScan}
 use Rattle.sled_core.proofs.Read.FoundLemmas.{found_there}
 use Rattle.sled_core.proofs.Torn.TornLemmas.{after_write, part_left}
-use Rattle.sled_core.proofs.Torn.WrittenParts.{twenty, in_this_file, header_where, scan_apart, scan_back}
+use Rattle.sled_core.proofs.Torn.WrittenParts.{twenty, header_where, scan_apart, scan_back}
 
 -- the header that is found in a slot, where its bytes are the same
 pub found_moved : (sum : List ℕ → ℕ) (size : ℕ) (log log' : List ℕ) (least : ℕ) (s : Segment) → part log' s.slot 20 ≡ part log s.slot 20 → IsFoundSegment sum size log least s → IsFoundSegment sum size log' least s

@@ -1,5 +1,5 @@
 -- Where a write to a slot was torn, of the records that were to be met behind a place in it the first ones are met, with the bytes that were written, and none behind them.
-use Rattle.std.proofs.Common.{◌≡◌, ◌⊎◌, ◌≤◌, ◌<◌, ◌+◌, ◌-◌, ◌*◌, ◌/◌, ◌%◌, ◌∙◌, ℕ, suc, pos, ℤ, List, [], ◌∷◌, ◌++◌, length, take, drop, get_or, sym, ap, arith, refl, subst, inl, inr}
+use Rattle.std.proofs.Common.{◌≡◌, ◌⊎◌, ◌≤◌, ◌<◌, ◌+◌, ◌*◌, ◌/◌, ◌%◌, ◌∙◌, ℕ, suc, pos, ℤ, List, [], ◌∷◌, ◌++◌, length, take, drop, get_or, sym, ap, arith, refl, subst, inl, inr}
 use Rattle.std.specs.List.{Contains}
 use Rattle.std.proofs.Math.Nat.{mul-mod_left}
 use Rattle.std.proofs.lemmas.List.{get_or-take, get_or-drop}
@@ -7,7 +7,7 @@ use Rattle.sled_codec.specs.declared.serialization.message.MessageHeader.{Messag
 use Rattle.sled_codec.specs.Places.{part}
 use Rattle.sled_codec.specs.Record.{IsHeader}
 use Rattle.sled_store.specs.Device.{overwritten, LeavesLog}
-use Rattle.sled_store.specs.Foreign.{Covers, NoForeignLog}
+use Rattle.sled_store.specs.Foreign.{NoForeignLog}
 use Rattle.sled_store.proofs.Segments.Elements.{in_cases, in_nothing}
 use Rattle.sled_core.specs.declared.iterator.scan.ScannedRecord.{ScannedRecord}
 use Rattle.sled_core.specs.declared.iterator.scan.ScanEnd.{ScanEnd}
@@ -15,7 +15,7 @@ use Rattle.sled_core.specs.declared.iterator.scan.ScanEnd.TheVariants.{Full, Cap
 use Rattle.sled_core.specs.LogFile.{IsEmpty}
 use Rattle.sled_core.specs.Reading.{StandsAt}
 use Rattle.sled_core.specs.Scan.{IsMet, IsPath, IsEnd, EndsThere}
-use Rattle.sled_core.proofs.Flush.LogFileLemmas.{record_moved, laid_within}
+use Rattle.sled_core.proofs.Flush.LogFileLemmas.{record_moved}
 use Rattle.sled_core.proofs.Read.GivesLemmas.{one_len}
 use Rattle.sled_core.proofs.Read.PathLemmas.{zeros_empty}
 use Rattle.sled_core.proofs.Torn.TornLemmas.{after_write}
