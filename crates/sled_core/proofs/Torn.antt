@@ -5,6 +5,7 @@ pub mod TornZeros
 pub mod WrittenBegun
 pub mod WrittenBehind
 pub mod WrittenBeside
+pub mod WrittenFound
 pub mod WrittenParts
 pub mod WrittenRecords
 pub mod ZeroedScans
