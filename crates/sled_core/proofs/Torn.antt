@@ -2,5 +2,11 @@ pub mod TornFlush
 pub mod TornLemmas
 pub mod TornRecords
 pub mod TornZeros
+pub mod WrittenBegun
+pub mod WrittenBehind
+pub mod WrittenBeside
+pub mod WrittenFound
+pub mod WrittenParts
+pub mod WrittenRecords
 pub mod ZeroedScans
 pub mod ZeroedSlots

@@ -1,7 +1,8 @@
 -- What is met in a segment after zeros were written over a part of the log file, and a crash: what was met before, or the beginning of it.
-use Rattle.std.proofs.Common.{◌≡◌, ◌⊎◌, ◌≤◌, ◌<◌, ◌+◌, ◌*◌, ◌/◌, ◌%◌, ◌∙◌, ℕ, ℤ, pos, List, [], ◌∷◌, ◌++◌, length, replicate, sym, ap, arith, refl, subst, inl, inr}
+use Rattle.std.proofs.Common.{◌≡◌, ◌⊎◌, ◌≤◌, ◌<◌, ◌+◌, ◌*◌, ◌/◌, ℕ, ℤ, pos, List, [], ◌∷◌, ◌++◌, length, replicate, sym, ap, arith, refl, subst, inl, inr}
 use Rattle.std.proofs.Math.Nat.{mul-mod_left}
 use Rattle.std.proofs.lemmas.Bool.{cases_lt}
+use Rattle.std.proofs.lemmas.List.{length-replicate}
 use Rattle.sled_codec.specs.declared.serialization.message.MessageHeader.{MessageHeader}
 use Rattle.sled_codec.specs.Places.{part}
 use Rattle.sled_codec.specs.Record.{IsHeader}
@@ -15,10 +16,10 @@ use Rattle.sled_core.specs.Reading.{StandsAt}
 use Rattle.sled_core.specs.Scan.{IsMet, IsPath, IsEnd, EndsThere, IsScan}
 use Rattle.sled_core.proofs.Flush.LogFileLemmas.{record_moved}
 use Rattle.sled_core.proofs.Read.GivesLemmas.{one_len}
-use Rattle.sled_core.proofs.Read.ScanLemmas.{aligned_offset}
 use Rattle.sled_core.proofs.Torn.TornLemmas.{after_write}
 use Rattle.sled_core.proofs.Torn.TornRecords.{same_or_not}
-use Rattle.sled_core.proofs.Torn.ZeroedSlots.{grows, kept, same, stood, reached_behind, path_stays}
+use Rattle.sled_core.proofs.Torn.WrittenParts.{comes_along, scan_apart}
+use Rattle.sled_core.proofs.Torn.ZeroedSlots.{grows, kept, same, stood, reached_behind}
 
 -- A reading of a segment from an offset on, of which what is met is what these begin with. The first one that isn't met reaches above a place of the file.
 pub record ReadsFirst (sum : List ℕ → ℕ) (size : ℕ) (log : List ℕ) (slot place from at : ℕ) (met : List ScannedRecord) : Type 0 where
@@ -115,30 +116,11 @@ module _ (sum : List ℕ → ℕ) (size : ℕ) (old : List ℕ) (at count : ℕ)
 
   -- A reader comes to where what is met ends.
   pub comes_on : (from : ℕ) (met : List ScannedRecord) (stop : ℕ) → Comes from → IsPath sum size left (slot * size) place from met stop → Comes stop
-  unfolding IsMet
-  comes_on from [] stop comes path = subst Comes (sym path) comes
-  comes_on from (m ∷ ms) stop comes (room, at_place, (h, body, stands, says), path) =
-      comes_on (from + m.len) ms stop (reached_behind sum size old at count now left no_more leaves only_own slot place mark header from comes (below from comes room) h body m.len stands) path
+  comes_on from met stop comes path = comes_along sum size left (slot * size) (mul-mod_left slot size) place from met stop path comes
 
   -- In a slot that the zeros don't touch all is met as before.
   module _ (apart : (slot * size + size ≤ at) ⊎ (at + count ≤ slot * size)) where
-    beside : (from : ℕ) (len : ℕ) → from + len ≤ size → (slot * size + from + len ≤ at) ⊎ (at + count ≤ slot * size + from)
-    beside from len within = elim apart [ inl before ↦ inl (omega (arith, before, within)) | inr past ↦ inr (omega (arith, past)) ]
-
-    end_same : (from : ℕ) → Comes from → (why : ScanEnd) → IsEnd sum size old (slot * size) place from why → IsEnd sum size left (slot * size) place from why
-    unfolding EndsThere
-    end_same from comes Full full = full
-    end_same from comes Capped (room, (h, body, len, s, is_cap)) =
-        let inside = s.in_slot in
-        let there = s.in_file in
-        let grown = grows sum size old at count now left no_more leaves in
-        let fits : from + len ≤ size = omega (arith, inside, aligned_offset (slot * size) from size (mul-mod_left slot size) (below from comes room)) in
-        (room, (h, body, len, record_moved sum size old left (slot * size + from) (place / size) h body len (kept sum size old at count now left no_more leaves (slot * size + from) len there (beside from len fits)) (omega (arith, there, grown)) s, is_cap))
-    end_same from comes Broken (room, none) = (room, still_none from comes room none)
-
     pub scan_same : (met : List ScannedRecord) (stop : ℕ) (why : ScanEnd) → stop ≤ size → IsScan sum size old (slot * size) place met stop why → IsScan sum size left (slot * size) place met stop why
-    unfolding IsScan
-    scan_same met stop why within (path, end) =
-        let apart_here : (slot * size + stop ≤ at) ⊎ (at + count ≤ slot * size) = elim apart [ inl before ↦ inl (omega (arith, before, within)) | inr past ↦ inr past ] in
-        let stays = path_stays sum size old at count now left no_more leaves (slot * size) place (mul-mod_left slot size) 20 met stop apart_here path in
-        (stays, end_same stop (comes_on 20 met stop at_first stays) why end)
+    scan_same met stop why within =
+        let beside : (slot * size + size ≤ at) ⊎ (at + length (replicate {A = ℕ} count 0) ≤ slot * size) = elim apart [ inl before ↦ inl before | inr past ↦ inr (omega (arith, past, length-replicate {A = ℕ} count 0)) ] in
+        scan_apart sum size old at (replicate count 0) now left no_more leaves only_own slot place mark header beside met stop why

@@ -1,24 +1,21 @@
 -- What a crash leaves of a settled log file over a part of which zeros were written: a header or a record that a reader comes to stood there before.
-use Rattle.std.proofs.Common.{◌≡◌, ◌⊎◌, ◌≤◌, ◌<◌, ◌+◌, ◌-◌, ◌*◌, ◌/◌, ◌%◌, ◌∙◌, ℕ, ℤ, pos, List, [], ◌∷◌, length, take, drop, replicate, get_or, sym, ap, arith, refl, subst, inl, inr, length-take, length-drop}
+use Rattle.std.proofs.Common.{◌≡◌, ◌⊎◌, ◌≤◌, ◌<◌, ◌+◌, ◌-◌, ◌*◌, ◌/◌, ◌%◌, ◌∙◌, ℕ, min, ℤ, pos, List, [], ◌∷◌, length, take, drop, replicate, get_or, sym, ap, arith, subst, inl, inr}
 use Rattle.std.proofs.Math.Nat.{mul-mod_left}
 use Rattle.std.proofs.lemmas.List.{take-replicate, drop-replicate, length-replicate, get_or-replicate, get_or-take, get_or-drop}
 use Rattle.sled_codec.specs.declared.serialization.message.MessageHeader.{MessageHeader}
 use Rattle.sled_codec.specs.Places.{part}
-use Rattle.sled_codec.specs.Record.{IsRecord, IsHeader}
-use Rattle.sled_codec.proofs.Segments.{length-short_header}
-use Rattle.sled_store.specs.Device.{LogState, LeavesLog}
-use Rattle.sled_store.specs.Foreign.{IsReached, at_first, Covers, IsWhole, NoForeignLog}
-use Rattle.sled_core.specs.declared.iobuf.SegmentPosition.{SegmentPosition}
+use Rattle.sled_codec.specs.Record.{IsHeader}
+use Rattle.sled_store.specs.Device.{LeavesLog}
+use Rattle.sled_store.specs.Foreign.{IsReached, Covers, NoForeignLog}
 use Rattle.sled_core.specs.declared.iterator.scan.ScannedRecord.{ScannedRecord}
-use Rattle.sled_core.specs.declared.iterator.Segment.{Segment}
 use Rattle.sled_core.specs.Reading.{StandsAt}
 use Rattle.sled_core.specs.Recoverable.{NoHeaderOfZeros}
-use Rattle.sled_core.specs.Scan.{IsFoundSegment, IsMet, IsPath}
+use Rattle.sled_core.specs.Scan.{IsMet, IsPath}
 use Rattle.sled_core.proofs.Flush.LogFileLemmas.{record_moved}
 use Rattle.sled_core.proofs.Read.PathLemmas.{zeros_empty}
-use Rattle.sled_core.proofs.Read.ScanLemmas.{aligned_offset, met_fits}
 use Rattle.sled_core.proofs.Torn.TornLemmas.{after_write, left_grows, part_left}
-use Rattle.sled_core.proofs.Torn.TornRecords.{the_only, record_of_stands, long_enough, record_reached}
+use Rattle.sled_core.proofs.Torn.TornRecords.{long_enough}
+use Rattle.sled_core.proofs.Torn.WrittenParts.{twenty, all_there, in_this_file, comes_behind, header_where, record_where, path_stays as path_written}
 
 -- a part of zeros
 part_of_zeros : (count k n : ℕ) → k + n ≤ count → part (replicate count 0) k n ≡ replicate n 0
@@ -39,46 +36,34 @@ module _ (sum : List ℕ → ℕ) (size : ℕ) (old : List ℕ) (at count : ℕ)
   kept lid n there apart =
       part_left old at zeros now left no_more leaves lid n there (elim apart [ inl before ↦ inl before | inr past ↦ inr (omega (arith, past, long)) ])
 
+  -- what the write covers is zeros
+  covered_zeros : (from : ℕ) (text : List ℕ) → Covers (at, zeros) from text → text ≡ replicate (length text) 0
+  covered_zeros from text covers =
+      let begins = covers.begins in
+      let ends = covers.ends in
+      sym covers.same ∙ part_of_zeros count (from - at) (length text) (omega (arith, begins, ends, long))
+
   module _ {placed : List (ℕ × List ℕ)} (only_own : NoForeignLog sum size (after_write old at (replicate count 0) now) placed left) where
-    abbrev past : LogState
-    past = after_write old at zeros now
-
-    -- what stands whole stood there before, or is a part of the zeros
-    stood_or_zeros : (from : ℕ) (text : List ℕ) → IsWhole past from text → (part old from (length text) ≡ text) ⊎ (text ≡ replicate (length text) 0)
-    unfolding IsWhole
-    stood_or_zeros from text (inl stood) = inl stood
-    stood_or_zeros from text (inr (write, there, covers)) =
-        let is : write ≡ (at, zeros) = the_only (at, zeros) write there in
-        let here : Covers (at, zeros) from text = subst (λ (w : ℕ × List ℕ). Covers w from text) is covers in
-        let begins = here.begins in
-        let ends = here.ends in
-        inr (sym here.same ∙ part_of_zeros count (from - at) (length text) (omega (arith, begins, ends, long)))
-
     -- A header that passes did so before.
     module _ (none : NoHeaderOfZeros sum) where
       pub header_stood : (slot : ℕ) (lsn mark : ℤ) → IsHeader sum (part left (slot * size) 20) lsn mark → part old (slot * size) 20 ≡ part left (slot * size) 20
       header_stood slot lsn mark is =
           let text : List ℕ = part left (slot * size) 20 in
-          let twenty : length text ≡ 20 = ap length is.is ∙ length-short_header sum lsn mark in
-          elim (stood_or_zeros (slot * size) text (only_own.headers slot lsn mark is).1) [
-            | inl stood ↦ ap (part old (slot * size)) (sym twenty) ∙ stood
-            | inr zero ↦ absurd (none lsn mark (subst (λ (l : List ℕ). IsHeader sum l lsn mark) (zero ∙ ap (λ n. replicate n 0) twenty) is))
+          elim (header_where sum size old at zeros now left no_more leaves only_own slot lsn mark is) [
+            | inl same ↦ same
+            | inr write ↦ (
+                let zero : text ≡ replicate 20 0 = covered_zeros (slot * size) text write ∙ ap (λ n. replicate n 0) (twenty sum size left (slot * size) lsn mark is) in
+                absurd (none lsn mark (subst (λ (l : List ℕ). IsHeader sum l lsn mark) zero is)))
           ]
 
     -- A record of its number that a reader comes to stood there before.
     module _ (slot place : ℕ) (mark : ℤ) (header : IsHeader sum (part left (slot * size) 20) (pos place) mark) where
-      abbrev site : SegmentPosition
-      site = record { place = place; slot = slot * size }
-
       aligned : slot * size % size ≡ 0
       aligned = mul-mod_left slot size
 
       module _ (from : ℕ) (reached : IsReached sum size (place / size) (part left (slot * size) size) 20 from) (below : from < size) (h : MessageHeader) (body : List ℕ) (len : ℕ) (s : StandsAt sum size left (slot * size + from) (place / size) h body len) where
-        fits : from + len ≤ size
-        fits = let inside = s.in_slot in omega (arith, inside, aligned_offset (slot * size) from size aligned below)
-
         whole : length (part left (slot * size + from) len) ≡ len
-        whole = let there = s.in_file in omega (arith, there, length-take len (drop (slot * size + from) left), length-drop (slot * size + from) left)
+        whole = all_there sum size left (slot * size + from) (place / size) h body len s
 
         some : 8 ≤ len
         some = long_enough sum size left (slot * size + from) (place / size) h body len s
@@ -91,19 +76,18 @@ module _ (sum : List ℕ → ℕ) (size : ℕ) (old : List ℕ) (at count : ℕ)
             zeros_empty sum size left (slot * size + from) (place / size) kind h body len s
 
         pub same : part old (slot * size + from) len ≡ part left (slot * size + from) len
-        same = elim (stood_or_zeros (slot * size + from) (part left (slot * size + from) len)
-            (only_own.records slot place mark from len h.kind h.pid body header reached fits (record_of_stands sum size left (slot * size + from) (place / size) h body len s)).1) [
-              | inl stood ↦ ap (part old (slot * size + from)) (sym whole) ∙ stood
-              | inr zero ↦ absurd (no_zeros (zero ∙ ap (λ n. replicate n 0) whole))
-            ]
+        same = elim (record_where sum size old at zeros now left no_more leaves only_own slot place mark header from reached below h body len s) [
+          | inl alike ↦ alike
+          | inr write ↦ absurd (no_zeros (covered_zeros (slot * size + from) (part left (slot * size + from) len) write ∙ ap (λ n. replicate n 0) whole))
+        ]
 
         pub stood : StandsAt sum size old (slot * size + from) (place / size) h body len
         stood =
-            let there : slot * size + from + len ≤ length old = omega (arith, some, whole, ap length same, length-take len (drop (slot * size + from) old), length-drop (slot * size + from) old) in
+            let there = in_this_file sum size old left (slot * size + from) len (omega (arith, some)) whole same in
             record_moved sum size left old (slot * size + from) (place / size) h body len same there s
 
         pub reached_behind : IsReached sum size (place / size) (part left (slot * size) size) 20 (from + len)
-        reached_behind = record_reached sum size left site aligned (place / size) 20 from h body len below s reached
+        reached_behind = comes_behind sum size left (slot * size) aligned place from h body len below s reached
 
       -- So what a reader meets one behind another it met before.
       pub path_stood : (from : ℕ) (ms : List ScannedRecord) (next : ℕ) → IsReached sum size (place / size) (part left (slot * size) size) 20 from → IsPath sum size left (slot * size) place from ms next → IsPath sum size old (slot * size) place from ms next
@@ -121,20 +105,6 @@ module _ (sum : List ℕ → ℕ) (size : ℕ) (old : List ℕ) (at count : ℕ)
 
   -- What was met before the zeros, or in another slot, still is.
   pub path_stays : (slot place : ℕ) → slot % size ≡ 0 → (from : ℕ) (ms : List ScannedRecord) (next : ℕ) → (slot + next ≤ at) ⊎ (at + count ≤ slot) → IsPath sum size old slot place from ms next → IsPath sum size left slot place from ms next
-  unfolding IsMet
-  path_stays slot place aligned from [] next apart path = path
-  path_stays slot place aligned from (m ∷ ms) next apart path =
-      let room = path.0 in
-      let met = path.2 in
-      let ends = path_ends slot place (from + m.len) ms next path.3 in
-      let there = met.2.in_file in
-      let beside : (slot + from + m.len ≤ at) ⊎ (at + count ≤ slot + from) = elim apart [ inl before ↦ inl (omega (arith, before, ends)) | inr past ↦ inr (omega (arith, past)) ] in (
-        path.0,
-        path.1,
-        (met.0, met.1, record_moved sum size old left (slot + from) (place / size) met.0 met.1 m.len (kept (slot + from) m.len there beside) (omega (arith, there, grows)) met.2, met.3),
-        path_stays slot place aligned (from + m.len) ms next apart path.3,
-      )
-    where
-      path_ends : (slot place from : ℕ) (ms : List ScannedRecord) (next : ℕ) → IsPath sum size old slot place from ms next → from ≤ next
-      path_ends slot place from [] next path = omega (arith, path)
-      path_ends slot place from (m ∷ ms) next path = let rest = path_ends slot place (from + m.len) ms next path.3 in omega (arith, rest)
+  path_stays slot place aligned from ms next apart =
+      let beside : (slot + min next size ≤ at) ⊎ (at + length zeros ≤ slot) = elim apart [ inl before ↦ inl (omega (arith, before)) | inr past ↦ inr (omega (arith, past, long)) ] in
+      path_written sum size old at zeros now left no_more leaves slot place aligned from ms next beside

@@ -1,0 +1,83 @@
+-- Where a write behind the header of a segment was torn, that segment is found, and in it all is met that was met before, and then the first of the records that were written.
+use Rattle.std.proofs.Common.{◌≡◌, ◌≤◌, ◌<◌, ◌+◌, ◌*◌, ◌%◌, ◌∙◌, ℕ, ℤ, pos, List, [], ◌∷◌, ◌++◌, length, take, get_or, sym, arith, refl, subst, inl, inr}
+use Rattle.std.proofs.Math.Nat.{mul-mod_left}
+use Rattle.sled_codec.specs.Places.{part}
+use Rattle.sled_codec.specs.Record.{IsHeader}
+use Rattle.sled_codec.proofs.Segments.{one_header}
+use Rattle.sled_store.specs.Device.{overwritten, LeavesLog}
+use Rattle.sled_store.specs.Foreign.{at_first, NoForeignLog}
+use Rattle.sled_core.specs.declared.iterator.scan.ScannedRecord.{ScannedRecord}
+use Rattle.sled_core.specs.declared.iterator.scan.ScanEnd.{ScanEnd}
+use Rattle.sled_core.specs.Scan.{IsMet, IsPath, IsEnd, IsScan}
+use Rattle.sled_core.proofs.Flush.LogFileLemmas.{part_kept}
+use Rattle.sled_core.proofs.Torn.TornLemmas.{after_write, left_grows, part_left}
+use Rattle.sled_core.proofs.Torn.WrittenParts.{twenty, in_this_file, comes_along, path_rises, paths_joined, path_stays, path_whole, header_where}
+use Rattle.sled_core.proofs.Torn.WrittenRecords.{AlikeAlong, MeetsFirst, alike_joined, meets_first}
+
+module _ (sum : List ℕ → ℕ) (size : ℕ) (old : List ℕ) (slot from : ℕ) (behind : 20 ≤ from) (asked now left : List ℕ) (no_more : length now ≤ length asked) (leaves : LeavesLog (after_write old (slot * size + from) asked now) left) where
+  abbrev new : List ℕ
+  new = overwritten old (slot * size + from) asked
+
+  aligned : slot * size % size ≡ 0
+  aligned = mul-mod_left slot size
+
+  -- The header that stood before the write stays.
+  pub header_same : (lsn mark : ℤ) → IsHeader sum (part old (slot * size) 20) lsn mark → part left (slot * size) 20 ≡ part old (slot * size) 20
+  header_same lsn mark is =
+      let there = in_this_file sum size old old (slot * size) 20 (omega arith) (twenty sum size old (slot * size) lsn mark is) refl in
+      part_left old (slot * size + from) asked now left no_more leaves (slot * size) 20 there (inl (omega (arith, behind)))
+
+  pub header_left : (lsn mark : ℤ) → IsHeader sum (part old (slot * size) 20) lsn mark → IsHeader sum (part left (slot * size) 20) lsn mark
+  header_left lsn mark is = subst (λ (l : List ℕ). IsHeader sum l lsn mark) (sym (header_same lsn mark is)) is
+
+  -- and no other one passes there
+  pub no_other : (lsn mark lsn' mark' : ℤ) → IsHeader sum (part old (slot * size) 20) lsn mark → IsHeader sum (part left (slot * size) 20) lsn' mark' → (lsn' ≡ lsn) × (mark' ≡ mark)
+  no_other lsn mark lsn' mark' stood passes = one_header sum (part left (slot * size) 20) lsn' mark' lsn mark passes (header_left lsn mark stood)
+
+  -- what was met before the write has the bytes that it had
+  alike_before : (place : ℕ) (here : ℕ) (ms : List ScannedRecord) (next : ℕ) → next ≤ from → IsPath sum size old (slot * size) place here ms next → AlikeAlong new left (slot * size) here ms
+  unfolding IsMet
+  alike_before place here [] next before path = tt
+  alike_before place here (m ∷ ms) next before (room, at_place, (h, body, stands, says), path) =
+      let there = stands.in_file in
+      let ends = path_rises sum size old (slot * size) place (here + m.len) ms next path in
+      let grown = left_grows old (slot * size + from) asked now left no_more leaves in
+      let apart : slot * size + here + m.len ≤ slot * size + from = omega (arith, ends, before) in (
+        part_left old (slot * size + from) asked now left no_more leaves (slot * size + here) m.len there (inl apart) ∙ sym (part_kept sum size old (slot * size + from) asked (slot * size + here) m.len there (inl apart)),
+        omega (arith, there, grown),
+        alike_before place (here + m.len) ms next before path,
+      )
+
+  module _ {placed : List (ℕ × List ℕ)} (only_own : NoForeignLog sum size (after_write old (slot * size + from) asked now) placed left) where
+    -- A header that passes in the slot did so before.
+    pub header_stood : (lsn mark : ℤ) → IsHeader sum (part left (slot * size) 20) lsn mark → part old (slot * size) 20 ≡ part left (slot * size) 20
+    header_stood lsn mark is = elim (header_where sum size old (slot * size + from) asked now left no_more leaves only_own slot lsn mark is) [
+      | inl same ↦ same
+      | inr write ↦ (let begins = write.begins in absurd (omega (arith, begins, behind)))
+    ]
+
+    module _ (clean : (i : ℕ) → slot * size + from ≤ i → i < slot * size + size → get_or old i 0 ≡ 0) (place : ℕ) (mark : ℤ) (header : IsHeader sum (part old (slot * size) 20) (pos place) mark)
+        (met : List ScannedRecord) (stood : IsPath sum size old (slot * size) place 20 met from) where
+      -- what was met up to the write is met
+      pub before_left : IsPath sum size left (slot * size) place 20 met from
+      before_left = path_stays sum size old (slot * size + from) asked now left no_more leaves (slot * size) place aligned 20 met from (inl (omega arith)) stood
+
+      -- and where all of it is written
+      pub before_new : IsPath sum size new (slot * size) place 20 met from
+      before_new = path_whole sum size old (slot * size + from) asked (slot * size) place aligned 20 met from (inl (omega arith)) stood
+
+      module _ (more : List ScannedRecord) (stop : ℕ) (why : ScanEnd) where
+        -- Behind it the first of the records are met that are met behind it where all is written.
+        pub meets_on : IsPath sum size new (slot * size) place from more stop → IsEnd sum size new (slot * size) place stop why → MeetsFirst sum size new left (slot * size) place from more stop why
+        meets_on path end =
+            let comes = comes_along sum size left (slot * size) aligned place 20 met from before_left at_first in
+            meets_first sum size old slot from asked now left no_more leaves only_own clean place mark (header_left (pos place) mark header) from more stop why (omega arith) comes path end
+
+        -- So much for all that is met in the slot.
+        module _ (first : MeetsFirst sum size new left (slot * size) place from more stop why) where
+          pub scan_left : IsScan sum size left (slot * size) place (met ++ take first.count more) first.end first.ending
+          unfolding IsScan
+          scan_left = (paths_joined sum size left (slot * size) place 20 met from (take first.count more) first.end before_left first.path, first.ends)
+
+          pub alike_left : AlikeAlong new left (slot * size) 20 (met ++ take first.count more)
+          alike_left = alike_joined new left (slot * size) sum size left place 20 met from (take first.count more) before_left (alike_before place 20 met from (omega arith) stood) first.alike

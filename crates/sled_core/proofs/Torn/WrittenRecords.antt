@@ -1,0 +1,179 @@
+-- Where a write to a slot was torn, of the records that were to be met behind a place in it the first ones are met, with the bytes that were written, and none behind them.
+use Rattle.std.proofs.Common.{◌≡◌, ◌⊎◌, ◌≤◌, ◌<◌, ◌+◌, ◌*◌, ◌/◌, ◌%◌, ◌∙◌, ℕ, suc, pos, ℤ, List, [], ◌∷◌, ◌++◌, length, take, drop, get_or, sym, ap, arith, refl, subst, inl, inr}
+use Rattle.std.specs.List.{Contains}
+use Rattle.std.proofs.Math.Nat.{mul-mod_left}
+use Rattle.std.proofs.lemmas.List.{get_or-take, get_or-drop}
+use Rattle.sled_codec.specs.declared.serialization.message.MessageHeader.{MessageHeader}
+use Rattle.sled_codec.specs.Places.{part}
+use Rattle.sled_codec.specs.Record.{IsHeader}
+use Rattle.sled_store.specs.Device.{overwritten, LeavesLog}
+use Rattle.sled_store.specs.Foreign.{NoForeignLog}
+use Rattle.sled_store.proofs.Segments.Elements.{in_cases, in_nothing}
+use Rattle.sled_core.specs.declared.iterator.scan.ScannedRecord.{ScannedRecord}
+use Rattle.sled_core.specs.declared.iterator.scan.ScanEnd.{ScanEnd}
+use Rattle.sled_core.specs.declared.iterator.scan.ScanEnd.TheVariants.{Full, Capped, Broken}
+use Rattle.sled_core.specs.LogFile.{IsEmpty}
+use Rattle.sled_core.specs.Reading.{StandsAt}
+use Rattle.sled_core.specs.Scan.{IsMet, IsPath, IsEnd, EndsThere}
+use Rattle.sled_core.proofs.Flush.LogFileLemmas.{record_moved}
+use Rattle.sled_core.proofs.Read.GivesLemmas.{one_len}
+use Rattle.sled_core.proofs.Read.PathLemmas.{zeros_empty}
+use Rattle.sled_core.proofs.Torn.TornLemmas.{after_write}
+use Rattle.sled_core.proofs.Torn.TornRecords.{same_or_not, long_enough}
+use Rattle.sled_core.proofs.Torn.WrittenParts.{ComesTo, all_there, in_this_file, in_segment, comes_behind, path_rises, covered_new, record_where}
+
+-- These records have in one file the bytes that they have in another, and are all in it.
+abbrev pub AlikeAlong : List ℕ → List ℕ → ℕ → ℕ → List ScannedRecord → Type 0
+AlikeAlong new left slot from [] = Unit {0}
+AlikeAlong new left slot from (m ∷ ms) = (part left (slot + from) m.len ≡ part new (slot + from) m.len) × (slot + from + m.len ≤ length left) × AlikeAlong new left slot (from + m.len) ms
+
+-- where one file ends as another one does, or its cap is missing
+abbrev pub EndsAlike : ScanEnd → ScanEnd → Type 0
+EndsAlike ending why = (ending ≡ why) ⊎ ((why ≡ Capped) × (ending ≡ Broken))
+
+-- How far the records that are met in one file from an offset on are met in another one: the first of them, as long as they are. Where not all of them are met, no record of the segment stands behind them.
+pub record MeetsFirst (sum : List ℕ → ℕ) (size : ℕ) (new left : List ℕ) (slot place from : ℕ) (more : List ScannedRecord) (stop : ℕ) (why : ScanEnd) : Type 0 where
+  pub count : ℕ
+  pub end : ℕ
+  pub ending : ScanEnd
+  pub path : IsPath sum size left slot place from (take count more) end
+  pub ends : IsEnd sum size left slot place end ending
+  pub alike : AlikeAlong new left slot from (take count more)
+  -- what isn't met
+  pub rest : IsPath sum size new slot place end (drop count more) stop
+  pub how : ((count ≡ length more) × (end ≡ stop) × EndsAlike ending why) ⊎ ((count < length more) × (ending ≡ Broken))
+
+-- Records that are met have the same bytes one behind another.
+module _ (new left : List ℕ) (slot : ℕ) where
+  pub alike_joined : (sum : List ℕ → ℕ) (size : ℕ) (log : List ℕ) (place from : ℕ) (ms : List ScannedRecord) (mid : ℕ) (more : List ScannedRecord) → IsPath sum size log slot place from ms mid
+      → AlikeAlong new left slot from ms → AlikeAlong new left slot mid more → AlikeAlong new left slot from (ms ++ more)
+  alike_joined sum size log place from [] mid more path first rest = subst (λ n. AlikeAlong new left slot n more) path rest
+  alike_joined sum size log place from (m ∷ ms) mid more path (same, there, first) rest = (same, there, alike_joined sum size log place (from + m.len) ms mid more path.3 first rest)
+
+  -- each of them, where it lies
+  pub alike_at : (sum : List ℕ → ℕ) (size : ℕ) (log : List ℕ) (place from : ℕ) (ms : List ScannedRecord) (next : ℕ) → IsPath sum size log slot place from ms next → AlikeAlong new left slot from ms → (x : ScannedRecord) → Contains ms x
+      → (at : ℕ) × (x.place ≡ place + at) × (from ≤ at) × (at + x.len ≤ next) × (part left (slot + at) x.len ≡ part new (slot + at) x.len) × (slot + at + x.len ≤ length left)
+  alike_at sum size log place from [] next path alike x there = absurd (in_nothing x there)
+  alike_at sum size log place from (m ∷ ms) next path (same, inside, alike) x there = elim (in_cases m x ms there) [
+    | inl is ↦ (
+        let rises = path_rises sum size log slot place (from + m.len) ms next path.3 in
+        let len : m.len ≡ x.len = ap (λ (y : ScannedRecord). y.len) is in
+        (from, sym (ap (λ (y : ScannedRecord). y.place) is) ∙ path.1, omega arith, omega (arith, rises, len), subst (λ n. part left (slot + from) n ≡ part new (slot + from) n) len same, omega (arith, inside, len)))
+    | inr later ↦ (
+        let one = alike_at sum size log place (from + m.len) ms next path.3 alike x later in
+        let above = one.2 in
+        (one.0, one.1, omega (arith, above), one.3, one.4, one.5))
+  ]
+
+-- where they end
+pub meets_within : (sum : List ℕ → ℕ) (size : ℕ) (new left : List ℕ) (slot place from : ℕ) (more : List ScannedRecord) (stop : ℕ) (why : ScanEnd) (w : MeetsFirst sum size new left slot place from more stop why) → (from ≤ w.end) × (w.end ≤ stop)
+meets_within sum size new left slot place from more stop why w =
+    (path_rises sum size left slot place from (take w.count more) w.end w.path, path_rises sum size new slot place w.end (drop w.count more) stop w.rest)
+
+module _ (sum : List ℕ → ℕ) (size : ℕ) (old : List ℕ) (slot from : ℕ) (asked now left : List ℕ) (no_more : length now ≤ length asked) (leaves : LeavesLog (after_write old (slot * size + from) asked now) left)
+    {placed : List (ℕ × List ℕ)} (only_own : NoForeignLog sum size (after_write old (slot * size + from) asked now) placed left)
+    (clean : (i : ℕ) → slot * size + from ≤ i → i < slot * size + size → get_or old i 0 ≡ 0)
+    (place : ℕ) (mark : ℤ) (header : IsHeader sum (part left (slot * size) 20) (pos place) mark) where
+  abbrev new : List ℕ
+  new = overwritten old (slot * size + from) asked
+
+  aligned : slot * size % size ≡ 0
+  aligned = mul-mod_left slot size
+
+  -- At an offset that a reader comes to, where there were zeros.
+  module _ (here : ℕ) (later : from ≤ here) (below : here < size) (comes : ComesTo sum size left (slot * size) place here) where
+    -- A record that stands there is one of the write.
+    module _ (h : MessageHeader) (body : List ℕ) (len : ℕ) (s : StandsAt sum size left (slot * size + here) (place / size) h body len) where
+      some : 8 ≤ len
+      some = long_enough sum size left (slot * size + here) (place / size) h body len s
+
+      whole : length (part left (slot * size + here) len) ≡ len
+      whole = all_there sum size left (slot * size + here) (place / size) h body len s
+
+      not_before : part old (slot * size + here) len ≡ part left (slot * size + here) len → ⊥
+      not_before same =
+          let fits = in_segment sum size left (slot * size) aligned here (place / size) h body len below s in
+          let zero : get_or left (slot * size + here + 4) 0 ≡ 0 =
+          sym (get_or-take len (drop (slot * size + here) left) 4 0 (omega (arith, some)) ∙ get_or-drop (slot * size + here) left 4 0)
+          ∙ ap (λ (l : List ℕ). get_or l 4 0) (sym same)
+          ∙ get_or-take len (drop (slot * size + here) old) 4 0 (omega (arith, some)) ∙ get_or-drop (slot * size + here) old 4 0
+          ∙ clean (slot * size + here + 4) (omega (arith, later)) (omega (arith, fits, some)) in
+          zeros_empty sum size left (slot * size + here) (place / size) zero h body len s
+
+      pub written_there : part new (slot * size + here) len ≡ part left (slot * size + here) len
+      written_there = elim (record_where sum size old (slot * size + from) asked now left no_more leaves only_own slot place mark header here comes below h body len s) [
+        | inl stood ↦ absurd (not_before stood)
+        | inr write ↦ covered_new sum size old (slot * size + from) asked now left no_more leaves (slot * size + here) len whole write
+      ]
+
+      pub stands_new : StandsAt sum size new (slot * size + here) (place / size) h body len
+      stands_new =
+          record_moved sum size left new (slot * size + here) (place / size) h body len written_there
+          (in_this_file sum size new left (slot * size + here) len (omega (arith, some)) whole written_there) s
+
+    -- the record that was written there stands, or none does
+    stands_or_none : (h : MessageHeader) (body : List ℕ) (len : ℕ) → StandsAt sum size new (slot * size + here) (place / size) h body len
+        → ((part left (slot * size + here) len ≡ part new (slot * size + here) len) × (slot * size + here + len ≤ length left) × StandsAt sum size left (slot * size + here) (place / size) h body len)
+        ⊎ IsEmpty sum size left (slot * size + here) (place / size)
+    stands_or_none h body len s = elim (same_or_not (part left (slot * size + here) len) (part new (slot * size + here) len)) [
+      | inl same ↦ (
+          let eight = long_enough sum size new (slot * size + here) (place / size) h body len s in
+          let there = in_this_file sum size left new (slot * size + here) len (omega (arith, eight)) (all_there sum size new (slot * size + here) (place / size) h body len s) same in
+          inl (same, there, record_moved sum size new left (slot * size + here) (place / size) h body len same there s))
+      | inr other ↦ inr (λ h' body' len' s'.
+          let one : len' ≡ len = one_len sum size new (slot * size + here) (place / size) h' h body' body len' len (stands_new h' body' len' s') s in
+          other (subst (λ n. part left (slot * size + here) n ≡ part new (slot * size + here) n) one (sym (written_there h' body' len' s'))))
+    ]
+
+  -- where the reading of what was written ends, it ends
+  ended : (here : ℕ) → from ≤ here → ComesTo sum size left (slot * size) place here → (why : ScanEnd) → IsEnd sum size new (slot * size) place here why
+      → MeetsFirst sum size new left (slot * size) place here [] here why
+  unfolding EndsThere
+  ended here later comes Full full = record { count = 0; end = here; ending = Full; path = refl; ends = full; alike = tt; rest = refl; how = inl (refl, refl, inl refl) }
+  ended here later comes Capped (room, (h, body, len, s, is_cap)) = elim (stands_or_none here later (omega (arith, room)) comes h body len s) [
+    | inl (same, there, still) ↦
+        record { count = 0; end = here; ending = Capped; path = refl; ends = (room, (h, body, len, still, is_cap)); alike = tt; rest = refl; how = inl (refl, refl, inl refl) }
+    | inr none ↦ record { count = 0; end = here; ending = Broken; path = refl; ends = (room, none); alike = tt; rest = refl; how = inl (refl, refl, inr (refl, refl)) }
+  ]
+  ended here later comes Broken (room, none) = record {
+    count = 0;
+    end = here;
+    ending = Broken;
+    path = refl;
+    ends = (room, λ h body len s. none h body len (stands_new here later (omega (arith, room)) comes h body len s));
+    alike = tt;
+    rest = refl;
+    how = inl (refl, refl, inl refl);
+  }
+
+  -- The first of the records that were written from a place on are met, and none behind them.
+  pub meets_first : (here : ℕ) (more : List ScannedRecord) (stop : ℕ) (why : ScanEnd) → from ≤ here → ComesTo sum size left (slot * size) place here
+      → IsPath sum size new (slot * size) place here more stop → IsEnd sum size new (slot * size) place stop why → MeetsFirst sum size new left (slot * size) place here more stop why
+  unfolding IsMet EndsThere
+  meets_first here [] stop why later comes path end =
+      let at_once = ended here later comes why (subst (λ n. IsEnd sum size new (slot * size) place n why) path end) in
+      subst (λ n. MeetsFirst sum size new left (slot * size) place here [] n why) (sym path) at_once
+  meets_first here (m ∷ ms) stop why later comes (room, at_place, (h, body, stands, says), path) end = elim (stands_or_none here later (omega (arith, room)) comes h body m.len stands) [
+    | inl (same, there, still) ↦ (
+        let on = meets_first (here + m.len) ms stop why (omega (arith, later)) (comes_behind sum size left (slot * size) aligned place here h body m.len (omega (arith, room)) still comes) path end in
+        record {
+          count = suc on.count;
+          end = on.end;
+          ending = on.ending;
+          path = (room, at_place, (h, body, still, says), on.path);
+          ends = on.ends;
+          alike = (same, there, on.alike);
+          rest = on.rest;
+          how = elim on.how [ inl (all, stops, alike) ↦ inl (omega (arith, all), stops, alike) | inr (few, broken) ↦ inr (omega (arith, few), broken) ];
+        })
+    | inr none ↦ record {
+      count = 0;
+      end = here;
+      ending = Broken;
+      path = refl;
+      ends = (room, none);
+      alike = tt;
+      rest = (room, at_place, (h, body, stands, says), path);
+      how = inr (omega arith, refl);
+    }
+  ]
