@@ -1,5 +1,5 @@
 -- What recovery asks of a history that a log's users make, and of the device.
-use Rattle.std.specs.Prelude.{◌≡◌, ◌≤◌, ℕ, ℤ, false, List, length, Option, Result, IfOk}
+use Rattle.std.specs.Prelude.{◌≤◌, ℕ, List, length, Option, Result, IfOk}
 use Rattle.sled_codec.specs.declared.result.Error.{Error}
 use Rattle.sled_codec.specs.declared.serialization.snapshot.Snapshot.{Snapshot}
 use Rattle.sled_codec.specs.Errors.{IsCorruption}
@@ -43,8 +43,7 @@ ReadableIfOwn sum size H A f past left = NoForeign sum size past left → CanRea
 abbrev pub LeavesReadable : (List ℕ → ℕ) → ℕ → History → ℕ → ℕ → State → Type 0
 LeavesReadable sum size H A f = AllLeft (ReadableIfOwn sum size H A f)
 
--- Each content that a crash leaves of the device can be read back, in what is read only what the log itself wrote passes as its own, and no blob has bytes that may still be lost.
+-- Each content that a crash leaves of the device can be read back, and in what is read only what the log itself wrote passes as its own.
 pub record CanReadOn (sum : List ℕ → ℕ) (size : ℕ) (device : State) (H : History) (A f : ℕ) : Type 0 where
   pub left : LeavesReadable sum size H A f device
   pub own : NoForeign sum size device (content_of device)
-  pub firm : (n : ℤ) → device.blobs.is_unsynced n ≡ false

@@ -25,7 +25,7 @@ returns-clause-recoverable g c = λ H A f can.
 pub returns-clause-readable : goal.returns-clause-readable
 returns-clause-readable g c = λ H A f can.
     let config = c.args.config.now.config in
-    recovery_throughout g.C.Checksum.sum_of config.segment_size H A f config.least (g.D.Device.trace c.args.config.now.device) can.left can.own can.firm _ c.read_and_write_back.ensures.comes.calls
+    recovery_throughout g.C.Checksum.sum_of config.segment_size H A f config.least (g.D.Device.trace c.args.config.now.device) can.left can.own _ c.read_and_write_back.ensures.comes.calls
 
 pub returns-clause-read : goal.returns-clause-read
 returns-clause-read g c = λ H A f can.
