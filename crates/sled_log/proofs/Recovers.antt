@@ -1,5 +1,6 @@
 pub mod ActiveSlot
 pub mod CutLemmas
+pub mod LeftIn
 pub mod LeftOut
 pub mod OneReading
 pub mod OneTail

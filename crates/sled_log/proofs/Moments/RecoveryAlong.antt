@@ -1,5 +1,5 @@
 -- A whole recovery over any number of segments: what a crash leaves at each moment of it can be read back, from the first sync to the last blob that is removed.
-use Rattle.std.proofs.Common.{◌≡◌, ◌≢◌, ◌∙◌, ◌≤◌, ◌≤ℤ◌, ◌-ℤ◌, ◌^◌, ◌++◌, ℕ, ℤ, pos, negsuc, Bool, true, false, List, [], ◌∷◌, Option, Some, None, refl, sym, ap, subst, arith, inl, inr}
+use Rattle.std.proofs.Common.{◌≡◌, ◌≢◌, ◌∙◌, ◌≤◌, ◌≤ℤ◌, ◌-ℤ◌, ◌^◌, ◌++◌, ℕ, ℤ, pos, negsuc, true, false, List, [], ◌∷◌, Option, Some, None, refl, sym, ap, subst, arith, inl, inr}
 use Rattle.std.specs.List.{Contains}
 use Rattle.std.specs.Option.{unwrap_or}
 use Rattle.sled_codec.specs.History.{History, CutFits}
@@ -19,7 +19,7 @@ use Rattle.sled_store.proofs.Segments.Elements.{in_nothing}
 use Rattle.sled_store.proofs.Traces.ScriptLemmas.{along_first, performs_throughout}
 use Rattle.sled_core.specs.Recoverable.{ActiveFits, NoForeign, IsRecoverableLog}
 use Rattle.sled_log.specs.Orderly.{CanRead}
-use Rattle.sled_log.specs.Recovery.{RecoveryResult, Recovered, Recovers, shred_range_of}
+use Rattle.sled_log.specs.Recovery.{RecoveryResult, Recovered, shred_range_of}
 use Rattle.sled_log.specs.Restores.{RecoveryCalls}
 use Rattle.sled_log.specs.WritesBack.{shredding, committing, forgetting, forgotten_from, snapshot_number_of, writing_back, FitsIfNew, WritesBehind}
 use Rattle.sled_log.proofs.Moments.BlobsRemoved.{IsAbove}
@@ -28,7 +28,7 @@ use Rattle.sled_log.proofs.Moments.OneCut.{stand_synced}
 use Rattle.sled_log.proofs.Moments.SnapshotNames.{IsTableAt, synced_twice, settled_begin}
 use Rattle.sled_log.proofs.Moments.UnreadSlots.{free_left}
 use Rattle.sled_log.proofs.Moments.WritingAlong.{IsConcluded, writing_along, filling_along}
-use Rattle.sled_log.proofs.Recovers.RecoversGood.{RecoversWell, recovers_well, one_result}
+use Rattle.sled_log.proofs.Recovers.RecoversGood.{RecoversWell, well_of}
 use Rattle.sled_log.proofs.WriteBack.AfterRecovery.{not_beyond}
 use Rattle.sled_log.proofs.WriteBack.RecoveryMoments.{removed_apart}
 
@@ -74,7 +74,7 @@ along_begun Q [] fs s along = along_first Q fs s along
 along_begun Q (e ∷ es) fs s along = (along.0, along.1, along_begun Q es fs (step e s) along.2)
 
 -- a place that isn't below the one from which on no blob is kept lies at or above the cut
-forgotten_above : (stable : Option ℤ) (cut : ℕ) → stable_place stable ≡ cut → (p : ℤ) → unwrap_or stable (pos 0 -ℤ pos (2 ^ 63)) ≤ℤ p → IsAbove cut p
+pub forgotten_above : (stable : Option ℤ) (cut : ℕ) → stable_place stable ≡ cut → (p : ℤ) → unwrap_or stable (pos 0 -ℤ pos (2 ^ 63)) ≤ℤ p → IsAbove cut p
 forgotten_above None cut place p low = inr (sym place)
 forgotten_above (Some (pos k)) cut place p low = inl (subst (λ n. pos n ≤ℤ p) place low)
 forgotten_above (Some (negsuc k)) cut place p low = inr (sym place)
@@ -171,6 +171,4 @@ module _ (sum : List ℕ → ℕ) (size : ℕ) (H : History) (A f : ℕ) (some :
   pub recovery_throughout : (new : Trace) → RecoveryCalls sum size old new → Throughout (LeavesReadable sum size H A f) old new
   recovery_throughout new (inl settling) = performs_throughout (LeavesReadable sum size H A f) (Synced ∷ NamesSynced ∷ []) old new settling settling_along
   recovery_throughout new (inr (x, recovers, behind)) =
-      let came = recovers_well sum size (content_of (state_of old)) H A f some can.orderly can.first can.cut can.snapshots can.log can.blobs (Recovered x) recovers in
-      let well = subst (RecoversWell sum size (content_of (state_of old)) H A f some can.orderly can.first can.cut can.snapshots can.log can.blobs) (sym (one_result x came.0 came.1)) came.2 in
-      behind_throughout can x well new behind
+      behind_throughout can x (well_of sum size (content_of (state_of old)) H A f some can x recovers) new behind
