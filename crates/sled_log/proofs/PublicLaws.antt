@@ -16,7 +16,7 @@ use Rattle.sled_log.proofs.PageTable.TableParts.{in_page, page_ascends, has_page
 pub use Rattle.sled_log.proofs.Sessions.RunHistories.{orderly, none_orderly, completed, forgotten, new_there}
 pub use Rattle.sled_log.proofs.PageTable.TableCuts.{table_below}
 pub use Rattle.sled_log.proofs.PageTable.TableParts.{from_page, from_table}
-pub use Rattle.sled_log.proofs.WriteBack.RecoveryHolds.{read_of}
+pub use Rattle.sled_log.proofs.WriteBack.RecoveryHolds.{read_of, read_on_of}
 
 -- A message behind all others is appended.
 pub appended : (H H' : History) (m : Message) → Step H (Completed m) H' → All (λ x. x.place < m.place) H.messages → (H'.messages ≡ H.messages ++ m ∷ []) × (H'.batches ≡ H.batches)

@@ -80,7 +80,7 @@ pub fn read_snapshot_or_default<D: Device, C: Checksum>(
     ensures read { let size = config.old.config.segment_size in let old = content_of (state_of (D.trace config.old.device)) in
         (H : History) (A f : ℕ) → CanRead C.sum_of size old H A f → IsReadWell C.sum_of size old H A f result }
     ensures good { let size = config.old.config.segment_size in let new = state_of (D.trace config.new.device) in
-        (H : History) (A f : ℕ) → CanRecover C.sum_of size (state_of (D.trace config.old.device)) H A f
+        (H : History) (A f : ℕ) → CanReadOn C.sum_of size (state_of (D.trace config.old.device)) H A f
         → IfOk result (λ s. IsGood C.sum_of size (content_of new) H A f (model_of s)) }
     ensures kept { let size = config.old.config.segment_size in let new = state_of (D.trace config.new.device) in
         (H : History) (A f : ℕ) → CanRecover C.sum_of size (state_of (D.trace config.old.device)) H A f

@@ -5,9 +5,10 @@ use Rattle.sled_store.specs.Device.{Content, Trace, state_of, content_of}
 use Rattle.sled_core.specs.Good.{IsGood}
 use Rattle.sled_core.specs.Recoverable.{LeavesRecoverable}
 use Rattle.sled_core.proofs.Read.ReadingLemmas.{if_ok}
-use Rattle.sled_log.proofs.Moments.RecoveryAlong.{recovery_throughout}
+use Rattle.sled_log.proofs.Afterwards.LeftGood.{good_left}
+use Rattle.sled_log.proofs.Moments.RecoveryAlong.{can_read, recovery_throughout}
 use Rattle.sled_log.proofs.Recovers.RecoversGood.{read_undamaged, read_good}
-use Rattle.sled_log.proofs.WriteBack.RecoveryHolds.{holds_throughout, is_good, is_cut_off, is_ready}
+use Rattle.sled_log.proofs.WriteBack.RecoveryHolds.{holds_throughout, is_cut_off, is_ready}
 use Rattle.sled_log.proofs.WriteBack.RestartLemmas.{BeginsAgain}
 use Rattle.sled_core.specs.Running.{Ready}
 use Rattle.sled_log.proofs.WriteBack.RecoveryLater.{recovery_later}
@@ -42,10 +43,11 @@ pub returns-clause-good : goal.returns-clause-good
 returns-clause-good g c = λ H A f can.
     let config = c.args.config.now.config in
     let sum = g.C.Checksum.sum_of in
+    let old : Trace = g.D.Device.trace c.args.config.now.device in
     let new : Trace = g.D.Device.trace c.read_and_write_back.new.config.device in
     if_ok c.read_and_write_back.result _ (λ s. IsGood sum config.segment_size (content_of (state_of new)) H A f (model_of s)) (λ s ok.
     subst (λ (x : SnapshotModel). IsGood sum config.segment_size (content_of (state_of new)) H A f x) (sym ok.model)
-    (is_good sum config.segment_size config.least (small config.segment_size config.most) (g.D.Device.trace c.args.config.now.device) H A f can new ok.conclusion ok.recovers ok.written ok.done ok.fits))
+    (good_left sum config.segment_size H A f config.least old (can_read sum config.segment_size H A f config.least old can.left can.own) can.own.zeros ok.conclusion ok.recovers (state_of new) ok.written))
     c.read_and_write_back.ensures.comes.ok
 
 pub returns-clause-kept : goal.returns-clause-kept

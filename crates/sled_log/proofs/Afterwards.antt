@@ -1,0 +1,4 @@
+pub mod EndsBelow
+pub mod ForgottenSlots
+pub mod LeftGood
+pub mod OrderlyBelow
