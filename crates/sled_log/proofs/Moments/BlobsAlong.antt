@@ -74,14 +74,14 @@ module _ (sum : List ℕ → ℕ) where
         by (inl was) = inl refl
         by (inr is_gone) = inr (subst (IsAbove cut) ((Decides-int_eq p n).0 is_gone.0) above, is_gone.1)
 
-module _ (sum : List ℕ → ℕ) (size : ℕ) (H : History) (A f : ℕ) (orderly : IsOrderly H) (cut : ℕ × Option ℕ) where
-  -- The blobs that a recovery needs stay.
-  stand_gone : (blobs : NamesState) (p : ℤ) → NamesKnow blobs (unnamed blobs p true) → IsAbove cut.0 p → ((m : Message) → Contains H.messages m → m.place < cut.0 → LiesInSegment size m) → BlobsStand sum H cut.0 blobs
-      → BlobsStand sum H cut.0 (unnamed blobs p true)
-  stand_gone blobs p knows above placed stand left leaves own_left =
-      blobs_removed sum (before sum blobs p knows left leaves) left cut.0 (removed_from sum blobs p knows left leaves cut.0 above) size H placed
-      (stand (before sum blobs p knows left leaves) (before_left sum blobs p knows left leaves) (before_own sum blobs p knows left leaves own_left))
+-- The blobs that a recovery needs stay.
+pub stand_gone : (sum : List ℕ → ℕ) (size : ℕ) (H : History) (cut : ℕ) (blobs : NamesState) (p : ℤ) → NamesKnow blobs (unnamed blobs p true) → IsAbove cut p → ((m : Message) → Contains H.messages m → m.place < cut → LiesInSegment size m)
+    → BlobsStand sum H cut blobs → BlobsStand sum H cut (unnamed blobs p true)
+stand_gone sum size H cut blobs p knows above placed stand left leaves own_left =
+    blobs_removed sum (before sum blobs p knows left leaves) left cut (removed_from sum blobs p knows left leaves cut above) size H placed
+    (stand (before sum blobs p knows left leaves) (before_left sum blobs p knows left leaves) (before_own sum blobs p knows left leaves own_left))
 
+module _ (sum : List ℕ → ℕ) (size : ℕ) (H : History) (A f : ℕ) (orderly : IsOrderly H) (cut : ℕ × Option ℕ) where
   module _ (names : NamesState) (temporary : Temporary) (some : 256 ≤ size) (fits : CutFits H cut.0) (none : NoHeaderOfZeros sum) (begin : NamesBegin sum size H f (λ s. stable_place s.stable ≡ cut.0) names) where
     abbrev device : NamesState → List ℕ → List (ℕ × List ℕ) → State
     device blobs log placed = record { log = at_rest log; blobs = blobs; snapshots = names; temporary = temporary; placed = placed }
@@ -93,7 +93,7 @@ module _ (sum : List ℕ → ℕ) (size : ℕ) (H : History) (A f : ℕ) (orderl
         let knows : NamesKnow blobs (unnamed blobs p true) = (before_knows (BlobRemoved p true) (device blobs log placed) (remove_blob p)).blobs in
         along_call sum size H A f (BlobRemoved p true) (removing_blobs ps) (device blobs log placed) (remove_blob p)
         (removing_along ps (λ q there. above q (in_rest p q ps there)) (unnamed blobs p true)
-        (stand_gone blobs p knows (above p (in_first p ps)) stops.parts.placed stand) log placed stops)
+        (stand_gone sum size H cut.0 blobs p knows (above p (in_first p ps)) stops.parts.placed stand) log placed stops)
 
     -- All that is taken away.
     pub forgetting_along : (blobs : NamesState) → BlobsStand sum H cut.0 blobs → (unread log : List ℕ) (placed : List (ℕ × List ℕ)) → AreFree sum size log cut.0 unread → StopsAtCut sum size log some H A cut

@@ -94,7 +94,7 @@ module _ (sum : List ℕ → ℕ) (size : ℕ) (H : History) (A f : ℕ) (some :
       (record { log = subst (λ (l : List ℕ). NoForeignLog sum size (state_of old).log (state_of old).placed l) (sym same) own.log; blobs = own_left.blobs; snapshots = own_left.snapshots; zeros = own_left.zeros })
 
   -- Names are settled by their own sync.
-  settled_names : (n : ℤ) → IsSettledName (names_synced (state_of old).snapshots) n
+  pub settled_names : (n : ℤ) → IsSettledName (names_synced (state_of old).snapshots) n
   settled_names n = settled_name_synced (state_of old).snapshots n (snapshots_firm old n)
 
   module _ (can : CanRead sum size (content_of (state_of old)) H A f) (x : RecoveryResult) (well : RecoversWell sum size (content_of (state_of old)) H A f some can.orderly can.first can.cut can.snapshots can.log can.blobs x) where
@@ -129,12 +129,12 @@ module _ (sum : List ℕ → ℕ) (size : ℕ) (H : History) (A f : ℕ) (some :
       ),
     )
 
-    apart_others : FitsIfNew x → (ns : List ℤ) → ((n : ℤ) → Contains ns n → n ≢ snapshot_number_of x.model) → x.is_new ≡ true → (n : ℤ) → Contains ns n → n ≢ pos can.cut.0
+    pub apart_others : FitsIfNew x → (ns : List ℤ) → ((n : ℤ) → Contains ns n → n ≢ snapshot_number_of x.model) → x.is_new ≡ true → (n : ℤ) → Contains ns n → n ≢ pos can.cut.0
     apart_others fits ns apart is_new n there =
         let table = new_table sum size (content_of (state_of old)) H A f some can x well fits is_new in
         subst (λ (k : ℤ). n ≢ k) (ap (λ (o : Option ℤ). unwrap_or o (pos 0)) table.stable) (apart n there)
 
-    all_above : (places : List ℤ) → MayGo (state_of old).blobs.file (forgotten_from x.model) places → (p : ℤ) → Contains places p → IsAbove can.cut.0 p
+    pub all_above : (places : List ℤ) → MayGo (state_of old).blobs.file (forgotten_from x.model) places → (p : ℤ) → Contains places p → IsAbove can.cut.0 p
     all_above places (inl none) p there = absurd (in_nothing p (subst (λ (l : List ℤ). Contains l p) none there))
     all_above places (inr are) p there = forgotten_above x.model.stable can.cut.0 well.place p ((are.each p).0 there).1
 
