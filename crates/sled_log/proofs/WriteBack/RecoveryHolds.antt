@@ -5,11 +5,11 @@ use Rattle.sled_codec.specs.Snapshots.{FitsSnapshot, stable_place}
 use Rattle.sled_store.specs.Device.{Trace, State, state_of, content_of, Synced, NamesSynced}
 use Rattle.sled_store.specs.Moments.{LeavesOnly}
 use Rattle.sled_store.proofs.Crashes.SettledLemmas.{read_left}
-use Rattle.sled_core.specs.Recoverable.{IsRecoverableInFirst, RecoverableIfOwn}
+use Rattle.sled_core.specs.Recoverable.{IsRecoverableInFirst, NoForeign, RecoverableIfOwn}
 use Rattle.sled_core.specs.Running.{Ready}
 use Rattle.sled_core.proofs.Read.FirstSegment.{first_part}
 use Rattle.sled_log.specs.Recovery.{RecoveryResult, Recovered, Damaged, Recovers}
-use Rattle.sled_log.specs.Orderly.{CanRead, CanReadOn, CanRecover}
+use Rattle.sled_log.specs.Orderly.{CanRead, CanReadOn, CanRecover, LeavesReadable}
 use Rattle.sled_log.specs.WritesBack.{IsWrittenBack, HasWrittenBack}
 use Rattle.sled_log.specs.Restores.{RecoveryCalls}
 use Rattle.sled_log.proofs.Recovers.RecoversGood.{can_read}
@@ -27,6 +27,10 @@ read_of sum size old H A f can = can_read sum size (content_of (state_of old)) H
 -- and so can each content that a crash leaves of it
 pub read_on_of : (sum : List ℕ → ℕ) (size : ℕ) (device : State) (H : History) (A f : ℕ) → CanRecover sum size device H A f → CanReadOn sum size device H A f
 read_on_of sum size device H A f can = record { left = λ left leaves own. can_read sum size left H A f can.orderly (can.left left leaves own); own = can.own }
+
+-- behind a recovery the next one can do so, where what is read then is the log's own
+pub read_on_again : (sum : List ℕ → ℕ) (size : ℕ) (device : State) (H : History) (A cut : ℕ) → LeavesReadable sum size (below H cut) A cut device → NoForeign sum size device (content_of device) → CanReadOn sum size device (below H cut) A cut
+read_on_again sum size device H A cut left own = record { left = left; own = own }
 
 module _ (sum : List ℕ → ℕ) (size : ℕ) (large : 256 ≤ size) (small : size < 2 ^ 63) (old : Trace) (H : History) (A f : ℕ) (can : CanRecover sum size (state_of old) H A f) where
   -- what is read can be recovered

@@ -44,9 +44,10 @@ returns-in-Ok-clause-step g c = λ k at.
           let good = c.in-Ok.ensures.good k.history k.acknowledged k.floor (read_on_of sum size (state_of old.trace) k.history k.acknowledged k.floor can) in
           let cut : ℕ = stable_place s.stable in
           let l : Unstored = record { history = below k.history cut; acknowledged = k.acknowledged; floor = cut; reserved = None } in
+          let kept = c.in-Ok.ensures.ready k.history k.acknowledged k.floor can in
           let recovered : IsRecoveredAt trace sum config s l = record {
-            closed = subst (λ n. IsClosedAt sum n mid.trace l) (sym sizes) (record { formed = forgotten k.history cut at.formed; left = c.in-Ok.ensures.kept k.history k.acknowledged k.floor can });
-            ready = subst (λ n. cut < n → Ready sum n (state_of mid.trace) s l.history l.acknowledged l.floor) (sym sizes) (c.in-Ok.ensures.ready k.history k.acknowledged k.floor can);
+            closed = subst (λ n. IsClosedAt sum n mid.trace l) (sym sizes) (record { formed = forgotten k.history cut at.formed; left = kept.left });
+            ready = subst (λ n. cut < n → Ready sum n (state_of mid.trace) s l.history l.acknowledged l.floor) (sym sizes) kept.ready;
             begun = has_of_table k.history cut s.pages good.table;
           } in
           let started = c.start.ensures.starts l recovered in
