@@ -39,7 +39,7 @@ one_cut sum size log H A first cut other a b =
     let ordering : a.ordering ≡ b.ordering = one_ordering sum size log least a.ordering b.ordering a.numbers b.numbers in
     let scanned : a.scanned ≡ b.scanned = same_scans sum size log b.ordering a.scanned b.scanned (subst (λ (ss : List Segment). AreScanned sum size log ss a.scanned) ordering a.reads) b.reads in
     let tail : a.tail ≡ b.tail = one_tail sum size log b.ordering (rises_of b.ordering b.numbers.ascending) (tail_begins size least b.ordering) a.tail b.tail
-        (subst (λ (ss : List Segment). IsTail sum size log ss (tail_begins size least ss) a.tail) ordering a.is_tail) b.is_tail in
+    (subst (λ (ss : List Segment). IsTail sum size log ss (tail_begins size least ss) a.tail) ordering a.is_tail) b.is_tail in
     a.is_cut ∙ (λ i. cut_from size first (scanned i) (tail_end (tail i))) ∙ sym b.is_cut
 
 -- The snapshots give that one.
@@ -88,6 +88,6 @@ stand_synced sum size H A f old kept own can left leaves own_left =
     let now = read_left old in
     let content : Content = record { log = (state_of old).log.bytes; blobs = left; snapshots = (state_of old).snapshots.file } in
     let also : CanRead sum size content H A f = kept content
-        (record { log = now.log; blobs = λ n. left_before sum (state_of old).blobs n (left n) (leaves n); snapshots = now.snapshots })
-        (record { log = own.log; blobs = own_before sum (state_of old).blobs own.blobs left own_left; snapshots = own.snapshots; zeros = own.zeros }) in
+    (record { log = now.log; blobs = λ n. left_before sum (state_of old).blobs n (left n) (leaves n); snapshots = now.snapshots })
+    (record { log = own.log; blobs = own_before sum (state_of old).blobs own.blobs left own_left; snapshots = own.snapshots; zeros = own.zeros }) in
     subst (λ (c : ℕ × Option ℕ). AreRecoverableBlobs sum left H c.0) (sym (same_cut sum size (state_of old).log.bytes (state_of old).blobs.file left (state_of old).snapshots.file H A f can also)) also.blobs
