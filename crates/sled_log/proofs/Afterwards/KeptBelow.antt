@@ -1,7 +1,7 @@
 -- Behind a recovery each content that a crash leaves can be read back for what lies below the cut, with the cut for the floor, over any number of segments.
-use Rattle.std.proofs.Common.{◌≡◌, ◌∙◌, ◌≤◌, ℕ, ℤ, List, ◌∷◌, Option, sym, subst, arith, inr}
+use Rattle.std.proofs.Common.{◌≡◌, ◌∙◌, ◌≤◌, ℕ, List, ◌∷◌, sym, subst, arith, inr}
 use Rattle.sled_codec.specs.History.{History, below}
-use Rattle.sled_codec.specs.Snapshots.{SnapshotModel, stable_place}
+use Rattle.sled_codec.specs.Snapshots.{stable_place}
 use Rattle.sled_store.specs.Device.{Synced, NamesSynced, LogState, NamesState, Content, Trace, state_of, content_of, names_synced, LeavesLog}
 use Rattle.sled_store.proofs.LogFile.LogLemmas.{at_rest_left}
 use Rattle.sled_store.proofs.Traces.ScriptLemmas.{ends_in}
@@ -18,7 +18,6 @@ use Rattle.sled_log.proofs.Moments.ForgottenAbove.{blobs_forget}
 use Rattle.sled_log.proofs.Moments.LogAlong.{LeavesReadable, NamesBegin, parts_readable}
 use Rattle.sled_log.proofs.Moments.OneCut.{stand_synced}
 use Rattle.sled_log.proofs.Moments.RecoveryAlong.{can_read, cut_fits, concluded, settled_names, apart_others, all_above}
-use Rattle.sled_log.proofs.Moments.Shredded.{shredded}
 use Rattle.sled_log.proofs.Moments.SnapshotNames.{synced_twice}
 use Rattle.sled_log.proofs.PageTable.BelowLemmas.{file_below}
 use Rattle.sled_log.proofs.Recovers.RecoversGood.{RecoversWell, well_of}

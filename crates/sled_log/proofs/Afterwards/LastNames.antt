@@ -6,7 +6,7 @@ use Rattle.std.proofs.lemmas.List.{append_assoc}
 use Rattle.sled_codec.specs.History.{Message, History}
 use Rattle.sled_codec.specs.Snapshots.{SnapshotModel, stable_place}
 use Rattle.sled_store.specs.Blobs.{removing_blobs}
-use Rattle.sled_store.specs.Device.{Event, Wrote, Synced, NamesSynced, BlobRemoved, SnapshotFilled, SnapshotPublished, SnapshotRemoved, LogState, NamesState, Temporary, State, log_step, step, renamed, names_synced}
+use Rattle.sled_store.specs.Device.{Event, Wrote, Synced, BlobRemoved, SnapshotRemoved, LogState, NamesState, Temporary, State, log_step, step, renamed, names_synced}
 use Rattle.sled_store.specs.Durable.{IsSettledName}
 use Rattle.sled_store.proofs.Crashes.ForeignLemmas.{before_knows}
 use Rattle.sled_store.proofs.Crashes.LeavesLemmas.{remove_blob}

@@ -1,5 +1,5 @@
 -- What a recovery does for a history, where it can go on from each content that a crash leaves: it keeps that at each moment, meets no damage, and gives a good snapshot.
-use Rattle.std.proofs.Common.{◌≡◌, ◌∙◌, ◌∷◌, ◌≤◌, ◌<◌, ◌^◌, ℕ, true, List, Option, Some, None, ap}
+use Rattle.std.proofs.Common.{◌≡◌, ◌∷◌, ◌≤◌, ◌<◌, ◌^◌, ℕ, true, List}
 use Rattle.sled_codec.specs.History.{History, below}
 use Rattle.sled_codec.specs.Snapshots.{FitsSnapshot, stable_place}
 use Rattle.sled_store.specs.Device.{Trace, State, state_of, content_of, Synced, NamesSynced}
@@ -8,7 +8,7 @@ use Rattle.sled_store.proofs.Crashes.SettledLemmas.{read_left}
 use Rattle.sled_core.specs.Recoverable.{IsRecoverableInFirst, NoForeign, RecoverableIfOwn}
 use Rattle.sled_core.specs.Running.{Ready}
 use Rattle.sled_core.proofs.Read.FirstSegment.{first_part}
-use Rattle.sled_log.specs.Recovery.{RecoveryResult, Recovered, Damaged, Recovers}
+use Rattle.sled_log.specs.Recovery.{RecoveryResult, Recovered, Recovers}
 use Rattle.sled_log.specs.Orderly.{CanRead, CanReadOn, CanRecover, LeavesReadable}
 use Rattle.sled_log.specs.WritesBack.{IsWrittenBack, HasWrittenBack}
 use Rattle.sled_log.specs.Restores.{RecoveryCalls}
