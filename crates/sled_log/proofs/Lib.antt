@@ -1,3 +1,4 @@
+pub mod Afterwards
 pub mod Moments
 pub mod Ordering
 pub mod OwnBlobs

@@ -5,6 +5,7 @@ pub mod CutSegment
 pub mod ForgottenAbove
 pub mod FromCut
 pub mod LogAlong
+pub mod OneCut
 pub mod PassStops
 pub mod PublishedCut
 pub mod RecoveryAlong

@@ -1,6 +1,7 @@
 pub mod ActiveSlot
 pub mod Covered
 pub mod CutLemmas
+pub mod LeftIn
 pub mod LeftOut
 pub mod OfHistory
 pub mod OneReading

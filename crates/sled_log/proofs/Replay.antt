@@ -2,7 +2,6 @@ pub mod BlobLemmas
 pub mod FirstConclusion
 pub mod FirstRecovers
 pub mod FirstSnapshot
-pub mod GoodLemmas
 pub mod KeptRecovers
 pub mod LineLemmas
 pub mod LookLemmas

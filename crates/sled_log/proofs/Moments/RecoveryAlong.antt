@@ -1,11 +1,11 @@
 -- A whole recovery over any number of segments: what a crash leaves at each moment of it can be read back, from the first sync to the last blob that is removed.
-use Rattle.std.proofs.Common.{◌≡◌, ◌≢◌, ◌∙◌, ◌≤◌, ◌≤ℤ◌, ◌-ℤ◌, ◌^◌, ◌++◌, ℕ, ℤ, pos, negsuc, Bool, true, false, List, [], ◌∷◌, Option, Some, None, refl, sym, ap, subst, arith, inl, inr}
+use Rattle.std.proofs.Common.{◌≡◌, ◌≢◌, ◌∙◌, ◌≤◌, ◌≤ℤ◌, ◌-ℤ◌, ◌^◌, ◌++◌, ℕ, ℤ, pos, negsuc, true, false, List, [], ◌∷◌, Option, Some, None, refl, sym, ap, subst, arith, inl, inr}
 use Rattle.std.specs.List.{Contains}
 use Rattle.std.specs.Option.{unwrap_or}
 use Rattle.sled_codec.specs.History.{History, CutFits}
 use Rattle.sled_codec.specs.PageTables.{IsTable}
 use Rattle.sled_codec.specs.Snapshots.{SnapshotModel, stable_place}
-use Rattle.sled_store.specs.Device.{Event, State, Synced, NamesSynced, NamesState, Content, Trace, state_of, content_of, step, names_synced, settled_file}
+use Rattle.sled_store.specs.Device.{Event, State, Synced, NamesSynced, Content, Trace, state_of, content_of, step, names_synced}
 use Rattle.sled_store.specs.Durable.{IsSettledName}
 use Rattle.sled_store.specs.Blobs.{MayGo}
 use Rattle.sled_store.specs.Moments.{Throughout}
@@ -14,38 +14,23 @@ use Rattle.sled_store.specs.Foreign.{NoForeignLog}
 use Rattle.sled_store.proofs.Crashes.SettledLemmas.{before_sync, read_left}
 use Rattle.sled_store.proofs.Crashes.SyncedLemmas.{snapshots_firm}
 use Rattle.sled_store.proofs.LogFile.LogLemmas.{at_rest_left}
-use Rattle.sled_store.proofs.Names.NamesLemmas.{settled_name_left, settled_name_synced}
+use Rattle.sled_store.proofs.Names.NamesLemmas.{settled_name_synced}
 use Rattle.sled_store.proofs.Segments.Elements.{in_nothing}
 use Rattle.sled_store.proofs.Traces.ScriptLemmas.{along_first, performs_throughout}
-use Rattle.sled_core.specs.Recoverable.{ActiveFits, NoForeign, AreRecoverableBlobs, IsRecoverableLog}
+use Rattle.sled_core.specs.Recoverable.{ActiveFits, NoForeign, IsRecoverableLog}
 use Rattle.sled_log.specs.Orderly.{CanRead}
-use Rattle.sled_log.specs.Recovery.{RecoveryResult, Recovered, Recovers, shred_range_of}
+use Rattle.sled_log.specs.Recovery.{RecoveryResult, shred_range_of}
 use Rattle.sled_log.specs.Restores.{RecoveryCalls}
 use Rattle.sled_log.specs.WritesBack.{shredding, committing, forgetting, forgotten_from, snapshot_number_of, writing_back, FitsIfNew, WritesBehind}
-use Rattle.sled_log.proofs.Moments.BlobsAlong.{AreOwn}
 use Rattle.sled_log.proofs.Moments.BlobsRemoved.{IsAbove}
-use Rattle.sled_log.proofs.Moments.LogAlong.{LeavesReadable, BlobsStand, parts_readable}
+use Rattle.sled_log.proofs.Moments.LogAlong.{LeavesReadable, parts_readable}
+use Rattle.sled_log.proofs.Moments.OneCut.{stand_synced}
 use Rattle.sled_log.proofs.Moments.SnapshotNames.{IsTableAt, synced_twice, settled_begin}
 use Rattle.sled_log.proofs.Moments.UnreadSlots.{free_left}
 use Rattle.sled_log.proofs.Moments.WritingAlong.{IsConcluded, writing_along, filling_along}
-use Rattle.sled_log.proofs.Recovers.RecoversGood.{RecoversWell, recovers_well, one_result}
+use Rattle.sled_log.proofs.Recovers.RecoversGood.{RecoversWell, well_of}
 use Rattle.sled_log.proofs.WriteBack.AfterRecovery.{not_beyond}
 use Rattle.sled_log.proofs.WriteBack.RecoveryMoments.{removed_apart}
-
--- Blobs whose bytes are all settled.
-module _ (blobs : NamesState) (firm : (n : ℤ) → blobs.is_unsynced n ≡ false) where
-  -- behind a sync of names a crash leaves just those
-  pub stand_settled : (sum : List ℕ → ℕ) (H : History) (cut : ℕ) → AreRecoverableBlobs sum blobs.file H cut → BlobsStand sum H cut (names_synced blobs)
-  stand_settled sum H cut are left leaves own =
-      subst (λ (file : ℤ → Option (List ℕ)). AreRecoverableBlobs sum file H cut) (λ i n. sym (settled_name_left (names_synced blobs) n (left n) (settled_name_synced blobs n (firm n)) (leaves n)) i) are
-
-  -- and they are all that was settled
-  pub own_settled : (sum : List ℕ → ℕ) → AreOwn sum (names_synced blobs)
-  own_settled sum = record { own = λ n bytes there is. inl (by (blobs.file n) (blobs.is_unsynced n) (firm n) ∙ there) } where
-    by : (file : Option (List ℕ)) (unsynced : Bool) → unsynced ≡ false → settled_file file unsynced [] ≡ file
-    by None unsynced settled = refl
-    by (Some bytes) true settled = absurd (cc)
-    by (Some bytes) false settled = refl
 
 -- What a recovery gives, where it begins from these parts of a content.
 module _ (sum : List ℕ → ℕ) (size : ℕ) (content : Content) (H : History) (A f : ℕ) (some : 256 ≤ size) (can : CanRead sum size content H A f) (x : RecoveryResult)
@@ -89,14 +74,13 @@ along_begun Q [] fs s along = along_first Q fs s along
 along_begun Q (e ∷ es) fs s along = (along.0, along.1, along_begun Q es fs (step e s) along.2)
 
 -- a place that isn't below the one from which on no blob is kept lies at or above the cut
-forgotten_above : (stable : Option ℤ) (cut : ℕ) → stable_place stable ≡ cut → (p : ℤ) → unwrap_or stable (pos 0 -ℤ pos (2 ^ 63)) ≤ℤ p → IsAbove cut p
+pub forgotten_above : (stable : Option ℤ) (cut : ℕ) → stable_place stable ≡ cut → (p : ℤ) → unwrap_or stable (pos 0 -ℤ pos (2 ^ 63)) ≤ℤ p → IsAbove cut p
 forgotten_above None cut place p low = inr (sym place)
 forgotten_above (Some (pos k)) cut place p low = inl (subst (λ n. pos n ≤ℤ p) place low)
 forgotten_above (Some (negsuc k)) cut place p low = inr (sym place)
 
 -- The calls, from the first sync on.
-module _ (sum : List ℕ → ℕ) (size : ℕ) (H : History) (A f : ℕ) (some : 256 ≤ size) (old : Trace) (kept : LeavesReadable sum size H A f (state_of old)) (own : NoForeign sum size (state_of old) (content_of (state_of old)))
-    (firm : (n : ℤ) → (state_of old).blobs.is_unsynced n ≡ false) where
+module _ (sum : List ℕ → ℕ) (size : ℕ) (H : History) (A f : ℕ) (some : 256 ≤ size) (old : Trace) (kept : LeavesReadable sum size H A f (state_of old)) (own : NoForeign sum size (state_of old) (content_of (state_of old))) where
   -- what is read can be read back
   pub can_read : CanRead sum size (content_of (state_of old)) H A f
   can_read = kept (content_of (state_of old)) (read_left old) own
@@ -110,7 +94,7 @@ module _ (sum : List ℕ → ℕ) (size : ℕ) (H : History) (A f : ℕ) (some :
       (record { log = subst (λ (l : List ℕ). NoForeignLog sum size (state_of old).log (state_of old).placed l) (sym same) own.log; blobs = own_left.blobs; snapshots = own_left.snapshots; zeros = own_left.zeros })
 
   -- Names are settled by their own sync.
-  settled_names : (n : ℤ) → IsSettledName (names_synced (state_of old).snapshots) n
+  pub settled_names : (n : ℤ) → IsSettledName (names_synced (state_of old).snapshots) n
   settled_names n = settled_name_synced (state_of old).snapshots n (snapshots_firm old n)
 
   module _ (can : CanRead sum size (content_of (state_of old)) H A f) (x : RecoveryResult) (well : RecoversWell sum size (content_of (state_of old)) H A f some can.orderly can.first can.cut can.snapshots can.log can.blobs x) where
@@ -123,7 +107,7 @@ module _ (sum : List ℕ → ℕ) (size : ℕ) (H : History) (A f : ℕ) (some :
         synced_readable,
         λ torn tears. absurd tears,
         writing_along sum size H A f can.orderly can.cut some (cut_fits sum size (content_of (state_of old)) H A f some can x well) own.zeros
-            (names_synced (state_of old).blobs) (own_settled (state_of old).blobs firm sum) (stand_settled (state_of old).blobs firm sum H can.cut.0 can.blobs) (synced_twice (state_of old).blobs)
+            (names_synced (state_of old).blobs) (stand_synced sum size H A f old kept own can) (synced_twice (state_of old).blobs)
             (names_synced (state_of old).snapshots) settled_names can.first can.snapshots (state_of old).log.bytes can.log x (concluded sum size (content_of (state_of old)) H A f some can x well fits)
             (state_of old).temporary (state_of old).placed ns apart places above,
       ),
@@ -140,17 +124,17 @@ module _ (sum : List ℕ → ℕ) (size : ℕ) (H : History) (A f : ℕ) (some :
         subst (λ (r : Option (ℕ × ℕ)). Along (LeavesReadable sum size H A f) (shredding r) (step NamesSynced (step Synced (state_of old))))
             (sym (shreds sum size (content_of (state_of old)) H A f some can x well))
             (filling_along sum size H A f can.orderly can.cut some (cut_fits sum size (content_of (state_of old)) H A f some can x well) own.zeros
-            (names_synced (state_of old).blobs) (own_settled (state_of old).blobs firm sum) (stand_settled (state_of old).blobs firm sum H can.cut.0 can.blobs) (synced_twice (state_of old).blobs)
+            (names_synced (state_of old).blobs) (stand_synced sum size H A f old kept own can) (synced_twice (state_of old).blobs)
             (names_synced (state_of old).snapshots) settled_names can.first can.snapshots (state_of old).log.bytes can.log (state_of old).temporary (state_of old).placed),
       ),
     )
 
-    apart_others : FitsIfNew x → (ns : List ℤ) → ((n : ℤ) → Contains ns n → n ≢ snapshot_number_of x.model) → x.is_new ≡ true → (n : ℤ) → Contains ns n → n ≢ pos can.cut.0
+    pub apart_others : FitsIfNew x → (ns : List ℤ) → ((n : ℤ) → Contains ns n → n ≢ snapshot_number_of x.model) → x.is_new ≡ true → (n : ℤ) → Contains ns n → n ≢ pos can.cut.0
     apart_others fits ns apart is_new n there =
         let table = new_table sum size (content_of (state_of old)) H A f some can x well fits is_new in
         subst (λ (k : ℤ). n ≢ k) (ap (λ (o : Option ℤ). unwrap_or o (pos 0)) table.stable) (apart n there)
 
-    all_above : (places : List ℤ) → MayGo (state_of old).blobs.file (forgotten_from x.model) places → (p : ℤ) → Contains places p → IsAbove can.cut.0 p
+    pub all_above : (places : List ℤ) → MayGo (state_of old).blobs.file (forgotten_from x.model) places → (p : ℤ) → Contains places p → IsAbove can.cut.0 p
     all_above places (inl none) p there = absurd (in_nothing p (subst (λ (l : List ℤ). Contains l p) none there))
     all_above places (inr are) p there = forgotten_above x.model.stable can.cut.0 well.place p ((are.each p).0 there).1
 
@@ -179,7 +163,7 @@ module _ (sum : List ℕ → ℕ) (size : ℕ) (H : History) (A f : ℕ) (some :
       parts_readable sum size H A f can.orderly can.cut (λ t. t ≡ can.first) (step NamesSynced (step Synced (state_of old)))
           (λ left leaves own_left t active same.
           subst (λ (l : List ℕ). IsRecoverableLog sum size l H A t can.cut) (sym (at_rest_left (state_of old).log.bytes left leaves)) (subst (λ (u : SnapshotModel). IsRecoverableLog sum size (state_of old).log.bytes H A u can.cut) (sym same) can.log))
-          (settled_begin sum size H f (λ t. t ≡ can.first) (names_synced (state_of old).snapshots) settled_names can.first can.snapshots refl) (stand_settled (state_of old).blobs firm sum H can.cut.0 can.blobs),
+          (settled_begin sum size H f (λ t. t ≡ can.first) (names_synced (state_of old).snapshots) settled_names can.first can.snapshots refl) (stand_synced sum size H A f old kept own can),
     ),
   )
 
@@ -187,6 +171,4 @@ module _ (sum : List ℕ → ℕ) (size : ℕ) (H : History) (A f : ℕ) (some :
   pub recovery_throughout : (new : Trace) → RecoveryCalls sum size old new → Throughout (LeavesReadable sum size H A f) old new
   recovery_throughout new (inl settling) = performs_throughout (LeavesReadable sum size H A f) (Synced ∷ NamesSynced ∷ []) old new settling settling_along
   recovery_throughout new (inr (x, recovers, behind)) =
-      let came = recovers_well sum size (content_of (state_of old)) H A f some can.orderly can.first can.cut can.snapshots can.log can.blobs (Recovered x) recovers in
-      let well = subst (RecoversWell sum size (content_of (state_of old)) H A f some can.orderly can.first can.cut can.snapshots can.log can.blobs) (sym (one_result x came.0 came.1)) came.2 in
-      behind_throughout can x well new behind
+      behind_throughout can x (well_of sum size (content_of (state_of old)) H A f some can x recovers) new behind

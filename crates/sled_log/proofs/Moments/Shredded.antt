@@ -5,7 +5,9 @@ use Rattle.sled_codec.specs.History.{History, CutFits}
 use Rattle.sled_codec.specs.Snapshots.{SnapshotModel, stable_place}
 use Rattle.sled_store.specs.Device.{LogState, overwritten, at_rest}
 use Rattle.sled_store.proofs.LogFile.OverwrittenLemmas.{length-overwritten}
+use Rattle.sled_core.specs.declared.iterator.Segment.{Segment}
 use Rattle.sled_core.specs.Recoverable.{ActiveFits, NoHeaderOfZeros, IsRecoverableLog}
+use Rattle.sled_core.specs.Scan.{IsFoundSegment}
 use Rattle.sled_log.specs.Recovery.{shred_range_of}
 use Rattle.sled_log.specs.WritesBack.{after_shredding, after_zeroing}
 use Rattle.sled_log.proofs.Moments.CutSegment.{cut_segment, ends_segment}
@@ -16,11 +18,12 @@ use Rattle.sled_log.proofs.Moments.ZeroedWhole.{found_new}
 
 module _ (sum : List ℕ → ℕ) (size : ℕ) (old : List ℕ) (some : 256 ≤ size) (H : History) (A : ℕ) (first : SnapshotModel) (cut : ℕ × Option ℕ) (is : IsRecoverableLog sum size old H A first cut) (fits : CutFits H cut.0)
     (active : ActiveFits size (stable_place first.stable) first.active) where
-  -- What this asks of a log file that is at rest: it can be recovered as before, what is read ends at the cut, and slots that were free are.
+  -- What this asks of a log file that is at rest: it can be recovered as before, what is read ends at the cut, no segment is found that was not there, and slots that were free are.
   pub record IsShredded (log : LogState) : Type 0 where
     pub rests : log ≡ at_rest log.bytes
     pub same_cut : IsRecoverableLog sum size log.bytes H A first cut
     pub stops : StopsAtCut sum size log.bytes some H A cut
+    pub found : (s : Segment) → IsFoundSegment sum size log.bytes 0 s → IsFoundSegment sum size old 0 s
     pub free : (slot : ℕ) → IsFree sum size old cut.0 slot → IsFree sum size log.bytes cut.0 slot
 
   -- The segment of the cut is active.
@@ -37,14 +40,17 @@ module _ (sum : List ℕ → ℕ) (size : ℕ) (old : List ℕ) (some : 256 ≤ 
     to_end : at + count ≡ slot + size
     to_end = let inside : cut.0 % size < size = omega (arith, some) in omega (arith, inside)
 
-    still_free : (other : ℕ) → IsFree sum size old cut.0 other → IsFree sum size new cut.0 other
-    still_free other was =
+    was_found : (s : Segment) → IsFoundSegment sum size new 0 s → IsFoundSegment sum size old 0 s
+    was_found s found =
         let its = cut_segment sum size old some H A first cut is active slot has_slot in
-        record {
-          aligned = was.aligned;
-          reach = (let there = was.reach in omega (arith, there, length-overwritten old at (replicate count 0)));
-          free = λ s found same. was.free s (found_new sum size old some H A first cut is fits slot has_slot its.0 its.1 its.2 its.3 at count refl to_end 0 s found) same;
-        }
+        found_new sum size old some H A first cut is fits slot has_slot its.0 its.1 its.2 its.3 at count refl to_end 0 s found
+
+    still_free : (other : ℕ) → IsFree sum size old cut.0 other → IsFree sum size new cut.0 other
+    still_free other was = record {
+      aligned = was.aligned;
+      reach = (let there = was.reach in omega (arith, there, length-overwritten old at (replicate count 0)));
+      free = λ s found same. was.free s (was_found s found) same;
+    }
 
     pub filled : IsShredded (at_rest new)
     filled =
@@ -53,6 +59,7 @@ module _ (sum : List ℕ → ℕ) (size : ℕ) (old : List ℕ) (some : 256 ≤ 
           rests = refl;
           same_cut = stand.0;
           stops = record { parts = of_cut sum size new some H A first cut stand.0; stops = inl (stand.1, ends_too sum size new some H A first cut stand.0 stand.1 stand.2) };
+          found = was_found;
           free = still_free;
         }
 
@@ -64,6 +71,7 @@ module _ (sum : List ℕ → ℕ) (size : ℕ) (old : List ℕ) (some : 256 ≤ 
         rests = refl;
         same_cut = is;
         stops = record { parts = of_cut sum size old some H A first cut is; stops = inr (no_slot, its.aligned, λ s there. its.none s (of_all sum size old some H A first cut is s there)) };
+        found = λ s found. found;
         free = λ slot was. was;
       }
 

@@ -15,7 +15,7 @@ use Rattle.sled_core.specs.Recoverable.{ActiveFits, NoHeaderOfZeros, AreRecovera
 use Rattle.sled_log.specs.Orderly.{IsOrderly}
 use Rattle.sled_log.specs.Recovery.{RecoveryResult, shred_range_of}
 use Rattle.sled_log.specs.WritesBack.{shredding, short_file, snapshot_number_of, removing, publishing_file, publishing, forgetting, writing_back}
-use Rattle.sled_log.proofs.Moments.BlobsAlong.{AreOwn, forgetting_along}
+use Rattle.sled_log.proofs.Moments.BlobsAlong.{forgetting_along}
 use Rattle.sled_log.proofs.Moments.BlobsRemoved.{IsAbove}
 use Rattle.sled_log.proofs.Moments.LogAlong.{LeavesReadable, NamesBegin, BlobsStand, along_call, parts_readable, shredding_along}
 use Rattle.sled_log.proofs.Moments.Shredded.{IsShredded}
@@ -31,7 +31,7 @@ pub record IsConcluded (sum : List ℕ → ℕ) (size : ℕ) (H : History) (firs
   pub unread : AreFree sum size log cut.0 x.unread
 
 module _ (sum : List ℕ → ℕ) (size : ℕ) (H : History) (A f : ℕ) (orderly : IsOrderly H) (cut : ℕ × Option ℕ) (some : 256 ≤ size) (fits : CutFits H cut.0) (none : NoHeaderOfZeros sum)
-    (blobs : NamesState) (own : AreOwn sum blobs) (stand : BlobsStand sum H cut.0 blobs) (firm : names_synced blobs ≡ blobs) where
+    (blobs : NamesState) (stand : BlobsStand sum H cut.0 blobs) (firm : names_synced blobs ≡ blobs) where
   abbrev P : State → Type 0
   P = LeavesReadable sum size H A f
 
@@ -101,7 +101,7 @@ module _ (sum : List ℕ → ℕ) (size : ℕ) (H : History) (A f : ℕ) (orderl
 
         forgets : (new : List ℕ) (all : List (ℕ × List ℕ)) → Shredded new → (last : NamesState) (other : Temporary) → NamesBegin sum size H f (λ t. stable_place t.stable ≡ cut.0) last → Along P forget (device last other new all)
         forgets new all shredded last other begin =
-            forgetting_along sum size H A f orderly cut last other some fits none begin blobs own stand x.unread new all (λ slot there. shredded.free slot (concluded.unread slot there)) shredded.stops places above
+            forgetting_along sum size H A f orderly cut last other some fits none begin blobs stand x.unread new all (λ slot there. shredded.free slot (concluded.unread slot there)) shredded.stops places above
 
         by : (new : List ℕ) (all : List (ℕ × List ℕ)) → Shredded new → (b : Bool) → x.is_new ≡ b → Along P ((if b then publishing sum x.model ns else []) ++ forget) (device names temporary new all)
         by new all shredded false is_old = forgets new all shredded names temporary (settled_begin sum size H f (λ t. stable_place t.stable ≡ cut.0) names settled first tables (concluded.kept is_old))

@@ -42,10 +42,10 @@ module _ (sum : List ℕ → ℕ) (size : ℕ) (log : List ℕ) (some : 256 ≤ 
 
   -- A pass over segments that begin below the end of the tail.
   module _ (end : ℕ) (s : Scanned) (ss : List Scanned) (ends : tail_end is.tail ≡ Some end) (below : scanned_below end is.scanned ≡ s ∷ ss) where
-    abbrev at_stop : Segment × ℕ
+    abbrev pub at_stop : Segment × ℕ
     at_stop = stop sum size log some H A first cut is end s ss ends below
 
-    abbrev final : Scanned
+    abbrev pub final : Scanned
     final = (stopped sum size log some H A first cut is end s ss ends below).last
 
     final_known : Contains is.scanned final
@@ -58,7 +58,7 @@ module _ (sum : List ℕ → ℕ) (size : ℕ) (log : List ℕ) (some : 256 ≤ 
     at_place = last_place sum size log some H A first cut is end s ss ends below
 
     -- the pass stops behind the header of that segment
-    behind_header : final.segment.place + 20 ≤ at_stop.1
+    pub behind_header : final.segment.place + 20 ≤ at_stop.1
     behind_header =
         let stand = met_stand sum size log some final (whole sum size log some H A first cut is final final_known) in
         ⊎_elim

@@ -20,6 +20,7 @@ use Rattle.sled_log.proofs.Recovers.CutLemmas.{cut_fits}
 use Rattle.sled_log.proofs.Recovers.PassCut.{cut_is}
 use Rattle.sled_log.proofs.Recovers.PassTable.{applied_all, table_made, pages_fit}
 use Rattle.sled_log.proofs.Recovers.Undamaged.{ComesOf, ReadsNone, left_of, Comes, what_comes}
+use Rattle.sled_log.proofs.Recovers.LeftIn.{HaveAbove, all_left, high_left}
 use Rattle.sled_log.proofs.Recovers.LeftOut.{LieAbove, tail_empty, none_left, some_left}
 use Rattle.sled_log.proofs.Recovers.ActiveSlot.{IsActive, none_slot, none_active, some_active}
 
@@ -61,7 +62,7 @@ module _ (sum : List ℕ → ℕ) (size : ℕ) (content : Content) (H : History)
   abbrev pub IsMade : RecoveryResult → Type 0
   IsMade x = (x.model.stable ≡ Some (pos cut.0)) × (x.shred_range ≡ shred_range_of size cut.0 cut.1) × (x.is_new ≡ is_beyond first.stable cut.0)
 
-  -- It is good, with the place and the active slot of the cut, in which a record can begin there. The segments that were not read lie at or above the cut.
+  -- It is good, with the place and the active slot of the cut, in which a record can begin there. The segments that were not read are those at or above the cut.
   pub record RecoversWell (x : RecoveryResult) : Type 0 where
     pub place : stable_place x.model.stable ≡ cut.0
     pub active : x.model.active ≡ cut.1
@@ -69,6 +70,7 @@ module _ (sum : List ℕ → ℕ) (size : ℕ) (content : Content) (H : History)
     pub good : IsGood sum size content H A f x.model
     pub kind : IsKept x ⊎ IsMade x
     pub unread : LieAbove sum size content.log some content.blobs H A first cut is are x.unread
+    pub above : HaveAbove sum size content.log some content.blobs H A first cut is are x.unread
 
   abbrev IsAnswer : Outcome → Type 0
   IsAnswer o = (x : RecoveryResult) × (o ≡ Recovered x) × RecoversWell x
@@ -87,6 +89,7 @@ module _ (sum : List ℕ → ℕ) (size : ℕ) (content : Content) (H : History)
           good = good_at first place (subst (IsTable first.pages H) place begins.0) (subst (CutFits H) place begins.1);
           kind = inl (refl, refl, refl, ap (λ (c : ℕ × Option ℕ). c.1) at ∙ none_slot sum size content.log some H A first cut is snapshots.active (tail_empty sum size content.log some content.blobs H A first cut is are unread none).0);
           unread = none_left sum size content.log some content.blobs H A first cut is are unread (sym place) none;
+          above = all_left sum size content.log some content.blobs H A first cut is are unread none;
         },
       )
 
@@ -112,6 +115,7 @@ module _ (sum : List ℕ → ℕ) (size : ℕ) (content : Content) (H : History)
           good = good_at x.model refl is_table fits;
           kind = inr (refl, refl, refl);
           unread = some_left sum size content.log some content.blobs H A first cut is are end s ss passes ends below replayed;
+          above = high_left sum size content.log some content.blobs H A first cut is are end s ss passes ends below replayed;
         },
       )
 
@@ -131,6 +135,13 @@ result_in x (Recovered y) = y
 pub one_result : (x y : RecoveryResult) → Recovered x ≡ Recovered y → x ≡ y
 unfolding result_in
 one_result x y same = ap (result_in x) same
+
+-- a result that comes of one
+pub well_of : (sum : List ℕ → ℕ) (size : ℕ) (content : Content) (H : History) (A f : ℕ) (some : 256 ≤ size) (can : CanRead sum size content H A f) (x : RecoveryResult) → Recovers sum size content (Recovered x)
+    → RecoversWell sum size content H A f some can.orderly can.first can.cut can.snapshots can.log can.blobs x
+well_of sum size content H A f some can x recovers =
+    let came = recovers_well sum size content H A f some can.orderly can.first can.cut can.snapshots can.log can.blobs (Recovered x) recovers in
+    subst (RecoversWell sum size content H A f some can.orderly can.first can.cut can.snapshots can.log can.blobs) (sym (one_result x came.0 came.1)) came.2
 
 -- A recoverable content is recovered, and the answer is good.
 pub recovers_good : (sum : List ℕ → ℕ) (size : ℕ) (content : Content) (H : History) (A f : ℕ) → 256 ≤ size → IsOrderly H → (first : SnapshotModel) (cut : ℕ × Option ℕ)

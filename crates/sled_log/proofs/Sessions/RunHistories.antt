@@ -156,7 +156,7 @@ has_new H H' m step = record { message = m; there = new_there H H' m step; of = 
 -- What lies below a cut.
 
 -- some of the messages that lie apart lie apart
-sublist_apart : (xs ys : List Message) → IsSublist xs ys → LieApart ys → LieApart xs
+pub sublist_apart : (xs ys : List Message) → IsSublist xs ys → LieApart ys → LieApart xs
 sublist_apart [] ys sub apart = tt
 sublist_apart (x ∷ xs) [] sub apart = absurd sub
 sublist_apart (x ∷ xs) (y ∷ ys) (inl both) apart = (

@@ -9,7 +9,7 @@ use Rattle.sled_store.proofs.Traces.MomentLemmas.{at_last}
 use Rattle.sled_core.specs.Recoverable.{LeavesRecoverable}
 use Rattle.sled_core.specs.Running.{Ready}
 use Rattle.sled_log.specs.Orderly.{CanRecover}
-use Rattle.sled_log.proofs.WriteBack.RecoveryHolds.{read_of}
+use Rattle.sled_log.proofs.WriteBack.RecoveryHolds.{read_of, read_on_of}
 use Rattle.sled_log.specs.RunStates.{DeviceView, ShowsActive}
 use Rattle.sled_log.specs.Runs.{HasRecovered, StartActs}
 use Rattle.sled_log.specs.RunPhases.{IsClosedAt, IsRecoveredAt, Unstored, SaysWhy, device_in, view_by}
@@ -41,12 +41,13 @@ returns-in-Ok-clause-step g c = λ k at.
       acts = open_acts sum size old mid new s c.start.result.1 c.start.ensures.shows has acts;
       step = λ own.
           let can : CanRecover sum size (state_of old.trace) k.history k.acknowledged k.floor = record { orderly = orderly k.history at.formed; left = at.left; own = own } in
-          let good = c.in-Ok.ensures.good k.history k.acknowledged k.floor can in
+          let good = c.in-Ok.ensures.good k.history k.acknowledged k.floor (read_on_of sum size (state_of old.trace) k.history k.acknowledged k.floor can) in
           let cut : ℕ = stable_place s.stable in
           let l : Unstored = record { history = below k.history cut; acknowledged = k.acknowledged; floor = cut; reserved = None } in
+          let kept = c.in-Ok.ensures.ready k.history k.acknowledged k.floor can in
           let recovered : IsRecoveredAt trace sum config s l = record {
-            closed = subst (λ n. IsClosedAt sum n mid.trace l) (sym sizes) (record { formed = forgotten k.history cut at.formed; left = c.in-Ok.ensures.kept k.history k.acknowledged k.floor can });
-            ready = subst (λ n. cut < n → Ready sum n (state_of mid.trace) s l.history l.acknowledged l.floor) (sym sizes) (c.in-Ok.ensures.ready k.history k.acknowledged k.floor can);
+            closed = subst (λ n. IsClosedAt sum n mid.trace l) (sym sizes) (record { formed = forgotten k.history cut at.formed; left = kept.left });
+            ready = subst (λ n. cut < n → Ready sum n (state_of mid.trace) s l.history l.acknowledged l.floor) (sym sizes) kept.ready;
             begun = has_of_table k.history cut s.pages good.table;
           } in
           let started = c.start.ensures.starts l recovered in

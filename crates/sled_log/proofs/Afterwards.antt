@@ -1,0 +1,6 @@
+pub mod EndsBelow
+pub mod ForgottenSlots
+pub mod KeptBelow
+pub mod LastNames
+pub mod LeftGood
+pub mod OrderlyBelow
