@@ -1,4 +1,4 @@
--- What a recovery does for a history, where it can go on from each content that a crash leaves: it keeps that at each moment, meets no damage, and gives a good snapshot.
+-- What a recovery does for a history, where it can go on from each content that a crash leaves: it keeps that at each moment, and in the first segment it leaves what a log can go on from. What can be recovered can be read back.
 use Rattle.std.proofs.Common.{◌≡◌, ◌∷◌, ◌≤◌, ◌<◌, ◌^◌, ℕ, true, List}
 use Rattle.sled_codec.specs.History.{History, below}
 use Rattle.sled_codec.specs.Snapshots.{FitsSnapshot, stable_place}
