@@ -1,5 +1,5 @@
 -- What becomes of the pages of a cleaner when a slot is put in or taken out.
-use Rattle.std.proofs.Common.{◌≡◌, ◌≢◌, ◌∙◌, ℕ, zero, suc, ◌*◌, ◌<◌, ◌++◌, Bool, true, false, cond, Option, Some, None, List, [], ◌∷◌, length, get_or, set, drop, map, slice_get, refl, sym, ap, subst, arith, get_or-set_same, get_or-set_other}
+use Rattle.std.proofs.Common.{◌≡◌, ◌≢◌, ◌∙◌, ℕ, zero, suc, ◌*◌, ◌<◌, ◌++◌, true, false, cond, Some, None, List, [], ◌∷◌, length, get_or, set, drop, map, slice_get, refl, sym, ap, subst, arith, get_or-set_same, get_or-set_other}
 use Rattle.std.proofs.lemmas.List.{map-set, map-append, set-get_or}
 use Rattle.std.specs.declared.cmp.Ordering.{Ordering}
 use Rattle.std.specs.declared.cmp.Ordering.TheVariants.{Less, Equal, Greater}
@@ -17,7 +17,7 @@ use Rattle.std.proofs.lemmas.List.Elements.{All-from_recursion, All-head, All-ta
 use Rattle.sled_store.specs.SegmentStates.{popped, first_page}
 use Rattle.sled_store.specs.declared.segment.cleaner.Entry.{Entry}
 use Rattle.sled_store.specs.Accounts.{left_in, with_pages, AreEntries}
-use Rattle.sled_store.proofs.Accounts.SortedLemmas.{sorted_nil, sorted_insert, sorted_remove}
+use Rattle.sled_store.proofs.Accounts.SortedLemmas.{sorted_insert, sorted_remove}
 
 itself : (k : ℕ) → nat_cmp k k ≡ Equal
 itself k = tied_itself nat_cmp_total k
@@ -60,7 +60,7 @@ module _ (ps : List (List ℕ)) (k : ℕ) (v : List ℕ) where
     where
       by : (r : Ordering) → nat_cmp k j ≡ r → map (with_pages (set ps k v)) (insert_key nat_cmp js k) ≡ insert_entry nat_cmp (map (with_pages ps) js) k v
           → map (with_pages (set ps k v)) (match_ordering r (k ∷ j ∷ js) (j ∷ js) (j ∷ insert_key nat_cmp js k))
-              ≡ match_ordering r ((k, v) ∷ map (with_pages ps) (j ∷ js)) ((j, v) ∷ map (with_pages ps) js) (with_pages ps j ∷ insert_entry nat_cmp (map (with_pages ps) js) k v)
+          ≡ match_ordering r ((k, v) ∷ map (with_pages ps) (j ∷ js)) ((j, v) ∷ map (with_pages ps) js) (with_pages ps j ∷ insert_entry nat_cmp (map (with_pages ps) js) k v)
       by Less is h = seen_first (j ∷ js) lt (sorted_below k j js is s)
       by Equal is h =
           let same : k ≡ j = ranked k j Equal (sym is) in

@@ -132,10 +132,7 @@ impl SegmentCleaner {
         ensures tie { (count : ℕ) → slot < count → IsCleaner self.old.size count self.old → IsCleaner self.old.size count self.new }
     {
         self.draining.insert(slot);
-        self.entries[slot as usize] = Entry {
-            pages,
-            next: 0,
-        };
+        self.entries[slot as usize] = Entry { pages, next: 0 };
     }
 
     /// Forgets a slot, and gives the memory of its pages back. It takes as many steps as the logarithm of the number of

@@ -1,5 +1,5 @@
 -- The cleaner alone changes.
-use Rattle.std.proofs.Common.{◌∙◌, ℕ, length, refl, arith}
+use Rattle.std.proofs.Common.{◌∙◌, ℕ, length, refl}
 use Rattle.sled_store.specs.Accounts.{machine_of}
 use Rattle.sled_store.proofs.segment.accountant.SegmentAccountant.clean_pop.Goals as goal
 

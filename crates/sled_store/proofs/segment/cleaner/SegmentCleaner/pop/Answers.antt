@@ -1,5 +1,5 @@
 -- The first slot is asked for a page; one that has none left goes.
-use Rattle.std.proofs.Common.{◌≡◌, ◌∙◌, ◌<◌, ◌*◌, ◌^◌, ℕ, Option, Some, None, List, [], length, get_or, set, drop, map, slice_get, refl, sym, ap, subst, arith, length-set}
+use Rattle.std.proofs.Common.{◌≡◌, ◌∙◌, ◌<◌, ◌*◌, ◌^◌, ℕ, Option, Some, None, List, [], length, get_or, set, drop, map, slice_get, refl, ap, arith, length-set}
 use Rattle.std.proofs.lemmas.List.{length-map}
 use Rattle.std.specs.BTreeMap.{is_at}
 use Rattle.std.specs.Map.{remove_entry}

@@ -1,5 +1,5 @@
 -- One slot less, whose pages go where it has any.
-use Rattle.std.proofs.Common.{◌∙◌, ◌<◌, ◌*◌, ◌^◌, ℕ, List, [], length, map, set, refl, sym, ap, subst, arith, length-set}
+use Rattle.std.proofs.Common.{◌∙◌, ◌<◌, ◌*◌, ◌^◌, ℕ, List, [], length, map, set, sym, ap, subst, arith, length-set}
 use Rattle.std.specs.List.{All}
 use Rattle.sled_store.specs.declared.segment.cleaner.Entry.{Entry}
 use Rattle.sled_store.specs.Accounts.{left_in, with_pages}
