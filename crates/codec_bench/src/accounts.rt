@@ -253,16 +253,14 @@ impl Work {
         Ok(())
     }
 
-    /// Asks so many slots that are drained for their page, and then for another one, which none has. Counts the pages.
+    /// Asks so many slots that are drained for the page of each, and then for another one, which none has. Counts the
+    /// pages that came.
     fn pop_all(&mut self, slots: u32) -> u32
         requires { IsAccountant self.old.config.config.segment_size self.old.accountant }
         ensures { IsAccountant self.new.config.config.segment_size self.new.accountant }
     {
         let mut count = 0u32;
-        for _ in 0..slots {
-            if self.accountant.clean_pop().is_some() {
-                count = count.wrapping_add(1);
-            }
+        for _ in 0..slots.saturating_mul(2) {
             if self.accountant.clean_pop().is_some() {
                 count = count.wrapping_add(1);
             }
