@@ -234,7 +234,7 @@ impl Work {
         Ok(())
     }
 
-    /// Marks a record in each of so many segments that takes all of it, so that it isn't drained.
+    /// Marks a record of another page in each of so many segments, behind its header.
     fn fill_all(&mut self, segments: u32) -> io::Result<()>
         requires { IsAccountant self.old.config.config.segment_size self.old.accountant }
         ensures { OnOk result (IsAccountant self.new.config.config.segment_size self.new.accountant) }
@@ -246,11 +246,26 @@ impl Work {
             let new = CacheInfo {
                 lsn: lsn_of(at)?,
                 pointer: DiskPtr::Inline(at),
-                log_size: WHOLE,
+                log_size: self.len,
             };
             self.mark(u64::from(page), &[], new)?;
         }
         Ok(())
+    }
+
+    /// Asks so many slots that are drained for the page of each, and then for another one, which none has. Counts the
+    /// pages that came.
+    fn pop_all(&mut self, slots: u32) -> u32
+        requires { IsAccountant self.old.config.config.segment_size self.old.accountant }
+        ensures { IsAccountant self.new.config.config.segment_size self.new.accountant }
+    {
+        let mut count = 0u32;
+        for _ in 0..slots.saturating_mul(2) {
+            if self.accountant.clean_pop().is_some() {
+                count = count.wrapping_add(1);
+            }
+        }
+        count
     }
 }
 
@@ -337,5 +352,37 @@ fn time_segments(
     let start = Instant::now(rt)?;
     work.stabilize()?;
     stabilize.add(start.elapsed(rt)?);
+    Ok(())
+}
+
+/// Measures what it takes to drain a slot and to ask it for its pages, where so many are drained, and prints the shortest runs.
+pub fn measure_drains(rt: &HostRuntime, name: &str, slots: u32) -> io::Result<()> {
+    let (mut drain, mut pop) = (Shortest::new(), Shortest::new());
+    for _ in 0..runs(slots) {
+        time_drains(rt, slots, &mut drain, &mut pop)?;
+    }
+    drain.print(rt, name, "stabilize, each drained", slots)?;
+    pop.print(rt, name, "clean_pop", slots)
+}
+
+/// Leaves so many segments behind at once that hold little each, and asks for their pages.
+fn time_drains(
+    rt: &HostRuntime,
+    slots: u32,
+    drain: &mut Shortest,
+    pop: &mut Shortest,
+) -> io::Result<()> {
+    let mut work = Work::new(rt.alloc(), size()?, SMALL);
+    work.begin_all(slots)?;
+    work.fill_all(slots)?;
+    let start = Instant::now(rt)?;
+    work.stabilize()?;
+    drain.add(start.elapsed(rt)?);
+    let start = Instant::now(rt)?;
+    let count = work.pop_all(slots);
+    pop.add(start.elapsed(rt)?);
+    if count != slots {
+        return Err(wrong());
+    }
     Ok(())
 }

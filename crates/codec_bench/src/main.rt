@@ -78,7 +78,11 @@ fn measure_accounts(rt: &HostRuntime) -> io::Result<()> {
     accounts::measure_segments(rt, "100 segments", 100)?;
     accounts::measure_segments(rt, "1000 segments", 1000)?;
     accounts::measure_segments(rt, "10000 segments", 10000)?;
-    accounts::measure_segments(rt, "100000 segments", 100000)
+    accounts::measure_segments(rt, "100000 segments", 100000)?;
+    accounts::measure_drains(rt, "100 slots", 100)?;
+    accounts::measure_drains(rt, "1000 slots", 1000)?;
+    accounts::measure_drains(rt, "10000 slots", 10000)?;
+    accounts::measure_drains(rt, "100000 slots", 100000)
 }
 
 // Whether `time` is among the arguments.

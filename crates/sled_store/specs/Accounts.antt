@@ -1,5 +1,5 @@
 -- What an accountant keeps, as the machine that it stands for, and how its indexes are tied to the slots.
-use Rattle.std.specs.Prelude.{◌≡◌, ◌⊎◌, ◌≤◌, ◌<◌, ◌+◌, ◌*◌, ◌^◌, ℕ, true, false, IsTrue, List, length, map, take, drop, vec_capacity, slice_index_or, Result, Ok, Err}
+use Rattle.std.specs.Prelude.{◌≡◌, ◌⊎◌, ◌≤◌, ◌<◌, ◌+◌, ◌*◌, ◌^◌, ℕ, true, false, IsTrue, List, [], length, map, take, drop, vec_capacity, slice_index_or, Result, Ok, Err}
 use Rattle.std.specs.List.{All}
 use Rattle.std.specs.List.Sorted.{IsStrictlySortedBy}
 use Rattle.std.specs.Map.{keys_of}
@@ -16,13 +16,17 @@ use Rattle.sled_store.specs.declared.segment.accountant.SegmentAccountant.{Segme
 abbrev pub slot_state : Slot → SlotState
 slot_state s = record { state = s.state; lsn = s.lsn; held = s.held; pages = s.pages.0; gone = s.gone.0; latest = s.latest; blobs = s.blobs.0 }
 
--- a slot of a cleaner, with the pages that were not asked for yet
-abbrev pub entry_of : Entry → ℕ × List ℕ
-entry_of e = (e.slot, drop e.next e.pages.items)
+-- the pages of a slot of a cleaner that were not asked for yet
+abbrev pub left_in : Entry → List ℕ
+left_in e = drop e.next e.pages.items
+
+-- a slot, and what it has of the pages by slot
+abbrev pub with_pages : List (List ℕ) → ℕ → ℕ × List ℕ
+with_pages ps k = (k, slice_index_or ps k [])
 
 -- the pages that a cleaner still has, by slot
 abbrev pub cleaner_of : SegmentCleaner → List (ℕ × List ℕ)
-cleaner_of c = map entry_of c.entries.items
+cleaner_of c = map (with_pages (map left_in c.entries.items)) c.draining.0
 
 -- the machine that an accountant stands for
 abbrev pub machine_of : SegmentAccountant → Machine
@@ -58,10 +62,16 @@ pub record AreEntries (count : ℕ) (es : List (ℕ × List ℕ)) : Type 0 where
   pub ascending : IsStrictlySortedBy nat_cmp (keys_of es)
   pub below : All (λ k. k < count) (keys_of es)
 
--- a cleaner was made for segments of a size, and knows of slots below a number only
+-- each slot below a number may be drained without taking memory for the cleaner
+pub record HasRoomToClean (count : ℕ) (c : SegmentCleaner) : Type 0 where
+  pub draining : count ≤ c.draining.1
+  pub entries : count ≤ length c.entries.items
+
+-- a cleaner was made for segments of a size, knows of slots below a number only, and has room for all of these
 pub record IsCleaner (size count : ℕ) (c : SegmentCleaner) : Type 0 where
   pub size_is : c.size ≡ size
   pub entries : AreEntries count (cleaner_of c)
+  pub room : HasRoomToClean count c
 
 -- The slots up to the tip, and those that were cut off.
 pub record AreSlots (tip : ℕ) (slots : List SlotState) : Type 0 where
@@ -82,13 +92,12 @@ pub record AreIndexes (tip : ℕ) (slots : List SlotState) (free : List ℕ) (ac
   pub inactive_is : inactive ≡ inactive_among slots
   pub waiting_is : waiting ≡ waiting_among slots
 
--- there is room for this many slots wherever a slot may be noted
+-- there is room for this many slots wherever a slot may be noted, but in the cleaner
 pub record HasRooms (count : ℕ) (a : SegmentAccountant) : Type 0 where
   pub free : count ≤ a.free.1
   pub active : count ≤ a.active.1
   pub inactive : count ≤ a.inactive.1
   pub waiting : count ≤ a.waiting.1
-  pub cleaner : 0 < count → count < vec_capacity a.cleaner.entries
 
 -- a segment lies in a slot
 pub record IsUsed (m : Machine) (k : ℕ) : Type 0 where

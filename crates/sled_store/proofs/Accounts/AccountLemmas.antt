@@ -1,15 +1,12 @@
 -- The slots of an accountant, as the machine has them.
-use Rattle.std.proofs.Common.{◌≡◌, ◌∙◌, ◌≤◌, ◌<◌, ◌*◌, ◌^◌, ℕ, zero, suc, List, [], ◌∷◌, length, get_or, set, map, take, Vec, vec_capacity, refl, sym, ap, subst, arith, length-set}
+use Rattle.std.proofs.Common.{◌≡◌, ◌∙◌, ◌≤◌, ◌<◌, ◌*◌, ◌^◌, ℕ, zero, suc, List, [], ◌∷◌, length, get_or, set, map, take, Vec, refl, sym, ap, subst, arith, length-set}
 use Rattle.std.proofs.lemmas.List.{map-set, length-map}
-use Rattle.std.proofs.lemmas.Map.Views.{length-le_from_below}
 use Rattle.std.proofs.lemmas.List.Elements.{All-set}
 use Rattle.std.proofs.Math.Nat.{mul-le-mul_right}
 use Rattle.std.specs.List.{All}
-use Rattle.std.specs.Map.{keys_of}
 use Rattle.sled_store.specs.SegmentStates.{SlotState, free_among, active_among, inactive_among, waiting_among}
 use Rattle.sled_store.specs.declared.segment.slot.Slot.{Slot}
-use Rattle.sled_store.specs.declared.segment.cleaner.Entry.{Entry}
-use Rattle.sled_store.specs.Accounts.{slot_state, entry_of, cleaner_of, machine_of, AreEntries, AreSlots, AreIndexes, IsCleaner, IsAccountant, HasRoomToDrain}
+use Rattle.sled_store.specs.Accounts.{slot_state, cleaner_of, machine_of, AreEntries, AreSlots, AreIndexes, IsCleaner, IsAccountant, HasRoomToDrain, HasRoomToClean}
 use Rattle.sled_store.specs.declared.segment.accountant.SegmentAccountant.{SegmentAccountant}
 use Rattle.std.specs.declared.alloc.Global.{Global}
 
@@ -45,7 +42,7 @@ pub record IsRoomier (a b : SegmentAccountant) : Type 0 where
   pub room_active : a.active.1 ≤ b.active.1
   pub room_inactive : a.inactive.1 ≤ b.inactive.1
   pub room_waiting : a.waiting.1 ≤ b.waiting.1
-  pub room_cleaner : vec_capacity a.cleaner.entries ≤ vec_capacity b.cleaner.entries
+  pub room_cleaner : (n : ℕ) → HasRoomToClean n a.cleaner → HasRoomToClean n b.cleaner
 
 pub roomier_account : (size : ℕ) (a b : SegmentAccountant) → IsRoomier a b → IsAccountant size a → IsAccountant size b
 roomier_account size a b more is =
@@ -65,6 +62,7 @@ roomier_account size a b more is =
       cleaner = record {
         size_is = more.cleaner_size ∙ is.cleaner.size_is;
         entries = subst (λ n. AreEntries n (cleaner_of b.cleaner)) (sym (ap length same)) (subst (AreEntries (length (machine_of a).slots)) (sym more.cleaner) is.cleaner.entries);
+        room = subst (λ n. HasRoomToClean n b.cleaner) (sym (ap length same)) (more.room_cleaner (length (machine_of a).slots) is.cleaner.room);
       };
       room_to_drain = subst (λ (v : Vec Slot Global). All HasRoomToDrain v.items) (sym more.slots) is.room_to_drain;
       rooms =
@@ -74,7 +72,6 @@ roomier_account size a b more is =
             active = omega (arith, is.rooms.active, more.room_active);
             inactive = omega (arith, is.rooms.inactive, more.room_inactive);
             waiting = omega (arith, is.rooms.waiting, more.room_waiting);
-            cleaner = λ some. let was = is.rooms.cleaner (omega arith) in omega (arith, more.room_cleaner);
           };
     }
 
@@ -91,7 +88,6 @@ pub record IsUpdated (size : ℕ) (a b : SegmentAccountant) (k : ℕ) (s : Slot)
   pub room_active : a.active.1 ≤ b.active.1
   pub room_inactive : a.inactive.1 ≤ b.inactive.1
   pub room_waiting : a.waiting.1 ≤ b.waiting.1
-  pub room_cleaner : vec_capacity a.cleaner.entries ≤ vec_capacity b.cleaner.entries
 
 module _ (size : ℕ) (a b : SegmentAccountant) (k : ℕ) (s : Slot) (t : SlotState) (new : IsUpdated size a b k s t) where
   pub updated_states : (machine_of b).slots ≡ set (machine_of a).slots k t
@@ -115,14 +111,9 @@ module _ (size : ℕ) (a b : SegmentAccountant) (k : ℕ) (s : Slot) (t : SlotSt
           active = omega (arith, is.rooms.active, new.room_active);
           inactive = omega (arith, is.rooms.inactive, new.room_inactive);
           waiting = omega (arith, is.rooms.waiting, new.room_waiting);
-          cleaner = λ some. let was = is.rooms.cleaner (omega arith) in omega (arith, new.room_cleaner);
         };
       }
 
 -- slots below a number are below a greater one
 pub more_entries : (m n : ℕ) (es : List (ℕ × List ℕ)) → m ≤ n → AreEntries m es → AreEntries n es
 more_entries m n es le are = record { ascending = are.ascending; below = λ k d lt. omega (arith, are.below k d lt) }
-
--- a cleaner knows of as many slots as there are at most
-pub entries_within : (count : ℕ) (es : List Entry) → AreEntries count (map entry_of es) → length es ≤ count
-entries_within count es are = omega (arith, length-le_from_below count (keys_of (map entry_of es)) are.ascending are.below, length-map (map entry_of es) (λ e. e.0), length-map es entry_of)

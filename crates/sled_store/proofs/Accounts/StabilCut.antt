@@ -147,7 +147,6 @@ shorter_account size a f is may keys room = record {
     active = is.rooms.active;
     inactive = is.rooms.inactive;
     waiting = is.rooms.waiting;
-    cleaner = is.rooms.cleaner;
   };
 }
 

@@ -48,7 +48,6 @@ module _ (size : ℕ) (a : SegmentAccountant) (v : Vec Slot Global) (k : ℕ) (s
         room_active = omega arith;
         room_inactive = omega arith;
         room_waiting = omega arith;
-        room_cleaner = omega arith;
       }) account
 
   -- the slot is in another state, and is found as it was
@@ -68,7 +67,6 @@ module _ (size : ℕ) (a : SegmentAccountant) (v : Vec Slot Global) (k : ℕ) (s
         room_active = omega arith;
         room_inactive = omega arith;
         room_waiting = omega arith;
-        room_cleaner = omega arith;
       }) account
 
 -- What is noted as replaced in each slot has the room that it had.

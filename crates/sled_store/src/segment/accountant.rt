@@ -1,13 +1,15 @@
 //! The accountant: which slot a segment gets, and when a segment's slot is free again (`specs/SegmentStates.antt`).
 //!
-//! What a call looks for it finds by an index: free and inactive slots in trees over all slots, active and waiting ones by
-//! their places in rings. All room is reserved before anything is changed, so that nothing has changed after `OutOfMemory`.
+//! What a call looks for it finds by an index: free, inactive and draining slots in trees over all slots, active and
+//! waiting ones by their places in rings. All room is reserved before anything is changed, so that nothing has changed
+//! after `OutOfMemory`.
 ghost use Rattle.std.specs.Prelude.{◌≡◌, ◌↔◌, ◌≤ℤ◌, ◌≤◌, ◌+◌, ◌*◌, ◌/◌, ◌^◌, ◌<◌, length, slice_index_or, true, ℕ, [], pos, unsigned_abs, IsTrue, IsOkUnless, OnOk, OnErr, IfOk};
 ghost use Rattle.std.specs.List.{All};
 ghost use Rattle.sled_codec.specs.Pointers.{lid_of};
 ghost use Rattle.sled_store.specs.declared.segment.slot.Slot.{Slot as SlotRecord};
 ghost use Rattle.sled_store.specs.SegmentStates.{LiesIn, MayMark, is_active, slot_at, unused_machine, with_free_slot, next_slot, handed_out, linked, popped, first_page};
-ghost use Rattle.sled_store.specs.Accounts.{IsAccountant, machine_of, size_of, HasRooms, HasRoomToLink, HasRoomForBlobs, GoneFits, MayHandOut, NextAnswers};
+ghost use Rattle.sled_store.specs.Accounts.{IsAccountant, machine_of, size_of, MayHandOut, NextAnswers};
+ghost use Rattle.sled_store.specs.Accounts.{HasRooms, HasRoomToClean, HasRoomToLink, HasRoomForBlobs, GoneFits};
 
 mod freeing;
 mod replacing;
@@ -124,6 +126,7 @@ impl SegmentAccountant {
         ensures machine { machine_of self.new ≡ machine_of self.old }
         ensures slots { self.new.slots ≡ self.old.slots }
         ensures room { OnOk result (HasRooms more self.new) }
+        ensures cleaner { OnOk result (HasRoomToClean more self.new.cleaner) }
         ensures memory { IsOkUnless result Error.OutOfMemory }
         ensures account { IsAccountant (size_of self.old) self.old → IsAccountant (size_of self.old) self.new }
     {
@@ -131,10 +134,7 @@ impl SegmentAccountant {
         self.active.reserve(more)?;
         self.inactive.reserve(more)?;
         self.waiting.reserve(more)?;
-        let Some(one_more) = more.checked_add(1) else {
-            return Err(Error::OutOfMemory);
-        };
-        self.cleaner.reserve(one_more)?;
+        self.cleaner.reserve(more)?;
         Ok(())
     }
 

@@ -1,19 +1,23 @@
 //! The pages that are to be written again, so that their segments come free.
-ghost use Rattle.std.specs.Prelude.{◌≡◌, [], ◌+◌, ◌*◌, ◌≤◌, ◌<◌, ◌^◌, ℕ, drop, length, slice_get, vec_capacity, OnOk};
-ghost use Rattle.std.specs.List.Sorted.{IsBinarySearchResult, IsSearchInRange};
+//!
+//! Which slots are being drained says a tree over all slots, and what pages each of them has left a vector by slot. So a
+//! page is asked for, and a slot is put in or taken out, in as many steps as the tree is deep, whatever else is being
+//! drained. Only a reservation takes memory.
+ghost use Rattle.std.specs.Prelude.{◌≡◌, [], ◌*◌, ◌≤◌, ◌<◌, ◌^◌, ℕ, drop, length, slice_get, OnOk};
+ghost use Rattle.std.specs.List.Sorted.{IsStrictlySortedBy, IsStrictlySortedBy-prop};
 ghost use Rattle.std.specs.Ordering.{nat_cmp};
 ghost use Rattle.std.specs.BTreeMap.{insert_entry, is_at};
 ghost use Rattle.std.specs.Map.{remove_entry};
 ghost use Rattle.std.specs.List.{All};
 ghost use Rattle.sled_store.specs.SegmentStates.{popped, first_page};
 
+use crate::segment::slot_set::SlotSet;
 use sled_codec::result::{LogOffset, PageId};
 use std::alloc::{AllocError, Global};
 
-/// The pages of a slot that are left.
+/// The pages of a slot.
 #[derive(Drop)]
 pub(crate) struct Entry {
-    pub(crate) slot: u64,
     pub(crate) pages: Vec<PageId>,
     /// How many of them were asked for.
     pub(crate) next: usize,
@@ -23,18 +27,32 @@ pub(crate) struct Entry {
 #[derive(Drop)]
 pub struct SegmentCleaner {
     pub(crate) size: u64,
+    /// The slots that are being drained.
+    pub(crate) draining: SlotSet,
+    /// The pages of each slot; no memory is taken for one that isn't being drained.
     pub(crate) entries: Vec<Entry>,
-    ghost in_reach: { All (λ e. e.slot * size < 2 ^ 63) entries.items },
+    ghost ascending: { IsStrictlySortedBy nat_cmp draining.0 } by { IsStrictlySortedBy-prop nat_cmp draining.0 },
+    ghost within: { All (λ k. k < length entries.items) draining.0 },
+    ghost in_reach: { All (λ k. k * size < 2 ^ 63) draining.0 },
 }
 
 impl Entry {
-    ghost use Rattle.sled_store.specs.Accounts.{entry_of};
+    ghost use Rattle.sled_store.specs.Accounts.{left_in};
+
+    /// Returns one with no pages.
+    fn new(alloc: Global) -> Entry
+        ensures { left_in result ≡ [] }
+    {
+        Entry {
+            pages: Vec::new(alloc),
+            next: 0,
+        }
+    }
 
     /// Returns the least page that was not asked for yet.
     fn take(&mut self) -> Option<PageId>
-        ensures page { result ≡ slice_get (entry_of self.old).1 0 }
-        ensures left { entry_of self.new ≡ (self.old.slot, drop 1 (entry_of self.old).1) }
-        ensures slot { self.new.slot ≡ self.old.slot }
+        ensures page { result ≡ slice_get (left_in self.old) 0 }
+        ensures left { left_in self.new ≡ drop 1 (left_in self.old) }
     {
         if self.next >= self.pages.len() {
             return None;
@@ -46,7 +64,7 @@ impl Entry {
 }
 
 impl SegmentCleaner {
-    ghost use Rattle.sled_store.specs.Accounts.{IsCleaner, cleaner_of};
+    ghost use Rattle.sled_store.specs.Accounts.{IsCleaner, HasRoomToClean, cleaner_of};
 
     /// Returns one with no pages, for segments of a size.
     pub(crate) fn new(alloc: Global, size: u64) -> SegmentCleaner
@@ -55,82 +73,79 @@ impl SegmentCleaner {
     {
         SegmentCleaner {
             size,
+            draining: SlotSet::new(alloc),
             entries: Vec::new(alloc),
         }
     }
 
     /// Returns the least page of the lowest slot, with the offset of the slot in the file. Where that slot has none
-    /// left, it is forgotten, and the answer is `None`.
+    /// left, it is forgotten, and the answer is `None`. It takes as many steps as the logarithm of the number of slots.
     pub fn pop(&mut self) -> Option<(PageId, LogOffset)>
         ensures page { result ≡ first_page self.old.size (cleaner_of self.old) }
         ensures left { cleaner_of self.new ≡ popped (cleaner_of self.old) }
         ensures tie { (count : ℕ) → IsCleaner self.old.size count self.old → IsCleaner self.old.size count self.new }
-        ensures room { vec_capacity self.new.entries ≡ vec_capacity self.old.entries }
     {
-        if self.entries.is_empty() {
+        let Some(slot) = self.draining.first() else {
             return None;
-        }
-        let entry = &mut self.entries[0];
-        let slot = entry.slot;
-        let Some(page) = entry.take() else {
-            let _ = self.entries.remove(0);
+        };
+        let Some(page) = self.entries[slot as usize].take() else {
+            self.remove(slot);
             return None;
         };
         Some((page, slot * self.size))
     }
 
-    /// Makes room for more slots.
-    pub(crate) fn reserve(&mut self, more: usize) -> Result<(), AllocError>
+    /// Makes room for all slots below a bound.
+    pub(crate) fn reserve(&mut self, slots: usize) -> Result<(), AllocError>
         ensures cleaner { cleaner_of self.new ≡ cleaner_of self.old }
         ensures size { self.new.size ≡ self.old.size }
-        ensures room { OnOk result (length self.new.entries.items + more ≤ vec_capacity self.new.entries) }
-        ensures kept { vec_capacity self.old.entries ≤ vec_capacity self.new.entries }
+        ensures room { OnOk result (HasRoomToClean slots self.new) }
+        ensures kept { (count : ℕ) → HasRoomToClean count self.old → HasRoomToClean count self.new }
     {
-        self.entries.reserve(more)
+        self.draining.reserve(slots)?;
+        while self.entries.len() < slots {
+            self.lengthen()?;
+        }
+        Ok(())
     }
 
-    /// The index of a slot, or where it belongs.
-    fn find(&self, slot: u64) -> Result<usize, usize>
-        ensures bound { IsSearchInRange result (length self.now.entries.items) }
-        ensures position { IsBinarySearchResult (λ e. nat_cmp e.slot slot) self.now.entries.items result }
+    /// Makes room for the pages of one more slot.
+    fn lengthen(&mut self) -> Result<(), AllocError>
+        ensures cleaner { cleaner_of self.new ≡ cleaner_of self.old }
+        ensures size { self.new.size ≡ self.old.size }
+        ensures draining { self.new.draining ≡ self.old.draining }
+        ensures room { OnOk result (length self.old.entries.items < length self.new.entries.items) }
+        ensures kept { length self.old.entries.items ≤ length self.new.entries.items }
     {
-        self.entries.binary_search_by_key(&slot, |e| e.slot)
+        let alloc = *self.entries.allocator();
+        self.entries.push(Entry::new(alloc))?;
+        Ok(())
     }
 
-    /// Notes the pages of a slot that is not there yet, where there is room for it.
+    /// Notes the pages of a slot that is not there yet. There is room for it. It takes as many steps as the logarithm of
+    /// the number of slots.
     pub(crate) fn insert(&mut self, slot: u64, pages: Vec<PageId>)
-        requires room { length self.old.entries.items < vec_capacity self.old.entries }
+        requires room { slot < self.old.draining.1 }
+        requires entry { slot < length self.old.entries.items }
         requires in_reach { slot * self.old.size < 2 ^ 63 }
-        ensures cleaner { (count : ℕ) → IsCleaner self.old.size count self.old
-            → cleaner_of self.new ≡ insert_entry nat_cmp (cleaner_of self.old) slot pages.items }
+        ensures cleaner { cleaner_of self.new ≡ insert_entry nat_cmp (cleaner_of self.old) slot pages.items }
         ensures tie { (count : ℕ) → slot < count → IsCleaner self.old.size count self.old → IsCleaner self.old.size count self.new }
-        ensures room { vec_capacity self.old.entries ≤ vec_capacity self.new.entries }
     {
-        let entry = Entry {
-            slot,
-            pages,
-            next: 0,
-        };
-        match self.find(slot) {
-            Ok(at) => self.entries[at] = entry,
-            Err(at) => {
-                let _ = self.entries.insert(at, entry);
-            }
-        }
+        self.draining.insert(slot);
+        self.entries[slot as usize] = Entry { pages, next: 0 };
     }
 
-    /// Forgets a slot.
+    /// Forgets a slot, and gives the memory of its pages back. It takes as many steps as the logarithm of the number of
+    /// slots.
     pub(crate) fn remove(&mut self, slot: u64)
-        ensures cleaner { (count : ℕ) → IsCleaner self.old.size count self.old
-            → cleaner_of self.new ≡ remove_entry (is_at (nat_cmp slot)) (cleaner_of self.old) }
+        ensures cleaner { cleaner_of self.new ≡ remove_entry (is_at (nat_cmp slot)) (cleaner_of self.old) }
         ensures tie { (count : ℕ) → IsCleaner self.old.size count self.old → IsCleaner self.old.size count self.new }
-        ensures room { vec_capacity self.new.entries ≡ vec_capacity self.old.entries }
     {
-        match self.find(slot) {
-            Ok(at) => {
-                let _ = self.entries.remove(at);
-            }
-            Err(_) => {}
+        self.draining.remove(slot);
+        if slot >= self.entries.len() as u64 {
+            return;
         }
+        let alloc = *self.entries.allocator();
+        self.entries[slot as usize] = Entry::new(alloc);
     }
 }

@@ -8,15 +8,15 @@ use Rattle.std.specs.declared.alloc.Global.{Global}
 use Rattle.sled_store.specs.declared.segment.slot.Slot.{Slot}
 use Rattle.sled_store.specs.declared.segment.cleaner.SegmentCleaner.{SegmentCleaner}
 use Rattle.sled_store.specs.declared.segment.accountant.SegmentAccountant.{SegmentAccountant}
-use Rattle.sled_store.specs.Accounts.{slot_state, machine_of, cleaner_of, IsAccountant, AreSlots, AreIndexes, AreEntries, HasRooms, HasRoomToDrain}
+use Rattle.sled_store.specs.Accounts.{slot_state, machine_of, cleaner_of, IsAccountant, AreSlots, AreIndexes, AreEntries, HasRooms, HasRoomToDrain, HasRoomToClean}
 use Rattle.sled_store.proofs.Accounts.AccountLemmas.{more_entries, length_states}
 use Rattle.sled_store.proofs.Accounts.HandLemmas.{pushed_slots, pushed_indexes, indexes_same}
 use Rattle.sled_store.proofs.segment.accountant.SegmentAccountant.add_slot.Goals as goal
 
 module _ (size : ℕ) (a : SegmentAccountant) (is : IsAccountant size a) (s : Slot) (free : slot_state s ≡ free_slot) (drain : HasRoomToDrain s) where
   pushed_account : (b : SegmentAccountant) → b.slots.items ≡ a.slots.items ++ s ∷ [] → b.size ≡ a.size → b.tip ≡ a.tip → b.free ≡ a.free → b.active ≡ a.active → b.inactive ≡ a.inactive → b.waiting ≡ a.waiting
-      → b.cleaner ≡ a.cleaner → (length (machine_of a).slots + 1) * size < 2 ^ 63 → HasRooms (length (machine_of a).slots + 1) a → IsAccountant size b
-  pushed_account b items sizes tips frees actives inactives waitings cleaners reach rooms =
+      → b.cleaner ≡ a.cleaner → (length (machine_of a).slots + 1) * size < 2 ^ 63 → HasRooms (length (machine_of a).slots + 1) a → HasRoomToClean (length (machine_of a).slots + 1) a.cleaner → IsAccountant size b
+  pushed_account b items sizes tips frees actives inactives waitings cleaners reach rooms to_clean =
       let xs : List SlotState = (machine_of a).slots in
       let same : (machine_of b).slots ≡ xs ++ free_slot ∷ [] = ap (map slot_state) items ∙ map-append slot_state a.slots.items (s ∷ []) ∙ ap (λ t. xs ++ t ∷ []) free in
       let n : length (machine_of b).slots ≡ length xs + 1 = ap length same ∙ length-append xs (free_slot ∷ []) in
@@ -31,6 +31,7 @@ module _ (size : ℕ) (a : SegmentAccountant) (is : IsAccountant size a) (s : Sl
         cleaner = record {
           size_is = ap (λ (k : SegmentCleaner). k.size) cleaners ∙ is.cleaner.size_is;
           entries = subst (λ (k : SegmentCleaner). AreEntries (length (machine_of b).slots) (cleaner_of k)) (sym cleaners) (more_entries (length xs) (length (machine_of b).slots) (cleaner_of a.cleaner) (omega (arith, n)) is.cleaner.entries);
+          room = subst (λ (k : SegmentCleaner). HasRoomToClean (length (machine_of b).slots) k) (sym cleaners) (subst (λ m. HasRoomToClean m a.cleaner) (sym n) to_clean);
         };
         room_to_drain = subst (All HasRoomToDrain) (sym items) (All-append HasRoomToDrain a.slots.items (s ∷ []) is.room_to_drain (All-cons HasRoomToDrain s [] drain (λ k d lt. absurd (omega arith))));
         rooms = record {
@@ -38,7 +39,6 @@ module _ (size : ℕ) (a : SegmentAccountant) (is : IsAccountant size a) (s : Sl
           active = omega (arith, rooms.active, ap (λ p. p.1) actives, n);
           inactive = omega (arith, rooms.inactive, ap (λ p. p.1) inactives, n);
           waiting = omega (arith, rooms.waiting, ap (λ p. p.1) waitings, n);
-          cleaner = λ some. omega (arith, rooms.cleaner (omega arith), ap (λ (k : SegmentCleaner). vec_capacity k.entries) cleaners, n);
         };
       }
 
@@ -56,3 +56,4 @@ returns-clause-account c =
     ∙ ap (λ (l : List Slot). l ++ c.new.result ∷ []) c.in_ok-reserve-2.ensures.items in
     pushed_account size a is c.new.result c.new.ensures.state c.new.ensures.room _ items refl refl refl refl refl refl refl
     (subst (λ n. (n + 1) * size < 2 ^ 63) (sym count) c.requires.in_reach) (subst (λ n. HasRooms n a) (sym (ap (λ n. n + 1) (count ∙ same))) c.in_ok-reserve.ensures.room)
+    (subst (λ n. HasRoomToClean n a.cleaner) (sym (ap (λ n. n + 1) (count ∙ same))) c.in_ok-reserve.ensures.cleaner)

@@ -19,7 +19,7 @@ pub returns-clause-machine : goal.returns-clause-machine
 returns-clause-machine c =
     let a : SegmentAccountant = c.args.self.now in
     emptied_is _ _ a.tip _ _ (states_set a.slots.items c.args.slot c.free.new.self free_slot c.free.ensures.state)
-    (c.remove.ensures.cleaner (length (machine_of a).slots) (record { size_is = refl; entries = c.requires.account.cleaner.entries }))
+    c.remove.ensures.cleaner
 
 pub returns-clause-waiting : goal.returns-clause-waiting
 returns-clause-waiting c =
@@ -31,7 +31,7 @@ returns-clause-account c =
     let a : SegmentAccountant = c.args.self.now in
     let k : ℕ = c.args.slot in
     let xs : List SlotState = (machine_of a).slots in
-    let tie = c.remove.ensures.tie (length xs) (record { size_is = refl; entries = c.requires.account.cleaner.entries }) in
+    let tie = c.remove.ensures.tie (length xs) (record { size_is = refl; entries = c.requires.account.cleaner.entries; room = c.requires.account.cleaner.room }) in
     updated_account a.size a _ k c.free.new.self free_slot (record {
       size_is = refl;
       items = refl;
@@ -40,10 +40,9 @@ returns-clause-account c =
       slots = emptied_slots a.tip xs k c.requires.slot c.requires.account.slots c.requires.done;
       indexes = indexes_same _ _ _ _ _ _ _ _ _ _ _ (emptied_indexes a.tip xs k c.requires.slot c.requires.account.slots c.requires.done a.free.0 a.active.0 a.inactive.0 a.waiting.0 c.requires.account.indexes)
           refl c.insert.ensures.keys refl refl (returns-clause-waiting c);
-      cleaner = record { size_is = tie.size_is ∙ c.requires.account.cleaner.size_is; entries = tie.entries };
+      cleaner = record { size_is = tie.size_is ∙ c.requires.account.cleaner.size_is; entries = tie.entries; room = tie.room };
       room_free = c.insert.ensures.room;
       room_active = omega arith;
       room_inactive = omega arith;
       room_waiting = omega (arith, c.forget_waiting.ensures.room);
-      room_cleaner = omega (arith, c.remove.ensures.room);
     }) c.requires.account

@@ -10,7 +10,7 @@ use Rattle.sled_store.specs.declared.segment.slot_table.SlotTable.{SlotTable}
 use Rattle.sled_store.specs.declared.segment.accountant.SegmentAccountant.{SegmentAccountant}
 use Rattle.sled_store.specs.Begin.{entries_of, slot_of}
 use Rattle.sled_store.specs.SegmentStates.{Machine, SlotState, unused_machine, waiting_among, free_among}
-use Rattle.sled_store.specs.Accounts.{slot_state, machine_of, cleaner_of, IsAccountant, AreSlots, AreEntries, HasRooms, HasRoomToDrain}
+use Rattle.sled_store.specs.Accounts.{slot_state, machine_of, cleaner_of, IsAccountant, AreSlots, AreEntries, HasRooms, HasRoomToDrain, HasRoomToClean}
 use Rattle.sled_store.specs.Started.{found}
 use Rattle.sled_store.specs.Starting.{begun_slot, pages_linked, FillsSlots, AreNoted}
 use Rattle.sled_store.proofs.Accounts.AccountLemmas.{more_entries, length_states}
@@ -44,8 +44,8 @@ module _ (size slots : ℕ) (s : SnapshotModel) (t : SlotTable) (fills : FillsSl
     count : length (machine_of b).slots ≡ slots
     count = ap length states ∙ length-map-range_with_len _ 0 slots
 
-    account_found : b.size ≡ a.size → b.waiting ≡ a.waiting → AreNoted (machine_of b).slots b.free.0 b.active.0 b.inactive.0 → All HasRoomToDrain b.slots.items → HasRooms slots b → IsAccountant size b
-    account_found sizes waits noted drain rooms =
+    account_found : b.size ≡ a.size → b.waiting ≡ a.waiting → AreNoted (machine_of b).slots b.free.0 b.active.0 b.inactive.0 → All HasRoomToDrain b.slots.items → HasRooms slots b → HasRoomToClean slots a.cleaner → IsAccountant size b
+    account_found sizes waits noted drain rooms to_clean =
         let xs : List SlotState = (machine_of b).slots in
         let all : take b.tip xs ≡ xs = take_all b.tip xs (omega (arith, count, tip)) in
         record {
@@ -63,6 +63,7 @@ module _ (size slots : ℕ) (s : SnapshotModel) (t : SlotTable) (fills : FillsSl
           cleaner = record {
             size_is = ap (λ k. k.size) cleaner ∙ was.cleaner.size_is;
             entries = subst (λ k. AreEntries (length xs) (cleaner_of k)) (sym cleaner) (more_entries (length (machine_of a).slots) (length xs) (cleaner_of a.cleaner) (omega (arith, ap length none_before)) was.cleaner.entries);
+            room = subst (λ k. HasRoomToClean (length xs) k) (sym cleaner) (subst (λ n. HasRoomToClean n a.cleaner) (sym count) to_clean);
           };
           room_to_drain = drain;
           rooms = subst (λ n. HasRooms n b) (sym count) rooms;
@@ -95,7 +96,7 @@ note_all-requires-clause-room c =
     let states = states_found size c.args.slots s c.args.table.now c.requires.fills c.reserve.new.self.size c.link_pages.new.slots.items _ _ same (ap (map page_of) c.deref.ensures.value) c.in_ok-found.ensures.slots c.in_ok-link_pages.ensures.slots in
     let rooms = c.in_ok-reserve.ensures.room in
     subst (λ n. HasRooms n (record c.reserve.new.self { slots = c.link_pages.new.slots; tip = c.args.slots })) (sym (room_for size c.args.slots c.link_pages.new.slots.items s states))
-    (record { free = rooms.free; active = rooms.active; inactive = rooms.inactive; waiting = rooms.waiting; cleaner = rooms.cleaner })
+    (record { free = rooms.free; active = rooms.active; inactive = rooms.inactive; waiting = rooms.waiting })
 
 pub returns-clause-machine : goal.returns-clause-machine
 returns-clause-machine c =
@@ -118,4 +119,4 @@ returns-clause-account c =
     account_found size c.args.slots s c.args.table.now c.requires.fills c.reserve.new.self b was (c.reserve.ensures.machine ∙ c.requires.unused) (slots_is ∙ states) (ap (λ (x : SegmentAccountant). x.tip) rest) (ap (λ (x : SegmentAccountant). x.cleaner) rest)
     (ap (λ (x : SegmentAccountant). x.size) rest) (ap (λ (x : SegmentAccountant). x.waiting) rest) (subst (λ (l : List SlotState). AreNoted l b.free.0 b.active.0 b.inactive.0) (sym slots_is) c.note_all.ensures.noted)
     (subst (λ (x : SegmentAccountant). All HasRoomToDrain x.slots.items) (sym rest) c.in_ok-link_pages.ensures.room)
-    (subst (λ n. HasRooms n b) (room_for size c.args.slots c.link_pages.new.slots.items s states) c.note_all.ensures.room)
+    (subst (λ n. HasRooms n b) (room_for size c.args.slots c.link_pages.new.slots.items s states) c.note_all.ensures.room) c.in_ok-reserve.ensures.cleaner

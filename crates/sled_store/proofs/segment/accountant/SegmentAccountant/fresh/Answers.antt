@@ -33,7 +33,7 @@ bare_account size a bare some small =
           (record { free_is = bare.free; active_is = bare.active; inactive_is = bare.inactive; waiting_is = bare.waiting }));
       cleaner = subst (λ n. IsCleaner size n a.cleaner) (sym count) bare.cleaner;
       room_to_drain = subst (All HasRoomToDrain) (sym bare.slots) (λ k d lt. absurd (omega arith));
-      rooms = subst (λ n. HasRooms n a) (sym count) (record { free = omega arith; active = omega arith; inactive = omega arith; waiting = omega arith; cleaner = λ some. omega arith });
+      rooms = subst (λ n. HasRooms n a) (sym count) (record { free = omega arith; active = omega arith; inactive = omega arith; waiting = omega arith });
     }
 
 pub returns-clause-machine : goal.returns-clause-machine

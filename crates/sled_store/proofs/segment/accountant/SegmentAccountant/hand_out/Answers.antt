@@ -68,5 +68,4 @@ returns-clause-account c =
       room_active = c.insert.ensures.room;
       room_inactive = omega arith;
       room_waiting = omega arith;
-      room_cleaner = omega arith;
     }) c.requires.account

@@ -47,5 +47,4 @@ returns-clause-account c =
       room_active = omega (arith, c.remove.ensures.room);
       room_inactive = c.insert.ensures.room;
       room_waiting = omega arith;
-      room_cleaner = omega arith;
     }) c.requires.account

@@ -61,5 +61,4 @@ returns-clause-account c =
       room_active = omega arith;
       room_inactive = omega arith;
       room_waiting = omega (arith, c.forget_waiting.ensures.room, c.note_waiting.ensures.room);
-      room_cleaner = omega arith;
     }) c.requires.account

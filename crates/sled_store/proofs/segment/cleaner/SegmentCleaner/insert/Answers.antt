@@ -1,32 +1,44 @@
--- A slot that was found is noted anew, and another goes where the search ended.
-use Rattle.std.proofs.Common.{◌∙◌, List, Bool, map, ap, refl, sym, subst, if◌then◌else◌, vec_len, vec_capacity, ◌<◌, arith}
-use Rattle.std.specs.List.{insert}
+-- One slot more, whose pages are put in its place.
+use Rattle.std.proofs.Common.{◌∙◌, ◌<◌, ◌*◌, ◌^◌, ℕ, List, length, map, set, refl, sym, ap, subst, arith, length-set}
+use Rattle.std.proofs.lemmas.List.{length-map}
+use Rattle.std.specs.List.{All}
 use Rattle.sled_store.specs.declared.segment.cleaner.Entry.{Entry}
-use Rattle.sled_store.specs.Accounts.{AreEntries, entry_of}
-use Rattle.sled_store.proofs.Accounts.CleanerLemmas.{searchable_slots, found_set, missing_entry, entries_inserted}
+use Rattle.sled_store.specs.Accounts.{left_in, with_pages}
+use Rattle.sled_store.proofs.Accounts.CleanerLemmas.{order_inserted, all_inserted, pages_inserted, entries_put, tied_inserted}
 use Rattle.sled_store.proofs.segment.cleaner.SegmentCleaner.insert.Goals as goal
 
-pub returns-in-Ok-clause-cleaner : goal.returns-in-Ok-clause-cleaner
-returns-in-Ok-clause-cleaner c count is =
-    let e : Entry = record { slot = c.args.slot; pages = c.args.pages; next = 0 } in
-    found_set e c.args.self.now.entries.items c.in-Ok.at is.entries.ascending c.in-Ok.ensures.bound c.in-Ok.ensures.position
-
-pub returns-in-Ok-clause-tie : goal.returns-in-Ok-clause-tie
-returns-in-Ok-clause-tie c count lt is = record {
-  size_is = is.size_is;
-  entries = subst (AreEntries count) (sym (returns-in-Ok-clause-cleaner c count is)) (entries_inserted count c.args.slot c.args.pages.items (map entry_of c.args.self.now.entries.items) lt is.entries);
-}
-
-pub returns-in-Err-clause-cleaner : goal.returns-in-Err-clause-cleaner
-returns-in-Err-clause-cleaner c count is =
-    let e : Entry = record { slot = c.args.slot; pages = c.args.pages; next = 0 } in
+pub invariant_of-self : goal.invariant_of-self
+invariant_of-self c =
     let es : List Entry = c.args.self.now.entries.items in
-    let lt : vec_len c.args.self.now.entries < vec_capacity c.args.self.now.entries = omega (arith, c.args.self.now.entries.ok.0) in
-    ap (map entry_of) (c.insert.ensures.items ∙ ap (λ (b : Bool). if b then insert es c.in-Err.at e else es) (c.insert.ensures.succeeds lt))
-    ∙ missing_entry c.args.slot e es c.in-Err.at refl c.in-Err.ensures.bound (c.in-Err.ensures.position (searchable_slots c.args.slot es is.entries.ascending))
+    let e : Entry = record { pages = c.args.pages; next = 0 } in
+    let ks : List ℕ = c.args.self.now.draining.0 in
+    let new : List ℕ = c.insert.new.self.0 in
+    record {
+      ascending = order_inserted ks new c.args.slot c.insert.ensures.keys c.args.self.now.ascending;
+      within = subst (λ n. All (λ k. k < n) new) (sym (length-set es c.args.slot e)) (all_inserted ks new c.args.slot c.insert.ensures.keys (λ k. k < length es) c.requires.entry c.args.self.now.within);
+      in_reach = all_inserted ks new c.args.slot c.insert.ensures.keys (λ k. k * c.args.self.now.size < 2 ^ 63) c.requires.in_reach c.args.self.now.in_reach;
+    }
 
-pub returns-in-Err-clause-tie : goal.returns-in-Err-clause-tie
-returns-in-Err-clause-tie c count lt is = record {
-  size_is = is.size_is;
-  entries = subst (AreEntries count) (sym (returns-in-Err-clause-cleaner c count is)) (entries_inserted count c.args.slot c.args.pages.items (map entry_of c.args.self.now.entries.items) lt is.entries);
-}
+pub returns-clause-cleaner : goal.returns-clause-cleaner
+returns-clause-cleaner c =
+    let es : List Entry = c.args.self.now.entries.items in
+    let e : Entry = record { pages = c.args.pages; next = 0 } in
+    let ks : List ℕ = c.args.self.now.draining.0 in
+    let ps : List (List ℕ) = map left_in es in
+    let k : ℕ = c.args.slot in
+    entries_put es k e c.insert.new.self.0 c.args.pages.items refl
+    ∙ ap (map (with_pages (set ps k c.args.pages.items))) c.insert.ensures.keys
+    ∙ pages_inserted ps k c.args.pages.items ks (omega (arith, c.requires.entry, length-map es left_in)) c.args.self.now.ascending
+
+pub returns-clause-tie : goal.returns-clause-tie
+returns-clause-tie c count lt is =
+    let es : List Entry = c.args.self.now.entries.items in
+    let e : Entry = record { pages = c.args.pages; next = 0 } in
+    record {
+      size_is = is.size_is;
+      entries = tied_inserted count (map left_in es) (map left_in (set es c.args.slot e)) c.args.self.now.draining.0 c.args.self.now.ascending is.entries c.insert.new.self.0 c.args.slot c.insert.ensures.keys lt;
+      room = record {
+        draining = omega (arith, is.room.draining, c.insert.ensures.room);
+        entries = omega (arith, is.room.entries, length-set es c.args.slot e);
+      };
+    }

@@ -1,24 +1,63 @@
--- A slot that was found is taken out, and another was not there.
-use Rattle.std.proofs.Common.{◌∙◌, List, map, ap, sym, subst}
-use Rattle.std.specs.BTreeMap.{is_at}
-use Rattle.std.specs.Ordering.{nat_cmp}
+-- One slot less, whose pages go where it has any.
+use Rattle.std.proofs.Common.{◌∙◌, ◌<◌, ◌*◌, ◌^◌, ℕ, List, [], length, map, set, sym, ap, subst, arith, length-set}
+use Rattle.std.specs.List.{All}
 use Rattle.sled_store.specs.declared.segment.cleaner.Entry.{Entry}
-use Rattle.sled_store.specs.Accounts.{AreEntries, entry_of}
-use Rattle.sled_store.proofs.Accounts.CleanerLemmas.{searchable_slots, found_remove_entry, missing_remove_entry, entries_removed}
+use Rattle.sled_store.specs.Accounts.{left_in, with_pages}
+use Rattle.sled_store.proofs.Accounts.CleanerLemmas.{order_removed, all_removed, pages_removed, pages_without, entries_put, tied_removed}
 use Rattle.sled_store.proofs.segment.cleaner.SegmentCleaner.remove.Goals as goal
 
-pub returns-in-Ok-clause-cleaner : goal.returns-in-Ok-clause-cleaner
-returns-in-Ok-clause-cleaner c count is =
-    ap (map entry_of) c.remove.ensures.items
-    ∙ found_remove_entry c.args.slot c.args.self.now.entries.items c.in-Ok.at is.entries.ascending c.in-Ok.ensures.bound c.in-Ok.ensures.position
+pub invariant_of-self : goal.invariant_of-self
+invariant_of-self c =
+    let ks : List ℕ = c.args.self.now.draining.0 in
+    let new : List ℕ = c.remove.new.self.0 in
+    record {
+      ascending = order_removed ks new c.args.slot c.remove.ensures.keys c.args.self.now.ascending;
+      within = all_removed ks new c.args.slot c.remove.ensures.keys (λ k. k < length c.args.self.now.entries.items) c.args.self.now.within;
+      in_reach = all_removed ks new c.args.slot c.remove.ensures.keys (λ k. k * c.args.self.now.size < 2 ^ 63) c.args.self.now.in_reach;
+    }
 
-pub returns-in-Ok-clause-tie : goal.returns-in-Ok-clause-tie
-returns-in-Ok-clause-tie c count is = record {
-  size_is = is.size_is;
-  entries = subst (AreEntries count) (sym (returns-in-Ok-clause-cleaner c count is)) (entries_removed count (is_at (nat_cmp c.args.slot)) (map entry_of c.args.self.now.entries.items) is.entries);
-}
+pub returns-then-slot-len-clause-cleaner : goal.returns-then-slot-len-clause-cleaner
+returns-then-slot-len-clause-cleaner c =
+    let ps : List (List ℕ) = map left_in c.args.self.now.entries.items in
+    ap (map (with_pages ps)) c.remove.ensures.keys ∙ pages_without ps c.args.slot c.args.self.now.draining.0 c.args.self.now.ascending
 
-pub returns-in-Err-clause-cleaner : goal.returns-in-Err-clause-cleaner
-returns-in-Err-clause-cleaner c count is =
+pub returns-then-slot-len-clause-tie : goal.returns-then-slot-len-clause-tie
+returns-then-slot-len-clause-tie c count is =
+    let ps : List (List ℕ) = map left_in c.args.self.now.entries.items in
+    record {
+      size_is = is.size_is;
+      entries = tied_removed count ps ps c.args.self.now.draining.0 c.args.self.now.ascending is.entries c.remove.new.self.0 c.args.slot c.remove.ensures.keys;
+      room = record { draining = omega (arith, is.room.draining, c.remove.ensures.room); entries = is.room.entries };
+    }
+
+pub invariant_of-self-2 : goal.invariant_of-self-2
+invariant_of-self-2 c =
     let es : List Entry = c.args.self.now.entries.items in
-    sym (missing_remove_entry c.args.slot es c.in-Err.field-0 (c.in-Err.ensures.position (searchable_slots c.args.slot es is.entries.ascending)))
+    let ks : List ℕ = c.args.self.now.draining.0 in
+    let new : List ℕ = c.remove.new.self.0 in
+    record {
+      ascending = order_removed ks new c.args.slot c.remove.ensures.keys c.args.self.now.ascending;
+      within = subst (λ n. All (λ k. k < n) new) (sym (length-set es c.args.slot c.new.result)) (all_removed ks new c.args.slot c.remove.ensures.keys (λ k. k < length es) c.args.self.now.within);
+      in_reach = all_removed ks new c.args.slot c.remove.ensures.keys (λ k. k * c.args.self.now.size < 2 ^ 63) c.args.self.now.in_reach;
+    }
+
+pub returns-clause-cleaner : goal.returns-clause-cleaner
+returns-clause-cleaner c =
+    let es : List Entry = c.args.self.now.entries.items in
+    let ps : List (List ℕ) = map left_in es in
+    let k : ℕ = c.args.slot in
+    entries_put es k c.new.result c.remove.new.self.0 [] c.new.ensures
+    ∙ ap (map (with_pages (set ps k []))) c.remove.ensures.keys
+    ∙ pages_removed ps k [] c.args.self.now.draining.0 c.args.self.now.ascending
+
+pub returns-clause-tie : goal.returns-clause-tie
+returns-clause-tie c count is =
+    let es : List Entry = c.args.self.now.entries.items in
+    record {
+      size_is = is.size_is;
+      entries = tied_removed count (map left_in es) (map left_in (set es c.args.slot c.new.result)) c.args.self.now.draining.0 c.args.self.now.ascending is.entries c.remove.new.self.0 c.args.slot c.remove.ensures.keys;
+      room = record {
+        draining = omega (arith, is.room.draining, c.remove.ensures.room);
+        entries = omega (arith, is.room.entries, length-set es c.args.slot c.new.result);
+      };
+    }
