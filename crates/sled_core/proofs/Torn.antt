@@ -8,5 +8,6 @@ pub mod WrittenBeside
 pub mod WrittenFound
 pub mod WrittenParts
 pub mod WrittenRecords
+pub mod WrittenTruth
 pub mod ZeroedScans
 pub mod ZeroedSlots
