@@ -6,7 +6,9 @@ pub mod WrittenBegun
 pub mod WrittenBehind
 pub mod WrittenBeside
 pub mod WrittenFound
+pub mod WrittenOrdering
 pub mod WrittenParts
 pub mod WrittenRecords
+pub mod WrittenTruth
 pub mod ZeroedScans
 pub mod ZeroedSlots

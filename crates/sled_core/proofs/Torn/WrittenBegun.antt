@@ -30,9 +30,9 @@ none_in_zeros sum size none long log lid clean lsn mark is =
     let zeros = part_zeros log lid 20 (twenty sum size log lid lsn mark is) (λ i above below. clean i above (omega (arith, below, long))) in
     none lsn mark (subst (λ (l : List ℕ). IsHeader sum l lsn mark) zeros is)
 
-module _ (sum : List ℕ → ℕ) (none : NoHeaderOfZeros sum) (size : ℕ) (old : List ℕ) (slot from : ℕ) (first : from ≡ 0) (asked now left : List ℕ) (inside : from + length asked ≤ size) (no_more : length now ≤ length asked)
+module _ (sum : List ℕ → ℕ) (size : ℕ) (old : List ℕ) (slot from : ℕ) (asked now left : List ℕ) (inside : from + length asked ≤ size) (no_more : length now ≤ length asked)
     (leaves : LeavesLog (after_write old (slot * size + from) asked now) left) (clean : (i : ℕ) → slot * size + from ≤ i → i < slot * size + size → get_or old i 0 ≡ 0)
-    (place : ℕ) (mark : ℤ) (begun : IsHeader sum (take 20 asked) (pos place) mark) where
+    (none : NoHeaderOfZeros sum) (first : from ≡ 0) (place : ℕ) (mark : ℤ) (begun : IsHeader sum (take 20 asked) (pos place) mark) where
   abbrev new : List ℕ
   new = overwritten old (slot * size + from) asked
 

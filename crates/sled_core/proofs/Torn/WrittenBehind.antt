@@ -14,7 +14,7 @@ use Rattle.sled_core.proofs.Torn.TornLemmas.{after_write, left_grows, part_left}
 use Rattle.sled_core.proofs.Torn.WrittenParts.{twenty, in_this_file, comes_along, path_rises, paths_joined, path_stays, path_whole, header_where}
 use Rattle.sled_core.proofs.Torn.WrittenRecords.{AlikeAlong, MeetsFirst, alike_joined, meets_first}
 
-module _ (sum : List ℕ → ℕ) (size : ℕ) (old : List ℕ) (slot from : ℕ) (behind : 20 ≤ from) (asked now left : List ℕ) (no_more : length now ≤ length asked) (leaves : LeavesLog (after_write old (slot * size + from) asked now) left) where
+module _ (sum : List ℕ → ℕ) (size : ℕ) (old : List ℕ) (slot from : ℕ) (asked now left : List ℕ) (no_more : length now ≤ length asked) (leaves : LeavesLog (after_write old (slot * size + from) asked now) left) (behind : 20 ≤ from) where
   abbrev new : List ℕ
   new = overwritten old (slot * size + from) asked
 

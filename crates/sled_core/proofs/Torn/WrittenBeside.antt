@@ -28,8 +28,8 @@ slots_apart size a b lower =
     let one_more : a + 1 ≤ b = omega (arith, lower) in
     omega (arith, mul-le-mul_right size one_more, suc-mul a size)
 
-module _ (sum : List ℕ → ℕ) (size : ℕ) (long : 20 ≤ size) (old : List ℕ) (slot from : ℕ) (asked now left : List ℕ) (inside : from + length asked ≤ size) (no_more : length now ≤ length asked)
-    (leaves : LeavesLog (after_write old (slot * size + from) asked now) left) (k : ℕ) (other : k ≢ slot) where
+module _ (sum : List ℕ → ℕ) (size : ℕ) (old : List ℕ) (slot from : ℕ) (asked now left : List ℕ) (inside : from + length asked ≤ size) (no_more : length now ≤ length asked)
+    (leaves : LeavesLog (after_write old (slot * size + from) asked now) left) (long : 20 ≤ size) (k : ℕ) (other : k ≢ slot) where
   -- the write doesn't touch it
   pub apart : (k * size + size ≤ slot * size + from) ⊎ (slot * size + from + length asked ≤ k * size)
   apart = elim (cases_order k slot) [

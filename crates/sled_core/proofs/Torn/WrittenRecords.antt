@@ -27,11 +27,11 @@ abbrev pub AlikeAlong : List ℕ → List ℕ → ℕ → ℕ → List ScannedRe
 AlikeAlong new left slot from [] = Unit {0}
 AlikeAlong new left slot from (m ∷ ms) = (part left (slot + from) m.len ≡ part new (slot + from) m.len) × (slot + from + m.len ≤ length left) × AlikeAlong new left slot (from + m.len) ms
 
--- where one file ends as another one does, or its cap is missing
+-- the reading ends for the same reason, or for want of the cap
 abbrev pub EndsAlike : ScanEnd → ScanEnd → Type 0
 EndsAlike ending why = (ending ≡ why) ⊎ ((why ≡ Capped) × (ending ≡ Broken))
 
--- How far the records that are met in one file from an offset on are met in another one: the first of them, as long as they are. Where not all of them are met, no record of the segment stands behind them.
+-- Of the records that are met in one file from an offset of a segment on, the first ones are met in another file, with the same bytes. Either these are all of them, and the reading ends where it does in the one file, or it is broken behind them.
 pub record MeetsFirst (sum : List ℕ → ℕ) (size : ℕ) (new left : List ℕ) (slot place from : ℕ) (more : List ScannedRecord) (stop : ℕ) (why : ScanEnd) : Type 0 where
   pub count : ℕ
   pub end : ℕ
@@ -43,8 +43,9 @@ pub record MeetsFirst (sum : List ℕ → ℕ) (size : ℕ) (new left : List ℕ
   pub rest : IsPath sum size new slot place end (drop count more) stop
   pub how : ((count ≡ length more) × (end ≡ stop) × EndsAlike ending why) ⊎ ((count < length more) × (ending ≡ Broken))
 
--- Records that are met have the same bytes one behind another.
+-- Records with the same bytes in two files.
 module _ (new left : List ℕ) (slot : ℕ) where
+  -- some, and others behind them
   pub alike_joined : (sum : List ℕ → ℕ) (size : ℕ) (log : List ℕ) (place from : ℕ) (ms : List ScannedRecord) (mid : ℕ) (more : List ScannedRecord) → IsPath sum size log slot place from ms mid
       → AlikeAlong new left slot from ms → AlikeAlong new left slot mid more → AlikeAlong new left slot from (ms ++ more)
   alike_joined sum size log place from [] mid more path first rest = subst (λ n. AlikeAlong new left slot n more) path rest
@@ -65,7 +66,7 @@ module _ (new left : List ℕ) (slot : ℕ) where
         (one.0, one.1, omega (arith, above), one.3, one.4, one.5))
   ]
 
--- where they end
+-- The reading ends between where it began and where it ends in the one file.
 pub meets_within : (sum : List ℕ → ℕ) (size : ℕ) (new left : List ℕ) (slot place from : ℕ) (more : List ScannedRecord) (stop : ℕ) (why : ScanEnd) (w : MeetsFirst sum size new left slot place from more stop why) → (from ≤ w.end) × (w.end ≤ stop)
 meets_within sum size new left slot place from more stop why w =
     (path_rises sum size left slot place from (take w.count more) w.end w.path, path_rises sum size new slot place w.end (drop w.count more) stop w.rest)
