@@ -1,3 +1,4 @@
+pub mod AtCut
 pub mod ReachedCut
 pub mod ReachedEntries
 pub mod Recoverable
