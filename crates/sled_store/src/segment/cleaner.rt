@@ -3,7 +3,7 @@
 //! Which slots are being drained says a tree over all slots, and what pages each of them has left a vector by slot. So a
 //! page is asked for, and a slot is put in or taken out, in as many steps as the tree is deep, whatever else is being
 //! drained. Only a reservation takes memory.
-ghost use Rattle.std.specs.Prelude.{◌≡◌, [], ◌*◌, ◌≤◌, ◌<◌, ◌^◌, ℕ, drop, length, slice_get, OnOk};
+ghost use Rattle.std.specs.Prelude.{◌≡◌, [], ◌*◌, ◌≤◌, ◌<◌, ◌^◌, ℕ, drop, length, map, slice_get, slice_index_or, vec_capacity, OnOk};
 ghost use Rattle.std.specs.List.Sorted.{IsStrictlySortedBy, IsStrictlySortedBy-prop};
 ghost use Rattle.std.specs.Ordering.{nat_cmp};
 ghost use Rattle.std.specs.BTreeMap.{insert_entry, is_at};
@@ -41,7 +41,8 @@ impl Entry {
 
     /// Returns one with no pages.
     fn new(alloc: Global) -> Entry
-        ensures { left_in result ≡ [] }
+        ensures left { left_in result ≡ [] }
+        ensures memory { vec_capacity result.pages ≡ 0 }
     {
         Entry {
             pages: Vec::new(alloc),
@@ -140,6 +141,7 @@ impl SegmentCleaner {
     pub(crate) fn remove(&mut self, slot: u64)
         ensures cleaner { cleaner_of self.new ≡ remove_entry (is_at (nat_cmp slot)) (cleaner_of self.old) }
         ensures tie { (count : ℕ) → IsCleaner self.old.size count self.old → IsCleaner self.old.size count self.new }
+        ensures memory { slice_index_or (map (λ e. vec_capacity e.pages) self.new.entries.items) slot 0 ≡ 0 }
     {
         self.draining.remove(slot);
         if slot >= self.entries.len() as u64 {

@@ -11,4 +11,4 @@ returns-clause-cleaner c =
     let ks : List ℕ = c.args.self.now.draining.0 in
     let ps : List (List ℕ) = map left_in es in
     ap (λ (l : List Entry). map (with_pages (map left_in l)) ks) c.in_ok-push.ensures.items
-    ∙ entries_added es 0 c.new.result ks ∙ ap (λ (l : List ℕ). map (with_pages (ps ++ l ∷ [])) ks) c.new.ensures ∙ pages_behind ps ks
+    ∙ entries_added es 0 c.new.result ks ∙ ap (λ (l : List ℕ). map (with_pages (ps ++ l ∷ [])) ks) c.new.ensures.left ∙ pages_behind ps ks

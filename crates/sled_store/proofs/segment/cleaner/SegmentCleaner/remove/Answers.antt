@@ -1,5 +1,6 @@
 -- One slot less, whose pages go where it has any.
-use Rattle.std.proofs.Common.{◌∙◌, ◌<◌, ◌*◌, ◌^◌, ℕ, List, [], length, map, set, sym, ap, subst, arith, length-set}
+use Rattle.std.proofs.Common.{◌∙◌, ◌<◌, ◌*◌, ◌^◌, ℕ, List, [], length, get_or, map, set, vec_capacity, get_or-set_same, sym, ap, subst, arith, length-set}
+use Rattle.std.proofs.lemmas.List.{get_or_past, length-map, map-set}
 use Rattle.std.specs.List.{All}
 use Rattle.sled_store.specs.declared.segment.cleaner.Entry.{Entry}
 use Rattle.sled_store.specs.Accounts.{left_in, with_pages}
@@ -30,6 +31,11 @@ returns-then-slot-len-clause-tie c count is =
       room = record { draining = omega (arith, is.room.draining, c.remove.ensures.room); entries = is.room.entries };
     }
 
+pub returns-then-slot-len-clause-memory : goal.returns-then-slot-len-clause-memory
+returns-then-slot-len-clause-memory c =
+    let es : List Entry = c.args.self.now.entries.items in
+    get_or_past (map (λ (e : Entry). vec_capacity e.pages) es) c.args.slot 0 (omega (arith, c.if-slot-len.true, c.len.ensures, length-map es (λ (e : Entry). vec_capacity e.pages)))
+
 pub invariant_of-self-2 : goal.invariant_of-self-2
 invariant_of-self-2 c =
     let es : List Entry = c.args.self.now.entries.items in
@@ -46,7 +52,7 @@ returns-clause-cleaner c =
     let es : List Entry = c.args.self.now.entries.items in
     let ps : List (List ℕ) = map left_in es in
     let k : ℕ = c.args.slot in
-    entries_put es k c.new.result c.remove.new.self.0 [] c.new.ensures
+    entries_put es k c.new.result c.remove.new.self.0 [] c.new.ensures.left
     ∙ ap (map (with_pages (set ps k []))) c.remove.ensures.keys
     ∙ pages_removed ps k [] c.args.self.now.draining.0 c.args.self.now.ascending
 
@@ -61,3 +67,11 @@ returns-clause-tie c count is =
         entries = omega (arith, is.room.entries, length-set es c.args.slot c.new.result);
       };
     }
+
+pub returns-clause-memory : goal.returns-clause-memory
+returns-clause-memory c =
+    let es : List Entry = c.args.self.now.entries.items in
+    let rooms : List ℕ = map (λ (e : Entry). vec_capacity e.pages) es in
+    ap (λ l. get_or l c.args.slot 0) (map-set (λ (e : Entry). vec_capacity e.pages) es c.args.slot c.new.result)
+    ∙ get_or-set_same rooms c.args.slot (vec_capacity c.new.result.pages) 0 (omega (arith, c.if-slot-len.false, c.len.ensures, length-map es (λ (e : Entry). vec_capacity e.pages)))
+    ∙ c.new.ensures.memory
