@@ -2,7 +2,9 @@ pub mod Crash
 pub mod Flush
 pub mod Holds
 pub mod PublicLaws
+pub mod Reached
 pub mod Read
 pub mod Reserve
 pub mod Start
+pub mod Tail
 pub mod Torn

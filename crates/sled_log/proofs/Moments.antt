@@ -9,7 +9,6 @@ pub mod OneCut
 pub mod PassStops
 pub mod PublishedCut
 pub mod RecoveryAlong
-pub mod SegmentsFrom
 pub mod ShortCut
 pub mod Shredded
 pub mod SnapshotNames

@@ -1,11 +1,7 @@
-pub mod Ascending
 pub mod BelowLemmas
-pub mod EarlierEntries
 pub mod FoldLemmas
 pub mod PageRuns
-pub mod PageStates
 pub mod PageWise
 pub mod TableCuts
 pub mod TableLemmas
-pub mod TableParts
 pub mod WholeTables

@@ -10,12 +10,12 @@ use Rattle.sled_codec.specs.PageTables.{IsTable, entry_of, page_with}
 use Rattle.sled_codec.specs.Snapshots.{Page, Present, Free}
 use Rattle.sled_store.proofs.Segments.Elements.{no_element}
 use Rattle.sled_log.specs.Replaces.{HasLast, IsOfReplaces}
-use Rattle.sled_log.proofs.PageTable.Ascending.{Ascends, apart_ascends, in_first, in_rest, in_cases, in_nothing, later_above}
+use Rattle.sled_store.proofs.Histories.Ascending.{Ascends, apart_ascends, in_first, in_rest, in_cases, in_nothing, later_above}
 use Rattle.sled_log.proofs.PageTable.PageRuns.{links_behind}
-use Rattle.sled_log.proofs.PageTable.TableParts.{in_page, page_ascends, has_page}
+use Rattle.sled_store.proofs.Histories.TableParts.{in_page, page_ascends, has_page}
 pub use Rattle.sled_log.proofs.Sessions.RunHistories.{orderly, none_orderly, completed, forgotten, new_there}
 pub use Rattle.sled_log.proofs.PageTable.TableCuts.{table_below}
-pub use Rattle.sled_log.proofs.PageTable.TableParts.{from_page, from_table}
+pub use Rattle.sled_store.proofs.Histories.TableParts.{from_page, from_table}
 pub use Rattle.sled_log.proofs.WriteBack.RecoveryHolds.{read_of, read_on_of, read_on_again}
 
 -- A message behind all others is appended.

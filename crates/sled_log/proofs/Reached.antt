@@ -1,5 +1,1 @@
 pub mod AtCut
-pub mod ReachedCut
-pub mod ReachedEntries
-pub mod Recoverable
-pub mod StandsTo

@@ -89,12 +89,6 @@ pub record Applied : Type 0 where
 abbrev pub applied : Message → Applied
 applied m = record { kind = m.kind; page = m.page; entry = entry_of m }
 
--- The elements of the first list are elements of the second, in their order.
-abbrev pub IsSublist : {X : Type 0} → List X → List X → Type 0
-IsSublist [] ys = Unit {0}
-IsSublist (x ∷ xs) [] = ⊥
-IsSublist (x ∷ xs) (y ∷ ys) = (x ≡ y) × IsSublist xs ys ⊎ IsSublist (x ∷ xs) ys
-
 abbrev pub applied_of : ScannedRecord → RecordContent → List Applied
 applied_of m (Gives kind page pointer) = record { kind = kind; page = page; entry = (pos m.place, pointer, m.len) } ∷ []
 applied_of m (NamesBlob kind page lid place) = []

@@ -1,5 +1,6 @@
 pub mod Accounts
 pub mod Crashes
+pub mod Histories
 pub mod LogFile
 pub mod Marks
 pub mod Names

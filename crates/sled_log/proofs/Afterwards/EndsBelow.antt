@@ -9,11 +9,11 @@ use Rattle.sled_core.specs.declared.iterator.scan.ScannedRecord.{ScannedRecord}
 use Rattle.sled_core.specs.Recoverable.{ActiveFits, IsRecoverableLog}
 use Rattle.sled_core.specs.Scan.{IsFoundSegment}
 use Rattle.sled_log.specs.Recovery.{Scanned, IsScanned}
-use Rattle.sled_log.proofs.Replay.LineLemmas.{apart}
-use Rattle.sled_log.proofs.Recovers.OneReading.{one_scan}
-use Rattle.sled_log.proofs.Recovers.OneTail.{rises_of, one_at_place, place_aligned, segment_there}
-use Rattle.sled_log.proofs.Recovers.PassCut.{put_down, whole}
-use Rattle.sled_log.proofs.Recovers.Rows.{met_stand, stand_in}
+use Rattle.sled_core.proofs.Tail.Multiples.{apart, put_down}
+use Rattle.sled_core.proofs.Tail.OneReading.{one_scan}
+use Rattle.sled_core.proofs.Tail.OneTail.{rises_of, one_at_place, place_aligned, segment_there}
+use Rattle.sled_log.proofs.Recovers.PassCut.{whole}
+use Rattle.sled_core.proofs.Tail.Rows.{met_stand, stand_in}
 use Rattle.sled_log.proofs.Moments.ForgottenAbove.{log_forgets}
 use Rattle.sled_log.proofs.Moments.FromCut.{EndsAtCut}
 use Rattle.sled_log.proofs.Moments.UnreadSlots.{StopsAtCut, recoverable_at}

@@ -19,7 +19,7 @@ use Rattle.sled_log.proofs.Moments.BlobsRemoved.{AreRemovedFrom, blobs_removed}
 use Rattle.sled_log.proofs.Moments.RecoveryAlong.{cut_fits, shreds, forgotten_above}
 use Rattle.sled_log.proofs.Moments.Shredded.{shredded, is_shredded, zeroed, stops_zeroed, zeroed_recoverable}
 use Rattle.sled_log.proofs.Moments.UnreadSlots.{AreFree, StopsAtCut, free_left}
-use Rattle.sled_log.proofs.Recovers.PassCut.{put_down}
+use Rattle.sled_core.proofs.Tail.Multiples.{put_down}
 use Rattle.sled_log.proofs.Recovers.RecoversGood.{RecoversWell, well_of}
 
 -- What a recovery gives, where it begins from these parts of a content.

@@ -7,7 +7,7 @@ use Rattle.std.proofs.lemmas.List.Elements.{All-weaker, All-filter}
 use Rattle.sled_codec.specs.History.{Message, History, page_state, of_page, table, below}
 use Rattle.sled_codec.specs.WellFormed.{LieApart, ChangesPage, IsWellFormed}
 use Rattle.sled_log.specs.Orderly.{IsOrderly}
-use Rattle.sled_log.proofs.PageTable.Ascending.{filter_sublist}
+use Rattle.sled_store.proofs.Histories.Ascending.{filter_sublist}
 use Rattle.sled_log.proofs.PageTable.BelowLemmas.{drops_high}
 use Rattle.sled_log.proofs.PageTable.TableCuts.{below_same}
 use Rattle.sled_log.proofs.Sessions.RunHistories.{sublist_apart}

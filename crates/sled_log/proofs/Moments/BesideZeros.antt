@@ -14,7 +14,7 @@ use Rattle.sled_core.proofs.Read.FoundLemmas.{found_there}
 use Rattle.sled_core.proofs.Read.ScanLemmas.{met_fits, aligned_offset}
 use Rattle.sled_core.proofs.Torn.TornLemmas.{after_write}
 use Rattle.sled_core.proofs.Torn.ZeroedSlots.{grows, kept, path_stays}
-use Rattle.sled_log.proofs.Replay.LineLemmas.{apart}
+use Rattle.sled_core.proofs.Tail.Multiples.{apart}
 use Rattle.sled_log.proofs.Moments.ZeroedParts.{message_moved}
 
 module _ (sum : List ℕ → ℕ) (size : ℕ) (old : List ℕ) (some : 256 ≤ size) (at count : ℕ) (now left : List ℕ) (no_more : length now ≤ length (replicate {A = ℕ} count 0)) (leaves : LeavesLog (after_write old at (replicate count 0) now) left)

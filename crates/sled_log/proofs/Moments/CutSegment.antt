@@ -12,11 +12,12 @@ use Rattle.sled_core.specs.Scan.{IsEnd}
 use Rattle.sled_core.specs.Recoverable.{ActiveFits, IsRecoverableLog, scanned_below, cut_from}
 use Rattle.sled_log.specs.Recovery.{Scanned, GoesOn, IsTail, tail_begins, tail_end, stops_in, is_filled, cut_of, least_place}
 use Rattle.sled_log.proofs.Recovers.LeftOut.{no_end}
-use Rattle.sled_log.proofs.Recovers.OneTail.{in_below}
-use Rattle.sled_log.proofs.Recovers.PassCut.{put_down, some_is, known, whole, one_reading, further, tail_last, stop, cut_is, stopped, last_known, stop_below, ends_below, end_passed}
-use Rattle.sled_log.proofs.Recovers.Rows.{IsWhole, met_stand, stand_in, stand_rises, stop_inside, end_there}
+use Rattle.sled_core.proofs.Tail.OneTail.{in_below}
+use Rattle.sled_core.proofs.Tail.Multiples.{put_down, one_multiple, next_multiple}
+use Rattle.sled_core.proofs.Tail.Tails.{some_is}
+use Rattle.sled_log.proofs.Recovers.PassCut.{known, whole, one_reading, further, tail_last, stop, cut_is, stopped, last_known, stop_below, ends_below, end_passed}
+use Rattle.sled_core.proofs.Tail.Rows.{IsWhole, met_stand, stand_in, stand_rises, stop_inside, end_there}
 use Rattle.sled_log.proofs.Moments.PassStops.{StopsHere}
-use Rattle.sled_log.proofs.Moments.SegmentsFrom.{one_multiple, next_aligned}
 
 module _ (sum : List ℕ → ℕ) (size : ℕ) (log : List ℕ) (some : 256 ≤ size) (H : History) (A : ℕ) (first : SnapshotModel) (cut : ℕ × Option ℕ) (is : IsRecoverableLog sum size log H A first cut) where
   -- The pass stops in this segment, at the cut, where a further record has room.
@@ -205,7 +206,7 @@ module _ (sum : List ℕ → ℕ) (size : ℕ) (log : List ℕ) (some : 256 ≤ 
           let one : z ≡ y = one_reading sum size log some H A first cut is z y there.0 last.1.0 one_place in
           let full = full_end z.why (end_there sum size log some z its) (omega (arith, filled, places, all)) in
           record {
-            aligned = ap (λ n. n % size) at_cut ∙ next_aligned size some z.segment.place its.1;
+            aligned = ap (λ n. n % size) at_cut ∙ next_multiple size z.segment.place its.1;
             none = λ u known_u here. last.1.2 (ap (λ (t : Scanned). t.why) (sym one) ∙ full) u known_u (here ∙ at_cut ∙ ap (λ n. n + size) one_place);
           }
 

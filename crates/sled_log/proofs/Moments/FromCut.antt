@@ -12,13 +12,12 @@ use Rattle.sled_core.specs.declared.iterator.scan.ScanEnd.TheVariants.{Full, Cap
 use Rattle.sled_core.specs.Scan.{IsEnd}
 use Rattle.sled_core.specs.Recoverable.{NoMessageBegins, NoBatchBegins, StandsInline, IsOfHistory, IsSegmentOf, IsMarkOf, IsMarkBelow, LiesInSegment, IsPlacedBatch, IsRecoverableLog, scanned_below, cut_over, cut_from}
 use Rattle.sled_log.specs.Recovery.{Scanned, IsOrdering, AreScanned, GoesOn, IsTail, tail_begins, tail_end, opens, open_at, stops_in, cut_of, least_place}
-use Rattle.sled_log.proofs.Replay.LineLemmas.{apart}
-use Rattle.sled_log.proofs.Recovers.OneReading.{one_scan}
-use Rattle.sled_log.proofs.Recovers.OneTail.{rises_of, one_at_place, in_below, from_below, segment_there}
-use Rattle.sled_log.proofs.Recovers.PassCut.{put_down}
-use Rattle.sled_log.proofs.Recovers.Rows.{IsWhole, IsRow, row_ordered, row_below, row_whole, met_stand, stand_in, stand_rises, end_there}
+use Rattle.sled_core.proofs.Tail.Multiples.{apart, put_down}
+use Rattle.sled_core.proofs.Tail.OneReading.{one_scan}
+use Rattle.sled_core.proofs.Tail.OneTail.{rises_of, one_at_place, in_below, from_below, segment_there}
+use Rattle.sled_core.proofs.Tail.Rows.{IsWhole, IsRow, row_ordered, row_below, row_whole, met_stand, stand_in, stand_rises, end_there}
 use Rattle.sled_log.proofs.Moments.PassStops.{none_open}
-use Rattle.sled_log.proofs.Moments.SegmentsFrom.{tail_from}
+use Rattle.sled_core.proofs.Tail.SegmentsFrom.{tail_from}
 
 -- The segments from that of a cut on are of the history, and those that a table below the cut needs are there.
 pub record IsOfCut (sum : List ℕ → ℕ) (size : ℕ) (log : List ℕ) (H : History) (A : ℕ) (cut : ℕ × Option ℕ) : Type 0 where

@@ -16,8 +16,8 @@ use Rattle.sled_core.specs.Recoverable.{NoForeign, AreRecoverableBlobs, IsRecove
 use Rattle.sled_log.specs.Orderly.{CanRead, LeavesReadable}
 use Rattle.sled_log.specs.Recovery.{Scanned, AreScanned, IsTail, tail_begins, tail_end, least_place}
 use Rattle.sled_log.proofs.Moments.LogAlong.{BlobsStand}
-use Rattle.sled_log.proofs.Recovers.OneReading.{one_scan}
-use Rattle.sled_log.proofs.Recovers.OneTail.{rises_of, one_ordering, one_tail}
+use Rattle.sled_core.proofs.Tail.OneReading.{one_scan}
+use Rattle.sled_core.proofs.Tail.OneTail.{rises_of, one_ordering, one_tail}
 use Rattle.sled_log.proofs.SnapshotFile.BeginLemmas.{one_begin}
 
 -- What is met in segments is one.

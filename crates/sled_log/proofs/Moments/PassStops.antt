@@ -5,7 +5,7 @@ use Rattle.sled_store.proofs.Segments.Elements.{in_first, in_rest, in_cases, in_
 use Rattle.sled_core.specs.declared.iterator.Segment.{Segment}
 use Rattle.sled_core.specs.declared.iterator.scan.ScannedRecord.{ScannedRecord}
 use Rattle.sled_log.specs.Recovery.{Scanned, opens, open_at, stops_in}
-use Rattle.sled_log.proofs.Recovers.Rows.{Stand, stand_in, IsWhole, IsRow, met_stand, stop_inside}
+use Rattle.sled_core.proofs.Tail.Rows.{Stand, stand_in, IsWhole, IsRow, met_stand, stop_inside}
 
 -- where no record begins a batch that is open, none is
 pub none_open : (end : ℕ) (ms : List ScannedRecord) → ((x : ScannedRecord) → Contains ms x → opens end x.what ≡ false) → open_at end ms ≡ None

@@ -7,7 +7,8 @@ use Rattle.sled_core.specs.declared.iterator.Segment.{Segment}
 use Rattle.sled_core.specs.Recoverable.{IsRecoverableLog}
 use Rattle.sled_log.specs.Recovery.{Scanned, least_place}
 use Rattle.sled_log.proofs.Moments.FromCut.{EndsAtCut, IsOfCut, from_end, from_inside}
-use Rattle.sled_log.proofs.Moments.SegmentsFrom.{segments_from, scanned_from, of_segments, in_scanned, of_scanned, reads_from, ordering_from, lower_multiple}
+use Rattle.sled_core.proofs.Tail.SegmentsFrom.{segments_from, scanned_from, of_segments, in_scanned, of_scanned, reads_from, ordering_from}
+use Rattle.sled_core.proofs.Tail.Multiples.{lower_multiple}
 
 module _ (sum : List ℕ → ℕ) (size : ℕ) (log : List ℕ) (some : 256 ≤ size) (H : History) (A : ℕ) (first : SnapshotModel) (cut : ℕ × Option ℕ) (is : IsRecoverableLog sum size log H A first cut) where
   abbrev begins : ℕ

@@ -13,13 +13,15 @@ use Rattle.sled_core.specs.declared.iterator.scan.ScanEnd.{ScanEnd}
 use Rattle.sled_core.specs.declared.iterator.scan.ScanEnd.TheVariants.{Full, Capped, Broken}
 use Rattle.sled_core.specs.Recoverable.{IsOfHistory, IsSegmentOf, StandsInline, IsRecoverableLog, scanned_below, cut_over, cut_from}
 use Rattle.sled_log.specs.Recovery.{Scanned, IsScanned, IsOrdering, GoesOn, IsTail, AreScanned, tail_begins, tail_end, opens, open_at, stops_in, cut_of, least_place}
-use Rattle.sled_log.proofs.Recovers.OneTail.{in_below, from_below, segment_there, reading_there}
-use Rattle.sled_log.proofs.Recovers.PassCut.{put_down, some_is, known, further, whole, one_reading}
-use Rattle.sled_log.proofs.Recovers.Rows.{IsRow, IsWhole, row_ordered, row_below, row_whole, stop_inside, met_stand, stand_rises}
+use Rattle.sled_core.proofs.Tail.OneTail.{in_below, from_below, segment_there, reading_there}
+use Rattle.sled_core.proofs.Tail.Multiples.{put_down, next_multiple, lower_multiple}
+use Rattle.sled_core.proofs.Tail.Tails.{some_is}
+use Rattle.sled_log.proofs.Recovers.PassCut.{known, further, whole, one_reading}
+use Rattle.sled_core.proofs.Tail.Rows.{IsRow, IsWhole, row_ordered, row_below, row_whole, stop_inside, met_stand, stand_rises}
 use Rattle.sled_log.proofs.Moments.CutSegment.{IsCutSegment}
 use Rattle.sled_log.proofs.Moments.PassStops.{StopsHere, stops_at}
 use Rattle.sled_log.proofs.Moments.FromCut.{closed_of}
-use Rattle.sled_log.proofs.Moments.SegmentsFrom.{next_aligned, lower_multiple, tail_low}
+use Rattle.sled_core.proofs.Tail.SegmentsFrom.{tail_low}
 
 -- a batch that is open at a place is open at each lower one
 opens_lower : (end low : ℕ) (what : RecordContent) → low ≤ end → opens end what ≡ true → opens low what ≡ true
@@ -173,7 +175,7 @@ module _ (sum : List ℕ → ℕ) (size : ℕ) (log left : List ℕ) (some : 256
       on_from : IsTail sum size log is.ordering (place + size) (u ∷ us) → (x.why ≡ Broken → ⊥) → place < z.segment.place → Rest → EndsShort place
       on_from next unbroken under later =
           let far = further sum size log some H A first cut is place z.segment.place aligned (whole sum size log some H A first cut is z at.there).1 under in
-          let rest = later next (next_aligned size some place aligned) e is_end far high in
+          let rest = later next (next_multiple size place aligned) e is_end far high in
           let own = others x there (λ same. omega (arith, same, tail.1, under)) in
           (x ∷ rest.0, (tail.0, tail.1, own, goes_on x.why refl unbroken rest.0 rest.1), more_end x rest.0 stop rest.2)
 

@@ -22,12 +22,12 @@ use Rattle.sled_core.proofs.Torn.TornLemmas.{after_write}
 use Rattle.sled_core.proofs.Torn.ZeroedSlots.{header_stood, stood, path_stood}
 use Rattle.sled_core.proofs.Torn.ZeroedScans.{ReadsFirst, scan_left, scan_same, comes_on}
 use Rattle.sled_log.specs.Recovery.{IsOrdering, Scanned, IsScanned, AreScanned}
-use Rattle.sled_log.proofs.Recovers.OneReading.{one_scan}
-use Rattle.sled_log.proofs.Recovers.OneTail.{Rises, rises_of, segment_there, reading_there}
-use Rattle.sled_log.proofs.Recovers.Rows.{row_ordered, row_whole, met_stand, stand_rises, stop_inside}
+use Rattle.sled_core.proofs.Tail.OneReading.{one_scan}
+use Rattle.sled_core.proofs.Tail.OneTail.{Rises, rises_of, segment_there, reading_there}
+use Rattle.sled_core.proofs.Tail.Rows.{row_ordered, row_whole, met_stand, stand_rises, stop_inside}
 use Rattle.sled_log.proofs.Moments.BesideZeros.{beside, found_beside, needed_beside}
 use Rattle.sled_log.proofs.Moments.FromCut.{EndsAtCut, IsOfCut, from_end, from_inside}
-use Rattle.sled_log.proofs.Moments.SegmentsFrom.{ascends_of}
+use Rattle.sled_core.proofs.Tail.SegmentsFrom.{ascends_of}
 use Rattle.sled_log.proofs.Moments.ZeroedParts.{slot_index, found_before, scan_truth}
 
 -- of segments each of which begins below all later ones, those that are kept do so too

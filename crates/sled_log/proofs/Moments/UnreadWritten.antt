@@ -11,11 +11,11 @@ use Rattle.sled_core.specs.declared.iterator.scan.ScannedRecord.{ScannedRecord}
 use Rattle.sled_core.specs.Recoverable.{NoHeaderOfZeros, IsOfHistory, StandsInline, IsSegmentOf}
 use Rattle.sled_core.specs.Scan.{IsFoundSegment, IsScan}
 use Rattle.sled_log.specs.Recovery.{IsOrdering, Scanned, IsScanned, AreScanned}
-use Rattle.sled_log.proofs.Recovers.OneTail.{rises_of, segment_there}
-use Rattle.sled_log.proofs.Recovers.Rows.{IsWhole, row_ordered, row_whole, met_stand, stand_rises, stop_inside}
+use Rattle.sled_core.proofs.Tail.OneTail.{rises_of, segment_there}
+use Rattle.sled_core.proofs.Tail.Rows.{IsWhole, row_ordered, row_whole, met_stand, stand_rises, stop_inside}
 use Rattle.sled_log.proofs.Moments.BesideZeros.{needed_beside}
 use Rattle.sled_log.proofs.Moments.FromCut.{EndsAtCut, IsOfCut}
-use Rattle.sled_log.proofs.Moments.SegmentsFrom.{ascends_of}
+use Rattle.sled_core.proofs.Tail.SegmentsFrom.{ascends_of}
 use Rattle.sled_log.proofs.Moments.UnreadSlot.{rises_kept}
 use Rattle.sled_log.proofs.Moments.UnreadZeroed.{none_there, found_old, found_still}
 use Rattle.sled_log.proofs.Moments.ZerosStand.{leaves_new, no_more_than, slot_beside, end_same_there, path_there, truth_there}

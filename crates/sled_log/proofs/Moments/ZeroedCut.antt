@@ -25,10 +25,11 @@ use Rattle.sled_core.proofs.Torn.TornLemmas.{after_write}
 use Rattle.sled_core.proofs.Torn.ZeroedSlots.{grows, kept, stood, path_stood, path_stays}
 use Rattle.sled_core.proofs.Torn.ZeroedScans.{ReadsFirst, scan_left, comes_on}
 use Rattle.sled_log.specs.Recovery.{IsOrdering, Scanned, IsScanned, tail_end, least_place}
-use Rattle.sled_log.proofs.Recovers.OneReading.{path_begins, one_scan}
-use Rattle.sled_log.proofs.Recovers.OneTail.{segment_there}
-use Rattle.sled_log.proofs.Recovers.PassCut.{put_down, whole, one_reading}
-use Rattle.sled_log.proofs.Recovers.Rows.{Stand, stand_in, stand_rises, path_stands, met_stand, stop_inside}
+use Rattle.sled_core.proofs.Tail.OneReading.{path_begins, one_scan}
+use Rattle.sled_core.proofs.Tail.OneTail.{segment_there}
+use Rattle.sled_core.proofs.Tail.Multiples.{put_down}
+use Rattle.sled_log.proofs.Recovers.PassCut.{whole, one_reading}
+use Rattle.sled_core.proofs.Tail.Rows.{Stand, stand_in, stand_rises, path_stands, met_stand, stop_inside}
 use Rattle.sled_log.proofs.Moments.CutSegment.{IsCutSegment, cut_segment}
 use Rattle.sled_log.proofs.Moments.PassStops.{StopsHere}
 use Rattle.sled_log.proofs.Moments.ShortCut.{IsShort, all_kept, short_kept}

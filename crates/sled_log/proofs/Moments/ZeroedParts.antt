@@ -27,7 +27,7 @@ use Rattle.sled_core.proofs.Torn.TornLemmas.{after_write}
 use Rattle.sled_core.proofs.Torn.ZeroedSlots.{grows, kept, header_stood, same, reached_behind}
 use Rattle.sled_core.proofs.Torn.ZeroedScans.{scan_same}
 use Rattle.sled_log.specs.Recovery.{IsOrdering, Scanned, IsScanned}
-use Rattle.sled_log.proofs.Replay.LineLemmas.{apart}
+use Rattle.sled_core.proofs.Tail.Multiples.{apart}
 
 -- A slot begins at a multiple of the size.
 pub slot_index : (size slot : ℕ) → slot % size ≡ 0 → slot ≡ slot / size * size

@@ -26,11 +26,11 @@ use Rattle.sled_core.proofs.Torn.TornLemmas.{after_write}
 use Rattle.sled_core.proofs.Torn.TornRecords.{long_enough}
 use Rattle.sled_core.proofs.Torn.ZeroedSlots.{grows, kept, path_stays}
 use Rattle.sled_log.specs.Recovery.{IsOrdering, Scanned, IsScanned, tail_end, least_place}
-use Rattle.sled_log.proofs.Replay.LineLemmas.{apart}
-use Rattle.sled_log.proofs.Recovers.OneReading.{path_begins}
-use Rattle.sled_log.proofs.Recovers.OneTail.{segment_there}
+use Rattle.sled_core.proofs.Tail.Multiples.{apart}
+use Rattle.sled_core.proofs.Tail.OneReading.{path_begins}
+use Rattle.sled_core.proofs.Tail.OneTail.{segment_there}
 use Rattle.sled_log.proofs.Recovers.PassCut.{whole}
-use Rattle.sled_log.proofs.Recovers.Rows.{stand_in, stand_rises, path_stands, stop_inside}
+use Rattle.sled_core.proofs.Tail.Rows.{stand_in, stand_rises, path_stands, stop_inside}
 use Rattle.sled_log.proofs.Moments.CutSegment.{IsCutSegment}
 use Rattle.sled_log.proofs.Moments.PassStops.{StopsHere}
 use Rattle.sled_log.proofs.Moments.FromCut.{EndsAtCut}

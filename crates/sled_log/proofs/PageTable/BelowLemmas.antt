@@ -7,7 +7,7 @@ use Rattle.sled_codec.specs.History.{Message, History, CutFits, below}
 use Rattle.sled_codec.specs.Snapshots.{SnapshotModel, stable_place}
 use Rattle.sled_core.specs.Recoverable.{IsBegun, IsTableFile, first_cut, first_site}
 use Rattle.sled_core.specs.Running.{CanBegin}
-use Rattle.sled_log.proofs.PageTable.Ascending.{from_filter}
+use Rattle.sled_store.proofs.Histories.Ascending.{from_filter}
 use Rattle.sled_log.proofs.SnapshotFile.PublishLemmas.{listed_below, IsNewTable}
 use Rattle.sled_log.proofs.PageTable.TableCuts.{table_below, table_below_place}
 use Rattle.sled_core.proofs.Flush.LogFileLemmas.{stand_below}

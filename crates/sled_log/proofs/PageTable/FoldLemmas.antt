@@ -7,12 +7,12 @@ use Rattle.sled_codec.specs.History.{Message, History, begins_page, last_beginni
 use Rattle.sled_codec.specs.PageTables.{page_with, IsTable}
 use Rattle.sled_codec.specs.Snapshots.{Page, Uninitialized}
 use Rattle.sled_codec.specs.WellFormed.{IsWellFormed, MayFollow}
-use Rattle.sled_log.specs.Recovery.{applied, IsSublist, table_of}
-use Rattle.sled_log.proofs.PageTable.Ascending.{in_filter, from_filter, all_from_in, sublist_in, filter_sublist, Ascends, apart_ascends, sublist_ascends, filter_ascends, append_ascends}
-use Rattle.sled_log.proofs.PageTable.PageStates.{none_begins, begins_false, IsLast, last_found, same_state}
+use Rattle.sled_log.specs.Recovery.{applied, table_of}
+use Rattle.sled_store.proofs.Histories.Ascending.{IsSublist, in_filter, from_filter, all_from_in, sublist_in, filter_sublist, Ascends, apart_ascends, sublist_ascends, filter_ascends, append_ascends}
+use Rattle.sled_store.proofs.Histories.PageStates.{none_begins, begins_false, IsLast, last_found, same_state}
 use Rattle.sled_log.proofs.PageTable.PageRuns.{run, run-append, run_is}
 use Rattle.sled_log.proofs.PageTable.PageWise.{at_page, BatchStart, table_keeps, table_begins, table_since}
-use Rattle.sled_log.proofs.PageTable.TableParts.{in_page, from_page, page_ascends, state_from, from_table, last_in_state, split_at, has_page, page_stays, replaced_before}
+use Rattle.sled_store.proofs.Histories.TableParts.{in_page, from_page, page_ascends, state_from, from_table, last_in_state, split_at, has_page, page_stays, replaced_before}
 
 -- The messages L are a history's, lie at or above the place low and below cut, and have all entries of the table that lie there.
 module _ (H : History) (low cut : ℕ) (first : List Page) (L : List Message) (formed : IsWellFormed H) (le : low ≤ cut) (is : IsTable first H low) (sub : IsSublist L H.messages)

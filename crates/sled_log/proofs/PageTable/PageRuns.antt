@@ -12,8 +12,8 @@ use Rattle.sled_codec.specs.History.{Message, begins_page, is_replace, is_link, 
 use Rattle.sled_codec.specs.PageTables.{entry_of, page_with}
 use Rattle.sled_codec.specs.Snapshots.{Entry, Page, Present, Free, Uninitialized}
 use Rattle.sled_log.specs.Recovery.{last_entry, linked}
-use Rattle.sled_log.proofs.PageTable.Ascending.{Ascends, later_above}
-use Rattle.sled_log.proofs.PageTable.PageStates.{none_begins, IsLast, last_found}
+use Rattle.sled_store.proofs.Histories.Ascending.{Ascends, later_above}
+use Rattle.sled_store.proofs.Histories.PageStates.{none_begins, IsLast, last_found}
 
 -- what a message makes of its page
 abbrev pub turned : LogKind → Entry → Page → Page

@@ -9,7 +9,7 @@ use Rattle.sled_codec.specs.History.{Message, begins_page}
 use Rattle.sled_codec.specs.PageTables.{entry_of}
 use Rattle.sled_codec.specs.Snapshots.{Entry, Page, Present, Free, Uninitialized}
 use Rattle.sled_log.specs.Recovery.{applied, grown, linked, table_with, table_of}
-use Rattle.sled_log.proofs.PageTable.Ascending.{in_first, in_rest, in_cases, in_nothing}
+use Rattle.sled_store.proofs.Histories.Ascending.{in_first, in_rest, in_cases, in_nothing}
 use Rattle.sled_log.proofs.PageTable.PageRuns.{turned, run}
 
 -- A table that grows.

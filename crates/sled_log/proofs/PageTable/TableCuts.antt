@@ -6,7 +6,7 @@ use Rattle.std.proofs.lemmas.List.Elements.{filter-append}
 use Rattle.sled_codec.specs.History.{Message, History, no_history, page_state, of_page, table, HasPage, below, AddsMessage}
 use Rattle.sled_codec.specs.PageTables.{page_with, IsTable}
 use Rattle.sled_codec.specs.Snapshots.{Page}
-use Rattle.sled_log.proofs.PageTable.Ascending.{none_kept, all_from_in}
+use Rattle.sled_store.proofs.Histories.Ascending.{none_kept, all_from_in}
 use Rattle.sled_core.proofs.Start.FreshLemmas.{no_pages}
 
 -- Two histories with the same messages of each page below a cut have one table there.

@@ -9,7 +9,7 @@ use Rattle.sled_codec.specs.PageTables.{entry_of, page_with, IsTable}
 use Rattle.sled_codec.specs.Snapshots.{Page, Present, Free, Uninitialized}
 use Rattle.sled_log.specs.Orderly.{IsOrderly}
 use Rattle.sled_log.specs.Recovery.{applied, has_no_table, is_whole_page, are_whole}
-use Rattle.sled_log.proofs.PageTable.PageStates.{none_begins, begins_false}
+use Rattle.sled_store.proofs.Histories.PageStates.{none_begins, begins_false}
 
 -- messages of pages that a table can have
 pub have_tables : (ms : List Message) → All (λ m. m.page ≢ 2 ^ 64 - 1) ms → has_no_table (map applied ms) ≡ false

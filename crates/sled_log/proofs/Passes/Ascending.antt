@@ -9,7 +9,8 @@ use Rattle.std.proofs.lemmas.List.Sorted.{IsNonDecreasingBy-from_all_adjacent}
 use Rattle.sled_core.specs.declared.iterator.Segment.{Segment}
 use Rattle.sled_store.proofs.Segments.Elements.{in_cases, all_from_in}
 use Rattle.sled_log.specs.Recovery.{begun_below, is_ascending}
-use Rattle.sled_log.proofs.Replay.LineLemmas.{apart, both}
+use Rattle.sled_core.proofs.Tail.Multiples.{apart}
+use Rattle.sled_log.proofs.Replay.LineLemmas.{both}
 use Rattle.sled_log.proofs.Passes.Joined.{begun_append}
 
 -- the first one begins below the second one, and the rest is in order

@@ -2,7 +2,7 @@
 use Rattle.std.proofs.Common.{◌≡◌, ◌∙◌, ◌+◌, ◌<◌, ℕ, List, ◌∷◌, length, drop, get_or, sym, ap, subst, ⊎_elim, add-one}
 use Rattle.std.specs.List.{Contains}
 use Rattle.std.proofs.Math.Seq.{drop-cons}
-use Rattle.sled_log.proofs.PageTable.Ascending.{in_cases}
+use Rattle.sled_store.proofs.Histories.Ascending.{in_cases}
 
 -- the element at an index, and those behind it
 pub behind : {X : Type 0} (xs : List X) (i : ℕ) (d : X) → i < length xs → drop i xs ≡ get_or xs i d ∷ drop (i + 1) xs

@@ -10,7 +10,8 @@ use Rattle.sled_store.proofs.Segments.Elements.{in_cases, in_nothing}
 use Rattle.sled_log.specs.declared.snapshot.pass.Pass.{Pass}
 use Rattle.sled_log.specs.Recovery.{Scanned, StopsOrGoesOn, AreReplayed, before_open, open_at, passed_in, passed_all, NamesKind, MeetsBadBlob, HaveGoodBlobs, resolved_scan, resolved_before}
 use Rattle.sled_log.specs.Passes.{IsPass, pass_of, OpensLast, MeetsBadPass}
-use Rattle.sled_log.proofs.Replay.BlobLemmas.{all_before_open, bad_behind, bad_first, bad_cases}
+use Rattle.sled_core.proofs.Tail.Rows.{all_before_open}
+use Rattle.sled_log.proofs.Replay.BlobLemmas.{bad_behind, bad_first, bad_cases}
 use Rattle.sled_log.proofs.Replay.LookLemmas.{all_with_blobs, path_kinds, bad_still, written}
 
 abbrev pub HasKinds : Pass → Type 0

@@ -8,9 +8,10 @@ use Rattle.sled_core.specs.declared.iterator.Segment.{Segment}
 use Rattle.sled_core.specs.declared.iterator.scan.ScanEnd.TheVariants.{Broken}
 use Rattle.sled_core.specs.Recoverable.{ActiveFits, IsRecoverableLog}
 use Rattle.sled_log.specs.Recovery.{Scanned, least_place}
-use Rattle.sled_log.proofs.Recovers.Tails.{put_down, further}
+use Rattle.sled_core.proofs.Tail.Multiples.{put_down}
+use Rattle.sled_core.proofs.Tail.Tails.{further}
 use Rattle.sled_log.proofs.Moments.CutSegment.{cut_segment, ends_segment}
-use Rattle.sled_log.proofs.Reached.StandsTo.{StandsTo}
+use Rattle.sled_core.proofs.Reached.StandsTo.{StandsTo}
 
 module _ (sum : List ℕ → ℕ) (size : ℕ) (log : List ℕ) (some : 256 ≤ size) (H : History) (A : ℕ) (next : SnapshotModel) (cut : ℕ × Option ℕ) (is : IsRecoverableLog sum size log H A next cut)
     (place : stable_place next.stable ≡ cut.0) (active : ActiveFits size (stable_place next.stable) next.active)

@@ -9,9 +9,10 @@ use Rattle.sled_core.specs.Recoverable.{ActiveFits, IsRecoverableLog, scanned_be
 use Rattle.sled_core.proofs.Read.ScanLemmas.{aligned_offset}
 use Rattle.sled_log.specs.Recovery.{Scanned, tail_end, is_filled, cut_of}
 use Rattle.sled_log.proofs.Recovers.LeftOut.{none_begins}
-use Rattle.sled_log.proofs.Recovers.OneTail.{segment_there}
-use Rattle.sled_log.proofs.Recovers.PassCut.{put_down, next_multiple, whole, stop, cut_is, stopped, last_known, last_place}
-use Rattle.sled_log.proofs.Recovers.Rows.{stand_in, stand_rises, met_stand}
+use Rattle.sled_core.proofs.Tail.OneTail.{segment_there}
+use Rattle.sled_core.proofs.Tail.Multiples.{put_down, next_multiple}
+use Rattle.sled_log.proofs.Recovers.PassCut.{whole, stop, cut_is, stopped, last_known, last_place}
+use Rattle.sled_core.proofs.Tail.Rows.{stand_in, stand_rises, met_stand}
 
 -- the cut is the end of a segment that has no room left, with no slot, or where the pass stopped, with the slot of that segment
 cut_whole : (size : ℕ) (at : Segment × ℕ) → (cut_of size at ≡ (at.0.place + size, None)) ⊎ ((cut_of size at ≡ (at.1, Some at.0.slot)) × (at.1 + 32 ≤ at.0.place + size))

@@ -14,12 +14,14 @@ use Rattle.sled_core.specs.declared.iterator.scan.ScanEnd.TheVariants.{Full, Cap
 use Rattle.sled_core.specs.Scan.{IsEnd}
 use Rattle.sled_core.specs.Recoverable.{BeginsInSegment, IsOfHistory, IsRecoverableLog, scanned_below}
 use Rattle.sled_log.specs.Recovery.{Scanned, cut_of, tail_begins, tail_end, opens, open_at, least_place}
-use Rattle.sled_log.proofs.PageTable.Ascending.{Ascends, one_at_place}
-use Rattle.sled_log.proofs.Recovers.Covered.{PassEnds, IsCovered, covered}
-use Rattle.sled_log.proofs.Recovers.OfHistory.{closed_is, opened_of, batch_of, message_of}
-use Rattle.sled_log.proofs.Recovers.PassCut.{further, known, whole, tail_has, put_down, passed, stop, cut_place, stopped, last_known, last_place, stop_below, cut_bounds, no_higher, passed_stands, met_below, ends_below, end_passed}
+use Rattle.sled_store.proofs.Histories.Ascending.{Ascends, one_at_place}
+use Rattle.sled_core.proofs.Tail.Covered.{PassEnds, IsCovered, covered}
+use Rattle.sled_core.proofs.Tail.OfHistory.{closed_is, opened_of, batch_of, message_of}
+use Rattle.sled_log.proofs.Recovers.PassCut.{further, known, whole, tail_has, passed, stop, cut_place, stopped, last_known, last_place, stop_below, cut_bounds, no_higher, passed_stands, met_below, ends_below, end_passed}
+use Rattle.sled_core.proofs.Tail.Multiples.{put_down}
 use Rattle.sled_log.proofs.Recovers.TailBegins.{begins_at, begins_low, ends_before}
-use Rattle.sled_log.proofs.Recovers.Rows.{IsStopIn, stand_in, end_there, covers, cut_cases, passed_closed}
+use Rattle.sled_core.proofs.Tail.Rows.{IsStopIn, stand_in, end_there, covers, cut_cases}
+use Rattle.sled_log.proofs.Recovers.PassedRows.{passed_closed}
 
 module _ (sum : List ℕ → ℕ) (size : ℕ) (log : List ℕ) (some : 256 ≤ size) (H : History) (A : ℕ) (first : SnapshotModel) (cut : ℕ × Option ℕ) (is : IsRecoverableLog sum size log H A first cut)
     (ordered : Ascends H.messages) (fits : CutFits H (stable_place first.stable)) where

@@ -10,7 +10,8 @@ use Rattle.sled_core.specs.Recoverable.{IsRecoverableLog, AreRecoverableBlobs, s
 use Rattle.sled_log.specs.Recovery.{Scanned, tail_end, begun_below, StopsOrGoesOn, AreReplayed, open_at, stops_in, slots_of}
 use Rattle.sled_log.proofs.Recovers.ActiveSlot.{behind_header}
 use Rattle.sled_log.proofs.Recovers.LeftOut.{tail_empty}
-use Rattle.sled_log.proofs.Recovers.OneTail.{Rises, rises_of, scans_below, IsSamePass, same_pass}
+use Rattle.sled_core.proofs.Tail.OneTail.{Rises, rises_of, scans_below}
+use Rattle.sled_log.proofs.Recovers.OnePass.{IsSamePass, same_pass}
 use Rattle.sled_log.proofs.Recovers.PassCut.{last_place, cut_bounds}
 use Rattle.sled_log.proofs.Recovers.Undamaged.{ReadsNone, left_of}
 

@@ -9,9 +9,11 @@ use Rattle.sled_store.proofs.Segments.Elements.{in_first, in_rest, in_cases, in_
 use Rattle.sled_core.specs.declared.iterator.Segment.{Segment}
 use Rattle.sled_core.specs.Recoverable.{IsRecoverableLog, AreRecoverableBlobs, scanned_below}
 use Rattle.sled_log.specs.Recovery.{Scanned, IsTail, tail_begins, tail_end, begun_below, AreScanned, IsReplayed, StopsOrGoesOn, AreReplayed, open_at, stops_in, slots_of, least_place}
-use Rattle.sled_log.proofs.Recovers.OneTail.{Rises, rises_of, place_aligned, begins_alike, in_below}
-use Rattle.sled_log.proofs.Recovers.PassCut.{put_down, further, whole, row, tail_last, own_row, in_pass, stopped, last_known, last_place, cut_bounds}
-use Rattle.sled_log.proofs.Recovers.Rows.{IsRow, stand_rises, met_stand}
+use Rattle.sled_core.proofs.Tail.OneTail.{Rises, rises_of, place_aligned, in_below}
+use Rattle.sled_log.proofs.Recovers.OnePass.{begins_alike}
+use Rattle.sled_core.proofs.Tail.Multiples.{put_down}
+use Rattle.sled_log.proofs.Recovers.PassCut.{further, whole, row, tail_last, own_row, in_pass, stopped, last_known, last_place, cut_bounds}
+use Rattle.sled_core.proofs.Tail.Rows.{IsRow, stand_rises, met_stand}
 use Rattle.sled_log.proofs.Recovers.Undamaged.{ReadsNone}
 
 in_drop : {X : Type 0} (n : ℕ) (xs : List X) (y : X) → Contains (drop n xs) y → Contains xs y

@@ -12,12 +12,14 @@ use Rattle.sled_core.specs.declared.iterator.scan.ScanEnd.TheVariants.{Full, Cap
 use Rattle.sled_core.specs.Scan.{IsScan}
 use Rattle.sled_core.specs.Recoverable.{IsRecoverableLog, IsSegmentOf, MeetsMessage, scanned_below, cut_over, cut_from}
 use Rattle.sled_log.specs.Recovery.{Scanned, IsScanned, GoesOn, IsTail, tail_begins, tail_end, open_at, passed_in, stops_in, cut_of, least_place}
-use Rattle.sled_log.proofs.Replay.LineLemmas.{apart}
-use Rattle.sled_log.proofs.Recovers.OneReading.{one_scan, met_there}
-use Rattle.sled_log.proofs.Recovers.OneTail.{Rises, rises_of, one_at_place, scan_there, segment_there, reading_there, in_below, from_below}
-pub use Rattle.sled_log.proofs.Recovers.Tails.{some_is, put_down, next_multiple}
-use Rattle.sled_log.proofs.Recovers.Tails as tails
-use Rattle.sled_log.proofs.Recovers.Rows.{Stand, stand_in, stand_rises, IsWhole, IsRow, row_ordered, row_below, row_whole, met_stand, stop_inside, cut_cases, IsStopIn, stop_in, passed_stand, passed_has}
+use Rattle.sled_core.proofs.Tail.Multiples.{apart}
+use Rattle.sled_core.proofs.Tail.OneReading.{one_scan, met_there}
+use Rattle.sled_core.proofs.Tail.OneTail.{Rises, rises_of, one_at_place, scan_there, segment_there, reading_there, in_below, from_below}
+pub use Rattle.sled_core.proofs.Tail.Tails.{some_is}
+pub use Rattle.sled_core.proofs.Tail.Multiples.{put_down, next_multiple}
+use Rattle.sled_core.proofs.Tail.Tails as tails
+use Rattle.sled_core.proofs.Tail.Rows.{Stand, stand_in, stand_rises, IsWhole, IsRow, row_ordered, row_below, row_whole, met_stand, stop_inside, cut_cases, IsStopIn, stop_in}
+use Rattle.sled_log.proofs.Recovers.PassedRows.{passed_stand, passed_has}
 
 module _ (sum : List ℕ → ℕ) (size : ℕ) (log : List ℕ) (some : 256 ≤ size) (H : History) (A : ℕ) (first : SnapshotModel) (cut : ℕ × Option ℕ) (is : IsRecoverableLog sum size log H A first cut) where
   rises : Rises is.ordering

@@ -10,8 +10,8 @@ use Rattle.sled_store.proofs.Segments.TableEntries.{from_table}
 use Rattle.sled_core.specs.declared.iterator.scan.ScannedRecord.{ScannedRecord}
 use Rattle.sled_core.specs.Recoverable.{IsRecoverableLog, AreRecoverableBlobs, scanned_below}
 use Rattle.sled_log.specs.Orderly.{IsOrderly}
-use Rattle.sled_log.specs.Recovery.{Scanned, Applied, tail_end, given, resolved, table_of, has_no_table, IsSublist}
-use Rattle.sled_log.proofs.PageTable.Ascending.{Ascends, apart_ascends}
+use Rattle.sled_log.specs.Recovery.{Scanned, Applied, tail_end, given, resolved, table_of, has_no_table}
+use Rattle.sled_store.proofs.Histories.Ascending.{IsSublist, Ascends, apart_ascends}
 use Rattle.sled_log.proofs.PageTable.FoldLemmas.{fold}
 use Rattle.sled_log.proofs.PageTable.WholeTables.{have_tables}
 use Rattle.sled_log.proofs.Recovers.PassCut.{entry_met, passed, stop, cut_bounds, passed_stands, met_below}

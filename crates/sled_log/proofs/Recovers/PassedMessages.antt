@@ -17,9 +17,9 @@ use Rattle.sled_core.specs.declared.iterator.scan.RecordContent.TheVariants.{Giv
 use Rattle.sled_core.specs.Recoverable.{HasItem, NamesBlobOf, MeetsMessage, IsOfHistory}
 use Rattle.sled_core.proofs.Read.PathLemmas.{back_if}
 use Rattle.sled_store.proofs.Segments.Elements.{in_first, in_rest, in_cases, in_nothing, all_from_in}
-use Rattle.sled_log.specs.Recovery.{Applied, applied, applied_of, given, resolved, with_blob, IsSublist}
-use Rattle.sled_log.proofs.PageTable.Ascending.{Ascends, later_above, one_at_place}
-use Rattle.sled_log.proofs.Recovers.Rows.{Stand, stand_in}
+use Rattle.sled_log.specs.Recovery.{Applied, applied, applied_of, given, resolved, with_blob}
+use Rattle.sled_store.proofs.Histories.Ascending.{IsSublist, Ascends, later_above, one_at_place}
+use Rattle.sled_core.proofs.Tail.Rows.{Stand, stand_in}
 
 -- the kind of a message with a blob says what it does
 blob_kind_back : (does_it : LogKind) (page : ℕ) (k : MessageKind) → kind_written does_it page true ≡ Some k → log_kind_of k ≡ does_it

@@ -11,8 +11,9 @@ use Rattle.sled_core.specs.Recoverable.{IsOfHistory, IsRecoverableLog, AreRecove
 use Rattle.sled_store.proofs.Segments.Elements.{in_first, in_rest, in_cases, in_nothing}
 use Rattle.sled_log.specs.Recovery.{IsUnordered, Scanned, IsScanned, tail_begins, tail_end, begun_below, opens, before_open, open_at, stops_in, cut_of, least_place, AreReplayed, HasBadBlob, MeetsBadBlob, resolved, resolved_scan, given, passed_in, Outcome, Recovered, concluded, unchanged, outcome_of, IsDamagedTail, IsDamagedPass, PassesOver, slots_of, Passes, Replays, ContinuesFrom}
 use Rattle.sled_log.proofs.Replay.BlobLemmas.{open_resolved, stops_resolved, passed_resolved}
-use Rattle.sled_log.proofs.Recovers.OneReading.{scan_undamaged}
-use Rattle.sled_log.proofs.Recovers.OneTail.{Rises, rises_of, one_at_place, one_ordering, one_tail, scan_there, reading_there, scans_below, from_below, IsSamePass, same_pass}
+use Rattle.sled_core.proofs.Tail.OneReading.{scan_undamaged}
+use Rattle.sled_core.proofs.Tail.OneTail.{Rises, rises_of, one_at_place, one_ordering, one_tail, scan_there, reading_there, scans_below, from_below}
+use Rattle.sled_log.proofs.Recovers.OnePass.{IsSamePass, same_pass}
 
 -- What a pass meets stands in one of its segments.
 

@@ -8,16 +8,9 @@ use Rattle.sled_core.specs.declared.iterator.scan.ScannedRecord.{ScannedRecord}
 use Rattle.sled_core.specs.declared.iterator.scan.RecordContent.{RecordContent}
 use Rattle.sled_core.specs.declared.iterator.scan.RecordContent.TheVariants.{Gives, NamesBlob, Skipped, BatchStart}
 use Rattle.sled_core.proofs.Read.PathLemmas.{met_of}
+use Rattle.sled_core.proofs.Tail.Rows.{all_before_open}
 use Rattle.sled_log.specs.Recovery.{Scanned, opens, before_open, open_at, stops_in, passed_in, cut_of, HasBadBlob, MeetsBadBlob, HaveGoodBlobs, with_blob, resolved, resolved_before, resolved_scan}
 use Rattle.sled_log.proofs.Replay.LineLemmas.{LieBelow, IsLine, all_below}
-
--- where no batch is open all is met before one
-pub all_before_open : (end : ℕ) (ms : List ScannedRecord) → open_at end ms ≡ None → before_open end ms ≡ ms
-all_before_open end [] none = refl
-all_before_open end (m ∷ ms) none = by_test (opens end m.what) none (all_before_open end ms) where
-  by_test : (b : Bool) → (if b then Some m.place else open_at end ms) ≡ None → (open_at end ms ≡ None → before_open end ms ≡ ms) → (if b then [] else m ∷ before_open end ms) ≡ m ∷ ms
-  by_test true is rest = absurd (cc)
-  by_test false is rest = ap (λ (l : List ScannedRecord). m ∷ l) (rest is)
 
 module _ (blobs : ℤ → Option (List ℕ)) (end : ℕ) where
   -- a record with its blob begins a batch where it did

@@ -24,7 +24,7 @@ use Rattle.sled_log.proofs.SnapshotFile.NewestLemmas.{chosen_well}
 use Rattle.sled_log.proofs.Replay.OneSegment.{given_messages}
 use Rattle.sled_log.proofs.Replay.OnlySegment.{IsOnlySegment, segment, own_below, none_above}
 use Rattle.sled_log.proofs.Replay.SegmentRecovers.{continues_from, stays_at, messages, given_is, comes, concludes}
-use Rattle.sled_log.proofs.PageTable.Ascending.{in_nothing, none_kept}
+use Rattle.sled_store.proofs.Histories.Ascending.{in_nothing, none_kept}
 
 -- the cut and the active slot, by whether the segment is filled
 abbrev cut_by : ℕ → ℕ → Bool → ℕ × Option ℕ

@@ -7,6 +7,8 @@ use Rattle.sled_core.specs.declared.iterator.scan.ScannedRecord.{ScannedRecord}
 use Rattle.sled_core.specs.declared.iterator.Segment.{Segment}
 use Rattle.sled_core.specs.Scan.{IsPath}
 use Rattle.sled_core.proofs.Read.ScanLemmas.{met_fits, aligned_offset}
+use Rattle.sled_core.proofs.Tail.Multiples.{apart}
+use Rattle.sled_core.proofs.Tail.Rows.{path_within}
 use Rattle.sled_log.specs.Recovery.{Scanned, StopsOrGoesOn, AreReplayed, is_ascending, begun_below, opens, before_open, open_at, passed_in, stops_in, given, applied_of, is_filled, cut_of}
 
 -- all of these lie below a place
@@ -58,14 +60,6 @@ module _ (sum : List ℕ → ℕ) (size : ℕ) (log : List ℕ) (slot place : �
           let rest = further is in
           let fits = met_fits sum size log (slot + at) (place / size) m path.2 in
           (omega (arith, rest.0), rest.1, (omega (arith, path.1, rest.0, fits.0), rest.2))
-
-  pub path_within : slot % size ≡ 0 → (at : ℕ) (ms : List ScannedRecord) (next : ℕ) → at ≤ size → IsPath sum size log slot place at ms next → next ≤ size
-  path_within aligned at [] next le path = omega (arith, le, path)
-  path_within aligned at (m ∷ ms) next le path =
-      let room = path.0 in
-      let offset = aligned_offset slot at size aligned (omega (arith, room)) in
-      let fits = met_fits sum size log (slot + at) (place / size) m path.2 in
-      path_within aligned (at + m.len) ms next (omega (arith, offset, fits.1)) path.3
 
 -- Segments that were read, one behind another.
 module _ (sum : List ℕ → ℕ) (size : ℕ) (log : List ℕ) (large : 20 ≤ size) where
@@ -185,15 +179,6 @@ module _ (size : ℕ) (some : 0 < size) where
       by_test true rest = (chain.0, above_begun s.place end ss chain.1, rest)
       by_test false rest = rest
 
-  -- two multiples of the size are that far apart
-  pub apart : (a b : ℕ) → a % size ≡ 0 → b % size ≡ 0 → a < b → a + size ≤ b
-  apart a b at_a at_b less =
-      let whole_a : a ≡ a / size * size = omega (arith, mod-add-div' a size, at_a) in
-      let whole_b : b ≡ b / size * size = omega (arith, mod-add-div' b size, at_b) in
-      let fewer : b / size ≤ a / size → ⊥ = λ (le : b / size ≤ a / size). omega (arith, mul-le-mul_right size le, whole_a, whole_b, less) in
-      let one_more : suc (a / size) ≤ b / size = omega (arith, fewer) in
-      omega (arith, mul-le-mul_right size one_more, whole_a, whole_b, suc-mul (a / size) size)
-
   -- and each was read by the pass
   module _ (sum : List ℕ → ℕ) (log : List ℕ) (large : 20 ≤ size) (end : ℕ) where
     -- a segment before those
@@ -202,7 +187,7 @@ module _ (size : ℕ) (some : 0 < size) where
     line_before s ss x [] chain is read on line = read
     line_before s [] x (y ∷ ys) chain is read on line = absurd on
     line_before s (t ∷ ts) x (y ∷ ys) chain is read on line =
-        let far = apart s.place t.place chain.0.0 chain.2.0.0 chain.1.0 in
+        let far = apart size some s.place t.place chain.0.0 chain.2.0.0 chain.1.0 in
         let at_s : x.segment.place ≡ s.place = ap (λ (z : Segment). z.place) is in
         let at_t : y.segment.place ≡ t.place = ap (λ (z : Segment). z.place) on.0 in
         (read, omega (arith, far, at_s, at_t), line)

@@ -9,11 +9,10 @@ use Rattle.sled_codec.specs.PageTables.{IsTable}
 use Rattle.sled_codec.specs.Snapshots.{Page}
 use Rattle.sled_codec.specs.WellFormed.{LieApart, ChangesPage, HasReplace, MayFollow}
 use Rattle.sled_log.specs.Orderly.{IsOrderly}
-use Rattle.sled_log.specs.Recovery.{IsSublist}
+use Rattle.sled_store.proofs.Histories.Ascending.{IsSublist, in_first, in_rest, in_cases, in_nothing, in_filter, from_filter, all_from_in, sublist_in, filter_sublist, Ascends, apart_ascends, later_above}
 use Rattle.sled_log.specs.RunPhases.{HasBelow, IsOfReplaces, MayCome, HasMessageOf}
-use Rattle.sled_log.proofs.PageTable.Ascending.{in_first, in_rest, in_cases, in_nothing, in_filter, from_filter, all_from_in, sublist_in, filter_sublist, Ascends, apart_ascends, later_above}
 use Rattle.sled_log.proofs.PageTable.PageRuns.{links_behind}
-use Rattle.sled_log.proofs.PageTable.TableParts.{from_page}
+use Rattle.sled_store.proofs.Histories.TableParts.{from_page}
 
 -- A history of Replaces.
 

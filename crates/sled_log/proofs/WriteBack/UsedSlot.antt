@@ -10,9 +10,9 @@ use Rattle.sled_codec.specs.PageTables.{entry_of, page_with, IsTable}
 use Rattle.sled_codec.specs.Snapshots.{Entry, Page, Present, Free, Uninitialized}
 use Rattle.sled_codec.specs.WellFormed.{IsWellFormed}
 use Rattle.sled_store.specs.Begin.{entries_in, entries_of, slot_of}
-use Rattle.sled_log.proofs.PageTable.Ascending.{Ascends, apart_ascends}
-use Rattle.sled_log.proofs.PageTable.PageStates.{none_begins, begins_false, last_found}
-use Rattle.sled_log.proofs.PageTable.TableParts.{split_at, from_page, page_ascends, has_page, replaced_before}
+use Rattle.sled_store.proofs.Histories.Ascending.{Ascends, apart_ascends}
+use Rattle.sled_store.proofs.Histories.PageStates.{none_begins, begins_false, last_found}
+use Rattle.sled_store.proofs.Histories.TableParts.{split_at, from_page, page_ascends, has_page, replaced_before}
 
 module _ (test : Entry → Bool) where
   -- an entry that passes is found in the page that has it

@@ -2,7 +2,7 @@ use Rattle.std.proofs.Common.{◌∙◌, pos, ap, subst}
 use Rattle.std.specs.List.{Contains}
 use Rattle.std.proofs.lemmas.List.{drop_all}
 use Rattle.sled_core.specs.declared.iterator.Segment.{Segment}
-use Rattle.sled_log.proofs.PageTable.Ascending.{in_nothing}
+use Rattle.sled_store.proofs.Histories.Ascending.{in_nothing}
 use Rattle.sled_log.proofs.Passes.Behind.{left_behind}
 use Rattle.sled_log.proofs.snapshot.reference.segment_at.Goals as goal
 

@@ -19,7 +19,7 @@ use Rattle.sled_core.specs.Scan.{Says, IsMet, IsPath, IsEnd, EndsThere, IsScan, 
 use Rattle.sled_core.proofs.Read.GivesLemmas.{one_header, one_body, one_len, blob_apart}
 use Rattle.sled_core.proofs.Read.PathLemmas.{not_inline}
 use Rattle.sled_core.proofs.Read.ScanLemmas.{one_more}
-use Rattle.sled_log.specs.Recovery.{Scanned, IsScanned}
+use Rattle.sled_core.specs.Tail.{Scanned, IsScanned}
 
 -- eight bytes spell one number
 one_signed : (text : List ℕ) (x y : ℤ) → SpellsSigned text x → SpellsSigned text y → x ≡ y

@@ -7,8 +7,8 @@ use Rattle.sled_core.specs.declared.iterator.scan.ScannedRecord.{ScannedRecord}
 use Rattle.sled_core.specs.declared.iterator.scan.RecordContent.{RecordContent}
 use Rattle.sled_core.specs.declared.iterator.scan.RecordContent.TheVariants.{BatchStart}
 use Rattle.sled_core.specs.Recoverable.{MeetsMessage, StandsInline, IsOfHistory}
-use Rattle.sled_log.specs.Recovery.{opens}
-use Rattle.sled_log.proofs.PageTable.Ascending.{Ascends, one_at_place}
+use Rattle.sled_core.specs.Tail.{opens}
+use Rattle.sled_store.proofs.Histories.Ascending.{Ascends, one_at_place}
 
 -- a batch that is open is one
 open_is : (end : ℕ) (what : RecordContent) (peg : ℕ) → opens end what ≡ true → what ≡ BatchStart (pos peg) → end ≤ peg

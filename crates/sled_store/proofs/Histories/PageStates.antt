@@ -4,7 +4,7 @@ use Rattle.std.specs.List.{All, Contains, filter}
 use Rattle.std.proofs.lemmas.Bool.{false≢true}
 use Rattle.std.proofs.lemmas.List.Elements.{All-nil, All-cons, All-contains}
 use Rattle.sled_codec.specs.History.{Message, begins_page, is_replace, is_link, later_or, last_beginning, entries_from, page_state}
-use Rattle.sled_log.proofs.PageTable.Ascending.{in_first, in_rest, in_cases, in_filter, from_filter, all_from_in, Ascends, later_above, filter_ascends, one_at_place, same_messages}
+use Rattle.sled_store.proofs.Histories.Ascending.{in_first, in_rest, in_cases, in_filter, from_filter, all_from_in, Ascends, later_above, filter_ascends, one_at_place, same_messages}
 
 -- where no last beginning is found, no message begins the page
 pub none_begins : (ms : List Message) → last_beginning ms ≡ None → All (λ m. begins_page m.kind ≡ false) ms

@@ -9,11 +9,10 @@ use Rattle.sled_store.proofs.Segments.Elements.{in_first, in_rest, in_cases, in_
 use Rattle.sled_core.specs.declared.iterator.Segment.{Segment}
 use Rattle.sled_core.specs.Recoverable.{IsMarkBelow}
 use Rattle.sled_core.proofs.Read.FoundLemmas.{pos_injective}
-use Rattle.sled_log.specs.Recovery.{is_ascending, IsOrdering, Scanned, AreScanned, IsTail, greatest_mark, tail_begins}
-use Rattle.sled_log.proofs.Replay.LineLemmas.{apart}
-use Rattle.sled_log.proofs.Recovers.TailBegins.{greatest_is, mark_below}
-use Rattle.sled_log.proofs.Recovers.OneTail.{Rises, rises_of}
-use Rattle.sled_log.proofs.Recovers.PassCut.{put_down}
+use Rattle.sled_core.specs.Tail.{is_ascending, IsOrdering, Scanned, AreScanned, IsTail, greatest_mark, tail_begins}
+use Rattle.sled_core.proofs.Tail.Multiples.{apart, put_down, one_multiple, raised_within}
+use Rattle.sled_core.proofs.Tail.GreatestMark.{greatest_is, mark_below}
+use Rattle.sled_core.proofs.Tail.OneTail.{Rises, rises_of}
 
 -- those that begin no lower than a place
 abbrev pub segments_from : ℕ → List Segment → List Segment
@@ -80,47 +79,6 @@ greatest_above least [] = omega arith
 greatest_above least (s ∷ ss) = let rest = greatest_above least ss in omega (arith, rest)
 
 module _ (size : ℕ) (some : 256 ≤ size) where
-  -- of the multiples of the size one lies at most a size below a place
-  pub one_multiple : (z n : ℕ) → z % size ≡ 0 → z ≤ n → n < z + size → n / size * size ≡ z
-  one_multiple z n aligned low high =
-      let parts = put_down size n in
-      let inside : n % size < size = omega (arith, some) in
-      elim (cases_order (n / size * size) z) [
-        | inl same ↦ same
-        | inr (inl under) ↦ (let far = apart size (omega (arith, some)) (n / size * size) z parts.1 aligned under in absurd (omega (arith, far, parts.0, inside, low)))
-        | inr (inr over) ↦ (let far = apart size (omega (arith, some)) z (n / size * size) aligned parts.1 over in absurd (omega (arith, far, parts.0, high)))
-      ]
-
-  -- a multiple of the size and the size are one
-  pub next_aligned : (z : ℕ) → z % size ≡ 0 → (z + size) % size ≡ 0
-  next_aligned z aligned =
-      let whole : z + size ≡ suc (z / size) * size = omega (arith, mod-add-div' z size, aligned, suc-mul (z / size) size) in
-      ap (λ n. n % size) whole ∙ mul-mod_left (suc (z / size)) size
-
-  -- a place isn't raised above the end of its segment
-  raised_within : (cut : ℕ) → raised size cut ≤ cut / size * size + size
-  raised_within cut =
-      let top = put_down size (cut + (size - 1)) in
-      let low = put_down size cut in
-      let inside : cut % size < size = omega (arith, some) in
-      elim (cases_lt (cut / size * size + size) (raised size cut)) [
-        | inl over ↦ (
-            let far = apart size (omega (arith, some)) (cut / size * size + size) (raised size cut) (next_aligned (cut / size * size) low.1) top.1 over in
-            absurd (omega (arith, far, top.0, low.0, inside, some)))
-        | inr le ↦ le
-      ]
-
-  -- of two places the lower one is put down to no higher a multiple
-  pub lower_multiple : (a b : ℕ) → a ≤ b → a / size * size ≤ b / size * size
-  lower_multiple a b le =
-      let low = put_down size a in
-      let high = put_down size b in
-      let inside : b % size < size = omega (arith, some) in
-      elim (cases_lt (b / size * size) (a / size * size)) [
-        | inl over ↦ (let far = apart size (omega (arith, some)) (b / size * size) (a / size * size) high.1 low.1 over in absurd (omega (arith, far, low.0, high.0, inside, le)))
-        | inr fits ↦ fits
-      ]
-
   -- Where each mark lies below the cut, or in its segment, so does the greatest one.
   module _ (H : History) (cut : ℕ) (ss : List Segment) (marks : (s : Segment) → Contains ss s → IsMarkBelow size H cut s.mark) where
     abbrev z : ℕ
@@ -140,7 +98,7 @@ module _ (size : ℕ) (some : 256 ≤ size) where
           (λ lower. let under : greatest_mark least ss < cut = mark_below s.mark (greatest_mark least ss) cut mark lower in omega (arith, under, low.0, inside))
           (λ within.
           let same : greatest_mark least ss ≡ within.0 = pos_injective (greatest_mark least ss) within.0 (sym mark ∙ within.1) in
-          let bound = raised_within cut in
+          let bound = raised_within size some cut in
           omega (arith, same, within.2, bound))
           (marks s there)
 
@@ -156,4 +114,4 @@ module _ (size : ℕ) (some : 256 ≤ size) where
 
     -- From there on it begins with that.
     pub tail_from : tail_begins size z ss ≡ z
-    tail_from = one_multiple z (greatest_mark z ss) low.1 (greatest_above z ss) (greatest_under z (omega arith))
+    tail_from = one_multiple size some z (greatest_mark z ss) low.1 (greatest_above z ss) (greatest_under z (omega arith))

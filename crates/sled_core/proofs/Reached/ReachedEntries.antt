@@ -14,15 +14,15 @@ use Rattle.sled_core.specs.declared.iterator.scan.RecordContent.{RecordContent}
 use Rattle.sled_core.specs.declared.iterator.scan.RecordContent.TheVariants.{Gives, NamesBlob}
 use Rattle.sled_core.specs.Recoverable.{NamesBlobOf, MeetsMessage, StandsInline, IsReachedIn, IsSegmentOf}
 use Rattle.sled_core.specs.Scan.{IsFoundSegment, IsMet, IsPath, IsScan, Says}
-use Rattle.sled_log.specs.Recovery.{Scanned, IsScanned}
-use Rattle.sled_log.proofs.PageTable.Ascending.{Ascends}
-use Rattle.sled_log.proofs.PageTable.EarlierEntries.{entry_earlier}
-use Rattle.sled_log.proofs.Recovers.Covered.{PassEnds, IsCovered, covered}
-use Rattle.sled_log.proofs.Recovers.OfHistory.{message_of}
-use Rattle.sled_log.proofs.Recovers.OneTail.{Rises, rises_of, one_at_place, segment_there}
-use Rattle.sled_log.proofs.Recovers.Tails.{put_down, one_reading}
-use Rattle.sled_log.proofs.Moments.SegmentsFrom.{lower_multiple}
-use Rattle.sled_log.proofs.Reached.StandsTo.{StandsTo, least, begins, begins_below}
+use Rattle.sled_core.specs.Tail.{Scanned, IsScanned}
+use Rattle.sled_store.proofs.Histories.Ascending.{Ascends}
+use Rattle.sled_store.proofs.Histories.EarlierEntries.{entry_earlier}
+use Rattle.sled_core.proofs.Tail.Covered.{PassEnds, IsCovered, covered}
+use Rattle.sled_core.proofs.Tail.OfHistory.{message_of}
+use Rattle.sled_core.proofs.Tail.OneTail.{Rises, rises_of, one_at_place, segment_there}
+use Rattle.sled_core.proofs.Tail.Multiples.{put_down, lower_multiple}
+use Rattle.sled_core.proofs.Tail.Tails.{one_reading}
+use Rattle.sled_core.proofs.Reached.StandsTo.{StandsTo, least, begins, begins_below}
 
 -- The records of a path before one of them lead to it.
 pub path_to : (sum : List ℕ → ℕ) (size : ℕ) (log : List ℕ) (slot place at : ℕ) (ms : List ScannedRecord) (next : ℕ) → IsPath sum size log slot place at ms next → (x : ScannedRecord) → Contains ms x

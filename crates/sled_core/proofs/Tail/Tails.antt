@@ -1,32 +1,20 @@
 -- The tail over segments that are found: it has each of them from its beginning on, up to one that is broken, and where it ends.
 use Rattle.std.proofs.Common.{⊎_elim, ◌≡◌, ◌≢◌, ◌⊎◌, ◌∙◌, ◌+◌, ◌*◌, ◌/◌, ◌%◌, ◌<◌, ◌≤◌, ℕ, suc, List, [], ◌∷◌, Option, Some, refl, sym, ap, subst, arith, inl, inr}
 use Rattle.std.specs.List.{Contains}
-use Rattle.std.proofs.Math.Nat.{mod-add-div', mul-mod_left, suc-mul}
 use Rattle.std.proofs.lemmas.Bool.{cases_lt, cases_order}
 use Rattle.sled_store.proofs.Segments.Elements.{in_first, in_rest, in_cases, in_nothing}
 use Rattle.sled_core.specs.declared.iterator.Segment.{Segment}
 use Rattle.sled_core.specs.declared.iterator.scan.ScanEnd.{ScanEnd}
 use Rattle.sled_core.specs.declared.iterator.scan.ScanEnd.TheVariants.{Full, Capped, Broken}
-use Rattle.sled_log.specs.Recovery.{IsOrdering, Scanned, IsScanned, AreScanned, GoesOn, IsTail, tail_end}
-use Rattle.sled_log.proofs.Replay.LineLemmas.{apart}
-use Rattle.sled_log.proofs.Recovers.OneReading.{one_scan}
-use Rattle.sled_log.proofs.Recovers.OneTail.{Rises, rises_of, one_at_place, scan_there, segment_there, reading_there}
-use Rattle.sled_log.proofs.Recovers.Rows.{IsWhole, IsRow, row_ordered, row_whole, stop_inside}
+use Rattle.sled_core.specs.Tail.{IsOrdering, Scanned, IsScanned, AreScanned, GoesOn, IsTail, tail_end}
+use Rattle.sled_core.proofs.Tail.Multiples.{apart, next_multiple}
+use Rattle.sled_core.proofs.Tail.OneReading.{one_scan}
+use Rattle.sled_core.proofs.Tail.OneTail.{Rises, rises_of, one_at_place, scan_there, segment_there, reading_there}
+use Rattle.sled_core.proofs.Tail.Rows.{IsWhole, IsRow, row_ordered, row_whole, stop_inside}
 
 -- what is left of an option
 pub some_is : (a b : ℕ) → Some a ≡ Some b → a ≡ b
 some_is a b is = cc
-
--- the multiple of a size at or below a place
-pub put_down : (size p : ℕ) → (p / size * size + p % size ≡ p) × (p / size * size % size ≡ 0)
-put_down size p = (let whole = mod-add-div' p size in omega (arith, whole), mul-mod_left (p / size) size)
-
--- behind a multiple of a size the next one
-pub next_multiple : (size a : ℕ) → a % size ≡ 0 → (a + size) % size ≡ 0
-next_multiple size a at =
-    let parts = put_down size a in
-    let whole : a ≡ a / size * size = omega (arith, parts.0, at) in
-    ap (λ n. (n + size) % size) whole ∙ ap (λ n. n % size) (omega (arith, suc-mul (a / size) size)) ∙ mul-mod_left (suc (a / size)) size
 
 module _ (sum : List ℕ → ℕ) (size : ℕ) (log : List ℕ) (some : 256 ≤ size) (least : ℕ) (ordering : List Segment) (numbers : IsOrdering sum size log least ordering) (scanned : List Scanned) (reads : AreScanned sum size log ordering scanned) where
   abbrev rises : Rises ordering

@@ -11,11 +11,12 @@ use Rattle.sled_core.specs.declared.iterator.scan.ScanEnd.{ScanEnd}
 use Rattle.sled_core.specs.declared.iterator.scan.ScanEnd.TheVariants.{Full, Capped, Broken}
 use Rattle.sled_core.specs.Recoverable.{NoMessageBegins, NoBatchBegins, StandsInline, IsOfHistory, IsSegmentOf, IsMarkOf, IsMarkBelow, LiesInSegment, IsPlacedBatch}
 use Rattle.sled_core.proofs.Read.FoundLemmas.{pos_injective}
-use Rattle.sled_log.specs.Recovery.{Scanned, IsOrdering, AreScanned, GoesOn, IsTail, greatest_mark, tail_begins, tail_end, least_place}
-use Rattle.sled_log.proofs.Recovers.OneTail.{segment_there}
-use Rattle.sled_log.proofs.Recovers.TailBegins.{greatest_is, mark_below}
-use Rattle.sled_log.proofs.Recovers.Tails.{put_down, known, one_reading, tail_some, tail_there}
-use Rattle.sled_log.proofs.Moments.SegmentsFrom.{greatest_above, one_multiple, next_aligned, lower_multiple, tail_low}
+use Rattle.sled_core.specs.Tail.{Scanned, IsOrdering, AreScanned, GoesOn, IsTail, greatest_mark, tail_begins, tail_end, least_place}
+use Rattle.sled_core.proofs.Tail.OneTail.{segment_there}
+use Rattle.sled_core.proofs.Tail.GreatestMark.{greatest_is, mark_below}
+use Rattle.sled_core.proofs.Tail.Multiples.{put_down, one_multiple, next_multiple, lower_multiple}
+use Rattle.sled_core.proofs.Tail.Tails.{known, one_reading, tail_some, tail_there}
+use Rattle.sled_core.proofs.Tail.SegmentsFrom.{greatest_above, tail_low}
 
 -- The segments that are found from that of the snapshot on are of the history, and up to a place that the log has reached they are read without a gap. What is found beyond is of the history too, however much of it there is.
 pub record StandsTo (sum : List ℕ → ℕ) (size : ℕ) (log : List ℕ) (H : History) (A : ℕ) (first : SnapshotModel) (reach : ℕ) : Type 0 where
@@ -76,7 +77,7 @@ module _ (sum : List ℕ → ℕ) (size : ℕ) (log : List ℕ) (some : 256 ≤ 
 
     next : IsTail sum size log is.ordering (z + size) (y ∷ ys) → Rest → Reaches (x ∷ y ∷ ys)
     next on rest = elim (cases_lt (z + size) reach) [
-      | inl below ↦ rest on (next_aligned size some z aligned) (omega (arith, low)) below
+      | inl below ↦ rest on (next_multiple size z aligned) (omega (arith, low)) below
       | inr past ↦ (let e = tail_some sum size log some least is.ordering is.numbers is.scanned is.reads (z + size) y ys on in (e.0, e.1, omega (arith, e.2, past)))
     ]
 

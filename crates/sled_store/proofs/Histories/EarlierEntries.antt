@@ -3,9 +3,9 @@ use Rattle.std.proofs.Common.{⊎_elim, ◌≡◌, ◌<◌, ◌≤◌, ℕ, Bool
 use Rattle.std.specs.List.{Contains, filter}
 use Rattle.std.proofs.lemmas.Bool.{and_parts}
 use Rattle.sled_codec.specs.History.{Message, History, is_link, is_replace, last_beginning, entries_from, page_state, of_page, table}
-use Rattle.sled_log.proofs.PageTable.Ascending.{Ascends, in_first, in_rest, in_cases, in_nothing, in_filter, from_filter}
-use Rattle.sled_log.proofs.PageTable.PageStates.{last_found, last_is}
-use Rattle.sled_log.proofs.PageTable.TableParts.{from_page, in_page, page_ascends}
+use Rattle.sled_store.proofs.Histories.Ascending.{Ascends, in_first, in_rest, in_cases, in_nothing, in_filter, from_filter}
+use Rattle.sled_store.proofs.Histories.PageStates.{last_found, last_is}
+use Rattle.sled_store.proofs.Histories.TableParts.{from_page, in_page, page_ascends}
 
 module _ (H : History) (order : Ascends H.messages) (low cut page : ℕ) (not_above : low ≤ cut) where
   -- the messages of the page below the cut, and below the earlier one

@@ -4,10 +4,15 @@ use Rattle.std.specs.List.{All, Contains, filter}
 use Rattle.std.proofs.lemmas.List.Elements.{All-tail, All-weaker, All-append, All-contains}
 use Rattle.sled_codec.specs.History.{Message}
 use Rattle.sled_codec.specs.WellFormed.{LieApart}
-use Rattle.sled_log.specs.Recovery.{IsSublist}
 pub use Rattle.sled_store.proofs.Segments.Elements.{in_first, in_rest, in_cases, in_nothing, in_filter, from_filter, none_kept, all_from_in}
 
 -- Sublists.
+
+-- The elements of the first list are elements of the second, in their order.
+abbrev pub IsSublist : {X : Type 0} → List X → List X → Type 0
+IsSublist [] ys = Unit {0}
+IsSublist (x ∷ xs) [] = ⊥
+IsSublist (x ∷ xs) (y ∷ ys) = (x ≡ y) × IsSublist xs ys ⊎ IsSublist (x ∷ xs) ys
 
 pub sublist_in : {X : Type 0} (xs ys : List X) (z : X) → IsSublist xs ys → Contains xs z → Contains ys z
 sublist_in [] ys z sub there = absurd (in_nothing z there)

@@ -7,7 +7,7 @@ use Rattle.sled_codec.specs.declared.serialization.message.LogKind.TheVariants a
 use Rattle.sled_codec.specs.History.{Message, History, is_replace, is_link, last_beginning, entries_from, page_state, of_page, HasPage}
 use Rattle.sled_codec.specs.WellFormed.{HasReplace}
 pub use Rattle.sled_store.proofs.Segments.TableEntries.{from_page, state_from, from_table}
-use Rattle.sled_log.proofs.PageTable.Ascending.{in_first, in_cases, in_nothing, in_filter, Ascends, later_above, filter_ascends}
+use Rattle.sled_store.proofs.Histories.Ascending.{in_first, in_cases, in_nothing, in_filter, Ascends, later_above, filter_ascends}
 
 -- The messages of a page below a cut.
 

@@ -8,10 +8,9 @@ use Rattle.sled_core.specs.declared.iterator.scan.ScanEnd.{ScanEnd}
 use Rattle.sled_core.specs.declared.iterator.scan.ScanEnd.TheVariants.{Full, Capped, Broken}
 use Rattle.sled_core.specs.Scan.{IsEnd}
 use Rattle.sled_core.specs.Recoverable.{BeginsInSegment}
-use Rattle.sled_log.specs.Recovery.{Scanned, cut_of}
-use Rattle.sled_log.proofs.Replay.LineLemmas.{apart}
-use Rattle.sled_log.proofs.Recovers.Tails.{put_down}
-use Rattle.sled_log.proofs.Recovers.Rows.{IsWhole, end_there, covers, cut_cases}
+use Rattle.sled_core.specs.Tail.{Scanned, cut_of}
+use Rattle.sled_core.proofs.Tail.Multiples.{apart, put_down}
+use Rattle.sled_core.proofs.Tail.Rows.{IsWhole, end_there, covers, cut_cases}
 
 -- Where a pass over these segments stops, and in which one: no higher than the tail ends, which has each segment from its beginning on.
 pub record PassEnds (sum : List ℕ → ℕ) (size : ℕ) (log : List ℕ) (some : 256 ≤ size) (scanned : List Scanned) (begins end cut : ℕ) : Type 0 where

@@ -1,4 +1,4 @@
--- Segments one behind another: where the records lie that a pass over them meets, where it stops, and that it meets each record below the cut.
+-- Segments one behind another: where the records lie that are met in them, and where a pass over them stops.
 use Rattle.std.proofs.Common.{⊎_elim, ◌≡◌, ◌⊎◌, ◌+◌, ◌/◌, ◌%◌, ◌<◌, ◌≤◌, ℕ, Bool, true, false, nat_lt, if◌then◌else◌, List, [], ◌∷◌, ◌++◌, Option, Some, None, refl, sym, ap, subst, arith, inl, inr}
 use Rattle.std.specs.List.{Contains}
 use Rattle.std.proofs.lemmas.Bool.{cases_lt, ltb-true}
@@ -7,12 +7,11 @@ use Rattle.sled_core.specs.declared.iterator.Segment.{Segment}
 use Rattle.sled_core.specs.declared.iterator.scan.ScannedRecord.{ScannedRecord}
 use Rattle.sled_core.specs.Scan.{IsPath, IsEnd, IsScan}
 use Rattle.sled_core.specs.Recoverable.{scanned_below}
-use Rattle.sled_core.proofs.Read.ScanLemmas.{met_fits}
+use Rattle.sled_core.proofs.Read.ScanLemmas.{met_fits, aligned_offset}
 use Rattle.sled_store.proofs.Segments.Elements.{in_first, in_rest, in_cases, in_nothing}
-use Rattle.sled_log.specs.Recovery.{IsOrdering, Scanned, IsScanned, AreScanned, opens, open_at, before_open, passed_in, stops_in, is_filled, cut_of}
-use Rattle.sled_log.proofs.Replay.LineLemmas.{path_within, apart}
-use Rattle.sled_log.proofs.Replay.BlobLemmas.{all_before_open}
-use Rattle.sled_log.proofs.Recovers.OneTail.{Rises, rises_of, place_aligned, segment_there, from_below}
+use Rattle.sled_core.specs.Tail.{IsOrdering, Scanned, IsScanned, AreScanned, opens, open_at, before_open, stops_in, is_filled, cut_of}
+use Rattle.sled_core.proofs.Tail.Multiples.{apart}
+use Rattle.sled_core.proofs.Tail.OneTail.{Rises, rises_of, place_aligned, segment_there, from_below}
 
 -- Records one behind another.
 
@@ -29,7 +28,7 @@ pub stand_wider : (from low : ℕ) (ms : List ScannedRecord) (to high : ℕ) →
 stand_wider from low [] to high below above stand = omega (arith, below, above, stand)
 stand_wider from low (m ∷ ms) to high below above stand = (omega (arith, below, stand.0), stand.1, stand_wider (m.place + m.len) (m.place + m.len) ms to high (omega arith) above stand.2)
 
-stand_both : (from : ℕ) (ms : List ScannedRecord) (mid : ℕ) (ns : List ScannedRecord) (to : ℕ) → Stand from ms mid → Stand mid ns to → Stand from (ms ++ ns) to
+pub stand_both : (from : ℕ) (ms : List ScannedRecord) (mid : ℕ) (ns : List ScannedRecord) (to : ℕ) → Stand from ms mid → Stand mid ns to → Stand from (ms ++ ns) to
 stand_both from [] mid ns to stand more = stand_wider mid from ns to to stand (omega arith) more
 stand_both from (m ∷ ms) mid ns to stand more = (stand.0, stand.1, stand_both (m.place + m.len) ms mid ns to stand.2 more)
 
@@ -49,6 +48,15 @@ module _ (sum : List ℕ → ℕ) (size : ℕ) (log : List ℕ) (slot place : �
       let fits = met_fits sum size log (slot + at) (place / size) m path.2 in
       let rest = path_stands (at + m.len) ms next path.3 in
       (omega (arith, path.1), omega (arith, fits.0), stand_wider (place + (at + m.len)) (m.place + m.len) ms (place + next) (place + next) (omega (arith, path.1)) (omega arith) rest)
+
+  -- a path ends within the segment
+  pub path_within : slot % size ≡ 0 → (at : ℕ) (ms : List ScannedRecord) (next : ℕ) → at ≤ size → IsPath sum size log slot place at ms next → next ≤ size
+  path_within aligned at [] next le path = omega (arith, le, path)
+  path_within aligned at (m ∷ ms) next le path =
+      let room = path.0 in
+      let offset = aligned_offset slot at size aligned (omega (arith, room)) in
+      let fits = met_fits sum size log (slot + at) (place / size) m path.2 in
+      path_within aligned (at + m.len) ms next (omega (arith, offset, fits.1)) path.3
 
   -- Between the ends of a path each place lies in a record.
   pub path_covers : (at : ℕ) (ms : List ScannedRecord) (next : ℕ) → IsPath sum size log slot place at ms next → (p : ℕ) → place + at ≤ p → p < place + next → (x : ScannedRecord) × Contains ms x × (x.place ≤ p) × (p < x.place + x.len)
@@ -94,14 +102,22 @@ module _ (sum : List ℕ → ℕ) (size : ℕ) (log : List ℕ) (slot place : �
 
 -- Before a batch that is open none that is open begins.
 
-before_closed : (end : ℕ) (ms : List ScannedRecord) (x : ScannedRecord) → Contains (before_open end ms) x → opens end x.what ≡ false
+-- where no batch is open all is met before one
+pub all_before_open : (end : ℕ) (ms : List ScannedRecord) → open_at end ms ≡ None → before_open end ms ≡ ms
+all_before_open end [] none = refl
+all_before_open end (m ∷ ms) none = by_test (opens end m.what) none (all_before_open end ms) where
+  by_test : (b : Bool) → (if b then Some m.place else open_at end ms) ≡ None → (open_at end ms ≡ None → before_open end ms ≡ ms) → (if b then [] else m ∷ before_open end ms) ≡ m ∷ ms
+  by_test true is rest = absurd (cc)
+  by_test false is rest = ap (λ (l : List ScannedRecord). m ∷ l) (rest is)
+
+pub before_closed : (end : ℕ) (ms : List ScannedRecord) (x : ScannedRecord) → Contains (before_open end ms) x → opens end x.what ≡ false
 before_closed end [] x there = absurd (in_nothing x there)
 before_closed end (m ∷ ms) x there = by (opens end m.what) refl there (before_closed end ms x) where
   by : (b : Bool) → opens end m.what ≡ b → Contains (if b then [] else m ∷ before_open end ms) x → (Contains (before_open end ms) x → opens end x.what ≡ false) → opens end x.what ≡ false
   by true test at rest = absurd (in_nothing x at)
   by false test at rest = ⊎_elim (λ is. subst (λ (y : ScannedRecord). opens end y.what ≡ false) is test) rest (in_cases m x (before_open end ms) at)
 
-all_closed : (end : ℕ) (ms : List ScannedRecord) → open_at end ms ≡ None → (x : ScannedRecord) → Contains ms x → opens end x.what ≡ false
+pub all_closed : (end : ℕ) (ms : List ScannedRecord) → open_at end ms ≡ None → (x : ScannedRecord) → Contains ms x → opens end x.what ≡ false
 all_closed end ms none x there = before_closed end ms x (subst (λ (l : List ScannedRecord). Contains l x) (sym (all_before_open end ms none)) there)
 
 -- The cut is where the pass stopped, or the end of a segment that has no room left.
@@ -171,11 +187,11 @@ module _ (sum : List ℕ → ℕ) (size : ℕ) (log : List ℕ) (some : 256 ≤ 
   covers s whole p above below = path_covers sum size log s.segment.slot s.segment.place 20 s.met s.stop whole.0.0 p above below
 
   module _ (end : ℕ) where
-    opened : (s : Scanned) → IsWhole s → (p : ℕ) → open_at end s.met ≡ Some p → OpensAt sum size log s.segment.slot s.segment.place end (s.segment.place + 20) s.met p
+    pub opened : (s : Scanned) → IsWhole s → (p : ℕ) → open_at end s.met ≡ Some p → OpensAt sum size log s.segment.slot s.segment.place end (s.segment.place + 20) s.met p
     unfolding IsScan
     opened s whole p is = open_there sum size log s.segment.slot s.segment.place end 20 s.met s.stop whole.0.0 p is
 
-    before_opened : (s : Scanned) → IsWhole s → (p : ℕ) → open_at end s.met ≡ Some p → (x : ScannedRecord) → Contains s.met x → x.place < p → Contains (before_open end s.met) x
+    pub before_opened : (s : Scanned) → IsWhole s → (p : ℕ) → open_at end s.met ≡ Some p → (x : ScannedRecord) → Contains s.met x → x.place < p → Contains (before_open end s.met) x
     unfolding IsScan
     before_opened s whole p is x there below = before_has sum size log s.segment.slot s.segment.place end 20 s.met s.stop whole.0.0 p is x there below
 
@@ -217,42 +233,3 @@ module _ (sum : List ℕ → ℕ) (size : ℕ) (log : List ℕ) (some : 256 ≤ 
                 (in_cases s u (t ∷ ts) there),
           )) rest.why;
         }
-
-    -- What it meets lies one behind another up to there.
-    pub passed_stand : (s : Scanned) (ss : List Scanned) (o : Option ℕ) → IsRow (s ∷ ss) → open_at end s.met ≡ o → Stand s.segment.place (passed_in end s o ss) (stops_in end s o ss).1
-    passed_stand s ss (Some p) row is = stand_wider (s.segment.place + 20) s.segment.place (before_open end s.met) p p (omega arith) (omega arith) (opened s row.0 p is).0
-    passed_stand s [] None row is = stand_wider (s.segment.place + 20) s.segment.place s.met (s.segment.place + s.stop) (s.segment.place + s.stop) (omega arith) (omega arith) (met_stand s row.0)
-    passed_stand s (t ∷ ts) None row is =
-        let far = row.1 t (in_first t ts) in
-        let inside = stop_inside s row.0 in
-        stand_both s.segment.place s.met t.segment.place (passed_in end t (open_at end t.met) ts) (stops_in end t (open_at end t.met) ts).1
-        (stand_wider (s.segment.place + 20) s.segment.place s.met (s.segment.place + s.stop) t.segment.place (omega arith) (omega (arith, far, inside)) (met_stand s row.0))
-        (passed_stand t ts (open_at end t.met) row.2 refl)
-
-    -- It meets each record that lies below the cut.
-    pub passed_has : (s : Scanned) (ss : List Scanned) (o : Option ℕ) → IsRow (s ∷ ss) → open_at end s.met ≡ o → (t : Scanned) → Contains (s ∷ ss) t → (x : ScannedRecord) → Contains t.met x → x.place < (cut_of size (stops_in end s o ss)).0
-        → Contains (passed_in end s o ss) x
-    passed_has s ss (Some p) row is t there x met below =
-        let at = opened s row.0 p is in
-        let room = at.1 in
-        let under : x.place < p = ⊎_elim (λ same. omega (arith, below, same)) (λ filled. absurd (omega (arith, filled.1, room))) (cut_cases size (s.segment, p)) in
-        ⊎_elim (λ same. before_opened s row.0 p is x (subst (λ (y : Scanned). Contains y.met x) (sym same) met) under)
-        (λ later.
-        let far = row.1 t later in
-        let above = (stand_in (t.segment.place + 20) t.met (t.segment.place + t.stop) (met_stand t (row_whole ss row.2 t later)) x met).0 in
-        absurd (omega (arith, far, above, under, room)))
-        (in_cases s t ss there)
-    passed_has s [] None row is t there x met below = ⊎_elim (λ same. subst (λ (y : Scanned). Contains y.met x) (sym same) met) (λ none. absurd (in_nothing t none)) (in_cases s t [] there)
-    passed_has s (u ∷ us) None row is t there x met below = ⊎_elim
-        (λ same. Contains-append_left s.met (passed_in end u (open_at end u.met) us) x (subst (λ (y : Scanned). Contains y.met x) (sym same) met))
-        (λ later. Contains-append_right s.met (passed_in end u (open_at end u.met) us) x (passed_has u us (open_at end u.met) row.2 refl t later x met below))
-        (in_cases s t (u ∷ us) there)
-
-    -- and no batch that is open begins with what it meets
-    pub passed_closed : (s : Scanned) (ss : List Scanned) (o : Option ℕ) → open_at end s.met ≡ o → (x : ScannedRecord) → Contains (passed_in end s o ss) x → opens end x.what ≡ false
-    passed_closed s ss (Some p) is x there = before_closed end s.met x there
-    passed_closed s [] None is x there = all_closed end s.met is x there
-    passed_closed s (t ∷ ts) None is x there = ⊎_elim
-        (λ own. all_closed end s.met is x own)
-        (λ later. passed_closed t ts (open_at end t.met) refl x later)
-        (Contains-append_cases s.met (passed_in end t (open_at end t.met) ts) x there)

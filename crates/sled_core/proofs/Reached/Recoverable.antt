@@ -7,14 +7,13 @@ use Rattle.sled_codec.specs.History.{Message, History, table}
 use Rattle.sled_codec.specs.Snapshots.{SnapshotModel, stable_place}
 use Rattle.sled_core.specs.declared.iterator.Segment.{Segment}
 use Rattle.sled_core.specs.Recoverable.{StandsInline, IsMarkBelow, IsSegmentOf, IsRecoverableLog, cut_from}
-use Rattle.sled_log.specs.Recovery.{Scanned, IsTail, tail_begins, tail_end, least_place}
-use Rattle.sled_log.proofs.PageTable.Ascending.{Ascends}
-use Rattle.sled_log.proofs.Recovers.TailBegins.{mark_below}
-use Rattle.sled_log.proofs.Recovers.Tails.{put_down}
-use Rattle.sled_log.proofs.Moments.SegmentsFrom.{lower_multiple}
-use Rattle.sled_log.proofs.Reached.ReachedCut.{some_read, cut, cut_far, cut_is, pass_ends}
-use Rattle.sled_log.proofs.Reached.ReachedEntries.{entries_there}
-use Rattle.sled_log.proofs.Reached.StandsTo.{StandsTo, begins, the_tail, tail_ends}
+use Rattle.sled_core.specs.Tail.{Scanned, IsTail, tail_begins, tail_end, least_place}
+use Rattle.sled_store.proofs.Histories.Ascending.{Ascends}
+use Rattle.sled_core.proofs.Tail.GreatestMark.{mark_below}
+use Rattle.sled_core.proofs.Tail.Multiples.{put_down, lower_multiple}
+use Rattle.sled_core.proofs.Reached.ReachedCut.{some_read, cut, cut_far, cut_is, pass_ends}
+use Rattle.sled_core.proofs.Reached.ReachedEntries.{entries_there}
+use Rattle.sled_core.proofs.Reached.StandsTo.{StandsTo, begins, the_tail, tail_ends}
 
 -- less than a natural number is less than a greater one
 less_than : (mark : ℤ) (low high : ℕ) → low ≤ high → mark <ℤ pos low → mark <ℤ pos high

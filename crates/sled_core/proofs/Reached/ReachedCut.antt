@@ -7,13 +7,13 @@ use Rattle.sled_codec.specs.Snapshots.{SnapshotModel}
 use Rattle.sled_store.proofs.Segments.Elements.{in_nothing}
 use Rattle.sled_core.specs.declared.iterator.Segment.{Segment}
 use Rattle.sled_core.specs.Recoverable.{scanned_below, cut_over, cut_from}
-use Rattle.sled_log.specs.Recovery.{Scanned, IsTail, open_at, stops_in, cut_of, tail_end}
-use Rattle.sled_log.proofs.Recovers.Covered.{PassEnds}
-use Rattle.sled_log.proofs.Recovers.OfHistory.{opened_of}
-use Rattle.sled_log.proofs.Recovers.OneTail.{in_below, from_below}
-use Rattle.sled_log.proofs.Recovers.Rows.{IsRow, IsStopIn, row_below, met_stand, stand_in, stand_rises, stop_inside, stop_in, cut_cases}
-use Rattle.sled_log.proofs.Recovers.Tails.{further, whole, row, one_reading, tail_last, tail_has}
-use Rattle.sled_log.proofs.Reached.StandsTo.{StandsTo, least, begins, aligned}
+use Rattle.sled_core.specs.Tail.{Scanned, IsTail, open_at, stops_in, cut_of, tail_end}
+use Rattle.sled_core.proofs.Tail.Covered.{PassEnds}
+use Rattle.sled_core.proofs.Tail.OfHistory.{opened_of}
+use Rattle.sled_core.proofs.Tail.OneTail.{in_below, from_below}
+use Rattle.sled_core.proofs.Tail.Rows.{IsRow, IsStopIn, row_below, met_stand, stand_in, stand_rises, stop_inside, stop_in, cut_cases}
+use Rattle.sled_core.proofs.Tail.Tails.{further, whole, row, one_reading, tail_last, tail_has}
+use Rattle.sled_core.proofs.Reached.StandsTo.{StandsTo, least, begins, aligned}
 
 module _ (sum : List ℕ → ℕ) (size : ℕ) (log : List ℕ) (some : 256 ≤ size) (H : History) (A : ℕ) (first : SnapshotModel) (reach : ℕ) (is : StandsTo sum size log H A first reach)
     (tail : List Scanned) (is_tail : IsTail sum size log is.ordering (begins sum size log some H A first reach is) tail) (end : ℕ) (ends : tail_end tail ≡ Some end) (far : reach ≤ end) where

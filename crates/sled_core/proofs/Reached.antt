@@ -1,0 +1,4 @@
+pub mod ReachedCut
+pub mod ReachedEntries
+pub mod Recoverable
+pub mod StandsTo

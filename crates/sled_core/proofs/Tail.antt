@@ -1,0 +1,9 @@
+pub mod Covered
+pub mod GreatestMark
+pub mod Multiples
+pub mod OfHistory
+pub mod OneReading
+pub mod OneTail
+pub mod Rows
+pub mod SegmentsFrom
+pub mod Tails

@@ -1,0 +1,4 @@
+pub mod Ascending
+pub mod EarlierEntries
+pub mod PageStates
+pub mod TableParts
