@@ -5,25 +5,11 @@ use Rattle.std.proofs.lemmas.Bool.{and_from, and_parts, ltb-true}
 use Rattle.std.proofs.lemmas.List.Elements.{All-weaker, All-contains, Contains-append_left, Contains-append_right, Contains-append_cases}
 use Rattle.sled_codec.specs.History.{Message, History, begins_page, is_replace, is_link, later_or, last_beginning, entries_from, page_state, of_page, table, AddsMessage}
 use Rattle.sled_codec.specs.WellFormed.{LieApart}
+pub use Rattle.sled_store.proofs.Histories.Ascending.{Ascends, apart_ascends}
+use Rattle.sled_store.proofs.Histories.Ascending.{filter_ascends}
 use Rattle.sled_store.proofs.Segments.Elements.{in_first, in_rest, in_cases, in_nothing, in_filter, from_filter, all_from_in}
 use Rattle.sled_store.proofs.Segments.SnapshotEntries.{none_begins}
 use Rattle.sled_store.proofs.Segments.TableEntries.{beginning_there, from_table}
-
--- each message lies below all later ones
-abbrev pub Ascends : List Message → Type 0
-Ascends [] = Unit {0}
-Ascends (m ∷ ms) = All (λ n. m.place < n.place) ms × Ascends ms
-
-pub apart_ascends : (ms : List Message) → LieApart ms → Ascends ms
-apart_ascends [] apart = tt
-apart_ascends (m ∷ ms) apart = (All-weaker (λ n. m.place + m.size ≤ n.place) (λ n. m.place < n.place) (λ n le. omega (arith, le, apart.0)) ms apart.1, apart_ascends ms apart.2)
-
-filter_ascends : (p : Message → Bool) (ms : List Message) → Ascends ms → Ascends (filter p ms)
-filter_ascends p [] order = tt
-filter_ascends p (m ∷ ms) order = by (p m) (filter_ascends p ms order.1) where
-  by : (b : Bool) → Ascends (filter p ms) → Ascends (if b then m ∷ filter p ms else filter p ms)
-  by true rest = (all_from_in (λ n. m.place < n.place) (filter p ms) (λ n there. All-contains (λ x. m.place < x.place) ms n order.0 (from_filter p ms n there).0), rest)
-  by false rest = rest
 
 -- a message is put in at its place
 put_ascends : (before : List Message) (m : Message) (after : List Message) → Ascends (before ++ after)
