@@ -1,3 +1,4 @@
+pub mod Iterates
 pub mod Moments
 pub mod Ordering
 pub mod OwnBlobs

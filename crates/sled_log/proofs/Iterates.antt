@@ -1,0 +1,4 @@
+pub mod KeptLemmas
+pub mod LeftLemmas
+pub mod OneReplay
+pub mod TurnLemmas
