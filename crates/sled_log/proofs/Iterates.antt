@@ -1,3 +1,4 @@
+pub mod BeginLemmas
 pub mod KeptLemmas
 pub mod LeftLemmas
 pub mod OneReplay

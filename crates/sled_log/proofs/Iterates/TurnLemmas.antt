@@ -1,5 +1,5 @@
 -- What comes of a record that has its turn, and what an error says.
-use Rattle.std.proofs.Common.{◌≡◌, ◌∙◌, ◌++◌, ℕ, ℤ, Bool, true, List, [], ◌∷◌, Option, refl, sym, ap, subst}
+use Rattle.std.proofs.Common.{◌≡◌, ◌∙◌, ◌++◌, ℕ, ℤ, Bool, true, List, [], ◌∷◌, Option, Some, None, Result, Ok, Err, refl, sym, ap, subst}
 use Rattle.sled_codec.specs.declared.result.Error.{Error}
 use Rattle.sled_codec.specs.declared.result.Error.TheVariants as error
 use Rattle.sled_codec.specs.Errors.{IsCorrupt}
@@ -7,7 +7,7 @@ use Rattle.sled_core.specs.declared.iterator.scan.ScannedRecord.{ScannedRecord}
 use Rattle.sled_core.specs.declared.iterator.scan.RecordContent.{RecordContent}
 use Rattle.sled_core.specs.declared.iterator.scan.RecordContent.TheVariants.{Gives, NamesBlob, Skipped, BatchStart}
 use Rattle.sled_log.specs.Recovery.{with_blob, resolved}
-use Rattle.sled_log.specs.Iterates.{Item, items_of, SaysDamage}
+use Rattle.sled_log.specs.Iterates.{Item, items_of, NextGives, SaysDamage}
 use Rattle.sled_log.specs.Ahead.{those_of}
 
 -- a record with its blob is the message that it is at its own place
@@ -33,3 +33,9 @@ damage_said (error.NotReserved n) items damaged bad = tt
 damage_said error.PlacesUsedUp items damaged bad = tt
 damage_said (error.CollectionNotFound n) items damaged bad = tt
 damage_said (error.ReportableBug t) items damaged bad = tt
+
+-- what the next message is, where more is known of what is ahead then
+pub next_as : (ahead after : List Item → Bool → Type 0) → ((items : List Item) (damaged : Bool) → ahead items damaged → after items damaged) → (items : List Item) (damaged : Bool) (r : Option (Result Item Error)) → NextGives ahead items damaged r → NextGives after items damaged r
+next_as ahead after then items damaged None gives = gives
+next_as ahead after then items damaged (Some (Ok item)) gives = (gives.0, gives.1, then gives.0 damaged gives.2)
+next_as ahead after then items damaged (Some (Err e)) gives = gives

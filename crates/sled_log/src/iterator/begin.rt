@@ -6,7 +6,7 @@ ghost use Rattle.sled_store.specs.Blobs.{ItemAnswers};
 ghost use Rattle.sled_store.specs.Device.{state_of};
 ghost use Rattle.sled_core.specs.Keeps.{OnlyReads};
 ghost use Rattle.sled_core.specs.declared.iterator.Segment.{Segment};
-ghost use Rattle.sled_log.specs.Recovery.{Scanned, IsTail, IsDamagedTail, HaveGoodBlobs, begun_below, is_ascending, tail_end};
+ghost use Rattle.sled_log.specs.Recovery.{Scanned, IsTail, IsDamagedTail, HaveGoodBlobs, begun_below, is_ascending, place_of_mark, tail_end};
 ghost use Rattle.sled_log.specs.Passes.{CanBeRead};
 ghost use Rattle.sled_log.specs.Iterates.{Begins, IsDamagedFrom, begins_from, BeginAnswers};
 ghost use Rattle.sled_log.specs.Iterators.{borrowed_by, IsAhead};
@@ -44,9 +44,17 @@ pub fn raw_segment_iter_from<'a, D: Device, C: Checksum>(
     ensures reads { IfOk result (λ it. OnlyReads D.trace config.old (borrowed_by it).now) }
     ensures same_reference { IfOk result (λ it. (borrowed_by it).ghost_name ≡ config.entry.ghost_name) }
 {
-    let stable = u64::try_from(lsn).unwrap_or(0);
-    let rest = begin_at(config, stable)?;
-    Ok(LogIter { config, rest })
+    match begin_at(config, place_from(lsn)) {
+        Ok(rest) => Ok(LogIter { config, rest }),
+        Err(e) => Err(e),
+    }
+}
+
+/// The place that an iterator begins from.
+fn place_from(lsn: Lsn) -> u64
+    ensures { result ≡ place_of_mark lsn }
+{
+    u64::try_from(lsn).unwrap_or(0)
 }
 
 /// What is left for an iterator from a place on.
