@@ -20,7 +20,7 @@ begun_as sum size log blobs ss ahead after then (Some end) begun = λ items dama
 
 pub begins_as : (sum : List ℕ → ℕ) (size : ℕ) (log : List ℕ) (blobs : ℤ → Option (List ℕ)) (least : ℕ) (ahead after : List Item → Bool → Type 0) → ((items : List Item) (damaged : Bool) → ahead items damaged → after items damaged)
     → Begins sum size log blobs least ahead → Begins sum size log blobs least after
-begins_as sum size log blobs least ahead after then begins = 
+begins_as sum size log blobs least ahead after then begins =
     let behind = begins.2 in
     (begins.0, begins.1, (behind.0, behind.1, behind.2, begun_as sum size log blobs begins.0 ahead after then (tail_end behind.0) behind.3))
 
@@ -48,8 +48,8 @@ module _ {D C : Type 0} (trace : D → Trace) (sum : List ℕ → ℕ) (config :
   left_begun (Some last) segments end read met given inside = λ items damaged is. (
     inside_begun last segments inside,
     subst (λ n. GivesOf sum blobs n (drop r.given r.met.items) (IsIteration sum size log blobs n (drop r.read r.segments.items)) items damaged) (sym end)
-    (subst (λ n. GivesOf sum blobs last (drop n r.met.items) (IsIteration sum size log blobs last (drop r.read r.segments.items)) items damaged) (sym given)
-    (subst (λ (ms : List ScannedRecord). GivesOf sum blobs last ms (IsIteration sum size log blobs last (drop r.read r.segments.items)) items damaged) (sym met)
-    (subst (λ n. IsIteration sum size log blobs last (drop n r.segments.items) items damaged) (sym read)
-    (subst (λ (l : List Segment). IsIteration sum size log blobs last l items damaged) (sym segments) is)))),
+        (subst (λ n. GivesOf sum blobs last (drop n r.met.items) (IsIteration sum size log blobs last (drop r.read r.segments.items)) items damaged) (sym given)
+        (subst (λ (ms : List ScannedRecord). GivesOf sum blobs last ms (IsIteration sum size log blobs last (drop r.read r.segments.items)) items damaged) (sym met)
+        (subst (λ n. IsIteration sum size log blobs last (drop n r.segments.items) items damaged) (sym read)
+        (subst (λ (l : List Segment). IsIteration sum size log blobs last l items damaged) (sym segments) is)))),
   )

@@ -38,7 +38,7 @@ module _ {D C : Type 0} (trace : D → Trace) (sum : List ℕ → ℕ) (config :
   left_spent r items damaged inside spent none fine = (
     inside,
     subst (λ (ms : List ScannedRecord). GivesOf sum blobs r.end ms (IsIteration sum size log blobs r.end (drop r.read r.segments.items)) items damaged) (sym (drop_all r.given r.met.items spent.1))
-    (subst (λ (ss : List Segment). IsIteration sum size log blobs r.end ss items damaged) (sym (drop_all r.read r.segments.items spent.0)) (none, fine)),
+        (subst (λ (ss : List Segment). IsIteration sum size log blobs r.end ss items damaged) (sym (drop_all r.read r.segments.items spent.0)) (none, fine)),
   )
 
   -- and then no message comes
@@ -81,14 +81,18 @@ module _ {D C : Type 0} (trace : D → Trace) (sum : List ℕ → ℕ) (config :
       unfolding IsLeft
       turn_given fine q segments read met given end = elim turn_rests [
         | inl broken ↦ absurd (fine broken.0)
-        | inr good ↦ (good.1.0, good.1.1, (
+        | inr good ↦ (
+          good.1.0,
+          good.1.1,
+          (
             λ x there. left.0 x (subst (λ v. Contains v.items x) segments there),
             subst (λ n. GivesOf sum blobs n (drop q.given q.met.items) (IsIteration sum size log blobs n (drop q.read q.segments.items)) good.1.0 damaged) (sym end)
-            (subst (λ n. GivesOf sum blobs r.end (drop n q.met.items) (IsIteration sum size log blobs r.end (drop q.read q.segments.items)) good.1.0 damaged) (sym given)
-            (subst (λ v. GivesOf sum blobs r.end (drop (r.given + 1) v.items) (IsIteration sum size log blobs r.end (drop q.read q.segments.items)) good.1.0 damaged) (sym met)
-            (subst (λ n. GivesOf sum blobs r.end (drop (r.given + 1) r.met.items) (IsIteration sum size log blobs r.end (drop n q.segments.items)) good.1.0 damaged) (sym read)
-            (subst (λ v. GivesOf sum blobs r.end (drop (r.given + 1) r.met.items) (IsIteration sum size log blobs r.end (drop r.read v.items)) good.1.0 damaged) (sym segments) good.1.2)))),
-          ))
+                (subst (λ n. GivesOf sum blobs r.end (drop n q.met.items) (IsIteration sum size log blobs r.end (drop q.read q.segments.items)) good.1.0 damaged) (sym given)
+                (subst (λ v. GivesOf sum blobs r.end (drop (r.given + 1) v.items) (IsIteration sum size log blobs r.end (drop q.read q.segments.items)) good.1.0 damaged) (sym met)
+                (subst (λ n. GivesOf sum blobs r.end (drop (r.given + 1) r.met.items) (IsIteration sum size log blobs r.end (drop n q.segments.items)) good.1.0 damaged) (sym read)
+                (subst (λ v. GivesOf sum blobs r.end (drop (r.given + 1) r.met.items) (IsIteration sum size log blobs r.end (drop r.read v.items)) good.1.0 damaged) (sym segments) good.1.2)))),
+          ),
+        )
       ]
 
   -- A segment is read.
@@ -122,11 +126,11 @@ module _ {D C : Type 0} (trace : D → Trace) (sum : List ℕ → ℕ) (config :
       | inr other ↦ (
         λ y there. left.0 y (subst (λ v. Contains v.items y) segments there),
         subst (λ n. GivesOf sum blobs n (drop q.given q.met.items) (IsIteration sum size log blobs n (drop q.read q.segments.items)) items damaged) (sym end)
-        (subst (λ n. GivesOf sum blobs r.end (drop n q.met.items) (IsIteration sum size log blobs r.end (drop q.read q.segments.items)) items damaged) (sym given)
-        (subst (λ (ms : List ScannedRecord). GivesOf sum blobs r.end ms (IsIteration sum size log blobs r.end (drop q.read q.segments.items)) items damaged) (sym met)
-        (subst (λ n. GivesOf sum blobs r.end x.met (IsIteration sum size log blobs r.end (drop n q.segments.items)) items damaged) (sym next_one)
-        (subst (λ v. GivesOf sum blobs r.end x.met (IsIteration sum size log blobs r.end (drop (r.read + 1) v.items)) items damaged) (sym segments)
-        (replayed_gives sum size log r.end x next at read blobs Behind other.0 other.1 other.2 items damaged other.3))))),
+            (subst (λ n. GivesOf sum blobs r.end (drop n q.met.items) (IsIteration sum size log blobs r.end (drop q.read q.segments.items)) items damaged) (sym given)
+            (subst (λ (ms : List ScannedRecord). GivesOf sum blobs r.end ms (IsIteration sum size log blobs r.end (drop q.read q.segments.items)) items damaged) (sym met)
+            (subst (λ n. GivesOf sum blobs r.end x.met (IsIteration sum size log blobs r.end (drop n q.segments.items)) items damaged) (sym next_one)
+            (subst (λ v. GivesOf sum blobs r.end x.met (IsIteration sum size log blobs r.end (drop (r.read + 1) v.items)) items damaged) (sym segments)
+            (replayed_gives sum size log r.end x next at read blobs Behind other.0 other.1 other.2 items damaged other.3))))),
       )
     ]
 
@@ -135,6 +139,6 @@ pub left_still : {D C : Type 0} (trace : D → Trace) (sum : List ℕ → ℕ) (
 unfolding IsLeft
 left_still trace sum old new r items damaged reads left =
     let At : Config → Trace → Type 0 = λ cfg t.
-        ((x : Segment) → Contains r.segments.items x → x.slot ≤ length (state_of t).log.bytes)
-        × GivesOf sum (state_of t).blobs.file r.end (drop r.given r.met.items) (IsIteration sum cfg.segment_size (state_of t).log.bytes (state_of t).blobs.file r.end (drop r.read r.segments.items)) items damaged in
+    ((x : Segment) → Contains r.segments.items x → x.slot ≤ length (state_of t).log.bytes)
+    × GivesOf sum (state_of t).blobs.file r.end (drop r.given r.met.items) (IsIteration sum cfg.segment_size (state_of t).log.bytes (state_of t).blobs.file r.end (drop r.read r.segments.items)) items damaged in
     subst (λ cfg. At cfg (trace new.device)) (sym reads.config) (subst (At old.config) (sym reads.unwritten) left)

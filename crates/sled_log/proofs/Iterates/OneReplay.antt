@@ -48,8 +48,8 @@ module _ (sum : List ℕ → ℕ) (size : ℕ) (log : List ℕ) (end slot place 
         let len : at + n.len ≡ at + m.len = ap (λ (y : ScannedRecord). at + y.len) same in
         let here : GivesOf sum blobs end (m ∷ ns) on items damaged = subst (λ (y : ScannedRecord). GivesOf sum blobs end (y ∷ ns) on items damaged) same gives in
         let Left : List ScannedRecord → Type 0 = λ ks.
-            (HasBadBlob sum blobs m.what × (items ≡ []) × (damaged ≡ true))
-            ⊎ ((HasBadBlob sum blobs m.what → ⊥) × ((rest : List Item) × (items ≡ items_of m (with_blob blobs m.what) ++ rest) × GivesOf sum blobs end ks on rest damaged)) in
+        (HasBadBlob sum blobs m.what × (items ≡ []) × (damaged ≡ true))
+        ⊎ ((HasBadBlob sum blobs m.what → ⊥) × ((rest : List Item) × (items ≡ items_of m (with_blob blobs m.what) ++ rest) × GivesOf sum blobs end ks on rest damaged)) in
         second_case (opens end m.what) ((items ≡ []) × (damaged ≡ false)) (Left ns) (Left ms)
         (λ is left. by is left
         (λ rest. gives_of_other (at + m.len) ms stop why ns last reason path.3 (shut end m ms (IsEnd sum size log slot place stop why) is ends)

@@ -58,10 +58,7 @@ fn place_from(lsn: Lsn) -> u64
 }
 
 /// What is left for an iterator from a place on.
-fn begin_at<D: Device, C: Checksum>(
-    config: &mut RunningConfig<D, C>,
-    stable: u64,
-) -> Result<Rest>
+fn begin_at<D: Device, C: Checksum>(config: &mut RunningConfig<D, C>, stable: u64) -> Result<Rest>
     ensures begins { let size = config.old.config.segment_size in let s = state_of (D.trace config.old.device) in
         IfOk result (λ r. Begins C.sum_of size s.log.bytes s.blobs.file (stable / size * size) (IsLeft D.trace C.sum_of config.old r)) }
     ensures fits { IfOk result (CanGoOn config.old.config.segment_size) }
@@ -117,11 +114,7 @@ fn tail_end<D: Device, C: Checksum>(
 }
 
 /// What is left of segments, where the tail ends there, or where no segment of it was read.
-fn rest_of<D, C>(
-    config: &RunningConfig<D, C>,
-    segments: Vec<Segment>,
-    end: Option<u64>,
-) -> Rest
+fn rest_of<D, C>(config: &RunningConfig<D, C>, segments: Vec<Segment>, end: Option<u64>) -> Rest
     requires ascending { is_ascending segments.items ≡ true }
     ensures segments { result.segments.items ≡ begun_below (unwrap_or end 0) segments.items }
     ensures end { result.end ≡ unwrap_or end 0 }

@@ -37,7 +37,7 @@ returns-in-Ok-scan_slot-clause-ahead g c = λ items damaged left.
     let inside = next_inside g.D.Device.trace g.C.Checksum.sum_of c.args.config.now r s c.requires.more c.index.ensures c.requires.done items damaged left in
     let same = ap (λ (x : Config). x.segment_size) c.in-Ok.ensures.config in
     let whole = replayed_whole g.C.Checksum.sum_of cfg.segment_size s log c.in-Ok.buf _ same c.in-Ok.ensures.offset c.in-Ok.ensures.bytes (read_there cfg.segment_size log s ends inside) r.end
-        c.in-Ok-scan_slot.scan.met.items c.in-Ok-scan_slot.scan.stop c.in-Ok-scan_slot.scan.ending c.in-Ok-scan_slot.ensures.passed in
+    c.in-Ok-scan_slot.scan.met.items c.in-Ok-scan_slot.scan.stop c.in-Ok-scan_slot.scan.ending c.in-Ok-scan_slot.ensures.passed in
     segment_kept g.D.Device.trace g.C.Checksum.sum_of c.args.config.now r s c.requires.more c.index.ensures c.requires.done items damaged left (scanned_of s c.in-Ok-scan_slot.scan) refl whole q refl refl refl refl refl
 
 pub returns-in-Ok-clause-ahead : goal.returns-in-Ok-clause-ahead
