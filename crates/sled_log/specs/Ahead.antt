@@ -1,5 +1,5 @@
 -- What the code of an iterator keeps of the segments that it reads, and what is ahead of it.
-use Rattle.std.specs.Prelude.{◌≡◌, ◌≢◌, ◌+◌, ◌^◌, ◌%◌, ◌≤◌, ◌<◌, ℕ, ℤ, Bool, true, false, List, [], ◌∷◌, length, drop, Option, Some, None, Result, Ok, Err, Contains}
+use Rattle.std.specs.Prelude.{◌≡◌, ◌≢◌, ◌+◌, ◌-◌, ◌*◌, ◌^◌, ◌%◌, ◌≤◌, ◌<◌, ℕ, ℤ, Bool, true, false, List, [], ◌∷◌, length, drop, Option, Some, None, Result, Ok, Err, Contains}
 use Rattle.std.specs.List.{All}
 use Rattle.sled_codec.specs.declared.result.Error.{Error}
 use Rattle.sled_codec.specs.declared.serialization.message.MessageKind.{MessageKind}
@@ -32,6 +32,10 @@ CanGoOn size r = (r.end < 2 ^ 63) × All (HasEnds size) r.segments.items × All 
 -- nothing is left
 abbrev pub IsSpent : Rest → Type 0
 IsSpent r = (length r.segments.items ≤ r.read) × (length r.met.items ≤ r.given)
+
+-- Not more messages than this are left: in a segment that was not read there are fewer than a number of 64 bits counts.
+abbrev pub most_left : Rest → ℕ
+most_left r = (length r.segments.items - r.read) * 2 ^ 64 + (length r.met.items - r.given)
 
 -- What is left gives these messages, and then damage or the end: the records that were read and not given, and then the segments that were not read.
 unfoldable pub IsLeft : {D C : Type 0} → (D → Trace) → (List ℕ → ℕ) → RunningConfig D C → Rest → List Item → Bool → Type 0

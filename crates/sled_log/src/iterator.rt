@@ -2,10 +2,7 @@
 //!
 //! An iterator keeps the segments that it goes over, and of one of them the records. A segment is read when its first record
 //! is asked for, and a blob when it is the turn of the record that names it.
-ghost use Rattle.std.specs.Prelude.{◌≡◌, ℕ, List, Bool, None};
-ghost use Rattle.sled_store.specs.Device.{state_of};
-ghost use Rattle.sled_core.specs.Keeps.{OnlyReads};
-ghost use Rattle.sled_log.specs.Iterates.{Item, NextGives, NextAnswers, BehindLast};
+ghost use Rattle.std.specs.Iterator.{at_most};
 ghost use Rattle.sled_log.specs.Ahead.{CanGoOn};
 
 pub(crate) mod begin;
@@ -17,7 +14,8 @@ use sled_codec::result::{DiskPtr, Lsn, PageId, Result};
 use sled_codec::serialization::{Checksum, LogKind};
 use sled_store::{Device, RunningConfig};
 
-/// Goes over the messages of a log file, and borrows what that is on.
+/// Goes over the messages of a log file, and borrows what that is on. It ends: a number bounds what is ahead of it. What a
+/// call of `next` gives is `IsNext` of `specs/Iterators.antt`.
 #[derive(Drop)]
 pub struct LogIter<'a, D, C> {
     pub(crate) config: &'a mut RunningConfig<D, C>,
@@ -25,26 +23,23 @@ pub struct LogIter<'a, D, C> {
     ghost fits: { CanGoOn config.now.config.segment_size rest },
 }
 
-impl<D: Device, C: Checksum> LogIter<'_, D, C> {
-    ghost use Rattle.sled_log.specs.Iterators.{borrowed_by, IsAhead, IsOver};
+impl<D: Device, C: Checksum> Iterator for LogIter<'_, D, C> {
+    /// What a message does, its page, its place, its pointer and the length of its record.
+    type Item = Result<(LogKind, PageId, Lsn, DiskPtr, u64)>;
 
-    /// Returns the next message: what it does, its page, its place, its pointer and the length of its record. `None` where
-    /// none is left, and from then on; and also behind an error.
+    ghost use Rattle.sled_log.specs.Iterators.{IsNext, most_ahead};
+
+    ghost next_gives = { IsNext D.trace D.faults C.sum_of };
+
+    ghost remaining = { λ it. at_most (most_ahead it) };
+
+    /// Returns the next message. `None` where none is left, and from then on; and also behind an error.
     ///
     /// # Errors
     ///
     /// `Io` where the device failed in this call, and `OutOfMemory`; `Corruption` where a damaged record is met in the next
     /// segment, or where the blob of the next record doesn't pass for it (named where its checksum fails).
-    pub fn next(&mut self) -> Option<Result<(LogKind, PageId, Lsn, DiskPtr, u64)>>
-        ensures gives { (items : List Item) (damaged : Bool) → IsAhead D.trace C.sum_of self.old items damaged
-            → NextGives (IsAhead D.trace C.sum_of self.new) items damaged result }
-        ensures ended { BehindLast result (IsOver self.new) }
-        ensures over { IsOver self.old → result ≡ None }
-        ensures answers { let blobs = (state_of (D.trace (borrowed_by self.old).now.device)).blobs.file in
-            NextAnswers C.sum_of blobs result (D.faults (borrowed_by self.old).now.device) (D.faults (borrowed_by self.new).now.device) }
-        ensures reads { OnlyReads D.trace (borrowed_by self.old).now (borrowed_by self.new).now }
-        ensures same_reference { (borrowed_by self.new).ghost_name ≡ (borrowed_by self.old).ghost_name }
-    {
+    fn next(&mut self) -> Option<Result<(LogKind, PageId, Lsn, DiskPtr, u64)>> {
         self.rest.next(self.config)
     }
 }

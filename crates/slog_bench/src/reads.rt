@@ -54,10 +54,10 @@ fn iterate(config: &mut Running, from: i64, out: &mut Answer) {
 }
 
 // Adds each message, an error, and a dash where none is left.
-fn push_all(mut messages: LogIter<'_, MemDevice, PlaceSum>, out: &mut Answer) {
-    for _ in 0..u64::MAX {
-        match messages.next() {
-            Some(Ok((kind, page, place, at, len))) => {
+fn push_all(messages: LogIter<'_, MemDevice, PlaceSum>, out: &mut Answer) {
+    for message in messages {
+        match message {
+            Ok((kind, page, place, at, len)) => {
                 out.text.push("(");
                 out.text.signed(place);
                 out.text.push(" ");
@@ -66,11 +66,10 @@ fn push_all(mut messages: LogIter<'_, MemDevice, PlaceSum>, out: &mut Answer) {
                 push_message(kind, page, at, &mut out.text);
                 out.text.push(") ");
             }
-            Some(Err(e)) => {
+            Err(e) => {
                 out.error(&e);
                 out.text.push(" ");
             }
-            None => break,
         }
     }
     out.text.push("-");

@@ -1,5 +1,5 @@
 -- What comes of a record that has its turn, and what an error says.
-use Rattle.std.proofs.Common.{◌≡◌, ◌∙◌, ◌++◌, ℕ, ℤ, Bool, true, List, [], ◌∷◌, Option, Some, None, Result, Ok, Err, refl, sym, ap, subst}
+use Rattle.std.proofs.Common.{◌≡◌, ◌∙◌, ◌++◌, ℕ, ℤ, Bool, true, List, [], ◌∷◌, Option, Some, None, Result, Ok, Err, OnSome, IfSome, IfNone, refl, sym, ap, subst}
 use Rattle.sled_codec.specs.declared.result.Error.{Error}
 use Rattle.sled_codec.specs.declared.result.Error.TheVariants as error
 use Rattle.sled_codec.specs.Errors.{IsCorrupt}
@@ -39,3 +39,16 @@ pub next_as : (ahead after : List Item → Bool → Type 0) → ((items : List I
 next_as ahead after then items damaged None gives = gives
 next_as ahead after then items damaged (Some (Ok item)) gives = (gives.0, gives.1, then gives.0 damaged gives.2)
 next_as ahead after then items damaged (Some (Err e)) gives = gives
+
+-- what holds where a message or an error came, and where none came
+pub some_as : {X : Type 0} (o : Option X) (P Q : Type 0) → (P → Q) → OnSome o P → OnSome o Q
+some_as None P Q more holds = tt
+some_as (Some x) P Q more holds = more holds
+
+pub some_so : {X : Type 0} (o : Option X) (P : X → Type 0) → ((x : X) → P x) → IfSome o P
+some_so None P holds = tt
+some_so (Some x) P holds = holds x
+
+pub none_so : {X : Type 0} (o : Option X) (P : Type 0) → P → IfNone o P
+none_so None P holds = holds
+none_so (Some x) P holds = tt

@@ -1,12 +1,12 @@
 //! What is left of a log file for an iterator to give (`specs/Ahead.antt`).
-ghost use Rattle.std.specs.Prelude.{◌≡◌, ◌+◌, ◌^◌, ◌≤◌, ◌<◌, ℕ, List, Bool, Ok, None, length, IfOk, OnOk, IfNone};
+ghost use Rattle.std.specs.Prelude.{◌≡◌, ◌+◌, ◌^◌, ◌≤◌, ◌<◌, ℕ, List, Bool, Ok, None, length, IfOk, OnOk, IfNone, OnSome};
 ghost use Rattle.sled_codec.specs.Errors.{IsCorruption};
 ghost use Rattle.sled_store.specs.Blobs.{ItemAnswers};
 ghost use Rattle.sled_store.specs.Causes.{DeviceAnswers};
 ghost use Rattle.sled_store.specs.Device.{state_of};
 ghost use Rattle.sled_core.specs.Keeps.{OnlyReads};
 ghost use Rattle.sled_log.specs.Iterates.{Item, items_of, NextGives, NextAnswers, BehindLast};
-ghost use Rattle.sled_log.specs.Ahead.{CanGoOn, IsLeft, IsSpent, Finds, IsEnd, ReadsOn, those_of};
+ghost use Rattle.sled_log.specs.Ahead.{CanGoOn, IsLeft, IsSpent, Finds, IsEnd, ReadsOn, most_left, those_of};
 
 use crate::snapshot::blobs::with_blob;
 use crate::snapshot::page_table::opens;
@@ -44,6 +44,7 @@ impl Rest {
             → NextGives (IsLeft D.trace C.sum_of config.old self.new) items damaged result }
         ensures ended { BehindLast result (IsSpent self.new) }
         ensures over { IsSpent self.old → result ≡ None }
+        ensures fewer { OnSome result (most_left self.new < most_left self.old) }
         ensures answers { let blobs = (state_of (D.trace config.old.device)).blobs.file in
             NextAnswers C.sum_of blobs result (D.faults config.old.device) (D.faults config.new.device) }
         ensures reads { OnlyReads D.trace config.old config.new }
@@ -70,6 +71,7 @@ impl Rest {
             → Finds (IsLeft D.trace C.sum_of config.old self.new) IsEnd items damaged result }
         ensures spent { IfOk result (λ o. IfNone o (IsSpent self.new)) }
         ensures over { IsSpent self.old → result ≡ Ok None }
+        ensures fewer { IfOk result (λ o. OnSome o (most_left self.new < most_left self.old)) }
         ensures answers { let blobs = (state_of (D.trace config.old.device)).blobs.file in
             ItemAnswers C.sum_of blobs result (D.faults config.old.device) (D.faults config.new.device) }
         ensures reads { OnlyReads D.trace config.old config.new }
@@ -104,6 +106,8 @@ impl Rest {
         ensures on { self.new.read < length self.new.segments.items → self.new.read ≡ self.old.read }
         ensures segments { self.new.segments ≡ self.old.segments }
         ensures over { IsSpent self.old → (result ≡ Ok None) × IsSpent self.new }
+        ensures fewer { IfOk result (λ o. OnSome o (most_left self.new < most_left self.old)) }
+        ensures no_more { most_left self.new ≤ most_left self.old }
         ensures answers { let blobs = (state_of (D.trace config.old.device)).blobs.file in
             ItemAnswers C.sum_of blobs result (D.faults config.old.device) (D.faults config.new.device) }
         ensures reads { OnlyReads D.trace config.old config.new }
@@ -141,6 +145,7 @@ impl Rest {
             → ReadsOn (IsLeft D.trace C.sum_of config.old self.new) items damaged result }
         ensures on { self.new.read ≡ self.old.read + 1 }
         ensures segments { self.new.segments ≡ self.old.segments }
+        ensures no_more { OnOk result (most_left self.new ≤ most_left self.old) }
         ensures answers { DeviceAnswers result (D.faults config.old.device) (D.faults config.new.device) }
         ensures reads { OnlyReads D.trace config.old config.new }
     {

@@ -53,6 +53,7 @@ loop-message-preserved g c =
           let none = c.in-Ok-None.ensures.over (i.spent over) in
           let last = none.1.0 in
           absurd (omega (arith, more, last));
+      no_more = omega (arith, c.in-Ok.ensures.no_more, c.next_met.ensures.no_more, i.no_more);
       trace = behind.unwritten ∙ reads.unwritten ∙ i.trace;
       faults = c.in-Ok.ensures.answers ∙ c.in-Ok-None.ensures.answers ∙ i.faults;
       config = behind.config ∙ reads.config ∙ i.config;
