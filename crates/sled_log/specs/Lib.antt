@@ -1,3 +1,6 @@
+pub mod Ahead
+pub mod Iterates
+pub mod Iterators
 pub mod Ordering
 pub mod Orderly
 pub mod OwnPast

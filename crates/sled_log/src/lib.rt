@@ -7,6 +7,7 @@
 
 pub use sled_codec::{result as result, serialization as serialization};
 
+pub mod iterator;
 pub mod laws;
 pub mod own;
 pub mod restart;

@@ -8,7 +8,8 @@ use crate::texts::Text;
 use crate::world::Running;
 use sled_core::iterator::scan::{RecordContent, ScanEnd, ScannedRecord, SegmentScan, scan};
 use sled_core::iterator::{Segment, read_slot, segment_in};
-use sled_log::device::PlaceSum;
+use sled_log::device::{MemDevice, PlaceSum};
+use sled_log::iterator::{LogIter, raw_segment_iter_from};
 use sled_log::logger::{BasedBuf, DiskPtr, LogKind, PageId, ReadAt, SegmentNumber, read_message};
 use std::alloc::Global;
 
@@ -16,7 +17,7 @@ use std::alloc::Global;
 pub fn has(name: &str) -> bool {
     name.starts_with("pread")
         || name.starts_with("message")
-        || matches!(name, "buffer" | "slot" | "segment" | "scan")
+        || matches!(name, "buffer" | "slot" | "segment" | "scan" | "iterate")
 }
 
 /// Makes the call of this name, of the device or of the buffer.
@@ -39,8 +40,39 @@ pub fn call(
         "message" => message(config, None, words, out),
         "message_in" => message(config, Some(buffer), words, out),
         "scan" => records(config, buffer, words.number(), out),
+        "iterate" => iterate(config, words.signed(), out),
         _ => bytes(alloc, config, buffer, name, words, out),
     }
+}
+
+// Goes over the messages of the log file from a place on.
+fn iterate(config: &mut Running, from: i64, out: &mut Answer) {
+    match raw_segment_iter_from(from, config) {
+        Ok(messages) => push_all(messages, out),
+        Err(e) => out.error(&e),
+    }
+}
+
+// Adds each message, an error, and a dash where none is left.
+fn push_all(messages: LogIter<'_, MemDevice, PlaceSum>, out: &mut Answer) {
+    for message in messages {
+        match message {
+            Ok((kind, page, place, at, len)) => {
+                out.text.push("(");
+                out.text.signed(place);
+                out.text.push(" ");
+                out.text.number(len);
+                out.text.push(" ");
+                push_message(kind, page, at, &mut out.text);
+                out.text.push(") ");
+            }
+            Err(e) => {
+                out.error(&e);
+                out.text.push(" ");
+            }
+        }
+    }
+    out.text.push("-");
 }
 
 // Reads a slot into the buffer.

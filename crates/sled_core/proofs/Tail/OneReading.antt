@@ -75,7 +75,7 @@ said_formed h body lid (BatchStart peg) said needs other = other said.1.unsigned
 module _ (sum : List ℕ → ℕ) (size : ℕ) (log : List ℕ) where
   -- At one offset one record is met.
   module _ (lid number : ℕ) (x : ScannedRecord) (a : IsMet sum size log lid number x) where
-    one_met : (y : ScannedRecord) → IsMet sum size log lid number y → x.place ≡ y.place → x ≡ y
+    pub one_met : (y : ScannedRecord) → IsMet sum size log lid number y → x.place ≡ y.place → x ≡ y
     unfolding IsMet
     one_met y b places =
         let header : a.0 ≡ b.0 = one_header sum size log lid number a.0 b.0 a.1 b.1 x.len y.len a.2 b.2 in
@@ -95,7 +95,7 @@ module _ (sum : List ℕ → ℕ) (size : ℕ) (log : List ℕ) where
     met_no_end Broken ends = ends a.0 a.1 x.len a.2
 
     -- and no damaged record stands there
-    met_formed : IsMalformed sum size log lid number → ⊥
+    pub met_formed : IsMalformed sum size log lid number → ⊥
     unfolding IsMet
     met_formed bad =
         let header : bad.header ≡ a.0 = one_header sum size log lid number bad.header a.0 bad.body a.1 bad.len x.len bad.stands a.2 in
@@ -113,13 +113,13 @@ module _ (sum : List ℕ → ℕ) (size : ℕ) (log : List ℕ) where
     End at why = IsEnd sum size log slot place at why
 
     -- where a record is met the reading doesn't end
-    no_end_at : (at : ℕ) (x : ScannedRecord) (why : ScanEnd) → at + 32 ≤ size → IsMet sum size log (slot + at) (place / size) x → End at why → ⊥
+    pub no_end_at : (at : ℕ) (x : ScannedRecord) (why : ScanEnd) → at + 32 ≤ size → IsMet sum size log (slot + at) (place / size) x → End at why → ⊥
     no_end_at at x Full room met end = omega (arith, room, end)
     no_end_at at x Capped room met end = met_no_end (slot + at) (place / size) x met Capped end.1
     no_end_at at x Broken room met end = met_no_end (slot + at) (place / size) x met Broken end.1
 
     -- nor does a damaged record stand where it ends
-    end_formed : (at : ℕ) (why : ScanEnd) → at + 32 ≤ size → End at why → IsMalformed sum size log (slot + at) (place / size) → ⊥
+    pub end_formed : (at : ℕ) (why : ScanEnd) → at + 32 ≤ size → End at why → IsMalformed sum size log (slot + at) (place / size) → ⊥
     unfolding EndsThere
     end_formed at Full room end bad = omega (arith, room, end)
     end_formed at Capped room end bad =

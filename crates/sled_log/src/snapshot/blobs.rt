@@ -67,7 +67,7 @@ pub(crate) fn check<D: Device, C: Checksum>(
 }
 
 /// A record with the blob that it names, if any.
-fn with_blob<D: Device, C: Checksum>(
+pub(crate) fn with_blob<D: Device, C: Checksum>(
     config: &mut RunningConfig<D, C>,
     met: ScannedRecord,
 ) -> Result<ScannedRecord>

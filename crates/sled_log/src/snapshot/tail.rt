@@ -124,7 +124,7 @@ pub(crate) fn look_up<D: Device, C: Checksum>(
 }
 
 /// Reads the blob of each record of these segments that names one. `Corruption` comes where a blob doesn't pass for its record.
-fn check_passes<D: Device, C: Checksum>(
+pub(crate) fn check_passes<D: Device, C: Checksum>(
     config: &mut RunningConfig<D, C>,
     passes: &[Pass],
 ) -> Result<()>

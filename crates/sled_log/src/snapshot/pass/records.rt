@@ -46,7 +46,7 @@ pub(crate) fn scan_up_to<D: Device, C: Checksum>(
 }
 
 /// The same, where the buffer has the bytes of its slot.
-fn scan_slot<D: Device, C: Checksum>(
+pub(crate) fn scan_slot<D: Device, C: Checksum>(
     config: &mut RunningConfig<D, C>,
     buf: &BasedBuf,
     segment: &Segment,

@@ -1,0 +1,81 @@
+-- What is met in a segment can be given, and the segments that were found can be read.
+use Rattle.std.proofs.Common.{◌≡◌, ◌≢◌, ◌+◌, ◌^◌, ◌<◌, ◌≤◌, ◌%◌, ℕ, ℤ, Bool, true, false, nat_lt, if◌then◌else◌, List, [], ◌∷◌, length, map, get_or, take, drop, refl, subst, arith, inl, inr}
+use Rattle.std.specs.List.{All, Contains}
+use Rattle.std.proofs.lemmas.List.Elements.{All-cons, All-nil, Contains-get_or}
+use Rattle.sled_codec.specs.declared.serialization.message.MessageKind.{MessageKind}
+use Rattle.sled_codec.specs.declared.serialization.message.MessageKind.TheVariants.{Corrupted}
+use Rattle.sled_core.specs.declared.iterator.Segment.{Segment}
+use Rattle.sled_core.specs.declared.iterator.scan.ScannedRecord.{ScannedRecord}
+use Rattle.sled_core.specs.declared.iterator.scan.RecordContent.{RecordContent}
+use Rattle.sled_core.specs.declared.iterator.scan.RecordContent.TheVariants.{Gives, NamesBlob, Skipped, BatchStart}
+use Rattle.sled_core.specs.declared.iterator.scan.ScanEnd.{ScanEnd}
+use Rattle.sled_core.specs.declared.iterator.scan.ScanEnd.TheVariants.{Full, Capped, Broken}
+use Rattle.sled_store.proofs.Segments.Elements.{in_cases, in_first, in_nothing, in_rest}
+use Rattle.sled_log.specs.declared.snapshot.pass.Pass.{Pass}
+use Rattle.sled_log.specs.Recovery.{Scanned, NamesKind, IsTail, GoesOn, begun_below}
+use Rattle.sled_log.specs.Passes.{CanBeRead, pass_of}
+use Rattle.sled_log.specs.Ahead.{CanBeGiven, HasEnds, KnowsKind}
+use Rattle.sled_log.proofs.Passes.Ascending.{begun_first}
+use Rattle.sled_log.proofs.Passes.Blobs.{HasKinds}
+use Rattle.sled_log.proofs.Replay.LookLemmas.{scan_kinds}
+
+-- a kind is known, in one way of saying it and in the other
+pub knows : (what : RecordContent) → NamesKind what → KnowsKind what
+knows (Gives k p pointer) known = λ kind page lid place is. cc
+knows (NamesBlob k p at b) known = λ kind page lid place is no.
+    let same : k ≡ kind = cc in
+    known (let e = no in cc)
+knows Skipped known = λ kind page lid place is. cc
+knows (BatchStart peg) known = λ kind page lid place is. cc
+
+pub known : (what : RecordContent) → KnowsKind what → NamesKind what
+known (Gives k p pointer) knows = tt
+known (NamesBlob k p at b) knows = knows k p at b refl
+known Skipped knows = tt
+known (BatchStart peg) knows = tt
+
+-- what is met in a segment that ends below the last place
+pub met_given : (size : ℕ) (s : Segment) (ms : List ScannedRecord) → s.place + size < 2 ^ 63 → All (λ m. m.place < s.place + size) ms → All (λ m. NamesKind m.what) ms → All CanBeGiven ms
+met_given size s ms ends places kinds = λ k d lt. let below = places k d lt in (omega (arith, below, ends), knows (get_or ms k d).what (kinds k d lt))
+
+-- a segment that lies in the file can be read
+pub read_there : (size : ℕ) (log : List ℕ) (s : Segment) → HasEnds size s → s.slot ≤ length log → CanBeRead size log s
+read_there size log s ends inside = record { aligned = ends.0; inside = inside; slot = ends.1; place = ends.2 }
+
+-- those that can be read have their ends, and lie in the file
+pub ends_of_all : (size : ℕ) (log : List ℕ) (ss : List Segment) → ((s : Segment) → Contains ss s → CanBeRead size log s) → All (HasEnds size) ss
+ends_of_all size log ss ready = λ k d lt.
+    let can = ready (get_or ss k d) (Contains-get_or ss k d lt) in
+    (can.aligned, can.slot, can.place)
+
+-- what begins below a place is among all
+pub begun_in : (end : ℕ) (ss : List Segment) (s : Segment) → Contains (begun_below end ss) s → Contains ss s
+begun_in end [] s there = there
+begun_in end (x ∷ ss) s there = by (nat_lt x.place end) (begun_in end ss s) there where
+  by : (b : Bool) → (Contains (begun_below end ss) s → Contains ss s) → Contains (if b then x ∷ begun_below end ss else begun_below end ss) s → Contains (x ∷ ss) s
+  by true rest there = elim (in_cases x s (begun_below end ss) there) [
+    | inl same ↦ subst (λ (y : Segment). Contains (x ∷ ss) y) same (in_first x ss)
+    | inr later ↦ in_rest x s ss (rest later)
+  ]
+  by false rest there = in_rest x s ss (rest there)
+
+-- no segment begins below 0
+pub none_begun : (ss : List Segment) → begun_below 0 ss ≡ []
+none_begun ss = begun_first 0 0 ss (λ k d lt. absurd (omega (arith, lt))) (λ k d lt. omega arith)
+
+-- what is met in the tail is of kinds that are known
+module _ (sum : List ℕ → ℕ) (size : ℕ) (log : List ℕ) (ordering : List Segment) where
+  nothing_left : (ps : List Pass) → map pass_of ps ≡ [] → All HasKinds ps
+  nothing_left [] is = All-nil HasKinds
+  nothing_left (p ∷ ps) is = absurd (cc)
+
+  behind : (why : ScanEnd) (ps : List Pass) (on : Type 0) → (on → All HasKinds ps) → GoesOn why (map pass_of ps) on → All HasKinds ps
+  behind Broken ps on kinds goes = nothing_left ps goes
+  behind Full ps on kinds goes = kinds goes
+  behind Capped ps on kinds goes = kinds goes
+
+  pub tail_kinds : (place : ℕ) (ps : List Pass) → IsTail sum size log ordering place (map pass_of ps) → All HasKinds ps
+  tail_kinds place [] tail = All-nil HasKinds
+  tail_kinds place (p ∷ ps) tail =
+      All-cons HasKinds p ps (scan_kinds sum size log p.segment.slot p.segment.place p.scan.met.items p.scan.stop p.scan.ending tail.2)
+      (behind p.scan.ending ps (IsTail sum size log ordering (place + size) (map pass_of ps)) (tail_kinds (place + size) ps) tail.3)

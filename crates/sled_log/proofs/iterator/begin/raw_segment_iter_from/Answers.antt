@@ -1,0 +1,32 @@
+use Rattle.std.proofs.Common.{◌≡◌, ◌∙◌, ◌*◌, ◌/◌, ℕ, ap, subst}
+use Rattle.std.specs.Int.{w64}
+use Rattle.std.proofs.lemmas.Int.{to_z-of_z}
+use Rattle.sled_store.specs.Device.{state_of}
+use Rattle.sled_log.specs.Recovery.{place_of_mark}
+use Rattle.sled_log.specs.Iterates.{Begins, IsDamagedFrom, begins_from}
+use Rattle.sled_log.specs.Iterators.{IsAhead}
+use Rattle.sled_log.specs.Ahead.{IsLeft}
+use Rattle.sled_log.proofs.Iterates.BeginLemmas.{begins_as}
+use Rattle.sled_log.proofs.Iterates.LeftLemmas.{left_still}
+use Rattle.sled_log.proofs.iterator.begin.raw_segment_iter_from.Goals as goal
+
+pub returns-in-Err-clause-answers : goal.returns-in-Err-clause-answers
+returns-in-Err-clause-answers g c = (g.D.Device.faults c.begin_at.new.config.device, c.in-Err.ensures.answers)
+
+pub returns-in-Ok-clause-begins : goal.returns-in-Ok-clause-begins
+unfolding IsAhead
+returns-in-Ok-clause-begins g c =
+    let size : ℕ = c.args.config.now.config.segment_size in
+    let s = state_of (g.D.Device.trace c.args.config.now.device) in
+    let from : c.place_from.result ≡ place_of_mark c.args.lsn = c.place_from.ensures ∙ ap place_of_mark (to_z-of_z w64 c.args.lsn c.ranges.lsn) in
+    let here = subst (λ n. Begins g.C.Checksum.sum_of size s.log.bytes s.blobs.file (n / size * size) (IsLeft g.D.Device.trace g.C.Checksum.sum_of c.args.config.now c.in-Ok.rest)) from c.in-Ok.ensures.begins in
+    begins_as g.C.Checksum.sum_of size s.log.bytes s.blobs.file (begins_from size c.args.lsn) (IsLeft g.D.Device.trace g.C.Checksum.sum_of c.args.config.now c.in-Ok.rest) (IsLeft g.D.Device.trace g.C.Checksum.sum_of c.begin_at.new.config c.in-Ok.rest)
+    (λ items damaged left. left_still g.D.Device.trace g.C.Checksum.sum_of c.args.config.now c.begin_at.new.config c.in-Ok.rest items damaged c.in-Ok.ensures.reads left)
+    here
+
+pub returns-in-Err-clause-corrupt : goal.returns-in-Err-clause-corrupt
+returns-in-Err-clause-corrupt g c = λ corrupt.
+    let size : ℕ = c.args.config.now.config.segment_size in
+    let s = state_of (g.D.Device.trace c.args.config.now.device) in
+    let from : c.place_from.result ≡ place_of_mark c.args.lsn = c.place_from.ensures ∙ ap place_of_mark (to_z-of_z w64 c.args.lsn c.ranges.lsn) in
+    subst (λ n. IsDamagedFrom g.C.Checksum.sum_of size s.log.bytes s.blobs.file (n / size * size)) from (c.in-Err.ensures.corrupt corrupt)

@@ -1,0 +1,136 @@
+//! Where an iterator begins: the segments are found and the tail of the log is read, and then nothing more.
+ghost use Rattle.std.specs.Prelude.{◌≡◌, ◌+◌, ◌*◌, ◌/◌, ◌%◌, ◌^◌, ◌<◌, ℕ, true, List, [], IfOk, unwrap_or, Contains};
+ghost use Rattle.std.specs.List.{All};
+ghost use Rattle.sled_codec.specs.Errors.{IsCorruption};
+ghost use Rattle.sled_store.specs.Blobs.{ItemAnswers};
+ghost use Rattle.sled_store.specs.Device.{state_of};
+ghost use Rattle.sled_core.specs.Keeps.{OnlyReads};
+ghost use Rattle.sled_core.specs.declared.iterator.Segment.{Segment};
+ghost use Rattle.sled_log.specs.Recovery.{Scanned, IsTail, IsDamagedTail, HaveGoodBlobs, begun_below, is_ascending, place_of_mark, tail_end};
+ghost use Rattle.sled_log.specs.Passes.{CanBeRead};
+ghost use Rattle.sled_log.specs.Iterates.{Begins, IsDamagedFrom, begins_from, BeginAnswers};
+ghost use Rattle.sled_log.specs.Iterators.{borrowed_by, IsAhead};
+ghost use Rattle.sled_log.specs.Ahead.{CanGoOn, IsLeft};
+
+use crate::iterator::LogIter;
+use crate::iterator::rest::Rest;
+use crate::snapshot::ordering::find_segments;
+use crate::snapshot::tail::{check_passes, count_below, read_tail, tail_begins};
+use sled_codec::result::{Lsn, Result};
+use sled_codec::serialization::Checksum;
+use sled_core::iterator::Segment;
+use sled_store::{Device, RunningConfig};
+
+/// Returns an iterator over the messages of a device's log file, from the beginning of the segment that holds a place;
+/// a negative place counts as 0. The segments are found and the tail is read as a recovery does from a snapshot with that
+/// place. Nothing is written.
+///
+/// # Errors
+///
+/// `Corruption` where segments are found that can't be of one log, where a damaged record is met in the tail, or where the
+/// blob of one of its records doesn't pass for it (named where its checksum fails); `Io` where the device failed, and
+/// `OutOfMemory`.
+pub fn raw_segment_iter_from<'a, D: Device, C: Checksum>(
+    lsn: Lsn,
+    config: &'a mut RunningConfig<D, C>,
+) -> Result<LogIter<'a, D, C>>
+    ensures begins { let size = config.old.config.segment_size in let s = state_of (D.trace config.old.device) in
+        IfOk result (λ it. Begins C.sum_of size s.log.bytes s.blobs.file (begins_from size lsn) (IsAhead D.trace C.sum_of it)) }
+    ensures corrupt { let size = config.old.config.segment_size in let s = state_of (D.trace config.old.device) in
+        IsCorruption result → IsDamagedFrom C.sum_of size s.log.bytes s.blobs.file (begins_from size lsn) }
+    ensures answers { let blobs = (state_of (D.trace config.old.device)).blobs.file in
+        BeginAnswers C.sum_of blobs result (D.faults config.old.device) }
+    ensures faults { IfOk result (λ it. D.faults (borrowed_by it).now.device ≡ D.faults config.old.device) }
+    ensures reads { IfOk result (λ it. OnlyReads D.trace config.old (borrowed_by it).now) }
+    ensures same_reference { IfOk result (λ it. (borrowed_by it).ghost_name ≡ config.entry.ghost_name) }
+{
+    match begin_at(config, place_from(lsn)) {
+        Ok(rest) => Ok(LogIter { config, rest }),
+        Err(e) => Err(e),
+    }
+}
+
+/// The place that an iterator begins from.
+fn place_from(lsn: Lsn) -> u64
+    ensures { result ≡ place_of_mark lsn }
+{
+    u64::try_from(lsn).unwrap_or(0)
+}
+
+/// What is left for an iterator from a place on.
+fn begin_at<D: Device, C: Checksum>(config: &mut RunningConfig<D, C>, stable: u64) -> Result<Rest>
+    ensures begins { let size = config.old.config.segment_size in let s = state_of (D.trace config.old.device) in
+        IfOk result (λ r. Begins C.sum_of size s.log.bytes s.blobs.file (stable / size * size) (IsLeft D.trace C.sum_of config.old r)) }
+    ensures fits { IfOk result (CanGoOn config.old.config.segment_size) }
+    ensures corrupt { let size = config.old.config.segment_size in let s = state_of (D.trace config.old.device) in
+        IsCorruption result → IsDamagedFrom C.sum_of size s.log.bytes s.blobs.file (stable / size * size) }
+    ensures answers { let blobs = (state_of (D.trace config.old.device)).blobs.file in
+        ItemAnswers C.sum_of blobs result (D.faults config.old.device) (D.faults config.new.device) }
+    ensures reads { OnlyReads D.trace config.old config.new }
+{
+    let size = config.config.segment_size;
+    let least = stable / size * size;
+    match find_segments(config, least) {
+        Ok(segments) => {
+            let begin = tail_begins(size, least, &segments);
+            match tail_end(config, &segments, begin) {
+                Ok(end) => Ok(rest_of(config, segments, end)),
+                Err(e) => Err(e),
+            }
+        }
+        Err(e) => Err(e),
+    }
+}
+
+/// Where the tail of these segments ends, where a segment of it is there. `Corruption` comes where a damaged record is met in
+/// it, or one whose blob doesn't pass for it.
+fn tail_end<D: Device, C: Checksum>(
+    config: &mut RunningConfig<D, C>,
+    segments: &[Segment],
+    begin: u64,
+) -> Result<Option<u64>>
+    requires ready { (s : Segment) → Contains segments.now s → CanBeRead config.old.config.segment_size (state_of (D.trace config.old.device)).log.bytes s }
+    requires ascending { is_ascending segments.now ≡ true }
+    requires placed { All (λ s. s.place % config.old.config.segment_size ≡ 0) segments.now }
+    requires begin { begin % config.old.config.segment_size ≡ 0 }
+    ensures end { let old = state_of (D.trace config.old.device) in
+        IfOk result (λ o. (scanned : List Scanned) × IsTail C.sum_of config.old.config.segment_size old.log.bytes segments.now begin scanned
+        × HaveGoodBlobs C.sum_of old.blobs.file scanned × (tail_end scanned ≡ o)) }
+    ensures small { IfOk result (λ o. unwrap_or o 0 < 2 ^ 63) }
+    ensures damaged { let old = state_of (D.trace config.old.device) in
+        IsCorruption result → IsDamagedTail C.sum_of config.old.config.segment_size old.log.bytes old.blobs.file segments.now begin }
+    ensures answers { let blobs = (state_of (D.trace config.old.device)).blobs.file in
+        ItemAnswers C.sum_of blobs result (D.faults config.old.device) (D.faults config.new.device) }
+    ensures reads { OnlyReads D.trace config.old config.new }
+{
+    let from = count_below(segments, begin);
+    match read_tail(config, &segments[from..], begin) {
+        Ok(tail) => match check_passes(config, &tail.passes) {
+            Ok(()) => Ok(tail.end),
+            Err(e) => Err(e),
+        },
+        Err(e) => Err(e),
+    }
+}
+
+/// What is left of segments, where the tail ends there, or where no segment of it was read.
+fn rest_of<D, C>(config: &RunningConfig<D, C>, segments: Vec<Segment>, end: Option<u64>) -> Rest
+    requires ascending { is_ascending segments.items ≡ true }
+    ensures segments { result.segments.items ≡ begun_below (unwrap_or end 0) segments.items }
+    ensures end { result.end ≡ unwrap_or end 0 }
+    ensures read { result.read ≡ 0 }
+    ensures met { result.met.items ≡ [] }
+    ensures given { result.given ≡ 0 }
+{
+    let mut segments = segments;
+    let end = end.unwrap_or(0);
+    let count = count_below(&segments, end);
+    segments.truncate(count);
+    Rest {
+        segments,
+        read: 0,
+        met: Vec::new(config.alloc()),
+        given: 0,
+        end,
+    }
+}
