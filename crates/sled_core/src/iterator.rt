@@ -1,7 +1,7 @@
 //! Reading a log file: which segments are found in it, and what is met in each.
 //!
 //! `specs/Scan.antt` says what that is, for any log file.
-ghost use Rattle.std.specs.Prelude.{take, ℤ, IfNone, ◌≡◌, ◌-◌, ◌/◌, ◌≤◌, ◌<◌, ℕ, None, pos, IfOk, IfSome};
+ghost use Rattle.std.specs.Prelude.{take, ℤ, IfNone, ◌≡◌, ◌-◌, ◌/◌, ◌≤◌, ◌<◌, ℕ, None, pos, IfOk, IfSome, OnOk};
 ghost use Rattle.sled_codec.specs.Errors.{IsCorruption};
 ghost use Rattle.sled_codec.specs.Places.{part};
 ghost use Rattle.sled_codec.specs.Record.{IsHeader};
@@ -44,11 +44,38 @@ pub fn read_slot<D: Device, C: Checksum>(
     ensures config { config.new.config ≡ config.old.config }
     ensures checksum { config.new.checksum ≡ config.old.checksum }
 {
+    let mut buf = BasedBuf::new(config.alloc());
+    match read_slot_into(config, slot, &mut buf) {
+        Ok(()) => Ok(buf),
+        Err(e) => Err(e),
+    }
+}
+
+/// Reads the bytes of a slot, as far as the file has them, into a buffer, whose memory serves for slot after slot. After
+/// an error the buffer holds nothing that counts.
+///
+/// # Errors
+///
+/// `Io` where the device failed, and `OutOfMemory`.
+pub fn read_slot_into<D: Device, C: Checksum>(
+    config: &mut RunningConfig<D, C>,
+    slot: LogOffset,
+    buf: &mut BasedBuf,
+) -> Result<()>
+    ensures offset { OnOk result (buf.new.offset ≡ slot) }
+    ensures bytes { OnOk result (buf.new.buf.items ≡ part (state_of (D.trace config.old.device)).log.bytes slot config.old.config.segment_size) }
+    ensures answers { DeviceAnswers result (D.faults config.old.device) (D.faults config.new.device) }
+    ensures readable { IsCorruption result → ⊥ }
+    ensures trace { D.trace config.new.device ≡ D.trace config.old.device }
+    ensures config { config.new.config ≡ config.old.config }
+    ensures checksum { config.new.checksum ≡ config.old.checksum }
+{
     let size = config.config.segment_size as usize;
-    let mut buf = vec![in config.alloc(); 0; size]?;
-    let count = config.pread_exact_or_eof(&mut buf, slot)?;
-    buf.truncate(count);
-    Ok(BasedBuf { buf, offset: slot })
+    buf.offset = slot;
+    buf.buf.resize(size, 0)?;
+    let count = config.pread_exact_or_eof(&mut buf.buf, slot)?;
+    buf.buf.truncate(count);
+    Ok(())
 }
 
 /// Returns the segment whose header stands at the beginning of a slot, where one passes there that begins at

@@ -130,12 +130,15 @@ module _ (sum : List ℕ → ℕ) (size : ℕ) (log : List ℕ) (some : 256 ≤ 
     tail_among (x ∷ xs) stands of z has = elim (cases_order x.segment.place z) [
       | inl same ↦ from_here same x.why refl (tail_among xs stands.2 (λ t there. of t (in_rest x t xs there)) (z + size) (has_later z x xs (z + size) (omega arith) (omega (arith, same, some)) has))
       | inr (inl under) ↦ tail_among xs stands.2 (λ t there. of t (in_rest x t xs there)) z (has_later z x xs z (omega arith) under has)
-      | inr (inr over) ↦ ([], λ s there at.
-          let found = has s there (omega (arith, at)) in
-          ⊎_elim
-          (λ same. omega (arith, over, at, ap (λ (t : Scanned). t.segment.place) same, ap (λ (t : Segment). t.place) found.2))
-          (λ later. let far = stands.1 found.0 later in omega (arith, far, over, at, ap (λ (t : Segment). t.place) found.2))
-          (in_cases x found.0 xs found.1))
+      | inr (inr over) ↦ (
+        [],
+        λ s there at.
+            let found = has s there (omega (arith, at)) in
+            ⊎_elim
+            (λ same. omega (arith, over, at, ap (λ (t : Scanned). t.segment.place) same, ap (λ (t : Segment). t.place) found.2))
+            (λ later. let far = stands.1 found.0 later in omega (arith, far, over, at, ap (λ (t : Segment). t.place) found.2))
+            (in_cases x found.0 xs found.1),
+      )
     ] where
       from_here : x.segment.place ≡ z → (why : ScanEnd) → x.why ≡ why → Tail (z + size) → Tail z
       from_here same Broken test rest = (x ∷ [], (of x (in_first x xs), same, stands.0.0, subst (λ (w : ScanEnd). GoesOn w [] (IsTail sum size log ordering (z + size) [])) (sym test) refl))

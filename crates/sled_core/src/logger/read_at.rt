@@ -1,5 +1,5 @@
 //! What bytes of a log file are read from: the device, or a part of the file that was read before.
-ghost use Rattle.std.specs.Prelude.{◌≡◌, ◌≤◌, ◌<◌, ◌+◌, ◌-◌, ◌++◌, ℕ, List, length, take, drop, min, replicate, IfOk, OnOk, IfErr, OnErr};
+ghost use Rattle.std.specs.Prelude.{◌≡◌, ◌≤◌, ◌<◌, ◌+◌, ◌-◌, ◌++◌, ℕ, List, [], length, take, drop, min, replicate, IfOk, OnOk, IfErr, OnErr};
 ghost use Rattle.sled_codec.specs.Errors.{IsCorruption};
 ghost use Rattle.sled_codec.specs.Places.{part};
 ghost use Rattle.sled_store.specs.Device.{Trace, state_of};
@@ -10,6 +10,7 @@ ghost use Rattle.sled_core.specs.declared.logger.read_at.BasedBuf.{BasedBuf};
 
 use sled_codec::result::{Error, LogOffset, Result};
 use sled_store::{Config, Device, RunningConfig};
+use std::alloc::Global;
 
 /// Bytes of a log file from an offset on, up to its end.
 #[derive(Debug, Drop)]
@@ -91,6 +92,16 @@ impl<D: Device, C> ReadAt for RunningConfig<D, C> {
 }
 
 impl BasedBuf {
+    /// Returns one with no bytes.
+    pub fn new(alloc: Global) -> BasedBuf
+        ensures { result.buf.items ≡ [] }
+    {
+        BasedBuf {
+            buf: Vec::new(alloc),
+            offset: 0,
+        }
+    }
+
     /// Copies what there is of a length at an offset, and answers how many bytes that are.
     fn copy_to(&self, dst: &mut [u8], at: u64) -> usize
         requires { self.now.offset ≤ at }

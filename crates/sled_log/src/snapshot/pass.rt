@@ -25,6 +25,7 @@ use sled_codec::serialization::Checksum;
 use sled_codec::serialization::snapshot::{PageState, Snapshot};
 use sled_core::iterator::Segment;
 use sled_core::iterator::scan::SegmentScan;
+use sled_core::logger::read_at::BasedBuf;
 use sled_store::{Device, RunningConfig};
 use std::alloc::Global;
 
@@ -84,11 +85,12 @@ fn passes_below<D: Device, C: Checksum>(
     ensures reads { OnlyReads D.trace config.old config.new }
 {
     let mut passes = Vec::new(config.alloc());
+    let mut buf = BasedBuf::new(config.alloc());
     for segment in segments {
         if segment.place >= end {
             continue;
         }
-        match scan_up_to(config, segment, end) {
+        match scan_up_to(config, segment, end, &mut buf) {
             Ok(scan) => {
                 let stops = is_open(&scan.met, end);
                 let segment = *segment;

@@ -25,6 +25,7 @@ use sled_codec::serialization::Checksum;
 use sled_codec::serialization::snapshot::Snapshot;
 use sled_core::iterator::Segment;
 use sled_core::iterator::scan::SegmentScan;
+use sled_core::logger::read_at::BasedBuf;
 use sled_store::{Device, RunningConfig};
 
 /// Returns what recovery makes of what a device has, for any number of segments: the snapshot, or `None` where the
@@ -176,13 +177,31 @@ fn sound_scan_of<D: Device, C: Checksum>(
         ItemAnswers C.sum_of blobs result (D.faults config.old.device) (D.faults config.new.device) }
     ensures reads { OnlyReads D.trace config.old config.new }
 {
-    match scan_of(config, segment) {
+    match scan_alone(config, segment) {
         Ok(scan) => match check(config, &scan.met) {
             Ok(()) => Ok(scan),
             Err(e) => Err(e),
         },
         Err(e) => Err(e),
     }
+}
+
+/// What is met in a segment, whose slot is read by itself. `Corruption` comes where a damaged record is met.
+fn scan_alone<D: Device, C: Checksum>(
+    config: &mut RunningConfig<D, C>,
+    segment: &Segment,
+) -> Result<SegmentScan>
+    requires { CanBeRead config.old.config.segment_size (state_of (D.trace config.old.device)).log.bytes segment.now }
+    ensures scan { IfOk result (λ s. IsScanned C.sum_of config.old.config.segment_size (state_of (D.trace config.old.device)).log.bytes
+        (scanned_of segment.now s)) }
+    ensures stop { IfOk result (λ s. (20 ≤ s.stop) × (s.stop ≤ config.old.config.segment_size)) }
+    ensures damaged { IsCorruption result → IsDamagedIn C.sum_of config.old.config.segment_size
+        (state_of (D.trace config.old.device)).log.bytes segment.now.slot segment.now.place }
+    ensures answers { DeviceAnswers result (D.faults config.old.device) (D.faults config.new.device) }
+    ensures reads { OnlyReads D.trace config.old config.new }
+{
+    let mut buf = BasedBuf::new(config.alloc());
+    scan_of(config, segment, &mut buf)
 }
 
 /// Where the reading of the tail ends, where a segment of it is there. `Corruption` comes where a damaged

@@ -17,7 +17,8 @@ use crate::snapshot::pass::{Pass, resolve_passes};
 use sled_codec::result::Result;
 use sled_codec::serialization::Checksum;
 use sled_core::iterator::scan::{ScanEnd, SegmentScan, scan};
-use sled_core::iterator::{Segment, read_slot};
+use sled_core::iterator::{Segment, read_slot_into};
+use sled_core::logger::read_at::BasedBuf;
 use sled_store::{Device, RunningConfig};
 
 /// The segments of a tail that was read, and where the reading ended, where one was.
@@ -76,13 +77,14 @@ pub(crate) fn read_tail<D: Device, C: Checksum>(
 {
     let size = config.config.segment_size;
     let mut passes = Vec::new(config.alloc());
+    let mut buf = BasedBuf::new(config.alloc());
     let mut end = None;
     let mut place = begin;
     for segment in segments {
         if segment.place != place {
             return Ok(Tail { passes, end });
         }
-        match scan_of(config, segment) {
+        match scan_of(config, segment, &mut buf) {
             Ok(scan) => {
                 end = Some(place + scan.stop);
                 let breaks = is_broken(scan.ending);
@@ -145,10 +147,11 @@ pub(crate) fn check_passes<D: Device, C: Checksum>(
     Ok(())
 }
 
-/// What is met in a segment. `Corruption` comes where a damaged record is met.
+/// What is met in a segment, whose slot is read into this buffer. `Corruption` comes where a damaged record is met.
 pub(crate) fn scan_of<D: Device, C: Checksum>(
     config: &mut RunningConfig<D, C>,
     segment: &Segment,
+    buf: &mut BasedBuf,
 ) -> Result<SegmentScan>
     requires { CanBeRead config.old.config.segment_size (state_of (D.trace config.old.device)).log.bytes segment.now }
     ensures scan { IfOk result (λ s. IsScanned C.sum_of config.old.config.segment_size (state_of (D.trace config.old.device)).log.bytes
@@ -160,8 +163,8 @@ pub(crate) fn scan_of<D: Device, C: Checksum>(
     ensures answers { DeviceAnswers result (D.faults config.old.device) (D.faults config.new.device) }
     ensures reads { OnlyReads D.trace config.old config.new }
 {
-    match read_slot(config, segment.slot) {
-        Ok(buf) => scan(config, &buf, segment.place),
+    match read_slot_into(config, segment.slot, buf) {
+        Ok(()) => scan(config, buf, segment.place),
         Err(e) => Err(e),
     }
 }

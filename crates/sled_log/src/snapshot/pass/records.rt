@@ -15,18 +15,19 @@ use crate::snapshot::page_table::opens;
 use sled_codec::result::Result;
 use sled_codec::serialization::{Checksum, SegmentNumber};
 use sled_core::iterator::scan::{ScanEnd, ScannedRecord, SegmentScan, Step, step_of};
-use sled_core::iterator::{Segment, read_slot};
+use sled_core::iterator::{Segment, read_slot_into};
 use sled_core::logger::read_at::BasedBuf;
 use sled_core::logger::read_message::read_record;
 use sled_store::segment::{MAX_MSG_HEADER_LEN, SEG_HEADER_LEN};
 use sled_store::{Device, RunningConfig};
 
-/// What is met in a segment, up to and with the first batch that does not end below `end`. Where such a batch is met,
+/// What is met in a segment, whose slot is read into this buffer, up to and with the first batch that does not end below `end`. Where such a batch is met,
 /// why the reading ends says nothing. `Corruption` comes where a damaged record is met before.
 pub(crate) fn scan_up_to<D: Device, C: Checksum>(
     config: &mut RunningConfig<D, C>,
     segment: &Segment,
     end: u64,
+    buf: &mut BasedBuf,
 ) -> Result<SegmentScan>
     requires ready { CanBeRead config.old.config.segment_size (state_of (D.trace config.old.device)).log.bytes segment.now }
     requires end { end < 2 ^ 63 }
@@ -39,8 +40,8 @@ pub(crate) fn scan_up_to<D: Device, C: Checksum>(
     ensures answers { DeviceAnswers result (D.faults config.old.device) (D.faults config.new.device) }
     ensures reads { OnlyReads D.trace config.old config.new }
 {
-    match read_slot(config, segment.slot) {
-        Ok(buf) => scan_slot(config, &buf, segment, end),
+    match read_slot_into(config, segment.slot, buf) {
+        Ok(()) => scan_slot(config, buf, segment, end),
         Err(e) => Err(e),
     }
 }

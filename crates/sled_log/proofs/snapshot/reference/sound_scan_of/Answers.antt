@@ -23,5 +23,5 @@ returns-in-Err-check-clause-damaged g c = λ corrupt.
       scanned_of c.args.segment.now c.in-Ok.scan,
       refl,
       c.in-Ok.ensures.scan,
-      bad_still g.C.Checksum.sum_of c.deref.result.now c.in-Ok.scan.met.items (g.D.Device.trace c.scan_of.new.config.device) old c.deref.ensures.value c.in-Ok.ensures.reads.unwritten (c.in-Err-check.ensures.bad corrupt),
+      bad_still g.C.Checksum.sum_of c.deref.result.now c.in-Ok.scan.met.items (g.D.Device.trace c.scan_alone.new.config.device) old c.deref.ensures.value c.in-Ok.ensures.reads.unwritten (c.in-Err-check.ensures.bad corrupt),
     )
