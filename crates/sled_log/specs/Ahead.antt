@@ -1,5 +1,5 @@
 -- What the code of an iterator keeps of the segments that it reads, and what is ahead of it.
-use Rattle.std.specs.Prelude.{◌≡◌, ◌≢◌, ◌+◌, ◌-◌, ◌*◌, ◌^◌, ◌%◌, ◌≤◌, ◌<◌, ℕ, ℤ, Bool, true, false, List, [], ◌∷◌, length, drop, Option, Some, None, Result, Ok, Err, Contains}
+use Rattle.std.specs.Prelude.{◌≡◌, ◌≢◌, ◌+◌, ◌-◌, ◌*◌, ◌^◌, ◌%◌, ◌≤◌, ◌<◌, ℕ, ℤ, Bool, false, List, [], ◌∷◌, length, drop, Option, Some, None, Result, Ok, Err, Contains}
 use Rattle.std.specs.List.{All}
 use Rattle.sled_codec.specs.declared.result.Error.{Error}
 use Rattle.sled_codec.specs.declared.serialization.message.MessageKind.{MessageKind}

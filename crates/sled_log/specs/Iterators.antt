@@ -1,5 +1,5 @@
 -- What a caller sees of an iterator: what it runs on, and what is ahead of it.
-use Rattle.std.specs.Prelude.{◌≡◌, ℕ, List, Bool, Option, Some, None, Result}
+use Rattle.std.specs.Prelude.{◌≡◌, ℕ, List, Bool, Option, None, Result}
 use Rattle.std.specs.Borrow.{MutBor}
 use Rattle.sled_store.specs.declared.config.RunningConfig.{RunningConfig}
 use Rattle.sled_codec.specs.declared.result.Error.{Error}

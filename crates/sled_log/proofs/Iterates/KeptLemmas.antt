@@ -1,18 +1,16 @@
 -- What is met in a segment can be given, and the segments that were found can be read.
-use Rattle.std.proofs.Common.{◌≡◌, ◌≢◌, ◌+◌, ◌^◌, ◌<◌, ◌≤◌, ◌%◌, ℕ, ℤ, Bool, true, false, nat_lt, if◌then◌else◌, List, [], ◌∷◌, length, map, get_or, take, drop, refl, subst, arith, inl, inr}
+use Rattle.std.proofs.Common.{◌≡◌, ◌+◌, ◌^◌, ◌<◌, ◌≤◌, ℕ, Bool, true, false, nat_lt, if◌then◌else◌, List, [], ◌∷◌, length, map, get_or, refl, subst, arith, inl, inr}
 use Rattle.std.specs.List.{All, Contains}
 use Rattle.std.proofs.lemmas.List.Elements.{All-cons, All-nil, Contains-get_or}
-use Rattle.sled_codec.specs.declared.serialization.message.MessageKind.{MessageKind}
-use Rattle.sled_codec.specs.declared.serialization.message.MessageKind.TheVariants.{Corrupted}
 use Rattle.sled_core.specs.declared.iterator.Segment.{Segment}
 use Rattle.sled_core.specs.declared.iterator.scan.ScannedRecord.{ScannedRecord}
 use Rattle.sled_core.specs.declared.iterator.scan.RecordContent.{RecordContent}
 use Rattle.sled_core.specs.declared.iterator.scan.RecordContent.TheVariants.{Gives, NamesBlob, Skipped, BatchStart}
 use Rattle.sled_core.specs.declared.iterator.scan.ScanEnd.{ScanEnd}
 use Rattle.sled_core.specs.declared.iterator.scan.ScanEnd.TheVariants.{Full, Capped, Broken}
-use Rattle.sled_store.proofs.Segments.Elements.{in_cases, in_first, in_nothing, in_rest}
+use Rattle.sled_store.proofs.Segments.Elements.{in_cases, in_first, in_rest}
 use Rattle.sled_log.specs.declared.snapshot.pass.Pass.{Pass}
-use Rattle.sled_log.specs.Recovery.{Scanned, NamesKind, IsTail, GoesOn, begun_below}
+use Rattle.sled_log.specs.Recovery.{NamesKind, IsTail, GoesOn, begun_below}
 use Rattle.sled_log.specs.Passes.{CanBeRead, pass_of}
 use Rattle.sled_log.specs.Ahead.{CanBeGiven, HasEnds, KnowsKind}
 use Rattle.sled_log.proofs.Passes.Ascending.{begun_first}

@@ -1,5 +1,5 @@
 -- What is left for an iterator, step by step: a record has its turn, a segment is read, nothing is left.
-use Rattle.std.proofs.Common.{◌≡◌, ◌⊎◌, ◌∙◌, ◌+◌, ◌≤◌, ◌<◌, ◌++◌, ℕ, ℤ, Bool, true, false, List, [], ◌∷◌, length, get_or, drop, Option, Some, None, refl, sym, ap, subst, arith, inl, inr}
+use Rattle.std.proofs.Common.{◌≡◌, ◌⊎◌, ◌+◌, ◌≤◌, ◌<◌, ◌++◌, ℕ, ℤ, Bool, true, false, List, [], ◌∷◌, length, get_or, drop, Option, sym, subst, inl, inr}
 use Rattle.std.specs.Bool.{MatchBool}
 use Rattle.std.specs.List.{Contains}
 use Rattle.std.proofs.lemmas.List.{drop_all, drop_more}
@@ -11,9 +11,9 @@ use Rattle.sled_core.specs.declared.iterator.Segment.{Segment}
 use Rattle.sled_core.specs.declared.iterator.scan.ScannedRecord.{ScannedRecord}
 use Rattle.sled_core.specs.Keeps.{OnlyReads}
 use Rattle.sled_log.specs.declared.iterator.rest.Rest.{Rest}
-use Rattle.sled_log.specs.Recovery.{Scanned, IsReplayed, HasBadBlob, with_blob, opens, open_at, begun_below}
+use Rattle.sled_log.specs.Recovery.{Scanned, IsReplayed, HasBadBlob, with_blob, opens}
 use Rattle.sled_log.specs.Passes.{IsDamagedBefore}
-use Rattle.sled_log.specs.Iterates.{Item, items_of, GivesOf, IsIteration, IsBegun}
+use Rattle.sled_log.specs.Iterates.{Item, items_of, GivesOf, IsIteration}
 use Rattle.sled_log.specs.Ahead.{IsLeft, IsSpent}
 use Rattle.sled_log.proofs.Iterates.OneReplay.{replayed_undamaged, replayed_gives}
 

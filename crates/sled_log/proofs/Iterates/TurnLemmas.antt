@@ -1,5 +1,5 @@
 -- What comes of a record that has its turn, and what an error says.
-use Rattle.std.proofs.Common.{◌≡◌, ◌∙◌, ◌++◌, ℕ, ℤ, Bool, true, List, [], ◌∷◌, Option, Some, None, Result, Ok, Err, OnSome, IfSome, IfNone, refl, sym, ap, subst}
+use Rattle.std.proofs.Common.{◌≡◌, ◌∙◌, ℕ, ℤ, Bool, true, List, [], Option, Some, None, Result, Ok, Err, OnSome, IfSome, IfNone, refl, sym, ap}
 use Rattle.sled_codec.specs.declared.result.Error.{Error}
 use Rattle.sled_codec.specs.declared.result.Error.TheVariants as error
 use Rattle.sled_codec.specs.Errors.{IsCorrupt}

@@ -1,10 +1,10 @@
-use Rattle.std.proofs.Common.{◌≡◌, ◌∙◌, ◌%◌, ◌*◌, ◌/◌, ◌<◌, ◌^◌, ◌≤◌, ℕ, ℤ, List, [], Option, Some, None, unwrap_or, length, sym, ap, subst, arith}
+use Rattle.std.proofs.Common.{◌≡◌, ◌∙◌, ◌%◌, ◌*◌, ◌/◌, ◌<◌, ◌^◌, ℕ, ℤ, List, Option, unwrap_or, sym, ap, subst, arith}
 use Rattle.std.specs.List.{All, Contains}
 use Rattle.std.proofs.Math.Nat.{mul-mod_left}
 use Rattle.sled_core.specs.declared.iterator.Segment.{Segment}
 use Rattle.sled_store.specs.declared.config.Config.{Config}
 use Rattle.sled_store.specs.Device.{Trace, state_of}
-use Rattle.sled_log.specs.Recovery.{Scanned, IsTail, HaveGoodBlobs, begun_below, greatest_mark, tail_end}
+use Rattle.sled_log.specs.Recovery.{Scanned, IsTail, HaveGoodBlobs, begun_below, greatest_mark}
 use Rattle.sled_log.specs.Passes.{CanBeRead}
 use Rattle.sled_log.specs.Iterates.{IsBegun}
 use Rattle.sled_log.specs.Ahead.{CanBeGiven, HasEnds, IsLeft}

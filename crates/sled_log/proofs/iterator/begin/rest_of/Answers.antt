@@ -1,4 +1,4 @@
-use Rattle.std.proofs.Common.{◌≡◌, ◌∙◌, ◌≤◌, ◌<◌, ℕ, List, take, drop, unwrap_or, sym, ap, subst}
+use Rattle.std.proofs.Common.{◌∙◌, ◌≤◌, ◌<◌, ℕ, List, take, drop, sym, ap, subst}
 use Rattle.std.specs.List.{All}
 use Rattle.sled_core.specs.declared.iterator.Segment.{Segment}
 use Rattle.sled_log.specs.Recovery.{begun_below}

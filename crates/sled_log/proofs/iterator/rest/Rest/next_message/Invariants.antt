@@ -1,4 +1,4 @@
-use Rattle.std.proofs.Common.{◌≡◌, ◌-◌, ◌≤◌, ℕ, List, Bool, length}
+use Rattle.std.proofs.Common.{◌≡◌, ◌-◌, ◌≤◌, List, Bool, length}
 use Rattle.sled_log.specs.Iterates.{Item}
 use Rattle.sled_log.specs.Ahead.{CanGoOn, IsLeft, IsSpent, most_left}
 use Rattle.sled_log.proofs.iterator.rest.Rest.next_message.Given as goal

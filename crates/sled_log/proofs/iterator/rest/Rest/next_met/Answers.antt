@@ -1,9 +1,9 @@
-use Rattle.std.proofs.Common.{◌≡◌, ◌∙◌, ◌+◌, ◌<◌, ◌++◌, ℕ, ℤ, List, [], length, get_or, Option, None, refl, sym, ap, subst, arith}
+use Rattle.std.proofs.Common.{◌≡◌, ◌∙◌, ◌+◌, ◌<◌, ◌++◌, ℕ, ℤ, List, length, Option, refl, sym, ap, subst, arith}
 use Rattle.std.specs.List.{Contains}
 use Rattle.sled_store.specs.Device.{Trace, state_of}
 use Rattle.sled_core.specs.declared.iterator.scan.ScannedRecord.{ScannedRecord}
 use Rattle.sled_log.specs.declared.iterator.rest.Rest.{Rest}
-use Rattle.sled_log.specs.Recovery.{HasBadBlob, opens, resolved}
+use Rattle.sled_log.specs.Recovery.{HasBadBlob, resolved}
 use Rattle.sled_log.specs.Iterates.{Item}
 use Rattle.sled_log.specs.Ahead.{IsLeft, those_of}
 use Rattle.sled_log.proofs.Iterates.LeftLemmas.{left_inside, left_spent, turn_ends, turn_bad, turn_given}

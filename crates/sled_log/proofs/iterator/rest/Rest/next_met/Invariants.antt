@@ -1,5 +1,4 @@
-use Rattle.std.proofs.Common.{◌≡◌, ◌-◌, ◌≤◌, ℕ, List, Bool, length}
-use Rattle.sled_store.specs.Device.{state_of}
+use Rattle.std.proofs.Common.{◌≡◌, ◌-◌, ◌≤◌, List, Bool, length}
 use Rattle.sled_log.specs.Iterates.{Item}
 use Rattle.sled_log.specs.Ahead.{CanGoOn, IsLeft}
 use Rattle.sled_log.proofs.iterator.rest.Rest.next_met.Given as goal

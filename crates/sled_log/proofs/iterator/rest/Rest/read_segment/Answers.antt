@@ -1,6 +1,5 @@
-use Rattle.std.proofs.Common.{◌≡◌, ◌+◌, ◌<◌, ℕ, List, get_or, refl, sym, ap, subst}
+use Rattle.std.proofs.Common.{◌+◌, ◌<◌, ℕ, List, refl, sym, ap, subst}
 use Rattle.std.specs.List.{All}
-use Rattle.std.proofs.lemmas.List.Elements.{Contains-get_or}
 use Rattle.sled_store.specs.declared.config.Config.{Config}
 use Rattle.sled_store.specs.Device.{state_of}
 use Rattle.sled_core.specs.Reading.{file_of}
