@@ -1,4 +1,7 @@
+pub mod LeftBeside
+pub mod PutIn
 pub mod ReachedCut
 pub mod ReachedEntries
 pub mod Recoverable
+pub mod Reread
 pub mod StandsTo
