@@ -5,3 +5,4 @@ pub mod ReachedEntries
 pub mod Recoverable
 pub mod Reread
 pub mod StandsTo
+pub mod TornBehind
