@@ -6,3 +6,4 @@ pub mod Recoverable
 pub mod Reread
 pub mod StandsTo
 pub mod TornBehind
+pub mod TornBegun
