@@ -1,3 +1,4 @@
+pub mod Higher
 pub mod LeftBeside
 pub mod PutIn
 pub mod ReachedCut
