@@ -1,4 +1,4 @@
--- A write to one slot was torn: what lies apart from it is of the history as before, in other slots and in its own below the write, and the messages that a reader comes to there are reached.
+-- What a write to one slot leaves apart from it is of the history as before, in other slots and in its own below the write, and the messages that a reader comes to there are reached.
 use Rattle.std.proofs.Common.{⊎_elim, ◌≡◌, ◌≢◌, ◌⊎◌, ◌∙◌, ◌+◌, ◌*◌, ◌/◌, ◌%◌, ◌<◌, ◌≤◌, ℕ, pos, min, List, [], ◌∷◌, length, refl, sym, ap, subst, arith, inl, inr}
 use Rattle.std.specs.List.{Contains}
 use Rattle.std.proofs.Math.Nat.{mul-mod_left}
@@ -26,6 +26,11 @@ use Rattle.sled_log.specs.Recovery.{Scanned, IsScanned}
 use Rattle.sled_log.proofs.Replay.LineLemmas.{apart}
 use Rattle.sled_log.proofs.Moments.ZeroedParts.{slot_index, message_moved, of_left}
 use Rattle.sled_log.proofs.Reached.Reread.{IsReading}
+
+-- In other slots than this one a file has the segments that another one has, and all is met in them as there.
+pub record IsSameBeside (sum : List ℕ → ℕ) (size : ℕ) (old left : List ℕ) (slot : ℕ) : Type 0 where
+  pub found : (least : ℕ) (s : Segment) → s.slot ≢ slot → IsFoundSegment sum size left least s → IsFoundSegment sum size old least s
+  pub scans : (least : ℕ) (t : Scanned) → IsFoundSegment sum size old least t.segment → t.segment.slot ≢ slot → IsScanned sum size old t → IsScanned sum size left t
 
 -- Records that have the bytes that they have in another file are of the history as there.
 pub truth_alike : (sum : List ℕ → ℕ) (size : ℕ) (old log : List ℕ) (H : History) (slot place from : ℕ) (ms : List ScannedRecord) (next : ℕ) → AlikeAlong old log slot from ms → IsPath sum size log slot place from ms next
@@ -124,32 +129,44 @@ module _ (sum : List ℕ → ℕ) (size : ℕ) (some : 256 ≤ size) (old : List
         item_left s was.slot m of.reached (lies s was m of.reached) item,
       )
 
-  -- Other slots.
-  module _ {placed : List (ℕ × List ℕ)} (only_own : NoForeignLog sum size (after_write old (slot * size + from) asked now) placed left) (least : ℕ) (t : Scanned) (found : IsFoundSegment sum size old least t.segment)
-      (other : t.segment.slot ≢ slot * size) (scan : IsScanned sum size old t) where
-    pub scan_beside : IsScanned sum size left t
-    scan_beside =
+  -- A segment that was found in another slot is found.
+  pub found_beside : (least : ℕ) (s : Segment) → s.slot ≢ slot * size → IsFoundSegment sum size old least s → IsFoundSegment sum size left least s
+  found_beside least s other is =
+      let k : ℕ = s.slot / size in
+      let here : s.slot ≡ k * size = slot_index size s.slot is.slot in
+      other_slots.found_stays sum size (omega (arith, some)) old slot from asked now left inside no_more leaves k (λ same. other (here ∙ ap (λ n. n * size) same)) least s here is
+
+  -- Where only what the log wrote passes as its own, that is all.
+  pub same_beside : {placed : List (ℕ × List ℕ)} → NoForeignLog sum size (after_write old (slot * size + from) asked now) placed left → IsSameBeside sum size old left (slot * size)
+  same_beside only_own = record {
+    found = λ least s other is. (
+        let k : ℕ = s.slot / size in
+        let here : s.slot ≡ k * size = slot_index size s.slot is.slot in
+        other_slots.found_before sum size (omega (arith, some)) old slot from asked now left inside no_more leaves k (λ same. other (here ∙ ap (λ n. n * size) same)) only_own least s here is);
+    scans = λ least t found other scan. (
         let k : ℕ = t.segment.slot / size in
         let here : t.segment.slot ≡ k * size = slot_index size t.segment.slot found.slot in
-        let differs : k ≢ slot = λ same. other (here ∙ ap (λ n. n * size) same) in
-        let long : 20 ≤ size = omega (arith, some) in
-        let stands = other_slots.found_stays sum size long old slot from asked now left inside no_more leaves k differs least t.segment here found in
+        let stands = found_beside least t.segment other found in
         let header = subst (λ n. IsHeader sum (part left n 20) (pos t.segment.place) t.segment.mark) here stands.header in
         let before = subst (λ n. IsScan sum size old n t.segment.place t.met t.stop t.why) here scan in
-        let after = other_slots.scan_stays sum size long old slot from asked now left inside no_more leaves k differs only_own t.segment.place t.segment.mark header t.met t.stop t.why before in
-        subst (λ n. IsScan sum size left n t.segment.place t.met t.stop t.why) (sym here) after
+        let after =
+        other_slots.scan_stays sum size (omega (arith, some)) old slot from asked now left inside no_more leaves k (λ same. other (here ∙ ap (λ n. n * size) same)) only_own t.segment.place t.segment.mark header t.met t.stop t.why before in
+        subst (λ n. IsScan sum size left n t.segment.place t.met t.stop t.why) (sym here) after);
+  }
 
-    -- the reading of such a segment is that of before
+  -- The reading of a segment in another slot is that of before.
+  module _ (same : IsSameBeside sum size old left (slot * size)) (least : ℕ) (t : Scanned) (found : IsFoundSegment sum size old least t.segment) (other : t.segment.slot ≢ slot * size) (scan : IsScanned sum size old t) where
     pub reading_beside : (H : History) → ((x : ScannedRecord) → Contains t.met x → IsOfHistory sum size old H x)
         → (t.why ≡ Capped → NoMessageBegins H (t.segment.place + t.stop) (t.segment.place + size) × NoBatchBegins H (t.segment.place + t.stop) (t.segment.place + size)) → IsReading sum size left H t.segment
     unfolding IsScan
     reading_beside H truth caps =
         let lies : (t.segment.slot + min t.stop size ≤ at) ⊎ (at + length asked ≤ t.segment.slot) = elim (beside t.segment.slot found.slot other) [ inl before ↦ inl (omega (arith, before)) | inr past ↦ inr past ] in
         let alike = alike_apart t.segment.slot t.segment.place found.slot 20 t.met t.stop lies scan.0 in
+        let read = same.scans least t found other scan in
         record {
           scan = t;
           segment = refl;
-          read = scan_beside;
-          truth = truth_alike sum size old left H t.segment.slot t.segment.place 20 t.met t.stop alike scan_beside.0 truth;
+          read = read;
+          truth = truth_alike sum size old left H t.segment.slot t.segment.place 20 t.met t.stop alike read.0 truth;
           caps = caps;
         }
