@@ -8,3 +8,4 @@ pub mod Reread
 pub mod StandsTo
 pub mod TornBehind
 pub mod TornBegun
+pub mod WrittenWhole
