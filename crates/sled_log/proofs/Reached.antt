@@ -6,6 +6,8 @@ pub mod ReachedEntries
 pub mod Recoverable
 pub mod Reread
 pub mod StandsTo
-pub mod TornBehind
 pub mod TornBegun
+pub mod TornBehind
+pub mod WholeBegun
+pub mod WholeBehind
 pub mod WrittenWhole

@@ -13,7 +13,7 @@ use Rattle.sled_log.specs.Recovery.{Scanned, IsScanned, least_place}
 use Rattle.sled_log.proofs.PageTable.Ascending.{Ascends}
 use Rattle.sled_log.proofs.PageTable.EarlierEntries.{entry_earlier}
 use Rattle.sled_log.proofs.Recovers.OfHistory.{message_of}
-use Rattle.sled_log.proofs.Recovers.OneTail.{rises_of, one_at_place, segment_there}
+use Rattle.sled_log.proofs.Recovers.OneTail.{rises_of, one_at_place, segment_there, reading_there}
 use Rattle.sled_log.proofs.Recovers.Rows.{path_covers, stop_inside}
 use Rattle.sled_log.proofs.Recovers.Tails.{put_down, further, whole}
 use Rattle.sled_log.proofs.Moments.SegmentsFrom.{one_multiple}
@@ -32,6 +32,17 @@ pub record IsLedTo (size : ℕ) (scanned : List Scanned) (reach place : ℕ) : T
 -- A segment at this place is led to: it begins below what was reached, or where the segments begin, or behind one that leads on.
 abbrev pub IsBegunOrLedTo : ℕ → List Scanned → ℕ → ℕ → ℕ → Type 0
 IsBegunOrLedTo size scanned least reach place = (place < reach) ⊎ (place ≤ least) ⊎ IsLedTo size scanned reach place
+
+-- a segment that is found is there with what is met in it
+pub known_in : (sum : List ℕ → ℕ) (size : ℕ) (log : List ℕ) (H : History) (A : ℕ) (first : SnapshotModel) (reach : ℕ) (is : StandsTo sum size log H A first reach) (t : Scanned) → IsFoundSegment sum size log (least_place size first) t.segment → IsScanned sum size log t
+    → Contains is.scanned t
+known_in sum size log H A first reach is t found scan = reading_there sum size log is.ordering is.scanned is.reads t ((is.numbers.found t.segment).1 found) scan
+
+-- what leads to a segment does so where it is read as before
+pub led_as_before : (size : ℕ) (xs ys : List Scanned) (least reach place : ℕ) → ((t : Scanned) → Contains xs t → t.why ≢ Broken → Contains ys t) → IsBegunOrLedTo size xs least reach place → IsBegunOrLedTo size ys least reach place
+led_as_before size xs ys least reach place stays (inl below) = inl below
+led_as_before size xs ys least reach place stays (inr (inl first_one)) = inr (inl first_one)
+led_as_before size xs ys least reach place stays (inr (inr last)) = inr (inr (record { scan = last.scan; there = stays last.scan last.there last.goes; next = last.next; goes = last.goes; below = last.below }))
 
 module _ (sum : List ℕ → ℕ) (size : ℕ) (log : List ℕ) (some : 256 ≤ size) (H : History) (A : ℕ) (first : SnapshotModel) (reach : ℕ) (is : StandsTo sum size log H A first reach) (ordered : Ascends H.messages)
     (y : Scanned) (known : Contains is.scanned y) (far : reach ≤ y.segment.place + y.stop) (led : IsBegunOrLedTo size is.scanned (least_place size first) reach y.segment.place)

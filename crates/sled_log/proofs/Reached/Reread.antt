@@ -32,7 +32,7 @@ pub record IsAsFar (sum : List ℕ → ℕ) (size : ℕ) (log : List ℕ) (order
 
 module _ (sum : List ℕ → ℕ) (size : ℕ) (log : List ℕ) (H : History) where
   -- the readings of segments, in the order of these
-  pub scans_of : (ss : List Segment) → ((s : Segment) → Contains ss s → IsReading sum size log H s) → (xs : List Scanned) × AreScanned sum size log ss xs
+  scans_of : (ss : List Segment) → ((s : Segment) → Contains ss s → IsReading sum size log H s) → (xs : List Scanned) × AreScanned sum size log ss xs
   scans_of [] each = ([], tt)
   scans_of (s ∷ ss) each =
       let one = each s (in_first s ss) in
@@ -47,10 +47,10 @@ module _ (sum : List ℕ → ℕ) (size : ℕ) (log : List ℕ) (H : History) wh
         let r = each t.segment known.0 in
         (r, one_scan sum size log r.scan t r.segment r.read known.1)
 
-    pub read_truth : (t : Scanned) (x : ScannedRecord) → Contains xs t → Contains t.met x → IsOfHistory sum size log H x
+    read_truth : (t : Scanned) (x : ScannedRecord) → Contains xs t → Contains t.met x → IsOfHistory sum size log H x
     read_truth t x there met = let r = the_reading t there in r.0.truth x (subst (λ (u : Scanned). Contains u.met x) (sym r.1) met)
 
-    pub read_caps : (t : Scanned) → Contains xs t → t.why ≡ Capped → NoMessageBegins H (t.segment.place + t.stop) (t.segment.place + size) × NoBatchBegins H (t.segment.place + t.stop) (t.segment.place + size)
+    read_caps : (t : Scanned) → Contains xs t → t.why ≡ Capped → NoMessageBegins H (t.segment.place + t.stop) (t.segment.place + size) × NoBatchBegins H (t.segment.place + t.stop) (t.segment.place + size)
     read_caps t there =
         let r = the_reading t there in
         subst (λ (u : Scanned). u.why ≡ Capped → NoMessageBegins H (u.segment.place + u.stop) (u.segment.place + size) × NoBatchBegins H (u.segment.place + u.stop) (u.segment.place + size)) r.1 r.0.caps
@@ -58,43 +58,19 @@ module _ (sum : List ℕ → ℕ) (size : ℕ) (log : List ℕ) (H : History) wh
 module _ (sum : List ℕ → ℕ) (size : ℕ) (old log : List ℕ) (H : History) (A : ℕ) (first : SnapshotModel) (reach : ℕ) (is : StandsTo sum size old H A first reach)
     (ordering : List Segment) (numbers : IsOrdering sum size log (least_place size first) ordering) (each : (s : Segment) → Contains ordering s → IsReading sum size log H s)
     (marks : (s : Segment) → Contains ordering s → IsMarkOf H s) where
-  abbrev pub readings : (xs : List Scanned) × AreScanned sum size log ordering xs
+  abbrev readings : (xs : List Scanned) × AreScanned sum size log ordering xs
   readings = scans_of sum size log H ordering each
-
-  -- Up to a place no lower.
-  pub stands_on : (A' reach' : ℕ) → reach ≤ reach' → A' ≤ reach' → ((s : Segment) → Contains ordering s → IsMarkBelow size H reach' s.mark) → ((b : Batch) → Contains H.batches b → b.low < reach' → b.peg < reach')
-      → ((z : ℕ) → z % size ≡ 0 → least_place size first ≤ z → z < reach'
-          → (t : Scanned) × Contains readings.0 t × (t.segment.place ≡ z) × ((reach' ≤ z + t.stop) ⊎ ((t.why ≢ Broken) × (u : Segment) × Contains ordering u × (u.place ≡ z + size))))
-      → ((page : ℕ) (m : Message) → Contains (table H reach' page) m → IsSegmentOf sum size log H reach' m × StandsInline sum size log m m.pointer)
-      → StandsTo sum size log H A' first reach'
-  stands_on A' reach' far passes marks_below closed gapless needed = record {
-    ordering = ordering;
-    numbers = numbers;
-    scanned = readings.0;
-    reads = readings.1;
-    marks = marks;
-    truth = read_truth sum size log H ordering each readings.0 readings.1;
-    caps = read_caps sum size log H ordering each readings.0 readings.1;
-    not_below = let low = is.not_below in omega (arith, low, far);
-    passes = passes;
-    marks_below = marks_below;
-    placed = is.placed;
-    batched = is.batched;
-    closed = closed;
-    gapless = gapless;
-    needed = needed;
-  }
 
   module _ (on : (t : Scanned) → Contains is.scanned t → IsAsFar sum size log ordering t) where
     -- a segment that was found is found
-    pub still_found : (s : Segment) → Contains is.ordering s → Contains ordering s
+    still_found : (s : Segment) → Contains is.ordering s → Contains ordering s
     still_found s there =
         let t = scan_there sum size old is.ordering is.scanned is.reads s there in
         let u = on t.0 t.1 in
         subst (Contains ordering) (u.segment ∙ t.2) u.there
 
     -- What led on up to the place does so.
-    pub gapless_still : (z : ℕ) → z % size ≡ 0 → least_place size first ≤ z → z < reach
+    gapless_still : (z : ℕ) → z % size ≡ 0 → least_place size first ≤ z → z < reach
         → (t : Scanned) × Contains readings.0 t × (t.segment.place ≡ z) × ((reach ≤ z + t.stop) ⊎ ((t.why ≢ Broken) × (u : Segment) × Contains ordering u × (u.place ≡ z + size)))
     gapless_still z aligned low under =
         let found = is.gapless z aligned low under in
@@ -112,4 +88,20 @@ module _ (sum : List ℕ → ℕ) (size : ℕ) (old log : List ℕ) (H : History
     -- Up to the same place.
     pub stands_still : ((s : Segment) → Contains ordering s → IsMarkBelow size H reach s.mark)
         → ((page : ℕ) (m : Message) → Contains (table H reach page) m → IsSegmentOf sum size log H reach m × StandsInline sum size log m m.pointer) → StandsTo sum size log H A first reach
-    stands_still marks_below needed = stands_on A reach (omega arith) is.passes marks_below is.closed gapless_still needed
+    stands_still marks_below needed = record {
+      ordering = ordering;
+      numbers = numbers;
+      scanned = readings.0;
+      reads = readings.1;
+      marks = marks;
+      truth = read_truth sum size log H ordering each readings.0 readings.1;
+      caps = read_caps sum size log H ordering each readings.0 readings.1;
+      not_below = is.not_below;
+      passes = is.passes;
+      marks_below = marks_below;
+      placed = is.placed;
+      batched = is.batched;
+      closed = is.closed;
+      gapless = gapless_still;
+      needed = needed;
+    }
