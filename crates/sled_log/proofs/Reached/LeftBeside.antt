@@ -1,5 +1,5 @@
 -- What a write to one slot leaves apart from it is of the history as before, in other slots and in its own below the write, and the messages that a reader comes to there are reached.
-use Rattle.std.proofs.Common.{⊎_elim, ◌≡◌, ◌≢◌, ◌⊎◌, ◌∙◌, ◌+◌, ◌*◌, ◌/◌, ◌%◌, ◌<◌, ◌≤◌, ℕ, pos, min, List, [], ◌∷◌, length, refl, sym, ap, subst, arith, inl, inr}
+use Rattle.std.proofs.Common.{◌≡◌, ◌≢◌, ◌⊎◌, ◌∙◌, ◌+◌, ◌*◌, ◌/◌, ◌%◌, ◌≤◌, ℕ, pos, min, List, [], ◌∷◌, length, refl, sym, ap, subst, arith, inl, inr}
 use Rattle.std.specs.List.{Contains}
 use Rattle.std.proofs.Math.Nat.{mul-mod_left}
 use Rattle.std.proofs.lemmas.Bool.{cases_order}
@@ -117,8 +117,7 @@ module _ (sum : List ℕ → ℕ) (size : ℕ) (some : 256 ≤ size) (old : List
       → IsSegmentOf sum size old H cut m × StandsInline sum size old m m.pointer → IsSegmentOf sum size left H cut m × StandsInline sum size left m m.pointer
   segment_left H cut found lies m (of, item) =
       let s : Segment = of.segment in
-      let was = of.found in
-      (
+      let was = of.found in (
         record {
           segment = s;
           found = found s was;

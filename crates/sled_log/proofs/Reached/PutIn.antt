@@ -1,5 +1,5 @@
 -- A segment is put in among others by its place.
-use Rattle.std.proofs.Common.{⊎_elim, ◌≡◌, ◌≢◌, ◌⊎◌, ◌∙◌, ◌<◌, ◌≤◌, ℕ, Bool, true, false, nat_lt, if◌then◌else◌, List, [], ◌∷◌, refl, sym, ap, subst, arith, inl, inr}
+use Rattle.std.proofs.Common.{◌≡◌, ◌≢◌, ◌⊎◌, ◌<◌, ◌≤◌, ℕ, Bool, true, false, nat_lt, if◌then◌else◌, List, [], ◌∷◌, refl, sym, subst, arith, inl, inr}
 use Rattle.std.specs.List.{Contains}
 use Rattle.std.proofs.lemmas.Bool.{ltb-true, ltb-false}
 use Rattle.sled_store.proofs.Segments.Elements.{in_first, in_rest, in_cases, in_nothing}
@@ -50,19 +50,23 @@ module _ (s : Segment) where
   put_rises (t ∷ ss) rises other = by (nat_lt s.place t.place) refl (put_rises ss rises.1 (λ u there. other u (in_rest t u ss there))) where
     by : (b : Bool) → nat_lt s.place t.place ≡ b → Rises (put_in s ss) → Rises (if b then s ∷ t ∷ ss else t ∷ put_in s ss)
     by true test rest =
-        let less : s.place < t.place = ltb-true s.place t.place test in
-        (λ u there. elim (in_cases t u ss there) [
-          | inl same ↦ subst (λ (x : Segment). s.place < x.place) same less
-          | inr later ↦ (let above = rises.0 u later in omega (arith, less, above))
-        ], rises)
+        let less : s.place < t.place = ltb-true s.place t.place test in (
+          λ u there. elim (in_cases t u ss there) [
+            | inl same ↦ subst (λ (x : Segment). s.place < x.place) same less
+            | inr later ↦ (let above = rises.0 u later in omega (arith, less, above))
+          ],
+          rises,
+        )
     by false test rest =
         let le : t.place ≤ s.place = ltb-false s.place t.place test in
         let apart = other t (in_first t ss) in
-        let less : t.place < s.place = omega (arith, le, apart) in
-        (λ u there. elim (put_cases ss u there) [
-          | inl same ↦ subst (λ (x : Segment). t.place < x.place) same less
-          | inr later ↦ rises.0 u later
-        ], rest)
+        let less : t.place < s.place = omega (arith, le, apart) in (
+          λ u there. elim (put_cases ss u there) [
+            | inl same ↦ subst (λ (x : Segment). t.place < x.place) same less
+            | inr later ↦ rises.0 u later
+          ],
+          rest,
+        )
 
 -- The segments that are found in another file which has one more.
 pub ordering_with : (sum : List ℕ → ℕ) (size : ℕ) (old log : List ℕ) (least : ℕ) (ss : List Segment) → IsOrdering sum size old least ss → (s : Segment) → IsFoundSegment sum size log least s

@@ -1,5 +1,5 @@
 -- Behind a write that begins a segment in a free slot, torn or whole, the log file stands up to the same place, with the new segment or without it.
-use Rattle.std.proofs.Common.{⊎_elim, ◌≡◌, ◌≢◌, ◌⊎◌, ◌∙◌, ◌+◌, ◌*◌, ◌/◌, ◌%◌, ◌^◌, ◌<◌, ◌≤◌, ℕ, ℤ, pos, min, List, [], ◌∷◌, ◌++◌, length, take, get_or, refl, sym, ap, subst, arith, inl, inr}
+use Rattle.std.proofs.Common.{◌≡◌, ◌≢◌, ◌⊎◌, ◌+◌, ◌*◌, ◌%◌, ◌^◌, ◌<◌, ◌≤◌, ℕ, ℤ, pos, min, List, length, take, get_or, refl, subst, arith, inl, inr}
 use Rattle.std.specs.List.{Contains}
 use Rattle.std.proofs.Math.Nat.{mul-mod_left}
 use Rattle.std.proofs.lemmas.Bool.{cases_eq, cases_lt}
@@ -23,7 +23,7 @@ use Rattle.sled_core.proofs.Torn.WrittenBegun.{none_stood, begun_or_none, meets_
 use Rattle.sled_log.specs.Recovery.{Scanned, IsScanned, IsOrdering, least_place}
 use Rattle.sled_log.proofs.Recovers.OneTail.{scan_there, segment_there}
 use Rattle.sled_log.proofs.Reached.LeftBeside.{IsSameBeside, truth_alike, beside, segment_left, found_beside, same_beside, reading_beside}
-use Rattle.sled_log.proofs.Reached.PutIn.{put_in, put_there, others_there, put_cases, ordering_with}
+use Rattle.sled_log.proofs.Reached.PutIn.{put_in, others_there, put_cases, ordering_with}
 use Rattle.sled_log.proofs.Reached.Reread.{IsReading, IsAsFar, stands_still}
 use Rattle.sled_log.proofs.Reached.StandsTo.{StandsTo}
 use Rattle.sled_log.proofs.Reached.TornBehind.{in_taken, caps_met}
@@ -170,13 +170,13 @@ module _ (sum : List ℕ → ℕ) (none : NoHeaderOfZeros sum) (size : ℕ) (som
   unfolding IsScan
   torn_begun = elim (begun_or_none sum none size old slot from begins asked now left inside no_more leaves clean place mark begun only_own) [
     | inl header ↦ elim (cases_lt place (least_place size first)) [
-        | inl under ↦ without (λ s found here. (
-            let one = one_header sum (part left (slot * size) 20) (pos s.place) s.mark (pos place) mark (header_of s found here) header in
-            let low = found.not_below in
-            omega (arith, low, under, pos_injective s.place place one.0)))
-        | inr le ↦ (
-            let w = meets_begun sum none size old slot from begins asked now left inside no_more leaves clean place mark begun only_own header more stop why (path, end) in
-            stands_with sum size some old slot from asked now left inside no_more leaves same free H A first reach is place mark header le whole fits its_mark mark_below alone more stop why truth caps w)
-      ]
+      | inl under ↦ without (λ s found here. (
+          let one = one_header sum (part left (slot * size) 20) (pos s.place) s.mark (pos place) mark (header_of s found here) header in
+          let low = found.not_below in
+          omega (arith, low, under, pos_injective s.place place one.0)))
+      | inr le ↦ (
+          let w = meets_begun sum none size old slot from begins asked now left inside no_more leaves clean place mark begun only_own header more stop why (path, end) in
+          stands_with sum size some old slot from asked now left inside no_more leaves same free H A first reach is place mark header le whole fits its_mark mark_below alone more stop why truth caps w)
+    ]
     | inr no_header ↦ without (λ s found here. no_header (pos s.place) s.mark (header_of s found here))
   ]

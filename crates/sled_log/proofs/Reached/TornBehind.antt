@@ -1,11 +1,11 @@
 -- Behind a write to a segment that was found, torn or whole, the log file stands up to the same place.
-use Rattle.std.proofs.Common.{⊎_elim, ◌≡◌, ◌≢◌, ◌⊎◌, ◌∙◌, ◌+◌, ◌*◌, ◌/◌, ◌%◌, ◌<◌, ◌≤◌, ℕ, pos, min, List, [], ◌∷◌, ◌++◌, length, take, drop, get_or, refl, sym, ap, subst, arith, inl, inr}
+use Rattle.std.proofs.Common.{◌≡◌, ◌≢◌, ◌⊎◌, ◌∙◌, ◌+◌, ◌*◌, ◌%◌, ◌<◌, ◌≤◌, ℕ, pos, min, List, [], ◌∷◌, ◌++◌, length, take, drop, get_or, refl, sym, subst, arith, inl, inr}
 use Rattle.std.specs.List.{Contains}
 use Rattle.std.proofs.Math.Nat.{mul-mod_left}
 use Rattle.std.proofs.lemmas.Bool.{cases_eq}
 use Rattle.std.proofs.lemmas.List.{take-append-drop}
 use Rattle.std.proofs.lemmas.List.Elements.{Contains-append_left, Contains-append_cases}
-use Rattle.sled_codec.specs.History.{Message, History, table}
+use Rattle.sled_codec.specs.History.{Message, History}
 use Rattle.sled_codec.specs.Places.{part}
 use Rattle.sled_codec.specs.Record.{IsHeader}
 use Rattle.sled_codec.specs.Snapshots.{SnapshotModel}
@@ -15,7 +15,7 @@ use Rattle.sled_core.specs.declared.iterator.Segment.{Segment}
 use Rattle.sled_core.specs.declared.iterator.scan.ScannedRecord.{ScannedRecord}
 use Rattle.sled_core.specs.declared.iterator.scan.ScanEnd.{ScanEnd}
 use Rattle.sled_core.specs.declared.iterator.scan.ScanEnd.TheVariants.{Capped, Broken}
-use Rattle.sled_core.specs.Recoverable.{NoMessageBegins, NoBatchBegins, StandsInline, IsOfHistory, IsReachedIn, IsSegmentOf}
+use Rattle.sled_core.specs.Recoverable.{NoMessageBegins, NoBatchBegins, IsOfHistory, IsReachedIn}
 use Rattle.sled_core.specs.Scan.{IsFoundSegment, IsPath, IsEnd, IsScan}
 use Rattle.sled_core.proofs.Read.ScanLemmas.{one_more}
 use Rattle.sled_core.proofs.Torn.TornLemmas.{after_write}
@@ -172,13 +172,13 @@ module _ (sum : List ℕ → ℕ) (size : ℕ) (some : 256 ≤ size) (old : List
     as_far : (t : Scanned) → Contains is.scanned t → IsAsFar sum size left is.ordering t
     as_far t there = elim (which t there) [
       | inl one ↦ subst (IsAsFar sum size left is.ordering) (sym one) (record {
-          scan = y;
-          segment = refl;
-          there = z_known.0;
-          read = y_scan;
-          far = let within = meets_within sum size new left (slot * size) place from more stop why w in omega (arith, within.0, ended);
-          leads = λ other. absurd (other broken);
-        })
+        scan = y;
+        segment = refl;
+        there = z_known.0;
+        read = y_scan;
+        far = let within = meets_within sum size new left (slot * size) place from more stop why w in omega (arith, within.0, ended);
+        leads = λ other. absurd (other broken);
+      })
       | inr other ↦ (
           let had = segment_there sum size old is.ordering is.scanned is.reads t there in
           record {

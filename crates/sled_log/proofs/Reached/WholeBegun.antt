@@ -1,5 +1,5 @@
 -- All of a write that begins a segment in a slot of zeros is written and synced: the log file stands up to where the reading of that segment ends.
-use Rattle.std.proofs.Common.{⊎_elim, ◌≡◌, ◌≢◌, ◌⊎◌, ◌∙◌, ◌+◌, ◌*◌, ◌/◌, ◌%◌, ◌^◌, ◌<◌, ◌≤◌, ℕ, ℤ, pos, List, [], ◌∷◌, ◌++◌, length, take, get_or, refl, sym, ap, subst, arith, inl, inr}
+use Rattle.std.proofs.Common.{◌≡◌, ◌≢◌, ◌+◌, ◌*◌, ◌%◌, ◌^◌, ◌<◌, ◌≤◌, ℕ, ℤ, pos, List, length, take, get_or}
 use Rattle.std.specs.List.{Contains}
 use Rattle.std.proofs.Math.Nat.{mul-mod_left}
 use Rattle.sled_codec.specs.History.{Batch, History}
@@ -12,14 +12,11 @@ use Rattle.sled_core.specs.declared.iterator.scan.ScannedRecord.{ScannedRecord}
 use Rattle.sled_core.specs.declared.iterator.scan.ScanEnd.{ScanEnd}
 use Rattle.sled_core.specs.declared.iterator.scan.ScanEnd.TheVariants.{Capped, Broken}
 use Rattle.sled_core.specs.Recoverable.{NoHeaderOfZeros, NoMessageBegins, NoBatchBegins, IsOfHistory, IsMarkOf, IsMarkBelow}
-use Rattle.sled_core.specs.Scan.{IsFoundSegment, IsPath, IsEnd, IsScan}
-use Rattle.sled_core.proofs.Read.FoundLemmas.{found_there}
+use Rattle.sled_core.specs.Scan.{IsPath, IsEnd, IsScan}
 use Rattle.sled_core.proofs.Torn.TornLemmas.{after_write}
-use Rattle.sled_core.proofs.Torn.WrittenParts.{paths_joined}
 use Rattle.sled_core.proofs.Torn.WrittenBegun.{none_stood, header_new}
-use Rattle.sled_log.specs.Recovery.{Scanned, IsScanned, least_place}
+use Rattle.sled_log.specs.Recovery.{Scanned, least_place}
 use Rattle.sled_log.proofs.PageTable.Ascending.{Ascends}
-use Rattle.sled_log.proofs.Recovers.OneTail.{segment_there, reading_there}
 use Rattle.sled_log.proofs.Reached.Higher.{IsBegunOrLedTo, known_in, led_as_before, stands_higher}
 use Rattle.sled_log.proofs.Reached.LeftBeside.{IsSameBeside}
 use Rattle.sled_log.proofs.Reached.StandsTo.{StandsTo}

@@ -1,17 +1,16 @@
 -- A write within one slot of a log file, all of it done: in other slots all is as before, and in its own all is met that was written.
-use Rattle.std.proofs.Common.{⊎_elim, ◌≡◌, ◌≢◌, ◌⊎◌, ◌∙◌, ◌+◌, ◌*◌, ◌/◌, ◌%◌, ◌<◌, ◌≤◌, ℕ, suc, pos, min, max, List, [], ◌∷◌, length, take, drop, refl, sym, ap, subst, arith, inl, inr}
+use Rattle.std.proofs.Common.{◌≡◌, ◌≢◌, ◌⊎◌, ◌+◌, ◌*◌, ◌/◌, ◌%◌, ◌<◌, ◌≤◌, ℕ, suc, pos, min, max, List, [], ◌∷◌, length, refl, sym, subst, arith, inl, inr}
 use Rattle.std.proofs.Math.Nat.{mul-mod_left}
 use Rattle.std.proofs.lemmas.Bool.{cases_order}
 use Rattle.sled_codec.specs.Places.{part}
 use Rattle.sled_codec.specs.Record.{IsHeader}
-use Rattle.sled_store.specs.Device.{LeavesLog, overwritten, end_of}
+use Rattle.sled_store.specs.Device.{LeavesLog, overwritten}
 use Rattle.sled_store.proofs.LogFile.LooseLemmas.{end_of-le, end_of-mono}
 use Rattle.sled_store.proofs.LogFile.OverwrittenLemmas.{length-overwritten}
-use Rattle.sled_core.specs.declared.iterator.Segment.{Segment}
 use Rattle.sled_core.specs.declared.iterator.scan.ScannedRecord.{ScannedRecord}
 use Rattle.sled_core.specs.declared.iterator.scan.ScanEnd.{ScanEnd}
 use Rattle.sled_core.specs.declared.iterator.scan.ScanEnd.TheVariants.{Full, Capped, Broken}
-use Rattle.sled_core.specs.Scan.{IsFoundSegment, IsMet, IsPath, IsEnd, EndsThere, IsScan}
+use Rattle.sled_core.specs.Scan.{IsMet, IsPath, IsEnd, EndsThere, IsScan}
 use Rattle.sled_core.proofs.Flush.LogFileLemmas.{record_moved}
 use Rattle.sled_core.proofs.Read.FoundLemmas.{found_there}
 use Rattle.sled_core.proofs.Read.ScanLemmas.{aligned_offset}
@@ -19,7 +18,6 @@ use Rattle.sled_core.proofs.Torn.TornLemmas.{after_write, left_grows, part_left}
 use Rattle.sled_core.proofs.Torn.TornRecords.{long_enough}
 use Rattle.sled_core.proofs.Torn.WrittenParts.{path_stays}
 use Rattle.sled_core.proofs.Torn.WrittenRecords.{MeetsFirst}
-use Rattle.sled_log.specs.Recovery.{Scanned, IsScanned}
 use Rattle.sled_log.proofs.Replay.LineLemmas.{apart}
 use Rattle.sled_log.proofs.Reached.LeftBeside.{IsSameBeside, beside}
 
