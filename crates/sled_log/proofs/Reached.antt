@@ -1,5 +1,6 @@
 pub mod Higher
 pub mod LeftBeside
+pub mod OneWrite
 pub mod PutIn
 pub mod ReachedCut
 pub mod ReachedEntries
