@@ -1,4 +1,14 @@
+pub mod Higher
+pub mod LeftBeside
+pub mod OneWrite
+pub mod PutIn
 pub mod ReachedCut
 pub mod ReachedEntries
 pub mod Recoverable
+pub mod Reread
 pub mod StandsTo
+pub mod TornBegun
+pub mod TornBehind
+pub mod WholeBegun
+pub mod WholeBehind
+pub mod WrittenWhole

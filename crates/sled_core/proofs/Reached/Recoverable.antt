@@ -22,7 +22,7 @@ less_than (negsuc n) low high le lt = omega arith
 
 module _ (sum : List ℕ → ℕ) (size : ℕ) (log : List ℕ) (some : 256 ≤ size) (H : History) (A : ℕ) (first : SnapshotModel) (reach : ℕ) (is : StandsTo sum size log H A first reach) (ordered : Ascends H.messages) where
   -- A mark that lies below the place does so below a higher one.
-  mark_higher : (c : ℕ) → reach ≤ c → (mark : ℤ) → IsMarkBelow size H reach mark → IsMarkBelow size H c mark
+  pub mark_higher : (c : ℕ) → reach ≤ c → (mark : ℤ) → IsMarkBelow size H reach mark → IsMarkBelow size H c mark
   mark_higher c far mark (inl lower) = inl (less_than mark reach c far lower)
   mark_higher c far mark (inr (n, at, under, message, batch, ended)) = elim (cases_lt n c) [
     | inl below ↦ inl (subst (λ (z : ℤ). z <ℤ pos c) (sym at) (omega (arith, lt→ltb, below)))

@@ -15,7 +15,7 @@ use Rattle.sled_core.proofs.Read.ScanLemmas.{met_fits, aligned_offset}
 use Rattle.sled_core.proofs.Torn.TornLemmas.{after_write}
 use Rattle.sled_core.proofs.Torn.ZeroedSlots.{grows, kept, path_stays}
 use Rattle.sled_core.proofs.Tail.Multiples.{apart}
-use Rattle.sled_log.proofs.Moments.ZeroedParts.{message_moved}
+use Rattle.sled_core.proofs.Tail.Moved.{message_moved}
 
 module _ (sum : List ℕ → ℕ) (size : ℕ) (old : List ℕ) (some : 256 ≤ size) (at count : ℕ) (now left : List ℕ) (no_more : length now ≤ length (replicate {A = ℕ} count 0)) (leaves : LeavesLog (after_write old at (replicate count 0) now) left)
     (slot : ℕ) (slot_at : slot % size ≡ 0) (begin : slot ≤ at) (end : at + count ≤ slot + size) where

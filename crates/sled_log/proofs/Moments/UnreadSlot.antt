@@ -28,7 +28,8 @@ use Rattle.sled_core.proofs.Tail.Rows.{row_ordered, row_whole, met_stand, stand_
 use Rattle.sled_log.proofs.Moments.BesideZeros.{beside, found_beside, needed_beside}
 use Rattle.sled_log.proofs.Moments.FromCut.{EndsAtCut, IsOfCut, from_end, from_inside}
 use Rattle.sled_core.proofs.Tail.SegmentsFrom.{ascends_of}
-use Rattle.sled_log.proofs.Moments.ZeroedParts.{slot_index, found_before, scan_truth}
+use Rattle.sled_core.proofs.Tail.Moved.{slot_index}
+use Rattle.sled_log.proofs.Moments.ZeroedParts.{found_before, scan_truth}
 
 -- of segments each of which begins below all later ones, those that are kept do so too
 pub rises_kept : (p : Segment → Bool) (ss : List Segment) → Rises ss → Rises (filter p ss)

@@ -20,7 +20,7 @@ use Rattle.sled_log.proofs.Moments.FromCut.{EndsAtCut, IsOfCut, from_end, from_i
 use Rattle.sled_log.proofs.Moments.UnreadSlot.{unread_end, unread_inside}
 use Rattle.sled_log.proofs.Moments.UnreadWritten.{unread_zeroed, zeroed_before, ends_zeroed}
 use Rattle.sled_log.proofs.Moments.UnreadZeroed.{found_old}
-use Rattle.sled_log.proofs.Moments.ZeroedParts.{one_in_slot}
+use Rattle.sled_core.proofs.Tail.Moved.{one_in_slot}
 
 -- Slots that are free.
 

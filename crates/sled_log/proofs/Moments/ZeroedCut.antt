@@ -33,7 +33,8 @@ use Rattle.sled_core.proofs.Tail.Rows.{Stand, stand_in, stand_rises, path_stands
 use Rattle.sled_log.proofs.Moments.CutSegment.{IsCutSegment, cut_segment}
 use Rattle.sled_log.proofs.Moments.PassStops.{StopsHere}
 use Rattle.sled_log.proofs.Moments.ShortCut.{IsShort, all_kept, short_kept}
-use Rattle.sled_log.proofs.Moments.ZeroedParts.{slot_index, message_moved, one_in_slot, scan_truth, other_slot, found_stays, ordering_stays, other_scan}
+use Rattle.sled_core.proofs.Tail.Moved.{slot_index, message_moved, one_in_slot}
+use Rattle.sled_log.proofs.Moments.ZeroedParts.{scan_truth, other_slot, found_stays, ordering_stays, other_scan}
 
 -- what follows the same beginning is the same
 same_rest : {X : Type 0} (xs ys zs : List X) → xs ++ ys ≡ xs ++ zs → ys ≡ zs

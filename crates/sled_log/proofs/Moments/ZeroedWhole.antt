@@ -36,7 +36,8 @@ use Rattle.sled_log.proofs.Moments.PassStops.{StopsHere}
 use Rattle.sled_log.proofs.Moments.FromCut.{EndsAtCut}
 use Rattle.sled_log.proofs.Moments.ShortCut.{IsShort, short_kept, y_kept}
 use Rattle.sled_log.proofs.Moments.ZeroedCut.{z_found, z_scan, slot_at, parts, needed_left}
-use Rattle.sled_log.proofs.Moments.ZeroedParts.{one_in_slot, header_apart, found_stays}
+use Rattle.sled_core.proofs.Tail.Moved.{one_in_slot}
+use Rattle.sled_log.proofs.Moments.ZeroedParts.{header_apart, found_stays}
 use Rattle.sled_log.proofs.Moments.ZerosStand.{leaves_new, no_more_than, bytes_same, slot_beside, lay_before, end_same_there, path_there, truth_there}
 
 -- The records of a path before one of them are a path to it.

@@ -31,7 +31,7 @@ use Rattle.sled_core.proofs.Tail.OneReading.{path_begins}
 use Rattle.sled_core.proofs.Tail.OneTail.{segment_there}
 use Rattle.sled_log.proofs.Recovers.PassCut.{whole}
 use Rattle.sled_core.proofs.Tail.Rows.{stand_in, stand_rises, path_stands, stop_inside}
-use Rattle.sled_log.proofs.Moments.ZeroedParts.{of_left}
+use Rattle.sled_core.proofs.Tail.Moved.{of_left}
 
 module _ (sum : List ℕ → ℕ) (size : ℕ) (old : List ℕ) (some : 256 ≤ size) (H : History) (at count slot : ℕ) (aligned : slot % size ≡ 0) (begin : slot ≤ at) (to_end : at + count ≡ slot + size) (reach : slot ≤ length old) where
   abbrev pub zeros : List ℕ

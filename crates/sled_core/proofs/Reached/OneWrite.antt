@@ -1,0 +1,100 @@
+-- One write of a buffer to a slot, behind the header of a segment or at the beginning of one: what a crash leaves of it stands up to the same place, and all of it up to where the reading of the segment ends.
+use Rattle.std.proofs.Common.{◌≡◌, ◌≢◌, ◌⊎◌, ◌∙◌, ◌+◌, ◌*◌, ◌%◌, ◌^◌, ◌<◌, ◌≤◌, ℕ, ℤ, pos, max, List, length, take, get_or, sym, ap, subst, arith, inl, inr}
+use Rattle.std.specs.List.{Contains}
+use Rattle.sled_codec.specs.History.{Batch, History}
+use Rattle.sled_codec.specs.Record.{IsHeader}
+use Rattle.sled_codec.specs.Snapshots.{SnapshotModel}
+use Rattle.sled_store.specs.Device.{overwritten, LeavesLog}
+use Rattle.sled_store.specs.Foreign.{NoForeignLog}
+use Rattle.sled_core.specs.declared.iterator.Segment.{Segment}
+use Rattle.sled_core.specs.declared.iterator.scan.ScannedRecord.{ScannedRecord}
+use Rattle.sled_core.specs.declared.iterator.scan.ScanEnd.{ScanEnd}
+use Rattle.sled_core.specs.declared.iterator.scan.ScanEnd.TheVariants.{Capped, Broken}
+use Rattle.sled_core.specs.Recoverable.{NoHeaderOfZeros, NoMessageBegins, NoBatchBegins, IsOfHistory, IsMarkOf, IsMarkBelow}
+use Rattle.sled_core.specs.Scan.{IsPath, IsEnd, IsScan}
+use Rattle.sled_core.proofs.Torn.TornLemmas.{after_write}
+use Rattle.sled_core.proofs.Torn.WrittenParts.{path_rises}
+use Rattle.sled_core.specs.Tail.{Scanned, least_place}
+use Rattle.sled_store.proofs.Histories.Ascending.{Ascends}
+use Rattle.sled_core.proofs.Tail.OneTail.{segment_there}
+use Rattle.sled_core.proofs.Reached.Higher.{IsBegunOrLedTo}
+use Rattle.sled_core.proofs.Reached.StandsTo.{StandsTo}
+use Rattle.sled_core.proofs.Reached.TornBegun.{torn_begun}
+use Rattle.sled_core.proofs.Reached.TornBehind.{torn_behind}
+use Rattle.sled_core.proofs.Reached.WholeBegun.{written_begun}
+use Rattle.sled_core.proofs.Reached.WholeBehind.{written_behind}
+
+-- The write goes on in a segment that is found, where the reading of it ends.
+pub record GoesOnIn (scanned : List Scanned) (slot from place : ℕ) : Type 0 where
+  pub scan : Scanned
+  pub there : Contains scanned scan
+  pub in_slot : scan.segment.slot ≡ slot
+  pub at_place : scan.segment.place ≡ place
+  pub ended : scan.stop ≡ from
+  pub broken : scan.why ≡ Broken
+
+-- The write begins a segment. None that is found has its place.
+pub record BeginsSegment (sum : List ℕ → ℕ) (size : ℕ) (H : History) (ordering : List Segment) (reach slot from : ℕ) (asked : List ℕ) (place : ℕ) : Type 0 where
+  pub begins : from ≡ 0
+  pub mark : ℤ
+  pub header : IsHeader sum (take 20 asked) (pos place) mark
+  pub whole : place % size ≡ 0
+  pub fits : place + size < 2 ^ 63
+  pub its_mark : IsMarkOf H (record { place = place; slot = slot; mark = mark })
+  pub mark_below : IsMarkBelow size H reach mark
+  pub alone : (s : Segment) → Contains ordering s → s.place ≢ place
+
+module _ (sum : List ℕ → ℕ) (none : NoHeaderOfZeros sum) (size : ℕ) (some : 256 ≤ size) (old : List ℕ) (slot from : ℕ) (asked : List ℕ) (inside : from + length asked ≤ size)
+    (clean : (i : ℕ) → slot * size + from ≤ i → i < slot * size + size → get_or old i 0 ≡ 0) (H : History) (A : ℕ) (first : SnapshotModel) (reach : ℕ) (is : StandsTo sum size old H A first reach) (place : ℕ)
+    (how : GoesOnIn is.scanned (slot * size) from place ⊎ BeginsSegment sum size H is.ordering reach (slot * size) from asked place) (more : List ScannedRecord) (stop : ℕ) (why : ScanEnd)
+    (path : IsPath sum size (overwritten old (slot * size + from) asked) (slot * size) place (max 20 from) more stop) (end : IsEnd sum size (overwritten old (slot * size + from) asked) (slot * size) place stop why)
+    (truth : (x : ScannedRecord) → Contains more x → IsOfHistory sum size (overwritten old (slot * size + from) asked) H x)
+    (caps : why ≡ Capped → NoMessageBegins H (place + stop) (place + size) × NoBatchBegins H (place + stop) (place + size)) where
+  abbrev new : List ℕ
+  new = overwritten old (slot * size + from) asked
+
+  -- behind the header
+  behind : (g : GoesOnIn is.scanned (slot * size) from place) → 20 ≤ from
+  unfolding IsScan
+  behind g =
+      let z : Scanned = g.scan in
+      let scan = (segment_there sum size old is.ordering is.scanned is.reads z g.there).1 in
+      let rises = path_rises sum size old z.segment.slot z.segment.place 20 z.met z.stop scan.0 in
+      let ended = g.ended in
+      omega (arith, rises, ended)
+
+  path_on : (g : GoesOnIn is.scanned (slot * size) from place) → IsPath sum size new (slot * size) g.scan.segment.place from more stop
+  path_on g =
+      let far = behind g in
+      let begins : max 20 from ≡ from = omega (arith, far) in
+      subst (λ n. IsPath sum size new (slot * size) n from more stop) (sym g.at_place) (subst (λ n. IsPath sum size new (slot * size) place n more stop) begins path)
+
+  end_on : (g : GoesOnIn is.scanned (slot * size) from place) → IsEnd sum size new (slot * size) g.scan.segment.place stop why
+  end_on g = subst (λ n. IsEnd sum size new (slot * size) n stop why) (sym g.at_place) end
+
+  caps_on : (g : GoesOnIn is.scanned (slot * size) from place) → why ≡ Capped → NoMessageBegins H (g.scan.segment.place + stop) (g.scan.segment.place + size) × NoBatchBegins H (g.scan.segment.place + stop) (g.scan.segment.place + size)
+  caps_on g capped = subst (λ n. NoMessageBegins H (n + stop) (n + size) × NoBatchBegins H (n + stop) (n + size)) (sym g.at_place) (caps capped)
+
+  path_first : from ≡ 0 → IsPath sum size new (slot * size) place 20 more stop
+  path_first begins = let at : max 20 from ≡ 20 = omega (arith, begins) in subst (λ n. IsPath sum size new (slot * size) place n more stop) at path
+
+  -- What a crash leaves of it.
+  pub torn_stands : (now left : List ℕ) → length now ≤ length asked → LeavesLog (after_write old (slot * size + from) asked now) left → {placed : List (ℕ × List ℕ)}
+      → NoForeignLog sum size (after_write old (slot * size + from) asked now) placed left → StandsTo sum size left H A first reach
+  torn_stands now left no_more leaves only_own = elim how [
+    | inl g ↦ torn_behind sum size some old slot from asked now left inside no_more leaves clean only_own H A first reach is g.scan g.there g.in_slot g.ended g.broken more stop why (path_on g) (end_on g) truth (caps_on g)
+    | inr b ↦ torn_begun sum none size some old slot from b.begins asked now left inside no_more leaves clean only_own H A first reach is place b.mark b.header b.whole b.fits b.its_mark b.mark_below b.alone more stop why
+        (path_first b.begins) end truth caps
+  ]
+
+  -- All of it.
+  pub written_stands : Ascends H.messages → slot * size ≤ length old → least_place size first ≤ place → (A' : ℕ) → A' ≤ place + stop → reach ≤ place + stop → IsBegunOrLedTo size is.scanned (least_place size first) reach place
+      → NoMessageBegins H reach place → ((b : Batch) → Contains H.batches b → b.low < place + stop → b.peg < place + stop) → StandsTo sum size new H A' first (place + stop)
+  written_stands ordered there low A' passes far led between closed = elim how [
+    | inl g ↦ subst
+        (λ n. A' ≤ n + stop → reach ≤ n + stop → IsBegunOrLedTo size is.scanned (least_place size first) reach n → NoMessageBegins H reach n
+            → ((b : Batch) → Contains H.batches b → b.low < n + stop → b.peg < n + stop) → StandsTo sum size new H A' first (n + stop))
+        g.at_place (written_behind sum size some old slot from asked inside H ordered A first reach is g.scan g.there g.in_slot g.ended g.broken more stop why (path_on g) (end_on g) truth (caps_on g) A') passes far led between closed
+    | inr b ↦ written_begun sum size some old slot from asked inside H ordered A first reach is none there b.begins clean place b.mark b.header low b.whole b.fits b.its_mark b.mark_below b.alone more stop why
+        (path_first b.begins) end truth caps A' passes far led between closed
+  ]
