@@ -1,3 +1,7 @@
+pub mod AlikeSlots
+pub mod CutSlots
+pub mod FilledBehind
+pub mod FilledSlots
 pub mod TornFlush
 pub mod TornLemmas
 pub mod TornRecords
