@@ -1,5 +1,7 @@
 pub mod AlikeSlots
+pub mod CutAlong
 pub mod CutSlots
+pub mod FilledAlong
 pub mod FilledBehind
 pub mod FilledSlots
 pub mod TornFlush
