@@ -3,6 +3,7 @@ pub mod CutAlong
 pub mod CutSlots
 pub mod FilledAlong
 pub mod FilledBehind
+pub mod FilledReads
 pub mod FilledSlots
 pub mod TornFlush
 pub mod TornLemmas

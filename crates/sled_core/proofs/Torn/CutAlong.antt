@@ -1,5 +1,5 @@
 -- While free slots at the end of a log file are cut off one after another, each cut synced: what holds of each state behind a sync, and of each with one cut behind it, holds at each moment.
-use Rattle.std.proofs.Common.{◌≡◌, ◌≤◌, ◌<◌, ◌*◌, ◌∙◌, ℕ, zero, suc, Bool, true, false, if◌then◌else◌, List, [], ◌∷◌, take, refl, sym, ap, arith, subst}
+use Rattle.std.proofs.Common.{◌≡◌, ◌≤◌, ◌<◌, ◌*◌, ◌∙◌, ℕ, zero, suc, Bool, true, false, if◌then◌else◌, List, [], ◌∷◌, take, sym, ap, arith, subst}
 use Rattle.std.proofs.Math.Nat.{mul-le-mul_right}
 use Rattle.std.proofs.lemmas.List.{take-take}
 use Rattle.sled_store.specs.Device.{Event, LogState, State, at_rest, log_step, step, Cut, Synced}

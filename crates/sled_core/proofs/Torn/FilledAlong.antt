@@ -1,10 +1,9 @@
 -- While the unused slots of a settled log file are filled with zeros: what holds of each state in which some of them may have been written, and once all are synced, holds at each moment.
-use Rattle.std.proofs.Common.{◌≡◌, ◌≢◌, ◌≤◌, ◌<◌, ◌*◌, ◌∙◌, ℕ, true, false, List, [], ◌∷◌, ◌++◌, length, replicate, map, get_or, refl, sym, ap, arith, subst}
+use Rattle.std.proofs.Common.{◌≡◌, ◌≢◌, ◌<◌, ◌*◌, ◌∙◌, ℕ, true, false, List, [], ◌∷◌, ◌++◌, replicate, map, get_or, refl, sym, ap, arith, subst}
 use Rattle.std.specs.List.{All, Contains}
 use Rattle.std.proofs.lemmas.List.{length-replicate}
 use Rattle.std.proofs.lemmas.List.Elements.{All-tail, All-contains_itself}
 use Rattle.sled_codec.specs.Snapshots.{SnapshotModel}
-use Rattle.sled_store.specs.Answers.{Tears}
 use Rattle.sled_store.specs.Begin.{slots_of, is_used, unused, fill, filling}
 use Rattle.sled_store.specs.Device.{Event, LogState, State, at_rest, step, Wrote, Synced}
 use Rattle.sled_store.specs.Script.{Along}

@@ -28,6 +28,15 @@ covered_zeros at count from text covers =
     let ends = covers.ends in
     sym covers.same ∙ part_of_zeros count (from - at) (length text) (omega (arith, begins, ends, length-replicate {A = ℕ} count 0))
 
+-- a record isn't zeros
+pub no_zeros : (sum : List ℕ → ℕ) (size : ℕ) (log : List ℕ) (lid number : ℕ) (h : MessageHeader) (body : List ℕ) (len : ℕ) → StandsAt sum size log lid number h body len → part log lid len ≡ replicate len 0 → ⊥
+no_zeros sum size log lid number h body len s zero =
+    let some : 8 ≤ len = long_enough sum size log lid number h body len s in
+    let kind : get_or log (lid + 4) 0 ≡ 0 =
+    sym (get_or-drop lid log 4 0) ∙ sym (get_or-take len (drop lid log) 4 0 (omega (arith, some)))
+    ∙ ap (λ (l : List ℕ). get_or l 4 0) zero ∙ get_or-replicate len 4 0 0 (omega (arith, some)) in
+    zeros_empty sum size log lid number kind h body len s
+
 module _ (sum : List ℕ → ℕ) (size : ℕ) (old : List ℕ) (at count : ℕ) (now left : List ℕ) (no_more : length now ≤ length (replicate {A = ℕ} count 0)) (leaves : LeavesLog (after_write old at (replicate count 0) now) left) where
   abbrev zeros : List ℕ
   zeros = replicate count 0
@@ -68,17 +77,10 @@ module _ (sum : List ℕ → ℕ) (size : ℕ) (old : List ℕ) (at count : ℕ)
         some : 8 ≤ len
         some = long_enough sum size left (slot * size + from) (place / size) h body len s
 
-        no_zeros : part left (slot * size + from) len ≡ replicate len 0 → ⊥
-        no_zeros zero =
-            let kind : get_or left (slot * size + from + 4) 0 ≡ 0 =
-            sym (get_or-drop (slot * size + from) left 4 0) ∙ sym (get_or-take len (drop (slot * size + from) left) 4 0 (omega (arith, some)))
-            ∙ ap (λ (l : List ℕ). get_or l 4 0) zero ∙ get_or-replicate len 4 0 0 (omega (arith, some)) in
-            zeros_empty sum size left (slot * size + from) (place / size) kind h body len s
-
         pub same : part old (slot * size + from) len ≡ part left (slot * size + from) len
         same = elim (record_where sum size old at zeros now left no_more leaves only_own slot place mark header from reached below h body len s) [
           | inl alike ↦ alike
-          | inr write ↦ absurd (no_zeros (covered_zeros at count (slot * size + from) (part left (slot * size + from) len) write ∙ ap (λ n. replicate n 0) whole))
+          | inr write ↦ absurd (no_zeros sum size left (slot * size + from) (place / size) h body len s (covered_zeros at count (slot * size + from) (part left (slot * size + from) len) write ∙ ap (λ n. replicate n 0) whole))
         ]
 
         pub stood : StandsAt sum size old (slot * size + from) (place / size) h body len
