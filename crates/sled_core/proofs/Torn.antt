@@ -5,6 +5,7 @@ pub mod FilledAlong
 pub mod FilledBehind
 pub mod FilledReads
 pub mod FilledSlots
+pub mod KeptSlots
 pub mod TornFlush
 pub mod TornLemmas
 pub mod TornRecords
