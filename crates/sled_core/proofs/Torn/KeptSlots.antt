@@ -9,7 +9,7 @@ use Rattle.std.proofs.lemmas.List.Elements.{All-cons}
 use Rattle.sled_codec.specs.Places.{part}
 use Rattle.sled_codec.specs.Record.{IsHeader}
 use Rattle.sled_store.specs.Begin.{filling}
-use Rattle.sled_store.specs.Device.{Event, Trace, LogState, State, Content, state_of, at_rest, step, LeavesLog}
+use Rattle.sled_store.specs.Device.{Event, Trace, LogState, State, Content, state_of, at_rest, LeavesLog}
 use Rattle.sled_store.specs.Foreign.{NoForeignLog}
 use Rattle.sled_store.specs.Moments.{AllLeft, LeavesOnly}
 use Rattle.sled_store.specs.Script.{Performs, Along, after_all}
@@ -149,9 +149,9 @@ module _ (sum : List ℕ → ℕ) (size : ℕ) (Used : ℕ → Type 0) (long : 2
       cutting_along Keeps size old slots s n
       (λ m low high x is_cut blobs snapshots. rest_keeps (take (m * size) old) (shorter m low) x is_cut)
       (λ m now low high no_less x is_cut blobs snapshots left leaves own.
-          keeps_then sum size Used log (take (suc m * size) old) left.log (shorter (suc m) (omega (arith, low)))
-          (cutting_keeps sum size Used long (take (suc m * size) old) m (λ j used. let lower = below j used in omega (arith, lower, low)) now no_less left.log
-              (subst (λ (l : LogState). LeavesLog l left.log) is_cut leaves.log) {placed = x.placed} (subst (λ (l : LogState). NoForeignLog sum size l x.placed left.log) is_cut own)))
+      keeps_then sum size Used log (take (suc m * size) old) left.log (shorter (suc m) (omega (arith, low)))
+      (cutting_keeps sum size Used long (take (suc m * size) old) m (λ j used. let lower = below j used in omega (arith, lower, low)) now no_less left.log
+      (subst (λ (l : LogState). LeavesLog l left.log) is_cut leaves.log) {placed = x.placed} (subst (λ (l : LogState). NoForeignLog sum size l x.placed left.log) is_cut own)))
       s (is ∙ ap at_rest (sym (take_all (n * size) old short))) refl refl
     where
       shorter : (m : ℕ) → left_after n slots ≤ m → KeepsSlots sum size Used log (take (m * size) old)
@@ -165,7 +165,7 @@ module _ (sum : List ℕ → ℕ) (size : ℕ) (Used : ℕ → Type 0) (long : 2
         let keeps : KeepsSlots sum size Used log (filled size log ks) = filled_keeps sum size Used long none log ks apart begin in
         along_both Keeps (filling size ks) (cutting size n slots) t
         (filled_along Keeps size log ks (state_of t) is (λ x filling blobs snapshots left leaves own. filling_keeps sum size Used long none log ks apart x.log filling left.log leaves.log {placed = x.placed} own)
-            (λ x behind blobs snapshots. rest_keeps (filled size log ks) keeps x behind))
+        (λ x behind blobs snapshots. rest_keeps (filled size log ks) keeps x behind))
         (cutting_keeps_along slots n (filled size log ks) keeps short below (state_of (after_all (filling size ks) t)) (filling-log size ks t log is))
 
     -- At each moment of that, also within a call, a crash leaves the used slots as they were, and no segment that there wasn't.
