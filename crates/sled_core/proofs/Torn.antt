@@ -6,6 +6,7 @@ pub mod FilledBehind
 pub mod FilledReads
 pub mod FilledSlots
 pub mod KeptSlots
+pub mod StartedSlots
 pub mod TornFlush
 pub mod TornLemmas
 pub mod TornRecords
