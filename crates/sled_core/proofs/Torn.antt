@@ -1,3 +1,12 @@
+pub mod AlikeSlots
+pub mod CutAlong
+pub mod CutSlots
+pub mod FilledAlong
+pub mod FilledBehind
+pub mod FilledReads
+pub mod FilledSlots
+pub mod KeptSlots
+pub mod StartedSlots
 pub mod TornFlush
 pub mod TornLemmas
 pub mod TornRecords

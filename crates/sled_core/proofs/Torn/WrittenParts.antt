@@ -65,6 +65,59 @@ module _ (sum : List ℕ → ℕ) (size : ℕ) (log : List ℕ) where
   paths_joined slot place from [] mid more next path rest = subst (λ n. IsPath sum size log slot place n more next) path rest
   paths_joined slot place from (m ∷ ms) mid more next path rest = (path.0, path.1, path.2, paths_joined slot place (from + m.len) ms mid more next path.3 rest)
 
+-- The records of a segment that stand in a slot of one file stand in another one too; and those that a reader of that one comes to stood in the first.
+abbrev pub StandToo : (List ℕ → ℕ) → ℕ → List ℕ → List ℕ → ℕ → ℕ → Type 0
+StandToo sum size old left slot place = (from : ℕ) → from < size → (h : MessageHeader) (body : List ℕ) (len : ℕ) → StandsAt sum size old (slot * size + from) (place / size) h body len → StandsAt sum size left (slot * size + from) (place / size) h body len
+
+abbrev pub StoodBefore : (List ℕ → ℕ) → ℕ → List ℕ → List ℕ → ℕ → ℕ → Type 0
+StoodBefore sum size old left slot place =
+    (from : ℕ) → ComesTo sum size left (slot * size) place from → from < size → (h : MessageHeader) (body : List ℕ) (len : ℕ)
+    → StandsAt sum size left (slot * size + from) (place / size) h body len → StandsAt sum size old (slot * size + from) (place / size) h body len
+
+module _ (sum : List ℕ → ℕ) (size : ℕ) (old left : List ℕ) (slot place : ℕ) (stays : StandToo sum size old left slot place) (stood : StoodBefore sum size old left slot place) where
+  path_on : (from : ℕ) (ms : List ScannedRecord) (next : ℕ) → IsPath sum size old (slot * size) place from ms next → IsPath sum size left (slot * size) place from ms next
+  unfolding IsMet
+  path_on from [] next path = path
+  path_on from (m ∷ ms) next (room, at_place, (h, body, stands, says), path) =
+      (room, at_place, (h, body, stays from (omega (arith, room)) h body m.len stands, says), path_on (from + m.len) ms next path)
+
+  end_on : (from : ℕ) → ComesTo sum size left (slot * size) place from → (why : ScanEnd) → IsEnd sum size old (slot * size) place from why → IsEnd sum size left (slot * size) place from why
+  unfolding EndsThere
+  end_on from comes Full full = full
+  end_on from comes Capped (room, (h, body, len, s, is_cap)) = (room, (h, body, len, stays from (omega (arith, room)) h body len s, is_cap))
+  end_on from comes Broken (room, none) = (room, λ h body len s. none h body len (stood from comes (omega (arith, room)) h body len s))
+
+  -- All is met as in the first file.
+  pub scan_alike : (met : List ScannedRecord) (stop : ℕ) (why : ScanEnd) → IsScan sum size old (slot * size) place met stop why → IsScan sum size left (slot * size) place met stop why
+  unfolding IsScan
+  scan_alike met stop why (path, end) =
+      let on = path_on 20 met stop path in
+      (on, end_on stop (comes_along sum size left (slot * size) (mul-mod_left slot size) place 20 met stop on at_first) why end)
+
+  path_back : (from : ℕ) → ComesTo sum size left (slot * size) place from → (ms : List ScannedRecord) (next : ℕ) → IsPath sum size left (slot * size) place from ms next → IsPath sum size old (slot * size) place from ms next
+  unfolding IsMet
+  path_back from comes [] next path = path
+  path_back from comes (m ∷ ms) next (room, at_place, (h, body, stands, says), path) =
+      let below : from < size = omega (arith, room) in (
+        room,
+        at_place,
+        (h, body, stood from comes below h body m.len stands, says),
+        path_back (from + m.len) (comes_behind sum size left (slot * size) (mul-mod_left slot size) place from h body m.len below stands comes) ms next path,
+      )
+
+  end_back : (from : ℕ) → ComesTo sum size left (slot * size) place from → (why : ScanEnd) → IsEnd sum size left (slot * size) place from why → IsEnd sum size old (slot * size) place from why
+  unfolding EndsThere
+  end_back from comes Full full = full
+  end_back from comes Capped (room, (h, body, len, s, is_cap)) = (room, (h, body, len, stood from comes (omega (arith, room)) h body len s, is_cap))
+  end_back from comes Broken (room, none) = (room, λ h body len s. none h body len (stays from (omega (arith, room)) h body len s))
+
+  -- And all that is met was met there.
+  pub scan_was : (met : List ScannedRecord) (stop : ℕ) (why : ScanEnd) → IsScan sum size left (slot * size) place met stop why → IsScan sum size old (slot * size) place met stop why
+  unfolding IsScan
+  scan_was met stop why (path, end) =
+      let comes = comes_along sum size left (slot * size) (mul-mod_left slot size) place 20 met stop path at_first in
+      (path_back 20 at_first met stop path, end_back stop comes why end)
+
 -- What stands outside a range of a file stands in another one too that has the same bytes there.
 module _ (sum : List ℕ → ℕ) (size : ℕ) (old new : List ℕ) (at n : ℕ) (grows : length old ≤ length new) (same : (lid len : ℕ) → lid + len ≤ length old → (lid + len ≤ at) ⊎ (at + n ≤ lid) → part new lid len ≡ part old lid len) where
   record_kept : (lid number : ℕ) (h : MessageHeader) (body : List ℕ) (len : ℕ) → (lid + len ≤ at) ⊎ (at + n ≤ lid) → StandsAt sum size old lid number h body len → StandsAt sum size new lid number h body len
@@ -155,41 +208,10 @@ module _ (sum : List ℕ → ℕ) (size : ℕ) (old : List ℕ) (at : ℕ) (aske
             let beside : (slot * size + from + len ≤ at) ⊎ (at + length asked ≤ slot * size + from) = elim apart [ inl before ↦ inl (omega (arith, before, fits)) | inr past ↦ inr (omega (arith, past)) ] in
             record_stays (slot * size + from) (place / size) h body len beside s
 
-        end_same : (from : ℕ) → ComesTo sum size left (slot * size) place from → (why : ScanEnd) → IsEnd sum size old (slot * size) place from why → IsEnd sum size left (slot * size) place from why
-        unfolding EndsThere
-        end_same from comes Full full = full
-        end_same from comes Capped (room, (h, body, len, s, is_cap)) = (room, (h, body, len, stays_apart from (omega (arith, room)) h body len s, is_cap))
-        end_same from comes Broken (room, none) = (room, λ h body len s. none h body len (stood_apart from comes (omega (arith, room)) h body len s))
-
         -- All is met as before.
         pub scan_apart : (met : List ScannedRecord) (stop : ℕ) (why : ScanEnd) → IsScan sum size old (slot * size) place met stop why → IsScan sum size left (slot * size) place met stop why
-        unfolding IsScan
-        scan_apart met stop why (path, end) =
-            let aligned : slot * size % size ≡ 0 = mul-mod_left slot size in
-            let beside : (slot * size + min stop size ≤ at) ⊎ (at + length asked ≤ slot * size) = elim apart [ inl before ↦ inl (omega (arith, before)) | inr past ↦ inr past ] in
-            let stays = path_stays (slot * size) place aligned 20 met stop beside path in
-            (stays, end_same stop (comes_along sum size left (slot * size) aligned place 20 met stop stays at_first) why end)
-
-        path_back : (from : ℕ) → ComesTo sum size left (slot * size) place from → (ms : List ScannedRecord) (next : ℕ) → IsPath sum size left (slot * size) place from ms next → IsPath sum size old (slot * size) place from ms next
-        unfolding IsMet
-        path_back from comes [] next path = path
-        path_back from comes (m ∷ ms) next (room, at_place, (h, body, stands, says), path) =
-            let below : from < size = omega (arith, room) in (
-              room,
-              at_place,
-              (h, body, stood_apart from comes below h body m.len stands, says),
-              path_back (from + m.len) (comes_behind sum size left (slot * size) (mul-mod_left slot size) place from h body m.len below stands comes) ms next path,
-            )
-
-        end_back : (from : ℕ) → ComesTo sum size left (slot * size) place from → (why : ScanEnd) → IsEnd sum size left (slot * size) place from why → IsEnd sum size old (slot * size) place from why
-        unfolding EndsThere
-        end_back from comes Full full = full
-        end_back from comes Capped (room, (h, body, len, s, is_cap)) = (room, (h, body, len, stood_apart from comes (omega (arith, room)) h body len s, is_cap))
-        end_back from comes Broken (room, none) = (room, λ h body len s. none h body len (stays_apart from (omega (arith, room)) h body len s))
+        scan_apart = scan_alike sum size old left slot place stays_apart stood_apart
 
         -- And all that is met was met before.
         pub scan_back : (met : List ScannedRecord) (stop : ℕ) (why : ScanEnd) → IsScan sum size left (slot * size) place met stop why → IsScan sum size old (slot * size) place met stop why
-        unfolding IsScan
-        scan_back met stop why (path, end) =
-            let comes = comes_along sum size left (slot * size) (mul-mod_left slot size) place 20 met stop path at_first in
-            (path_back 20 at_first met stop path, end_back stop comes why end)
+        scan_back = scan_was sum size old left slot place stays_apart stood_apart

@@ -7,7 +7,7 @@ use Rattle.sled_codec.specs.declared.serialization.message.MessageHeader.{Messag
 use Rattle.sled_codec.specs.Places.{part}
 use Rattle.sled_codec.specs.Record.{IsHeader}
 use Rattle.sled_store.specs.Device.{LeavesLog}
-use Rattle.sled_store.specs.Foreign.{IsReached, at_first, NoForeignLog}
+use Rattle.sled_store.specs.Foreign.{at_first, NoForeignLog}
 use Rattle.sled_core.specs.declared.iterator.scan.ScannedRecord.{ScannedRecord}
 use Rattle.sled_core.specs.declared.iterator.scan.ScanEnd.{ScanEnd}
 use Rattle.sled_core.specs.declared.iterator.scan.ScanEnd.TheVariants.{Full, Capped, Broken}
@@ -17,9 +17,9 @@ use Rattle.sled_core.specs.Scan.{IsMet, IsPath, IsEnd, EndsThere, IsScan}
 use Rattle.sled_core.proofs.Flush.LogFileLemmas.{record_moved}
 use Rattle.sled_core.proofs.Read.GivesLemmas.{one_len}
 use Rattle.sled_core.proofs.Torn.TornLemmas.{after_write}
-use Rattle.sled_core.proofs.Torn.TornRecords.{same_or_not}
-use Rattle.sled_core.proofs.Torn.WrittenParts.{comes_along, scan_apart}
-use Rattle.sled_core.proofs.Torn.ZeroedSlots.{grows, kept, same, stood, reached_behind}
+use Rattle.sled_core.proofs.Torn.TornRecords.{same_or_not, long_enough}
+use Rattle.sled_core.proofs.Torn.WrittenParts.{ComesTo, all_there, in_this_file, comes_behind, comes_along, scan_apart}
+use Rattle.sled_core.proofs.Torn.ZeroedSlots.{kept, same}
 
 -- A reading of a segment from an offset on, of which what is met is what these begin with. The first one that isn't met reaches above a place of the file.
 pub record ReadsFirst (sum : List ℕ → ℕ) (size : ℕ) (log : List ℕ) (slot place from at : ℕ) (met : List ScannedRecord) : Type 0 where
@@ -37,44 +37,47 @@ abbrev first_of : ScannedRecord → List ScannedRecord → ScannedRecord
 first_of x [] = x
 first_of x (m ∷ ms) = m
 
-module _ (sum : List ℕ → ℕ) (size : ℕ) (old : List ℕ) (at count : ℕ) (now left : List ℕ) (no_more : length now ≤ length (replicate {A = ℕ} count 0)) (leaves : LeavesLog (after_write old at (replicate count 0) now) left)
-    {placed : List (ℕ × List ℕ)} (only_own : NoForeignLog sum size (after_write old at (replicate count 0) now) placed left)
-    (slot place : ℕ) (mark : ℤ) (header : IsHeader sum (part left (slot * size) 20) (pos place) mark) where
+-- Where each record that a reader comes to has the bytes that it had, and one whose bytes aren't what they were reaches above a place of the file.
+module _ (sum : List ℕ → ℕ) (size : ℕ) (old left : List ℕ) (slot place at : ℕ)
+    (same : (from : ℕ) → ComesTo sum size left (slot * size) place from → from < size → (h : MessageHeader) (body : List ℕ) (len : ℕ) → StandsAt sum size left (slot * size + from) (place / size) h body len
+    → part old (slot * size + from) len ≡ part left (slot * size + from) len)
+    (touched : (from : ℕ) (h : MessageHeader) (body : List ℕ) (len : ℕ) → StandsAt sum size old (slot * size + from) (place / size) h body len → (part left (slot * size + from) len ≡ part old (slot * size + from) len → ⊥) → at < slot * size + from + len) where
   -- a reader of what is left comes to this offset
   abbrev Comes : ℕ → Type 0
-  Comes from = IsReached sum size (place / size) (part left (slot * size) size) 20 from
+  Comes = ComesTo sum size left (slot * size) place
 
   module _ (from : ℕ) (comes : Comes from) (room : from + 32 ≤ size) where
     below : from < size
     below = omega (arith, room)
 
-    -- a record whose bytes aren't what they were reaches into the zeros
-    touched : (h : MessageHeader) (body : List ℕ) (len : ℕ) → StandsAt sum size old (slot * size + from) (place / size) h body len → (part left (slot * size + from) len ≡ part old (slot * size + from) len → ⊥) → at < slot * size + from + len
-    touched h body len s other = elim (cases_lt at (slot * size + from + len)) [
-      | inl above ↦ above
-      | inr below ↦ (let there = s.in_file in absurd (other (kept sum size old at count now left no_more leaves (slot * size + from) len there (inl below))))
-    ]
+    -- a record that stands there did so before
+    stood : (h : MessageHeader) (body : List ℕ) (len : ℕ) → StandsAt sum size left (slot * size + from) (place / size) h body len → StandsAt sum size old (slot * size + from) (place / size) h body len
+    stood h body len s =
+        let alike = same from comes below h body len s in
+        let some = long_enough sum size left (slot * size + from) (place / size) h body len s in
+        record_moved sum size left old (slot * size + from) (place / size) h body len alike
+        (in_this_file sum size old left (slot * size + from) len (omega (arith, some)) (all_there sum size left (slot * size + from) (place / size) h body len s) alike) s
 
     -- where a record stood it still does, or none does
     still : (h : MessageHeader) (body : List ℕ) (len : ℕ) → StandsAt sum size old (slot * size + from) (place / size) h body len
         → StandsAt sum size left (slot * size + from) (place / size) h body len ⊎ ((at < slot * size + from + len) × IsEmpty sum size left (slot * size + from) (place / size))
     still h body len s = elim (same_or_not (part left (slot * size + from) len) (part old (slot * size + from) len)) [
       | inl alike ↦ (
-          let there = s.in_file in
-          let long = grows sum size old at count now left no_more leaves in
-          inl (record_moved sum size old left (slot * size + from) (place / size) h body len alike (omega (arith, there, long)) s))
+          let some = long_enough sum size old (slot * size + from) (place / size) h body len s in
+          inl (record_moved sum size old left (slot * size + from) (place / size) h body len alike
+          (in_this_file sum size left old (slot * size + from) len (omega (arith, some)) (all_there sum size old (slot * size + from) (place / size) h body len s) alike) s))
       | inr other ↦ inr (
-        touched h body len s other,
+        touched from h body len s other,
         λ h' body' len' s'. (
-            let before = stood sum size old at count now left no_more leaves only_own slot place mark header from comes below h' body' len' s' in
+            let before = stood h' body' len' s' in
             let one : len' ≡ len = one_len sum size old (slot * size + from) (place / size) h' h body' body len' len before s in
-            other (subst (λ n. part left (slot * size + from) n ≡ part old (slot * size + from) n) one (sym (same sum size old at count now left no_more leaves only_own slot place mark header from comes below h' body' len' s')))),
+            other (subst (λ n. part left (slot * size + from) n ≡ part old (slot * size + from) n) one (sym (same from comes below h' body' len' s')))),
       )
     ]
 
     -- where none stood none does
     still_none : IsEmpty sum size old (slot * size + from) (place / size) → IsEmpty sum size left (slot * size + from) (place / size)
-    still_none none h body len s = none h body len (stood sum size old at count now left no_more leaves only_own slot place mark header from comes below h body len s)
+    still_none none h body len s = none h body len (stood h body len s)
 
     -- the reading ends where none does
     stops_here : (met : List ScannedRecord) → ((m : ScannedRecord) (ms : List ScannedRecord) → met ≡ m ∷ ms → at < slot * size + from + m.len) → IsEmpty sum size left (slot * size + from) (place / size) → ReadsFirst sum size left (slot * size) place from at met
@@ -97,25 +100,39 @@ module _ (sum : List ℕ → ℕ) (size : ℕ) (old : List ℕ) (at count : ℕ)
   ended from comes Broken (room, none) = stops_here from comes room [] (λ m ms is. cc) (still_none from comes room none)
 
   -- The reading of what is left meets what was met before, or the beginning of it.
-  pub reads_on : (from : ℕ) (met : List ScannedRecord) (stop : ℕ) (why : ScanEnd) → Comes from → IsPath sum size old (slot * size) place from met stop → IsEnd sum size old (slot * size) place stop why
+  pub reads_first : (from : ℕ) (met : List ScannedRecord) (stop : ℕ) (why : ScanEnd) → Comes from → IsPath sum size old (slot * size) place from met stop → IsEnd sum size old (slot * size) place stop why
       → ReadsFirst sum size left (slot * size) place from at met
   unfolding IsMet
-  reads_on from [] stop why comes path end = ended from comes why (subst (λ n. IsEnd sum size old (slot * size) place n why) path end)
-  reads_on from (m ∷ ms) stop why comes (room, at_place, (h, body, stands, says), path) end = elim (still from comes room h body m.len stands) [
+  reads_first from [] stop why comes path end = ended from comes why (subst (λ n. IsEnd sum size old (slot * size) place n why) path end)
+  reads_first from (m ∷ ms) stop why comes (room, at_place, (h, body, stands, says), path) end = elim (still from comes room h body m.len stands) [
     | inl there ↦ (
-        let comes_behind = reached_behind sum size old at count now left no_more leaves only_own slot place mark header from comes (below from comes room) h body m.len there in
-        let on = reads_on (from + m.len) ms stop why comes_behind path end in
+        let further = comes_behind sum size left (slot * size) (mul-mod_left slot size) place from h body m.len (below from comes room) there comes in
+        let on = reads_first (from + m.len) ms stop why further path end in
         record { found = m ∷ on.found; rest = on.rest; whole = ap (λ (l : List ScannedRecord). m ∷ l) on.whole; stop = on.stop; why = on.why; path = (room, at_place, (h, body, there, says), on.path); end = on.end; above = on.above })
     | inr (above, none) ↦ stops_here from comes room (m ∷ ms) (λ x xs is. subst (λ (l : List ScannedRecord). at < slot * size + from + (first_of x l).len) is above) none
   ]
 
   -- so it is with a whole scan
-  pub scan_left : (met : List ScannedRecord) (stop : ℕ) (why : ScanEnd) → IsScan sum size old (slot * size) place met stop why → ReadsFirst sum size left (slot * size) place 20 at met
+  pub scan_first : (met : List ScannedRecord) (stop : ℕ) (why : ScanEnd) → IsScan sum size old (slot * size) place met stop why → ReadsFirst sum size left (slot * size) place 20 at met
   unfolding IsScan
-  scan_left met stop why (path, end) = reads_on 20 met stop why at_first path end
+  scan_first met stop why (path, end) = reads_first 20 met stop why at_first path end
+
+module _ (sum : List ℕ → ℕ) (size : ℕ) (old : List ℕ) (at count : ℕ) (now left : List ℕ) (no_more : length now ≤ length (replicate {A = ℕ} count 0)) (leaves : LeavesLog (after_write old at (replicate count 0) now) left)
+    {placed : List (ℕ × List ℕ)} (only_own : NoForeignLog sum size (after_write old at (replicate count 0) now) placed left)
+    (slot place : ℕ) (mark : ℤ) (header : IsHeader sum (part left (slot * size) 20) (pos place) mark) where
+  -- a record whose bytes aren't what they were reaches into the zeros
+  touched : (from : ℕ) (h : MessageHeader) (body : List ℕ) (len : ℕ) → StandsAt sum size old (slot * size + from) (place / size) h body len → (part left (slot * size + from) len ≡ part old (slot * size + from) len → ⊥) → at < slot * size + from + len
+  touched from h body len s other = elim (cases_lt at (slot * size + from + len)) [
+    | inl above ↦ above
+    | inr below ↦ (let there = s.in_file in absurd (other (kept sum size old at count now left no_more leaves (slot * size + from) len there (inl below))))
+  ]
+
+  -- The reading of what is left meets what was met before, or the beginning of it.
+  pub scan_left : (met : List ScannedRecord) (stop : ℕ) (why : ScanEnd) → IsScan sum size old (slot * size) place met stop why → ReadsFirst sum size left (slot * size) place 20 at met
+  scan_left = scan_first sum size old left slot place at (same sum size old at count now left no_more leaves only_own slot place mark header) touched
 
   -- A reader comes to where what is met ends.
-  pub comes_on : (from : ℕ) (met : List ScannedRecord) (stop : ℕ) → Comes from → IsPath sum size left (slot * size) place from met stop → Comes stop
+  pub comes_on : (from : ℕ) (met : List ScannedRecord) (stop : ℕ) → ComesTo sum size left (slot * size) place from → IsPath sum size left (slot * size) place from met stop → ComesTo sum size left (slot * size) place stop
   comes_on from met stop comes path = comes_along sum size left (slot * size) (mul-mod_left slot size) place from met stop path comes
 
   -- In a slot that the zeros don't touch all is met as before.

@@ -21,6 +21,22 @@ use Rattle.sled_core.proofs.Torn.WrittenParts.{twenty, all_there, in_this_file, 
 part_of_zeros : (count k n : ℕ) → k + n ≤ count → part (replicate count 0) k n ≡ replicate n 0
 part_of_zeros count k n within = ap (take n) (drop-replicate k count 0) ∙ take-replicate n (count - k) 0 (omega (arith, within))
 
+-- what a write of zeros covers is zeros
+pub covered_zeros : (at count from : ℕ) (text : List ℕ) → Covers (at, replicate count 0) from text → text ≡ replicate (length text) 0
+covered_zeros at count from text covers =
+    let begins = covers.begins in
+    let ends = covers.ends in
+    sym covers.same ∙ part_of_zeros count (from - at) (length text) (omega (arith, begins, ends, length-replicate {A = ℕ} count 0))
+
+-- a record isn't zeros
+pub no_zeros : (sum : List ℕ → ℕ) (size : ℕ) (log : List ℕ) (lid number : ℕ) (h : MessageHeader) (body : List ℕ) (len : ℕ) → StandsAt sum size log lid number h body len → part log lid len ≡ replicate len 0 → ⊥
+no_zeros sum size log lid number h body len s zero =
+    let some : 8 ≤ len = long_enough sum size log lid number h body len s in
+    let kind : get_or log (lid + 4) 0 ≡ 0 =
+    sym (get_or-drop lid log 4 0) ∙ sym (get_or-take len (drop lid log) 4 0 (omega (arith, some)))
+    ∙ ap (λ (l : List ℕ). get_or l 4 0) zero ∙ get_or-replicate len 4 0 0 (omega (arith, some)) in
+    zeros_empty sum size log lid number kind h body len s
+
 module _ (sum : List ℕ → ℕ) (size : ℕ) (old : List ℕ) (at count : ℕ) (now left : List ℕ) (no_more : length now ≤ length (replicate {A = ℕ} count 0)) (leaves : LeavesLog (after_write old at (replicate count 0) now) left) where
   abbrev zeros : List ℕ
   zeros = replicate count 0
@@ -36,13 +52,6 @@ module _ (sum : List ℕ → ℕ) (size : ℕ) (old : List ℕ) (at count : ℕ)
   kept lid n there apart =
       part_left old at zeros now left no_more leaves lid n there (elim apart [ inl before ↦ inl before | inr past ↦ inr (omega (arith, past, long)) ])
 
-  -- what the write covers is zeros
-  covered_zeros : (from : ℕ) (text : List ℕ) → Covers (at, zeros) from text → text ≡ replicate (length text) 0
-  covered_zeros from text covers =
-      let begins = covers.begins in
-      let ends = covers.ends in
-      sym covers.same ∙ part_of_zeros count (from - at) (length text) (omega (arith, begins, ends, long))
-
   module _ {placed : List (ℕ × List ℕ)} (only_own : NoForeignLog sum size (after_write old at (replicate count 0) now) placed left) where
     -- A header that passes did so before.
     module _ (none : NoHeaderOfZeros sum) where
@@ -52,7 +61,7 @@ module _ (sum : List ℕ → ℕ) (size : ℕ) (old : List ℕ) (at count : ℕ)
           elim (header_where sum size old at zeros now left no_more leaves only_own slot lsn mark is) [
             | inl same ↦ same
             | inr write ↦ (
-                let zero : text ≡ replicate 20 0 = covered_zeros (slot * size) text write ∙ ap (λ n. replicate n 0) (twenty sum size left (slot * size) lsn mark is) in
+                let zero : text ≡ replicate 20 0 = covered_zeros at count (slot * size) text write ∙ ap (λ n. replicate n 0) (twenty sum size left (slot * size) lsn mark is) in
                 absurd (none lsn mark (subst (λ (l : List ℕ). IsHeader sum l lsn mark) zero is)))
           ]
 
@@ -68,17 +77,10 @@ module _ (sum : List ℕ → ℕ) (size : ℕ) (old : List ℕ) (at count : ℕ)
         some : 8 ≤ len
         some = long_enough sum size left (slot * size + from) (place / size) h body len s
 
-        no_zeros : part left (slot * size + from) len ≡ replicate len 0 → ⊥
-        no_zeros zero =
-            let kind : get_or left (slot * size + from + 4) 0 ≡ 0 =
-            sym (get_or-drop (slot * size + from) left 4 0) ∙ sym (get_or-take len (drop (slot * size + from) left) 4 0 (omega (arith, some)))
-            ∙ ap (λ (l : List ℕ). get_or l 4 0) zero ∙ get_or-replicate len 4 0 0 (omega (arith, some)) in
-            zeros_empty sum size left (slot * size + from) (place / size) kind h body len s
-
         pub same : part old (slot * size + from) len ≡ part left (slot * size + from) len
         same = elim (record_where sum size old at zeros now left no_more leaves only_own slot place mark header from reached below h body len s) [
           | inl alike ↦ alike
-          | inr write ↦ absurd (no_zeros (covered_zeros (slot * size + from) (part left (slot * size + from) len) write ∙ ap (λ n. replicate n 0) whole))
+          | inr write ↦ absurd (no_zeros sum size left (slot * size + from) (place / size) h body len s (covered_zeros at count (slot * size + from) (part left (slot * size + from) len) write ∙ ap (λ n. replicate n 0) whole))
         ]
 
         pub stood : StandsAt sum size old (slot * size + from) (place / size) h body len
