@@ -1,5 +1,5 @@
 -- One write of a buffer to a slot, behind the header of a segment or at the beginning of one: what a crash leaves of it stands up to the same place, and all of it up to where the reading of the segment ends.
-use Rattle.std.proofs.Common.{◌≡◌, ◌≢◌, ◌⊎◌, ◌∙◌, ◌+◌, ◌*◌, ◌%◌, ◌^◌, ◌<◌, ◌≤◌, ℕ, ℤ, pos, max, List, length, take, get_or, sym, ap, subst, arith, inl, inr}
+use Rattle.std.proofs.Common.{◌≡◌, ◌≢◌, ◌⊎◌, ◌+◌, ◌*◌, ◌%◌, ◌^◌, ◌<◌, ◌≤◌, ℕ, ℤ, pos, max, List, length, take, get_or, sym, subst, arith, inl, inr}
 use Rattle.std.specs.List.{Contains}
 use Rattle.sled_codec.specs.History.{Batch, History}
 use Rattle.sled_codec.specs.Record.{IsHeader}
@@ -93,7 +93,7 @@ module _ (sum : List ℕ → ℕ) (none : NoHeaderOfZeros sum) (size : ℕ) (som
   written_stands ordered there low A' passes far led between closed = elim how [
     | inl g ↦ subst
         (λ n. A' ≤ n + stop → reach ≤ n + stop → IsBegunOrLedTo size is.scanned (least_place size first) reach n → NoMessageBegins H reach n
-            → ((b : Batch) → Contains H.batches b → b.low < n + stop → b.peg < n + stop) → StandsTo sum size new H A' first (n + stop))
+        → ((b : Batch) → Contains H.batches b → b.low < n + stop → b.peg < n + stop) → StandsTo sum size new H A' first (n + stop))
         g.at_place (written_behind sum size some old slot from asked inside H ordered A first reach is g.scan g.there g.in_slot g.ended g.broken more stop why (path_on g) (end_on g) truth (caps_on g) A') passes far led between closed
     | inr b ↦ written_begun sum size some old slot from asked inside H ordered A first reach is none there b.begins clean place b.mark b.header low b.whole b.fits b.its_mark b.mark_below b.alone more stop why
         (path_first b.begins) end truth caps A' passes far led between closed
