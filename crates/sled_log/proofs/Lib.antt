@@ -1,4 +1,5 @@
 pub mod Afterwards
+pub mod Again
 pub mod Moments
 pub mod Ordering
 pub mod OwnBlobs
