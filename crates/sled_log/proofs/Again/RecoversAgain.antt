@@ -192,7 +192,7 @@ module _ (sum : List ℕ → ℕ) (size : ℕ) (some : 256 ≤ size) (log : List
             let same = only_last u (least_place size next) (omega (arith, begins)) before from.1 in (
               same,
               scan_elsewhere sum size some unread filled filled_slots (broken_at z stops.met offset) z_found.slot (λ there. from.1 (subst (λ (w : Segment). Contains unread w.slot) (sym same) there)) (omega (arith, fits))
-              (ends_there sum size log some z.slot offset (size - offset) z_found.slot behind to_end reach z stops.met refl fits path),
+                  (ends_there sum size log some z.slot offset (size - offset) z_found.slot behind to_end reach z stops.met refl fits path),
             ))
 
         inside : Goal (Some (z.slot + at.1 % size, size - at.1 % size)) unread (Some (pos at.1))
