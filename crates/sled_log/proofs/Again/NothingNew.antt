@@ -6,10 +6,10 @@ use Rattle.sled_store.proofs.Segments.Elements.{in_nothing, only_in}
 use Rattle.sled_core.specs.declared.iterator.Segment.{Segment}
 use Rattle.sled_core.specs.declared.iterator.scan.ScannedRecord.{ScannedRecord}
 use Rattle.sled_core.specs.declared.iterator.scan.ScanEnd.{ScanEnd}
-use Rattle.sled_core.specs.Scan.{IsPath, IsScan}
+use Rattle.sled_core.specs.Scan.{IsScan}
 use Rattle.sled_core.proofs.Tail.OneReading.{one_scan}
 use Rattle.sled_core.proofs.Tail.Rows.{cut_cases}
-use Rattle.sled_log.specs.Recovery.{Scanned, IsScanned, GoesOn, IsTail, tail_end, begun_below, AreReplayed, open_at, stops_in, cut_of, given, passed_in, has_no_table, are_whole, table_of, is_beyond, resolved_scan, outcome_of, unchanged, RecoveryResult, Damaged, Recovered, slots_of, PassesOver, Passes, Replays}
+use Rattle.sled_log.specs.Recovery.{Scanned, IsScanned, GoesOn, IsTail, tail_end, begun_below, AreReplayed, open_at, stops_in, cut_of, given, passed_in, has_no_table, are_whole, table_of, is_beyond, resolved_scan, outcome_of, unchanged, RecoveryResult, Recovered, slots_of, PassesOver, Passes, Replays}
 use Rattle.sled_log.proofs.Again.FilledRest.{broken_at}
 use Rattle.sled_log.proofs.Recovers.OnePass.{same_pass}
 use Rattle.sled_log.proofs.Replay.BlobLemmas.{open_resolved, stops_resolved}

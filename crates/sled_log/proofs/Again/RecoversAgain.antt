@@ -1,10 +1,9 @@
 -- A recovery of what a successful one left comes, where it comes to a conclusion, to the same place and the same pages.
 use Rattle.std.proofs.Common.{⊎_elim, ◌≡◌, ◌⊎◌, ◌∙◌, ◌+◌, ◌-◌, ◌*◌, ◌/◌, ◌%◌, ◌<◌, ◌≤◌, ℕ, zero, suc, ℤ, pos, false, nat_lt, List, [], ◌∷◌, length, drop, map, replicate, Option, Some, None, refl, sym, ap, subst, arith, inl, inr}
 use Rattle.std.specs.List.{Contains}
-use Rattle.std.proofs.lemmas.Bool.{cases_eq}
 use Rattle.sled_codec.specs.Snapshots.{SnapshotModel, stable_place}
 use Rattle.sled_store.specs.Device.{State, Synced, NamesSynced, step, content_of, overwritten, at_rest}
-use Rattle.sled_store.specs.SnapshotFiles.{BeginsFrom}
+use Rattle.sled_store.proofs.LogFile.OverwrittenLemmas.{length-overwritten}
 use Rattle.sled_store.proofs.Segments.Elements.{in_first, in_rest, in_cases, in_nothing}
 use Rattle.sled_core.specs.declared.iterator.Segment.{Segment}
 use Rattle.sled_core.specs.declared.iterator.scan.ScannedRecord.{ScannedRecord}
@@ -13,7 +12,7 @@ use Rattle.sled_core.proofs.Read.FoundLemmas.{found_there}
 use Rattle.sled_core.proofs.Tail.Multiples.{put_down, next_multiple, one_multiple}
 use Rattle.sled_core.proofs.Tail.OneTail.{Rises, rises_of, place_aligned}
 use Rattle.sled_core.proofs.Tail.Rows.{stand_rises, path_stands}
-use Rattle.sled_log.specs.Recovery.{Scanned, IsScanned, IsOrdering, begun_below, AreReplayed, open_at, stops_in, cut_of, least_place, shred_range_of, resolved_scan, given, passed_in, has_no_table, are_whole, table_of, outcome_of, unchanged, RecoveryResult, Outcome, Damaged, Recovered, slots_of, PassesOver, Passes, Replays, ContinuesFrom, Recovers, tail_end, tail_begins}
+use Rattle.sled_log.specs.Recovery.{Scanned, IsScanned, IsOrdering, begun_below, AreReplayed, open_at, stops_in, cut_of, least_place, shred_range_of, resolved_scan, given, passed_in, has_no_table, are_whole, table_of, unchanged, RecoveryResult, Recovered, slots_of, Passes, Replays, ContinuesFrom, Recovers, tail_end, tail_begins}
 use Rattle.sled_log.specs.Restores.{BeginsAgain}
 use Rattle.sled_log.specs.WritesBack.{after_shredding, after_zeroing, IsWrittenBack}
 use Rattle.sled_log.proofs.Again.FilledRest.{broken_at, found_before, ends_there}
@@ -25,7 +24,6 @@ use Rattle.sled_log.proofs.Recovers.LeftIn.{in_slots, begun_in, rises_begun, rea
 use Rattle.sled_log.proofs.Replay.BlobLemmas.{open_resolved, stops_resolved}
 use Rattle.sled_log.proofs.SnapshotFile.BeginLemmas.{one_begin}
 use Rattle.sled_log.proofs.SnapshotFile.NewestLemmas.{chosen_well, comes_of, stays_old}
-use Rattle.sled_store.proofs.LogFile.OverwrittenLemmas.{length-overwritten}
 
 in_dropped : (n : ℕ) (us : List Segment) (u : Segment) → Contains (drop n us) u → Contains us u
 in_dropped zero us u there = there

@@ -1,7 +1,6 @@
 -- Zeros were written over slots, one behind another: a segment that is found then and is not misplaced was found before, in another slot, and other slots are read as before. Nothing is asked of the checksum.
-use Rattle.std.proofs.Common.{⊎_elim, ◌≡◌, ◌≢◌, ◌⊎◌, ◌∙◌, ◌+◌, ◌%◌, ◌≤◌, ℕ, pos, List, [], ◌∷◌, length, take, drop, replicate, refl, sym, ap, subst, arith, inl, inr}
+use Rattle.std.proofs.Common.{⊎_elim, ◌≡◌, ◌≢◌, ◌⊎◌, ◌∙◌, ◌+◌, ◌%◌, ◌≤◌, ℕ, pos, List, [], ◌∷◌, length, take, drop, replicate, sym, ap, subst, arith, inl, inr}
 use Rattle.std.specs.List.{Contains}
-use Rattle.std.proofs.lemmas.Bool.{cases_eq}
 use Rattle.std.proofs.lemmas.List.{take-take, take-replicate, length-replicate}
 use Rattle.sled_codec.specs.History.{no_history}
 use Rattle.sled_codec.specs.Places.{part}
