@@ -1,4 +1,5 @@
 pub mod Afterwards
+pub mod Again
 pub mod Iterates
 pub mod Moments
 pub mod Ordering

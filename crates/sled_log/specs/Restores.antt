@@ -29,6 +29,8 @@ pub record Restores (sum : List ℕ → ℕ) (size : ℕ) (old new : Trace) (s :
   pub done : HasWrittenBack sum size conclusion (NamesSynced ∷ Synced ∷ old) new
   pub fits : FitsIfNew conclusion
   pub newest : BeginsAgain sum (state_of old).snapshots.file (state_of new) s
+  -- a recovery of what is left, where it comes to a conclusion, comes to the same table with the same place
+  pub again : (y : RecoveryResult) → Recovers sum size (content_of (state_of new)) (Recovered y) → (y.model.stable ≡ s.stable) × (y.model.pages ≡ s.pages)
 
 -- What came of a recovery, whatever it answers: the calls that it made, what it gives, and that it wrote nothing where it met damage.
 pub record ComesOf (sum : List ℕ → ℕ) (size : ℕ) (old new : Trace) (result : Result Snapshot Error) : Type 0 where

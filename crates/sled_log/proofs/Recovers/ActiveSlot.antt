@@ -15,7 +15,7 @@ use Rattle.sled_log.proofs.Recovers.PassCut.{whole, stop, cut_is, stopped, last_
 use Rattle.sled_core.proofs.Tail.Rows.{stand_in, stand_rises, met_stand}
 
 -- the cut is the end of a segment that has no room left, with no slot, or where the pass stopped, with the slot of that segment
-cut_whole : (size : ℕ) (at : Segment × ℕ) → (cut_of size at ≡ (at.0.place + size, None)) ⊎ ((cut_of size at ≡ (at.1, Some at.0.slot)) × (at.1 + 32 ≤ at.0.place + size))
+pub cut_whole : (size : ℕ) (at : Segment × ℕ) → (cut_of size at ≡ (at.0.place + size, None)) ⊎ ((cut_of size at ≡ (at.1, Some at.0.slot)) × (at.1 + 32 ≤ at.0.place + size))
 cut_whole size at = by (is_filled size at) refl where
   by : (b : Bool) → is_filled size at ≡ b → let cut : ℕ × Option ℕ = if b then (at.0.place + size, None) else (at.1, Some at.0.slot) in (cut ≡ (at.0.place + size, None)) ⊎ ((cut ≡ (at.1, Some at.0.slot)) × (at.1 + 32 ≤ at.0.place + size))
   by true test = inl refl

@@ -16,7 +16,7 @@ use Rattle.sled_log.proofs.Recovers.PassCut.{last_place, cut_bounds}
 use Rattle.sled_log.proofs.Recovers.Undamaged.{ReadsNone, left_of}
 
 -- the slot of a segment is among those of all
-in_slots : (ss : List Segment) (s : Segment) → Contains ss s → Contains (slots_of ss) s.slot
+pub in_slots : (ss : List Segment) (s : Segment) → Contains ss s → Contains (slots_of ss) s.slot
 in_slots [] s there = absurd (in_nothing s there)
 in_slots (t ∷ ss) s there = ⊎_elim
     (λ is. subst (λ (x : Segment). Contains (slots_of (t ∷ ss)) x.slot) is (in_first t.slot (slots_of ss)))
@@ -26,14 +26,14 @@ in_slots (t ∷ ss) s there = ⊎_elim
 module _ (end : ℕ) where
   -- Those that begin below a place.
 
-  begun_in : (ss : List Segment) (s : Segment) → Contains (begun_below end ss) s → Contains ss s
+  pub begun_in : (ss : List Segment) (s : Segment) → Contains (begun_below end ss) s → Contains ss s
   begun_in [] s there = there
   begun_in (t ∷ ss) s there = by (nat_lt t.place end) (begun_in ss s) there where
     by : (b : Bool) → (Contains (begun_below end ss) s → Contains ss s) → Contains (if b then t ∷ begun_below end ss else begun_below end ss) s → Contains (t ∷ ss) s
     by true rest at = ⊎_elim (λ same. subst (Contains (t ∷ ss)) same (in_first t ss)) (λ later. in_rest t s ss (rest later)) (in_cases t s (begun_below end ss) at)
     by false rest at = in_rest t s ss (rest at)
 
-  rises_begun : (ss : List Segment) → Rises ss → Rises (begun_below end ss)
+  pub rises_begun : (ss : List Segment) → Rises ss → Rises (begun_below end ss)
   rises_begun [] rises = tt
   rises_begun (s ∷ ss) rises = by (nat_lt s.place end) (rises_begun ss rises.1) where
     by : (b : Bool) → Rises (begun_below end ss) → Rises (if b then s ∷ begun_below end ss else begun_below end ss)
@@ -52,7 +52,7 @@ module _ (end : ℕ) where
     no_passes (p ∷ ps) are = absurd are
 
     -- a segment is read, or is left
-    read_or_left : (ss : List Segment) (ps : List Scanned) → Rises ss → AreReplayed sum size log end (begun_below end ss) ps → (u : Segment) → Contains ss u → Contains (drop (length ps) ss) u ⊎ ((p : Scanned) × Contains ps p × (p.segment ≡ u))
+    pub read_or_left : (ss : List Segment) (ps : List Scanned) → Rises ss → AreReplayed sum size log end (begun_below end ss) ps → (u : Segment) → Contains ss u → Contains (drop (length ps) ss) u ⊎ ((p : Scanned) × Contains ps p × (p.segment ≡ u))
     read_or_left [] ps rises are u there = absurd (in_nothing u there)
     read_or_left (s ∷ ss) ps rises are u there = by (nat_lt s.place end) refl ps are (λ qs on at. read_or_left ss qs rises.1 on u at) where
       Is : List Scanned → List Segment → Type 0

@@ -17,11 +17,11 @@ use Rattle.sled_log.proofs.Replay.LineLemmas.{LieBelow, none_given, chain_of, ch
 use Rattle.sled_log.proofs.Replay.BlobLemmas.{all_below_resolved}
 
 -- a table of messages that lie below its cut
-abbrev IsConcluded : ℕ → SnapshotModel → RecoveryResult → Type 0
+abbrev pub IsConcluded : ℕ → SnapshotModel → RecoveryResult → Type 0
 IsConcluded size first x = (unread : List ℕ) × (met : List ScannedRecord) × (cut : ℕ × Option ℕ) × LieBelow cut.0 met × (concluded size first unread (given (stable_place first.stable) met) cut ≡ Recovered x)
 
 -- recovery concludes that the snapshot stays, or such a table
-abbrev Comes : ℕ → SnapshotModel → RecoveryResult → Type 0
+abbrev pub Comes : ℕ → SnapshotModel → RecoveryResult → Type 0
 Comes size first x = ((unread : List ℕ) × (x ≡ unchanged first unread)) ⊎ IsConcluded size first x
 
 -- a number that cannot be other than 0
@@ -48,7 +48,7 @@ module _ (sum : List ℕ → ℕ) (size : ℕ) (log : List ℕ) (blobs : ℤ →
   by_end ordering least is (Some end) (inr (passes, are, inl damaged)) = let no = damaged.0 in absurd (cc)
   by_end ordering least is (Some end) (inr (passes, are, inr (good, comes))) = from_passes (slots_of (drop (length passes) ordering)) ordering least end passes is are comes
 
-  comes_of : ContinuesFrom sum size log blobs first (Recovered x) → Comes size first x
+  pub comes_of : ContinuesFrom sum size log blobs first (Recovered x) → Comes size first x
   unfolding ContinuesFrom
   comes_of (inl damaged) = let no = damaged.0 in absurd (cc)
   comes_of (inr (ordering, is, inl damaged)) = let no = damaged.0 in absurd (cc)
@@ -74,7 +74,7 @@ at_place (Some (pos n)) cut beyond low =
 
 module _ (size : ℕ) (first : SnapshotModel) (x : RecoveryResult) where
   -- where it is not new, the snapshot has the same place and the same pages
-  stays_old : Comes size first x → x.is_new ≡ false → (first.stable ≡ x.model.stable) × (first.pages ≡ x.model.pages)
+  pub stays_old : Comes size first x → x.is_new ≡ false → (first.stable ≡ x.model.stable) × (first.pages ≡ x.model.pages)
   stays_old (inl (unread, same)) is_old = (ap (λ (y : RecoveryResult). y.model.stable) (sym same), ap (λ (y : RecoveryResult). y.model.pages) (sym same))
   stays_old (inr (unread, met, cut, lie, is)) is_old =
       let messages = given (stable_place first.stable) met in

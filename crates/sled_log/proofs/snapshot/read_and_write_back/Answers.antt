@@ -4,7 +4,9 @@ use Rattle.sled_store.specs.declared.config.Config.{Config}
 use Rattle.sled_store.specs.SnapshotFiles.{BeginsFrom}
 use Rattle.sled_store.proofs.Traces.ScriptLemmas.{performs_whole}
 use Rattle.sled_log.specs.Recovery.{RecoveryResult, Recovered, Damaged, Recovers}
+use Rattle.sled_log.specs.Restores.{BeginsAgain}
 use Rattle.sled_log.specs.WritesBack.{HasWrittenBack, IsWrittenBack, WritesBack, result_of}
+use Rattle.sled_log.proofs.Again.RecoversAgain.{recovers_again}
 use Rattle.sled_log.proofs.SnapshotFile.NewestLemmas.{begins_again}
 use Rattle.sled_log.proofs.WriteBack.WriteLemmas.{recovers_settled, writes_settled}
 use Rattle.sled_log.proofs.snapshot.read_and_write_back.Goals as goal
@@ -28,16 +30,19 @@ returns-in-Ok-write_back-clause-comes g c =
     let met = subst (λ (h : Trace). Recovers sum size (content_of (state_of h)) (Recovered x)) (sym c.in-Ok.ensures.reads.unwritten) c.in-Ok.ensures.ok in
     let again = begins_again sum size (omega (arith, c.args.config.now.config.least)) x (state_of mid) (state_of new) written met back.fits in
     let as_before = subst (λ (h : Trace). (again.0 ≡ x.model) ⊎ BeginsFrom sum (state_of h).snapshots.file again.0) is_mid again.4 in
+    let written_old = subst (λ (h : Trace). IsWrittenBack sum size x (state_of h) (state_of new)) is_mid written in
+    let newest : BeginsAgain sum (state_of old).snapshots.file (state_of new) x.model = (again.0, again.1, again.2, again.3, as_before) in
     record {
       calls = inr (x, recovers, writes);
       ok = record {
         conclusion = x;
         recovers = recovers;
         model = refl;
-        written = subst (λ (h : Trace). IsWrittenBack sum size x (state_of h) (state_of new)) is_mid written;
+        written = written_old;
         done = subst (λ (h : Trace). HasWrittenBack sum size x h new) is_mid (subst (λ (n : ℕ). HasWrittenBack sum n x mid new) sizes back.done);
         fits = back.fits;
-        newest = (again.0, again.1, again.2, again.3, as_before);
+        newest = newest;
+        again = recovers_again sum size (omega (arith, c.args.config.now.config.least)) x (state_of old) (state_of new) recovers written_old newest;
       };
       corrupt = λ damaged. absurd damaged;
     }

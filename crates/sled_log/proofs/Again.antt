@@ -1,0 +1,5 @@
+pub mod FilledRest
+pub mod NothingNew
+pub mod RecoversAgain
+pub mod StopsLast
+pub mod ZeroedSlots
