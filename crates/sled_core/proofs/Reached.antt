@@ -1,4 +1,5 @@
 pub mod Higher
+pub mod KeptStands
 pub mod LeftBeside
 pub mod OneWrite
 pub mod PutIn
