@@ -8,6 +8,7 @@ pub mod ReachedEntries
 pub mod Recoverable
 pub mod Reread
 pub mod StandsTo
+pub mod StartedStands
 pub mod TornBegun
 pub mod TornBehind
 pub mod WholeBegun

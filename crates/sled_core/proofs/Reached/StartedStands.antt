@@ -1,0 +1,146 @@
+-- While an accountant starts on a settled log file, a crash at any moment leaves a log file that stands up to the same place: the slots that the snapshot uses have each segment that is found and each that a table needs.
+use Rattle.std.proofs.Common.{◌≡◌, ◌≢◌, ◌≤◌, ◌<◌, ◌+◌, ◌-◌, ◌*◌, ◌/◌, ◌∙◌, ℕ, suc, true, List, [], ◌∷◌, ◌++◌, length, take, drop, refl, sym, ap, arith, subst, inl, inr, length-take, length-drop}
+use Rattle.std.specs.List.{All, Contains}
+use Rattle.std.proofs.Math.Nat.{mul-le-mul_right, lt-div-mul-add}
+use Rattle.std.proofs.lemmas.Bool.{cases_eq, cases_lt}
+use Rattle.std.proofs.lemmas.List.{take_all}
+use Rattle.sled_codec.specs.History.{Message, History, table}
+use Rattle.sled_codec.specs.Places.{part}
+use Rattle.sled_codec.specs.Snapshots.{SnapshotModel}
+use Rattle.sled_store.specs.Begin.{filling, slots_of, is_used, unused}
+use Rattle.sled_store.specs.Device.{Event, Trace, LogState, State, Content, state_of, step, at_rest, LeavesLog}
+use Rattle.sled_store.specs.Foreign.{NoForeignLog}
+use Rattle.sled_store.specs.Moments.{AllLeft, LeavesOnly}
+use Rattle.sled_store.specs.Answers.{Tears}
+use Rattle.sled_store.specs.Script.{Performs, Along, after_all}
+use Rattle.sled_store.specs.SegmentStates.{SlotState, left_after, cutting}
+use Rattle.sled_store.specs.Started.{found, started}
+use Rattle.sled_store.proofs.LogFile.LogLemmas.{at_rest_left, part_cut}
+use Rattle.sled_store.proofs.Segments.FilledLemmas.{filled, filling-log, filled_covered, free_below, slot_before}
+use Rattle.sled_store.proofs.Traces.ScriptLemmas.{performs_throughout}
+use Rattle.sled_core.specs.declared.iterator.Segment.{Segment}
+use Rattle.sled_core.specs.Recoverable.{NoHeaderOfZeros}
+use Rattle.sled_core.specs.Scan.{IsFoundSegment}
+use Rattle.sled_core.specs.Tail.{least_place}
+use Rattle.sled_core.proofs.Read.FoundLemmas.{found_there}
+use Rattle.sled_core.proofs.Torn.AlikeSlots.{SameIn, slot_found}
+use Rattle.sled_core.proofs.Torn.CutAlong.{cutting_along}
+use Rattle.sled_core.proofs.Torn.CutSlots.{below_same}
+use Rattle.sled_core.proofs.Torn.FilledAlong.{filled_along, unused_begin, used_apart}
+use Rattle.sled_core.proofs.Torn.FilledBehind.{filled_same}
+use Rattle.sled_core.proofs.Torn.FilledSlots.{others_same}
+use Rattle.sled_core.proofs.Torn.KeptSlots.{KeepsIfOwn, starting_along}
+use Rattle.sled_core.proofs.Torn.StartedSlots.{UsedIn, used_left}
+use Rattle.sled_core.proofs.Reached.KeptStands.{SameInUsed, kept_stands}
+use Rattle.sled_core.proofs.Reached.StandsTo.{StandsTo}
+
+-- What a crash left stands up to a place, where only what the log itself wrote passes as its own.
+abbrev pub StandsIfOwn : (List ℕ → ℕ) → ℕ → History → ℕ → SnapshotModel → ℕ → State → Content → Type 0
+StandsIfOwn sum size H A first reach past left = NoForeignLog sum size past.log past.placed left.log → StandsTo sum size left.log H A first reach
+
+-- what two things that hold on the way say together
+both_along : (P Q R : State → Type 0) → ((x : State) → P x → Q x → R x) → (es : List Event) (s : State) → Along P es s → Along Q es s → Along R es s
+both_along P Q R each [] s p q = each s p q
+both_along P Q R each (e ∷ es) s p q = (each s p.0 q.0, (λ torn tears. each (step torn s) (p.1 torn tears) (q.1 torn tears)), both_along P Q R each es (step e s) p.2 q.2)
+
+-- what holds along some calls, and along those behind them
+then_along : (P : State → Type 0) (es fs : List Event) (t : Trace) → Along P es (state_of t) → Along P fs (state_of (after_all es t)) → Along P (es ++ fs) (state_of t)
+then_along P [] fs t first then = then
+then_along P (e ∷ es) fs t first then = (first.0, first.1, then_along P es fs (e ∷ t) first.2 then)
+
+-- The bytes of a slot.
+module _ (size : ℕ) where
+  -- those that one file has of another, and that one of a third, it has of the third
+  same_then : (old mid left : List ℕ) (j : ℕ) → SameIn size old mid j → SameIn size mid left j → SameIn size old left j
+  same_then old mid left j first then lid len low high there = elim (cases_eq len 0) [
+    | inl nothing ↦ subst (λ n. part left lid n ≡ part old lid n) (sym nothing) refl
+    | inr some ↦ (
+        let alike = first lid len low high there in
+        let whole : lid + len ≤ length mid = omega (arith, some, there, ap length alike, length-take len (drop lid old), length-drop lid old, length-take len (drop lid mid), length-drop lid mid) in
+        then lid len low high whole ∙ alike)
+  ]
+
+  -- a file that is cut above the slot has them
+  cut_same : (old : List ℕ) (slots j : ℕ) → j < slots → SameIn size old (take (slots * size) old) j
+  cut_same old slots j below lid len low high there =
+      let count : lid + len - lid ≡ len = omega arith in
+      ap (λ n. take n (drop lid (take (slots * size) old))) (sym count)
+      ∙ part_cut old (slots * size) lid (lid + len) there (omega (arith, high, slot_before size j slots below))
+      ∙ ap (λ n. take n (drop lid old)) count
+
+-- At each moment of a start, what a crash leaves has the bytes of the used slots.
+module _ (sum : List ℕ → ℕ) (size : ℕ) (Used : ℕ → Type 0) (long : 20 ≤ size) (log : List ℕ) where
+  abbrev HasBytes : State → Type 0
+  HasBytes = AllLeft (λ past left. SameInUsed size Used log left.log)
+
+  -- at rest, a crash leaves all that there is
+  rest_has : (bytes : List ℕ) → SameInUsed size Used log bytes → (x : State) → x.log ≡ at_rest bytes → HasBytes x
+  rest_has bytes same x is left leaves = subst (SameInUsed size Used log) (sym (at_rest_left bytes left.log (subst (λ (l : LogState). LeavesLog l left.log) is leaves.log))) same
+
+  cutting_has : (slots : List SlotState) (n : ℕ) (old : List ℕ) → SameInUsed size Used log old → length old ≤ n * size → ((j : ℕ) → Used j → j < left_after n slots) → (s : State) → s.log ≡ at_rest old → Along HasBytes (cutting size n slots) s
+  cutting_has slots n old same short below s is =
+      cutting_along HasBytes size old slots s n
+      (λ m low high x is_cut blobs snapshots. rest_has (take (m * size) old) (shorter m low) x is_cut)
+      (λ m now low high no_less x is_cut blobs snapshots left leaves j used.
+      same_then size log (take (suc m * size) old) left.log j (shorter (suc m) (omega (arith, low)) j used)
+      (below_same sum size (take (suc m * size) old) m now no_less left.log (subst (λ (l : LogState). LeavesLog l left.log) is_cut leaves.log) j (let lower = below j used in omega (arith, lower, low))))
+      s (is ∙ ap at_rest (sym (take_all (n * size) old short))) refl refl
+    where
+      shorter : (m : ℕ) → left_after n slots ≤ m → SameInUsed size Used log (take (m * size) old)
+      shorter m low j used = same_then size log old (take (m * size) old) j (same j used) (cut_same size old m j (let lower = below j used in omega (arith, lower, low)))
+
+  starting_has : (ks : List ℕ) (slots : List SlotState) (n : ℕ) → All (λ k. k * size < length log) ks → length (filled size log ks) ≤ n * size → ((j : ℕ) → Used j → All (λ k. k ≢ j) ks) → ((j : ℕ) → Used j → j < left_after n slots)
+      → (t : Trace) → (state_of t).log ≡ at_rest log → Along HasBytes (filling size ks ++ cutting size n slots) (state_of t)
+  starting_has ks slots n begin short apart below t is =
+      let same : SameInUsed size Used log (filled size log ks) = (λ j used. filled_same sum size log ks long begin j (apart j used)) in
+      then_along HasBytes (filling size ks) (cutting size n slots) t
+      (filled_along HasBytes size log ks (state_of t) is (λ x filling blobs snapshots left leaves j used. others_same sum size log ks x.log filling left.log leaves.log j (apart j used))
+      (λ x behind blobs snapshots. rest_has (filled size log ks) same x behind))
+      (cutting_has slots n (filled size log ks) same short below (state_of (after_all (filling size ks) t)) (filling-log size ks t log is))
+
+-- So what stands up to a place in the log file does so in each that a crash leaves.
+module _ (sum : List ℕ → ℕ) (size : ℕ) (Used : ℕ → Type 0) (long : 20 ≤ size) (none : NoHeaderOfZeros sum) (log : List ℕ) (H : History) (A : ℕ) (first : SnapshotModel) (reach : ℕ) (is : StandsTo sum size log H A first reach)
+    (listed : (s : Segment) → Contains is.ordering s → Used (s.slot / size)) (entered : (page : ℕ) (m : Message) (entry : Contains (table H reach page) m) → Used ((is.needed page m entry).0.segment.slot / size))
+    (ks : List ℕ) (slots : List SlotState) (n : ℕ) (begin : All (λ k. k * size < length log) ks) (short : length (filled size log ks) ≤ n * size) (apart : (j : ℕ) → Used j → All (λ k. k ≢ j) ks)
+    (below : (j : ℕ) → Used j → j < left_after n slots) where
+  pub starting_stands_along : (t : Trace) → (state_of t).log ≡ at_rest log → Along (AllLeft (StandsIfOwn sum size H A first reach)) (filling size ks ++ cutting size n slots) (state_of t)
+  starting_stands_along t rest =
+      both_along (AllLeft (KeepsIfOwn sum size Used log)) (HasBytes sum size Used long log) (AllLeft (StandsIfOwn sum size H A first reach))
+      (λ x keeps has left leaves own. kept_stands sum size Used log left.log (keeps left leaves own) (has left leaves) H A first reach is listed entered)
+      (filling size ks ++ cutting size n slots) (state_of t)
+      (starting_along sum size Used long none log ks slots n begin short apart below t rest)
+      (starting_has sum size Used long log ks slots n begin short apart below t rest)
+
+  pub starting_stands : (old new : Trace) → (state_of old).log ≡ at_rest log → Performs (filling size ks ++ cutting size n slots) old new → LeavesOnly (StandsIfOwn sum size H A first reach) old new
+  starting_stands old new rest calls = performs_throughout (AllLeft (StandsIfOwn sum size H A first reach)) (filling size ks ++ cutting size n slots) old new calls (starting_stands_along old rest)
+
+-- a slot in which a segment is found lies in the file
+found_inside : (sum : List ℕ → ℕ) (size : ℕ) (log : List ℕ) (least : ℕ) (s : Segment) → 20 ≤ size → IsFoundSegment sum size log least s → s.slot / size < slots_of size (length log)
+found_inside sum size log least s long found =
+    let slots : ℕ = slots_of size (length log) in
+    let there = found_there sum size log least s found in
+    let begins : s.slot ≡ s.slot / size * size = slot_found sum size log least s found in
+    elim (cases_lt (s.slot / size) slots) [
+      | inl below ↦ below
+      | inr above ↦ (
+          let more : slots * size ≤ s.slot / size * size = mul-le-mul_right size above in
+          absurd (omega (arith, there, begins, more, long)))
+    ]
+
+-- At each moment of the calls that an accountant makes when it starts, also within a call, a crash leaves a log file that stands up to the same place.
+pub started_stands : (sum : List ℕ → ℕ) (size : ℕ) (s : SnapshotModel) → 20 ≤ size → NoHeaderOfZeros sum → (log : List ℕ) (H : History) (A : ℕ) (first : SnapshotModel) (reach : ℕ) (is : StandsTo sum size log H A first reach)
+    → ((x : Segment) → Contains is.ordering x → is_used size s (x.slot / size) ≡ true)
+    → ((page : ℕ) (m : Message) (entry : Contains (table H reach page) m) → is_used size s ((is.needed page m entry).0.segment.slot / size) ≡ true)
+    → (old new : Trace) → (state_of old).log ≡ at_rest log → Performs (started size (length log) s).calls old new → LeavesOnly (StandsIfOwn sum size H A first reach) old new
+started_stands sum size s long none log H A first reach is listed entered old new rest calls =
+    let slots = slots_of size (length log) in
+    let some : 0 < size = omega (arith, long) in
+    starting_stands sum size (UsedIn size (length log) s) long none log H A first reach is
+    (λ x there. (listed x there, found_inside sum size log (least_place size first) x long ((is.numbers.found x).0 there)))
+    (λ page m entry. (let of = (is.needed page m entry).0 in (entered page m entry, found_inside sum size log 0 of.segment long of.found)))
+    (unused size slots s) (found size slots s).slots slots
+    (unused_begin size (length log) s some)
+    (filled_covered size some log (unused size slots s) (λ k d lt. (free_below (is_used size s) slots k d lt).0))
+    (λ j used. used_apart size (length log) s j used.0)
+    (λ j used. used_left size slots s j used.0 used.1)
+    old new rest calls
