@@ -16,7 +16,6 @@ use Rattle.sled_core.specs.Reading.{StandsAt}
 use Rattle.sled_core.specs.Recoverable.{StandsInline, IsReachedIn, IsSegmentOf}
 use Rattle.sled_core.specs.Scan.{IsFoundSegment, IsMet, IsPath, IsScan}
 use Rattle.sled_core.proofs.Flush.LogFileLemmas.{record_moved}
-use Rattle.sled_core.proofs.Read.ScanLemmas.{met_fits, aligned_offset}
 use Rattle.sled_core.proofs.Torn.AlikeSlots.{SameIn, slot_found}
 use Rattle.sled_core.proofs.Torn.KeptSlots.{KeepsSlots}
 use Rattle.sled_core.proofs.Torn.TornRecords.{long_enough}

@@ -1,7 +1,7 @@
 -- While an accountant starts on a settled log file, a crash at any moment leaves a log file that stands up to the same place: the slots that the snapshot uses have each segment that is found and each that a table needs.
 use Rattle.std.proofs.Common.{◌≡◌, ◌≢◌, ◌≤◌, ◌<◌, ◌+◌, ◌-◌, ◌*◌, ◌/◌, ◌∙◌, ℕ, suc, true, List, [], ◌∷◌, ◌++◌, length, take, drop, refl, sym, ap, arith, subst, inl, inr, length-take, length-drop}
 use Rattle.std.specs.List.{All, Contains}
-use Rattle.std.proofs.Math.Nat.{mul-le-mul_right, lt-div-mul-add}
+use Rattle.std.proofs.Math.Nat.{mul-le-mul_right}
 use Rattle.std.proofs.lemmas.Bool.{cases_eq, cases_lt}
 use Rattle.std.proofs.lemmas.List.{take_all}
 use Rattle.sled_codec.specs.History.{Message, History, table}
@@ -11,7 +11,6 @@ use Rattle.sled_store.specs.Begin.{filling, slots_of, is_used, unused}
 use Rattle.sled_store.specs.Device.{Event, Trace, LogState, State, Content, state_of, step, at_rest, LeavesLog}
 use Rattle.sled_store.specs.Foreign.{NoForeignLog}
 use Rattle.sled_store.specs.Moments.{AllLeft, LeavesOnly}
-use Rattle.sled_store.specs.Answers.{Tears}
 use Rattle.sled_store.specs.Script.{Performs, Along, after_all}
 use Rattle.sled_store.specs.SegmentStates.{SlotState, left_after, cutting}
 use Rattle.sled_store.specs.Started.{found, started}
