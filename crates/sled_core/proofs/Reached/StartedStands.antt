@@ -1,11 +1,12 @@
 -- While an accountant starts on a settled log file, a crash at any moment leaves a log file that stands up to the same place: the slots that the snapshot uses have each segment that is found and each that a table needs.
-use Rattle.std.proofs.Common.{◌≡◌, ◌≢◌, ◌≤◌, ◌<◌, ◌+◌, ◌-◌, ◌*◌, ◌/◌, ◌∙◌, ℕ, suc, true, List, [], ◌∷◌, ◌++◌, length, take, drop, refl, sym, ap, arith, subst, inl, inr, length-take, length-drop}
+use Rattle.std.proofs.Common.{◌≡◌, ◌≢◌, ◌≤◌, ◌<◌, ◌+◌, ◌-◌, ◌*◌, ◌/◌, ◌%◌, ◌∙◌, ℕ, suc, true, List, [], ◌∷◌, ◌++◌, length, take, drop, refl, sym, ap, arith, subst, inl, inr, length-take, length-drop}
 use Rattle.std.specs.List.{All, Contains}
-use Rattle.std.proofs.Math.Nat.{mul-le-mul_right}
-use Rattle.std.proofs.lemmas.Bool.{cases_eq, cases_lt}
+use Rattle.std.proofs.Math.Nat.{mod-add-div', mul-le-mul_right}
+use Rattle.std.proofs.lemmas.Bool.{cases_eq, cases_lt, cases_order}
 use Rattle.std.proofs.lemmas.List.{take_all}
 use Rattle.sled_codec.specs.History.{Message, History, table}
 use Rattle.sled_codec.specs.Places.{part}
+use Rattle.sled_codec.specs.Pointers.{lid_of}
 use Rattle.sled_codec.specs.Snapshots.{SnapshotModel}
 use Rattle.sled_store.specs.Begin.{filling, slots_of, is_used, unused}
 use Rattle.sled_store.specs.Device.{Event, Trace, LogState, State, Content, state_of, step, at_rest, LeavesLog}
@@ -18,10 +19,11 @@ use Rattle.sled_store.proofs.LogFile.LogLemmas.{at_rest_left, part_cut}
 use Rattle.sled_store.proofs.Segments.FilledLemmas.{filled, filling-log, filled_covered, free_below, slot_before}
 use Rattle.sled_store.proofs.Traces.ScriptLemmas.{performs_throughout}
 use Rattle.sled_core.specs.declared.iterator.Segment.{Segment}
-use Rattle.sled_core.specs.Recoverable.{NoHeaderOfZeros}
+use Rattle.sled_core.specs.Recoverable.{NoHeaderOfZeros, IsSegmentOf}
 use Rattle.sled_core.specs.Scan.{IsFoundSegment}
 use Rattle.sled_core.specs.Tail.{least_place}
 use Rattle.sled_core.proofs.Read.FoundLemmas.{found_there}
+use Rattle.sled_core.proofs.Read.ScanLemmas.{aligned_offset}
 use Rattle.sled_core.proofs.Torn.AlikeSlots.{SameIn, slot_found}
 use Rattle.sled_core.proofs.Torn.CutAlong.{cutting_along}
 use Rattle.sled_core.proofs.Torn.CutSlots.{below_same}
@@ -115,10 +117,10 @@ module _ (sum : List ℕ → ℕ) (size : ℕ) (Used : ℕ → Type 0) (long : 2
 
 -- a slot in which a segment is found lies in the file
 found_inside : (sum : List ℕ → ℕ) (size : ℕ) (log : List ℕ) (least : ℕ) (s : Segment) → 20 ≤ size → IsFoundSegment sum size log least s → s.slot / size < slots_of size (length log)
-found_inside sum size log least s long found =
+found_inside sum size log least s long is_found =
     let slots : ℕ = slots_of size (length log) in
-    let there = found_there sum size log least s found in
-    let begins : s.slot ≡ s.slot / size * size = slot_found sum size log least s found in
+    let there = found_there sum size log least s is_found in
+    let begins : s.slot ≡ s.slot / size * size = slot_found sum size log least s is_found in
     elim (cases_lt (s.slot / size) slots) [
       | inl below ↦ below
       | inr above ↦ (
@@ -143,3 +145,27 @@ started_stands sum size s long none log H A first reach is listed entered old ne
     (λ j used. used_apart size (length log) s j used.0)
     (λ j used. used_left size slots s j used.0 used.1)
     old new rest calls
+
+-- a reader comes to a message in the slot that its pointer says
+slot_needed : (sum : List ℕ → ℕ) (size : ℕ) (log : List ℕ) (H : History) (cut : ℕ) (m : Message) (of : IsSegmentOf sum size log H cut m) → of.segment.slot / size ≡ lid_of m.pointer / size
+slot_needed sum size log H cut m of =
+    let slot : ℕ = of.segment.slot in
+    let lid : ℕ = lid_of m.pointer in
+    let at : ℕ = of.reached.at in
+    let room = of.reached.room in
+    let lies : lid ≡ slot + at = of.reached.lid in
+    let begins : slot ≡ slot / size * size = slot_found sum size log 0 of.segment of.found in
+    let own : lid / size * size ≡ slot = (let inside : lid % size ≡ at = ap (λ n. n % size) lies ∙ aligned_offset slot at size of.found.slot (omega (arith, room)) in omega (arith, mod-add-div' lid size, inside, lies)) in
+    elim (cases_order (slot / size) (lid / size)) [
+      | inl same ↦ same
+      | inr (inl lower) ↦ absurd (let far = slot_before size (slot / size) (lid / size) lower in omega (arith, far, own, begins, room))
+      | inr (inr higher) ↦ absurd (let far = slot_before size (lid / size) (slot / size) higher in omega (arith, far, own, begins, room))
+    ]
+
+-- So it is enough that the snapshot uses the slots of the pointers that a table has.
+pub started_stands_by_pointers : (sum : List ℕ → ℕ) (size : ℕ) (s : SnapshotModel) → 20 ≤ size → NoHeaderOfZeros sum → (log : List ℕ) (H : History) (A : ℕ) (first : SnapshotModel) (reach : ℕ) (is : StandsTo sum size log H A first reach)
+    → ((x : Segment) → Contains is.ordering x → is_used size s (x.slot / size) ≡ true) → ((page : ℕ) (m : Message) → Contains (table H reach page) m → is_used size s (lid_of m.pointer / size) ≡ true)
+    → (old new : Trace) → (state_of old).log ≡ at_rest log → Performs (started size (length log) s).calls old new → LeavesOnly (StandsIfOwn sum size H A first reach) old new
+started_stands_by_pointers sum size s long none log H A first reach is listed pointers =
+    started_stands sum size s long none log H A first reach is listed
+    (λ page m entry. subst (λ k. is_used size s k ≡ true) (sym (slot_needed sum size log H reach m (is.needed page m entry).0)) (pointers page m entry))
