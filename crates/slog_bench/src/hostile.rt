@@ -85,7 +85,10 @@ fn files_of(alloc: Global, device: &mut MemDevice) -> Outcome<Vec<(File, Vec<u8>
         files.push((File::Blob(*place), done(device.blob_read(*place))?))?;
     }
     for number in &done(device.snapshots())? {
-        files.push((File::Snapshot(*number), done(device.snapshot_read(*number))?))?;
+        files.push((
+            File::Snapshot(*number),
+            done(device.snapshot_read(*number))?,
+        ))?;
     }
     Ok(files)
 }
@@ -144,15 +147,26 @@ impl<'a> Case<'a> {
     // What the recovery that users call answers, with what follows it where that isn't as it should be.
     fn answer(&self, mut config: RunningConfig<MemDevice, PlaceSum>) -> Outcome<Text> {
         let answer = without_pointer(read_snapshot_or_default(&mut config));
-        let mut text = table_of(self.alloc, &answer)?;
-        if let Ok(snapshot) = answer {
-            let again = table_of(self.alloc, &read_snapshot_or_default(&mut config))?;
-            if again.as_str() != text.as_str() {
-                text.push(", then ");
-                text.push(again.as_str());
-            }
-            push_start(&mut text, config, &snapshot);
+        let text = table_of(self.alloc, &answer)?;
+        match answer {
+            Ok(snapshot) => self.go_on(config, &snapshot, text),
+            Err(_e) => Ok(text),
         }
+    }
+
+    // Recovers once more behind this table, and starts a log on it. Adds what comes where it isn't as it should be.
+    fn go_on(
+        &self,
+        mut config: RunningConfig<MemDevice, PlaceSum>,
+        snapshot: &Snapshot,
+        mut text: Text,
+    ) -> Outcome<Text> {
+        let again = table_of(self.alloc, &read_snapshot_or_default(&mut config))?;
+        if again.as_str() != text.as_str() {
+            text.push(", then ");
+            text.push(again.as_str());
+        }
+        push_start(&mut text, config, snapshot);
         Ok(text)
     }
 }
