@@ -10,6 +10,7 @@ mod calls;
 mod codecs;
 mod devices;
 mod functions;
+mod hostile;
 mod lines;
 mod logs;
 mod noted;
@@ -36,13 +37,14 @@ use tally::Tally;
 use texts::Text;
 
 // The files under `data/`, one a kind.
-const FILES: [&str; 12] = [
+const FILES: [&str; 13] = [
     "codecs.txt",
     "segment_headers.txt",
     "words.txt",
     "recovery.txt",
     "plain.txt",
     "stops.txt",
+    "hostile.txt",
     "calls.txt",
     "slog.txt",
     "own.txt",
@@ -96,6 +98,7 @@ fn run(alloc: Global, name: &str, text: &str, tally: &mut Tally<'_>) {
             recovery::run(alloc, text, By::Call, tally);
         }
         "stops.txt" => stops::run(alloc, text, tally),
+        "hostile.txt" => hostile::run(alloc, text, tally),
         "calls.txt" => {
             if let Err(Fault(why)) = calls::run(alloc, text, tally) {
                 tally.case(0, "lines", why);

@@ -176,6 +176,50 @@ impl Case {
     }
 }
 
+/// The lines of a case that say what is on its device, so far. What else a case has isn't kept.
+#[derive(Drop)]
+pub struct Content<'a> {
+    lines: Vec<&'a str>,
+    is_kept: bool,
+}
+
+impl<'a> Content<'a> {
+    /// No lines.
+    pub fn new(alloc: Global) -> Content<'a> {
+        Content {
+            lines: Vec::new(alloc),
+            is_kept: true,
+        }
+    }
+
+    /// Keeps a line that says what is on the device. The first line of a case forgets those of the case before.
+    pub fn line(&mut self, line: &'a str) {
+        match line.split_once(' ') {
+            Some(("case", _)) => {
+                self.lines.clear();
+                self.is_kept = true;
+            }
+            Some(("size" | "log" | "slot" | "blob" | "snapshot", _)) => {
+                self.is_kept &= self.lines.push(line).is_ok();
+            }
+            _ => {}
+        }
+    }
+
+    /// Returns the lines.
+    ///
+    /// # Errors
+    ///
+    /// Memory was refused for one of them.
+    pub fn lines(&self) -> Outcome<&[&'a str]> {
+        if self.is_kept {
+            Ok(&self.lines)
+        } else {
+            Err(Fault("out of memory"))
+        }
+    }
+}
+
 /// Returns the size of segments and the device that these lines say. All of it is settled.
 pub fn device_of(alloc: Global, content: &[&str]) -> Outcome<(u64, MemDevice)> {
     let mut case = Case::new(alloc, By::Plain);
@@ -205,10 +249,14 @@ pub fn table_of(alloc: Global, answer: &Result<Snapshot, Error>) -> Outcome<Text
     Ok(text)
 }
 
-// A call that fails on a device in memory found no memory.
-fn done(answer: io::Result<()>) -> Outcome<()> {
+/// Returns what a call of a device in memory answered. One that fails found no memory.
+///
+/// # Errors
+///
+/// Out of memory.
+pub fn done<T>(answer: io::Result<T>) -> Outcome<T> {
     match answer {
-        Ok(()) => Ok(()),
+        Ok(value) => Ok(value),
         Err(_) => Err(Fault("out of memory")),
     }
 }
@@ -225,8 +273,8 @@ fn content_of(alloc: Global, words: &mut Words<'_>) -> Outcome<Vec<u8>> {
     filled(words.bytes(alloc), len)
 }
 
-// A line of these words.
-fn line_of(alloc: Global, text: &str) -> Text {
+/// Returns a line of these words.
+pub fn line_of(alloc: Global, text: &str) -> Text {
     let mut line = Text::new(alloc);
     line.push(text);
     line

@@ -6,7 +6,7 @@
 
 use crate::devices::log_of;
 use crate::lines::{Fault, Outcome};
-use crate::recovery::{device_of, table_of};
+use crate::recovery::{Content, device_of, line_of, table_of};
 use crate::tally::Tally;
 use crate::texts::Text;
 use sled_log::config::{Config, RunningConfig};
@@ -52,48 +52,27 @@ struct Stop {
 
 /// Runs the cases of a file.
 pub fn run(alloc: Global, text: &str, tally: &mut Tally<'_>) {
-    let mut content = Vec::new(alloc);
-    let mut is_kept = true;
+    let mut content = Content::new(alloc);
     for (number, line) in text.lines().enumerate() {
-        match line.split_once(' ') {
-            Some(("case", _)) => {
-                content.clear();
-                is_kept = true;
-            }
-            Some(("size" | "log" | "slot" | "blob" | "snapshot", _)) => {
-                is_kept &= content.push(line).is_ok();
-            }
-            _ => {}
-        }
+        content.line(line);
         if line == "end" {
-            let came = answer_of(alloc, &content, is_kept);
+            let came = answer_of(alloc, &content);
             tally.case(number.wrapping_add(1), "the same", came.as_str());
         }
     }
 }
 
 // What came of a case.
-fn answer_of(alloc: Global, content: &[&str], is_kept: bool) -> Text {
-    let judged = if is_kept {
-        judge(alloc, content)
-    } else {
-        Err(Fault("out of memory"))
-    };
-    match judged {
+fn answer_of(alloc: Global, content: &Content<'_>) -> Text {
+    match judge(alloc, content) {
         Ok(text) => text,
         Err(Fault(why)) => line_of(alloc, why),
     }
 }
 
-// A line of these words.
-fn line_of(alloc: Global, text: &str) -> Text {
-    let mut line = Text::new(alloc);
-    line.push(text);
-    line
-}
-
 // Whether all answers of a case are the same, or one that isn't.
-fn judge(alloc: Global, content: &[&str]) -> Outcome<Text> {
+fn judge(alloc: Global, content: &Content<'_>) -> Outcome<Text> {
+    let content = content.lines()?;
     let (size, _) = device_of(alloc, content)?;
     let Some(config) = Config::new(size) else {
         return Err(Fault("no size of segments"));

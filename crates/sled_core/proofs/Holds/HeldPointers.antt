@@ -1,10 +1,8 @@
 -- Each message of a history that a log fits has an inline pointer, at which a record may begin.
-use Rattle.std.proofs.Common.{◌≡◌, ◌∙◌, ◌≤◌, ◌+◌, ◌%◌, ℕ, max, true, false, if◌then◌else◌, List, [], ◌∷◌, ◌++◌, length, None, refl, sym, ap, subst, arith, inl, inr}
+use Rattle.std.proofs.Common.{◌≡◌, ◌∙◌, ◌≤◌, ◌+◌, ◌%◌, ℕ, max, true, false, if◌then◌else◌, List, [], ◌∷◌, ◌++◌, length, None, refl, sym, ap, subst, arith}
 use Rattle.std.specs.List.{All}
 use Rattle.std.proofs.lemmas.List.Elements.{All-tail, All-append, All-cons}
 use Rattle.sled_codec.specs.declared.result.DiskPtr.TheVariants as ptr
-use Rattle.sled_codec.specs.declared.serialization.message.MessageHeader.{MessageHeader}
-use Rattle.sled_codec.specs.declared.serialization.message.MessageKind.TheVariants as kind
 use Rattle.sled_codec.specs.History.{Message, History}
 use Rattle.sled_codec.specs.Places.{MayBegin}
 use Rattle.sled_store.specs.Device.{Trace}
@@ -12,13 +10,10 @@ use Rattle.sled_core.specs.declared.iobuf.Reserved.{Reserved}
 use Rattle.sled_core.specs.declared.iobuf.SegmentPosition.{SegmentPosition}
 use Rattle.sled_core.specs.declared.logger.Log.{Log}
 use Rattle.sled_core.specs.Buffers.{IsChain, completed_in, message_in}
-use Rattle.sled_core.specs.LogFile.{MessageStands, StandIn, StandsElsewhere}
-use Rattle.sled_core.specs.Reading.{IsMalformed, is_inline}
+use Rattle.sled_core.specs.LogFile.{StandIn, StandsElsewhere}
 use Rattle.sled_core.specs.Fits.{fault_of, segment_size_of}
 use Rattle.sled_core.specs.Running.{Fits}
-use Rattle.sled_core.proofs.Read.GivesLemmas.{one_header, kind_inline, blob_apart}
 use Rattle.sled_core.proofs.Flush.LogFileLemmas.{none_older}
-use Rattle.sled_core.proofs.Read.PathLemmas.{not_inline}
 use Rattle.sled_core.proofs.Read.ScanLemmas.{aligned_offset}
 
 -- the pointer of a message is inline, and a record may begin there

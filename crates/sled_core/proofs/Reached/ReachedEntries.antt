@@ -1,8 +1,7 @@
 -- The entries of a table below the cut of such a log file are there, each in its segment, and so is all of that segment below the cut.
-use Rattle.std.proofs.Common.{⊎_elim, ◌≡◌, ◌⊎◌, ◌∙◌, ◌+◌, ◌*◌, ◌/◌, ◌%◌, ◌<◌, ◌≤◌, ℕ, ℤ, List, [], ◌∷◌, Option, Some, refl, sym, ap, subst, arith, inl, inr}
+use Rattle.std.proofs.Common.{⊎_elim, ◌≡◌, ◌∙◌, ◌+◌, ◌*◌, ◌/◌, ◌<◌, ◌≤◌, ℕ, List, [], ◌∷◌, refl, sym, ap, subst, arith, inl, inr}
 use Rattle.std.specs.List.{Contains}
 use Rattle.std.proofs.lemmas.Bool.{cases_lt}
-use Rattle.sled_codec.specs.declared.serialization.message.MessageHeader.{MessageHeader}
 use Rattle.sled_codec.specs.Pointers.{lid_of}
 use Rattle.sled_codec.specs.History.{Message, History, table}
 use Rattle.sled_codec.specs.Snapshots.{SnapshotModel}
@@ -10,10 +9,8 @@ use Rattle.sled_store.proofs.Segments.Elements.{in_cases, in_nothing}
 use Rattle.sled_store.proofs.Segments.TableEntries.{from_table}
 use Rattle.sled_core.specs.declared.iterator.Segment.{Segment}
 use Rattle.sled_core.specs.declared.iterator.scan.ScannedRecord.{ScannedRecord}
-use Rattle.sled_core.specs.declared.iterator.scan.RecordContent.{RecordContent}
-use Rattle.sled_core.specs.declared.iterator.scan.RecordContent.TheVariants.{Gives, NamesBlob}
-use Rattle.sled_core.specs.Recoverable.{NamesBlobOf, MeetsMessage, StandsInline, IsReachedIn, IsSegmentOf}
-use Rattle.sled_core.specs.Scan.{IsFoundSegment, IsMet, IsPath, IsScan, Says}
+use Rattle.sled_core.specs.Recoverable.{MeetsMessage, StandsInline, IsReachedIn, IsSegmentOf}
+use Rattle.sled_core.specs.Scan.{IsMet, IsPath, IsScan, Says}
 use Rattle.sled_core.specs.Tail.{Scanned, IsScanned}
 use Rattle.sled_store.proofs.Histories.Ascending.{Ascends}
 use Rattle.sled_store.proofs.Histories.EarlierEntries.{entry_earlier}

@@ -1,16 +1,15 @@
 -- A log file that is read without a gap up to a place that the log has reached can be recovered, and the cut is that place or lies above it.
-use Rattle.std.proofs.Common.{⊎_elim, ◌≡◌, ◌⊎◌, ◌∙◌, ◌+◌, ◌-◌, ◌*◌, ◌/◌, ◌<◌, ◌≤◌, ◌<ℤ◌, ℕ, ℤ, pos, negsuc, List, [], ◌∷◌, Option, Some, None, refl, sym, ap, subst, arith, inl, inr, lt→ltb}
+use Rattle.std.proofs.Common.{⊎_elim, ◌≡◌, ◌⊎◌, ◌∙◌, ◌+◌, ◌-◌, ◌<◌, ◌≤◌, ◌<ℤ◌, ℕ, ℤ, pos, negsuc, List, [], ◌∷◌, Option, Some, None, refl, sym, ap, subst, arith, inl, inr, lt→ltb}
 use Rattle.std.specs.List.{Contains}
 use Rattle.std.proofs.lemmas.Bool.{cases_lt}
-use Rattle.sled_codec.specs.Coords.{raised}
 use Rattle.sled_codec.specs.History.{Message, History, table}
 use Rattle.sled_codec.specs.Snapshots.{SnapshotModel, stable_place}
 use Rattle.sled_core.specs.declared.iterator.Segment.{Segment}
 use Rattle.sled_core.specs.Recoverable.{StandsInline, IsMarkBelow, IsSegmentOf, IsRecoverableLog, cut_from}
-use Rattle.sled_core.specs.Tail.{Scanned, IsTail, tail_begins, tail_end, least_place}
+use Rattle.sled_core.specs.Tail.{Scanned, IsTail, tail_end}
 use Rattle.sled_store.proofs.Histories.Ascending.{Ascends}
 use Rattle.sled_core.proofs.Tail.GreatestMark.{mark_below}
-use Rattle.sled_core.proofs.Tail.Multiples.{put_down, lower_multiple}
+use Rattle.sled_core.proofs.Tail.Multiples.{lower_multiple}
 use Rattle.sled_core.proofs.Reached.ReachedCut.{some_read, cut, cut_far, cut_is, pass_ends}
 use Rattle.sled_core.proofs.Reached.ReachedEntries.{entries_there}
 use Rattle.sled_core.proofs.Reached.StandsTo.{StandsTo, begins, the_tail, tail_ends}

@@ -1,15 +1,11 @@
 -- Where the records of messages stand one behind another and no record behind them, a reader meets no damaged one.
-use Rattle.std.proofs.Common.{◌≡◌, ◌≤◌, ◌+◌, ◌/◌, ◌∙◌, ℕ, true, List, [], ◌∷◌, refl, sym, ap, subst, inl, inr}
-use Rattle.sled_codec.specs.declared.result.DiskPtr.TheVariants as ptr
-use Rattle.sled_codec.specs.declared.serialization.message.MessageKind.TheVariants as kind
-use Rattle.sled_codec.specs.declared.serialization.message.MessageHeader.{MessageHeader}
+use Rattle.std.proofs.Common.{◌≡◌, ◌≤◌, ◌+◌, ◌/◌, ◌∙◌, ℕ, List, [], ◌∷◌, sym, ap, subst}
 use Rattle.sled_codec.specs.History.{Message}
 use Rattle.sled_core.specs.declared.iobuf.SegmentPosition.{SegmentPosition}
 use Rattle.sled_core.specs.declared.iterator.scan.ScannedRecord.{ScannedRecord}
-use Rattle.sled_core.specs.LogFile.{MessageStands, StandIn, IsEmpty}
-use Rattle.sled_core.specs.Reading.{IsMalformed, is_inline}
+use Rattle.sled_core.specs.LogFile.{StandIn, IsEmpty}
+use Rattle.sled_core.specs.Reading.{IsMalformed}
 use Rattle.sled_core.specs.Scan.{IsMet, IsPath, IsDamagedIn}
-use Rattle.sled_core.proofs.Read.GivesLemmas.{one_header, blob_apart}
 use Rattle.sled_core.proofs.Read.PathLemmas.{met_of, met_is, stands_formed, none_met}
 
 module _ (sum : List ℕ → ℕ) (size : ℕ) (log : List ℕ) (site : SegmentPosition) (end : ℕ) (empty : end + 32 ≤ size → IsEmpty sum size log (site.slot + end) (site.place / size)) where

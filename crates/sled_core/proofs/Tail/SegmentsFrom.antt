@@ -1,15 +1,13 @@
 -- The segments of a log file that begin no lower than a place: their order, what is met in them, and where the tail begins.
-use Rattle.std.proofs.Common.{⊎_elim, ◌≡◌, ◌⊎◌, ◌∙◌, ◌+◌, ◌-◌, ◌*◌, ◌/◌, ◌%◌, ◌<◌, ◌≤◌, ℕ, pos, suc, max, Bool, true, false, ◌&&◌, nat_le, nat_lt, cond, List, [], ◌∷◌, Option, refl, sym, ap, subst, arith, inl, inr, lt-ltb}
+use Rattle.std.proofs.Common.{⊎_elim, ◌≡◌, ◌⊎◌, ◌∙◌, ◌+◌, ◌*◌, ◌/◌, ◌%◌, ◌<◌, ◌≤◌, ℕ, pos, Bool, true, false, ◌&&◌, nat_le, cond, List, [], ◌∷◌, refl, sym, ap, subst, arith, inl, inr, lt-ltb}
 use Rattle.std.specs.List.{Contains, filter}
-use Rattle.std.proofs.Math.Nat.{mod-add-div', mul-mod_left, suc-mul}
-use Rattle.std.proofs.lemmas.Bool.{cases_lt, cases_order, leb-true, leb-false, le-leb}
-use Rattle.sled_codec.specs.Coords.{raised}
+use Rattle.std.proofs.lemmas.Bool.{cases_lt, leb-true, le-leb}
 use Rattle.sled_codec.specs.History.{History}
-use Rattle.sled_store.proofs.Segments.Elements.{in_first, in_rest, in_cases, in_nothing, in_filter, from_filter}
+use Rattle.sled_store.proofs.Segments.Elements.{in_first, in_filter, from_filter}
 use Rattle.sled_core.specs.declared.iterator.Segment.{Segment}
 use Rattle.sled_core.specs.Recoverable.{IsMarkBelow}
 use Rattle.sled_core.proofs.Read.FoundLemmas.{pos_injective}
-use Rattle.sled_core.specs.Tail.{is_ascending, IsOrdering, Scanned, AreScanned, IsTail, greatest_mark, tail_begins}
+use Rattle.sled_core.specs.Tail.{is_ascending, IsOrdering, Scanned, AreScanned, greatest_mark, tail_begins}
 use Rattle.sled_core.proofs.Tail.Multiples.{apart, put_down, one_multiple, raised_within}
 use Rattle.sled_core.proofs.Tail.GreatestMark.{greatest_is, mark_below}
 use Rattle.sled_core.proofs.Tail.OneTail.{Rises, rises_of}

@@ -1,16 +1,11 @@
 -- Where records have the same bytes in two files, what they are stays: messages stand, and what is met is of the history.
-use Rattle.std.proofs.Common.{⊎_elim, ◌≡◌, ◌≤◌, ◌+◌, ◌/◌, ◌∙◌, ℕ, List, [], ◌∷◌, length, sym, subst, arith, inl, inr}
+use Rattle.std.proofs.Common.{◌+◌, ◌/◌, ℕ, List, [], ◌∷◌, sym, subst, inl, inr}
 use Rattle.std.specs.List.{Contains}
-use Rattle.sled_codec.specs.declared.serialization.message.MessageHeader.{MessageHeader}
-use Rattle.sled_codec.specs.declared.result.DiskPtr.TheVariants.{Inline}
-use Rattle.sled_codec.specs.History.{Message, History}
-use Rattle.sled_codec.specs.Places.{part}
+use Rattle.sled_codec.specs.History.{History}
 use Rattle.sled_store.proofs.Segments.Elements.{in_first, in_rest, in_cases, in_nothing}
 use Rattle.sled_core.specs.declared.iterator.scan.ScannedRecord.{ScannedRecord}
-use Rattle.sled_core.specs.declared.iterator.scan.RecordContent.TheVariants.{Gives}
-use Rattle.sled_core.specs.LogFile.{MessageStands}
-use Rattle.sled_core.specs.Recoverable.{StandsInline, MeetsMessage, IsOfHistory}
-use Rattle.sled_core.specs.Scan.{Says, IsMet, IsPath}
+use Rattle.sled_core.specs.Recoverable.{IsOfHistory}
+use Rattle.sled_core.specs.Scan.{IsPath}
 use Rattle.sled_core.proofs.Tail.Moved.{of_left}
 use Rattle.sled_core.proofs.Torn.WrittenRecords.{AlikeAlong}
 

@@ -1,9 +1,9 @@
 -- Where blobs are removed that lie at or above the cut, those that a recovery needs stay: the blob of a message is as old as the message, or older.
-use Rattle.std.proofs.Common.{⊎_elim, ◌≡◌, ◌⊎◌, ◌∙◌, ◌≤◌, ◌<◌, ◌≤ℤ◌, ℕ, ℤ, pos, negsuc, List, Option, Some, None, refl, sym, ap, subst, arith, inl, inr, leb→le}
+use Rattle.std.proofs.Common.{⊎_elim, ◌≡◌, ◌⊎◌, ◌∙◌, ◌≤◌, ◌<◌, ◌≤ℤ◌, ℕ, ℤ, pos, negsuc, List, Option, Some, None, sym, subst, arith, leb→le}
 use Rattle.std.specs.List.{Contains}
 use Rattle.sled_codec.specs.declared.result.DiskPtr.{DiskPtr}
 use Rattle.sled_codec.specs.declared.result.DiskPtr.TheVariants.{Inline, Blob}
-use Rattle.sled_codec.specs.History.{Message, History, table}
+use Rattle.sled_codec.specs.History.{Message, History}
 use Rattle.sled_store.specs.Blobs.{IsDamagedFor}
 use Rattle.sled_store.proofs.Segments.TableEntries.{from_table}
 use Rattle.sled_core.specs.Good.{HasOwnBlob}

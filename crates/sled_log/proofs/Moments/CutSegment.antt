@@ -1,5 +1,5 @@
 -- The segment of the cut of a recoverable log file: the tail has it, and the pass stops in it at the cut. Where the cut is the end of a segment, no segment begins there.
-use Rattle.std.proofs.Common.{⊎_elim, ◌≡◌, ◌⊎◌, ◌∙◌, ◌+◌, ◌*◌, ◌/◌, ◌%◌, ◌<◌, ◌≤◌, ℕ, Bool, true, false, nat_lt, if◌then◌else◌, List, [], ◌∷◌, Option, Some, None, refl, sym, ap, subst, arith, inl, inr}
+use Rattle.std.proofs.Common.{⊎_elim, ◌≡◌, ◌∙◌, ◌+◌, ◌*◌, ◌/◌, ◌%◌, ◌<◌, ◌≤◌, ℕ, Bool, true, false, if◌then◌else◌, List, [], ◌∷◌, Option, Some, None, refl, sym, ap, subst, arith, inl, inr}
 use Rattle.std.specs.List.{Contains}
 use Rattle.std.proofs.lemmas.Bool.{cases_order, ltb-true, ltb-false}
 use Rattle.sled_codec.specs.History.{History}
@@ -10,7 +10,7 @@ use Rattle.sled_core.specs.declared.iterator.scan.ScanEnd.{ScanEnd}
 use Rattle.sled_core.specs.declared.iterator.scan.ScanEnd.TheVariants.{Full, Capped, Broken}
 use Rattle.sled_core.specs.Scan.{IsEnd}
 use Rattle.sled_core.specs.Recoverable.{ActiveFits, IsRecoverableLog, scanned_below, cut_from}
-use Rattle.sled_log.specs.Recovery.{Scanned, GoesOn, IsTail, tail_begins, tail_end, stops_in, is_filled, cut_of, least_place}
+use Rattle.sled_log.specs.Recovery.{Scanned, GoesOn, IsTail, tail_begins, tail_end, is_filled, least_place}
 use Rattle.sled_log.proofs.Recovers.LeftOut.{no_end}
 use Rattle.sled_core.proofs.Tail.OneTail.{in_below}
 use Rattle.sled_core.proofs.Tail.Multiples.{put_down, one_multiple, next_multiple}

@@ -1,6 +1,6 @@
 -- Where nothing of the log file lies at or above the cut, it stays recoverable when the history forgets what lies there.
-use Rattle.std.proofs.Common.{⊎_elim, ◌≡◌, ◌⊎◌, ◌∙◌, ◌+◌, ◌<◌, ◌≤◌, ℕ, ℤ, nat_lt, List, Option, refl, sym, ap, subst, arith, inl, inr, ltb-true, lt-ltb}
-use Rattle.std.specs.List.{Contains, filter}
+use Rattle.std.proofs.Common.{◌≡◌, ◌+◌, ◌<◌, ℕ, ℤ, nat_lt, List, Option, ap, subst, arith, inl, inr, ltb-true, lt-ltb}
+use Rattle.std.specs.List.{Contains}
 use Rattle.sled_codec.specs.History.{Message, Batch, History, table, page_state, below}
 use Rattle.sled_codec.specs.Snapshots.{SnapshotModel}
 use Rattle.sled_store.proofs.Segments.Elements.{in_filter, from_filter}

@@ -6,7 +6,6 @@ use Rattle.sled_codec.specs.Snapshots.{SnapshotModel, stable_place}
 use Rattle.sled_store.specs.Blobs.{IsBlob}
 use Rattle.sled_store.specs.Device.{Event, Wrote, Synced, LogState, NamesState, Temporary, State, Content, step, at_rest, overwritten, LeavesLog, LeavesName}
 use Rattle.sled_store.specs.Foreign.{NoForeignLog, NoForeignNames}
-use Rattle.sled_store.specs.Moments.{AllLeft}
 use Rattle.sled_store.specs.Script.{Along}
 use Rattle.sled_store.specs.SnapshotFiles.{IsSnapshotFile}
 use Rattle.sled_store.proofs.Crashes.ForeignLemmas.{Knows, own_log, own_names, before_knows, torn_knows}
@@ -16,7 +15,7 @@ use Rattle.sled_store.proofs.Segments.Elements.{in_first, in_rest}
 use Rattle.sled_store.proofs.Traces.ScriptLemmas.{along_first}
 use Rattle.sled_core.specs.Recoverable.{ActiveFits, NoForeign, NoHeaderOfZeros, AreRecoverableSnapshots, IsRecoverableLog, AreRecoverableBlobs}
 use Rattle.sled_core.proofs.Torn.TornLemmas.{after_write}
-use Rattle.sled_log.specs.Orderly.{IsOrderly, CanRead}
+use Rattle.sled_log.specs.Orderly.{IsOrderly}
 pub use Rattle.sled_log.specs.Orderly.{LeavesReadable}
 use Rattle.sled_log.specs.Recovery.{shred_range_of}
 use Rattle.sled_log.specs.WritesBack.{shredding, zeroing, after_zeroing}

@@ -1,5 +1,5 @@
 -- A log file that can be recovered up to a cut still can be under a snapshot that has the cut for its place, where the reading of the segment of the cut ends at the cut, or no segment begins there.
-use Rattle.std.proofs.Common.{◌≡◌, ◌/◌, ◌*◌, ◌%◌, ◌+◌, ◌≤◌, ℕ, List, Option, refl, sym, arith}
+use Rattle.std.proofs.Common.{◌≡◌, ◌/◌, ◌*◌, ◌%◌, ◌≤◌, ℕ, List, Option, arith}
 use Rattle.std.specs.List.{Contains}
 use Rattle.sled_codec.specs.History.{History, CutFits}
 use Rattle.sled_codec.specs.Snapshots.{SnapshotModel, stable_place}

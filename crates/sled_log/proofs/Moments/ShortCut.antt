@@ -1,5 +1,5 @@
 -- A recoverable log file stays recoverable up to the same cut where all of it is read as before, and where the reading of the segment of the cut ends earlier, but not below the cut.
-use Rattle.std.proofs.Common.{⊎_elim, ◌≡◌, ◌≢◌, ◌⊎◌, ◌∙◌, ◌+◌, ◌*◌, ◌/◌, ◌%◌, ◌<◌, ◌≤◌, ℕ, ℤ, pos, negsuc, Bool, true, false, nat_lt, nat_le, int_le, if◌then◌else◌, List, [], ◌∷◌, Option, Some, None, refl, sym, ap, subst, arith, inl, inr}
+use Rattle.std.proofs.Common.{⊎_elim, ◌≡◌, ◌≢◌, ◌⊎◌, ◌∙◌, ◌+◌, ◌%◌, ◌<◌, ◌≤◌, ℕ, pos, negsuc, Bool, true, false, nat_lt, if◌then◌else◌, List, [], ◌∷◌, Option, Some, None, refl, sym, ap, subst, arith, inl, inr}
 use Rattle.std.specs.List.{Contains}
 use Rattle.std.proofs.lemmas.Bool.{cases_eq, cases_lt, le-ltb, leb-true, le-leb}
 use Rattle.sled_codec.specs.History.{Message, History, table, CutFits}
@@ -12,12 +12,12 @@ use Rattle.sled_core.specs.declared.iterator.scan.RecordContent.TheVariants.{Giv
 use Rattle.sled_core.specs.declared.iterator.scan.ScanEnd.{ScanEnd}
 use Rattle.sled_core.specs.declared.iterator.scan.ScanEnd.TheVariants.{Full, Capped, Broken}
 use Rattle.sled_core.specs.Recoverable.{IsOfHistory, IsSegmentOf, StandsInline, IsRecoverableLog, scanned_below, cut_over, cut_from}
-use Rattle.sled_log.specs.Recovery.{Scanned, IsScanned, IsOrdering, GoesOn, IsTail, AreScanned, tail_begins, tail_end, opens, open_at, stops_in, cut_of, least_place}
+use Rattle.sled_log.specs.Recovery.{Scanned, IsScanned, IsOrdering, GoesOn, IsTail, AreScanned, tail_begins, tail_end, opens, cut_of, least_place}
 use Rattle.sled_core.proofs.Tail.OneTail.{in_below, from_below, segment_there, reading_there}
 use Rattle.sled_core.proofs.Tail.Multiples.{put_down, next_multiple, lower_multiple}
 use Rattle.sled_core.proofs.Tail.Tails.{some_is}
 use Rattle.sled_log.proofs.Recovers.PassCut.{known, further, whole, one_reading}
-use Rattle.sled_core.proofs.Tail.Rows.{IsRow, IsWhole, row_ordered, row_below, row_whole, stop_inside, met_stand, stand_rises}
+use Rattle.sled_core.proofs.Tail.Rows.{IsRow, row_ordered, row_below, row_whole, stop_inside}
 use Rattle.sled_log.proofs.Moments.CutSegment.{IsCutSegment}
 use Rattle.sled_log.proofs.Moments.PassStops.{StopsHere, stops_at}
 use Rattle.sled_log.proofs.Moments.FromCut.{closed_of}

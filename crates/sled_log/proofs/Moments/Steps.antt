@@ -1,6 +1,5 @@
 -- What a recovery writes to the log file, one step behind another: zeros behind the cut, a snapshot with the cut for its place, and zeros over slots that the pass did not read. Each keeps the file recoverable, up to the same cut.
-use Rattle.std.proofs.Common.{◌≡◌, ◌+◌, ◌*◌, ◌/◌, ◌%◌, ◌≤◌, ℕ, List, length, replicate, Option, Some, None}
-use Rattle.std.specs.List.{Contains}
+use Rattle.std.proofs.Common.{◌≡◌, ◌+◌, ◌%◌, ◌≤◌, ℕ, List, length, replicate, Option, Some, None}
 use Rattle.sled_codec.specs.History.{History, CutFits}
 use Rattle.sled_codec.specs.Snapshots.{SnapshotModel, stable_place}
 use Rattle.sled_store.specs.Device.{LeavesLog, overwritten}

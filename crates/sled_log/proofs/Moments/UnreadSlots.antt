@@ -1,5 +1,5 @@
 -- Zeros are written over the slots that a recovery did not read, one behind another, each synced before the next one: before and behind each of these writes, and of all that a crash leaves of one, the log file can be recovered up to the same cut, under a snapshot with that place.
-use Rattle.std.proofs.Common.{◌≡◌, ◌⊎◌, ◌∙◌, ◌%◌, ◌≤◌, ℕ, ℤ, List, [], ◌∷◌, length, replicate, Option, Some, None, refl, sym, ap, arith, inl, inr}
+use Rattle.std.proofs.Common.{◌≡◌, ◌⊎◌, ◌∙◌, ◌%◌, ◌≤◌, ℕ, ℤ, List, [], ◌∷◌, length, replicate, Option, None, sym, ap, arith, inl, inr}
 use Rattle.std.specs.List.{Contains}
 use Rattle.sled_codec.specs.History.{History, CutFits}
 use Rattle.sled_codec.specs.Snapshots.{SnapshotModel, stable_place}

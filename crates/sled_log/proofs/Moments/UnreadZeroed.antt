@@ -1,5 +1,5 @@
 -- Zeros are written over a whole slot, and synced: no segment is found there, and others are found as before.
-use Rattle.std.proofs.Common.{⊎_elim, ◌≡◌, ◌≢◌, ◌⊎◌, ◌∙◌, ◌+◌, ◌%◌, ◌≤◌, ℕ, pos, List, length, take, drop, replicate, refl, sym, ap, subst, arith, inl, inr}
+use Rattle.std.proofs.Common.{⊎_elim, ◌≡◌, ◌≢◌, ◌⊎◌, ◌∙◌, ◌+◌, ◌%◌, ◌≤◌, ℕ, pos, List, length, take, drop, replicate, sym, ap, subst, arith, inl, inr}
 use Rattle.std.proofs.lemmas.List.{take-take, take-replicate, length-replicate}
 use Rattle.sled_codec.specs.History.{History}
 use Rattle.sled_codec.specs.Places.{part}

@@ -1,5 +1,5 @@
 -- Zeros are written from the cut to the end of its slot: of what a crash leaves of that, the log file can be recovered up to the same cut.
-use Rattle.std.proofs.Common.{⊎_elim, ◌≡◌, ◌≢◌, ◌⊎◌, ◌∙◌, ◌+◌, ◌*◌, ◌/◌, ◌%◌, ◌<◌, ◌≤◌, ℕ, ℤ, pos, List, [], ◌∷◌, ◌++◌, length, replicate, Option, Some, refl, sym, ap, subst, arith, inl, inr}
+use Rattle.std.proofs.Common.{⊎_elim, ◌≡◌, ◌≢◌, ◌⊎◌, ◌∙◌, ◌+◌, ◌*◌, ◌/◌, ◌%◌, ◌<◌, ◌≤◌, ℕ, pos, List, [], ◌∷◌, ◌++◌, length, replicate, Option, Some, refl, sym, ap, subst, arith, inl, inr}
 use Rattle.std.specs.List.{Contains}
 use Rattle.std.proofs.lemmas.Bool.{cases_eq, cases_lt}
 use Rattle.std.proofs.lemmas.List.Elements.{Contains-append_left, Contains-append_right, Contains-append_cases}
@@ -9,16 +9,16 @@ use Rattle.sled_codec.specs.History.{Message, History, table, CutFits}
 use Rattle.sled_codec.specs.Places.{part}
 use Rattle.sled_codec.specs.Pointers.{lid_of}
 use Rattle.sled_codec.specs.Record.{IsHeader}
-use Rattle.sled_codec.specs.Snapshots.{SnapshotModel, stable_place}
+use Rattle.sled_codec.specs.Snapshots.{SnapshotModel}
 use Rattle.sled_store.specs.Device.{LeavesLog}
-use Rattle.sled_store.specs.Foreign.{IsReached, at_first, NoForeignLog}
+use Rattle.sled_store.specs.Foreign.{at_first, NoForeignLog}
 use Rattle.sled_store.proofs.Segments.Elements.{in_first, in_cases, in_nothing}
 use Rattle.sled_store.proofs.Segments.TableEntries.{from_table}
 use Rattle.sled_core.specs.declared.iterator.Segment.{Segment}
 use Rattle.sled_core.specs.declared.iterator.scan.ScannedRecord.{ScannedRecord}
 use Rattle.sled_core.specs.declared.iterator.scan.ScanEnd.{ScanEnd}
 use Rattle.sled_core.specs.declared.iterator.scan.ScanEnd.TheVariants.{Full, Capped, Broken}
-use Rattle.sled_core.specs.Recoverable.{ActiveFits, NoHeaderOfZeros, StandsInline, IsOfHistory, IsReachedIn, IsSegmentOf, IsRecoverableLog}
+use Rattle.sled_core.specs.Recoverable.{NoHeaderOfZeros, StandsInline, IsOfHistory, IsReachedIn, IsSegmentOf, IsRecoverableLog}
 use Rattle.sled_core.specs.Scan.{IsFoundSegment, IsPath, IsEnd, EndsThere, IsScan}
 use Rattle.sled_core.proofs.Read.ScanLemmas.{met_fits, aligned_offset}
 use Rattle.sled_core.proofs.Torn.TornLemmas.{after_write}
@@ -30,7 +30,7 @@ use Rattle.sled_core.proofs.Tail.OneTail.{segment_there}
 use Rattle.sled_core.proofs.Tail.Multiples.{put_down}
 use Rattle.sled_log.proofs.Recovers.PassCut.{whole, one_reading}
 use Rattle.sled_core.proofs.Tail.Rows.{Stand, stand_in, stand_rises, path_stands, met_stand, stop_inside}
-use Rattle.sled_log.proofs.Moments.CutSegment.{IsCutSegment, cut_segment}
+use Rattle.sled_log.proofs.Moments.CutSegment.{IsCutSegment}
 use Rattle.sled_log.proofs.Moments.PassStops.{StopsHere}
 use Rattle.sled_log.proofs.Moments.ShortCut.{IsShort, all_kept, short_kept}
 use Rattle.sled_core.proofs.Tail.Moved.{slot_index, message_moved, one_in_slot}

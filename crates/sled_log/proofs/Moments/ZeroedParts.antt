@@ -1,33 +1,23 @@
 -- What a crash leaves of a log file where zeros were written to a part of one slot behind its header: the same segments are found, those of other slots are read as before, and what is met is of the history.
-use Rattle.std.proofs.Common.{⊎_elim, ◌≡◌, ◌≢◌, ◌⊎◌, ◌∙◌, ◌+◌, ◌*◌, ◌/◌, ◌%◌, ◌<◌, ◌≤◌, ℕ, ℤ, pos, List, [], ◌∷◌, length, replicate, Option, Some, refl, sym, ap, subst, arith, inl, inr}
+use Rattle.std.proofs.Common.{⊎_elim, ◌≡◌, ◌≢◌, ◌⊎◌, ◌+◌, ◌*◌, ◌/◌, ◌%◌, ◌<◌, ◌≤◌, ℕ, ℤ, pos, List, [], ◌∷◌, length, replicate, sym, subst, arith, inl, inr}
 use Rattle.std.specs.List.{Contains}
-use Rattle.std.proofs.Math.Nat.{mod-add-div'}
 use Rattle.std.proofs.lemmas.Bool.{cases_eq, cases_order}
-use Rattle.sled_codec.specs.declared.serialization.message.MessageHeader.{MessageHeader}
-use Rattle.sled_codec.specs.declared.result.DiskPtr.{DiskPtr}
-use Rattle.sled_codec.specs.declared.result.DiskPtr.TheVariants.{Inline, Blob}
-use Rattle.sled_codec.specs.History.{Message, History}
+use Rattle.sled_codec.specs.History.{History}
 use Rattle.sled_codec.specs.Places.{part}
 use Rattle.sled_codec.specs.Record.{IsHeader}
-use Rattle.sled_codec.proofs.Segments.{one_header}
 use Rattle.sled_store.specs.Device.{LeavesLog}
 use Rattle.sled_store.specs.Foreign.{IsReached, at_first, NoForeignLog}
 use Rattle.sled_store.proofs.Segments.Elements.{in_first, in_rest, in_cases, in_nothing}
 use Rattle.sled_core.specs.declared.iterator.Segment.{Segment}
 use Rattle.sled_core.specs.declared.iterator.scan.ScannedRecord.{ScannedRecord}
-use Rattle.sled_core.specs.declared.iterator.scan.RecordContent.{RecordContent}
-use Rattle.sled_core.specs.declared.iterator.scan.RecordContent.TheVariants.{Gives, NamesBlob, Skipped, BatchStart}
-use Rattle.sled_core.specs.LogFile.{MessageStands}
-use Rattle.sled_core.specs.Reading.{StandsAt}
-use Rattle.sled_core.specs.Recoverable.{NoHeaderOfZeros, StandsInline, MeetsMessage, IsOfHistory}
-use Rattle.sled_core.specs.Scan.{Says, IsFoundSegment, IsMet, IsPath, IsScan}
-use Rattle.sled_core.proofs.Flush.LogFileLemmas.{record_moved}
-use Rattle.sled_core.proofs.Read.FoundLemmas.{pos_injective, found_there}
+use Rattle.sled_core.specs.Recoverable.{NoHeaderOfZeros, IsOfHistory}
+use Rattle.sled_core.specs.Scan.{IsFoundSegment, IsMet, IsPath, IsScan}
+use Rattle.sled_core.proofs.Read.FoundLemmas.{found_there}
 use Rattle.sled_core.proofs.Torn.TornLemmas.{after_write}
-use Rattle.sled_core.proofs.Torn.ZeroedSlots.{grows, kept, header_stood, same, reached_behind}
+use Rattle.sled_core.proofs.Torn.ZeroedSlots.{kept, header_stood, same, reached_behind}
 use Rattle.sled_core.proofs.Torn.ZeroedScans.{scan_same}
 use Rattle.sled_log.specs.Recovery.{IsOrdering, Scanned, IsScanned}
-use Rattle.sled_core.proofs.Tail.Moved.{slot_index, message_moved, one_in_slot, of_left}
+use Rattle.sled_core.proofs.Tail.Moved.{slot_index, of_left}
 use Rattle.sled_core.proofs.Tail.Multiples.{apart}
 
 -- The zeros lie in one slot, behind its header.

@@ -1,36 +1,26 @@
 -- The log file with zeros from a place in one slot to the end of it, all of them written and synced: other slots are read as before, and so is what lies before the zeros.
-use Rattle.std.proofs.Common.{⊎_elim, ◌≡◌, ◌≢◌, ◌⊎◌, ◌∙◌, ◌+◌, ◌-◌, ◌*◌, ◌/◌, ◌%◌, ◌<◌, ◌≤◌, ℕ, ℤ, pos, max, List, [], ◌∷◌, ◌++◌, length, take, drop, replicate, get_or, Option, Some, refl, sym, ap, subst, arith, inl, inr}
+use Rattle.std.proofs.Common.{⊎_elim, ◌≡◌, ◌≢◌, ◌⊎◌, ◌+◌, ◌/◌, ◌%◌, ◌<◌, ◌≤◌, ℕ, max, List, [], ◌∷◌, length, replicate, refl, sym, subst, arith, inl, inr}
 use Rattle.std.specs.List.{Contains}
-use Rattle.std.proofs.lemmas.Bool.{cases_eq, cases_lt, cases_order}
-use Rattle.std.proofs.lemmas.List.{length-replicate, get_or-replicate, get_or-take, get_or-drop}
-use Rattle.std.proofs.lemmas.List.Elements.{Contains-append_left, Contains-append_cases}
-use Rattle.sled_codec.specs.History.{Message, History, table, CutFits}
+use Rattle.std.proofs.lemmas.Bool.{cases_order}
+use Rattle.std.proofs.lemmas.List.{length-replicate}
+use Rattle.sled_codec.specs.History.{History}
 use Rattle.sled_codec.specs.Places.{part}
-use Rattle.sled_codec.specs.Record.{IsHeader}
-use Rattle.sled_codec.specs.Snapshots.{SnapshotModel, stable_place}
-use Rattle.sled_store.specs.Device.{LeavesLog, overwritten, end_of}
+use Rattle.sled_store.specs.Device.{LeavesLog, overwritten}
 use Rattle.sled_store.proofs.LogFile.LooseLemmas.{end_of-le, end_of-mono}
-use Rattle.sled_store.proofs.LogFile.OverwrittenLemmas.{length-overwritten, overwritten-part}
+use Rattle.sled_store.proofs.LogFile.OverwrittenLemmas.{length-overwritten}
 use Rattle.sled_store.proofs.Segments.Elements.{in_first, in_rest, in_cases, in_nothing}
-use Rattle.sled_core.specs.declared.iterator.Segment.{Segment}
 use Rattle.sled_core.specs.declared.iterator.scan.ScannedRecord.{ScannedRecord}
 use Rattle.sled_core.specs.declared.iterator.scan.ScanEnd.{ScanEnd}
 use Rattle.sled_core.specs.declared.iterator.scan.ScanEnd.TheVariants.{Full, Capped, Broken}
-use Rattle.sled_core.specs.Recoverable.{StandsInline, IsOfHistory, IsSegmentOf, IsRecoverableLog}
-use Rattle.sled_core.specs.Scan.{IsFoundSegment, IsMet, IsPath, IsEnd, EndsThere, IsScan}
+use Rattle.sled_core.specs.Recoverable.{IsOfHistory}
+use Rattle.sled_core.specs.Scan.{IsMet, IsPath, IsEnd, EndsThere}
 use Rattle.sled_core.proofs.Flush.LogFileLemmas.{record_moved}
-use Rattle.sled_core.proofs.Read.FoundLemmas.{found_there}
-use Rattle.sled_core.proofs.Read.PathLemmas.{zeros_empty}
 use Rattle.sled_core.proofs.Read.ScanLemmas.{aligned_offset}
 use Rattle.sled_core.proofs.Torn.TornLemmas.{after_write}
 use Rattle.sled_core.proofs.Torn.TornRecords.{long_enough}
 use Rattle.sled_core.proofs.Torn.ZeroedSlots.{grows, kept, path_stays}
-use Rattle.sled_log.specs.Recovery.{IsOrdering, Scanned, IsScanned, tail_end, least_place}
 use Rattle.sled_core.proofs.Tail.Multiples.{apart}
-use Rattle.sled_core.proofs.Tail.OneReading.{path_begins}
-use Rattle.sled_core.proofs.Tail.OneTail.{segment_there}
-use Rattle.sled_log.proofs.Recovers.PassCut.{whole}
-use Rattle.sled_core.proofs.Tail.Rows.{stand_in, stand_rises, path_stands, stop_inside}
+use Rattle.sled_core.proofs.Tail.Rows.{stand_rises, path_stands}
 use Rattle.sled_core.proofs.Tail.Moved.{of_left}
 
 module _ (sum : List ℕ → ℕ) (size : ℕ) (old : List ℕ) (some : 256 ≤ size) (H : History) (at count slot : ℕ) (aligned : slot % size ≡ 0) (begin : slot ≤ at) (to_end : at + count ≡ slot + size) (reach : slot ≤ length old) where

@@ -1,11 +1,9 @@
 -- A recoverable log file under a snapshot with the cut for its place is read without a gap up to the cut, for a history of which all lies below: so a log that goes on from a recovery begins with a file that stands up to its own place.
-use Rattle.std.proofs.Common.{⊎_elim, ◌≡◌, ◌⊎◌, ◌∙◌, ◌+◌, ◌*◌, ◌/◌, ◌%◌, ◌<◌, ◌≤◌, ℕ, List, Option, Some, None, refl, sym, ap, subst, arith, inl, inr}
+use Rattle.std.proofs.Common.{⊎_elim, ◌≡◌, ◌⊎◌, ◌∙◌, ◌+◌, ◌*◌, ◌/◌, ◌%◌, ◌<◌, ◌≤◌, ℕ, List, Option, Some, None, refl, sym, ap, arith, inl, inr}
 use Rattle.std.specs.List.{Contains}
 use Rattle.std.proofs.lemmas.Bool.{cases_lt}
-use Rattle.sled_codec.specs.History.{Message, Batch, History, table, CutFits}
+use Rattle.sled_codec.specs.History.{Message, Batch, History, CutFits}
 use Rattle.sled_codec.specs.Snapshots.{SnapshotModel, stable_place}
-use Rattle.sled_core.specs.declared.iterator.Segment.{Segment}
-use Rattle.sled_core.specs.declared.iterator.scan.ScanEnd.TheVariants.{Broken}
 use Rattle.sled_core.specs.Recoverable.{ActiveFits, IsRecoverableLog}
 use Rattle.sled_log.specs.Recovery.{Scanned, least_place}
 use Rattle.sled_core.proofs.Tail.Multiples.{put_down}

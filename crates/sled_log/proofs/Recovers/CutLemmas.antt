@@ -1,26 +1,21 @@
 -- The cut of a recoverable log file splits neither a message nor a batch.
-use Rattle.std.proofs.Common.{⊎_elim, ◌≡◌, ◌⊎◌, ◌∙◌, ◌+◌, ◌*◌, ◌/◌, ◌%◌, ◌<◌, ◌≤◌, ℕ, pos, true, false, int_le, List, ◌∷◌, Option, Some, refl, sym, ap, arith, inl, inr}
+use Rattle.std.proofs.Common.{⊎_elim, ◌≡◌, ◌∙◌, ◌+◌, ◌*◌, ◌/◌, ◌%◌, ◌<◌, ◌≤◌, ℕ, pos, true, List, ◌∷◌, Option, Some, refl, ap, arith, inl, inr}
 use Rattle.std.specs.List.{Contains}
 use Rattle.std.proofs.lemmas.Bool.{cases_lt}
-use Rattle.std.proofs.lemmas.Bool.Decides.{nat_tests}
 use Rattle.sled_codec.specs.History.{Message, Batch, History, CutFits}
 use Rattle.sled_codec.specs.Snapshots.{SnapshotModel, stable_place}
 use Rattle.sled_core.specs.declared.iterator.Segment.{Segment}
 use Rattle.sled_core.specs.declared.iterator.scan.ScannedRecord.{ScannedRecord}
-use Rattle.sled_core.specs.declared.iterator.scan.RecordContent.{RecordContent}
 use Rattle.sled_core.specs.declared.iterator.scan.RecordContent.TheVariants.{BatchStart}
-use Rattle.sled_core.specs.declared.iterator.scan.ScanEnd.{ScanEnd}
-use Rattle.sled_core.specs.declared.iterator.scan.ScanEnd.TheVariants.{Full, Capped, Broken}
-use Rattle.sled_core.specs.Scan.{IsEnd}
-use Rattle.sled_core.specs.Recoverable.{BeginsInSegment, IsOfHistory, IsRecoverableLog, scanned_below}
+use Rattle.sled_core.specs.Recoverable.{BeginsInSegment, IsRecoverableLog, scanned_below}
 use Rattle.sled_log.specs.Recovery.{Scanned, cut_of, tail_begins, tail_end, opens, open_at, least_place}
-use Rattle.sled_store.proofs.Histories.Ascending.{Ascends, one_at_place}
+use Rattle.sled_store.proofs.Histories.Ascending.{Ascends}
 use Rattle.sled_core.proofs.Tail.Covered.{PassEnds, IsCovered, covered}
 use Rattle.sled_core.proofs.Tail.OfHistory.{closed_is, opened_of, batch_of, message_of}
-use Rattle.sled_log.proofs.Recovers.PassCut.{further, known, whole, tail_has, passed, stop, cut_place, stopped, last_known, last_place, stop_below, cut_bounds, no_higher, passed_stands, met_below, ends_below, end_passed}
+use Rattle.sled_log.proofs.Recovers.PassCut.{further, whole, tail_has, passed, stop, cut_place, stopped, last_known, last_place, stop_below, cut_bounds, no_higher, passed_stands, met_below, ends_below, end_passed}
 use Rattle.sled_core.proofs.Tail.Multiples.{put_down}
 use Rattle.sled_log.proofs.Recovers.TailBegins.{begins_at, begins_low, ends_before}
-use Rattle.sled_core.proofs.Tail.Rows.{IsStopIn, stand_in, end_there, covers, cut_cases}
+use Rattle.sled_core.proofs.Tail.Rows.{IsStopIn, stand_in, cut_cases}
 use Rattle.sled_log.proofs.Recovers.PassedRows.{passed_closed}
 
 module _ (sum : List ℕ → ℕ) (size : ℕ) (log : List ℕ) (some : 256 ≤ size) (H : History) (A : ℕ) (first : SnapshotModel) (cut : ℕ × Option ℕ) (is : IsRecoverableLog sum size log H A first cut)

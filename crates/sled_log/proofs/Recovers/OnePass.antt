@@ -1,16 +1,9 @@
 -- A pass meets what stands in the segments before the first batch that is open.
-use Rattle.std.proofs.Common.{⊎_elim, ◌≡◌, ◌⊎◌, ◌∙◌, ◌+◌, ◌<◌, ◌%◌, ℕ, Bool, true, false, nat_lt, if◌then◌else◌, List, [], ◌∷◌, ◌++◌, Option, Some, None, refl, sym, ap, subst, arith, inl, inr}
-use Rattle.std.specs.List.{Contains}
-use Rattle.std.proofs.lemmas.Bool.{and_parts, cases_eq, ltb-true}
-use Rattle.std.proofs.lemmas.Bool.Decides.{nat_tests}
+use Rattle.std.proofs.Common.{◌≡◌, ◌∙◌, ℕ, Bool, true, false, if◌then◌else◌, List, [], ◌∷◌, ◌++◌, Option, Some, None, refl, sym, ap, subst}
 use Rattle.sled_core.specs.declared.iterator.Segment.{Segment}
 use Rattle.sled_core.specs.declared.iterator.scan.ScannedRecord.{ScannedRecord}
-use Rattle.sled_core.specs.declared.iterator.scan.ScanEnd.{ScanEnd}
-use Rattle.sled_core.specs.declared.iterator.scan.ScanEnd.TheVariants.{Full, Capped, Broken}
 use Rattle.sled_core.specs.Scan.{IsPath, IsScan}
-use Rattle.sled_core.specs.Recoverable.{scanned_below}
-use Rattle.sled_store.proofs.Segments.Elements.{in_first, in_rest, in_cases, in_nothing}
-use Rattle.sled_log.specs.Recovery.{is_ascending, IsOrdering, Scanned, IsScanned, GoesOn, IsTail, begun_below, AreScanned, opens, open_at, before_open, passed_in, stops_in, IsReplayed, StopsOrGoesOn, AreReplayed}
+use Rattle.sled_log.specs.Recovery.{Scanned, IsScanned, AreScanned, opens, open_at, before_open, passed_in, stops_in, IsReplayed, StopsOrGoesOn, AreReplayed}
 use Rattle.sled_log.proofs.Replay.PassedLemmas.{passed_whole}
 use Rattle.sled_core.proofs.Tail.OneReading.{path_begins, one_scan}
 

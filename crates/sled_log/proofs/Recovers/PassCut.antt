@@ -1,20 +1,18 @@
 -- The pass over a recoverable log file: where it stops, against the tail and the cut.
-use Rattle.std.proofs.Common.{⊎_elim, ◌≡◌, ◌∙◌, ◌+◌, ◌*◌, ◌/◌, ◌%◌, ◌<◌, ◌≤◌, ℕ, suc, List, [], ◌∷◌, Option, Some, refl, sym, ap, subst, arith, inl, inr}
+use Rattle.std.proofs.Common.{⊎_elim, ◌≡◌, ◌∙◌, ◌+◌, ◌%◌, ◌<◌, ◌≤◌, ℕ, List, ◌∷◌, Option, Some, refl, sym, ap, subst, arith, inl, inr}
 use Rattle.std.specs.List.{Contains}
-use Rattle.std.proofs.Math.Nat.{mod-add-div', mul-mod_left, suc-mul}
 use Rattle.std.proofs.lemmas.Bool.{cases_lt, cases_order}
 use Rattle.sled_codec.specs.History.{Message, History}
 use Rattle.sled_codec.specs.Snapshots.{SnapshotModel, stable_place}
 use Rattle.sled_core.specs.declared.iterator.Segment.{Segment}
 use Rattle.sled_core.specs.declared.iterator.scan.ScannedRecord.{ScannedRecord}
-use Rattle.sled_core.specs.declared.iterator.scan.ScanEnd.{ScanEnd}
-use Rattle.sled_core.specs.declared.iterator.scan.ScanEnd.TheVariants.{Full, Capped, Broken}
+use Rattle.sled_core.specs.declared.iterator.scan.ScanEnd.TheVariants.{Broken}
 use Rattle.sled_core.specs.Scan.{IsScan}
 use Rattle.sled_core.specs.Recoverable.{IsRecoverableLog, IsSegmentOf, MeetsMessage, scanned_below, cut_over, cut_from}
-use Rattle.sled_log.specs.Recovery.{Scanned, IsScanned, GoesOn, IsTail, tail_begins, tail_end, open_at, passed_in, stops_in, cut_of, least_place}
+use Rattle.sled_log.specs.Recovery.{Scanned, IsScanned, IsTail, tail_begins, tail_end, open_at, passed_in, stops_in, cut_of, least_place}
 use Rattle.sled_core.proofs.Tail.Multiples.{apart}
-use Rattle.sled_core.proofs.Tail.OneReading.{one_scan, met_there}
-use Rattle.sled_core.proofs.Tail.OneTail.{Rises, rises_of, one_at_place, scan_there, segment_there, reading_there, in_below, from_below}
+use Rattle.sled_core.proofs.Tail.OneReading.{met_there}
+use Rattle.sled_core.proofs.Tail.OneTail.{Rises, rises_of, scan_there, in_below, from_below}
 pub use Rattle.sled_core.proofs.Tail.Tails.{some_is}
 pub use Rattle.sled_core.proofs.Tail.Multiples.{put_down, next_multiple}
 use Rattle.sled_core.proofs.Tail.Tails as tails

@@ -1,16 +1,11 @@
 -- What a pass over segments meets lies one behind another up to where it stops, and it meets each record below the cut.
-use Rattle.std.proofs.Common.{⊎_elim, ◌≡◌, ◌⊎◌, ◌+◌, ◌/◌, ◌%◌, ◌<◌, ◌≤◌, ℕ, Bool, true, false, nat_lt, if◌then◌else◌, List, [], ◌∷◌, ◌++◌, Option, Some, None, refl, sym, ap, subst, arith, inl, inr}
+use Rattle.std.proofs.Common.{⊎_elim, ◌≡◌, ◌+◌, ◌<◌, ◌≤◌, ℕ, false, List, [], ◌∷◌, Option, Some, None, refl, sym, subst, arith}
 use Rattle.std.specs.List.{Contains}
-use Rattle.std.proofs.lemmas.Bool.{cases_lt, ltb-true}
 use Rattle.std.proofs.lemmas.List.Elements.{Contains-append_left, Contains-append_right, Contains-append_cases}
-use Rattle.sled_core.specs.declared.iterator.Segment.{Segment}
 use Rattle.sled_core.specs.declared.iterator.scan.ScannedRecord.{ScannedRecord}
-use Rattle.sled_core.specs.Scan.{IsPath, IsEnd, IsScan}
-use Rattle.sled_core.specs.Recoverable.{scanned_below}
-use Rattle.sled_core.proofs.Read.ScanLemmas.{met_fits}
-use Rattle.sled_store.proofs.Segments.Elements.{in_first, in_rest, in_cases, in_nothing}
-use Rattle.sled_log.specs.Recovery.{IsOrdering, Scanned, IsScanned, AreScanned, opens, open_at, before_open, passed_in, stops_in, is_filled, cut_of}
-use Rattle.sled_core.proofs.Tail.Rows.{Stand, stand_rises, stand_wider, stand_both, stand_in, before_closed, all_closed, cut_cases, IsWhole, IsRow, row_whole, met_stand, stop_inside, opened, before_opened}
+use Rattle.sled_store.proofs.Segments.Elements.{in_first, in_cases, in_nothing}
+use Rattle.sled_log.specs.Recovery.{Scanned, opens, open_at, before_open, passed_in, stops_in, cut_of}
+use Rattle.sled_core.proofs.Tail.Rows.{Stand, stand_wider, stand_both, stand_in, before_closed, all_closed, cut_cases, IsRow, row_whole, met_stand, stop_inside, opened, before_opened}
 
 module _ (sum : List ℕ → ℕ) (size : ℕ) (log : List ℕ) (some : 256 ≤ size) where
   module _ (end : ℕ) where

@@ -1,15 +1,13 @@
 -- Where the tail of a recoverable log file begins: no higher than the cut, and in no batch.
-use Rattle.std.proofs.Common.{⊎_elim, ◌≡◌, ◌⊎◌, ◌∙◌, ◌+◌, ◌-◌, ◌%◌, ◌<◌, ◌≤◌, ◌<ℤ◌, ◌≤ℤ◌, ℕ, ℤ, pos, negsuc, max, Bool, true, false, nat_lt, nat_le, T, List, [], ◌∷◌, Option, refl, sym, ap, subst, arith, inl, inr}
+use Rattle.std.proofs.Common.{⊎_elim, ◌≡◌, ◌⊎◌, ◌∙◌, ◌+◌, ◌-◌, ◌%◌, ◌<◌, ◌≤◌, ℕ, pos, List, Option, sym, arith, inl, inr}
 use Rattle.std.specs.List.{Contains}
-use Rattle.std.proofs.lemmas.Bool.{cases_lt, ltb-true, leb-true}
 use Rattle.sled_codec.specs.Coords.{raised}
 use Rattle.sled_codec.specs.History.{Batch, History}
 use Rattle.sled_codec.specs.Snapshots.{SnapshotModel, stable_place}
-use Rattle.sled_store.proofs.Segments.Elements.{in_first, in_rest}
 use Rattle.sled_core.specs.declared.iterator.Segment.{Segment}
 use Rattle.sled_core.specs.Recoverable.{IsRecoverableLog}
 use Rattle.sled_core.proofs.Read.FoundLemmas.{pos_injective}
-use Rattle.sled_log.specs.Recovery.{place_of_mark, greatest_mark, tail_begins, least_place}
+use Rattle.sled_log.specs.Recovery.{greatest_mark, tail_begins, least_place}
 use Rattle.sled_core.proofs.Tail.GreatestMark.{greatest_is, mark_below, mark_above}
 use Rattle.sled_log.proofs.Recovers.PassCut.{further}
 use Rattle.sled_core.proofs.Tail.Multiples.{put_down}

@@ -1,12 +1,11 @@
 -- Segments that are read one behind another: what a pass over them meets lies below the place where it stops.
-use Rattle.std.proofs.Common.{◌≡◌, ◌∙◌, ◌+◌, ◌*◌, ◌/◌, ◌%◌, ◌<◌, ◌≤◌, ◌&&◌, ℕ, suc, Bool, true, false, nat_lt, if◌then◌else◌, List, [], ◌∷◌, ◌++◌, Option, Some, None, refl, sym, ap, subst, arith}
+use Rattle.std.proofs.Common.{◌≡◌, ◌∙◌, ◌+◌, ◌/◌, ◌%◌, ◌<◌, ◌≤◌, ◌&&◌, ℕ, suc, Bool, true, false, nat_lt, if◌then◌else◌, List, [], ◌∷◌, ◌++◌, Option, Some, None, refl, sym, ap, subst, arith}
 use Rattle.std.specs.List.{Contains}
 use Rattle.std.proofs.lemmas.Bool.Decides.{nat_tests}
-use Rattle.std.proofs.Math.Nat.{mod-add-div', mul-le-mul_right, suc-mul}
 use Rattle.sled_core.specs.declared.iterator.scan.ScannedRecord.{ScannedRecord}
 use Rattle.sled_core.specs.declared.iterator.Segment.{Segment}
 use Rattle.sled_core.specs.Scan.{IsPath}
-use Rattle.sled_core.proofs.Read.ScanLemmas.{met_fits, aligned_offset}
+use Rattle.sled_core.proofs.Read.ScanLemmas.{met_fits}
 use Rattle.sled_core.proofs.Tail.Multiples.{apart}
 use Rattle.sled_core.proofs.Tail.Rows.{path_within}
 use Rattle.sled_log.specs.Recovery.{Scanned, StopsOrGoesOn, AreReplayed, is_ascending, begun_below, opens, before_open, open_at, passed_in, stops_in, given, applied_of, is_filled, cut_of}

@@ -1,10 +1,9 @@
 -- An entry of a table isn't below any message that begins its page, where the messages ascend.
-use Rattle.std.proofs.Common.{if◌then◌else◌, ⊎_elim, ◌≡◌, ◌∙◌, ◌⊎◌, ◌&&◌, ◌==◌, ◌+◌, ◌<◌, ◌≤◌, ℕ, Bool, true, false, nat_lt, List, [], ◌∷◌, ◌++◌, Option, Some, None, refl, sym, ap, subst, arith, inl, inr, eq-eqb, lt-ltb}
-use Rattle.std.specs.List.{All, Contains, filter}
+use Rattle.std.proofs.Common.{if◌then◌else◌, ⊎_elim, ◌≡◌, ◌∙◌, ◌⊎◌, ◌&&◌, ◌==◌, ◌<◌, ◌≤◌, ℕ, Bool, true, false, nat_lt, List, [], ◌∷◌, ◌++◌, Option, Some, None, refl, sym, ap, subst, arith, inl, inr, eq-eqb, lt-ltb}
+use Rattle.std.specs.List.{Contains, filter}
 use Rattle.std.proofs.lemmas.Bool.{and_from, and_parts, ltb-true}
-use Rattle.std.proofs.lemmas.List.Elements.{All-weaker, All-contains, Contains-append_left, Contains-append_right, Contains-append_cases}
+use Rattle.std.proofs.lemmas.List.Elements.{All-contains, Contains-append_left, Contains-append_right, Contains-append_cases}
 use Rattle.sled_codec.specs.History.{Message, History, begins_page, is_replace, is_link, later_or, last_beginning, entries_from, page_state, of_page, table, AddsMessage}
-use Rattle.sled_codec.specs.WellFormed.{LieApart}
 pub use Rattle.sled_store.proofs.Histories.Ascending.{Ascends, apart_ascends}
 use Rattle.sled_store.proofs.Histories.Ascending.{filter_ascends}
 use Rattle.sled_store.proofs.Segments.Elements.{in_first, in_rest, in_cases, in_nothing, in_filter, from_filter, all_from_in}

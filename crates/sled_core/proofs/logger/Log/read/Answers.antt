@@ -9,7 +9,7 @@ use Rattle.sled_core.specs.LogFile.{MessageStands}
 use Rattle.std.specs.declared.io.Error.{Error as IoError}
 use Rattle.std.proofs.lemmas.Int.{to_z-of_z}
 use Rattle.sled_codec.specs.Pointers.{lid_of}
-use Rattle.sled_store.specs.Device.{State, Trace, state_of}
+use Rattle.sled_store.specs.Device.{State, state_of}
 use Rattle.sled_core.specs.Reading.{IsUnreadable, GivesMessage}
 use Rattle.sled_core.specs.Fits.{Holds, HoldsIn, segment_size_of, log_parts}
 use Rattle.sled_core.specs.declared.logger.read_message.LogRead.{LogRead}
