@@ -1,3 +1,4 @@
+pub mod BufferStands
 pub mod Higher
 pub mod LeftBeside
 pub mod OneWrite
