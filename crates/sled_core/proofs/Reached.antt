@@ -1,3 +1,4 @@
+pub mod BufferPath
 pub mod BufferStands
 pub mod Higher
 pub mod LeftBeside
