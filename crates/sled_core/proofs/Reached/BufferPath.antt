@@ -1,5 +1,5 @@
 -- A buffer in whose reservations all was completed is a path of records of the history, and nothing comes behind it; where it begins a segment, the header is there, with a mark that no batch crosses.
-use Rattle.std.proofs.Common.{◌≡◌, ◌≢◌, ◌⊎◌, ◌≤◌, ◌<◌, ◌≤ℤ◌, ◌<ℤ◌, ◌+◌, ◌-◌, ◌/◌, ◌%◌, ◌^◌, ◌∙◌, ◌-ℤ◌, ℕ, ℤ, zero, suc, pos, max, Bool, true, false, nat_lt, if◌then◌else◌, List, map, length, take, drop, get_or, sym, ap, arith, lt→ltb, le→leb, refl, subst, length-drop, inl, inr, FitsSigned}
+use Rattle.std.proofs.Common.{◌≡◌, ◌≢◌, ◌⊎◌, ◌≤◌, ◌<◌, ◌≤ℤ◌, ◌<ℤ◌, ◌+◌, ◌/◌, ◌%◌, ◌^◌, ◌∙◌, ◌-ℤ◌, ℕ, ℤ, zero, suc, pos, max, Bool, true, false, nat_lt, if◌then◌else◌, List, map, length, take, drop, get_or, sym, ap, arith, lt→ltb, le→leb, refl, subst, length-drop, inl, inr, FitsSigned}
 use Rattle.std.proofs.Math.IntN.{ -ℤ_one}
 use Rattle.std.specs.List.{All, Contains}
 use Rattle.std.specs.Int.{w64}

@@ -5,7 +5,6 @@ use Rattle.std.proofs.lemmas.List.{drop-drop}
 use Rattle.std.proofs.lemmas.List.Elements.{All-tail}
 use Rattle.std.proofs.Math.Nat.{div-le_self}
 use Rattle.sled_codec.specs.declared.result.DiskPtr.TheVariants.{Inline}
-use Rattle.sled_codec.specs.declared.serialization.message.MessageHeader.{MessageHeader}
 use Rattle.sled_codec.specs.Sums.{flipped}
 use Rattle.sled_codec.specs.Places.{part}
 use Rattle.sled_codec.specs.Record.{short_record}
@@ -14,7 +13,7 @@ use Rattle.sled_codec.proofs.Records.{short_is_record}
 use Rattle.sled_store.specs.Device.{overwritten}
 use Rattle.sled_core.specs.declared.iobuf.Reserved.{Reserved}
 use Rattle.sled_core.specs.declared.iobuf.SegmentPosition.{SegmentPosition}
-use Rattle.sled_core.specs.Buffers.{text_in, body_in, message_in, placeholder, IsChain, completed_in, none_open, Stands}
+use Rattle.sled_core.specs.Buffers.{body_in, message_in, placeholder, IsChain, completed_in, none_open, Stands}
 use Rattle.sled_core.specs.LogFile.{MessageStands, StandIn}
 use Rattle.sled_core.proofs.Reserve.Ranges.{chain_grows}
 use Rattle.sled_core.proofs.Read.ScanLemmas.{aligned_offset}
