@@ -1,5 +1,6 @@
 pub mod BufferPath
 pub mod BufferStands
+pub mod BufferWritten
 pub mod Higher
 pub mod LeftBeside
 pub mod OneWrite
