@@ -6,6 +6,7 @@ use Rattle.std.specs.Int.{w64}
 use Rattle.std.proofs.lemmas.Bool.{cases_lt}
 use Rattle.std.proofs.lemmas.Bool.Decides.{nat_tests}
 use Rattle.std.proofs.lemmas.List.Elements.{All-map, All-contains}
+use Rattle.sled_codec.specs.Coords.{raised}
 use Rattle.sled_codec.specs.Record.{IsHeader, short_header}
 use Rattle.sled_codec.specs.History.{Message, Batch, History}
 use Rattle.sled_store.specs.Device.{overwritten}
@@ -16,7 +17,7 @@ use Rattle.sled_core.specs.declared.iterator.scan.ScannedRecord.{ScannedRecord}
 use Rattle.sled_core.specs.declared.iterator.scan.ScanEnd.TheVariants.{Full, Capped, Broken}
 use Rattle.sled_core.specs.Buffers.{IsChain, completed_in, none_open, Stands}
 use Rattle.sled_core.specs.LogFile.{StandIn}
-use Rattle.sled_core.specs.Recoverable.{NoMessageBegins, NoBatchBegins, StandsInline, IsOfHistory, IsMarkOf, IsMarkBelow}
+use Rattle.sled_core.specs.Recoverable.{NoMessageBegins, NoBatchBegins, NoBatchEnds, StandsInline, IsOfHistory, IsMarkOf, IsMarkBelow}
 use Rattle.sled_core.specs.Scan.{IsPath, IsEnd, EndsThere}
 use Rattle.sled_core.proofs.Flush.LogFileLemmas.{stand_above, stand_below, stand_apart, behind_write}
 use Rattle.sled_core.proofs.Read.GivesLemmas.{StandsWhole, own_stands}
@@ -59,8 +60,8 @@ module _ (sum : List ℕ → ℕ) (size : ℕ) (site : SegmentPosition) (old byt
   buffer_end clean = by_test (nat_lt size (length bytes + 32)) refl where
     empty : length bytes + 32 ≤ size → IsEmpty sum size new (site.slot + length bytes) (site.place / size)
     empty more = zeros_empty sum size new (site.slot + length bytes) (site.place / size) (
-      behind_write sum size old (site.slot + from) (drop from bytes) (site.slot + length bytes + 4) (omega (arith, length-drop from bytes, behind)) (omega (arith, length-drop from bytes, behind))
-      ∙ clean (site.slot + length bytes + 4) (omega (arith, behind)) (omega (arith, more)))
+        behind_write sum size old (site.slot + from) (drop from bytes) (site.slot + length bytes + 4) (omega (arith, length-drop from bytes, behind)) (omega (arith, length-drop from bytes, behind))
+        ∙ clean (site.slot + length bytes + 4) (omega (arith, behind)) (omega (arith, more)))
 
     by_test : (b : Bool) → nat_lt size (length bytes + 32) ≡ b → IsEnd sum size new site.slot site.place (length bytes) (if b then Full else Broken)
     by_test true is = grind (arith, nat_tests, is)
@@ -144,6 +145,27 @@ buffer_mark H slot place ended = record {
   apart = λ b there. elim (cases_lt b.low place) [ inl lower ↦ inr (mark_higher place b.peg (ended b there lower)) | inr higher ↦ inl (mark_lower place b.low (omega (arith, higher))) ];
 }
 
--- And lies below the segment.
-pub buffer_mark_below : (size : ℕ) (H : History) (reach place : ℕ) → reach ≡ place → IsMarkBelow size H reach (pos place -ℤ pos 1)
-buffer_mark_below size H reach place at = inl (mark_lower place reach (omega (arith, at)))
+-- A segment begins behind what was reached, and no further than the next one can. Nothing of the history begins between the two, and no batch ends.
+pub record BeginsBehind (size : ℕ) (H : History) (reach place : ℕ) : Type 0 where
+  pub above : reach ≤ place
+  pub next : place ≤ raised size reach
+  pub no_message : NoMessageBegins H reach place
+  pub no_batch : NoBatchBegins H reach place
+  pub no_end : NoBatchEnds H reach place
+
+-- Where no batch is open at what was reached, none is at the segment.
+pub ended_there : (size : ℕ) (H : History) (reach place : ℕ) → (reach ≡ place) ⊎ BeginsBehind size H reach place → ((b : Batch) → Contains H.batches b → b.low < reach → b.peg < reach)
+    → (b : Batch) → Contains H.batches b → b.low < place → b.peg < place
+ended_there size H reach place (inl at) ended b there lower = let peg = ended b there (omega (arith, at, lower)) in omega (arith, at, peg)
+ended_there size H reach place (inr g) ended b there lower =
+    let above = g.above in
+    elim (g.no_batch b there) [ inl low ↦ (let peg = ended b there low in omega (arith, peg, above)) | inr high ↦ absurd (omega (arith, high, lower)) ]
+
+-- And its mark lies below what was reached, or just behind it.
+pub buffer_mark_below : (size : ℕ) (H : History) (reach place : ℕ) → (reach ≡ place) ⊎ BeginsBehind size H reach place → IsMarkBelow size H reach (pos place -ℤ pos 1)
+buffer_mark_below size H reach place (inl at) = inl (mark_lower place reach (omega (arith, at)))
+buffer_mark_below size H reach zero (inr g) = inl (mark_lower 0 reach (omega arith))
+buffer_mark_below size H reach (suc m) (inr g) =
+    let next = g.next in
+    let one : suc m ≡ m + 1 = omega arith in
+    inr (m, sym (mark_is m), omega (arith, next), subst (NoMessageBegins H reach) one g.no_message, subst (NoBatchBegins H reach) one g.no_batch, subst (NoBatchEnds H reach) one g.no_end)

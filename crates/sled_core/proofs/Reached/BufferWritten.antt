@@ -1,5 +1,5 @@
 -- One write of a buffer: what a crash leaves of it stands up to the same place, and all of it up to the end of the buffer.
-use Rattle.std.proofs.Common.{◌≡◌, ◌≢◌, ◌⊎◌, ◌≤◌, ◌<◌, ◌+◌, ◌*◌, ◌/◌, ◌%◌, ◌^◌, ◌-ℤ◌, ℕ, pos, max, true, List, length, take, drop, get_or, subst, arith, length-drop, inl, inr}
+use Rattle.std.proofs.Common.{◌≡◌, ◌≢◌, ◌⊎◌, ◌≤◌, ◌<◌, ◌+◌, ◌*◌, ◌/◌, ◌%◌, ◌^◌, ◌-ℤ◌, ℕ, pos, max, true, List, length, take, drop, get_or, arith, length-drop, inl, inr}
 use Rattle.std.proofs.Math.Nat.{mul-mod_left}
 use Rattle.std.specs.List.{All, Contains}
 use Rattle.sled_codec.specs.Record.{short_header}
@@ -17,16 +17,16 @@ use Rattle.sled_core.specs.Tail.{Scanned, least_place}
 use Rattle.sled_core.proofs.Torn.TornLemmas.{after_write}
 use Rattle.sled_core.proofs.Read.PathLemmas.{met_of}
 use Rattle.sled_core.proofs.Read.StandLemmas.{ending_at}
-use Rattle.sled_core.proofs.Reached.BufferPath.{HasOnly, never_capped, buffer_path, buffer_end, buffer_truth, buffer_header, buffer_mark, buffer_mark_below}
+use Rattle.sled_core.proofs.Reached.BufferPath.{HasOnly, BeginsBehind, never_capped, ended_there, buffer_path, buffer_end, buffer_truth, buffer_header, buffer_mark, buffer_mark_below}
 use Rattle.sled_core.proofs.Reached.Higher.{IsBegunOrLedTo}
 use Rattle.sled_core.proofs.Reached.OneWrite.{GoesOnIn, BeginsSegment, torn_stands, written_stands}
 use Rattle.sled_core.proofs.Reached.StandsTo.{StandsTo}
 
--- The buffer begins a segment at the end of what stands, with its header. None that is found has its place.
-pub record BeginsBuffer (sum : List ℕ → ℕ) (ordering : List Segment) (reach from : ℕ) (bytes : List ℕ) (place : ℕ) : Type 0 where
+-- The buffer begins a segment where what was reached ends or just behind it, with its header. None that is found has its place.
+pub record BeginsBuffer (sum : List ℕ → ℕ) (size : ℕ) (H : History) (ordering : List Segment) (reach from : ℕ) (bytes : List ℕ) (place : ℕ) : Type 0 where
   pub begins : from ≡ 0
   pub header : take 20 bytes ≡ short_header sum (pos place) (pos place -ℤ pos 1)
-  pub reached : reach ≡ place
+  pub reached : (reach ≡ place) ⊎ BeginsBehind size H reach place
   pub alone : (s : Segment) → Contains ordering s → s.place ≢ place
 
 module _ (sum : List ℕ → ℕ) (none : NoHeaderOfZeros sum) (size : ℕ) (some : 256 ≤ size) (old : List ℕ) (slot place from : ℕ) (bytes : List ℕ) (rs : List Reserved)
@@ -35,7 +35,7 @@ module _ (sum : List ℕ → ℕ) (none : NoHeaderOfZeros sum) (size : ℕ) (som
     (chain : IsChain (max 20 from) rs (length bytes)) (stand : All (Stands sum (place / size) bytes) rs) (room : All (λ r. r.from + 32 ≤ size) rs) (closed : none_open rs ≡ true)
     (H : History) (has : HasOnly H (completed_in (record { place = place; slot = slot * size }) bytes rs) (place + max 20 from) (place + length bytes))
     (A : ℕ) (first : SnapshotModel) (reach : ℕ) (is : StandsTo sum size old H A first reach)
-    (how : GoesOnIn is.scanned (slot * size) from place ⊎ BeginsBuffer sum is.ordering reach from bytes place) where
+    (how : GoesOnIn is.scanned (slot * size) from place ⊎ BeginsBuffer sum size H is.ordering reach from bytes place) where
   abbrev site : SegmentPosition
   site = record { place = place; slot = slot * size }
 
@@ -55,7 +55,7 @@ module _ (sum : List ℕ → ℕ) (none : NoHeaderOfZeros sum) (size : ℕ) (som
       header = buffer_header sum bytes from place b.begins (omega (arith, place_small)) b.header;
       whole = place_begins;
       fits = place_small;
-      its_mark = buffer_mark H (slot * size) place (subst (λ n. (c : Batch) → Contains H.batches c → c.low < n → c.peg < n) b.reached is.closed);
+      its_mark = buffer_mark H (slot * size) place (ended_there size H reach place b.reached is.closed);
       mark_below = buffer_mark_below size H reach place b.reached;
       alone = b.alone;
     })
