@@ -13,9 +13,8 @@ use Rattle.sled_core.specs.declared.iobuf.SegmentPosition.{SegmentPosition}
 use Rattle.sled_core.specs.declared.iterator.Segment.{Segment}
 use Rattle.sled_core.specs.Buffers.{IsChain, completed_in, none_open, Stands}
 use Rattle.sled_core.specs.Recoverable.{NoHeaderOfZeros, NoMessageBegins}
-use Rattle.sled_core.specs.Tail.{Scanned, least_place}
+use Rattle.sled_core.specs.Tail.{least_place}
 use Rattle.sled_core.proofs.Torn.TornLemmas.{after_write}
-use Rattle.sled_core.proofs.Read.PathLemmas.{met_of}
 use Rattle.sled_core.proofs.Read.StandLemmas.{ending_at}
 use Rattle.sled_core.proofs.Reached.BufferPath.{HasOnly, BeginsBehind, never_capped, ended_there, buffer_path, buffer_end, buffer_truth, buffer_header, buffer_mark, buffer_mark_below}
 use Rattle.sled_core.proofs.Reached.Higher.{IsBegunOrLedTo}
