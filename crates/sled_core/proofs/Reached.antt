@@ -1,3 +1,6 @@
+pub mod BufferPath
+pub mod BufferStands
+pub mod BufferWritten
 pub mod Higher
 pub mod KeptStands
 pub mod LeftBeside
