@@ -30,7 +30,7 @@ use Rattle.sled_core.proofs.Torn.CutSlots.{below_same}
 use Rattle.sled_core.proofs.Torn.FilledAlong.{filled_along, unused_begin, used_apart}
 use Rattle.sled_core.proofs.Torn.FilledBehind.{filled_same}
 use Rattle.sled_core.proofs.Torn.FilledSlots.{others_same}
-use Rattle.sled_core.proofs.Torn.KeptSlots.{KeepsIfOwn, starting_along}
+use Rattle.sled_core.proofs.Torn.KeptSlots.{KeepsIfOwn, starting_along, along_both}
 use Rattle.sled_core.proofs.Torn.StartedSlots.{UsedIn, used_left}
 use Rattle.sled_core.proofs.Reached.KeptStands.{SameInUsed, kept_stands}
 use Rattle.sled_core.proofs.Reached.StandsTo.{StandsTo}
@@ -43,11 +43,6 @@ StandsIfOwn sum size H A first reach past left = NoForeignLog sum size past.log 
 both_along : (P Q R : State → Type 0) → ((x : State) → P x → Q x → R x) → (es : List Event) (s : State) → Along P es s → Along Q es s → Along R es s
 both_along P Q R each [] s p q = each s p q
 both_along P Q R each (e ∷ es) s p q = (each s p.0 q.0, (λ torn tears. each (step torn s) (p.1 torn tears) (q.1 torn tears)), both_along P Q R each es (step e s) p.2 q.2)
-
--- what holds along some calls, and along those behind them
-then_along : (P : State → Type 0) (es fs : List Event) (t : Trace) → Along P es (state_of t) → Along P fs (state_of (after_all es t)) → Along P (es ++ fs) (state_of t)
-then_along P [] fs t first then = then
-then_along P (e ∷ es) fs t first then = (first.0, first.1, then_along P es fs (e ∷ t) first.2 then)
 
 -- The bytes of a slot.
 module _ (size : ℕ) where
@@ -94,7 +89,7 @@ module _ (sum : List ℕ → ℕ) (size : ℕ) (Used : ℕ → Type 0) (long : 2
       → (t : Trace) → (state_of t).log ≡ at_rest log → Along HasBytes (filling size ks ++ cutting size n slots) (state_of t)
   starting_has ks slots n begin short apart below t is =
       let same : SameInUsed size Used log (filled size log ks) = (λ j used. filled_same sum size log ks long begin j (apart j used)) in
-      then_along HasBytes (filling size ks) (cutting size n slots) t
+      along_both HasBytes (filling size ks) (cutting size n slots) t
       (filled_along HasBytes size log ks (state_of t) is (λ x filling blobs snapshots left leaves j used. others_same sum size log ks x.log filling left.log leaves.log j (apart j used))
       (λ x behind blobs snapshots. rest_has (filled size log ks) same x behind))
       (cutting_has slots n (filled size log ks) same short below (state_of (after_all (filling size ks) t)) (filling-log size ks t log is))

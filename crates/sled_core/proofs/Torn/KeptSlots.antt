@@ -130,7 +130,7 @@ abbrev pub KeepsIfOwn : (List ℕ → ℕ) → ℕ → (ℕ → Type 0) → List
 KeepsIfOwn sum size Used old past left = NoForeignLog sum size past.log past.placed left.log → KeepsSlots sum size Used old left.log
 
 -- what holds along some calls, and along those behind them
-along_both : (P : State → Type 0) (es fs : List Event) (t : Trace) → Along P es (state_of t) → Along P fs (state_of (after_all es t)) → Along P (es ++ fs) (state_of t)
+pub along_both : (P : State → Type 0) (es fs : List Event) (t : Trace) → Along P es (state_of t) → Along P fs (state_of (after_all es t)) → Along P (es ++ fs) (state_of t)
 along_both P [] fs t first then = then
 along_both P (e ∷ es) fs t first then = (first.0, first.1, along_both P es fs (e ∷ t) first.2 then)
 
