@@ -19,19 +19,11 @@ use Rattle.sled_store.proofs.Histories.Ascending.{Ascends}
 use Rattle.sled_core.proofs.Tail.OneTail.{segment_there}
 use Rattle.sled_core.proofs.Reached.Higher.{IsBegunOrLedTo}
 use Rattle.sled_core.proofs.Reached.StandsTo.{StandsTo}
+pub use Rattle.sled_core.specs.Reached.{GoesOnIn}
 use Rattle.sled_core.proofs.Reached.TornBegun.{torn_begun}
 use Rattle.sled_core.proofs.Reached.TornBehind.{torn_behind}
 use Rattle.sled_core.proofs.Reached.WholeBegun.{written_begun}
 use Rattle.sled_core.proofs.Reached.WholeBehind.{written_behind}
-
--- The write goes on in a segment that is found, where the reading of it ends.
-pub record GoesOnIn (scanned : List Scanned) (slot from place : ℕ) : Type 0 where
-  pub scan : Scanned
-  pub there : Contains scanned scan
-  pub in_slot : scan.segment.slot ≡ slot
-  pub at_place : scan.segment.place ≡ place
-  pub ended : scan.stop ≡ from
-  pub broken : scan.why ≡ Broken
 
 -- The write begins a segment. None that is found has its place.
 pub record BeginsSegment (sum : List ℕ → ℕ) (size : ℕ) (H : History) (ordering : List Segment) (reach slot from : ℕ) (asked : List ℕ) (place : ℕ) : Type 0 where

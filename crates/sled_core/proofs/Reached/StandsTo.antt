@@ -17,27 +17,7 @@ use Rattle.sled_core.proofs.Tail.GreatestMark.{greatest_is, mark_below}
 use Rattle.sled_core.proofs.Tail.Multiples.{put_down, one_multiple, next_multiple, lower_multiple}
 use Rattle.sled_core.proofs.Tail.Tails.{known, one_reading, tail_some, tail_there}
 use Rattle.sled_core.proofs.Tail.SegmentsFrom.{greatest_above, tail_low}
-
--- The segments that are found from that of the snapshot on are of the history, and up to a place that the log has reached they are read without a gap. What is found beyond is of the history too, however much of it there is.
-pub record StandsTo (sum : List ℕ → ℕ) (size : ℕ) (log : List ℕ) (H : History) (A : ℕ) (first : SnapshotModel) (reach : ℕ) : Type 0 where
-  pub ordering : List Segment
-  pub numbers : IsOrdering sum size log (least_place size first) ordering
-  pub scanned : List Scanned
-  pub reads : AreScanned sum size log ordering scanned
-  pub marks : (s : Segment) → Contains ordering s → IsMarkOf H s
-  pub truth : (s : Scanned) (x : ScannedRecord) → Contains scanned s → Contains s.met x → IsOfHistory sum size log H x
-  pub caps : (s : Scanned) → Contains scanned s → s.why ≡ Capped → NoMessageBegins H (s.segment.place + s.stop) (s.segment.place + size) × NoBatchBegins H (s.segment.place + s.stop) (s.segment.place + size)
-  pub not_below : stable_place first.stable ≤ reach
-  pub passes : A ≤ reach
-  pub marks_below : (s : Segment) → Contains ordering s → IsMarkBelow size H reach s.mark
-  pub placed : (m : Message) → Contains H.messages m → LiesInSegment size m
-  pub batched : (b : Batch) → Contains H.batches b → IsPlacedBatch size H b
-  -- no batch is open there
-  pub closed : (b : Batch) → Contains H.batches b → b.low < reach → b.peg < reach
-  -- each segment that begins below it is there, and is read up to it or leads to the next one
-  pub gapless : (z : ℕ) → z % size ≡ 0 → least_place size first ≤ z → z < reach
-      → (t : Scanned) × Contains scanned t × (t.segment.place ≡ z) × ((reach ≤ z + t.stop) ⊎ ((t.why ≢ Broken) × (u : Segment) × Contains ordering u × (u.place ≡ z + size)))
-  pub needed : (page : ℕ) (m : Message) → Contains (table H reach page) m → IsSegmentOf sum size log H reach m × StandsInline sum size log m m.pointer
+pub use Rattle.sled_core.specs.Reached.{StandsTo}
 
 module _ (sum : List ℕ → ℕ) (size : ℕ) (log : List ℕ) (some : 256 ≤ size) (H : History) (A : ℕ) (first : SnapshotModel) (reach : ℕ) (is : StandsTo sum size log H A first reach) where
   abbrev pub least : ℕ

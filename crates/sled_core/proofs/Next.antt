@@ -1,0 +1,3 @@
+pub mod Flush
+pub mod Holds
+pub mod Start

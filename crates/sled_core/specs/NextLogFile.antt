@@ -1,0 +1,41 @@
+-- What stands in a log file of the messages that were written: those of the segment that is being filled, and those of earlier ones that are still needed.
+use Rattle.std.specs.Prelude.{◌≡◌, ◌⊎◌, ◌+◌, ◌-◌, ◌/◌, ◌≤◌, ◌<◌, ℕ, ℤ, pos, replicate, length, List, ◌++◌, get_or, Contains}
+use Rattle.sled_codec.specs.declared.result.DiskPtr.TheVariants.{Inline}
+use Rattle.sled_codec.specs.Places.{MayBegin, part}
+use Rattle.sled_codec.specs.Record.{IsHeader}
+use Rattle.sled_codec.specs.History.{Message}
+use Rattle.sled_core.specs.declared.iobuf.SegmentPosition.{SegmentPosition}
+use Rattle.sled_core.specs.LogFile.{MessageStands}
+
+-- The record of a message stands in the current segment, below an offset, where its pointer says.
+pub record StandsHere (sum : List ℕ → ℕ) (size : ℕ) (log : List ℕ) (site : SegmentPosition) (from lid : ℕ) (m : Message) : Type 0 where
+  pub at : ℕ
+  pub place : m.place ≡ site.place + at
+  pub offset : lid ≡ site.slot + at
+  pub begins : MayBegin size lid
+  pub stands : MessageStands sum size log lid (m.place / size) m
+  pub inside : at + m.size ≤ from
+
+-- The record of a message of an earlier segment stands where its pointer says, in a slot that isn't the one of this segment.
+pub record StandsElsewhere (sum : List ℕ → ℕ) (size : ℕ) (log : List ℕ) (site : SegmentPosition) (lid : ℕ) (m : Message) : Type 0 where
+  pub begins : MayBegin size lid
+  pub stands : MessageStands sum size log lid (m.place / size) m
+  pub apart : (lid + m.size ≤ site.slot) ⊎ (site.slot + size ≤ lid)
+
+-- the header of a segment stands at the beginning of its slot, with a mark below it
+pub record HasHeader (sum : List ℕ → ℕ) (log : List ℕ) (site : SegmentPosition) : Type 0 where
+  pub mark : ℤ
+  pub header : IsHeader sum (part log site.slot 20) (pos site.place) mark
+  pub below : (n : ℕ) → mark ≡ pos n → n < site.place
+
+-- What stands in the log file: behind the header of the current segment, up to an offset, those of its messages that have no blob, with nothing but zeros behind that; in other slots the entries of earlier segments that have none.
+pub record IsLogFile (sum : List ℕ → ℕ) (size : ℕ) (log : List ℕ) (site : SegmentPosition) (from : ℕ) (messages : List Message) (entries : ℕ → List Message) : Type 0 where
+  pub own : (m : Message) → Contains messages m → site.place ≤ m.place → (lid : ℕ) → m.pointer ≡ Inline lid → StandsHere sum size log site from lid m
+  pub elsewhere : (page : ℕ) (m : Message) → Contains (entries page) m → m.place < site.place → (lid : ℕ) → m.pointer ≡ Inline lid → StandsElsewhere sum size log site lid m
+  pub begun : 0 < from → 20 ≤ from
+  pub header : 0 < from → HasHeader sum log site
+  pub clean : (i : ℕ) → site.slot + from ≤ i → i < site.slot + size → get_or log i 0 ≡ 0
+
+-- a log file with zeros behind its end, up to an offset
+abbrev pub padded : ℕ → List ℕ → List ℕ
+padded to log = log ++ replicate (to - length log) 0

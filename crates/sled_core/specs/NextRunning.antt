@@ -1,0 +1,59 @@
+-- The invariant of a running log, and what a recovery leaves for it: over a history, the end of what was acknowledged, the floor, and the completed messages that were not marked yet.
+use Rattle.std.specs.Prelude.{◌≡◌, ◌≢◌, ◌≤◌, ◌<◌, ◌+◌, ℕ, ℤ, List, [], Option, Some, None}
+use Rattle.sled_codec.specs.declared.serialization.message.MessageKind.{MessageKind}
+use Rattle.sled_codec.specs.History.{Message, History}
+use Rattle.sled_codec.specs.Snapshots.{SnapshotModel, stable_place}
+use Rattle.sled_store.specs.Blobs.{IsBlob}
+use Rattle.sled_store.specs.Device.{Trace, NamesState, State, LeavesName}
+use Rattle.sled_store.specs.Foreign.{NoForeignNames}
+use Rattle.sled_store.specs.SnapshotFiles.{IsSnapshotFile}
+use Rattle.sled_core.specs.declared.logger.Log.{Log}
+use Rattle.sled_core.specs.Fits.{LogParts, parts_of}
+use Rattle.sled_core.specs.Recoverable.{ActiveFits, AreRecoverableSnapshots, AreRecoverableBlobs, NoHeaderOfZeros}
+use Rattle.sled_core.specs.Reached.{StandsAlone, StandsActive}
+use Rattle.sled_core.specs.NextFits.{HoldsIn}
+use Rattle.sled_core.specs.NextLogFile.{padded}
+use Rattle.sled_core.specs.NextReady.{IsReady}
+use Rattle.sled_core.specs.NextRecoverable.{LeavesRecoverable}
+
+-- whatever snapshots a crash leaves of which only those pass that the log wrote, recovery begins from this one
+abbrev pub NamesFit : (List ℕ → ℕ) → ℕ → NamesState → History → ℕ → SnapshotModel → Type 0
+NamesFit sum size names H f first =
+    (left : ℤ → Option (List ℕ)) → ((n : ℤ) → LeavesName names n (left n)) → NoForeignNames (λ bytes. (s : SnapshotModel) × IsSnapshotFile sum bytes s) names left → AreRecoverableSnapshots sum size left H f first
+
+-- whatever blobs a crash leaves of which only those pass that the log wrote, each is there that the table below a place needs
+abbrev pub BlobsFit : (List ℕ → ℕ) → NamesState → History → ℕ → Type 0
+BlobsFit sum blobs H reach =
+    (left : ℤ → Option (List ℕ)) → ((n : ℤ) → LeavesName blobs n (left n)) → NoForeignNames (λ bytes. (k : MessageKind) × (item : List ℕ) × IsBlob sum bytes k item) blobs left → AreRecoverableBlobs sum left H reach
+
+-- What a log of these bytes and reservations over a device has to do with a history, the end of what was acknowledged, the floor and the messages that were not marked yet.
+pub record FitsIn (sum : List ℕ → ℕ) (parts : LogParts) (pins : ℕ) (H : History) (A f : ℕ) (U : List Message) : Type 0 where
+  pub holds : HoldsIn sum parts H
+  pub alone : parts.fault ≡ None → NoHeaderOfZeros sum → StandsAlone sum parts.size parts.device.log.bytes parts.site parts.written_len H holds.begun.first
+  -- and so does the file as the first write of a segment makes it, where that fills a gap
+  pub beyond : parts.fault ≡ None → NoHeaderOfZeros sum → StandsAlone sum parts.size (padded parts.site.slot parts.device.log.bytes) parts.site parts.written_len H holds.begun.first
+  pub blobs : BlobsFit sum parts.device.blobs H (parts.site.place + parts.written_len)
+  pub names : NamesFit sum parts.size parts.device.snapshots H f holds.begun.first
+  -- all that was acknowledged is written
+  pub passes : A ≤ parts.site.place + parts.written_len
+  -- a pin is out while a completed message is not marked
+  pub pinned : U ≢ [] → 0 < pins
+  -- what a crash leaves now can be recovered, with all that is written counted as acknowledged
+  pub left : LeavesRecoverable sum parts.size H (parts.site.place + parts.written_len) f parts.device
+
+-- The log fits this history, the end of what was acknowledged, the floor and the messages that were not marked yet.
+unfoldable pub Fits : {D C : Type 0} → (D → Trace) → (List ℕ → ℕ) → Log D C → History → ℕ → ℕ → List Message → Type 0
+Fits trace sum log H A f U = FitsIn sum (parts_of trace log) log.pins H A f U
+
+-- Snapshot and device are ready for a log that fits this history, the end of what was acknowledged and the floor.
+pub record IsReadyFor (sum : List ℕ → ℕ) (size : ℕ) (device : State) (s : SnapshotModel) (H : History) (A f : ℕ) : Type 0 where
+  pub ready : IsReady sum size device s H
+  pub alone : StandsActive sum size device.log.bytes s H
+  pub active : ActiveFits size (stable_place s.stable) s.active
+  pub blobs : BlobsFit sum device.blobs H (stable_place s.stable)
+  pub names : NamesFit sum size device.snapshots H f ready.first
+  pub passes : A ≤ stable_place s.stable
+  pub left : LeavesRecoverable sum size H A f device
+
+unfoldable pub Ready : (List ℕ → ℕ) → ℕ → State → SnapshotModel → History → ℕ → ℕ → Type 0
+Ready sum size device s H A f = IsReadyFor sum size device s H A f

@@ -1,0 +1,53 @@
+-- What a reader finds of a settled log file, up to a place that the log has reached.
+use Rattle.std.specs.Prelude.{◌≡◌, ◌≢◌, ◌⊎◌, ◌+◌, ◌*◌, ◌/◌, ◌%◌, ◌≤◌, ◌<◌, ℕ, List, Option, Some, Contains}
+use Rattle.sled_codec.specs.History.{Message, Batch, History, table}
+use Rattle.sled_codec.specs.Snapshots.{SnapshotModel, stable_place}
+use Rattle.sled_core.specs.declared.iobuf.SegmentPosition.{SegmentPosition}
+use Rattle.sled_core.specs.declared.iterator.Segment.{Segment}
+use Rattle.sled_core.specs.declared.iterator.scan.ScannedRecord.{ScannedRecord}
+use Rattle.sled_core.specs.declared.iterator.scan.ScanEnd.TheVariants.{Capped, Broken}
+use Rattle.sled_core.specs.Scan.{IsFoundSegment}
+use Rattle.sled_core.specs.Tail.{IsOrdering, Scanned, AreScanned, least_place}
+use Rattle.sled_core.specs.Recoverable.{NoMessageBegins, NoBatchBegins, StandsInline, IsOfHistory, IsSegmentOf, IsMarkOf, IsMarkBelow, LiesInSegment, IsPlacedBatch}
+
+-- The segments that are found from that of the snapshot on are of the history, and up to a place that the log has reached they are read without a gap. What is found beyond is of the history too, however much of it there is.
+pub record StandsTo (sum : List ℕ → ℕ) (size : ℕ) (log : List ℕ) (H : History) (A : ℕ) (first : SnapshotModel) (reach : ℕ) : Type 0 where
+  pub ordering : List Segment
+  pub numbers : IsOrdering sum size log (least_place size first) ordering
+  pub scanned : List Scanned
+  pub reads : AreScanned sum size log ordering scanned
+  pub marks : (s : Segment) → Contains ordering s → IsMarkOf H s
+  pub truth : (s : Scanned) (x : ScannedRecord) → Contains scanned s → Contains s.met x → IsOfHistory sum size log H x
+  pub caps : (s : Scanned) → Contains scanned s → s.why ≡ Capped → NoMessageBegins H (s.segment.place + s.stop) (s.segment.place + size) × NoBatchBegins H (s.segment.place + s.stop) (s.segment.place + size)
+  pub not_below : stable_place first.stable ≤ reach
+  pub passes : A ≤ reach
+  pub marks_below : (s : Segment) → Contains ordering s → IsMarkBelow size H reach s.mark
+  pub placed : (m : Message) → Contains H.messages m → LiesInSegment size m
+  pub batched : (b : Batch) → Contains H.batches b → IsPlacedBatch size H b
+  -- no batch is open there
+  pub closed : (b : Batch) → Contains H.batches b → b.low < reach → b.peg < reach
+  -- each segment that begins below it is there, and is read up to it or leads to the next one
+  pub gapless : (z : ℕ) → z % size ≡ 0 → least_place size first ≤ z → z < reach
+      → (t : Scanned) × Contains scanned t × (t.segment.place ≡ z) × ((reach ≤ z + t.stop) ⊎ ((t.why ≢ Broken) × (u : Segment) × Contains ordering u × (u.place ≡ z + size)))
+  pub needed : (page : ℕ) (m : Message) → Contains (table H reach page) m → IsSegmentOf sum size log H reach m × StandsInline sum size log m m.pointer
+
+-- A segment that was read to an offset, in this slot and with this place, where reading ended for want of a record: a write goes on there.
+pub record GoesOnIn (scanned : List Scanned) (slot from place : ℕ) : Type 0 where
+  pub scan : Scanned
+  pub there : Contains scanned scan
+  pub in_slot : scan.segment.slot ≡ slot
+  pub at_place : scan.segment.place ≡ place
+  pub ended : scan.stop ≡ from
+  pub broken : scan.why ≡ Broken
+
+-- The current segment is all that a reader finds of the log file from the snapshot's segment on, and he reads it to its written end.
+pub record StandsAlone (sum : List ℕ → ℕ) (size : ℕ) (log : List ℕ) (site : SegmentPosition) (from : ℕ) (H : History) (first : SnapshotModel) : Type 0 where
+  pub stands : StandsTo sum size log H (site.place + from) first (site.place + from)
+  pub only : (s : Segment) → IsFoundSegment sum size log (least_place size first) s → s.slot ≡ site.slot
+  pub going : 0 < from → from + 32 ≤ size → GoesOnIn stands.scanned site.slot from site.place
+
+-- The same where a log goes on from a snapshot: the active segment is all that is found, up to the stable place; where none is active nothing is found.
+pub record StandsActive (sum : List ℕ → ℕ) (size : ℕ) (log : List ℕ) (s : SnapshotModel) (H : History) : Type 0 where
+  pub stands : StandsTo sum size log H (stable_place s.stable) s (stable_place s.stable)
+  pub only : (x : Segment) → IsFoundSegment sum size log (least_place size s) x → s.active ≡ Some x.slot
+  pub going : (slot : ℕ) → s.active ≡ Some slot → GoesOnIn stands.scanned slot (stable_place s.stable % size) (stable_place s.stable / size * size)
