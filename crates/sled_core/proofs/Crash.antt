@@ -1,5 +1,3 @@
-pub mod CrashLemmas
-pub mod MainLemmas
 pub mod OwnBehind
 pub mod OwnLemmas
 pub mod OwnRecords

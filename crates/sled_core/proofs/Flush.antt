@@ -1,3 +1,1 @@
-pub mod FlushFits
-pub mod FlushLemmas
 pub mod LogFileLemmas

@@ -1,9 +1,7 @@
-pub mod FirstBegun
-pub mod FirstSegment
 pub mod FoundLemmas
 pub mod GivesLemmas
 pub mod PathLemmas
 pub mod ReadingLemmas
 pub mod ScanLemmas
+pub mod StandIn
 pub mod StandLemmas
-pub mod UndamagedLemmas

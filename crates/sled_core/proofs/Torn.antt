@@ -7,10 +7,8 @@ pub mod FilledReads
 pub mod FilledSlots
 pub mod KeptSlots
 pub mod StartedSlots
-pub mod TornFlush
 pub mod TornLemmas
 pub mod TornRecords
-pub mod TornZeros
 pub mod WrittenBegun
 pub mod WrittenBehind
 pub mod WrittenBeside

@@ -5,11 +5,6 @@ pub mod Fits
 pub mod Good
 pub mod Keeps
 pub mod LogFile
-pub mod NextFits
-pub mod NextLogFile
-pub mod NextReady
-pub mod NextRecoverable
-pub mod NextRunning
 pub mod Own
 pub mod Reached
 pub mod Reading

@@ -1,16 +1,13 @@
--- What stands in a log file of the messages that were written: the segment that is being filled, and records in other slots.
-use Rattle.std.specs.Prelude.{◌≡◌, ◌⊎◌, ◌+◌, ◌/◌, ◌≤◌, ◌<◌, ◌-ℤ◌, ℕ, ℤ, pos, max, false, List, [], ◌∷◌, ◌++◌, Some, get_or}
-use Rattle.std.specs.List.{All}
+-- What stands in a log file of the messages that were written: those of the segment that is being filled, and those of earlier ones that are still needed.
+use Rattle.std.specs.Prelude.{◌≡◌, ◌⊎◌, ◌+◌, ◌-◌, ◌/◌, ◌≤◌, ◌<◌, ℕ, ℤ, pos, false, replicate, length, List, ◌++◌, Some, get_or, Contains}
 use Rattle.sled_codec.specs.declared.result.DiskPtr.TheVariants.{Inline}
 use Rattle.sled_codec.specs.declared.serialization.message.MessageHeader.{MessageHeader}
 use Rattle.sled_codec.specs.Kinds.{kind_written}
-use Rattle.sled_codec.specs.Places.{part}
+use Rattle.sled_codec.specs.Places.{MayBegin, part}
 use Rattle.sled_codec.specs.Record.{IsHeader, short_record}
 use Rattle.sled_codec.specs.History.{Message}
-use Rattle.sled_core.specs.declared.iterator.Segment.{Segment}
 use Rattle.sled_core.specs.declared.iobuf.SegmentPosition.{SegmentPosition}
 use Rattle.sled_core.specs.Reading.{StandsAt}
-use Rattle.sled_core.specs.Scan.{IsFoundSegment, IsMisplaced}
 
 -- the record of a message stands at an offset of the file, in a segment of this number
 pub record MessageStands (sum : List ℕ → ℕ) (size : ℕ) (log : List ℕ) (lid number : ℕ) (m : Message) : Type 0 where
@@ -21,39 +18,35 @@ pub record MessageStands (sum : List ℕ → ℕ) (size : ℕ) (log : List ℕ) 
   pub short : part log lid m.size ≡ short_record sum header.kind m.page number m.bytes
   pub page : header.pid ≡ m.page
 
--- The records of messages stand in a segment one behind another, from an offset in it up to another. Where one begins there is room for the longest header.
-abbrev pub StandIn : (List ℕ → ℕ) → ℕ → List ℕ → SegmentPosition → ℕ → List Message → ℕ → Type 0
-StandIn sum size log site at [] end = end ≡ at
-StandIn sum size log site at (m ∷ ms) end =
-    (at + 32 ≤ size) × (m.place ≡ site.place + at) × (m.pointer ≡ Inline (site.slot + at)) × MessageStands sum size log (site.slot + at) (site.place / size) m × StandIn sum size log site (at + m.size) ms end
+-- The record of a message stands in the current segment, below an offset, where its pointer says.
+pub record StandsHere (sum : List ℕ → ℕ) (size : ℕ) (log : List ℕ) (site : SegmentPosition) (from lid : ℕ) (m : Message) : Type 0 where
+  pub at : ℕ
+  pub place : m.place ≡ site.place + at
+  pub offset : lid ≡ site.slot + at
+  pub begins : MayBegin size lid
+  pub stands : MessageStands sum size log lid (m.place / size) m
+  pub inside : at + m.size ≤ from
 
--- no record stands at an offset
-abbrev pub IsEmpty : (List ℕ → ℕ) → ℕ → List ℕ → ℕ → ℕ → Type 0
-IsEmpty sum size log lid number = (h : MessageHeader) (body : List ℕ) (len : ℕ) → StandsAt sum size log lid number h body len → ⊥
-
--- The record of a message of an earlier segment stands at its pointer, in a slot that isn't the one of this segment.
-pub record StandsElsewhere (sum : List ℕ → ℕ) (size : ℕ) (log : List ℕ) (site : SegmentPosition) (m : Message) : Type 0 where
-  pub lid : ℕ
-  pub pointer : m.pointer ≡ Inline lid
+-- The record of a message of an earlier segment stands where its pointer says, in a slot that isn't the one of this segment.
+pub record StandsElsewhere (sum : List ℕ → ℕ) (size : ℕ) (log : List ℕ) (site : SegmentPosition) (lid : ℕ) (m : Message) : Type 0 where
+  pub begins : MayBegin size lid
   pub stands : MessageStands sum size log lid (m.place / size) m
   pub apart : (lid + m.size ≤ site.slot) ⊎ (site.slot + size ≤ lid)
-  pub below : m.place + m.size ≤ site.place
 
--- the header of a segment stands at the beginning of its slot, with the mark of the place before it
+-- the header of a segment stands at the beginning of its slot, with a mark below it
 pub record HasHeader (sum : List ℕ → ℕ) (log : List ℕ) (site : SegmentPosition) : Type 0 where
   pub mark : ℤ
   pub header : IsHeader sum (part log site.slot 20) (pos site.place) mark
   pub below : (n : ℕ) → mark ≡ pos n → n < site.place
-  pub before : mark ≡ pos site.place -ℤ pos 1
 
--- What stands in the log file of messages: those of the current segment one behind another, behind its header and up to an offset, with nothing but zeros behind that; the others in other slots. Where the segment isn't begun, no segment is found that a reader could take for it.
-pub record IsLogFile (sum : List ℕ → ℕ) (size : ℕ) (log : List ℕ) (site : SegmentPosition) (from : ℕ) (messages : List Message) : Type 0 where
-  pub older : List Message
-  pub own : List Message
-  pub parts : messages ≡ older ++ own
-  pub elsewhere : All (StandsElsewhere sum size log site) older
+-- What stands in the log file: behind the header of the current segment, up to an offset, those of its messages that have no blob, with nothing but zeros behind that; in other slots the entries of earlier segments that have none.
+pub record IsLogFile (sum : List ℕ → ℕ) (size : ℕ) (log : List ℕ) (site : SegmentPosition) (from : ℕ) (messages : List Message) (entries : ℕ → List Message) : Type 0 where
+  pub own : (m : Message) → Contains messages m → site.place ≤ m.place → (lid : ℕ) → m.pointer ≡ Inline lid → StandsHere sum size log site from lid m
+  pub elsewhere : (page : ℕ) (m : Message) → Contains (entries page) m → m.place < site.place → (lid : ℕ) → m.pointer ≡ Inline lid → StandsElsewhere sum size log site lid m
   pub begun : 0 < from → 20 ≤ from
   pub header : 0 < from → HasHeader sum log site
-  pub stand : StandIn sum size log site 20 own (max 20 from)
   pub clean : (i : ℕ) → site.slot + from ≤ i → i < site.slot + size → get_or log i 0 ≡ 0
-  pub alone : from ≡ 0 → (s : Segment) → IsFoundSegment sum size log site.place s → IsMisplaced size s
+
+-- a log file with zeros behind its end, up to an offset
+abbrev pub padded : ℕ → List ℕ → List ℕ
+padded to log = log ++ replicate (to - length log) 0

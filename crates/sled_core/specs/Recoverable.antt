@@ -17,7 +17,6 @@ use Rattle.sled_store.specs.Device.{Content, State}
 use Rattle.sled_store.specs.Foreign.{NoForeignLog, NoForeignNames}
 use Rattle.sled_store.specs.Moments.{AllLeft}
 use Rattle.sled_store.specs.SnapshotFiles.{IsSnapshotFile, BeginsFrom}
-use Rattle.sled_core.specs.declared.iobuf.SegmentPosition.{SegmentPosition}
 use Rattle.sled_core.specs.declared.iterator.scan.ScannedRecord.{ScannedRecord}
 use Rattle.sled_core.specs.declared.iterator.scan.RecordContent.{RecordContent}
 use Rattle.sled_core.specs.declared.iterator.scan.RecordContent.TheVariants.{Gives, NamesBlob, Skipped, BatchStart}
@@ -25,7 +24,7 @@ use Rattle.sled_core.specs.declared.iterator.scan.ScanEnd.TheVariants.{Capped}
 use Rattle.sled_core.specs.declared.iterator.Segment.{Segment}
 use Rattle.sled_core.specs.Scan.{IsFoundSegment, IsMet, IsPath}
 use Rattle.sled_core.specs.Tail.{IsOrdering, Scanned, AreScanned, IsTail, tail_begins, tail_end, open_at, stops_in, cut_of, least_place}
-use Rattle.sled_core.specs.LogFile.{MessageStands, StandIn, HasHeader, IsEmpty}
+use Rattle.sled_core.specs.LogFile.{MessageStands}
 use Rattle.sled_core.specs.Good.{HasOwnBlob}
 
 -- The premise on a checksum.
@@ -204,60 +203,15 @@ pub record AreRecoverableBlobs (sum : List ℕ → ℕ) (blobs : ℤ → Option 
   pub needed : (page : ℕ) (m : Message) → Contains (table H cut page) m → HasItem sum blobs m m.pointer
   pub named : (m : Message) → Contains H.messages m → PassesIfThere sum blobs m m.pointer
 
--- One segment.
-
--- where the first segment lies
-abbrev pub first_site : SegmentPosition
-first_site = record { place = 0; slot = 0 }
-
--- the cut where reading ends at an offset of the first segment: the end of the segment where no further record has room
-abbrev pub first_cut : ℕ → ℕ → ℕ
-first_cut size stop = if nat_lt size (stop + 32) then size else stop
-
--- no segment was begun, and nothing was acknowledged
-pub record IsUnbegun (sum : List ℕ → ℕ) (size : ℕ) (log : List ℕ) (A place : ℕ) : Type 0 where
-  pub none : (s : Segment) → IsFoundSegment sum size log 0 s → ⊥
-  pub nothing : A ≡ 0
-  pub at_first : place ≡ 0
-
--- The first segment stands with the messages up to an offset one behind another, and no record behind them. Those that are not there come later.
-pub record IsBegun (sum : List ℕ → ℕ) (size : ℕ) (log : List ℕ) (H : History) (A place : ℕ) : Type 0 where
-  pub own : List Message
-  pub beyond : List Message
-  pub stop : ℕ
-  pub messages : H.messages ≡ own ++ beyond
-  pub header : HasHeader sum log first_site
-  pub stand : StandIn sum size log first_site 20 own stop
-  pub empty : stop + 32 ≤ size → IsEmpty sum size log stop 0
-  pub inside : stop ≤ size
-  pub later : All (λ m. first_cut size stop ≤ m.place) beyond
-  pub not_below : place ≤ first_cut size stop
-  pub passes : A ≤ first_cut size stop
-
--- All of the log is in its first segment, with neither batches nor blobs.
-pub record IsInFirstSegment (sum : List ℕ → ℕ) (size : ℕ) (content : Content) (H : History) (A : ℕ) (first : SnapshotModel) : Type 0 where
-  pub batches : H.batches ≡ []
-  pub blobs : (n : ℤ) → content.blobs n ≡ None
-  pub short : length content.log ≤ size
-  pub slot : (slot : ℕ) → first.active ≡ Some slot → slot ≡ 0
-  pub log : IsUnbegun sum size content.log A (stable_place first.stable) ⊎ IsBegun sum size content.log H A (stable_place first.stable)
-
--- a content of which all of the log is in its first segment
-pub record IsRecoverableInFirst (sum : List ℕ → ℕ) (size : ℕ) (content : Content) (H : History) (A f : ℕ) : Type 0 where
-  pub first : SnapshotModel
-  pub snapshots : AreRecoverableSnapshots sum size content.snapshots H f first
-  pub segment : IsInFirstSegment sum size content H A first
-
 -- The whole.
 
--- A recovery can go on from this content, for this history, the end of what was acknowledged, and the floor. (The last part goes when there are several segments.)
+-- A recovery can go on from this content, for this history, the end of what was acknowledged, and the floor.
 pub record IsRecoverable (sum : List ℕ → ℕ) (size : ℕ) (content : Content) (H : History) (A f : ℕ) : Type 0 where
   pub first : SnapshotModel
   pub cut : ℕ × Option ℕ
   pub snapshots : AreRecoverableSnapshots sum size content.snapshots H f first
   pub log : IsRecoverableLog sum size content.log H A first cut
   pub blobs : AreRecoverableBlobs sum content.blobs H cut.0
-  pub one_segment : IsInFirstSegment sum size content H A first
 
 unfoldable pub Recoverable : (List ℕ → ℕ) → ℕ → Content → History → ℕ → ℕ → Type 0
 Recoverable sum size content H A f = IsRecoverable sum size content H A f

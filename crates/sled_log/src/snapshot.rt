@@ -11,10 +11,11 @@ ghost use Rattle.sled_store.specs.Blobs.{ItemAnswers};
 ghost use Rattle.sled_store.specs.Causes.{DeviceAnswers};
 ghost use Rattle.sled_core.specs.declared.iterator.Segment.{Segment};
 ghost use Rattle.sled_core.specs.Good.{IsGood};
-ghost use Rattle.sled_core.specs.Recoverable.{RecoverableIfOwn};
+ghost use Rattle.sled_core.specs.Recoverable.{LeavesRecoverable, Recoverable, RecoverableIfOwn};
+ghost use Rattle.sled_core.specs.Running.{Ready};
 ghost use Rattle.sled_core.specs.Keeps.{ConfigKept, OnlyReads};
 ghost use Rattle.sled_log.specs.Restores.{ComesOf, RecoveryCalls, Restores};
-ghost use Rattle.sled_log.specs.Orderly.{CanRead, CanReadOn, CanRecover, IsKeptInFirst, IsReadWell, LeavesReadable, ReadableIfOwn};
+ghost use Rattle.sled_log.specs.Orderly.{CanRecover, IsOrderly, IsReadWell};
 ghost use Rattle.sled_log.specs.Recovery.{least_place, IsOrdering, AreScanned, begun_below, Passes, Recovered, Damaged, ContinuesFrom, Recovers};
 ghost use Rattle.sled_log.specs.Passes.{CanBeRead, IsPass, pass_of, AreLookedUp, MeetsBadTail, PassesBehind};
 ghost use Rattle.sled_log.specs.WritesBack.{result_of};
@@ -51,8 +52,8 @@ use sled_store::{Device, RunningConfig};
 /// Where the snapshots, the log file and the blobs that it reads are recoverable with one cut, for a history, the end of
 /// what was acknowledged and a floor, it meets no damage, and the snapshot is good for what it read, for any number of
 /// segments. Where that is so of each content that a crash leaves, it stays so at each moment, the snapshot is good for
-/// what is left, and then all of this holds of what lies below its place, with that for the floor. Where moreover all of
-/// the log lies in the first segment in each of these, it does so then too, and a log can go on from the snapshot.
+/// what is left, and then all of this holds of what lies below its place, with that for the floor, and a log can go on
+/// from the snapshot.
 ///
 /// # Errors
 ///
@@ -73,20 +74,17 @@ pub fn read_snapshot_or_default<D: Device, C: Checksum>(
     ensures recoverable { let size = config.old.config.segment_size in let old = D.trace config.old.device in
         (H : History) (A f : ℕ) → CanRecover C.sum_of size (state_of old) H A f
         → LeavesOnly (RecoverableIfOwn C.sum_of size H A f) old (D.trace config.new.device) }
-    ensures readable { let size = config.old.config.segment_size in let old = D.trace config.old.device in
-        (H : History) (A f : ℕ) → CanReadOn C.sum_of size (state_of old) H A f
-        → LeavesOnly (ReadableIfOwn C.sum_of size H A f) old (D.trace config.new.device) }
     ensures read { let size = config.old.config.segment_size in let old = content_of (state_of (D.trace config.old.device)) in
-        (H : History) (A f : ℕ) → CanRead C.sum_of size old H A f → IsReadWell C.sum_of size old H A f result }
+        (H : History) (A f : ℕ) → IsOrderly H → Recoverable C.sum_of size old H A f → IsReadWell C.sum_of size old H A f result }
     ensures good { let size = config.old.config.segment_size in let new = state_of (D.trace config.new.device) in
-        (H : History) (A f : ℕ) → CanReadOn C.sum_of size (state_of (D.trace config.old.device)) H A f
+        (H : History) (A f : ℕ) → CanRecover C.sum_of size (state_of (D.trace config.old.device)) H A f
         → IfOk result (λ s. IsGood C.sum_of size (content_of new) H A f (model_of s)) }
     ensures kept { let size = config.old.config.segment_size in let new = state_of (D.trace config.new.device) in
-        (H : History) (A f : ℕ) → CanReadOn C.sum_of size (state_of (D.trace config.old.device)) H A f
-        → IfOk result (λ s. let cut = stable_place s.stable_lsn in LeavesReadable C.sum_of size (below H cut) A cut new) }
+        (H : History) (A f : ℕ) → CanRecover C.sum_of size (state_of (D.trace config.old.device)) H A f
+        → IfOk result (λ s. let cut = stable_place s.stable_lsn in LeavesRecoverable C.sum_of size (below H cut) A cut new) }
     ensures ready { let size = config.old.config.segment_size in let new = state_of (D.trace config.new.device) in
         (H : History) (A f : ℕ) → CanRecover C.sum_of size (state_of (D.trace config.old.device)) H A f
-        → IfOk result (λ s. IsKeptInFirst C.sum_of size new (model_of s) H A) }
+        → IfOk result (λ s. let cut = stable_place s.stable_lsn in Ready C.sum_of size new (model_of s) (below H cut) A cut) }
 {
     read_and_write_back(config)
 }

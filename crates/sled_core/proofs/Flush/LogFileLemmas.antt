@@ -16,10 +16,9 @@ use Rattle.sled_store.proofs.LogFile.LogLemmas.{part_written}
 use Rattle.sled_store.proofs.LogFile.LooseLemmas.{end_of-some}
 use Rattle.sled_core.specs.declared.iobuf.SegmentPosition.{SegmentPosition}
 use Rattle.sled_core.specs.Reading.{StandsAt}
-use Rattle.sled_core.specs.LogFile.{MessageStands, StandIn, StandsElsewhere, HasHeader}
-use Rattle.sled_core.specs.Recoverable.{first_site}
+use Rattle.sled_core.specs.LogFile.{MessageStands, HasHeader}
+use Rattle.sled_core.proofs.Read.StandIn.{StandIn}
 use Rattle.sled_core.proofs.Read.ReadingLemmas.{header_some, laid_of}
-use Rattle.sled_store.proofs.Segments.Elements.{no_element}
 
 -- a record that stands somewhere is not shorter than a header
 pub stands_some : (sum : List ℕ → ℕ) (size : ℕ) (log : List ℕ) (lid number : ℕ) (m : Message) → MessageStands sum size log lid number m → 8 ≤ m.size
@@ -81,14 +80,6 @@ stand_apart sum size log site at (m ∷ ms) end stand =
     let rest = stand_above sum size log site (at + m.size) ms end stand.4 in
     (omega (arith, some), (λ k d lt. let b = rest k d lt in omega (arith, b.0, place)), stand_apart sum size log site (at + m.size) ms end stand.4)
 
--- nothing lies before the first segment
-pub none_older : (sum : List ℕ → ℕ) (size : ℕ) (log : List ℕ) (older : List Message) → All (StandsElsewhere sum size log first_site) older → older ≡ []
-none_older sum size log older all = no_element older (λ m there.
-    let s = All-contains (StandsElsewhere sum size log first_site) older m all there in
-    let some = stands_some sum size log s.lid (m.place / size) m s.stands in
-    let below = s.below in
-    omega (arith, some, below))
-
 -- the header of a segment lies in the file
 pub header_there : (sum : List ℕ → ℕ) (log : List ℕ) (site : SegmentPosition) → HasHeader sum log site → site.slot + 20 ≤ length log
 header_there sum log site h =
@@ -133,31 +124,11 @@ module _ (sum : List ℕ → ℕ) (size : ℕ) (old new : List ℕ) (at n : ℕ)
         stand_stays site (from + m.size) ms end before stand.4,
       )
 
-  -- those behind a header; there are none where the range begins within it
-  pub first_stay : (site : SegmentPosition) (from : ℕ) (ms : List Message) → site.slot + from ≤ at → StandIn sum size old site 20 ms (max 20 from) → StandIn sum size new site 20 ms (max 20 from)
-  first_stay site from ms before stand = elim (cases_lt from 20) [
-    | inl less ↦ (
-        let start : max 20 from ≡ 20 = omega (arith, less) in
-        let empty : ms ≡ [] = stand_none sum size old site 20 ms (subst (λ k. StandIn sum size old site 20 ms k) start stand) in
-        subst (λ (l : List Message). StandIn sum size new site 20 l (max 20 from)) (sym empty) start)
-    | inr long ↦ stand_stays site 20 ms (max 20 from) (omega (arith, long, before)) stand
-  ]
-
-  -- records in other slots
-  pub elsewhere_stays : (site : SegmentPosition) (m : Message) → site.slot ≤ at → at + n ≤ site.slot + size → StandsElsewhere sum size old site m → StandsElsewhere sum size new site m
-  elsewhere_stays site m begins ends s = record {
-    lid = s.lid;
-    pointer = s.pointer;
-    stands = message_stays s.lid (m.place / size) m (elim s.apart [ inl below ↦ inl (omega (arith, below, begins)) | inr above ↦ inr (omega (arith, above, ends)) ]) s.stands;
-    apart = s.apart;
-    below = s.below;
-  }
-
   -- a header before the range
   pub header_stays : (site : SegmentPosition) → site.slot + 20 ≤ at → HasHeader sum old site → HasHeader sum new site
   header_stays site before h =
       let there : site.slot + 20 ≤ length old = header_there sum old site h in
-      record { mark = h.mark; header = subst (λ (l : List ℕ). IsHeader sum l (pos site.place) h.mark) (sym (same site.slot 20 there (inl before))) h.header; below = h.below; before = h.before }
+      record { mark = h.mark; header = subst (λ (l : List ℕ). IsHeader sum l (pos site.place) h.mark) (sym (same site.slot 20 there (inl before))) h.header; below = h.below }
 
 module _ (sum : List ℕ → ℕ) (size : ℕ) (old : List ℕ) (at : ℕ) (xs : List ℕ) where
   abbrev new : List ℕ
@@ -178,14 +149,6 @@ module _ (sum : List ℕ → ℕ) (size : ℕ) (old : List ℕ) (at : ℕ) (xs :
   -- the records of a segment up to the beginning of the write
   pub stand_kept : (site : SegmentPosition) (from : ℕ) (ms : List Message) (end : ℕ) → site.slot + end ≤ at → StandIn sum size old site from ms end → StandIn sum size new site from ms end
   stand_kept = stand_stays sum size old new at (length xs) file_grows part_kept
-
-  -- those behind its header
-  pub first_kept : (site : SegmentPosition) (from : ℕ) (ms : List Message) → site.slot + from ≤ at → StandIn sum size old site 20 ms (max 20 from) → StandIn sum size new site 20 ms (max 20 from)
-  first_kept = first_stay sum size old new at (length xs) file_grows part_kept
-
-  -- records in other slots
-  pub elsewhere_kept : (site : SegmentPosition) (m : Message) → site.slot ≤ at → at + length xs ≤ site.slot + size → StandsElsewhere sum size old site m → StandsElsewhere sum size new site m
-  elsewhere_kept = elsewhere_stays sum size old new at (length xs) file_grows part_kept
 
   -- a header before the write
   pub header_kept : (site : SegmentPosition) → site.slot + 20 ≤ at → HasHeader sum old site → HasHeader sum new site

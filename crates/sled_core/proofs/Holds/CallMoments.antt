@@ -8,9 +8,7 @@ use Rattle.sled_store.specs.Script.{Along}
 use Rattle.sled_store.proofs.Crashes.LeavesLemmas.{Asked, before_leaves, torn_leaves}
 use Rattle.sled_store.proofs.Crashes.ForeignLemmas.{Knows, own_log, own_names, before_knows, torn_knows, own_log_at_rest, own_names_at_rest}
 use Rattle.sled_store.proofs.Traces.ScriptLemmas.{along_first}
-use Rattle.sled_core.specs.Recoverable.{NoForeign, IsUnbegun, IsBegun, LeavesRecoverable}
-use Rattle.sled_core.specs.Running.{NoBlobs, NamesFit}
-use Rattle.sled_core.proofs.Read.FirstSegment.{recoverable_in_first}
+use Rattle.sled_core.specs.Recoverable.{NoForeign, LeavesRecoverable}
 
 -- A content in which only the log's own writes pass by one state is such a one by each that knows more.
 own_still : (sum : List ℕ → ℕ) (size : ℕ) (s t : State) (left : Content) → Knows s t → NoForeign sum size s left → NoForeign sum size t left
@@ -55,27 +53,3 @@ module _ (sum : List ℕ → ℕ) (size : ℕ) (H : History) (A f : ℕ) where
 
   pub along_names_synced : (es : List Event) (s : State) → P s → Along P es (step NamesSynced s) → Along P (NamesSynced ∷ es) s
   along_names_synced es s here rest = (here, λ torn tears. absurd tears, rest)
-
--- All of the log is in its first segment, with what was acknowledged, and reaches so far at least.
-pub record Reaches (sum : List ℕ → ℕ) (size : ℕ) (log : List ℕ) (H : History) (A reached : ℕ) : Type 0 where
-  pub short : length log ≤ size
-  pub parts : (place : ℕ) → place ≤ reached → IsUnbegun sum size log A place ⊎ IsBegun sum size log H A place
-
--- A state whose parts leave such a log file, no blob, and snapshots from which recovery can begin no further than that.
-pub parts_recoverable : (sum : List ℕ → ℕ) (size : ℕ) (H : History) (A f reached : ℕ) (s : State) → 256 ≤ size → size < 2 ^ 63 → H.batches ≡ []
-    → ((left : List ℕ) → LeavesLog s.log left → NoForeignLog sum size s.log s.placed left → Reaches sum size left H A reached) → NoBlobs s.blobs → NamesFit sum size s.snapshots H f reached
-    → LeavesRecoverable sum size H A f s
-parts_recoverable sum size H A f reached s large small batches log blobs names left leaves own =
-    let reaches = log left.log leaves.log own.log in
-    let can = names left.snapshots leaves.snapshots own.snapshots in
-    recoverable_in_first sum size left H A f large small (record {
-      first = can.first;
-      snapshots = can.tables;
-      segment = record {
-        batches = batches;
-        blobs = λ n. blobs n (left.blobs n) (leaves.blobs n);
-        short = reaches.short;
-        slot = can.slot;
-        log = reaches.parts _ can.not_above;
-      };
-    })

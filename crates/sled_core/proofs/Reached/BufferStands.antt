@@ -14,7 +14,8 @@ use Rattle.sled_store.specs.Device.{overwritten}
 use Rattle.sled_core.specs.declared.iobuf.Reserved.{Reserved}
 use Rattle.sled_core.specs.declared.iobuf.SegmentPosition.{SegmentPosition}
 use Rattle.sled_core.specs.Buffers.{body_in, message_in, placeholder, IsChain, completed_in, none_open, Stands}
-use Rattle.sled_core.specs.LogFile.{MessageStands, StandIn}
+use Rattle.sled_core.specs.LogFile.{MessageStands}
+use Rattle.sled_core.proofs.Read.StandIn.{StandIn}
 use Rattle.sled_core.proofs.Reserve.Ranges.{chain_grows}
 use Rattle.sled_core.proofs.Read.ScanLemmas.{aligned_offset}
 use Rattle.sled_core.proofs.Flush.LogFileLemmas.{part_laid, laid_within}

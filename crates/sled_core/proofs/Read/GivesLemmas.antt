@@ -14,10 +14,8 @@ use Rattle.sled_store.specs.Device.{LogState, State}
 use Rattle.sled_core.specs.declared.iobuf.Reserved.{Reserved}
 use Rattle.sled_core.specs.declared.iobuf.SegmentPosition.{SegmentPosition}
 use Rattle.sled_core.specs.Buffers.{completed_in}
-use Rattle.sled_core.specs.LogFile.{MessageStands, StandIn, StandsElsewhere, IsLogFile}
-use Rattle.sled_core.specs.Fits.{HoldsIn, IsOnDevice, log_parts}
-use Rattle.sled_core.proofs.Reserve.Ranges.{completed_between}
-use Rattle.sled_core.proofs.Reserve.CompletesLemmas.{some_long}
+use Rattle.sled_core.specs.LogFile.{MessageStands}
+use Rattle.sled_core.proofs.Read.StandIn.{StandIn}
 use Rattle.sled_core.proofs.Read.ReadingLemmas.{laid_of, one_head, one_laid, one_text}
 use Rattle.sled_core.proofs.Read.ScanLemmas.{aligned_number}
 use Rattle.sled_core.specs.declared.logger.read_message.LogRead.{LogRead}
@@ -101,21 +99,3 @@ own_stands sum size log site at (m ∷ ms) end aligned stand =
     let below : at < size = omega (arith, stand.0) in
     let number : site.place / size ≡ m.place / size = sym (ap (λ n. n / size) stand.1 ∙ aligned_number site.place at size aligned below) in
     All-cons (StandsWhole sum size log) m ms (site.slot + at, stand.2, subst (λ n. MessageStands sum size log (site.slot + at) n m) number stand.3) (own_stands sum size log site (at + m.size) ms end aligned stand.4)
-
--- A message that was written stands where it lies, in the segment of its place.
-pub message_found : (sum : List ℕ → ℕ) (size : ℕ) (site : SegmentPosition) (device : State) (bytes : List ℕ) (from : ℕ) (rs : List Reserved) (H : History) (m : Message)
-    → HoldsIn sum (log_parts size site device None bytes from rs) H → Contains H.messages m → m.place < site.place + from → StandsWhole sum size device.log.bytes m
-message_found sum size site device bytes from rs H m holds there written =
-    let on : IsOnDevice sum size device.log site from holds.earlier = holds.written refl in
-    let file : IsLogFile sum size on.log site from holds.earlier = on.file in
-    let early : Contains holds.earlier m = elim (Contains-append_cases holds.earlier (completed_in site bytes rs) m (subst (λ (ms : List Message). Contains ms m) holds.messages there)) [
-      | inl first ↦ first
-      | inr later ↦ (
-          let between = All-contains (λ x. (site.place + max 20 from ≤ x.place) × (x.place < site.place + length bytes) × (x.place + x.size ≤ site.place + length bytes)) (completed_in site bytes rs) m (completed_between site bytes (max 20 from) (length bytes) rs holds.chain (some_long sum (site.place / size) bytes rs holds.stand)) later in
-          absurd (omega (arith, between.0, written)))
-    ] in
-    let stands : StandsWhole sum size on.log m = elim (Contains-append_cases file.older file.own m (subst (λ (ms : List Message). Contains ms m) file.parts early)) [
-      | inl older ↦ (let s = All-contains (StandsElsewhere sum size on.log site) file.older m file.elsewhere older in (s.lid, s.pointer, s.stands))
-      | inr own ↦ All-contains (StandsWhole sum size on.log) file.own m (own_stands sum size on.log site 20 file.own (max 20 from) holds.place_begins file.stand) own
-    ] in
-    subst (λ (l : List ℕ). StandsWhole sum size l m) (sym (ap (λ (s : LogState). s.bytes) on.settled)) stands

@@ -18,8 +18,9 @@ use Rattle.sled_core.specs.declared.iterator.scan.ScanEnd.{ScanEnd}
 use Rattle.sled_core.specs.declared.iterator.scan.ScanEnd.TheVariants.{Full, Capped, Broken}
 use Rattle.sled_core.specs.Reading.{StandsAt, IsMalformed, IsUnreadable, is_inline}
 use Rattle.sled_core.specs.Scan.{Says, IsMet, IsPath, IsEnd, EndsThere, IsScan}
-use Rattle.sled_core.specs.LogFile.{MessageStands, StandIn}
-pub use Rattle.sled_core.specs.LogFile.{IsEmpty}
+use Rattle.sled_core.specs.LogFile.{MessageStands}
+use Rattle.sled_core.proofs.Read.StandIn.{StandIn}
+pub use Rattle.sled_core.proofs.Read.StandIn.{IsEmpty}
 use Rattle.sled_core.proofs.Read.GivesLemmas.{one_header, one_len, kind_inline, blob_apart}
 
 -- a message as a reader meets it

@@ -13,7 +13,7 @@ use Rattle.sled_core.specs.declared.iterator.scan.ScanEnd.{ScanEnd}
 use Rattle.sled_core.specs.declared.iterator.scan.ScanEnd.TheVariants.{Full, Broken}
 use Rattle.sled_core.specs.Scan.{IsPath, IsEnd, EndsThere, IsScan}
 use Rattle.sled_core.specs.Tail.{open_at}
-use Rattle.sled_core.specs.LogFile.{StandIn, IsEmpty}
+use Rattle.sled_core.proofs.Read.StandIn.{StandIn, IsEmpty}
 use Rattle.sled_core.specs.Recoverable.{IsReachedIn}
 use Rattle.sled_store.proofs.Segments.Elements.{in_cases, in_nothing}
 use Rattle.sled_core.proofs.Read.PathLemmas.{met_of, is_met}

@@ -6,7 +6,7 @@ use Rattle.sled_store.specs.Device.{Synced, NamesSynced, LogState, NamesState, C
 use Rattle.sled_store.proofs.LogFile.LogLemmas.{at_rest_left}
 use Rattle.sled_store.proofs.Traces.ScriptLemmas.{ends_in}
 use Rattle.sled_core.specs.Recoverable.{NoForeign, IsRecoverableLog}
-use Rattle.sled_log.specs.Orderly.{CanRead}
+use Rattle.sled_log.proofs.Recovers.Readable.{CanRead}
 use Rattle.sled_log.specs.Recovery.{RecoveryResult, Recovered, Recovers}
 use Rattle.sled_log.specs.WritesBack.{writing_back, FitsIfNew, HasWrittenBack}
 use Rattle.sled_log.proofs.Afterwards.EndsBelow.{recoverable_below}

@@ -11,7 +11,7 @@ use Rattle.sled_core.specs.declared.iterator.Segment.{Segment}
 use Rattle.sled_core.specs.Good.{ReadsAt, IsGood}
 use Rattle.sled_core.specs.Recoverable.{ActiveFits, NoHeaderOfZeros, StandsInline, HasItem, AreRecoverableBlobs}
 use Rattle.sled_core.specs.Scan.{IsFoundSegment}
-use Rattle.sled_log.specs.Orderly.{CanRead}
+use Rattle.sled_log.proofs.Recovers.Readable.{CanRead}
 use Rattle.sled_log.specs.Recovery.{RecoveryResult, Recovered, Recovers}
 use Rattle.sled_log.specs.WritesBack.{after_shredding, after_zeroing, forgotten_from, IsWrittenBack}
 use Rattle.sled_log.proofs.Afterwards.ForgottenSlots.{found_elsewhere}

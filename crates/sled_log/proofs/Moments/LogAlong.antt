@@ -16,7 +16,7 @@ use Rattle.sled_store.proofs.Traces.ScriptLemmas.{along_first}
 use Rattle.sled_core.specs.Recoverable.{ActiveFits, NoForeign, NoHeaderOfZeros, AreRecoverableSnapshots, IsRecoverableLog, AreRecoverableBlobs}
 use Rattle.sled_core.proofs.Torn.TornLemmas.{after_write}
 use Rattle.sled_log.specs.Orderly.{IsOrderly}
-pub use Rattle.sled_log.specs.Orderly.{LeavesReadable}
+pub use Rattle.sled_log.proofs.Recovers.Readable.{LeavesReadable}
 use Rattle.sled_log.specs.Recovery.{shred_range_of}
 use Rattle.sled_log.specs.WritesBack.{shredding, zeroing, after_zeroing}
 use Rattle.sled_log.proofs.Moments.Shredded.{IsShredded, filled, full}

@@ -13,7 +13,7 @@ use Rattle.sled_store.proofs.Crashes.SettledLemmas.{read_left}
 use Rattle.sled_store.proofs.Segments.Elements.{in_nothing}
 use Rattle.sled_core.specs.declared.iterator.Segment.{Segment}
 use Rattle.sled_core.specs.Recoverable.{NoForeign, AreRecoverableBlobs, IsRecoverableLog, cut_from}
-use Rattle.sled_log.specs.Orderly.{CanRead, LeavesReadable}
+use Rattle.sled_log.proofs.Recovers.Readable.{CanRead, LeavesReadable}
 use Rattle.sled_log.specs.Recovery.{Scanned, AreScanned, IsTail, tail_begins, tail_end, least_place}
 use Rattle.sled_log.proofs.Moments.LogAlong.{BlobsStand}
 use Rattle.sled_core.proofs.Tail.OneReading.{one_scan}

@@ -18,7 +18,7 @@ use Rattle.sled_store.proofs.Names.NamesLemmas.{settled_name_synced}
 use Rattle.sled_store.proofs.Segments.Elements.{in_nothing}
 use Rattle.sled_store.proofs.Traces.ScriptLemmas.{along_first, performs_throughout}
 use Rattle.sled_core.specs.Recoverable.{ActiveFits, NoForeign, IsRecoverableLog}
-use Rattle.sled_log.specs.Orderly.{CanRead}
+use Rattle.sled_log.proofs.Recovers.Readable.{CanRead}
 use Rattle.sled_log.specs.Recovery.{RecoveryResult, shred_range_of}
 use Rattle.sled_log.specs.Restores.{RecoveryCalls}
 use Rattle.sled_log.specs.WritesBack.{shredding, committing, forgetting, forgotten_from, snapshot_number_of, writing_back, FitsIfNew, WritesBehind}

@@ -9,7 +9,8 @@ use Rattle.sled_codec.specs.Snapshots.{SnapshotModel, stable_place}
 use Rattle.sled_store.specs.Device.{Content}
 use Rattle.sled_core.specs.Good.{ReadsAt, IsGood}
 use Rattle.sled_core.specs.Recoverable.{AreRecoverableSnapshots, IsRecoverableLog, AreRecoverableBlobs, StandsInline, HasItem, scanned_below, Recoverable}
-use Rattle.sled_log.specs.Orderly.{IsOrderly, CanRead}
+use Rattle.sled_log.proofs.Recovers.Readable.{CanRead}
+use Rattle.sled_log.specs.Orderly.{IsOrderly}
 use Rattle.sled_log.specs.Recovery.{Scanned, Applied, Outcome, Damaged, Recovered, RecoveryResult, shred_range_of, is_beyond, begun_below, AreReplayed, tail_end, concluded, unchanged, ContinuesFrom, Recovers}
 use Rattle.sled_store.proofs.Histories.Ascending.{apart_ascends}
 use Rattle.sled_log.proofs.PageTable.WholeTables.{table_whole}

@@ -9,7 +9,8 @@ use Rattle.sled_core.specs.Recoverable.{IsRecoverableInFirst, NoForeign, Recover
 use Rattle.sled_core.specs.Running.{Ready}
 use Rattle.sled_core.proofs.Read.FirstSegment.{first_part}
 use Rattle.sled_log.specs.Recovery.{RecoveryResult, Recovered, Recovers}
-use Rattle.sled_log.specs.Orderly.{CanRead, CanReadOn, CanRecover, LeavesReadable}
+use Rattle.sled_log.proofs.Recovers.Readable.{CanRead, LeavesReadable}
+use Rattle.sled_log.specs.Orderly.{CanReadOn, CanRecover}
 use Rattle.sled_log.specs.WritesBack.{IsWrittenBack, HasWrittenBack}
 use Rattle.sled_log.specs.Restores.{RecoveryCalls}
 use Rattle.sled_log.proofs.Recovers.RecoversGood.{can_read}

@@ -4,7 +4,8 @@ use Rattle.sled_codec.specs.Snapshots.{SnapshotModel, model_of, stable_place}
 use Rattle.sled_store.specs.Device.{Content, Trace, state_of, content_of}
 use Rattle.sled_core.specs.Good.{IsGood}
 use Rattle.sled_core.proofs.Read.ReadingLemmas.{if_ok}
-use Rattle.sled_log.specs.Orderly.{IsKeptInFirst, LeavesReadable}
+use Rattle.sled_log.proofs.Recovers.Readable.{LeavesReadable}
+use Rattle.sled_log.specs.Orderly.{IsKeptInFirst}
 use Rattle.sled_log.proofs.Afterwards.KeptBelow.{kept_left}
 use Rattle.sled_log.proofs.Afterwards.LeftGood.{good_left}
 use Rattle.sled_log.proofs.Moments.RecoveryAlong.{can_read, recovery_throughout}
