@@ -1,4 +1,5 @@
 pub mod Completed
+pub mod FlushFits
 pub mod FlushLemmas
 pub mod LogFileLemmas
 pub mod Padded
