@@ -13,7 +13,6 @@ use Rattle.sled_core.specs.declared.iobuf.SegmentPosition.{SegmentPosition}
 use Rattle.sled_core.specs.Buffers.{IsChain, completed_in, message_in}
 use Rattle.sled_core.specs.Fits.{log_parts}
 use Rattle.sled_core.specs.NextFits.{HoldsIn, EndBelow, CloseBelow}
-use Rattle.sled_core.specs.Recoverable.{NoBatchBegins}
 use Rattle.sled_core.proofs.Reached.BufferPath.{HasOnly}
 use Rattle.sled_core.proofs.Reserve.Ranges.{chain_grows, completed_between}
 use Rattle.sled_core.proofs.Reserve.CompletesLemmas.{some_long}

@@ -35,14 +35,18 @@ each_here sum size log site place_begins slot_begins at (m ∷ ms) end behind st
     let offset : (site.slot + at) % size ≡ at = aligned_offset site.slot at size slot_begins below in
     let number : site.place / size ≡ m.place / size = sym (ap (λ n. n / size) stand.1 ∙ aligned_number site.place at size place_begins below) in
     let ends : at + m.size ≤ end = stand_grows sum size log site (at + m.size) ms end stand.4 in
-    let one : Here m = (site.slot + at, stand.2, record {
-      at = at;
-      place = stand.1;
-      offset = refl;
-      begins = record { behind_header = omega (arith, offset, behind); before_end = omega (arith, offset, stand.0) };
-      stands = subst (λ n. MessageStands sum size log (site.slot + at) n m) number stand.3;
-      inside = ends;
-    }) in
+    let one : Here m = (
+      site.slot + at,
+      stand.2,
+      record {
+        at = at;
+        place = stand.1;
+        offset = refl;
+        begins = record { behind_header = omega (arith, offset, behind); before_end = omega (arith, offset, stand.0) };
+        stands = subst (λ n. MessageStands sum size log (site.slot + at) n m) number stand.3;
+        inside = ends;
+      },
+    ) in
     All-cons Here m ms one (each_here sum size log site place_begins slot_begins (at + m.size) ms end (omega (arith, behind)) stand.4)
 
 module _ (sum : List ℕ → ℕ) (size : ℕ) (old : List ℕ) (at : ℕ) (xs : List ℕ) where

@@ -1,5 +1,5 @@
 -- The write of a buffer where the current segment is all that is found: what a crash leaves of it stands up to what was written before, and all of it up to the end of the buffer.
-use Rattle.std.proofs.Common.{◌≡◌, ◌⊎◌, ◌≤◌, ◌<◌, ◌+◌, ◌*◌, ◌/◌, ◌%◌, ◌^◌, ◌∙◌, ◌-ℤ◌, ℕ, pos, max, true, List, length, take, drop, get_or, sym, subst, arith, inl, inr}
+use Rattle.std.proofs.Common.{◌≡◌, ◌⊎◌, ◌≤◌, ◌<◌, ◌+◌, ◌*◌, ◌/◌, ◌%◌, ◌^◌, ◌-ℤ◌, ℕ, pos, max, true, List, length, take, drop, get_or, sym, subst, arith, inl, inr}
 use Rattle.std.specs.List.{All, Contains}
 use Rattle.std.proofs.Math.Nat.{mod-add-div'}
 use Rattle.std.proofs.lemmas.Bool.{cases_lt}
@@ -12,7 +12,6 @@ use Rattle.sled_store.specs.Foreign.{NoForeignLog}
 use Rattle.sled_store.proofs.Histories.Ascending.{Ascends}
 use Rattle.sled_core.specs.declared.iobuf.Reserved.{Reserved}
 use Rattle.sled_core.specs.declared.iobuf.SegmentPosition.{SegmentPosition}
-use Rattle.sled_core.specs.declared.iterator.Segment.{Segment}
 use Rattle.sled_core.specs.Buffers.{IsChain, completed_in, none_open, Stands}
 use Rattle.sled_core.specs.Reached.{GoesOnIn, StandsAlone}
 use Rattle.sled_core.specs.Recoverable.{NoHeaderOfZeros}

@@ -1,9 +1,8 @@
 -- A log file has all messages once the buffer is written: those that stood there, and those of the buffer behind them.
-use Rattle.std.proofs.Common.{◌≡◌, ◌≤◌, ◌<◌, ◌+◌, ◌/◌, ◌%◌, ◌^◌, ◌∙◌, ◌-ℤ◌, ℕ, pos, max, true, List, [], ◌++◌, length, take, drop, sym, ap, arith, subst, length-drop, inl, inr, get_or}
+use Rattle.std.proofs.Common.{◌≡◌, ◌≤◌, ◌<◌, ◌+◌, ◌/◌, ◌%◌, ◌^◌, ◌∙◌, ◌-ℤ◌, ℕ, pos, max, true, List, ◌++◌, length, take, drop, sym, ap, arith, subst, length-drop, inl, inr}
 use Rattle.std.specs.List.{All, Contains}
 use Rattle.std.proofs.lemmas.Bool.{cases_lt}
 use Rattle.std.proofs.lemmas.List.Elements.{All-contains, Contains-append_cases}
-use Rattle.sled_codec.specs.declared.result.DiskPtr.{DiskPtr}
 use Rattle.sled_codec.specs.declared.result.DiskPtr.TheVariants.{Inline}
 use Rattle.sled_codec.specs.Places.{part}
 use Rattle.sled_codec.specs.Pointers.{lid_of}
