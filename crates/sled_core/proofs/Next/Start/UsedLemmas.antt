@@ -1,5 +1,5 @@
 -- What stands in the slots that are used stays when the others are filled: the log file that a log begins on.
-use Rattle.std.proofs.Common.{◌≡◌, ◌≢◌, ◌≤◌, ◌<◌, ◌+◌, ◌-◌, ◌*◌, ◌/◌, ◌%◌, ◌∙◌, ℕ, pos, true, false, List, [], length, get_or, refl, sym, ap, subst, arith, inl, inr, Option, Some, None, unsigned_abs}
+use Rattle.std.proofs.Common.{◌≡◌, ◌≢◌, ◌⊎◌, ◌≤◌, ◌<◌, ◌+◌, ◌-◌, ◌*◌, ◌/◌, ◌%◌, ◌∙◌, ℕ, pos, true, false, List, [], length, get_or, refl, sym, ap, subst, arith, inl, inr, Option, Some, None, unsigned_abs}
 use Rattle.std.specs.List.{All, Contains}
 use Rattle.std.proofs.Math.Nat.{mul-le-mul_right, mod-add-div', mod-lt, div-eq_of_lt}
 use Rattle.std.proofs.lemmas.Bool.{cases_lt}
