@@ -1,3 +1,5 @@
 pub mod Entries
 pub mod UsedLemmas
 pub mod ReadyLemmas
+pub mod Recoverable
+pub mod KeptActive
