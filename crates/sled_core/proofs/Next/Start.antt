@@ -3,3 +3,4 @@ pub mod UsedLemmas
 pub mod ReadyLemmas
 pub mod Recoverable
 pub mod KeptActive
+pub mod PaddedActive
