@@ -4,3 +4,5 @@ pub mod ReadyLemmas
 pub mod Recoverable
 pub mod KeptActive
 pub mod PaddedActive
+pub mod FilledActive
+pub mod StartFits
