@@ -6,3 +6,4 @@ pub mod KeptActive
 pub mod PaddedActive
 pub mod FilledActive
 pub mod StartFits
+pub mod FilledMoments
