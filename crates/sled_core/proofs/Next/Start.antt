@@ -7,3 +7,5 @@ pub mod PaddedActive
 pub mod FilledActive
 pub mod StartFits
 pub mod FilledMoments
+pub mod SegmentSizes
+pub mod ReadyStarts
