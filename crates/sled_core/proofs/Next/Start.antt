@@ -9,3 +9,5 @@ pub mod StartFits
 pub mod FilledMoments
 pub mod SegmentSizes
 pub mod ReadyStarts
+pub mod FreshLemmas
+pub mod FreshReady
