@@ -11,3 +11,4 @@ pub mod SegmentSizes
 pub mod ReadyStarts
 pub mod FreshLemmas
 pub mod FreshReady
+pub mod ZeroHeader

@@ -126,3 +126,9 @@ used_entry size s k none used =
     let listed : list_any (λ e. slot_of size e == k) (entries_of s.pages) ≡ true = subst (λ (o : Option ℕ). (is_active size o k || list_any (λ e. slot_of size e == k) (entries_of s.pages)) ≡ true) none used in
     let found = from_any (λ e. slot_of size e == k) (entries_of s.pages) listed in
     (found.0, found.1, eqb-true (slot_of size found.0) k found.2)
+
+-- an active slot is used
+pub active_used : (size : ℕ) (s : SnapshotModel) (a : ℕ) → s.active ≡ Some a → is_used size s (a / size) ≡ true
+active_used size s a is =
+    let here : is_active size s.active (a / size) ≡ true = ap (λ (o : Option ℕ). is_active size o (a / size)) is ∙ same_number (a / size) in
+    ap (λ (b : Bool). b || list_any (λ e. slot_of size e == a / size) (entries_of s.pages)) here

@@ -5,13 +5,15 @@ use Rattle.std.proofs.lemmas.List.Elements.{All-contains}
 use Rattle.sled_codec.specs.History.{Message, History, table}
 use Rattle.sled_codec.specs.Snapshots.{SnapshotModel, stable_place}
 use Rattle.sled_codec.specs.WellFormed.{LieApart}
-use Rattle.sled_store.specs.Device.{Content}
+use Rattle.sled_store.specs.Device.{LogState, State, Content, LeavesLog, at_rest}
+use Rattle.sled_store.proofs.LogFile.LogLemmas.{at_rest_left}
 use Rattle.sled_store.proofs.Histories.Ascending.{Ascends, apart_ascends}
 use Rattle.sled_store.proofs.Histories.EarlierEntries.{entry_earlier}
 use Rattle.sled_store.proofs.Histories.TableParts.{from_table}
 use Rattle.sled_core.specs.NextFits.{EndBelow}
-use Rattle.sled_core.specs.NextRecoverable.{Recoverable}
-use Rattle.sled_core.specs.Recoverable.{IsMarkBelow, IsSegmentOf, AreRecoverableSnapshots, AreRecoverableBlobs}
+use Rattle.sled_core.specs.NextRecoverable.{Recoverable, LeavesRecoverable}
+use Rattle.sled_core.specs.NextRunning.{BlobsFit, NamesFit}
+use Rattle.sled_core.specs.Recoverable.{IsMarkBelow, IsSegmentOf, NoHeaderOfZeros, AreRecoverableSnapshots, AreRecoverableBlobs}
 use Rattle.sled_core.specs.Tail.{IsOrdering}
 use Rattle.sled_core.proofs.Reached.Recoverable.{reached_recoverable}
 use Rattle.sled_core.proofs.Reached.StandsTo.{StandsTo}
@@ -58,3 +60,11 @@ unfolding Recoverable
 stands_recoverable sum size left H A f first reach long apart below stands snapshots blobs =
     let log = reached_recoverable sum size left.log long H A first reach stands (apart_ascends H.messages apart) in
     record { first = first; cut = log.0; snapshots = snapshots; log = log.2; blobs = blobs_above sum H reach log.0.0 apart below log.1 left.blobs blobs }
+
+-- So it is with whatever a crash leaves of a settled log file that stands so.
+pub settled_leaves : (sum : List ℕ → ℕ) (size : ℕ) (device : State) (log : List ℕ) (H : History) (A f : ℕ) (first : SnapshotModel) (reach : ℕ) → 256 ≤ size → LieApart H.messages → EndBelow reach H.messages → device.log ≡ at_rest log
+    → (NoHeaderOfZeros sum → StandsTo sum size log H A first reach) → NamesFit sum size device.snapshots H f first → BlobsFit sum device.blobs H reach → LeavesRecoverable sum size H A f device
+settled_leaves sum size device log H A f first reach long apart below settled stands names blobs left leaves own =
+    let here : left.log ≡ log = at_rest_left log left.log (subst (λ (l : LogState). LeavesLog l left.log) settled leaves.log) in
+    stands_recoverable sum size left H A f first reach long apart below (subst (λ (l : List ℕ). StandsTo sum size l H A first reach) (sym here) (stands own.zeros))
+    (names left.snapshots leaves.snapshots own.snapshots) (blobs left.blobs leaves.blobs own.blobs)

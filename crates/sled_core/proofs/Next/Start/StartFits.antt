@@ -5,12 +5,11 @@ use Rattle.sled_codec.specs.Coords.{raised}
 use Rattle.sled_codec.specs.Record.{short_header}
 use Rattle.sled_codec.specs.History.{History}
 use Rattle.sled_codec.specs.Snapshots.{SnapshotModel, stable_place}
-use Rattle.sled_store.specs.Device.{LogState, LeavesLog, NamesState, State, at_rest}
+use Rattle.sled_store.specs.Device.{LogState, NamesState, State, at_rest}
 use Rattle.sled_store.specs.declared.segment.start.Beginning.{Beginning}
 use Rattle.sled_core.specs.declared.iobuf.Reserved.{Reserved}
 use Rattle.sled_core.specs.declared.iobuf.SegmentPosition.{SegmentPosition}
 use Rattle.sled_store.specs.Begin.{slots_of, unused, first_or, beginning_at, beginning_of, MayBeActive, IsStartable}
-use Rattle.sled_store.proofs.LogFile.LogLemmas.{at_rest_left}
 use Rattle.sled_store.proofs.Segments.FilledLemmas.{filled, filled_grows, begins_in}
 use Rattle.sled_core.specs.Fits.{log_parts}
 use Rattle.sled_core.specs.NextFits.{HoldsIn}
@@ -18,13 +17,13 @@ use Rattle.sled_core.specs.NextLogFile.{padded}
 use Rattle.sled_core.specs.NextReady.{HasNoActive, HasFile}
 use Rattle.sled_core.specs.NextRecoverable.{LeavesRecoverable}
 use Rattle.sled_core.specs.NextRunning.{BlobsFit, NamesFit, FitsIn, IsReadyFor}
-use Rattle.sled_core.specs.Reached.{StandsTo, StandsActive, StandsAlone}
+use Rattle.sled_core.specs.Reached.{StandsActive, StandsAlone}
 use Rattle.sled_core.specs.Recoverable.{NoHeaderOfZeros}
 use Rattle.sled_core.proofs.Next.Start.FilledActive.{filled_active}
 use Rattle.sled_core.proofs.Next.Start.KeptActive.{begins_alone}
 use Rattle.sled_core.proofs.Next.Start.PaddedActive.{padded_same, padded_active}
 use Rattle.sled_core.proofs.Next.Start.ReadyLemmas.{raised_same, file_there, begins_from}
-use Rattle.sled_core.proofs.Next.Start.Recoverable.{same_place, stands_recoverable}
+use Rattle.sled_core.proofs.Next.Start.Recoverable.{same_place, settled_leaves}
 
 some_is : (a b : ℕ) → Some a ≡ Some b → a ≡ b
 some_is a b same = cc
@@ -57,13 +56,10 @@ module _ (sum : List ℕ → ℕ) (size : ℕ) (device now : State) (s : Snapsho
 
   -- Whatever a crash leaves now can be recovered.
   left_now : LeavesRecoverable sum size H stable f now
-  left_now left leaves own =
-      let here : left.log ≡ new = at_rest_left new left.log (subst (λ (l : LogState). LeavesLog l left.log) log_is leaves.log) in
-      let on : StandsTo sum size new H stable ready.ready.first stable = (same_place sum size new H stable stable s ready.ready.first stable stable same_stable refl (omega arith) (active_now own.zeros).stands).0 in
-      let names : NamesFit sum size now.snapshots H f ready.ready.first = subst (λ (n : NamesState). NamesFit sum size n H f ready.ready.first) (sym same_names) ready.names in
-      let blobs : BlobsFit sum now.blobs H stable = subst (λ (n : NamesState). BlobsFit sum n H stable) (sym same_blobs) ready.blobs in
-      stands_recoverable sum size left H stable f ready.ready.first stable long ready.ready.apart ready.ready.below (subst (λ (l : List ℕ). StandsTo sum size l H stable ready.ready.first stable) (sym here) on)
-      (names left.snapshots leaves.snapshots own.snapshots) (blobs left.blobs leaves.blobs own.blobs)
+  left_now =
+      settled_leaves sum size now new H stable f ready.ready.first stable long ready.ready.apart ready.ready.below log_is
+      (λ zeros. (same_place sum size new H stable stable s ready.ready.first stable stable same_stable refl (omega arith) (active_now zeros).stands).0)
+      (subst (λ (n : NamesState). NamesFit sum size n H f ready.ready.first) (sym same_names) ready.names) (subst (λ (n : NamesState). BlobsFit sum n H stable) (sym same_blobs) ready.blobs)
 
   -- Where it begins at a site.
   module _ (site : SegmentPosition) (from : ℕ) (end : site.place + from ≡ stable) (own : (slot : ℕ) → s.active ≡ Some slot → slot ≡ site.slot)

@@ -20,9 +20,8 @@ use Rattle.sled_core.specs.NextLogFile.{StandsHere, StandsElsewhere, HasHeader, 
 use Rattle.sled_core.specs.NextReady.{StandsUsed, HaveRecords, HasActive, HasNoActive, active_site}
 use Rattle.sled_store.proofs.Segments.FilledLemmas.{filled, slots_cover, slot_before, filled_grows, filled_byte, filled_part, filled_zero, all_begin, filled_covered, free_below, first_there}
 use Rattle.sled_core.proofs.Flush.LogFileLemmas.{stands_some}
-use Rattle.sled_core.proofs.Next.Start.Entries.{table_entry}
+use Rattle.sled_core.proofs.Next.Start.Entries.{table_entry, active_used}
 use Rattle.sled_core.proofs.Read.ScanLemmas.{aligned_offset, aligned_number}
-use Rattle.sled_core.proofs.Start.UsedLemmas.{active_used}
 
 module _ (sum : List ℕ → ℕ) (size : ℕ) (long : 256 ≤ size) (log : List ℕ) (s : SnapshotModel) (H : History) where
   abbrev slots : ℕ
