@@ -12,3 +12,4 @@ pub mod ReadyStarts
 pub mod FreshLemmas
 pub mod FreshReady
 pub mod ZeroHeader
+pub mod ReadyFor
