@@ -73,24 +73,27 @@ module _ (sum : List ℕ → ℕ) (size : ℕ) (device now : State) (s : Snapsho
   holds_at : (site : SegmentPosition) (from : ℕ) → site.place % size ≡ 0 → site.slot % size ≡ 0 → site.place + from ≡ stable → stable / size * size ≡ site.place → (0 < from → 20 ≤ from)
       → (from ≡ 0 → bytes ≡ short_header sum (pos site.place) (pos site.place -ℤ pos 1)) → (0 < from → length bytes ≡ from)
       → IsLogFile sum size now_log site from H.messages (table H stable) → HoldsFrom site from
-  holds_at site from place_begins slot_begins end least behind first more file = (record {
-    earlier = H.messages;
-    messages = sym (append-nil H.messages);
-    below = subst (λ n. EndBelow n H.messages) (sym end) ready.below;
-    apart = ready.apart;
-    batches = subst (λ n. CloseBelow n H.batches) (sym end) ready.batches;
-    place_begins = place_begins;
-    slot_begins = slot_begins;
-    header = λ is. let header = first is in take_all 20 bytes (omega (arith, ap length header, length-short_header sum (pos site.place) (pos site.place -ℤ pos 1))) ∙ header;
-    chain = elim (cases_lt 0 from) [
-      | inl begun ↦ (let count = more begun in let least = behind begun in omega (arith, count, least))
-      | inr start ↦ (let is : from ≡ 0 = omega (arith, start) in let header = first is in omega (arith, is, ap length header, length-short_header sum (pos site.place) (pos site.place -ℤ pos 1)))
-    ];
-    stand = λ k d lt. absurd (omega (arith, lt));
-    room = λ k d lt. absurd (omega (arith, lt));
-    begun = begun_at site from end least;
-    written = λ none. record { log = now_log; settled = filled_now; file = subst (λ n. IsLogFile sum size now_log site from H.messages (table H n)) (sym same_stable) file };
-  }, refl)
+  holds_at site from place_begins slot_begins end least behind first more file = (
+    record {
+      earlier = H.messages;
+      messages = sym (append-nil H.messages);
+      below = subst (λ n. EndBelow n H.messages) (sym end) ready.below;
+      apart = ready.apart;
+      batches = subst (λ n. CloseBelow n H.batches) (sym end) ready.batches;
+      place_begins = place_begins;
+      slot_begins = slot_begins;
+      header = λ is. let header = first is in take_all 20 bytes (omega (arith, ap length header, length-short_header sum (pos site.place) (pos site.place -ℤ pos 1))) ∙ header;
+      chain = elim (cases_lt 0 from) [
+        | inl begun ↦ (let count = more begun in let least = behind begun in omega (arith, count, least))
+        | inr start ↦ (let is : from ≡ 0 = omega (arith, start) in let header = first is in omega (arith, is, ap length header, length-short_header sum (pos site.place) (pos site.place -ℤ pos 1)))
+      ];
+      stand = λ k d lt. absurd (omega (arith, lt));
+      room = λ k d lt. absurd (omega (arith, lt));
+      begun = begun_at site from end least;
+      written = λ none. record { log = now_log; settled = filled_now; file = subst (λ n. IsLogFile sum size now_log site from H.messages (table H n)) (sym same_stable) file };
+    },
+    refl,
+  )
 
   pub settled_bytes : log ≡ ready.log
   settled_bytes = ap (λ (l : LogState). l.bytes) ready.settled

@@ -21,27 +21,30 @@ use Rattle.sled_core.proofs.Reached.StandsTo.{StandsTo}
 -- The same segments are read from another snapshot that ends at the same place, and for another end of what was acknowledged.
 pub same_place : (sum : List ℕ → ℕ) (size : ℕ) (log : List ℕ) (H : History) (A B : ℕ) (first other : SnapshotModel) (reach at : ℕ) → stable_place other.stable ≡ stable_place first.stable → at ≡ reach → B ≤ at
     → (is : StandsTo sum size log H A first reach) → (on : StandsTo sum size log H B other at) × (on.scanned ≡ is.scanned)
-same_place sum size log H A B first other reach at same here passes is = (record {
-  ordering = is.ordering;
-  numbers = subst (λ n. IsOrdering sum size log (n / size * size) is.ordering) (sym same) is.numbers;
-  scanned = is.scanned;
-  reads = is.reads;
-  marks = is.marks;
-  truth = is.truth;
-  caps = is.caps;
-  not_below = let low = is.not_below in omega (arith, low, same, here);
-  passes = passes;
-  marks_below = λ s there. subst (λ n. IsMarkBelow size H n s.mark) (sym here) (is.marks_below s there);
-  placed = is.placed;
-  batched = is.batched;
-  closed = λ b there low. let under = is.closed b there (omega (arith, low, here)) in omega (arith, under, here);
-  gapless = λ z aligned low under.
-      let found = is.gapless z aligned (let least = ap (λ n. n / size * size) same in omega (arith, low, least)) (omega (arith, under, here)) in
-      (found.0, found.1, found.2, ⊎_elim (λ far. inl (omega (arith, far, here))) (λ leads. inr leads) found.3);
-  needed = λ page m entry.
-      let had = is.needed page m (subst (λ n. Contains (table H n page) m) here entry) in
-      (subst (λ n. IsSegmentOf sum size log H n m) (sym here) had.0, had.1);
-}, refl)
+same_place sum size log H A B first other reach at same here passes is = (
+  record {
+    ordering = is.ordering;
+    numbers = subst (λ n. IsOrdering sum size log (n / size * size) is.ordering) (sym same) is.numbers;
+    scanned = is.scanned;
+    reads = is.reads;
+    marks = is.marks;
+    truth = is.truth;
+    caps = is.caps;
+    not_below = let low = is.not_below in omega (arith, low, same, here);
+    passes = passes;
+    marks_below = λ s there. subst (λ n. IsMarkBelow size H n s.mark) (sym here) (is.marks_below s there);
+    placed = is.placed;
+    batched = is.batched;
+    closed = λ b there low. let under = is.closed b there (omega (arith, low, here)) in omega (arith, under, here);
+    gapless = λ z aligned low under.
+        let found = is.gapless z aligned (let least = ap (λ n. n / size * size) same in omega (arith, low, least)) (omega (arith, under, here)) in
+        (found.0, found.1, found.2, ⊎_elim (λ far. inl (omega (arith, far, here))) (λ leads. inr leads) found.3);
+    needed = λ page m entry.
+        let had = is.needed page m (subst (λ n. Contains (table H n page) m) here entry) in
+        (subst (λ n. IsSegmentOf sum size log H n m) (sym here) had.0, had.1);
+  },
+  refl,
+)
 
 -- where all of the history ends below a place, a table has no more above it
 pub blobs_above : (sum : List ℕ → ℕ) (H : History) (reach cut : ℕ) → LieApart H.messages → EndBelow reach H.messages → reach ≤ cut → (blobs : ℤ → Option (List ℕ)) → AreRecoverableBlobs sum blobs H reach → AreRecoverableBlobs sum blobs H cut
