@@ -7,7 +7,7 @@ use Rattle.std.proofs.lemmas.List.Elements.{Contains-append_left, Contains-appen
 use Rattle.sled_codec.specs.Pointers.{lid_of}
 use Rattle.sled_codec.specs.History.{Message, History, is_replace, last_beginning, entries_from, page_state, of_page, table}
 use Rattle.sled_codec.specs.PageTables.{entry_of, page_with, IsTable}
-use Rattle.sled_codec.specs.Snapshots.{Entry, Page, Present, Free, Uninitialized, SnapshotModel, stable_place}
+use Rattle.sled_codec.specs.Snapshots.{Entry, Page, Present, Free, Uninitialized, SnapshotModel}
 use Rattle.sled_store.specs.Begin.{entries_in, entries_of, slot_of, is_active, is_used}
 use Rattle.sled_store.proofs.Segments.Elements.{in_first, in_rest, in_cases, in_nothing}
 use Rattle.sled_store.proofs.Segments.EntryLemmas.{same_number}

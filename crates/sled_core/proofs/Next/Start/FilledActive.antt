@@ -1,5 +1,5 @@
 -- While the slots that a snapshot doesn't use are filled with zeros, and behind that, the log file stands for it as before.
-use Rattle.std.proofs.Common.{◌≡◌, ◌≤◌, ◌/◌, ℕ, List, length, arith}
+use Rattle.std.proofs.Common.{◌≤◌, ℕ, List, length, arith}
 use Rattle.sled_codec.specs.History.{History}
 use Rattle.sled_codec.specs.PageTables.{IsTable}
 use Rattle.sled_codec.specs.Snapshots.{SnapshotModel, stable_place}

@@ -1,5 +1,5 @@
 -- While the slots that the snapshot doesn't use are filled with zeros, each crash leaves a content that can be recovered.
-use Rattle.std.proofs.Common.{◌≡◌, ◌≤◌, ◌∙◌, ℕ, List, length, refl, sym, ap, subst, arith}
+use Rattle.std.proofs.Common.{◌≡◌, ◌≤◌, ◌∙◌, ℕ, List, length, refl, sym, ap, subst}
 use Rattle.sled_codec.specs.History.{History}
 use Rattle.sled_codec.specs.Snapshots.{SnapshotModel, stable_place}
 use Rattle.sled_store.specs.Begin.{slots_of, unused, filling}
@@ -16,7 +16,6 @@ use Rattle.sled_core.specs.Recoverable.{NoForeign}
 use Rattle.sled_core.proofs.Next.Start.FilledActive.{filled_active, filling_active}
 use Rattle.sled_core.proofs.Next.Start.Recoverable.{same_place, stands_recoverable}
 use Rattle.sled_core.proofs.Torn.FilledAlong.{filled_along}
-use Rattle.sled_core.proofs.Torn.FilledSlots.{IsFilling}
 
 module _ (sum : List ℕ → ℕ) (size : ℕ) (device : State) (s : SnapshotModel) (H : History) (A f : ℕ) (long : 256 ≤ size) (ready : IsReadyFor sum size device s H A f) where
   abbrev log : List ℕ

@@ -1,5 +1,5 @@
 -- An empty device is ready for a log in which nothing happened.
-use Rattle.std.proofs.Common.{◌≡◌, ◌≤◌, ◌+◌, ℕ, ℤ, List, [], refl, arith, inl, Some, None}
+use Rattle.std.proofs.Common.{◌≡◌, ℕ, ℤ, List, [], refl, arith, inl, Some, None}
 use Rattle.std.specs.List.{Contains}
 use Rattle.sled_codec.specs.History.{Message, no_history, page_state, of_page, table}
 use Rattle.sled_codec.specs.PageTables.{IsTable}

@@ -1,5 +1,5 @@
 -- Where a new segment begins behind the end of a log file, zeros that fill the file up to there change nothing of what stands.
-use Rattle.std.proofs.Common.{◌≡◌, ◌∙◌, ◌+◌, ◌-◌, ◌*◌, ◌/◌, ◌%◌, ◌≤◌, ◌<◌, ℕ, pos, Bool, true, false, List, [], ◌++◌, length, replicate, get_or, Option, Some, None, refl, sym, ap, subst, arith, inl, inr, length-append}
+use Rattle.std.proofs.Common.{◌≡◌, ◌∙◌, ◌+◌, ◌-◌, ◌*◌, ◌/◌, ◌≤◌, ◌<◌, ℕ, pos, Bool, true, false, List, [], ◌++◌, length, replicate, get_or, Some, None, refl, sym, ap, subst, arith, inl, inr, length-append}
 use Rattle.std.specs.List.{All, Contains}
 use Rattle.std.proofs.Math.Nat.{mul-le-mul_right}
 use Rattle.std.proofs.lemmas.Bool.{cases_lt}
@@ -9,11 +9,10 @@ use Rattle.sled_codec.specs.History.{Message, History, table}
 use Rattle.sled_codec.specs.PageTables.{IsTable}
 use Rattle.sled_codec.specs.Places.{part}
 use Rattle.sled_codec.specs.Pointers.{lid_of}
-use Rattle.sled_codec.specs.Record.{IsHeader}
 use Rattle.sled_codec.specs.Snapshots.{SnapshotModel, stable_place}
-use Rattle.sled_store.specs.Begin.{slots_of, slot_of, is_used, unused, first_or}
+use Rattle.sled_store.specs.Begin.{slots_of, is_used, unused, first_or}
 use Rattle.sled_store.proofs.Segments.Elements.{in_nothing}
-use Rattle.sled_store.proofs.Segments.FilledLemmas.{filled, filled_covered, filled_grows, filled_zero, slot_before, free_below, free_has, first_there, begins_in}
+use Rattle.sled_store.proofs.Segments.FilledLemmas.{filled, filled_covered, filled_grows, filled_zero, free_below, free_has, first_there, begins_in}
 use Rattle.sled_core.specs.declared.iterator.Segment.{Segment}
 use Rattle.sled_core.specs.NextLogFile.{padded}
 use Rattle.sled_core.specs.Reached.{StandsTo, StandsActive}

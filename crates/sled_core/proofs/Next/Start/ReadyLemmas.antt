@@ -1,6 +1,6 @@
 -- A log that begins on what a recovery left holds the history.
 use Rattle.std.proofs.Common.{◌≡◌, ◌≤◌, ◌<◌, ◌+◌, ◌-◌, ◌*◌, ◌/◌, ◌%◌, ◌∙◌, ◌-ℤ◌, ◌↔◌, ℕ, ℤ, pos, List, [], length, refl, sym, ap, subst, arith, inl, inr, Option, None, Some, IfSome}
-use Rattle.std.specs.List.{All, Contains}
+use Rattle.std.specs.List.{All}
 use Rattle.std.proofs.Math.Nat.{mod-add-div', mul-mod_left}
 use Rattle.std.proofs.lemmas.Bool.{cases_lt}
 use Rattle.std.proofs.lemmas.List.{append-nil, take_all}

@@ -1,12 +1,11 @@
 -- A log can begin on what a recovery left.
-use Rattle.std.proofs.Common.{◌≡◌, ◌↔◌, ◌≤◌, ◌<◌, ◌≤ℤ◌, ◌+◌, ◌-◌, ◌*◌, ◌/◌, ◌%◌, ◌^◌, ◌∙◌, ℕ, ℤ, pos, negsuc, true, List, [], ◌∷◌, length, Option, Some, None, IfSome, refl, sym, ap, subst, arith, inl, inr, unsigned_abs}
+use Rattle.std.proofs.Common.{◌≡◌, ◌↔◌, ◌≤◌, ◌<◌, ◌≤ℤ◌, ◌+◌, ◌-◌, ◌*◌, ◌/◌, ◌%◌, ◌^◌, ◌∙◌, ℕ, ℤ, pos, negsuc, true, List, length, Option, Some, None, IfSome, refl, sym, ap, subst, arith, inl, inr, unsigned_abs}
 use Rattle.std.specs.List.{All, Contains}
 use Rattle.std.proofs.Math.Nat.{mod-add-div', mul-div_cancel, div-mul-le_self}
 use Rattle.std.proofs.lemmas.Bool.{cases_lt}
 use Rattle.std.proofs.lemmas.Int.{ints}
 use Rattle.sled_codec.specs.Pointers.{lid_of}
 use Rattle.sled_codec.specs.History.{Message, History, table}
-use Rattle.sled_codec.specs.PageTables.{IsTable}
 use Rattle.sled_codec.specs.Snapshots.{Entry, Page, SnapshotModel, is_sound, sound_parts, stable_place}
 use Rattle.sled_store.specs.Begin.{slots_of, slot_of, segment_number_of, entries_of, IsPlacedIn, MayBeActive, IsStartable, IsInReach, place_at}
 use Rattle.sled_store.specs.Device.{State}

@@ -1,5 +1,5 @@
 -- What stands up to a place can be recovered, where all of the history ends below it; and it stands so for each snapshot that ends at the same place.
-use Rattle.std.proofs.Common.{⊎_elim, ◌≡◌, ◌∙◌, ◌*◌, ◌/◌, ◌≤◌, ◌<◌, ◌+◌, ℕ, ℤ, List, Option, refl, sym, ap, subst, arith, inl, inr}
+use Rattle.std.proofs.Common.{⊎_elim, ◌≡◌, ◌*◌, ◌/◌, ◌≤◌, ◌<◌, ◌+◌, ℕ, ℤ, List, Option, refl, sym, ap, subst, arith, inl, inr}
 use Rattle.std.specs.List.{Contains}
 use Rattle.std.proofs.lemmas.List.Elements.{All-contains}
 use Rattle.sled_codec.specs.History.{Message, History, table}
@@ -7,7 +7,7 @@ use Rattle.sled_codec.specs.Snapshots.{SnapshotModel, stable_place}
 use Rattle.sled_codec.specs.WellFormed.{LieApart}
 use Rattle.sled_store.specs.Device.{LogState, State, Content, LeavesLog, at_rest}
 use Rattle.sled_store.proofs.LogFile.LogLemmas.{at_rest_left}
-use Rattle.sled_store.proofs.Histories.Ascending.{Ascends, apart_ascends}
+use Rattle.sled_store.proofs.Histories.Ascending.{apart_ascends}
 use Rattle.sled_store.proofs.Histories.EarlierEntries.{entry_earlier}
 use Rattle.sled_store.proofs.Histories.TableParts.{from_table}
 use Rattle.sled_core.specs.NextFits.{EndBelow}

@@ -1,11 +1,11 @@
 -- What the entries of a table that lie in one slot sum up to, where they are of one segment.
-use Rattle.std.proofs.Common.{◌≡◌, ◌≤◌, ◌<◌, ◌+◌, ◌*◌, ◌/◌, ◌%◌, ◌^◌, ◌==◌, ◌∙◌, ℕ, pos, Bool, true, false, if◌then◌else◌, List, [], ◌∷◌, Option, Some, None, refl, sym, ap, subst, arith, eqb-true, eq-eqb, get_or}
+use Rattle.std.proofs.Common.{◌≡◌, ◌≤◌, ◌<◌, ◌+◌, ◌*◌, ◌/◌, ◌%◌, ◌^◌, ◌==◌, ◌∙◌, ℕ, Bool, true, false, if◌then◌else◌, List, [], ◌∷◌, Option, Some, None, refl, sym, ap, arith, eqb-true, eq-eqb, get_or}
 use Rattle.std.specs.List.{All, Contains, sum_by}
 use Rattle.std.proofs.Math.Nat.{mod-add-div', div-mul-le_self}
-use Rattle.std.proofs.lemmas.List.Elements.{All-contains, All-tail}
+use Rattle.std.proofs.lemmas.List.Elements.{All-tail}
 use Rattle.std.proofs.lemmas.List.Sums.{sum_by-cons}
 use Rattle.sled_codec.specs.History.{Message, History}
-use Rattle.sled_codec.specs.PageTables.{entry_of, IsTable}
+use Rattle.sled_codec.specs.PageTables.{IsTable}
 use Rattle.sled_codec.specs.Snapshots.{Entry, Page}
 use Rattle.sled_codec.specs.WellFormed.{LieApart}
 use Rattle.sled_store.specs.Begin.{slot_of, segment_number_of, entries_of, sizes_in}

@@ -1,5 +1,5 @@
 -- A log that begins on what a recovery left fits the history.
-use Rattle.std.proofs.Common.{◌≡◌, ◌≢◌, ◌≤◌, ◌<◌, ◌+◌, ◌-◌, ◌*◌, ◌/◌, ◌%◌, ◌∙◌, ◌-ℤ◌, ℕ, pos, List, [], length, Option, Some, None, IfSome, refl, sym, ap, subst, arith}
+use Rattle.std.proofs.Common.{◌≡◌, ◌≤◌, ◌<◌, ◌+◌, ◌*◌, ◌/◌, ◌%◌, ◌∙◌, ◌-ℤ◌, ℕ, pos, List, [], length, Option, Some, None, IfSome, refl, sym, ap, subst, arith}
 use Rattle.std.proofs.Math.Nat.{mod-add-div'}
 use Rattle.sled_codec.specs.Coords.{raised}
 use Rattle.sled_codec.specs.Record.{short_header}
@@ -14,7 +14,7 @@ use Rattle.sled_store.proofs.Segments.FilledLemmas.{filled, filled_grows, begins
 use Rattle.sled_core.specs.Fits.{log_parts}
 use Rattle.sled_core.specs.NextFits.{HoldsIn}
 use Rattle.sled_core.specs.NextLogFile.{padded}
-use Rattle.sled_core.specs.NextReady.{HasNoActive, HasFile}
+use Rattle.sled_core.specs.NextReady.{HasFile}
 use Rattle.sled_core.specs.NextRecoverable.{LeavesRecoverable}
 use Rattle.sled_core.specs.NextRunning.{BlobsFit, NamesFit, FitsIn, IsReadyFor}
 use Rattle.sled_core.specs.Reached.{StandsActive, StandsAlone}

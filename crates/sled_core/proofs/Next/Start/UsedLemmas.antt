@@ -1,7 +1,7 @@
 -- What stands in the slots that are used stays when the others are filled: the log file that a log begins on.
-use Rattle.std.proofs.Common.{◌≡◌, ◌≢◌, ◌⊎◌, ◌≤◌, ◌<◌, ◌+◌, ◌-◌, ◌*◌, ◌/◌, ◌%◌, ◌∙◌, ℕ, pos, true, false, List, [], length, get_or, refl, sym, ap, subst, arith, inl, inr, Option, Some, None, unsigned_abs}
+use Rattle.std.proofs.Common.{◌≡◌, ◌≢◌, ◌⊎◌, ◌≤◌, ◌<◌, ◌+◌, ◌*◌, ◌/◌, ◌%◌, ◌∙◌, ℕ, pos, true, false, List, length, get_or, sym, ap, subst, arith, inl, inr, Some, unsigned_abs}
 use Rattle.std.specs.List.{All, Contains}
-use Rattle.std.proofs.Math.Nat.{mul-le-mul_right, mod-add-div', mod-lt, div-eq_of_lt}
+use Rattle.std.proofs.Math.Nat.{mul-le-mul_right, mod-add-div', mod-lt}
 use Rattle.std.proofs.lemmas.Bool.{cases_lt}
 use Rattle.std.proofs.lemmas.List.{get_or_past}
 use Rattle.std.proofs.lemmas.List.Elements.{All-contains}
@@ -17,11 +17,11 @@ use Rattle.sled_store.specs.Begin.{slots_of, slot_of, segment_number_of, entries
 use Rattle.sled_core.specs.LogFile.{MessageStands}
 use Rattle.sled_core.specs.NextFits.{EndBelow}
 use Rattle.sled_core.specs.NextLogFile.{StandsHere, StandsElsewhere, HasHeader, IsLogFile}
-use Rattle.sled_core.specs.NextReady.{StandsUsed, HaveRecords, HasActive, HasNoActive, active_site}
+use Rattle.sled_core.specs.NextReady.{HasActive, HasNoActive, active_site}
 use Rattle.sled_store.proofs.Segments.FilledLemmas.{filled, slots_cover, slot_before, filled_grows, filled_byte, filled_part, filled_zero, all_begin, filled_covered, free_below, first_there}
 use Rattle.sled_core.proofs.Flush.LogFileLemmas.{stands_some}
 use Rattle.sled_core.proofs.Next.Start.Entries.{table_entry, active_used}
-use Rattle.sled_core.proofs.Read.ScanLemmas.{aligned_offset, aligned_number}
+use Rattle.sled_core.proofs.Read.ScanLemmas.{aligned_number}
 
 module _ (sum : List ℕ → ℕ) (size : ℕ) (long : 256 ≤ size) (log : List ℕ) (s : SnapshotModel) (H : History) where
   abbrev slots : ℕ
