@@ -8,6 +8,7 @@ pub mod FilledActive
 pub mod StartFits
 pub mod FilledMoments
 pub mod SegmentSizes
+pub mod PlacedEntries
 pub mod ReadyStarts
 pub mod FreshLemmas
 pub mod FreshReady

@@ -1,29 +1,25 @@
 -- A log can begin on what a recovery left.
-use Rattle.std.proofs.Common.{◌≡◌, ◌↔◌, ◌≤◌, ◌<◌, ◌≤ℤ◌, ◌+◌, ◌-◌, ◌*◌, ◌/◌, ◌%◌, ◌^◌, ◌∙◌, ℕ, ℤ, pos, negsuc, true, List, length, Option, Some, None, IfSome, refl, sym, ap, subst, arith, inl, inr, unsigned_abs}
+use Rattle.std.proofs.Common.{◌≡◌, ◌↔◌, ◌≤◌, ◌<◌, ◌+◌, ◌-◌, ◌*◌, ◌/◌, ◌%◌, ◌^◌, ◌∙◌, ℕ, ℤ, pos, negsuc, true, List, length, Option, Some, None, IfSome, refl, sym, ap, subst, arith, inl, inr}
 use Rattle.std.specs.List.{All, Contains}
-use Rattle.std.proofs.Math.Nat.{mod-add-div', mul-div_cancel, div-mul-le_self}
+use Rattle.std.proofs.Math.Nat.{div-mul-le_self}
 use Rattle.std.proofs.lemmas.Bool.{cases_lt}
-use Rattle.std.proofs.lemmas.Int.{ints}
-use Rattle.sled_codec.specs.Pointers.{lid_of}
-use Rattle.sled_codec.specs.History.{Message, History, table}
+use Rattle.sled_codec.specs.History.{History}
+use Rattle.sled_codec.specs.PageTables.{IsTable}
 use Rattle.sled_codec.specs.Snapshots.{Entry, Page, SnapshotModel, is_sound, sound_parts, stable_place}
 use Rattle.sled_store.specs.Begin.{slots_of, slot_of, segment_number_of, entries_of, IsPlacedIn, MayBeActive, IsStartable, IsInReach, place_at}
 use Rattle.sled_store.specs.Device.{State}
 use Rattle.sled_store.specs.SnapshotFiles.{BeginsFrom}
 use Rattle.sled_store.proofs.Segments.Elements.{all_from_in}
-use Rattle.sled_store.proofs.Segments.SnapshotEntries.{IsEntryOf, all_seen}
-use Rattle.sled_store.proofs.Histories.TableParts.{from_table}
-use Rattle.sled_core.specs.declared.iterator.Segment.{Segment}
+use Rattle.sled_store.proofs.Segments.SnapshotEntries.{all_seen}
 use Rattle.sled_core.specs.NextRunning.{IsReadyFor}
 use Rattle.sled_core.specs.Reached.{StandsActive}
-use Rattle.sled_core.specs.Recoverable.{ActiveFits, LiesInSegment, IsSegmentOf}
+use Rattle.sled_core.specs.Recoverable.{ActiveFits}
 use Rattle.sled_core.specs.Scan.{IsFoundSegment}
 use Rattle.sled_core.specs.Tail.{Scanned, least_place}
-use Rattle.sled_core.proofs.Next.Start.Entries.{entry_message}
+use Rattle.sled_core.proofs.Next.Start.PlacedEntries.{Known, known, slot_is, number_is, placed, of_slot, of_number, same_number}
 use Rattle.sled_core.proofs.Next.Start.ReadyLemmas.{raised_same}
 use Rattle.sled_core.proofs.Next.Start.SegmentSizes.{slot_counted}
-use Rattle.sled_core.proofs.Reached.StartedStands.{found_inside, slot_needed}
-use Rattle.sled_core.proofs.Read.ScanLemmas.{aligned_offset}
+use Rattle.sled_core.proofs.Reached.StartedStands.{found_inside}
 use Rattle.sled_core.proofs.Tail.Moved.{one_in_slot}
 use Rattle.sled_core.proofs.Tail.OneTail.{segment_there}
 use Rattle.sled_core.proofs.Torn.AlikeSlots.{slot_found}
@@ -40,10 +36,6 @@ sound_with size some (Some (negsuc n)) was active pages sound fits = absurd (cc)
 sound_with size some None None None pages sound fits = sound
 sound_with size some None None (Some a) pages sound fits = absurd (let behind = fits.0 in let none : 0 % size ≡ 0 = omega (arith, some) in omega (arith, behind, none))
 sound_with size some None (Some was) active pages sound fits = absurd (cc)
-
--- two multiples of a size are of one number
-same_number : (size m n : ℕ) → 0 < size → m * size ≡ n * size → m ≡ n
-same_number size m n some same = sym (mul-div_cancel m some) ∙ ap (λ k. k / size) same ∙ mul-div_cancel n some
 
 module _ (sum : List ℕ → ℕ) (size : ℕ) (device : State) (s : SnapshotModel) (H : History) (A f : ℕ) (long : 256 ≤ size) (most : size ≤ 8388608) (ready : IsReadyFor sum size device s H A f) where
   abbrev log : List ℕ
@@ -65,91 +57,14 @@ module _ (sum : List ℕ → ℕ) (size : ℕ) (device : State) (s : SnapshotMod
   some = omega (arith, long)
 
   -- An entry is of a message of the table, whose segment is found.
-  record Known (e : Entry) : Type 0 where
-    page : ℕ
-    message : Message
-    entry : Contains (table H stable page) message
-    of : IsEntryOf message e
-    segment : IsSegmentOf sum size log H stable message
-    lies : LiesInSegment size message
-    below : message.place < stable
+  abbrev table_is : IsTable s.pages H stable
+  table_is = ready.ready.table
 
-  known : (e : Entry) → Contains es e → Known e
-  known e there =
-      let m = entry_message s.pages H stable ready.ready.table e there in
-      let from = from_table H stable m.0 m.1 m.2 in
-      record {
-        page = m.0;
-        message = m.1;
-        entry = m.2;
-        of = m.3;
-        segment = (alone.stands.needed m.0 m.1 m.2).0;
-        lies = alone.stands.placed m.1 from.0;
-        below = from.2;
-      }
+  abbrev KnownHere : Entry → Type 0
+  KnownHere = Known sum size log s H long table_is alone
 
-  module _ (e : Entry) (k : Known e) where
-    place_is : unsigned_abs e.0 ≡ k.message.place
-    place_is = ap unsigned_abs k.of.place
-
-    lid_is : lid_of e.1 ≡ lid_of k.message.pointer
-    lid_is = ap lid_of k.of.pointer
-
-    -- it lies in the slot of that segment
-    slot_is : slot_of size e ≡ k.segment.segment.slot / size
-    slot_is = ap (λ n. n / size) lid_is ∙ sym (slot_needed sum size log H stable k.message k.segment)
-
-    -- and has its number
-    number_is : segment_number_of size e ≡ k.message.place / size
-    number_is = ap (λ n. n / size) place_is
-
-    offset_is : lid_of e.1 % size ≡ k.message.place % size
-    offset_is =
-        let u : Segment = k.segment.segment in
-        let at : ℕ = k.segment.reached.at in
-        let room = k.segment.reached.room in
-        let less : at < size = omega (arith, room) in
-        let inside : lid_of e.1 % size ≡ at = ap (λ n. n % size) (lid_is ∙ k.segment.reached.lid) ∙ aligned_offset u.slot at size k.segment.found.slot less in
-        let place = k.segment.reached.place in
-        let begins = k.segment.place in
-        omega (arith, inside, place, begins, mod-add-div' k.message.place size)
-
-    placed : IsPlacedIn size slots stable e
-    placed =
-        let under = k.below in
-        let behind = k.lies.begins.behind in
-        let room = k.lies.begins.room in
-        let ends = k.lies.ends in
-        record {
-          not_negative = subst (λ (z : ℤ). pos 0 ≤ℤ z) (sym k.of.place) (omega (arith, ints));
-          below = omega (arith, place_is, under);
-          offset = offset_is ∙ ap (λ n. n % size) (sym place_is);
-          slot = let inside = found_inside sum size log 0 k.segment.segment (omega (arith, long)) k.segment.found in omega (arith, inside, slot_is);
-          begins = record { behind_header = omega (arith, offset_is, behind); before_end = omega (arith, offset_is, room) };
-          ends = elim k.of.size [ inl own ↦ omega (arith, own, offset_is, ends) | inr given_back ↦ omega (arith, given_back, offset_is, room) ];
-        }
-
-  -- Two entries lie in one slot just where they are of one segment.
-  module _ (d e : Entry) (j : Known d) (k : Known e) where
-    of_slot : slot_of size d ≡ slot_of size e → segment_number_of size d ≡ segment_number_of size e
-    of_slot same =
-        let slots_same : j.segment.segment.slot / size ≡ k.segment.segment.slot / size = sym (slot_is d j) ∙ same ∙ slot_is e k in
-        let begins : j.segment.segment.slot ≡ k.segment.segment.slot =
-        slot_found sum size log 0 j.segment.segment j.segment.found ∙ ap (λ n. n * size) slots_same ∙ sym (slot_found sum size log 0 k.segment.segment k.segment.found) in
-        let one = one_in_slot sum size log 0 0 j.segment.segment k.segment.segment j.segment.found k.segment.found begins in
-        number_is d j ∙ same_number size (j.message.place / size) (k.message.place / size) some (sym j.segment.place ∙ one ∙ k.segment.place) ∙ sym (number_is e k)
-
-    of_number : segment_number_of size d ≡ segment_number_of size e → slot_of size d ≡ slot_of size e
-    of_number same =
-        let number : j.message.place / size ≡ k.message.place / size = sym (number_is d j) ∙ same ∙ number_is e k in
-        let there : IsSegmentOf sum size log H stable k.message = record {
-          segment = j.segment.segment;
-          found = j.segment.found;
-          place = j.segment.place ∙ ap (λ n. n * size) number;
-          reached = j.segment.whole k.message (from_table H stable k.page k.message k.entry).0 (sym number) k.below;
-          whole = λ n has is lower. j.segment.whole n has (is ∙ sym number) lower;
-        } in
-        slot_is d j ∙ slot_needed sum size log H stable k.message there ∙ ap (λ n. n / size) (sym (lid_is e k))
+  seen : (e : Entry) → Contains es e → KnownHere e
+  seen = known sum size log s H long table_is alone
 
   -- The active segment.
   module _ (a : ℕ) (active : s.active ≡ Some a) where
@@ -172,21 +87,21 @@ module _ (sum : List ℕ → ℕ) (size : ℕ) (device : State) (s : SnapshotMod
           offset = record { behind_header = fits.0; before_end = let room = fits.1 in omega (arith, room) };
         }
 
-    active_slot : (e : Entry) → Known e → slot_of size e ≡ a / size → segment_number_of size e ≡ stable / size
+    active_slot : (e : Entry) → KnownHere e → slot_of size e ≡ a / size → segment_number_of size e ≡ stable / size
     active_slot e k same =
-        let slots_same : k.segment.segment.slot / size ≡ scan.segment.slot / size = sym (slot_is e k) ∙ same ∙ ap (λ n. n / size) (sym in_slot) in
+        let slots_same : k.segment.segment.slot / size ≡ scan.segment.slot / size = sym (slot_is sum size log s H long table_is alone e k) ∙ same ∙ ap (λ n. n / size) (sym in_slot) in
         let begins : k.segment.segment.slot ≡ scan.segment.slot =
         slot_found sum size log 0 k.segment.segment k.segment.found ∙ ap (λ n. n * size) slots_same ∙ sym (slot_found sum size log (least_place size s) scan.segment scan_found) in
         let one = one_in_slot sum size log 0 (least_place size s) k.segment.segment scan.segment k.segment.found scan_found begins in
-        number_is e k ∙ same_number size (k.message.place / size) (stable / size) some (sym k.segment.place ∙ one ∙ (alone.going a active).at_place)
+        number_is sum size log s H long table_is alone e k ∙ same_number size (k.message.place / size) (stable / size) some (sym k.segment.place ∙ one ∙ (alone.going a active).at_place)
 
-    active_number : (e : Entry) → Known e → segment_number_of size e ≡ stable / size → slot_of size e ≡ a / size
+    active_number : (e : Entry) → KnownHere e → segment_number_of size e ≡ stable / size → slot_of size e ≡ a / size
     active_number e k same =
-        let at : k.segment.segment.place ≡ least_place size s = k.segment.place ∙ ap (λ n. n * size) (sym (number_is e k) ∙ same) in
+        let at : k.segment.segment.place ≡ least_place size s = k.segment.place ∙ ap (λ n. n * size) (sym (number_is sum size log s H long table_is alone e k) ∙ same) in
         let found : IsFoundSegment sum size log (least_place size s) k.segment.segment = record { slot = k.segment.found.slot; header = k.segment.found.header; not_below = omega (arith, at) } in
         let here : Some a ≡ Some k.segment.segment.slot = sym active ∙ alone.only k.segment.segment found in
         let same_slot : k.segment.segment.slot ≡ a = cc in
-        slot_is e k ∙ ap (λ n. n / size) same_slot
+        slot_is sum size log s H long table_is alone e k ∙ ap (λ n. n / size) same_slot
 
   sound : is_sound s ≡ true
   sound =
@@ -202,10 +117,10 @@ module _ (sum : List ℕ → ℕ) (size : ℕ) (device : State) (s : SnapshotMod
     sound = sound;
     seen = all_seen s.pages H stable ready.ready.table;
     active = by_active s.active refl;
-    placed = all_from_in (IsPlacedIn size slots stable) es (λ e there. placed e (known e there));
-    apart = λ d e has_d has_e. (of_slot d e (known d has_d) (known e has_e), of_number d e (known d has_d) (known e has_e));
+    placed = all_from_in (IsPlacedIn size slots stable) es (λ e there. placed sum size log s H long table_is alone e (seen e there));
+    apart = λ d e has_d has_e. (of_slot sum size log s H long table_is alone d e (seen d has_d) (seen e has_e), of_number sum size log s H long table_is alone d e (seen d has_d) (seen e has_e));
     of_active = by_entries s.active refl;
-    counted = slot_counted size most s.pages H stable ready.ready.table ready.ready.apart (λ m there. (alone.stands.placed m there).ends) (λ d e has_d has_e same. of_slot d e (known d has_d) (known e has_e) same);
+    counted = slot_counted size most s.pages H stable ready.ready.table ready.ready.apart (λ m there. (alone.stands.placed m there).ends) (λ d e has_d has_e same. of_slot sum size log s H long table_is alone d e (seen d has_d) (seen e has_e) same);
   } where
     by_active : (o : Option ℕ) → s.active ≡ o → IfSome o (MayBeActive size slots stable)
     by_active None none = tt
@@ -214,7 +129,7 @@ module _ (sum : List ℕ → ℕ) (size : ℕ) (device : State) (s : SnapshotMod
     by_entries : (o : Option ℕ) → s.active ≡ o → IfSome o (λ a. All (λ e. (slot_of size e ≡ a / size) ↔ (segment_number_of size e ≡ stable / size)) es)
     by_entries None none = tt
     by_entries (Some a) active =
-        all_from_in (λ e. (slot_of size e ≡ a / size) ↔ (segment_number_of size e ≡ stable / size)) es (λ e there. (active_slot a active e (known e there), active_number a active e (known e there)))
+        all_from_in (λ e. (slot_of size e ≡ a / size) ↔ (segment_number_of size e ≡ stable / size)) es (λ e there. (active_slot a active e (seen e there), active_number a active e (seen e there)))
 
   -- And a further segment is in reach, where the file is short enough and, where none is active, the next one is.
   pub ready_in_reach : length log + 2 * size ≤ 2 ^ 63 → (s.active ≡ None → stable + size < 2 ^ 63) → IsInReach size (length log) s

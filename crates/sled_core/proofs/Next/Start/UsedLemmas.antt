@@ -18,10 +18,11 @@ use Rattle.sled_core.specs.LogFile.{MessageStands}
 use Rattle.sled_core.specs.NextFits.{EndBelow}
 use Rattle.sled_core.specs.NextLogFile.{StandsHere, StandsElsewhere, HasHeader, IsLogFile}
 use Rattle.sled_core.specs.NextReady.{HasActive, HasNoActive, active_site}
-use Rattle.sled_store.proofs.Segments.FilledLemmas.{filled, slots_cover, slot_before, filled_grows, filled_byte, filled_part, filled_zero, all_begin, filled_covered, free_below, first_there}
+use Rattle.sled_store.proofs.Segments.FilledLemmas.{filled, slots_cover, slot_before, filled_grows, filled_byte, filled_part, filled_zero, filled_covered, free_below, first_there}
 use Rattle.sled_core.proofs.Flush.LogFileLemmas.{stands_some}
 use Rattle.sled_core.proofs.Next.Start.Entries.{table_entry, active_used}
 use Rattle.sled_core.proofs.Read.ScanLemmas.{aligned_number}
+use Rattle.sled_core.proofs.Torn.FilledAlong.{unused_begin, used_apart}
 
 module _ (sum : List ℕ → ℕ) (size : ℕ) (long : 256 ≤ size) (log : List ℕ) (s : SnapshotModel) (H : History) where
   abbrev slots : ℕ
@@ -47,10 +48,7 @@ module _ (sum : List ℕ → ℕ) (size : ℕ) (long : 256 ≤ size) (log : List
   free_slots = λ k d lt. (free_below (is_used size s) slots k d lt).0
 
   free_begin : All (λ k. k * size < length log) free
-  free_begin = all_begin size some log free free_slots
-
-  used_apart : (j : ℕ) → is_used size s j ≡ true → All (λ k. k ≢ j) free
-  used_apart j used = λ k d lt same. let r = free_below (is_used size s) slots k d lt in let both : true ≡ false = sym used ∙ sym (ap (is_used size s) same) ∙ r.1 in cc
+  free_begin = unused_begin size (length log) s some
 
   grows : length log ≤ length new
   grows = filled_grows size some free log
@@ -62,7 +60,7 @@ module _ (sum : List ℕ → ℕ) (size : ℕ) (long : 256 ≤ size) (log : List
 
   module _ (lid : ℕ) (used : is_used size s (lid / size) ≡ true) where
     used_part : (n : ℕ) → lid % size + n ≤ size → part new lid n ≡ part log lid n
-    used_part n within = filled_part size some free log (lid / size) lid n free_begin (used_apart (lid / size) used) (omega (arith, mod-add-div' lid size)) (omega (arith, mod-add-div' lid size, within))
+    used_part n within = filled_part size some free log (lid / size) lid n free_begin (used_apart size (length log) s (lid / size) used) (omega (arith, mod-add-div' lid size)) (omega (arith, mod-add-div' lid size, within))
 
     used_message : (number : ℕ) (m : Message) → MessageStands sum size log lid number m → MessageStands sum size new lid number m
     used_message number m r = record {
@@ -85,7 +83,7 @@ module _ (sum : List ℕ → ℕ) (size : ℕ) (long : 256 ≤ size) (log : List
     }
 
   used_byte : (j i : ℕ) → is_used size s j ≡ true → j * size ≤ i → i < j * size + size → get_or new i 0 ≡ get_or log i 0
-  used_byte j i used low high = filled_byte size some free log j i free_begin (used_apart j used) low high
+  used_byte j i used low high = filled_byte size some free log j i free_begin (used_apart size (length log) s j used) low high
 
   -- a record in another slot lies apart from one
   other_slot : (lid n j : ℕ) → lid / size ≢ j → lid % size + n ≤ size → (lid + n ≤ j * size) ⊎ (j * size + size ≤ lid)
