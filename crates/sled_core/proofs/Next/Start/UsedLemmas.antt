@@ -22,6 +22,7 @@ use Rattle.sled_store.proofs.Segments.FilledLemmas.{filled, slots_cover, slot_be
 use Rattle.sled_core.proofs.Flush.LogFileLemmas.{stands_some}
 use Rattle.sled_core.proofs.Next.Start.Entries.{table_entry, active_used}
 use Rattle.sled_core.proofs.Read.ScanLemmas.{aligned_number}
+use Rattle.sled_core.proofs.Tail.Moved.{message_moved}
 use Rattle.sled_core.proofs.Torn.FilledAlong.{unused_begin, used_apart}
 
 module _ (sum : List ℕ → ℕ) (size : ℕ) (long : 256 ≤ size) (log : List ℕ) (s : SnapshotModel) (H : History) where
@@ -63,24 +64,7 @@ module _ (sum : List ℕ → ℕ) (size : ℕ) (long : 256 ≤ size) (log : List
     used_part n within = filled_part size some free log (lid / size) lid n free_begin (used_apart size (length log) s (lid / size) used) (omega (arith, mod-add-div' lid size)) (omega (arith, mod-add-div' lid size, within))
 
     used_message : (number : ℕ) (m : Message) → MessageStands sum size log lid number m → MessageStands sum size new lid number m
-    used_message number m r = record {
-      header = r.header;
-      stands = record {
-        header = r.stands.header;
-        spelled = r.stands.spelled;
-        is = used_part m.size r.stands.in_slot ∙ r.stands.is;
-        counted = r.stands.counted;
-        numbered = r.stands.numbered;
-        summed = r.stands.summed;
-        valid = r.stands.valid;
-        in_file = let end = r.stands.in_file in omega (arith, end, grows);
-        in_slot = r.stands.in_slot;
-        small = r.stands.small;
-      };
-      known = r.known;
-      short = used_part m.size r.stands.in_slot ∙ r.short;
-      page = r.page;
-    }
+    used_message number m r = let end = r.stands.in_file in message_moved sum size log new lid number m (used_part m.size r.stands.in_slot) (omega (arith, end, grows)) r
 
   used_byte : (j i : ℕ) → is_used size s j ≡ true → j * size ≤ i → i < j * size + size → get_or new i 0 ≡ get_or log i 0
   used_byte j i used low high = filled_byte size some free log j i free_begin (used_apart size (length log) s j used) low high
