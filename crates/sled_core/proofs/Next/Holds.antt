@@ -1,0 +1,4 @@
+pub mod Added
+pub mod BegunLemmas
+pub mod CompletesLemmas
+pub mod HoldsLemmas
