@@ -2,4 +2,5 @@ pub mod Added
 pub mod BegunLemmas
 pub mod CompletesLemmas
 pub mod HoldsLemmas
+pub mod ReachLemmas
 pub mod StandsAdds
