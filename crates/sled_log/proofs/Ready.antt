@@ -1,0 +1,6 @@
+pub mod Convertible
+pub mod FileThere
+pub mod ReadToPlace
+pub mod RecoveredReady
+pub mod SlotNamed
+pub mod ZerosStay
