@@ -1,8 +1,10 @@
 pub mod FilledMoments
 pub mod FreshLemmas
 pub mod FreshReady
+pub mod GoodFilled
 pub mod OpenLemmas
 pub mod ReadyLemmas
 pub mod ReadyStarts
 pub mod StartFits
+pub mod UsedEntries
 pub mod UsedLemmas
