@@ -6,5 +6,6 @@ pub mod OpenLemmas
 pub mod ReadyLemmas
 pub mod ReadyStarts
 pub mod StartFits
+pub mod StartedSite
 pub mod UsedEntries
 pub mod UsedLemmas
