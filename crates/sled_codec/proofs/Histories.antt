@@ -28,6 +28,11 @@ of_page-adds H H' m cut page adds past =
     let refused : test m ≡ false = ap (λ (b : Bool). (m.page == page) && b) not_below ∙ not_both (m.page == page) in
     ap (filter test) adds.new ∙ filter_without test m adds.before adds.after refused ∙ ap (filter test) (sym adds.old)
 
+-- The table below the cut is the same.
+pub table_stays : (H H' : History) (m : Message) (cut page : ℕ) → AddsMessage H m H' → cut ≤ m.place → table H' cut page ≡ table H cut page
+unfolding table
+table_stays H H' m cut page adds past = ap page_state (of_page-adds H H' m cut page adds past)
+
 -- The pages that were the table below the cut are it still.
 pub table-adds : (pages : List Page) (H H' : History) (m : Message) (cut : ℕ) → AddsMessage H m H' → cut ≤ m.place → IsTable pages H cut → IsTable pages H' cut
 unfolding table
@@ -44,7 +49,7 @@ only_at x y zero lt is = is
 only_at x y (suc k) lt is = absurd (omega (arith, lt))
 
 -- a message of the new history that lies below the cut is one of the old history
-among : (H H' : History) (m : Message) (cut : ℕ) → AddsMessage H m H' → cut ≤ m.place → (x : Message) → Contains H'.messages x → x.place < cut → Contains H.messages x
+pub among : (H H' : History) (m : Message) (cut : ℕ) → AddsMessage H m H' → cut ≤ m.place → (x : Message) → Contains H'.messages x → x.place < cut → Contains H.messages x
 among H H' m cut adds past x there low =
     let old : Contains (adds.before ++ adds.after) x → Contains H.messages x = λ is. subst (λ (l : List Message). Contains l x) (sym adds.old) is in
     elim (Contains-append_cases adds.before (m ∷ adds.after) x (subst (λ (l : List Message). Contains l x) adds.new there)) [

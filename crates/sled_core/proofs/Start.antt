@@ -1,8 +1,11 @@
 pub mod FilledMoments
 pub mod FreshLemmas
 pub mod FreshReady
+pub mod GoodFilled
 pub mod OpenLemmas
 pub mod ReadyLemmas
 pub mod ReadyStarts
 pub mod StartFits
+pub mod StartedSite
+pub mod UsedEntries
 pub mod UsedLemmas

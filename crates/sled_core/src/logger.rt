@@ -81,7 +81,8 @@ impl<D: Device, C: Checksum> Log<D, C> {
             → LeavesOnly (RecoverableIfOwn C.sum_of config.config.segment_size H A f) (D.trace config.device) (D.trace (config_left result).device) }
         ensures starts { (H : History) (A f : ℕ) → Ready C.sum_of config.config.segment_size (state_of (D.trace config.device)) (model_of snapshot.now) H A f
             → IfErr result (λ e. (IsCorrupt e.0 → ⊥) × (e.0 ≢ Error.PlacesUsedUp)) }
-        ensures begins { IfOk result (λ log. BeginsBehind config.config.segment_size (model_of snapshot.now) log) }
+        ensures begins { let len = length (state_of (D.trace config.device)).log.bytes in
+            IfOk result (λ log. BeginsBehind config.config.segment_size len (model_of snapshot.now) log) }
         ensures config { ConfigKept config (config_left result) }
         ensures later { IsLater (D.trace config.device) (D.trace (config_left result).device) }
         ensures filled { let size = config.config.segment_size in let s = model_of snapshot.now in let old = D.trace config.device in

@@ -8,6 +8,7 @@ pub mod PageTable
 mod Passes
 pub mod PublicLaws
 pub mod Reached
+pub mod Ready
 pub mod Recovers
 pub mod Replay
 pub mod Sessions

@@ -8,5 +8,6 @@ pub mod PassTable
 pub mod PassedMessages
 pub mod PassedRows
 pub mod RecoversGood
+pub mod ShownActive
 pub mod TailBegins
 pub mod Undamaged

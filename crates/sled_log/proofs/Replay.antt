@@ -10,4 +10,3 @@ pub mod OnlySegment
 pub mod PassedLemmas
 pub mod RecoveryLemmas
 pub mod SegmentRecovers
-pub mod ShownLemmas

@@ -1,5 +1,5 @@
 -- What stands in each phase of a run.
-use Rattle.std.specs.Prelude.{◌≡◌, ◌^◌, ◌-◌, ◌<◌, ◌⊎◌, ℕ, List, length, Option, None, Some, Contains, Bool}
+use Rattle.std.specs.Prelude.{◌≡◌, ◌^◌, ◌-◌, ◌<◌, ℕ, List, length, Option, None, Some, Contains, Bool}
 use Rattle.std.specs.List.{All}
 use Rattle.sled_codec.specs.declared.serialization.message.LogKind.TheVariants.{Replace}
 use Rattle.sled_codec.specs.History.{Message, History}
@@ -8,7 +8,7 @@ use Rattle.sled_codec.specs.Snapshots.{SnapshotModel, model_of, stable_place}
 use Rattle.sled_store.specs.Device.{Trace, state_of}
 use Rattle.sled_store.specs.Moments.{IsLater}
 use Rattle.sled_store.specs.declared.config.RunningConfig.{RunningConfig}
-use Rattle.sled_core.specs.Fits.{NoneOpen, Awaits, IsOnlyOpen, IsOpen, config_of, fault_of, next_place, pins_of, synced_end}
+use Rattle.sled_core.specs.Fits.{NoneOpen, Awaits, IsOnlyOpen, IsOpen, config_of, fault_of, next_place, pins_of, site_of, synced_end}
 use Rattle.sled_core.specs.Keeps.{ConfigKept}
 use Rattle.sled_core.specs.Recoverable.{LeavesRecoverable}
 use Rattle.sled_core.specs.Running.{Fits, Ready}
@@ -19,8 +19,8 @@ use Rattle.sled_log.specs.declared.session.step.Ticket.{Ticket}
 use Rattle.sled_log.specs.declared.session.command.Command.{Command}
 use Rattle.sled_log.specs.declared.session.command.Reply.{Reply}
 use Rattle.sled_log.specs.declared.session.command.Reply.TheVariants as reply
-use Rattle.sled_log.specs.RunStates.{DeviceView, LogView, RunState, started_on}
-use Rattle.sled_log.specs.Runs.{IsOwn, IsOutOfTurn, IsRefusedWhere, IsCause, Acts, IsStep}
+use Rattle.sled_log.specs.RunStates.{DeviceView, LogView, RunState, ShowsActive, length_of, started_on}
+use Rattle.sled_log.specs.Runs.{IsOwn, IsOutOfTurn, IsRefusedWhere, IsStartCause, Acts, IsStep}
 
 -- a message of a page lies below a place
 pub record HasBelow (messages : List Message) (page place : ℕ) : Type 0 where
@@ -61,7 +61,7 @@ traces view device = (view device).trace
 -- what is seen of a log that is open, with the message of its reservation
 abbrev pub seen : {D C : Type 0} → Opened D C → Option Message → LogView
 seen opened reserved =
-    record { next = next_place opened.log; stable = synced_end opened.log; begun = opened.begun; fault = fault_of opened.log; reserved = reserved }
+    record { site = site_of opened.log; next = next_place opened.log; stable = synced_end opened.log; begun = opened.begun; fault = fault_of opened.log; reserved = reserved }
 
 -- What a run keeps in mind that its code doesn't store.
 pub record Unstored : Type 0 where
@@ -163,9 +163,10 @@ pub record Continues {D C : Type 0} (trace : D → Trace) (phase next : Phase D 
   pub runs_on : RunsOn trace (running phase) (running next)
   pub can_go_on : CanGoOn next
 
--- A recovery has left this: a table of which each page has a message, and where its place lies in the segment, a log can be started on it.
+-- A recovery has left this: a table of which each page has a message, with the segment in which a log goes on; and where its place lies in the segment, a log can be started on it.
 pub record IsRecoveredAt {D C : Type 0} (trace : D → Trace) (sum : List ℕ → ℕ) (config : RunningConfig D C) (s : SnapshotModel) (k : Unstored) : Type 0 where
   pub closed : IsClosedAt sum config.config.segment_size (trace config.device) k
+  pub active : ShowsActive config.config.segment_size (stable_place s.stable) s.active
   pub ready : stable_place s.stable < config.config.segment_size
       → Ready sum config.config.segment_size (state_of (trace config.device)) s k.history k.acknowledged k.floor
   pub begun : (page : ℕ) → page < length s.pages → HasMessageOf k.history.messages page
@@ -176,23 +177,21 @@ Shows s (reply.Opened t) = model_of t ≡ s
 Shows s (reply.Recovered t e) = model_of t ≡ s
 Shows s _ = ⊥
 
--- the log that a reply shows, and why none is open
-abbrev pub log_shown : SnapshotModel → Reply → Option LogView
-log_shown s (reply.Opened t) = Some (started_on s)
-log_shown s _ = None
+-- the log that a reply shows, with a log file of this length, and why none is open
+abbrev pub log_shown : ℕ → ℕ → SnapshotModel → Reply → Option LogView
+log_shown size len s (reply.Opened t) = Some (started_on size len s)
+log_shown size len s _ = None
 
 abbrev pub SaysWhy : Reply → ℕ → ℕ → Type 0
-SaysWhy (reply.Recovered t (Some e)) before after = IsCause e before after
+SaysWhy (reply.Recovered t (Some e)) before after = IsStartCause e before after
 SaysWhy _ before after = Unit {0}
 
 -- What a start makes of a table that was recovered.
 pub record HasStarted {D C : Type 0} (view : D → DeviceView) (sum : List ℕ → ℕ) (config : RunningConfig D C) (s : SnapshotModel) (result : Phase D C × Reply)
     (k : Unstored) : Type 0 where
-  pub log : log_in result.0 None ≡ log_shown s result.1
+  pub log : log_in result.0 None ≡ log_shown config.config.segment_size (length_of (device_in view result.0)) s result.1
   pub at : IsAt (traces view) sum result.0 k
   pub why : SaysWhy result.1 (view config.device).failures (device_in view result.0).failures
-  -- what was written is nothing that an entry reads
-  pub reads : (stable_place s.stable ≡ 0) ⊎ ((device_in view result.0).trace ≡ (view config.device).trace)
 
 abbrev pub Starts : {D C : Type 0} → (D → DeviceView) → (List ℕ → ℕ) → RunningConfig D C → SnapshotModel → Phase D C × Reply → Type 0
 Starts view sum config s result = (k : Unstored) → IsRecoveredAt (traces view) sum config s k → HasStarted view sum config s result k

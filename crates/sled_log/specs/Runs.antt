@@ -4,7 +4,7 @@ use Rattle.std.specs.List.{All}
 use Rattle.std.specs.declared.io.Error.{Error as IoError}
 use Rattle.sled_codec.specs.declared.result.DiskPtr.{DiskPtr}
 use Rattle.sled_codec.specs.declared.result.Error.{Error}
-use Rattle.sled_codec.specs.declared.result.Error.TheVariants.{Io, OutOfMemory}
+use Rattle.sled_codec.specs.declared.result.Error.TheVariants.{Io, OutOfMemory, PlacesUsedUp}
 use Rattle.sled_codec.specs.Spelling.{short_bytes}
 use Rattle.sled_codec.specs.Snapshots.{SnapshotModel, model_of, stable_place}
 use Rattle.sled_codec.specs.History.{Message, History, Step, Completed}
@@ -14,17 +14,18 @@ use Rattle.sled_store.specs.Answers.{is_fault}
 use Rattle.sled_store.specs.Chosen.{MayBeChosen}
 use Rattle.sled_store.specs.Noted.{left_of}
 use Rattle.sled_store.specs.Script.{Performs, after_all}
-use Rattle.sled_store.specs.Begin.{slots_of, unused, filling}
+use Rattle.sled_store.specs.Begin.{slots_of, unused, filling, IsStartable, IsInReach}
+use Rattle.sled_store.specs.Causes.{StartRefuses}
 use Rattle.sled_core.specs.Causes.{IsFault}
 use Rattle.sled_core.specs.Fits.{IsKept}
 use Rattle.sled_core.specs.Good.{IsGood}
-use Rattle.sled_core.specs.Recoverable.{NoForeign, first_site}
+use Rattle.sled_core.specs.Recoverable.{NoForeign}
 use Rattle.sled_log.specs.declared.session.command.Command.{Command}
 use Rattle.sled_log.specs.declared.session.command.Command.TheVariants as command
 use Rattle.sled_log.specs.declared.session.command.Reply.{Reply}
 use Rattle.sled_log.specs.declared.session.command.Reply.TheVariants as reply
 use Rattle.sled_log.specs.Recovery.{RecoveryResult, Recovered, Recovers}
-use Rattle.sled_log.specs.RunStates.{DeviceView, LogView, RunState, with_log, recovered, started_on, is_pending, end_reserved, replace_at, HasRoomAt, ShowsActive}
+use Rattle.sled_log.specs.RunStates.{DeviceView, LogView, RunState, length_of, with_log, recovered, started_on, is_pending, end_reserved, offset_in, replace_at, HasRoomAt, ShowsActive}
 use Rattle.sled_log.specs.WritesBack.{HasWrittenBack}
 use Rattle.sled_log.specs.Restores.{RecoveryCalls}
 
@@ -55,7 +56,7 @@ IsOutOfTurn size (Some l) command.Halt = ⊥
 IsOutOfTurn size (Some l) command.Complete = l.reserved ≡ None
 IsOutOfTurn size (Some l) command.Flush = IsSome l.reserved
 IsOutOfTurn size (Some l) (command.Replace page item) =
-    IsSome l.reserved ⊎ (l.begun < page) ⊎ (page ≡ 2 ^ 64 - 1) ⊎ (HasRoomAt size l.next page (length (short_bytes item.items)) → ⊥)
+    IsSome l.reserved ⊎ (l.begun < page) ⊎ (page ≡ 2 ^ 64 - 1) ⊎ (HasRoomAt size l page (length (short_bytes item.items)) → ⊥)
 
 -- a command is refused exactly where it is out of its turn
 abbrev pub IsRefusedWhere : Type 0 → Reply → Type 0
@@ -76,13 +77,16 @@ pub record HasRecovered (sum : List ℕ → ℕ) (size : ℕ) (old new : DeviceV
 abbrev pub starting : ℕ → Trace → SnapshotModel → List Event
 starting size trace s = filling size (unused size (slots_of size (length (state_of trace).log.bytes)) s)
 
--- A log was started on what was recovered, or the calls for it were made up to one that failed, or none where the segment is full.
+-- A log was started on what was recovered, where one can begin on that and a further segment is in reach; or the calls for it were made up to one that failed; or none where the segment is full, or where it is refused.
 abbrev pub StartActs : ℕ → DeviceView → Reply → DeviceView → Type 0
 StartActs size old (reply.Opened s) new =
-    (new.trace ≡ after_all (starting size old.trace (model_of s)) old.trace) × (new.failures ≡ old.failures)
+    IsStartable size (length_of old) (model_of s) × IsInReach size (length_of old) (model_of s)
+    × (new.trace ≡ after_all (starting size old.trace (model_of s)) old.trace) × (new.failures ≡ old.failures)
 StartActs size old (reply.Recovered s None) new = (size ≤ stable_place s.stable_lsn) × (new ≡ old)
 StartActs size old (reply.Recovered s (Some e)) new =
-    (stable_place s.stable_lsn < size) × Performs (starting size old.trace (model_of s)) old.trace new.trace
+    (stable_place s.stable_lsn < size)
+    × StartRefuses e (IsStartable size (length_of old) (model_of s)) (IsInReach size (length_of old) (model_of s)) (new.trace ≡ old.trace) old.failures new.failures
+    × Performs (starting size old.trace (model_of s)) old.trace new.trace
 StartActs size old _ new = ⊥
 
 -- A recovery was made and a log started on what it shows, or its calls were made up to one that failed.
@@ -97,7 +101,7 @@ OpenActs sum size old _ new = ⊥
 
 -- the calls that write what was reserved and sync it: one write of these bytes and one sync, or none where nothing is pending
 abbrev pub flush_calls : LogView → List ℕ → List Event
-flush_calls l bytes = if is_pending l then Wrote l.stable bytes bytes ∷ Synced ∷ [] else []
+flush_calls l bytes = if is_pending l then Wrote (l.site.slot + offset_in l l.stable) bytes bytes ∷ Synced ∷ [] else []
 
 -- Those calls were made, all of them or up to one that failed, and none by a log that keeps a failure.
 abbrev pub FlushActs : Option LogView → DeviceView → Reply → DeviceView → Type 0
@@ -135,16 +139,21 @@ IsCause (Io e) before after = IsTrue (is_fault e) × (after ≡ (before + 1) % 2
 IsCause OutOfMemory before after = after ≡ before
 IsCause _ before after = ⊥
 
+-- the same of a start, which is refused too where no further segment is in reach
+abbrev pub IsStartCause : Error → ℕ → ℕ → Type 0
+IsStartCause PlacesUsedUp before after = after ≡ before
+IsStartCause e before after = IsCause e before after
+
 -- The snapshot is good for the run on what is left, and shows the segment in which a log goes on.
 pub record IsGoodFor (sum : List ℕ → ℕ) (size : ℕ) (a : RunState) (new : DeviceView) (s : SnapshotModel) : Type 0 where
   pub good : IsGood sum size (content_of (state_of new.trace)) a.history a.acknowledged a.floor s
   pub active : ShowsActive size (stable_place s.stable) s.active
 
 abbrev pub OpenStep : (List ℕ → ℕ) → ℕ → RunState → Reply → DeviceView → RunState → Type 0
-OpenStep sum size a (reply.Opened s) new b = IsGoodFor sum size a new (model_of s) × (b ≡ recovered a new (model_of s) (Some (started_on (model_of s))))
+OpenStep sum size a (reply.Opened s) new b = IsGoodFor sum size a new (model_of s) × (b ≡ recovered a new (model_of s) (Some (started_on size (length_of new) (model_of s))))
 OpenStep sum size a (reply.Recovered s None) new b = IsGoodFor sum size a new (model_of s) × (b ≡ recovered a new (model_of s) None)
 OpenStep sum size a (reply.Recovered s (Some e)) new b =
-    IsGoodFor sum size a new (model_of s) × IsCause e a.device.failures new.failures × (b ≡ recovered a new (model_of s) None)
+    IsGoodFor sum size a new (model_of s) × IsStartCause e a.device.failures new.failures × (b ≡ recovered a new (model_of s) None)
 OpenStep sum size a (reply.Failed e) new b = IsCause e a.device.failures new.failures × (b ≡ with_log a new None)
 OpenStep sum size a _ new b = ⊥
 
@@ -154,19 +163,19 @@ IsAnswerFor m place pointer = (place ≡ pos m.place) × (pointer ≡ m.pointer)
 
 -- the log with a reservation for a message at its next place
 abbrev pub reserving : LogView → Message → LogView
-reserving l m = record { next = l.next + m.size; stable = l.stable; begun = l.begun; fault = l.fault; reserved = Some m }
+reserving l m = record { site = l.site; next = l.next + m.size; stable = l.stable; begun = l.begun; fault = l.fault; reserved = Some m }
 
-abbrev pub ReplaceStep : RunState → LogView → ℕ → List ℕ → Reply → DeviceView → RunState → Type 0
-ReplaceStep a l page bytes (reply.Reserved place pointer) new b =
-    let m = replace_at l.next page bytes in
+abbrev pub ReplaceStep : ℕ → RunState → LogView → ℕ → List ℕ → Reply → DeviceView → RunState → Type 0
+ReplaceStep size a l page bytes (reply.Reserved place pointer) new b =
+    let m = replace_at size l page bytes in
     (l.fault ≡ None) × IsAnswerFor m place pointer × (b ≡ with_log a new (Some (reserving l m)))
-ReplaceStep a l page bytes (reply.Failed (Io e)) new b = (l.fault ≡ Some e) × (b ≡ a)
-ReplaceStep a l page bytes (reply.Failed OutOfMemory) new b = (l.fault ≡ None) × (b ≡ a)
-ReplaceStep a l page bytes _ new b = ⊥
+ReplaceStep size a l page bytes (reply.Failed (Io e)) new b = (l.fault ≡ Some e) × (b ≡ a)
+ReplaceStep size a l page bytes (reply.Failed OutOfMemory) new b = (l.fault ≡ None) × (b ≡ a)
+ReplaceStep size a l page bytes _ new b = ⊥
 
 -- the log with no reservation open, and this many pages begun
 abbrev pub ended : LogView → ℕ → LogView
-ended l begun = record { next = l.next; stable = l.stable; begun = begun; fault = l.fault; reserved = None }
+ended l begun = record { site = l.site; next = l.next; stable = l.stable; begun = begun; fault = l.fault; reserved = None }
 
 -- The message of the open reservation comes to the history. Where it is the first of its page, that is begun.
 pub record HasCompleted (a : RunState) (l : LogView) (place : ℤ) (pointer : DiskPtr) (new : DeviceView) (b : RunState) : Type 0 where
@@ -191,7 +200,7 @@ CompleteStep a l _ new b = ⊥
 
 -- the log behind a flush, with its stable end there and this failure kept
 abbrev pub flushed : LogView → ℕ → Option IoError → LogView
-flushed l stable fault = record { next = l.next; stable = stable; begun = l.begun; fault = fault; reserved = l.reserved }
+flushed l stable fault = record { site = l.site; next = l.next; stable = stable; begun = l.begun; fault = fault; reserved = l.reserved }
 
 -- All that was reserved is written and synced. Each completed message is acknowledged, and what is answered is by how much the stable end grew.
 pub record HasFlushed (sum : List ℕ → ℕ) (size : ℕ) (a : RunState) (l : LogView) (n : ℕ) (new : DeviceView) (b : RunState) : Type 0 where
@@ -199,7 +208,7 @@ pub record HasFlushed (sum : List ℕ → ℕ) (size : ℕ) (a : RunState) (l : 
   pub growth : l.stable + n ≡ end_reserved l
   pub more : a.acknowledged ≤ end_reserved l
   pub all : All (λ m. m.place + m.size ≤ end_reserved l) a.history.messages
-  pub kept : IsKept sum size first_site (end_reserved l) (state_of new.trace) a.history
+  pub kept : IsKept sum size l.site (offset_in l (end_reserved l)) (state_of new.trace) a.history
   pub leads : b ≡ record { device = new; history = a.history; acknowledged = end_reserved l; floor = a.floor; log = Some (flushed l (end_reserved l) None) }
 
 abbrev pub FlushStep : (List ℕ → ℕ) → ℕ → RunState → LogView → Reply → DeviceView → RunState → Type 0
@@ -226,7 +235,7 @@ abbrev pub TurnStep : (List ℕ → ℕ) → ℕ → RunState → Option LogView
 TurnStep sum size a log (command.Crash choice) r new b = CrashStep a r new b
 TurnStep sum size a None command.Open r new b = OpenStep sum size a r new b
 TurnStep sum size a None (command.Stop n) r new b = StopStep a r new b
-TurnStep sum size a (Some l) (command.Replace page item) r new b = ReplaceStep a l page (short_bytes item.items) r new b
+TurnStep sum size a (Some l) (command.Replace page item) r new b = ReplaceStep size a l page (short_bytes item.items) r new b
 TurnStep sum size a (Some l) command.Complete r new b = CompleteStep a l r new b
 TurnStep sum size a (Some l) command.Flush r new b = FlushStep sum size a l r new b
 TurnStep sum size a (Some l) command.Halt r new b = HaltStep a r new b

@@ -36,7 +36,7 @@ stable_grows (pos a) (negsuc b) le = absurd le.le
 stable_grows (negsuc a) b le = omega arith
 
 -- none has a stable place above that of the newest one
-not_above_newest : (sum : List ℕ → ℕ) (snapshots : ℤ → Option (List ℕ)) (H : History) (first : SnapshotModel) → BeginsFrom sum snapshots first
+pub not_above_newest : (sum : List ℕ → ℕ) (snapshots : ℤ → Option (List ℕ)) (H : History) (first : SnapshotModel) → BeginsFrom sum snapshots first
     → (listed : (n : ℤ) (bytes : List ℕ) → snapshots n ≡ Some bytes → IsTableFile sum H n bytes)
     → (n : ℤ) (bytes : List ℕ) (there : snapshots n ≡ Some bytes) → stable_place (Some n) ≤ stable_place first.stable
 not_above_newest sum snapshots H first (inl none) listed n bytes there = let is = none.0 n in cc
@@ -47,7 +47,7 @@ not_above_newest sum snapshots H first (inr newest) listed n bytes there =
     let le : n ≤ℤ number = newest.2.greatest n (subst (λ (o : Option (List ℕ)). IsSome o) (sym there) refl) in
     subst (λ (o : Option ℤ). stable_place (Some n) ≤ stable_place o) (sym named) (stable_grows n number le)
 
-table_file-adds : (sum : List ℕ → ℕ) (H H' : History) (m : Message) (n : ℤ) (bytes : List ℕ) → AddsMessage H m H' → stable_place (Some n) ≤ m.place → IsTableFile sum H n bytes → IsTableFile sum H' n bytes
+pub table_file-adds : (sum : List ℕ → ℕ) (H H' : History) (m : Message) (n : ℤ) (bytes : List ℕ) → AddsMessage H m H' → stable_place (Some n) ≤ m.place → IsTableFile sum H n bytes → IsTableFile sum H' n bytes
 table_file-adds sum H H' m n bytes adds past file =
     let past' : stable_place file.model.stable ≤ m.place = subst (λ (o : Option ℤ). stable_place o ≤ m.place) (sym file.named) past in
     record {

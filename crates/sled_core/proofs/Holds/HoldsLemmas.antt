@@ -22,11 +22,11 @@ stands-same sum number old new r text body stands =
 pub body-append : (bytes more : List ℕ) (r : Reserved) → r.from + r.len ≤ length bytes → r.header_len ≤ r.len → body_in (bytes ++ more) r ≡ body_in bytes r
 body-append bytes more r within long = part-append bytes more (r.from + r.header_len) (r.len - r.header_len) (omega arith)
 
-stands-append : (sum : List ℕ → ℕ) (number : ℕ) (bytes more : List ℕ) (r : Reserved) → r.from + r.len ≤ length bytes → Stands sum number bytes r → Stands sum number (bytes ++ more) r
+pub stands-append : (sum : List ℕ → ℕ) (number : ℕ) (bytes more : List ℕ) (r : Reserved) → r.from + r.len ≤ length bytes → Stands sum number bytes r → Stands sum number (bytes ++ more) r
 stands-append sum number bytes more r within stands =
     stands-same sum number bytes (bytes ++ more) r (part-append bytes more r.from r.len within) (body-append bytes more r within stands.long) stands
 
-one : {X : Type 0} (P : X → Type 0) (x : X) → P x → All P (x ∷ [])
+pub one : {X : Type 0} (P : X → Type 0) (x : X) → P x → All P (x ∷ [])
 one P x here zero d lt = here
 one P x here (suc k) d lt = absurd (omega arith)
 

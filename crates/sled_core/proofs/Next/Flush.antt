@@ -1,0 +1,11 @@
+pub mod Completed
+pub mod FlushCalls
+pub mod FlushFits
+pub mod FlushLemmas
+pub mod LogFileLemmas
+pub mod Padded
+pub mod SameFits
+pub mod Settled
+pub mod WholeBuffer
+pub mod WrittenBuffer
+pub mod WrittenFile

@@ -1,0 +1,16 @@
+pub mod Entries
+pub mod UsedLemmas
+pub mod ReadyLemmas
+pub mod Recoverable
+pub mod KeptActive
+pub mod PaddedActive
+pub mod FilledActive
+pub mod StartFits
+pub mod FilledMoments
+pub mod SegmentSizes
+pub mod PlacedEntries
+pub mod ReadyStarts
+pub mod FreshLemmas
+pub mod FreshReady
+pub mod ZeroHeader
+pub mod ReadyFor

@@ -65,7 +65,7 @@ module _ (sum : List ℕ → ℕ) (size : ℕ) (old left : List ℕ) (slot : ℕ
       (kept.0, kept.1, alike_kept place (from + m.len) ms next path)
 
   -- A message that a reader comes to is reached,
-  reached_kept : (s : Segment) → s.slot ≡ slot → (n : Message) → IsReachedIn sum size old s n → IsReachedIn sum size left s n
+  pub reached_kept : (s : Segment) → s.slot ≡ slot → (n : Message) → IsReachedIn sum size old s n → IsReachedIn sum size left s n
   reached_kept s here n r =
       let path = subst (λ k. IsPath sum size old k s.place 20 r.before r.at) here r.path in
       let met = subst (λ k. IsMet sum size old (k + r.at) (s.place / size) r.met) here r.is_met in
@@ -83,7 +83,7 @@ module _ (sum : List ℕ → ℕ) (size : ℕ) (old left : List ℕ) (slot : ℕ
       }
 
   -- and has its item.
-  item_kept : (s : Segment) → s.slot ≡ slot → (n : Message) → IsReachedIn sum size old s n → StandsInline sum size old n n.pointer → StandsInline sum size left n n.pointer
+  pub item_kept : (s : Segment) → s.slot ≡ slot → (n : Message) → IsReachedIn sum size old s n → StandsInline sum size old n n.pointer → StandsInline sum size left n n.pointer
   item_kept s here n r = by n.pointer refl where
     by : (p : DiskPtr) → n.pointer ≡ p → StandsInline sum size old n p → StandsInline sum size left n p
     by (Inline lid) pointer stands =
@@ -101,7 +101,7 @@ module _ (sum : List ℕ → ℕ) (size : ℕ) (Used : ℕ → Type 0) (old left
     here = slot_found sum size old least s found
 
     -- it is found
-    found_kept : IsFoundSegment sum size left least s
+    pub found_kept : IsFoundSegment sum size left least s
     found_kept = keeps.found (s.slot / size) used least s here found
 
     bytes_kept : (lid len : ℕ) → s.slot ≤ lid → lid + len ≤ s.slot + size → lid + len ≤ length old → part left lid len ≡ part old lid len
@@ -110,7 +110,7 @@ module _ (sum : List ℕ → ℕ) (size : ℕ) (Used : ℕ → Type 0) (old left
         same (s.slot / size) used lid len (omega (arith, low, begins)) (omega (arith, high, begins)) there
 
     -- and read as before
-    scan_kept : (met : List ScannedRecord) (stop : ℕ) (why : ScanEnd) → IsScan sum size old s.slot s.place met stop why → IsScan sum size left s.slot s.place met stop why
+    pub scan_kept : (met : List ScannedRecord) (stop : ℕ) (why : ScanEnd) → IsScan sum size old s.slot s.place met stop why → IsScan sum size left s.slot s.place met stop why
     scan_kept met stop why scan =
         let header = subst (λ n. IsHeader sum (part left n 20) (pos s.place) s.mark) here found_kept.header in
         let before = subst (λ n. IsScan sum size old n s.place met stop why) here scan in

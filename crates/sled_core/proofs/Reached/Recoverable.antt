@@ -15,7 +15,7 @@ use Rattle.sled_core.proofs.Reached.ReachedEntries.{entries_there}
 use Rattle.sled_core.proofs.Reached.StandsTo.{StandsTo, begins, the_tail, tail_ends}
 
 -- less than a natural number is less than a greater one
-less_than : (mark : ℤ) (low high : ℕ) → low ≤ high → mark <ℤ pos low → mark <ℤ pos high
+pub less_than : (mark : ℤ) (low high : ℕ) → low ≤ high → mark <ℤ pos low → mark <ℤ pos high
 less_than (pos n) low high le lt = let under : n < low = mark_below (pos n) n low refl lt in omega (arith, lt→ltb, le, under)
 less_than (negsuc n) low high le lt = omega arith
 

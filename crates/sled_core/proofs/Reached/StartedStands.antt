@@ -111,7 +111,7 @@ module _ (sum : List ℕ → ℕ) (size : ℕ) (Used : ℕ → Type 0) (long : 2
   starting_stands old new rest calls = performs_throughout (AllLeft (StandsIfOwn sum size H A first reach)) (filling size ks ++ cutting size n slots) old new calls (starting_stands_along old rest)
 
 -- a slot in which a segment is found lies in the file
-found_inside : (sum : List ℕ → ℕ) (size : ℕ) (log : List ℕ) (least : ℕ) (s : Segment) → 20 ≤ size → IsFoundSegment sum size log least s → s.slot / size < slots_of size (length log)
+pub found_inside : (sum : List ℕ → ℕ) (size : ℕ) (log : List ℕ) (least : ℕ) (s : Segment) → 20 ≤ size → IsFoundSegment sum size log least s → s.slot / size < slots_of size (length log)
 found_inside sum size log least s long is_found =
     let slots : ℕ = slots_of size (length log) in
     let there = found_there sum size log least s is_found in
@@ -142,7 +142,7 @@ started_stands sum size s long none log H A first reach is listed entered old ne
     old new rest calls
 
 -- a reader comes to a message in the slot that its pointer says
-slot_needed : (sum : List ℕ → ℕ) (size : ℕ) (log : List ℕ) (H : History) (cut : ℕ) (m : Message) (of : IsSegmentOf sum size log H cut m) → of.segment.slot / size ≡ lid_of m.pointer / size
+pub slot_needed : (sum : List ℕ → ℕ) (size : ℕ) (log : List ℕ) (H : History) (cut : ℕ) (m : Message) (of : IsSegmentOf sum size log H cut m) → of.segment.slot / size ≡ lid_of m.pointer / size
 slot_needed sum size log H cut m of =
     let slot : ℕ = of.segment.slot in
     let lid : ℕ = lid_of m.pointer in

@@ -24,7 +24,7 @@ use Rattle.sled_core.proofs.Holds.HoldsLemmas.{stands-same, completed_open}
 use Rattle.sled_core.proofs.Holds.BegunLemmas.{begun-adds}
 
 -- a message that has a kind to be written under changes a page
-changes_page : (does : LogKind) (page : ℕ) (kind : MessageKind) → kind_written does page false ≡ Some kind → ChangesPage does
+pub changes_page : (does : LogKind) (page : ℕ) (kind : MessageKind) → kind_written does page false ≡ Some kind → ChangesPage does
 changes_page Replace page kind is = inl refl
 changes_page Link page kind is = inr (inl refl)
 changes_page Free page kind is = inr (inr refl)
@@ -45,26 +45,26 @@ module _ (sum : List ℕ → ℕ) (number : ℕ) (bytes : List ℕ) (r : Reserve
   fits = let a = stands.headed in let b = stands.long in omega (arith, a, b, within)
 
   -- one before it
-  body_before : (x : Reserved) → x.from + x.len ≤ r.from → Stands sum number bytes x → body_in completed x ≡ body_in bytes x
+  pub body_before : (x : Reserved) → x.from + x.len ≤ r.from → Stands sum number bytes x → body_in completed x ≡ body_in bytes x
   body_before x before at_x = let long = at_x.long in part-written_before bytes (completing r) r.from (x.from + x.header_len) (x.len - x.header_len) (omega arith) fits
 
-  same_before : (x : Reserved) → x.from + x.len ≤ r.from → Stands sum number bytes x → Stands sum number completed x
+  pub same_before : (x : Reserved) → x.from + x.len ≤ r.from → Stands sum number bytes x → Stands sum number completed x
   same_before x before at_x =
       stands-same sum number bytes completed x (part-written_before bytes (completing r) r.from x.from x.len before fits) (body_before x before at_x) at_x
 
   -- one behind it
-  body_behind : (x : Reserved) → r.from + r.len ≤ x.from → body_in completed x ≡ body_in bytes x
+  pub body_behind : (x : Reserved) → r.from + r.len ≤ x.from → body_in completed x ≡ body_in bytes x
   body_behind x behind =
       let a = stands.headed in let b = stands.long in
       part-written_behind bytes (completing r) r.from (x.from + x.header_len) (x.len - x.header_len) (omega (arith, a, b)) fits
 
-  same_behind : (x : Reserved) → r.from + r.len ≤ x.from → Stands sum number bytes x → Stands sum number completed x
+  pub same_behind : (x : Reserved) → r.from + r.len ≤ x.from → Stands sum number bytes x → Stands sum number completed x
   same_behind x behind at_x =
       let a = stands.headed in let b = stands.long in
       stands-same sum number bytes completed x (part-written_behind bytes (completing r) r.from x.from x.len (omega (arith, a, b)) fits) (body_behind x behind) at_x
 
   -- its own body
-  body_own : body_in completed r ≡ body_in bytes r
+  pub body_own : body_in completed r ≡ body_in bytes r
   body_own = let a = stands.headed in part-written_behind bytes (completing r) r.from (r.from + r.header_len) (r.len - r.header_len) (omega (arith, a)) fits
 
   placeholder_is : text_in bytes r ≡ placeholder (short_record sum r.kind r.page number (body_in bytes r))
@@ -78,7 +78,7 @@ module _ (sum : List ℕ → ℕ) (number : ℕ) (bytes : List ℕ) (r : Reserve
       ∙ ap (λ (l : List ℕ). completing r ++ drop 5 l) placeholder_is
       ∙ record_is sum number r (body_in bytes r) stands.summed
 
-  closed_stands : Stands sum number completed (closed r)
+  pub closed_stands : Stands sum number completed (closed r)
   closed_stands =
       let as_new : StandsAs sum number (text_in completed r) (body_in bytes r) (closed r) = record {
         headed = stands.headed;

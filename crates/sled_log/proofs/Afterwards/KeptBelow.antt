@@ -1,7 +1,7 @@
 -- Behind a recovery each content that a crash leaves can be read back for what lies below the cut, with the cut for the floor, over any number of segments.
-use Rattle.std.proofs.Common.{◌≡◌, ◌∙◌, ◌≤◌, ℕ, List, ◌∷◌, sym, subst, arith, inr}
+use Rattle.std.proofs.Common.{◌≡◌, ◌∙◌, ◌≤◌, ℕ, true, false, List, ◌∷◌, sym, subst, arith, inr}
 use Rattle.sled_codec.specs.History.{History, below}
-use Rattle.sled_codec.specs.Snapshots.{stable_place}
+use Rattle.sled_codec.specs.Snapshots.{SnapshotModel, stable_place}
 use Rattle.sled_store.specs.Device.{Synced, NamesSynced, LogState, NamesState, Content, Trace, state_of, content_of, names_synced, LeavesLog}
 use Rattle.sled_store.proofs.LogFile.LogLemmas.{at_rest_left}
 use Rattle.sled_store.proofs.Traces.ScriptLemmas.{ends_in}
@@ -25,11 +25,12 @@ use Rattle.sled_log.proofs.SnapshotFile.PublishLemmas.{listed_below}
 use Rattle.sled_log.proofs.WriteBack.WriteLemmas.{written_as}
 
 -- Snapshots of which recovery begins from one with the cut for its place are those of what lies below the cut, and that one isn't below the floor.
-begin_below : (sum : List ℕ → ℕ) (size : ℕ) (H : History) (f cut : ℕ) (names : NamesState) → NamesBegin sum size H f (λ t. stable_place t.stable ≡ cut) names → NamesBegin sum size (below H cut) cut (λ t. stable_place t.stable ≡ cut) names
-begin_below sum size H f cut names begin left leaves own =
+pub begin_below : (sum : List ℕ → ℕ) (size : ℕ) (H : History) (f cut : ℕ) (Allowed : SnapshotModel → Type 0) → ((t : SnapshotModel) → Allowed t → stable_place t.stable ≡ cut) → (names : NamesState)
+    → NamesBegin sum size H f Allowed names → NamesBegin sum size (below H cut) cut Allowed names
+begin_below sum size H f cut Allowed places names begin left leaves own =
     let first = begin left leaves own in
     let tables = first.1 in
-    let at = first.2 in (
+    let at = places first.0 first.2 in (
       first.0,
       record {
         begins = tables.begins;
@@ -37,7 +38,7 @@ begin_below sum size H f cut names begin left leaves own =
         not_below = omega (arith, at);
         active = tables.active;
       },
-      at,
+      first.2,
     )
 
 module _ (sum : List ℕ → ℕ) (size : ℕ) (H : History) (A f : ℕ) (some : 256 ≤ size) (old : Trace) (readable : LeavesReadable sum size H A f (state_of old)) (own : NoForeign sum size (state_of old) (content_of (state_of old)))
@@ -54,17 +55,18 @@ module _ (sum : List ℕ → ℕ) (size : ℕ) (H : History) (A f : ℕ) (some :
   well : RecoversWell sum size content H A f some can.orderly can.first can.cut can.snapshots can.log can.blobs x
   well = well_of sum size content H A f some can x recovers
 
-  -- the names
-  names_end : NamesEnd sum size H f cut (state_of new)
-  names_end = by has where
-    by : HasWrittenBack sum size x (NamesSynced ∷ Synced ∷ old) new → NamesEnd sum size H f cut (state_of new)
-    by (ns, are, places, from, came) =
-        let is = concluded sum size content H A f some can x well spelled in
-        subst (λ (h : Trace). NamesEnd sum size H f cut (state_of h)) (sym came) (ends_in (NamesEnd sum size H f cut) (writing_back sum size x ns places) (NamesSynced ∷ Synced ∷ old)
-        (writing_end sum size H f cut (names_synced (state_of old).blobs) (names_synced (state_of old).snapshots) (stand_synced sum size H A f old readable own can) (synced_twice (state_of old).blobs)
-        (settled_names sum size H A f some old readable own) can.first can.snapshots can.log.placed can.log.not_below x is.made is.kept
-        ns (λ is_new. apart_others sum size H A f some old readable own can x well spelled ns (λ n there. (((are is_new).each n).0 there).1) is_new)
-        places (all_above sum size H A f some old readable own can x well places (inr from)) _ _ _))
+  -- The names, of which recovery begins from the snapshot that was published, or from the one that was there where none was.
+  module _ (Allowed : SnapshotModel → Type 0) (made : x.is_new ≡ true → Allowed x.model) (kept : x.is_new ≡ false → Allowed can.first) where
+    pub names_end : NamesEnd sum size H f cut Allowed (state_of new)
+    names_end = by has where
+      by : HasWrittenBack sum size x (NamesSynced ∷ Synced ∷ old) new → NamesEnd sum size H f cut Allowed (state_of new)
+      by (ns, are, places, from, came) =
+          let is = concluded sum size content H A f some can x well spelled in
+          subst (λ (h : Trace). NamesEnd sum size H f cut Allowed (state_of h)) (sym came) (ends_in (NamesEnd sum size H f cut Allowed) (writing_back sum size x ns places) (NamesSynced ∷ Synced ∷ old)
+          (writing_end sum size H f cut Allowed (names_synced (state_of old).blobs) (names_synced (state_of old).snapshots) (stand_synced sum size H A f old readable own can) (synced_twice (state_of old).blobs)
+          (settled_names sum size H A f some old readable own) can.first can.snapshots can.log.placed can.log.not_below x is.made made kept
+          ns (λ is_new. apart_others sum size H A f some old readable own can x well spelled ns (λ n there. (((are is_new).each n).0 there).1) is_new)
+          places (all_above sum size H A f some old readable own can x well places (inr from)) _ _ _))
 
   -- the log file
   log_end : (left : List ℕ) → LeavesLog (state_of new).log left → left ≡ (left_log sum size content H A f some can x well own.zeros).bytes
@@ -74,17 +76,19 @@ module _ (sum : List ℕ → ℕ) (size : ℕ) (H : History) (A f : ℕ) (some :
       let is : (state_of new).log ≡ last = log_is sum size content H A f some can x well own.zeros (state_of new).log written.log in
       at_rest_left last.bytes left (subst (λ (s : LogState). LeavesLog s left) (is ∙ zeroed_rests size x.unread _) leaves)
 
-  below_cut : LeavesReadable sum size (below H cut) A cut (state_of new)
+  -- What a crash leaves can be read back below the cut.
+  pub below_cut : LeavesReadable sum size (below H cut) A cut (state_of new)
   below_cut =
       let fits = cut_fits sum size content H A f some can x well in
       let last : List ℕ = (left_log sum size content H A f some can x well own.zeros).bytes in
       let stops = stops_left sum size content H A f some can x well own.zeros in
       let nothing = nothing_above sum size content H A f some can x well own.zeros in
-      let names = names_end in
+      let at_cut : SnapshotModel → Type 0 = λ t. stable_place t.stable ≡ cut in
+      let names = names_end at_cut (λ is_new. well.place) (concluded sum size content H A f some can x well spelled).kept in
       parts_readable sum size (below H cut) A cut (orderly_below H cut can.orderly) can.cut (λ t. stable_place t.stable ≡ cut) (state_of new)
       (λ left leaves own_left t active at.
       subst (λ (l : List ℕ). IsRecoverableLog sum size l (below H cut) A t can.cut) (sym (log_end left leaves)) (recoverable_below sum size last some H A can.cut stops nothing fits t at active))
-      (begin_below sum size H f cut (state_of new).snapshots names.begin)
+      (begin_below sum size H f cut at_cut (λ t at. at) (state_of new).snapshots names.begin)
       (λ left leaves own_left. blobs_forget sum left H cut (names.stand left leaves own_left))
 
   pub kept_left : LeavesReadable sum size (below H (stable_place x.model.stable)) A (stable_place x.model.stable) (state_of new)

@@ -1,4 +1,4 @@
--- What a crash leaves of the names of a device behind the calls that write a recovery back: snapshots of which recovery begins from one with the cut for its place, and the blobs that it needs.
+-- What a crash leaves of the names of a device behind the calls that write a recovery back: snapshots of which recovery begins from the one that was published, or from the one that was there where none was, and the blobs that the cut needs.
 use Rattle.std.proofs.Common.{◌≡◌, ◌≢◌, ◌≤◌, ◌<◌, ◌++◌, if◌then◌else◌, ℕ, ℤ, pos, Bool, true, false, List, [], ◌∷◌, replicate, Option, Some, None, refl, sym, ap, subst}
 use Rattle.std.specs.List.{Contains}
 use Rattle.std.specs.Option.{unwrap_or}
@@ -18,13 +18,13 @@ use Rattle.sled_log.specs.WritesBack.{shredding, zeroing, removing, short_file, 
 use Rattle.sled_log.proofs.Moments.BlobsAlong.{stand_gone}
 use Rattle.sled_log.proofs.Moments.BlobsRemoved.{IsAbove}
 use Rattle.sled_log.proofs.Moments.LogAlong.{NamesBegin, BlobsStand}
-use Rattle.sled_log.proofs.Moments.SnapshotNames.{IsTableAt, settled_begin, published_begin}
+use Rattle.sled_log.proofs.Moments.SnapshotNames.{IsTableAt, settled_begin, published_as}
 use Rattle.sled_log.proofs.SnapshotFile.PublishLemmas.{IsPublished, published_synced, published_removed}
 
-module _ (sum : List ℕ → ℕ) (size : ℕ) (H : History) (f cut : ℕ) where
+module _ (sum : List ℕ → ℕ) (size : ℕ) (H : History) (f cut : ℕ) (Allowed : SnapshotModel → Type 0) where
   -- the names go with the cut
   pub record NamesEnd (s : State) : Type 0 where
-    pub begin : NamesBegin sum size H f (λ t. stable_place t.stable ≡ cut) s.snapshots
+    pub begin : NamesBegin sum size H f Allowed s.snapshots
     pub stand : BlobsStand sum H cut s.blobs
 
   abbrev Ends : List Event → State → Type 0
@@ -48,7 +48,7 @@ module _ (sum : List ℕ → ℕ) (size : ℕ) (H : History) (f cut : ℕ) where
     device log temporary placed = record { log = log; blobs = blobs; snapshots = names; temporary = temporary; placed = placed }
 
     -- A table is published, and others are removed.
-    module _ (s : SnapshotModel) (new : IsTableAt size H cut s) (not_above : stable_place first.stable ≤ cut) (es : List Event) (rest : (t : State) → NamesEnd t → Ends es t) where
+    module _ (s : SnapshotModel) (new : IsTableAt size H cut s) (allowed : Allowed s) (not_above : stable_place first.stable ≤ cut) (es : List Event) (rest : (t : State) → NamesEnd t → Ends es t) where
       abbrev bytes : List ℕ
       bytes = short_file sum s
 
@@ -56,7 +56,7 @@ module _ (sum : List ℕ → ℕ) (size : ℕ) (H : History) (f cut : ℕ) where
       named = renamed names (pos cut) true (record { file = Some bytes; is_unsynced = false }) (bytes ∷ [])
 
       removals_end : (ns : List ℤ) → ((n : ℤ) → Contains ns n → n ≢ pos cut) → (t : State) → IsPublished t.snapshots names.file (pos cut) bytes → BlobsStand sum H cut t.blobs → Ends (removing ns ++ es) t
-      removals_end [] apart t is there = rest t (record { begin = published_begin sum size H f cut s new names.file first tables not_above t.snapshots is; stand = there })
+      removals_end [] apart t is there = rest t (record { begin = published_as sum size H f cut s new names.file first tables not_above Allowed allowed t.snapshots is; stand = there })
       removals_end (m ∷ ns) apart t is there =
           removals_end ns (λ n at. apart n (in_rest m n ns at)) (step (SnapshotRemoved m true) t) (published_removed t.snapshots (pos cut) bytes names.file m (apart m (in_first m ns)) is) there
 
@@ -66,7 +66,7 @@ module _ (sum : List ℕ → ℕ) (size : ℕ) (H : History) (f cut : ℕ) where
           (published_synced names (pos cut) bytes settled) (subst (BlobsStand sum H cut) (sym firm) stand)
 
     -- All calls that write a recovery back.
-    module _ (lie : (m : Message) → Contains H.messages m → m.place < cut → LiesInSegment size m) (not_above : stable_place first.stable ≤ cut) (x : RecoveryResult) (made : x.is_new ≡ true → IsTableAt size H cut x.model) (kept : x.is_new ≡ false → stable_place first.stable ≡ cut)
+    module _ (lie : (m : Message) → Contains H.messages m → m.place < cut → LiesInSegment size m) (not_above : stable_place first.stable ≤ cut) (x : RecoveryResult) (made : x.is_new ≡ true → IsTableAt size H cut x.model) (allowed : x.is_new ≡ true → Allowed x.model) (kept : x.is_new ≡ false → Allowed first)
         (ns : List ℤ) (apart : x.is_new ≡ true → (n : ℤ) → Contains ns n → n ≢ pos cut) (places : List ℤ) (above : (p : ℤ) → Contains places p → IsAbove cut p) where
       abbrev forget : List Event
       forget = forgetting size x.unread places
@@ -75,12 +75,12 @@ module _ (sum : List ℕ → ℕ) (size : ℕ) (H : History) (f cut : ℕ) where
       forgets t end = zeroing_end x.unread (removing_blobs places) (removing_end lie places above) t end
 
       commits : (b : Bool) → x.is_new ≡ b → (log : LogState) (temporary : Temporary) (placed : List (ℕ × List ℕ)) → Ends ((if b then publishing sum x.model ns else []) ++ forget) (device log temporary placed)
-      commits false is_old log temporary placed = forgets (device log temporary placed) (record { begin = settled_begin sum size H f (λ t. stable_place t.stable ≡ cut) names settled first tables (kept is_old); stand = stand })
+      commits false is_old log temporary placed = forgets (device log temporary placed) (record { begin = settled_begin sum size H f Allowed names settled first tables (kept is_old); stand = stand })
       commits true is_new log temporary placed =
           let table = made is_new in
           let number : snapshot_number_of x.model ≡ pos cut = ap (λ (o : Option ℤ). unwrap_or o (pos 0)) table.stable in
           subst (λ (k : ℤ). Ends (publishing_file (short_file sum x.model) k ++ (removing ns ++ forget)) (device log temporary placed)) (sym number)
-          (publishing_end x.model table not_above forget forgets ns (apart is_new) log temporary placed)
+          (publishing_end x.model table (allowed is_new) not_above forget forgets ns (apart is_new) log temporary placed)
 
       fills : (r : Option (ℕ × ℕ)) (es : List Event) → ((log : LogState) (placed : List (ℕ × List ℕ)) (temporary : Temporary) → Ends es (device log temporary placed)) → (log : LogState) (temporary : Temporary) (placed : List (ℕ × List ℕ)) → Ends (shredding r ++ es) (device log temporary placed)
       fills None es rest log temporary placed = rest log placed temporary

@@ -11,16 +11,17 @@ use Rattle.sled_log.specs.Recovery.{Scanned}
 use Rattle.sled_log.proofs.PageTable.TableCuts.{below_same}
 
 module _ (H : History) (cut : ℕ) where
-  abbrev kept : History
+  abbrev pub kept : History
   kept = below H cut
 
-  message_from : (m : Message) → Contains kept.messages m → Contains H.messages m × (m.place < cut)
+  -- what is kept was there, below the cut
+  pub message_from : (m : Message) → Contains kept.messages m → Contains H.messages m × (m.place < cut)
   unfolding below
   message_from m there =
       let from = from_filter (λ (x : Message). nat_lt x.place cut) H.messages m there in
       (from.0, ltb-true m.place cut from.1)
 
-  batch_from : (b : Batch) → Contains kept.batches b → Contains H.batches b × (b.low < cut)
+  pub batch_from : (b : Batch) → Contains kept.batches b → Contains H.batches b × (b.low < cut)
   unfolding below
   batch_from b there =
       let from = from_filter (λ (x : Batch). nat_lt x.low cut) H.batches b there in

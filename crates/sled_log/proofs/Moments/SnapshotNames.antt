@@ -111,13 +111,16 @@ module _ (sum : List ℕ → ℕ) (size : ℕ) (H : History) (f cut : ℕ) (s : 
             | inr here ↦ ap left here.0 ∙ old ∙ ap file (sym here.0)
           ]
 
-    -- The name of the new one is settled, and each of the others has its file still, or may have none.
-    pub published_begin : (N : NamesState) → IsPublished N file (pos cut) bytes → NamesBegin sum size H f (λ t. stable_place t.stable ≡ cut) N
-    published_begin N published left leaves own = (
+    -- The name of the new one is settled, and each of the others has its file still, or may have none: recovery begins from the new one.
+    pub published_as : (Allowed : SnapshotModel → Type 0) → Allowed s → (N : NamesState) → IsPublished N file (pos cut) bytes → NamesBegin sum size H f Allowed N
+    published_as Allowed allowed N published left leaves own = (
       s,
       begins_new left (published.own (left (pos cut)) (leaves (pos cut))) (λ n b other is. elim (published.others n (left n) other (leaves n)) [
         | inl same ↦ sym same ∙ is
         | inr none ↦ absurd (cc)
       ]),
-      place,
+      allowed,
     )
+
+    pub published_begin : (N : NamesState) → IsPublished N file (pos cut) bytes → NamesBegin sum size H f (λ t. stable_place t.stable ≡ cut) N
+    published_begin = published_as (λ t. stable_place t.stable ≡ cut) place

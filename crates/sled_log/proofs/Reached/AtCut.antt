@@ -68,3 +68,8 @@ module _ (sum : List ℕ → ℕ) (size : ℕ) (log : List ℕ) (some : 256 ≤ 
         its_segment;
     needed = is.needed;
   }
+
+  -- what is read of it is the same
+  pub reads_at_cut : stands_at_cut.scanned ≡ is.scanned
+  unfolding stands_at_cut
+  reads_at_cut = refl

@@ -1,5 +1,5 @@
 -- What holds at the joints of a run: one trace behind another, what a crash leaves, and how a phase leads to the next one.
-use Rattle.std.proofs.Common.{◌≢◌, rules, reverse, ◌≤◌, ◌≡◌, ◌∙◌, ◌<◌, ◌^◌, ℕ, ℤ, pos, Bool, true, false, if◌then◌else◌, IsTrue, List, [], ◌∷◌, ◌++◌, Option, None, Some, refl, sym, ap, subst, append_assoc, inl, inr}
+use Rattle.std.proofs.Common.{rules, reverse, ◌≤◌, ◌≡◌, ◌∙◌, ◌<◌, ◌^◌, ℕ, ℤ, pos, Bool, true, false, if◌then◌else◌, IsTrue, List, [], ◌∷◌, ◌++◌, Option, None, Some, refl, sym, ap, subst, append_assoc, inl, inr}
 use Rattle.std.specs.Prelude.{FitsSigned, Err, ◌==◌}
 use Rattle.std.specs.declared.io.Error.{Error as IoError}
 use Rattle.std.specs.Int.{w64, cast_signed, cast_unsigned}
@@ -39,8 +39,8 @@ use Rattle.sled_log.specs.declared.session.step.Phase.{Phase}
 use Rattle.sled_log.specs.declared.session.step.Phase.TheVariants as phase
 use Rattle.sled_log.specs.declared.session.command.Reply.{Reply}
 use Rattle.sled_log.specs.declared.session.command.Reply.TheVariants as reply
-use Rattle.sled_log.specs.RunStates.{DeviceView, LogView, RunState, recovered, with_log, started_on}
-use Rattle.sled_log.specs.Runs.{IsOwn, IsOutOfTurn, IsRefusedWhere, IsCause, HasRecovered, StartActs, OpenActs, CrashActs, Acts, IsGoodFor, flushed, ended, FlushStep, CompleteStep, ReplaceStep, IsStep, Runs}
+use Rattle.sled_log.specs.RunStates.{DeviceView, LogView, RunState, length_of, recovered, with_log, started_on}
+use Rattle.sled_log.specs.Runs.{IsOwn, IsOutOfTurn, IsRefusedWhere, IsCause, IsStartCause, HasRecovered, StartActs, OpenActs, CrashActs, Acts, IsGoodFor, flushed, ended, FlushStep, CompleteStep, ReplaceStep, IsStep, Runs}
 use Rattle.sled_log.specs.RunPhases.{IsOpenAt, IsClosedAt, IsAt, Unstored, Shows, SaysWhy, log_shown, stands, size_of, traces, device_in, RunsOn, CarriesOut}
 use Rattle.sled_log.proofs.Sessions.RunHistories.{none_orderly}
 
@@ -200,13 +200,13 @@ cause_of T sum blobs error.OutOfMemory before after answers whole = answers
 cause_of T sum blobs (error.Corruption at) before after answers whole = absurd (whole tt)
 cause_of T sum blobs _ before after answers whole = absurd answers
 
--- so has that of a start that is refused neither for damage nor for want of places
-pub start_cause : (e : Error) (startable in_reach unwritten : Type 0) (before after : ℕ) → StartRefuses e startable in_reach unwritten before after → (IsCorrupt e → ⊥) → (e ≢ error.PlacesUsedUp) → IsCause e before after
-start_cause (error.Io e) startable in_reach unwritten before after refuses whole apart = refuses
-start_cause error.OutOfMemory startable in_reach unwritten before after refuses whole apart = refuses
-start_cause (error.Corruption at) startable in_reach unwritten before after refuses whole apart = absurd (whole tt)
-start_cause error.PlacesUsedUp startable in_reach unwritten before after refuses whole apart = absurd (apart refl)
-start_cause _ startable in_reach unwritten before after refuses whole apart = absurd refuses
+-- so has that of a start that is not refused for damage
+pub start_cause : (e : Error) (startable in_reach unwritten : Type 0) (before after : ℕ) → StartRefuses e startable in_reach unwritten before after → (IsCorrupt e → ⊥) → IsStartCause e before after
+start_cause (error.Io e) startable in_reach unwritten before after refuses whole = refuses
+start_cause error.OutOfMemory startable in_reach unwritten before after refuses whole = refuses
+start_cause (error.Corruption at) startable in_reach unwritten before after refuses whole = absurd (whole tt)
+start_cause error.PlacesUsedUp startable in_reach unwritten before after refuses whole = refuses.2
+start_cause _ startable in_reach unwritten before after refuses whole = absurd refuses
 
 -- A reply that shows what was recovered is none that refuses,
 pub open_turn : (s : SnapshotModel) (r : Reply) → Shows s r → IsRefusedWhere ⊥ r
@@ -223,10 +223,10 @@ open_acts sum size old mid new s _ shows has acts = absurd shows
 -- and what is shown is what the run goes on from.
 pub open_step : (sum : List ℕ → ℕ) (size : ℕ) (device new : DeviceView) (H : History) (A f : ℕ) (s : SnapshotModel) (r : Reply) (b : RunState) → Shows s r
     → let a : RunState = record { device = device; history = H; acknowledged = A; floor = f; log = None } in
-    IsGoodFor sum size a new s → SaysWhy r device.failures new.failures → b ≡ recovered a new s (log_shown s r) → IsStep sum size a command.Open r new b
+    IsGoodFor sum size a new s → SaysWhy r device.failures new.failures → b ≡ recovered a new s (log_shown size (length_of new) s r) → IsStep sum size a command.Open r new b
 open_step sum size device new H A f s (reply.Opened t) b shows good why is =
     let a : RunState = record { device = device; history = H; acknowledged = A; floor = f; log = None } in
-    (subst (λ (x : SnapshotModel). IsGoodFor sum size a new x) (sym shows) good, subst (λ (x : SnapshotModel). b ≡ recovered a new x (Some (started_on x))) (sym shows) is)
+    (subst (λ (x : SnapshotModel). IsGoodFor sum size a new x) (sym shows) good, subst (λ (x : SnapshotModel). b ≡ recovered a new x (Some (started_on size (length_of new) x))) (sym shows) is)
 open_step sum size device new H A f s (reply.Recovered t None) b shows good why is =
     let a : RunState = record { device = device; history = H; acknowledged = A; floor = f; log = None } in
     (subst (λ (x : SnapshotModel). IsGoodFor sum size a new x) (sym shows) good, subst (λ (x : SnapshotModel). b ≡ recovered a new x None) (sym shows) is)
@@ -266,12 +266,12 @@ replace_kind page none = by (page == 1) (page == 0) none
     by false false is = cc
 
 -- So a reservation for one fails for the failure that the log keeps, or for want of memory.
-pub replace_failed : (a : RunState) (l : LogView) (page : ℕ) (bytes : List ℕ) (T : Type 0) (e : Error) (new : DeviceView) (b : RunState)
-    → ReserveAnswers {T = T} (Err e) l.fault (kind_written Replace page false) → b ≡ a → ReplaceStep a l page bytes (reply.Failed e) new b
-replace_failed a l page bytes T (error.Io x) new b answers leads = (answers, leads)
-replace_failed a l page bytes T error.OutOfMemory new b answers leads = (answers.0, leads)
-replace_failed a l page bytes T (error.Unsupported text) new b answers leads = absurd (replace_kind page answers.1)
-replace_failed a l page bytes T _ new b answers leads = absurd answers
+pub replace_failed : (size : ℕ) (a : RunState) (l : LogView) (page : ℕ) (bytes : List ℕ) (T : Type 0) (e : Error) (new : DeviceView) (b : RunState)
+    → ReserveAnswers {T = T} (Err e) l.fault (kind_written Replace page false) → b ≡ a → ReplaceStep size a l page bytes (reply.Failed e) new b
+replace_failed size a l page bytes T (error.Io x) new b answers leads = (answers, leads)
+replace_failed size a l page bytes T error.OutOfMemory new b answers leads = (answers.0, leads)
+replace_failed size a l page bytes T (error.Unsupported text) new b answers leads = absurd (replace_kind page answers.1)
+replace_failed size a l page bytes T _ new b answers leads = absurd answers
 
 -- One command that is carried out, and then what runs on from the phase that it leads to.
 pub carried_next : {D C : Type 0} (view : D → DeviceView) (sum : List ℕ → ℕ) (size : ℕ) (phase : Phase D C) (c : Command) (result : Phase D C × Reply) → size_of phase ≡ size → CarriesOut view sum phase c result

@@ -95,7 +95,7 @@ module _ (size : ℕ) (first : SnapshotModel) (x : RecoveryResult) where
 pub sound_at : (s : SnapshotModel) (cut : ℕ) → s.stable ≡ Some (pos cut) → is_sound s ≡ true
 sound_at s cut is = subst (λ (o : Option ℤ). sound_parts o s.active s.pages ≡ true) (sym is) refl
 
-begins_from_only : (sum : List ℕ → ℕ) (file : ℤ → Option (List ℕ)) (s : SnapshotModel) (cut : ℕ) → s.stable ≡ Some (pos cut) → FitsSnapshot s → IsOnlySnapshot file (snapshot_number_of s) (short_file sum s) → BeginsFrom sum file s
+pub begins_from_only : (sum : List ℕ → ℕ) (file : ℤ → Option (List ℕ)) (s : SnapshotModel) (cut : ℕ) → s.stable ≡ Some (pos cut) → FitsSnapshot s → IsOnlySnapshot file (snapshot_number_of s) (short_file sum s) → BeginsFrom sum file s
 begins_from_only sum file s cut place fits only = inr (
   snapshot_number_of s,
   short_file sum s,

@@ -16,7 +16,7 @@ use Rattle.sled_store.proofs.Histories.TableParts.{split_at, from_page, page_asc
 
 module _ (test : Entry → Bool) where
   -- an entry that passes is found in the page that has it
-  any_page : (pages : List Page) (p : ℕ) → list_any test (entries_in (get_or pages p Uninitialized)) ≡ true → list_any test (entries_of pages) ≡ true
+  pub any_page : (pages : List Page) (p : ℕ) → list_any test (entries_in (get_or pages p Uninitialized)) ≡ true → list_any test (entries_of pages) ≡ true
   any_page [] p is = cc
   any_page (page ∷ pages) zero is = list_any-append test (entries_in page) (entries_of pages) ∙ ap (λ (b : Bool). b || list_any test (entries_of pages)) is
   any_page (page ∷ pages) (suc p) is =

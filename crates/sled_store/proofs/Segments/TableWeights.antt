@@ -58,20 +58,6 @@ module _ {X : Type 0} (w : X → ℕ) where
       by false false true one two rest = omega (arith, rest, sum_by-cons w x (filter r xs))
       by false false false one two rest = rest
 
--- The entries of one page.
-
-map_sizes : (ms : List Message) → sizes_of (map entry_of ms) ≤ sum_by weight ms
-map_sizes [] = omega arith
-map_sizes (m ∷ ms) = omega (arith, map_sizes ms, sum_by-cons (λ (e : Entry). e.2) (entry_of m) (map entry_of ms), sum_by-cons weight m ms)
-
-page_sizes : (ms : List Message) → sizes_of (entries_in (page_with ms)) ≤ sum_by weight ms
-page_sizes [] = omega arith
-page_sizes (b ∷ ms) = by (is_replace b.kind)
-  where
-    by : (t : Bool) → sizes_of (entries_in (if t then Present (entry_of b) (map entry_of ms) else FreePage (pos b.place) b.pointer)) ≤ sum_by weight (b ∷ ms)
-    by true = map_sizes (b ∷ ms)
-    by false = omega (arith, sum_by-cons weight b ms, sum_by-cons (λ (e : Entry). e.2) (pos b.place, b.pointer, 32) [])
-
 -- the messages behind a beginning that are links on it
 abbrev links_on : Message → Message → Bool
 links_on b m = is_link m.kind && nat_lt b.place m.place
@@ -100,31 +86,47 @@ state_less w ms = by (last_beginning ms) refl
     by None none = omega arith
     by (Some b) is = some b (beginning_there ms b is) (is_replace b.kind) refl
 
--- The entries of all pages.
-
-page_within : (ms : List Message) → sizes_of (entries_in (page_with (page_state ms))) ≤ sum_by weight ms
-page_within ms = omega (arith, page_sizes (page_state ms), state_less weight ms)
-
 -- the messages of the pages from one on
 abbrev from_page : ℕ → Message → Bool
 from_page first m = nat_le first m.page
 
-pages_sizes : (H : History) (cut : ℕ) (pages : List Page) (first : ℕ) → ((k : ℕ) → k < length pages → get_or pages k Uninitialized ≡ page_with (table H cut (first + k)))
-    → sizes_of (entries_of pages) ≤ sum_by weight (filter (from_page first) H.messages)
-unfolding table of_page
-pages_sizes H cut [] first states = omega arith
-pages_sizes H cut (p ∷ ps) first states =
-    let here : p ≡ page_with (table H cut first) = states 0 (omega arith) ∙ ap (λ n. page_with (table H cut n)) (omega arith) in
-    let rest = pages_sizes H cut ps (suc first) (λ k lt. states (suc k) (omega (arith, lt)) ∙ ap (λ n. page_with (table H cut n)) (omega arith)) in
-    let one : sizes_of (entries_in p) ≤ sum_by weight (of_page H.messages cut first) = subst (λ (x : Page). sizes_of (entries_in x) ≤ sum_by weight (of_page H.messages cut first)) (sym here) (page_within (of_page H.messages cut first)) in
-    let all = ap sizes_of (flat_map-cons entries_in p ps) ∙ sum_by-append (λ (e : Entry). e.2) (entries_in p) (entries_of ps) in
-    let apart = kept_apart weight (λ m. (m.page == first) && nat_lt m.place cut) (from_page (suc first)) (from_page first)
-    (λ m of. grind (arith, nat_tests)) (λ m later. (grind (arith, nat_tests), grind (arith, nat_tests))) H.messages in
-    omega (arith, all, one, rest, apart)
+-- The entries of pages, where each counts as no more than its message.
+module _ (v : Entry → ℕ) (w : Message → ℕ) (own : (m : Message) → v (entry_of m) ≤ w m) (given_back : (m : Message) → v (pos m.place, m.pointer, 32) ≤ w m) where
+  map_sizes : (ms : List Message) → sum_by v (map entry_of ms) ≤ sum_by w ms
+  map_sizes [] = omega arith
+  map_sizes (m ∷ ms) = omega (arith, map_sizes ms, own m, sum_by-cons v (entry_of m) (map entry_of ms), sum_by-cons w m ms)
 
--- What the entries of a table sum up to.
+  page_sizes : (ms : List Message) → sum_by v (entries_in (page_with ms)) ≤ sum_by w ms
+  page_sizes [] = omega arith
+  page_sizes (b ∷ ms) = by (is_replace b.kind)
+    where
+      by : (t : Bool) → sum_by v (entries_in (if t then Present (entry_of b) (map entry_of ms) else FreePage (pos b.place) b.pointer)) ≤ sum_by w (b ∷ ms)
+      by true = map_sizes (b ∷ ms)
+      by false = omega (arith, given_back b, sum_by-cons w b ms, sum_by-cons v (pos b.place, b.pointer, 32) [])
+
+  page_within : (ms : List Message) → sum_by v (entries_in (page_with (page_state ms))) ≤ sum_by w ms
+  page_within ms = omega (arith, page_sizes (page_state ms), state_less w ms)
+
+  pages_sizes : (H : History) (cut : ℕ) (pages : List Page) (first : ℕ) → ((k : ℕ) → k < length pages → get_or pages k Uninitialized ≡ page_with (table H cut (first + k)))
+      → sum_by v (entries_of pages) ≤ sum_by w (filter (from_page first) H.messages)
+  unfolding table of_page
+  pages_sizes H cut [] first states = omega arith
+  pages_sizes H cut (p ∷ ps) first states =
+      let here : p ≡ page_with (table H cut first) = states 0 (omega arith) ∙ ap (λ n. page_with (table H cut n)) (omega arith) in
+      let rest = pages_sizes H cut ps (suc first) (λ k lt. states (suc k) (omega (arith, lt)) ∙ ap (λ n. page_with (table H cut n)) (omega arith)) in
+      let one : sum_by v (entries_in p) ≤ sum_by w (of_page H.messages cut first) = subst (λ (x : Page). sum_by v (entries_in x) ≤ sum_by w (of_page H.messages cut first)) (sym here) (page_within (of_page H.messages cut first)) in
+      let all = ap (sum_by v) (flat_map-cons entries_in p ps) ∙ sum_by-append v (entries_in p) (entries_of ps) in
+      let apart = kept_apart w (λ m. (m.page == first) && nat_lt m.place cut) (from_page (suc first)) (from_page first)
+      (λ m of. grind (arith, nat_tests)) (λ m later. (grind (arith, nat_tests), grind (arith, nat_tests))) H.messages in
+      omega (arith, all, one, rest, apart)
+
+  -- What the entries of a table count as.
+  pub table_counts : (pages : List Page) (H : History) (cut : ℕ) → IsTable pages H cut → sum_by v (entries_of pages) ≤ sum_by w H.messages
+  table_counts pages H cut is = omega (arith, pages_sizes H cut pages 0 (λ k lt. is.states k ∙ ap (λ n. page_with (table H cut n)) (omega arith)), kept_less w (from_page 0) H.messages)
+
+-- What they sum up to.
 pub table_sizes : (pages : List Page) (H : History) (cut : ℕ) → IsTable pages H cut → sizes_of (entries_of pages) ≤ sum_by weight H.messages
-table_sizes pages H cut is = omega (arith, pages_sizes H cut pages 0 (λ k lt. is.states k ∙ ap (λ n. page_with (table H cut n)) (omega arith)), kept_less weight (from_page 0) H.messages)
+table_sizes = table_counts (λ e. e.2) weight (λ m. omega arith) (λ m. omega arith)
 
 -- and those in one slot to no more
 pub slot_sizes : (size k : ℕ) (es : List Entry) → sizes_in size k es ≤ sizes_of es

@@ -116,6 +116,7 @@ returns-in-Ok-clause-begins g c =
     let long = first_next size len s c.in-Ok.beginning c.in-Ok.ensures.beginning c.in-Ok.ensures.startable c.in-Ok.ensures.answers.1 g.C.Checksum.sum_of c.in-Ok.buffer c.in-Ok.ensures.buffer in
     let place = ap (λ (x : Beginning). x.place) c.in-Ok.ensures.beginning ∙ begins_place size (slots_of size len) (stable_place s.stable) (unused size (slots_of size len) s) s.active in
     record {
+      site = ap (λ (x : Beginning). record { place = x.place; slot = x.slot }) c.in-Ok.ensures.beginning;
       synced = search rules;
       next = ap (λ n. n + length c.in-Ok.buffer.bytes.items) place ∙ ap (λ n. place_at size (stable_place s.stable) s.active + n) long;
       ended = ap none_open c.in-Ok.ensures.buffer.reserved;

@@ -64,7 +64,7 @@ returns-after-page-opened-clause-step g c = λ k at.
             history = H';
             acknowledged = k.acknowledged;
             floor = k.floor;
-            log = Some (record { next = c.complete.ensures.next i; stable = same.synced i; begun = sym is i; fault = same.fault i; reserved = None });
+            log = Some (record { site = same.site i; next = c.complete.ensures.next i; stable = same.synced i; begun = sym is i; fault = same.fault i; reserved = None });
           };
         },
         opens begun has,
@@ -106,7 +106,7 @@ returns-in-Err-clause-step g c = λ k at.
           history = k.history;
           acknowledged = k.acknowledged;
           floor = k.floor;
-          log = Some (record { next = c.complete.ensures.next i; stable = same.synced i; begun = given.begun; fault = same.fault i; reserved = None });
+          log = Some (record { site = same.site i; next = c.complete.ensures.next i; stable = same.synced i; begun = given.begun; fault = same.fault i; reserved = None });
         }),
         record {
           formed = opened.formed;

@@ -1,16 +1,15 @@
 -- All that was reserved is written and synced, and all completed messages are acknowledged, unless memory is refused, the device fails, or the log keeps a failure.
-use Rattle.std.proofs.Common.{refl, ◌≡◌, ◌<◌, ◌+◌, ◌∙◌, ℕ, List, arith, subst, sym, ap, None, Some}
+use Rattle.std.proofs.Common.{◌≡◌, ◌<◌, ◌+◌, ◌∙◌, ℕ, List, arith, subst, sym, ap, None, Some}
 use Rattle.sled_store.specs.Device.{Event, state_of}
 use Rattle.sled_store.specs.Script.{Performs, after_all}
-use Rattle.sled_core.specs.Recoverable.{first_site}
 use Rattle.sled_core.specs.Fits.{IsKept, synced_end, fault_of, segment_size_of, device_of}
 use Rattle.sled_core.proofs.Holds.ReachLemmas.{kept_past, fits_holds, fits_acknowledged}
-use Rattle.sled_log.specs.RunStates.{LogView, end_reserved}
+use Rattle.sled_log.specs.RunStates.{LogView, end_reserved, offset_in}
 use Rattle.sled_log.specs.declared.session.step.Phase.TheVariants as phase
 use Rattle.sled_log.specs.RunPhases.{Unstored, seen, stands, view_by}
 use Rattle.sled_log.proofs.Sessions.RunLemmas.{flush_failed}
 use Rattle.sled_log.proofs.WriteBack.RestartCauses.{some_of}
-use Rattle.sled_log.proofs.Sessions.RunLogs.{fits_end, fits_flushing, fits_kept}
+use Rattle.sled_log.proofs.Sessions.RunLogs.{fits_end, fits_flushing, written_kept}
 use Rattle.sled_log.proofs.session.step.flush.Goals as goal
 
 pub returns-in-Ok-clause-step : goal.returns-in-Ok-clause-step
@@ -25,10 +24,10 @@ returns-in-Ok-clause-step g c = λ k at.
     let holds = fits_holds trace sum old H k.acknowledged k.floor at.unmarked at.fits in
     let past = fits_acknowledged trace sum old H k.acknowledged k.floor at.unmarked at.fits in
     let end : ℕ = end_reserved l in
-    let ends : synced_end new ≡ end = c.in-Ok.ensures.whole ∙ fits_end trace sum old H k.acknowledged k.floor at.unmarked at.fits l refl refl in
+    let ends : synced_end new ≡ end = c.in-Ok.ensures.whole ∙ fits_end c.args.opened trace sum H k.acknowledged k.floor at.unmarked at.fits in
     let fits = c.in-Ok.ensures.acknowledges H k.acknowledged k.floor at.unmarked at.fits in
-    let kept = fits_kept trace sum new H (synced_end new) k.floor at.unmarked fits end ends (c.in-Ok.ensures.records H holds) in
-    let asked = fits_flushing trace sum old H k.acknowledged k.floor at.unmarked at.fits l refl refl in
+    let kept = written_kept trace sum new H l.site end c.flush.ensures.position.site ends (c.in-Ok.ensures.records H holds) in
+    let asked = fits_flushing c.args.opened trace sum H k.acknowledged k.floor at.unmarked at.fits in
     let answers = c.in-Ok.ensures.answers in
     let m : Unstored = record { history = H; acknowledged = synced_end new; floor = k.floor; reserved = None } in
     let growth : synced_end old + c.in-Ok.grown ≡ end = sym c.in-Ok.ensures.answer ∙ ends in
@@ -41,14 +40,14 @@ returns-in-Ok-clause-step g c = λ k at.
           fault = answers.0;
           growth = growth;
           more = omega (arith, past, growth);
-          all = λ i d lt. let low = kept_past sum (segment_size_of new) first_site end _ H kept i d lt in omega (arith, low);
-          kept = subst (λ n. IsKept sum n first_site end (state_of (trace (device_of new))) H) c.flush.ensures.position.size kept;
+          all = λ i d lt. let low = kept_past sum (segment_size_of new) l.site (offset_in l end) _ H kept i d lt in omega (arith, low);
+          kept = subst (λ n. IsKept sum n l.site (offset_in l end) (state_of (trace (device_of new))) H) c.flush.ensures.position.size kept;
           leads = λ i. record {
             device = view new.config.device;
             history = H;
             acknowledged = ends i;
             floor = k.floor;
-            log = Some (record { next = c.flush.ensures.position.next i; stable = ends i; begun = c.args.opened.begun; fault = answers.1 i; reserved = None });
+            log = Some (record { site = c.flush.ensures.position.site i; next = c.flush.ensures.position.next i; stable = ends i; begun = c.args.opened.begun; fault = answers.1 i; reserved = None });
           };
         },
         record {
@@ -82,7 +81,7 @@ returns-in-Err-clause-step g c = λ k at.
     let old = c.args.opened.log in
     let new = c.flush.new.self in
     let l : LogView = seen c.args.opened None in
-    let asked = fits_flushing trace sum old k.history k.acknowledged k.floor at.unmarked at.fits l refl refl in
+    let asked = fits_flushing c.args.opened trace sum k.history k.acknowledged k.floor at.unmarked at.fits in
     let position = c.flush.ensures.position in
     record {
       turn = λ out. cc;
@@ -99,7 +98,7 @@ returns-in-Err-clause-step g c = λ k at.
           history = k.history;
           acknowledged = k.acknowledged;
           floor = k.floor;
-          log = Some (record { next = position.next i; stable = c.in-Err.ensures.err i; begun = c.args.opened.begun; fault = fault_of new; reserved = None });
+          log = Some (record { site = position.site i; next = position.next i; stable = c.in-Err.ensures.err i; begun = c.args.opened.begun; fault = fault_of new; reserved = None });
         }),
         record {
           formed = at.formed;

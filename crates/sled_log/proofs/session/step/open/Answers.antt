@@ -1,23 +1,23 @@
 -- An opening goes on from what the recovery gave.
-use Rattle.std.proofs.Common.{◌≡◌, ◌<◌, ℕ, refl, sym, ap, subst, arith, None}
+use Rattle.std.proofs.Common.{◌≡◌, ◌<◌, ℕ, refl, sym, ap, subst, None}
 use Rattle.sled_codec.specs.declared.serialization.snapshot.Snapshot.{Snapshot}
 use Rattle.sled_codec.specs.History.{below}
 use Rattle.sled_codec.specs.Snapshots.{SnapshotModel, model_of, stable_place}
 use Rattle.sled_store.specs.declared.config.Config.{Config}
-use Rattle.sled_store.specs.Device.{Trace, state_of}
+use Rattle.sled_store.specs.Device.{Trace, state_of, content_of}
 use Rattle.sled_store.proofs.Traces.MomentLemmas.{at_last}
 use Rattle.sled_core.specs.Recoverable.{LeavesRecoverable}
 use Rattle.sled_core.specs.Running.{Ready}
 use Rattle.sled_log.specs.Orderly.{CanRecover}
 use Rattle.sled_log.proofs.WriteBack.RecoveryHolds.{read_of, read_on_of}
-use Rattle.sled_log.specs.RunStates.{DeviceView, ShowsActive}
+use Rattle.sled_log.specs.RunStates.{DeviceView, ShowsActive, length_of}
 use Rattle.sled_log.specs.Runs.{HasRecovered, StartActs}
-use Rattle.sled_log.specs.RunPhases.{IsClosedAt, IsRecoveredAt, Unstored, SaysWhy, device_in, view_by}
+use Rattle.sled_log.specs.RunPhases.{IsClosedAt, IsRecoveredAt, Unstored, SaysWhy, device_in, log_in, log_shown, view_by}
 use Rattle.sled_log.proofs.Sessions.RunHistories.{orderly, forgotten, has_of_table}
 use Rattle.sled_log.proofs.WriteBack.RecoveryLater.{recovery_later}
 use Rattle.sled_log.proofs.Sessions.RunLemmas.{runs_on_both, cause_of, open_turn, open_acts, open_step}
-use Rattle.sled_log.proofs.Sessions.RunLogs.{good_moves}
-use Rattle.sled_log.proofs.Replay.ShownLemmas.{shows_active}
+use Rattle.sled_log.proofs.Sessions.RunLogs.{start_good}
+use Rattle.sled_log.proofs.Recovers.ShownActive.{shows_active}
 use Rattle.sled_log.proofs.session.step.open.Goals as goal
 
 pub returns-in-Ok-clause-step : goal.returns-in-Ok-clause-step
@@ -45,19 +45,21 @@ returns-in-Ok-clause-step g c = λ k at.
           let cut : ℕ = stable_place s.stable in
           let l : Unstored = record { history = below k.history cut; acknowledged = k.acknowledged; floor = cut; reserved = None } in
           let kept = c.in-Ok.ensures.ready k.history k.acknowledged k.floor can in
+          let active : ShowsActive size cut s.active = subst (λ (x : SnapshotModel). ShowsActive size (stable_place x.stable) x.active) (sym ok.model)
+          (shows_active sum size (content_of (state_of old.trace)) k.history k.acknowledged k.floor given.least (read_of sum size old.trace k.history k.acknowledged k.floor can) ok.conclusion ok.recovers) in
           let recovered : IsRecoveredAt trace sum config s l = record {
             closed = subst (λ n. IsClosedAt sum n mid.trace l) (sym sizes) (record { formed = forgotten k.history cut at.formed; left = kept.left });
+            active = subst (λ n. ShowsActive n cut s.active) (sym sizes) active;
             ready = subst (λ n. cut < n → Ready sum n (state_of mid.trace) s l.history l.acknowledged l.floor) (sym sizes) kept.ready;
             begun = has_of_table k.history cut s.pages good.table;
           } in
           let started = c.start.ensures.starts l recovered in
-          let active : ShowsActive size cut s.active = subst (λ (x : SnapshotModel). ShowsActive size (stable_place x.stable) x.active) (sym ok.model)
-          (shows_active sum size given.least (let most = given.most in omega (arith, most)) old.trace k.history k.acknowledged k.floor can ok.conclusion ok.recovers) in
+          let log = subst (λ n. log_in c.start.result.0 None ≡ log_shown n (length_of new) s c.start.result.1) sizes started.log in
           let why = subst (λ n. SaysWhy c.start.result.1 n new.failures) c.in-Ok.ensures.answers started.why in (
             l,
             open_step sum size old new k.history k.acknowledged k.floor s c.start.result.1 _ c.start.ensures.shows
-                (record { good = good_moves sum size mid.trace new.trace k.history k.acknowledged k.floor s good started.reads; active = active }) why
-                (λ i. record { device = new; history = l.history; acknowledged = l.acknowledged; floor = l.floor; log = started.log i }),
+                (record { good = start_good sum size mid new s c.start.result.1 c.start.ensures.shows acts k.history k.acknowledged k.floor good; active = active }) why
+                (λ i. record { device = new; history = l.history; acknowledged = l.acknowledged; floor = l.floor; log = log i }),
             started.at,
           );
     }

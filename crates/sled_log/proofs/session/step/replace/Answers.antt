@@ -5,13 +5,13 @@ use Rattle.sled_codec.specs.declared.serialization.message.LogKind.TheVariants.{
 use Rattle.sled_codec.specs.Spelling.{short_bytes}
 use Rattle.sled_codec.specs.History.{Message}
 use Rattle.sled_core.specs.declared.reservation.Reservation.{Reservation}
-use Rattle.sled_core.specs.Fits.{Awaits, message_for, next_place, fault_of}
+use Rattle.sled_core.specs.Fits.{Awaits, message_for, next_place, fault_of, segment_size_of}
 use Rattle.sled_core.proofs.Holds.ReachLemmas.{fits_reach, awaited, next_small}
 use Rattle.sled_log.specs.RunStates.{replace_at}
 use Rattle.sled_log.specs.declared.session.step.Phase.TheVariants as phase
 use Rattle.sled_log.specs.RunPhases.{Unstored, seen, stands, view_by}
 use Rattle.sled_log.proofs.Sessions.RunLemmas.{place_back, replace_failed}
-use Rattle.sled_log.proofs.Sessions.RunLogs.{fits_message, room_at, room_from}
+use Rattle.sled_log.proofs.Sessions.RunLogs.{message_seen, room_at, room_from}
 use Rattle.sled_log.specs.declared.session.command.Command.TheVariants as command
 use Rattle.sled_log.specs.Runs.{IsOutOfTurn}
 use Rattle.sled_log.proofs.session.step.replace.Goals as goal
@@ -26,10 +26,9 @@ returns-in-Ok-clause-step g c = λ k at.
     let new = c.reserve.new.self in
     let page : ℕ = c.args.page in
     let bytes = short_bytes c.args.item.now.items in
-    let some : 0 < old.config.config.segment_size = let least = old.config.config.least in omega (arith, least) in
     let m : Message = message_for old Replace page bytes in
-    let n : Message = replace_at (next_place old) page bytes in
-    let message : m ≡ n = fits_message trace sum old k.history k.acknowledged k.floor at.unmarked at.fits page bytes some in
+    let n : Message = replace_at (segment_size_of old) (seen c.args.opened None) page bytes in
+    let message : m ≡ n = message_seen c.args.opened page bytes in
     let awaits = c.in-Ok.ensures.ticket in
     let both = awaited new c.in-Ok.reservation m awaits in
     let reach = fits_reach trace sum old k.history k.acknowledged k.floor at.unmarked at.fits in
@@ -43,7 +42,7 @@ returns-in-Ok-clause-step g c = λ k at.
         | inl reserved ↦ cc
         | inr (inl above) ↦ (let le : page ≤ c.args.opened.begun = search rules in omega (arith, above, le))
         | inr (inr (inl last)) ↦ (let less : page < 2 ^ 64 - 1 = search rules in omega (arith, last, less))
-        | inr (inr (inr full)) ↦ full (room_at trace sum old k.history k.acknowledged k.floor at.unmarked at.fits page (length bytes) some (search rules))
+        | inr (inr (inr full)) ↦ full (room_at c.args.opened page (length bytes) (search rules))
       ];
       acts = device;
       step = λ own. (
@@ -56,7 +55,7 @@ returns-in-Ok-clause-step g c = λ k at.
             history = k.history;
             acknowledged = k.acknowledged;
             floor = k.floor;
-            log = Some (record { next = next i; stable = same.synced i; begun = c.args.opened.begun; fault = same.fault i; reserved = Some n });
+            log = Some (record { site = same.site i; next = next i; stable = same.synced i; begun = c.args.opened.begun; fault = same.fault i; reserved = Some n });
           }),
         ),
         (
@@ -93,7 +92,6 @@ returns-in-Err-clause-step g c = λ k at.
     let new = c.reserve.new.self in
     let page : ℕ = c.args.page in
     let bytes = short_bytes c.args.item.now.items in
-    let some : 0 < old.config.config.segment_size = let least = old.config.config.least in omega (arith, least) in
     let same = c.reserve.ensures.same in
     let unchanged = c.in-Err.ensures.err in
     let device = ap (λ x. view x.device) same.config in
@@ -103,17 +101,17 @@ returns-in-Err-clause-step g c = λ k at.
         | inl reserved ↦ cc
         | inr (inl above) ↦ (let le : page ≤ c.args.opened.begun = search rules in omega (arith, above, le))
         | inr (inr (inl last)) ↦ (let less : page < 2 ^ 64 - 1 = search rules in omega (arith, last, less))
-        | inr (inr (inr full)) ↦ full (room_at trace sum old k.history k.acknowledged k.floor at.unmarked at.fits page (length bytes) some (search rules))
+        | inr (inr (inr full)) ↦ full (room_at c.args.opened page (length bytes) (search rules))
       ];
       acts = device;
       step = λ own. (
         k,
-        replace_failed (stands view (phase.Open c.args.opened) k) (seen c.args.opened None) page bytes Reservation c.in-Err.e (view new.config.device) _ c.in-Err.ensures.answers (λ i. record {
+        replace_failed (segment_size_of old) (stands view (phase.Open c.args.opened) k) (seen c.args.opened None) page bytes Reservation c.in-Err.e (view new.config.device) _ c.in-Err.ensures.answers (λ i. record {
           device = device i;
           history = k.history;
           acknowledged = k.acknowledged;
           floor = k.floor;
-          log = Some (record { next = next i; stable = same.synced i; begun = c.args.opened.begun; fault = same.fault i; reserved = None });
+          log = Some (record { site = same.site i; next = next i; stable = same.synced i; begun = c.args.opened.begun; fault = same.fault i; reserved = None });
         }),
         record {
           formed = at.formed;
@@ -133,12 +131,11 @@ returns-then-page-opened-clause-step g c = λ k at.
     let old = c.args.opened.log in
     let page : ℕ = c.args.page in
     let n : ℕ = length (short_bytes c.args.item.now.items) in
-    let some : 0 < old.config.config.segment_size = let least = old.config.config.least in omega (arith, least) in
     let out : IsOutOfTurn old.config.config.segment_size (Some (seen c.args.opened None)) (command.Replace page c.args.item.now) =
     elim c.then-page-opened.branch [
       | then-page-opened-via-then-page-opened w ↦ inr (inl w.if-page-opened.true)
       | then-page-opened-via-else-page-opened+then-page-eq18446744073709551615 w ↦ inr (inr (inl w.if-page-eq18446744073709551615.true))
       | then-page-opened-via-else-page-opened+else-page-eq18446744073709551615+then-not-has_room w ↦
-          inr (inr (inr (λ room. let has = w.has_room.ensures.1 (room_from trace sum old k.history k.acknowledged k.floor at.unmarked at.fits page n some room) in cc)))
+          inr (inr (inr (λ room. let has = w.has_room.ensures.1 (room_from c.args.opened page n room) in cc)))
     ] in
     record { turn = out; acts = refl; step = λ own. (k, (refl, refl), at) }

@@ -1,19 +1,23 @@
 -- A log that is started goes on where the recovered table ends, and a start that fails leaves what can be recovered.
-use Rattle.std.proofs.Common.{◌≡◌, ◌<◌, ◌+◌, ◌∙◌, ℕ, List, [], None, Some, length, refl, sym, ap, subst, arith, rules, inl, inr}
+use Rattle.std.proofs.Common.{◌≡◌, ◌<◌, ◌+◌, ◌∙◌, ℕ, [], None, Some, length, refl, sym, ap, subst, arith, rules}
 use Rattle.std.proofs.lemmas.List.{length-map}
 use Rattle.sled_codec.specs.Snapshots.{SnapshotModel, model_of, stable_place}
-use Rattle.sled_store.specs.Device.{Event, Trace, state_of}
-use Rattle.sled_store.specs.Script.{Performs, after_all}
+use Rattle.sled_store.specs.Device.{Trace, state_of}
+use Rattle.sled_store.specs.Script.{after_all}
 use Rattle.sled_store.proofs.Traces.MomentLemmas.{at_last}
-use Rattle.sled_core.specs.Fits.{NoneOpen, next_place, synced_end, pins_of, fault_of, device_of}
+use Rattle.sled_core.specs.Fits.{NoneOpen, next_place, site_of, synced_end, pins_of, fault_of, device_of}
 use Rattle.sled_core.specs.Recoverable.{LeavesRecoverable}
+use Rattle.sled_core.specs.Starts.{site_from}
+use Rattle.sled_core.proofs.Start.StartedSite.{same_site}
 use Rattle.sled_log.specs.Runs.{starting}
 use Rattle.sled_log.proofs.Sessions.RunLemmas.{later_is, later_both, start_cause}
-use Rattle.sled_log.proofs.Sessions.RunLogs.{starts_at, starts_idle, performed_nothing}
+use Rattle.sled_log.proofs.Sessions.RunLogs.{starts_at}
 use Rattle.sled_log.proofs.session.step.start.Goals as goal
 
 pub returns-in-Ok-clause-acts : goal.returns-in-Ok-clause-acts
 returns-in-Ok-clause-acts g c = (
+  c.in-Ok.ensures.answers.0,
+  c.in-Ok.ensures.answers.1,
   ap (λ l. g.D.Device.trace l.config.device) c.pin-guard.ensures.taken ∙ c.in-Ok.ensures.filled,
   ap (λ l. g.D.Device.faults l.config.device) c.pin-guard.ensures.taken ∙ c.in-Ok.ensures.answers.2,
 )
@@ -30,7 +34,8 @@ returns-in-Ok-clause-starts g c = λ k at.
     let begins = c.in-Ok.ensures.begins in
     let taken = c.pin-guard.ensures.taken in
     let new = c.pin-guard.new.self in
-    let place = starts_at sum size old s k.history k.acknowledged k.floor c.args.config.config.least ready in
+    let some : 0 < size = let least = c.args.config.config.least in omega (arith, least) in
+    let place = starts_at size (stable_place s.stable) s.active some at.active in
     let next : next_place new ≡ _ = ap next_place taken ∙ begins.next ∙ place.1 in
     let stable : synced_end new ≡ _ = ap synced_end taken ∙ begins.synced ∙ place.0 in
     let fault : fault_of new ≡ None = ap fault_of taken ∙ begins.fault in
@@ -38,8 +43,9 @@ returns-in-Ok-clause-starts g c = λ k at.
     let begun : c.len-begun.result ≡ length s.pages = search rules ∙ pages in
     let pinned : pins_of new ≡ 1 = ap pins_of taken ∙ ap (λ n. n + 1) begins.pins in
     let filled : trace (device_of new) ≡ after_all (starting size old s) old = ap (λ l. trace l.config.device) taken ∙ c.in-Ok.ensures.filled in
+    let site : site_of new ≡ site_from size (length (state_of (trace (device_of new))).log.bytes) s = ap site_of taken ∙ begins.site ∙ sym (same_site size some s old (trace (device_of new)) filled) in
     record {
-      log = λ i. Some (record { next = next i; stable = stable i; begun = begun i; fault = fault i; reserved = None });
+      log = λ i. Some (record { site = site i; next = next i; stable = stable i; begun = begun i; fault = fault i; reserved = None });
       at = record {
         formed = at.closed.formed;
         unmarked = [];
@@ -48,10 +54,6 @@ returns-in-Ok-clause-starts g c = λ k at.
         begun = λ page less. at.begun page (omega (arith, less, begun));
       };
       why = tt;
-      reads = elim (starts_idle sum size old s k.history k.acknowledged k.floor c.args.config.config.least ready) [
-        | inl none ↦ inl none
-        | inr idle ↦ inr (filled ∙ ap (λ (es : List Event). after_all es old) idle)
-      ];
     }
 
 pub returns-in-Ok-clause-on : goal.returns-in-Ok-clause-on
@@ -84,15 +86,11 @@ returns-in-Err-clause-starts g c = λ k at.
         left = subst (λ n. LeavesRecoverable sum n k.history k.acknowledged k.floor (state_of (trace c.in-Err.config.device))) (sym (ap (λ x. x.segment_size) c.in-Err.ensures.config.config))
             (at_last (LeavesRecoverable sum size k.history k.acknowledged k.floor) old (trace c.in-Err.config.device) (c.in-Err.ensures.crash k.history k.acknowledged k.floor ready));
       };
-      why = start_cause c.in-Err.e _ _ _ _ _ c.in-Err.ensures.answers starts.0 starts.1;
-      reads = elim (starts_idle sum size old s k.history k.acknowledged k.floor c.args.config.config.least ready) [
-        | inl none ↦ inl none
-        | inr idle ↦ inr (performed_nothing old (trace c.in-Err.config.device) (subst (λ (es : List Event). Performs es old (trace c.in-Err.config.device)) idle c.in-Err.ensures.calls))
-      ];
+      why = start_cause c.in-Err.e _ _ _ _ _ c.in-Err.ensures.answers starts.0;
     }
 
 pub returns-in-Err-clause-acts : goal.returns-in-Err-clause-acts
-returns-in-Err-clause-acts g c = (search rules, c.in-Err.ensures.calls)
+returns-in-Err-clause-acts g c = (search rules, c.in-Err.ensures.answers, c.in-Err.ensures.calls)
 
 pub returns-in-Err-clause-on : goal.returns-in-Err-clause-on
 returns-in-Err-clause-on g c = record { runs_on = record { later = c.in-Err.ensures.later; kept = c.in-Err.ensures.config }; can_go_on = tt }

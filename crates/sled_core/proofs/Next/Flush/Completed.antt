@@ -1,0 +1,119 @@
+-- Where the messages lie of a log that holds a history: what was written one behind another, below what was completed since, which is in the buffer.
+use Rattle.std.proofs.Common.{◌≡◌, ◌⊎◌, ◌≤◌, ◌<◌, ◌+◌, ◌/◌, ℕ, max, true, false, if◌then◌else◌, List, [], ◌∷◌, ◌++◌, length, Option, sym, subst, arith, refl, inl, inr}
+use Rattle.std.specs.List.{All, Contains}
+use Rattle.std.specs.declared.io.Error.{Error as IoError}
+use Rattle.std.proofs.lemmas.List.Elements.{All-append, All-cons, All-contains, All-tail, Contains-append_cases, Contains-append_right}
+use Rattle.sled_codec.specs.declared.result.DiskPtr.TheVariants.{Inline}
+use Rattle.sled_codec.specs.History.{Message, Batch, History}
+use Rattle.sled_codec.specs.WellFormed.{LieApart}
+use Rattle.sled_store.specs.Device.{State}
+use Rattle.sled_store.proofs.Histories.Ascending.{Ascends, apart_ascends}
+use Rattle.sled_core.specs.declared.iobuf.Reserved.{Reserved}
+use Rattle.sled_core.specs.declared.iobuf.SegmentPosition.{SegmentPosition}
+use Rattle.sled_core.specs.Buffers.{IsChain, completed_in, message_in}
+use Rattle.sled_core.specs.Fits.{log_parts}
+use Rattle.sled_core.specs.NextFits.{HoldsIn, EndBelow, CloseBelow}
+use Rattle.sled_core.proofs.Reached.BufferPath.{HasOnly}
+use Rattle.sled_core.proofs.Reserve.Ranges.{chain_grows, completed_between}
+use Rattle.sled_core.proofs.Reserve.CompletesLemmas.{some_long}
+use Rattle.sled_core.proofs.Next.Flush.Settled.{InlineFrom}
+
+-- messages that lie apart, and below others that do
+apart_both : (place : ℕ) (xs ys : List Message) → LieApart xs → LieApart ys → All (λ m. m.place + m.size ≤ place) xs → All (λ m. place ≤ m.place) ys → LieApart (xs ++ ys)
+apart_both place [] ys first second below above = second
+apart_both place (x ∷ xs) ys first second below above =
+    let here : x.place + x.size ≤ place = below 0 x (omega arith) in
+    let over : All (λ n. x.place + x.size ≤ n.place) ys = λ k d lt. let b = above k d lt in omega (arith, b, here) in
+    (first.0, All-append (λ n. x.place + x.size ≤ n.place) xs ys first.1 over, apart_both place xs ys first.2 second (All-tail (λ m. m.place + m.size ≤ place) x xs below) above)
+
+-- what is completed in a chain of reservations lies apart
+completed_apart : (site : SegmentPosition) (bytes : List ℕ) (from end : ℕ) (rs : List Reserved) → IsChain from rs end → All (λ r. 0 < r.len) rs → LieApart (completed_in site bytes rs)
+completed_apart site bytes from end [] is some = tt
+completed_apart site bytes from end (r ∷ rs) is some =
+    let here : r.from ≡ from = is.0 in
+    let long : 0 < r.len = some 0 r (omega arith) in
+    let later = completed_between site bytes (from + r.len) end rs is.1 (All-tail (λ x. 0 < x.len) r rs some) in
+    let rest : LieApart (completed_in site bytes rs) = completed_apart site bytes (from + r.len) end rs is.1 (All-tail (λ x. 0 < x.len) r rs some) in
+    let over : All (λ n. site.place + r.from + r.len ≤ n.place) (completed_in site bytes rs) = λ k d lt. let b = later k d lt in omega (arith, b.0, here) in
+    elim r.is_open as (λ o. LieApart (if o then completed_in site bytes rs else message_in site bytes r ∷ completed_in site bytes rs))
+    [ true ↦ rest | false ↦ (long, over, rest) ]
+
+-- and has its items in its records
+abbrev IsInline : Message → Type 0
+IsInline m = (lid : ℕ) × (m.pointer ≡ Inline lid)
+
+completed_inline : (site : SegmentPosition) (bytes : List ℕ) (rs : List Reserved) → All IsInline (completed_in site bytes rs)
+completed_inline site bytes [] = λ k d lt. absurd (omega arith)
+completed_inline site bytes (r ∷ rs) =
+    let rest : All IsInline (completed_in site bytes rs) = completed_inline site bytes rs in
+    elim r.is_open as (λ o. All IsInline (if o then completed_in site bytes rs else message_in site bytes r ∷ completed_in site bytes rs))
+    [ true ↦ rest | false ↦ All-cons IsInline (message_in site bytes r) (completed_in site bytes rs) (site.slot + r.from, refl) rest ]
+
+module _ (sum : List ℕ → ℕ) (size : ℕ) (site : SegmentPosition) (device : State) (fault : Option IoError) (bytes : List ℕ) (from : ℕ) (rs : List Reserved) (H : History) (holds : HoldsIn sum (log_parts size site device fault bytes from rs) H) where
+  abbrev pub done : List Message
+  done = completed_in site bytes rs
+
+  long : All (λ r. 0 < r.len) rs
+  long = some_long sum (site.place / size) bytes rs holds.stand
+
+  -- the bytes reach as far as what was written
+  pub grows : max 20 from ≤ length bytes
+  grows = chain_grows (max 20 from) (length bytes) rs holds.chain
+
+  between : All (λ m. (site.place + max 20 from ≤ m.place) × (m.place < site.place + length bytes) × (m.place + m.size ≤ site.place + length bytes)) done
+  between = completed_between site bytes (max 20 from) (length bytes) rs holds.chain long
+
+  between_in : (m : Message) → Contains done m → (site.place + max 20 from ≤ m.place) × (m.place < site.place + length bytes) × (m.place + m.size ≤ site.place + length bytes)
+  between_in m there = All-contains (λ x. (site.place + max 20 from ≤ x.place) × (x.place < site.place + length bytes) × (x.place + x.size ≤ site.place + length bytes)) done m between there
+
+  below_in : (m : Message) → Contains holds.earlier m → (m.place < site.place + from) × (m.place + m.size ≤ site.place + from)
+  below_in m there = All-contains (λ x. (x.place < site.place + from) × (x.place + x.size ≤ site.place + from)) holds.earlier m holds.below there
+
+  -- a message was written, or was completed since
+  pub which : (m : Message) → Contains H.messages m → Contains holds.earlier m ⊎ Contains done m
+  which m there = Contains-append_cases holds.earlier done m (subst (λ (ms : List Message). Contains ms m) holds.messages there)
+
+  -- All messages end below the next place.
+  pub all_below : EndBelow (site.place + length bytes) H.messages
+  all_below =
+      let Below : Message → Type 0 = λ m. (m.place < site.place + length bytes) × (m.place + m.size ≤ site.place + length bytes) in
+      let far = grows in
+      let early : All Below holds.earlier = λ k d lt. let b = holds.below k d lt in (omega (arith, b.0, far), omega (arith, b.1, far)) in
+      let late : All Below done = λ k d lt. let b = between k d lt in (b.1, b.2) in
+      subst (λ (ms : List Message). All Below ms) (sym holds.messages) (All-append Below holds.earlier done early late)
+
+  -- They lie one behind another.
+  pub all_apart : LieApart H.messages
+  all_apart = subst LieApart (sym holds.messages)
+      (apart_both (site.place + from) holds.earlier done holds.apart (completed_apart site bytes (max 20 from) (length bytes) rs holds.chain long) (λ k d lt. (holds.below k d lt).1) (λ k d lt. let b = between k d lt in omega (arith, b.0)))
+
+  pub all_ascend : Ascends H.messages
+  all_ascend = apart_ascends H.messages all_apart
+
+  -- Those that aren't written have their items in their records.
+  pub inline_from : InlineFrom H (site.place + from)
+  inline_from m there above = elim (which m there) [
+    | inl early ↦ (let b = below_in m early in absurd (omega (arith, b.0, above)))
+    | inr late ↦ All-contains IsInline done m (completed_inline site bytes rs) late
+  ]
+
+  -- Of the history they are all that begins in the buffer.
+  pub has_only : HasOnly H done (site.place + max 20 from) (site.place + length bytes)
+  has_only = record {
+    there = λ m late. subst (λ (ms : List Message). Contains ms m) (sym holds.messages) (Contains-append_right holds.earlier done m late);
+    only = λ m there. elim (which m there) [
+      | inl early ↦ (let b = below_in m early in inr (inl (omega (arith, b.0))))
+      | inr late ↦ inl late
+    ];
+    no_batch = λ b there. (let closed = batch_below b there in inl (omega (arith, closed.0)));
+  }
+    where
+      batch_below : (b : Batch) → Contains H.batches b → (b.low < site.place + from) × (b.peg < site.place + from)
+      batch_below b there = All-contains (λ x. (x.low < site.place + from) × (x.peg < site.place + from)) H.batches b holds.batches there
+
+  -- Batches end below what was written, and so below each place from there on.
+  pub batches_to : (place : ℕ) → site.place + from ≤ place → CloseBelow place H.batches
+  batches_to place more = λ k d lt. let b = holds.batches k d lt in (omega (arith, b.0, more), omega (arith, b.1, more))
+
+  pub none_crosses : (place : ℕ) → site.place + from ≤ place → (b : Batch) → Contains H.batches b → b.low < place → b.peg < place
+  none_crosses place more b there low = let closed = All-contains (λ x. (x.low < place) × (x.peg < place)) H.batches b (batches_to place more) there in closed.1

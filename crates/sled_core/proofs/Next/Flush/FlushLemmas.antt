@@ -1,0 +1,157 @@
+-- What is written of a log: the records that were completed, behind those that stand on the device. A log that keeps a failure holds what it held.
+use Rattle.std.proofs.Common.{◌≡◌, ◌≢◌, ◌⊎◌, ◌≤◌, ◌<◌, ◌+◌, ◌/◌, ◌^◌, ◌∙◌, ℕ, ℤ, max, Bool, true, false, List, [], ◌∷◌, ◌++◌, length, drop, sym, ap, arith, refl, subst, inl, inr, Option, None, Some}
+use Rattle.std.specs.List.{All}
+use Rattle.std.specs.Bool.{MatchBool}
+use Rattle.std.specs.IoError.{error_kind}
+use Rattle.std.specs.declared.io.Error.{Error as IoError}
+use Rattle.std.specs.declared.io.ErrorKind.{ErrorKind}
+use Rattle.std.specs.declared.io.ErrorKind.TheVariants.{OutOfMemory}
+use Rattle.std.proofs.lemmas.List.{append-nil}
+use Rattle.sled_codec.specs.History.{Message, History, table}
+use Rattle.sled_codec.specs.Snapshots.{stable_place}
+use Rattle.sled_codec.specs.WellFormed.{LieApart}
+use Rattle.sled_store.specs.Answers.{is_fault, is_fault_kind}
+use Rattle.sled_store.specs.Device.{LogState, State, at_rest, overwritten}
+use Rattle.sled_store.specs.SnapshotFiles.{BeginsFrom}
+use Rattle.sled_core.specs.declared.iobuf.Reserved.{Reserved}
+use Rattle.sled_core.specs.declared.iobuf.SegmentPosition.{SegmentPosition}
+use Rattle.sled_core.specs.Buffers.{IsChain, completed_in, none_open, Stands}
+use Rattle.sled_core.specs.Fits.{log_parts}
+use Rattle.sled_core.specs.NextFits.{HoldsIn, IsOnDevice, IsBegunFrom, IsKept, EndBelow}
+use Rattle.sled_core.specs.NextLogFile.{IsLogFile}
+use Rattle.sled_core.proofs.Reserve.Ranges.{chain_grows}
+use Rattle.sled_core.proofs.Next.Flush.Completed.{all_below, all_apart, batches_to}
+use Rattle.sled_core.proofs.Next.Flush.WrittenFile.{file_written}
+
+-- The snapshot is the same, and more of the log is settled.
+abbrev pub begun-more : (sum : List ℕ → ℕ) (size : ℕ) (snapshots snapshots' : ℤ → Option (List ℕ)) (site : SegmentPosition) (from from' : ℕ) (H : History) → snapshots' ≡ snapshots → from ≤ from'
+    → IsBegunFrom sum size snapshots site from H → IsBegunFrom sum size snapshots' site from' H
+begun-more sum size snapshots snapshots' site from from' H same more begun = record {
+  first = begun.first;
+  begins = subst (λ (f : ℤ → Option (List ℕ)). BeginsFrom sum f begun.first) (sym same) begun.begins;
+  table = begun.table;
+  fits = begun.fits;
+  least = begun.least;
+  reached = let reached = begun.reached in omega (arith, reached, more);
+}
+
+-- there is a failure, or there is none
+pub fault_or_none : (o : Option IoError) → (o ≡ None) ⊎ ((e : IoError) × (o ≡ Some e))
+fault_or_none None = inl refl
+fault_or_none (Some e) = inr (e, refl)
+
+-- a chain of something that is as long as a header is longer than nothing
+chain_some : (sum : List ℕ → ℕ) (number : ℕ) (bytes : List ℕ) (from end : ℕ) (rs : List Reserved) → 0 < length rs → All (Stands sum number bytes) rs → IsChain (max 20 from) rs end → from < end
+chain_some sum number bytes from end [] some stand chain = absurd (omega (arith, some))
+chain_some sum number bytes from end (r ∷ rs) some stand chain =
+    let s = stand 0 r (omega arith) in
+    let h = s.headed in let l = s.long in
+    let rest = chain_grows (max 20 from + r.len) end rs chain.1 in
+    omega (arith, h, l, rest)
+
+-- where something is reserved a record has room behind what was written
+chain_room : (size from end : ℕ) (rs : List Reserved) → 0 < length rs → All (λ r. r.from + 32 ≤ size) rs → IsChain (max 20 from) rs end → from + 32 ≤ size
+chain_room size from end [] some room chain = absurd (omega (arith, some))
+chain_room size from end (r ∷ rs) some room chain = let fits : r.from + 32 ≤ size = room 0 r (omega arith) in omega (arith, fits, chain.0)
+
+module _ (sum : List ℕ → ℕ) (size : ℕ) (site : SegmentPosition) (device : State) (fault : Option IoError) (bytes : List ℕ) (from : ℕ) (rs : List Reserved) (H : History)
+    (holds : HoldsIn sum (log_parts size site device fault bytes from rs) H) where
+  -- Something was reserved, so there is something to write, and room where it begins.
+
+  pub grown : 0 < length rs → from < length bytes
+  grown some = chain_some sum (site.place / size) bytes from (length bytes) rs some holds.stand holds.chain
+
+  pub has_room : 0 < length rs → from + 32 ≤ size
+  has_room some = chain_room size from (length bytes) rs some holds.room holds.chain
+
+  module _ (begun : 20 ≤ length bytes) (behind : from ≤ length bytes) (short : length bytes ≤ size) (place_small : site.place + size < 2 ^ 63) (slot_small : site.slot + size < 2 ^ 63)
+      (ended : none_open rs ≡ true) (some : 0 < length rs) (whole : fault ≡ None) where
+    pub settled_bytes : device.log.bytes ≡ (holds.written whole).log
+    settled_bytes = ap (λ (s : LogState). s.bytes) (holds.written whole).settled
+
+    -- All that the log holds is on the device when its buffer was written and settled there.
+    pub flushed : (now : LogState) → now ≡ at_rest (overwritten device.log.bytes (site.slot + from) (drop from bytes)) → IsOnDevice sum size now site (length bytes) H.messages (table H (stable_place holds.begun.first.stable))
+    flushed now is = record {
+      log = overwritten (holds.written whole).log (site.slot + from) (drop from bytes);
+      settled = is ∙ ap (λ (l : List ℕ). at_rest (overwritten l (site.slot + from) (drop from bytes))) settled_bytes;
+      file = subst (λ (ms : List Message). IsLogFile sum size (overwritten (holds.written whole).log (site.slot + from) (drop from bytes)) site (length bytes) ms (table H (stable_place holds.begun.first.stable))) (sym holds.messages)
+          (file_written sum size site (holds.written whole).log bytes from rs holds.earlier (table H (stable_place holds.begun.first.stable)) (holds.written whole).file
+          begun (grown some) short holds.place_begins holds.slot_begins place_small slot_small holds.header holds.chain holds.stand holds.room ended);
+    }
+
+    -- Once they are written and settled, the log holds the same.
+    unfoldable pub holds-flush : (new : State) → new.log ≡ at_rest (overwritten device.log.bytes (site.slot + from) (drop from bytes)) → new.snapshots.file ≡ device.snapshots.file
+        → HoldsIn sum (log_parts size site new fault bytes (length bytes) []) H
+    holds-flush new is names = record {
+      earlier = H.messages;
+      messages = sym (append-nil H.messages);
+      below = all_below sum size site device fault bytes from rs H holds;
+      apart = all_apart sum size site device fault bytes from rs H holds;
+      batches = batches_to sum size site device fault bytes from rs H holds (site.place + length bytes) (omega (arith, behind));
+      place_begins = holds.place_begins;
+      slot_begins = holds.slot_begins;
+      header = λ none. absurd (omega (arith, begun, none));
+      chain = omega (arith, begun);
+      stand = λ k d lt. absurd (omega arith);
+      room = λ k d lt. absurd (omega arith);
+      begun = begun-more sum size device.snapshots.file new.snapshots.file site from (length bytes) H names behind holds.begun;
+      written = λ none. flushed new.log is;
+    }
+
+  -- A log that keeps a failure of its device holds what it held, whatever the log file is now.
+  unfoldable pub holds-faulty : (new : State) (e : IoError) (now : Option IoError) → now ≡ Some e → new.snapshots.file ≡ device.snapshots.file → HoldsIn sum (log_parts size site new now bytes from rs) H
+  holds-faulty new e now is names = record {
+    earlier = holds.earlier;
+    messages = holds.messages;
+    below = holds.below;
+    apart = holds.apart;
+    batches = holds.batches;
+    place_begins = holds.place_begins;
+    slot_begins = holds.slot_begins;
+    header = holds.header;
+    chain = holds.chain;
+    stand = holds.stand;
+    room = holds.room;
+    begun = begun-more sum size device.snapshots.file new.snapshots.file site from from H names (omega arith) holds.begun;
+    written = λ none. cc;
+  }
+
+  -- Where nothing was reserved since the last write, all is on the device.
+  pub all_kept : rs ≡ [] → fault ≡ None → site.place + size < 2 ^ 63 → from ≤ size → IsKept sum size site from device H
+  all_kept none whole in_reach inside =
+      let all : H.messages ≡ holds.earlier = holds.messages ∙ ap (λ (l : List Reserved). holds.earlier ++ completed_in site bytes l) none ∙ append-nil holds.earlier in
+      record {
+        below = subst (λ (ms : List Message). EndBelow (site.place + from) ms) (sym all) holds.below;
+        apart = subst LieApart (sym all) holds.apart;
+        batches = holds.batches;
+        place_begins = holds.place_begins;
+        slot_begins = holds.slot_begins;
+        in_reach = in_reach;
+        inside = inside;
+        begun = holds.begun;
+        on_device = subst (λ (ms : List Message). IsOnDevice sum size device.log site from ms (table H (stable_place holds.begun.first.stable))) (sym all) (holds.written whole);
+      }
+
+  -- The same device and the same failure hold the same.
+  pub holds-moved : (after : State) (now : Option IoError) → after ≡ device → now ≡ fault → HoldsIn sum (log_parts size site after now bytes from rs) H
+  holds-moved after now d f = subst (λ (s : State). HoldsIn sum (log_parts size site s now bytes from rs) H) (sym d) (subst (λ (o : Option IoError). HoldsIn sum (log_parts size site device o bytes from rs) H) (sym f) holds)
+
+  -- A call that changed nothing of the device holds the same, whether or not the device failed in it.
+  pub holds-answered : (size' : ℕ) (after : State) (now : Option IoError) → size' ≡ size → after ≡ device → fault ≡ None → HoldsIn sum (log_parts size' site after now bytes from rs) H
+  holds-answered size' after now sizes same none =
+      let here : HoldsIn sum (log_parts size site after now bytes from rs) H = elim (fault_or_none now) [
+        | inl is ↦ holds-moved after now same (is ∙ sym none)
+        | inr is ↦ holds-faulty after is.0 now is.1 (ap (λ (s : State). s.snapshots.file) same)
+      ] in
+      subst (λ n. HoldsIn sum (log_parts n site after now bytes from rs) H) (sym sizes) here
+
+kind_apart : (kind : ErrorKind) → is_fault_kind kind ≡ true → kind ≡ OutOfMemory → ⊥
+kind_apart kind fault is = let not_one : false ≡ true = sym (ap is_fault_kind is) ∙ fault in cc
+
+memory_by : (e : IoError) (b : Bool) → is_fault e ≡ b → MatchBool b (Unit {0}) (error_kind e ≡ OutOfMemory) → (error_kind e ≡ OutOfMemory) ⊎ (error_kind e ≢ OutOfMemory)
+memory_by e true is cause = inr (kind_apart (error_kind e) is)
+memory_by e false is cause = inl cause
+
+-- An error of a call that may want memory is want of memory, or another one.
+pub memory_or_fault : (e : IoError) → MatchBool (is_fault e) (Unit {0}) (error_kind e ≡ OutOfMemory) → (error_kind e ≡ OutOfMemory) ⊎ (error_kind e ≢ OutOfMemory)
+memory_or_fault e cause = memory_by e (is_fault e) refl cause

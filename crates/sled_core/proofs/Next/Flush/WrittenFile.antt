@@ -1,0 +1,86 @@
+-- A log file has all messages once the buffer is written: those that stood there, and those of the buffer behind them.
+use Rattle.std.proofs.Common.{◌≡◌, ◌≤◌, ◌<◌, ◌+◌, ◌/◌, ◌%◌, ◌^◌, ◌∙◌, ◌-ℤ◌, ℕ, pos, max, true, List, ◌++◌, length, take, drop, sym, ap, arith, subst, length-drop, inl, inr}
+use Rattle.std.specs.List.{All, Contains}
+use Rattle.std.proofs.lemmas.Bool.{cases_lt}
+use Rattle.std.proofs.lemmas.List.Elements.{All-contains, Contains-append_cases}
+use Rattle.sled_codec.specs.declared.result.DiskPtr.TheVariants.{Inline}
+use Rattle.sled_codec.specs.Places.{part}
+use Rattle.sled_codec.specs.Pointers.{lid_of}
+use Rattle.sled_codec.specs.Record.{IsHeader, short_header}
+use Rattle.sled_codec.specs.History.{Message, no_history}
+use Rattle.sled_store.specs.Device.{overwritten}
+use Rattle.sled_store.proofs.Segments.Elements.{in_nothing}
+use Rattle.sled_core.specs.declared.iobuf.Reserved.{Reserved}
+use Rattle.sled_core.specs.declared.iobuf.SegmentPosition.{SegmentPosition}
+use Rattle.sled_core.specs.Buffers.{IsChain, completed_in, none_open, Stands}
+use Rattle.sled_core.specs.LogFile.{StandIn}
+use Rattle.sled_core.specs.NextLogFile.{StandsHere, HasHeader, IsLogFile}
+use Rattle.sled_core.proofs.Flush.LogFileLemmas.{behind_write}
+use Rattle.sled_core.proofs.Next.Flush.LogFileLemmas.{here_below, each_here, here_kept, elsewhere_kept, header_kept}
+use Rattle.sled_core.proofs.Reached.BufferPath.{buffer_header, buffer_mark}
+use Rattle.sled_core.proofs.Reached.BufferStands.{written_part, written_stand}
+use Rattle.sled_core.proofs.Tail.GreatestMark.{mark_below}
+
+module _ (sum : List ℕ → ℕ) (size : ℕ) (site : SegmentPosition) (old bytes : List ℕ) (from : ℕ) (rs : List Reserved) (earlier : List Message) (entries : ℕ → List Message) (file : IsLogFile sum size old site from earlier entries)
+    (begun : 20 ≤ length bytes) (behind : from < length bytes) (short : length bytes ≤ size) (place_begins : site.place % size ≡ 0) (slot_begins : site.slot % size ≡ 0)
+    (place_small : site.place + size < 2 ^ 63) (slot_small : site.slot + size < 2 ^ 63) (header : from ≡ 0 → take 20 bytes ≡ short_header sum (pos site.place) (pos site.place -ℤ pos 1))
+    (chain : IsChain (max 20 from) rs (length bytes)) (stand : All (Stands sum (site.place / size) bytes) rs) (room : All (λ r. r.from + 32 ≤ size) rs) (ended : none_open rs ≡ true) where
+  abbrev xs : List ℕ
+  xs = drop from bytes
+
+  abbrev new : List ℕ
+  new = overwritten old (site.slot + from) xs
+
+  abbrev done : List Message
+  done = completed_in site bytes rs
+
+  -- what was completed stands in what was written
+  completed_stand : StandIn sum size new site (max 20 from) done (length bytes)
+  completed_stand = written_stand sum size site old bytes from behind rs short slot_begins place_small slot_small chain stand room ended
+
+  Here : Message → Type 0
+  Here m = (lid : ℕ) × (m.pointer ≡ Inline lid) × StandsHere sum size new site (length bytes) lid m
+
+  late_here : (m : Message) → Contains done m → Here m
+  unfolding Here
+  late_here m there = All-contains (λ x. (lid : ℕ) × (x.pointer ≡ Inline lid) × StandsHere sum size new site (length bytes) lid x) done m
+      (each_here sum size new site place_begins slot_begins (max 20 from) done (length bytes) (omega arith) completed_stand) there
+
+  -- a message stands at its own pointer
+  at_pointer : (m : Message) (lid : ℕ) → m.pointer ≡ Inline lid → Here m → StandsHere sum size new site (length bytes) lid m
+  unfolding Here
+  at_pointer m lid is here =
+      let same : here.0 ≡ lid = ap lid_of (sym here.1 ∙ is) in
+      subst (λ n. StandsHere sum size new site (length bytes) n m) same here.2
+
+  -- The header is there, or is written.
+  pub header_stands : HasHeader sum new site
+  header_stands = elim (cases_lt 0 from) [
+    | inl some ↦ header_kept sum size old (site.slot + from) xs site (let long = file.begun some in omega (arith, long)) (file.header some)
+    | inr none ↦ (
+        let first : from ≡ 0 = omega (arith, none) in
+        let here : site.slot + 0 ≡ site.slot = omega arith in
+        let at : part new site.slot 20 ≡ take 20 xs =
+        ap (λ i. part new i 20) (sym here) ∙ written_part sum size site old bytes from behind 0 20 (omega (arith, first)) (omega (arith, begun)) ∙ ap (λ n. take 20 (drop n bytes)) (sym first) in
+        let small : site.place < 2 ^ 63 = omega (arith, place_small) in
+        let written = buffer_header sum bytes from site.place first small (header first) in
+        let mark = buffer_mark no_history site.slot site.place (λ b there low. absurd (in_nothing b there)) in
+        record {
+          mark = pos site.place -ℤ pos 1;
+          header = subst (λ (l : List ℕ). IsHeader sum l (pos site.place) (pos site.place -ℤ pos 1)) (sym at) written;
+          below = λ n is. mark_below (pos site.place -ℤ pos 1) n site.place is mark.below;
+        })
+  ]
+
+  -- The log file.
+  pub file_written : IsLogFile sum size new site (length bytes) (earlier ++ done) entries
+  file_written = record {
+    own = λ m there above lid is. elim (Contains-append_cases earlier done m there) [
+      | inl early ↦ here_below sum size new site from (length bytes) lid m (omega (arith, behind)) (here_kept sum size old (site.slot + from) xs site from lid m (omega arith) (file.own m early above lid is))
+      | inr late ↦ at_pointer m lid is (late_here m late)
+    ];
+    elsewhere = λ page m there low lid is. elsewhere_kept sum size old (site.slot + from) xs site lid m (omega arith) (omega (arith, length-drop from bytes, behind, short)) (file.elsewhere page m there low lid is);
+    begun = λ some. begun;
+    header = λ some. header_stands;
+    clean = λ i above below. behind_write sum size old (site.slot + from) xs i (omega (arith, length-drop from bytes, behind)) (omega (arith, length-drop from bytes, behind, above)) ∙ file.clean i (omega (arith, behind, above)) below;
+  }

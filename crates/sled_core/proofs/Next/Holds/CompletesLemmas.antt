@@ -1,0 +1,143 @@
+-- A reservation that is completed becomes a message of the history that a log holds, at its place, and no other one is touched.
+use Rattle.std.proofs.Common.{◌≡◌, ◌≤◌, ◌<◌, ◌+◌, ◌/◌, inl, inr, ℕ, suc, max, List, ◌∷◌, ◌++◌, length, take, drop, set, sym, ◌∙◌, ap, arith, refl, subst, append_assoc, true, Option, Some, get_or}
+use Rattle.std.specs.List.{All, Contains, slice_get}
+use Rattle.std.specs.declared.io.Error.{Error as IoError}
+use Rattle.std.proofs.lemmas.List.{set_split}
+use Rattle.std.proofs.lemmas.Option.{slice_get_within}
+use Rattle.std.proofs.lemmas.List.Elements.{Contains-append_cases, All-contains}
+use Rattle.sled_codec.specs.Written.{written}
+use Rattle.sled_codec.specs.History.{Message, History, AddsMessage}
+use Rattle.sled_store.specs.Device.{State}
+use Rattle.sled_core.specs.declared.iobuf.Reserved.{Reserved}
+use Rattle.sled_core.specs.declared.iobuf.SegmentPosition.{SegmentPosition}
+use Rattle.sled_core.specs.Buffers.{body_in, message_in, IsChain, completed_in, completing, closed, Stands}
+use Rattle.sled_core.specs.Fits.{log_parts}
+use Rattle.sled_core.specs.NextFits.{HoldsIn}
+use Rattle.sled_core.proofs.Reserve.Ranges.{part-written_before, length-written, completed-same, completed-append, completed_between, chain-split, chain-joined, chain_grows, chain_within, there_split, all_split, all_joined, at_there, there-set_other, chain_apart}
+use Rattle.sled_core.proofs.Reserve.CompletesLemmas.{changes_page, body_before, same_before, body_behind, same_behind, body_own, closed_stands, some_long}
+use Rattle.sled_core.proofs.Holds.HoldsLemmas.{completed_open}
+use Rattle.sled_core.proofs.Next.Holds.BegunLemmas.{begun-adds, device-adds}
+
+module _ (sum : List ℕ → ℕ) (size : ℕ) (site : SegmentPosition) (device : State) (fault : Option IoError) (bytes : List ℕ) (from : ℕ) (xs ys : List Reserved) (r : Reserved) (H : History)
+    (holds : HoldsIn sum (log_parts size site device fault bytes from (xs ++ r ∷ ys)) H) (is_open : r.is_open ≡ true) (behind : from ≤ length bytes) where
+  abbrev number : ℕ
+  number = site.place / size
+
+  stand_all : All (Stands sum number bytes) xs × Stands sum number bytes r × All (Stands sum number bytes) ys
+  stand_all = all_split (Stands sum number bytes) xs ys r holds.stand
+
+  chains : IsChain (max 20 from) xs r.from × IsChain (r.from + r.len) ys (length bytes)
+  chains = chain-split (max 20 from) (length bytes) xs ys r holds.chain
+
+  in_front : All (λ x. (max 20 from ≤ x.from) × (x.from + x.len ≤ r.from)) xs
+  in_front = chain_within (max 20 from) r.from xs chains.0
+
+  after_it : All (λ x. (r.from + r.len ≤ x.from) × (x.from + x.len ≤ length bytes)) ys
+  after_it = chain_within (r.from + r.len) (length bytes) ys chains.1
+
+  begins : max 20 from ≤ r.from
+  begins = chain_grows (max 20 from) r.from xs chains.0
+
+  ends : r.from + r.len ≤ length bytes
+  ends = chain_grows (r.from + r.len) (length bytes) ys chains.1
+
+  abbrev new : List ℕ
+  new = written bytes r.from (completing r)
+
+  abbrev history : History
+  history = record { messages = (holds.earlier ++ completed_in site bytes xs) ++ message_in site bytes r ∷ completed_in site bytes ys; batches = H.batches }
+
+  old_messages : H.messages ≡ (holds.earlier ++ completed_in site bytes xs) ++ completed_in site bytes ys
+  old_messages =
+      holds.messages
+      ∙ ap (λ (ms : List Message). holds.earlier ++ ms) (completed-append site bytes xs (r ∷ ys) ∙ ap (λ (ms : List Message). completed_in site bytes xs ++ ms) (completed_open site bytes r ys is_open))
+      ∙ sym (append_assoc holds.earlier (completed_in site bytes xs) (completed_in site bytes ys))
+
+  lower : (x : Message) → Contains (holds.earlier ++ completed_in site bytes xs) x → x.place < site.place + r.from
+  lower x there = elim (Contains-append_cases holds.earlier (completed_in site bytes xs) x there) [
+    | inl early ↦ (let b = All-contains (λ m. (m.place < site.place + from) × (m.place + m.size ≤ site.place + from)) holds.earlier x holds.below early in omega (arith, b.0, begins))
+    | inr late ↦ (All-contains (λ m. (site.place + max 20 from ≤ m.place) × (m.place < site.place + r.from) × (m.place + m.size ≤ site.place + r.from)) (completed_in site bytes xs) x (completed_between site bytes (max 20 from) r.from xs chains.0 (some_long sum number bytes xs stand_all.0)) late).1
+  ]
+
+  higher : (x : Message) → Contains (completed_in site bytes ys) x → site.place + r.from < x.place
+  higher x there =
+      let b = All-contains (λ m. (site.place + (r.from + r.len) ≤ m.place) × (m.place < site.place + length bytes) × (m.place + m.size ≤ site.place + length bytes)) (completed_in site bytes ys) x (completed_between site bytes (r.from + r.len) (length bytes) ys chains.1 (some_long sum number bytes ys stand_all.2)) there in
+      let at_r = stand_all.1 in let h = at_r.headed in let l = at_r.long in
+      omega (arith, b.0, h, l)
+
+  adds : AddsMessage H (message_in site bytes r) history
+  adds = record { changes = changes_page r.log_kind r.page r.kind stand_all.1.known; before = holds.earlier ++ completed_in site bytes xs; after = completed_in site bytes ys; old = old_messages; new = refl; lower = lower; higher = higher; batches = refl }
+
+  -- the message lies behind what was written
+  above : site.place + from ≤ (message_in site bytes r).place
+  above = omega (arith, begins)
+
+  stand_new : All (Stands sum number new) (xs ++ closed r ∷ ys)
+  stand_new = all_joined (Stands sum number new) xs ys (closed r)
+      (λ k d lt. let b = in_front k d lt in same_before sum number bytes r ends stand_all.1 is_open (get_or xs k d) b.1 (stand_all.0 k d lt))
+      (closed_stands sum number bytes r ends stand_all.1 is_open)
+      (λ k d lt. let b = after_it k d lt in same_behind sum number bytes r ends stand_all.1 is_open (get_or ys k d) b.0 (stand_all.2 k d lt))
+
+  messages_new : completed_in site new (xs ++ closed r ∷ ys) ≡ completed_in site bytes xs ++ message_in site bytes r ∷ completed_in site bytes ys
+  messages_new =
+      let front : completed_in site new xs ≡ completed_in site bytes xs = completed-same site bytes new xs (λ k d lt. let b = in_front k d lt in body_before sum number bytes r ends stand_all.1 is_open (get_or xs k d) b.1 (stand_all.0 k d lt)) in
+      let back : completed_in site new ys ≡ completed_in site bytes ys = completed-same site bytes new ys (λ k d lt. let b = after_it k d lt in body_behind sum number bytes r ends stand_all.1 is_open (get_or ys k d) b.0) in
+      let own : message_in site new (closed r) ≡ message_in site bytes r = ap (λ (l : List ℕ). record (message_in site bytes r) { bytes = l }) (body_own sum number bytes r ends stand_all.1 is_open) in
+      completed-append site new xs (closed r ∷ ys)
+      ∙ ap (λ (ms : List Message). ms ++ completed_in site new (closed r ∷ ys)) front
+      ∙ ap (λ (m : Message). completed_in site bytes xs ++ m ∷ completed_in site new ys) own
+      ∙ ap (λ (ms : List Message). completed_in site bytes xs ++ message_in site bytes r ∷ ms) back
+
+  holds_new : HoldsIn sum (log_parts size site device fault new from (xs ++ closed r ∷ ys)) history
+  holds_new =
+      let fit : r.from + length (completing r) ≤ length bytes = let at_r = stand_all.1 in let h = at_r.headed in let l = at_r.long in omega (arith, h, l, ends) in
+      let long : length new ≡ length bytes = length-written bytes (completing r) r.from fit in
+      let rooms = all_split (λ (x : Reserved). x.from + 32 ≤ size) xs ys r holds.room in
+      record {
+        earlier = holds.earlier;
+        messages = append_assoc holds.earlier (completed_in site bytes xs) (message_in site bytes r ∷ completed_in site bytes ys) ∙ ap (λ (ms : List Message). holds.earlier ++ ms) (sym messages_new);
+        below = holds.below;
+        apart = holds.apart;
+        batches = holds.batches;
+        place_begins = holds.place_begins;
+        slot_begins = holds.slot_begins;
+        header = λ first. part-written_before bytes (completing r) r.from 0 20 (omega (arith, begins)) fit ∙ holds.header first;
+        chain = subst (λ n. IsChain (max 20 from) (xs ++ closed r ∷ ys) n) (sym long) (chain-joined (max 20 from) (length bytes) xs ys (closed r) chains.0 chains.1);
+        stand = stand_new;
+        room = all_joined (λ (x : Reserved). x.from + 32 ≤ size) xs ys (closed r) rooms.0 rooms.1 rooms.2;
+        begun = begun-adds H history (message_in site bytes r) adds sum size device.snapshots.file site from above holds.begun;
+        written = λ ok. device-adds H history (message_in site bytes r) adds sum size device site from above holds.begun holds.earlier (holds.written ok);
+      }
+
+-- The message of an open reservation is added at its place, and the log holds that.
+pub holds-complete : (sum : List ℕ → ℕ) (size : ℕ) (site : SegmentPosition) (device : State) (fault : Option IoError) (bytes : List ℕ) (from : ℕ) (rs : List Reserved) (i : ℕ) (r : Reserved) (H : History)
+    → HoldsIn sum (log_parts size site device fault bytes from rs) H → slice_get rs i ≡ Some r → r.is_open ≡ true → from ≤ length bytes
+    → (H' : History) × AddsMessage H (message_in site bytes r) H' × HoldsIn sum (log_parts size site device fault (written bytes r.from (completing r)) from (set rs i (closed r))) H'
+holds-complete sum size site device fault bytes from rs i r H holds there is_open behind =
+    let xs : List Reserved = take i rs in
+    let ys : List Reserved = drop (suc i) rs in
+    let around : rs ≡ xs ++ r ∷ ys = there_split rs i r there in
+    let holds' : HoldsIn sum (log_parts size site device fault bytes from (xs ++ r ∷ ys)) H = subst (λ (l : List Reserved). HoldsIn sum (log_parts size site device fault bytes from l) H) around holds in
+    let set_is : set rs i (closed r) ≡ xs ++ closed r ∷ ys = set_split rs i (closed r) (slice_get_within rs i r there) in (
+      history sum size site device fault bytes from xs ys r H holds' is_open behind,
+      adds sum size site device fault bytes from xs ys r H holds' is_open behind,
+      subst (λ (l : List Reserved). HoldsIn sum (log_parts size site device fault (written bytes r.from (completing r)) from l) (history sum size site device fault bytes from xs ys r H holds' is_open behind)) (sym set_is) (holds_new sum size site device fault bytes from xs ys r H holds' is_open behind),
+    )
+
+-- Every other reservation stays where it is, for the same message.
+pub others_stay : (sum : List ℕ → ℕ) (size : ℕ) (site : SegmentPosition) (device : State) (fault : Option IoError) (bytes : List ℕ) (from : ℕ) (rs : List Reserved) (i j : ℕ) (r x : Reserved) (H : History)
+    → HoldsIn sum (log_parts size site device fault bytes from rs) H → slice_get rs i ≡ Some r → r.is_open ≡ true → slice_get rs j ≡ Some x → (x.from ≡ r.from → ⊥)
+    → (slice_get (set rs i (closed r)) j ≡ Some x) × (message_in site (written bytes r.from (completing r)) x ≡ message_in site bytes x)
+others_stay sum size site device fault bytes from rs i j r x H holds at_i is_open at_j apart =
+    let number : ℕ = site.place / size in
+    let stands : Stands sum number bytes r = at_there (Stands sum number bytes) rs i r at_i holds.stand in
+    let at_x : Stands sum number bytes x = at_there (Stands sum number bytes) rs j x at_j holds.stand in
+    let inside = at_there (λ z. (max 20 from ≤ z.from) × (z.from + z.len ≤ length bytes)) rs i r at_i (chain_within (max 20 from) (length bytes) rs holds.chain) in
+    let body : body_in (written bytes r.from (completing r)) x ≡ body_in bytes x =
+    elim (chain_apart (max 20 from) (length bytes) rs i j r x holds.chain at_i at_j apart) [
+      | inl before ↦ body_before sum number bytes r inside.1 stands is_open x before at_x
+      | inr behind ↦ body_behind sum number bytes r inside.1 stands is_open x behind
+    ] in (
+      there-set_other rs i j r x (closed r) at_i at_j (λ same. apart (sym (ap (λ (z : Reserved). z.from) same))),
+      ap (λ (l : List ℕ). record (message_in site bytes x) { bytes = l }) body,
+    )

@@ -1,0 +1,52 @@
+-- How a log goes on holding a history when a place is reserved.
+use Rattle.std.proofs.Common.{◌≡◌, ◌≤◌, ◌+◌, ◌/◌, ℕ, max, List, [], ◌∷◌, ◌++◌, length, sym, ◌∙◌, ap, arith, subst, length-append, true, Option, get_or}
+use Rattle.std.specs.List.{All}
+use Rattle.std.specs.declared.io.Error.{Error as IoError}
+use Rattle.std.proofs.lemmas.List.{append-nil, take-append-le}
+use Rattle.std.proofs.lemmas.List.Elements.{All-append}
+use Rattle.sled_codec.specs.History.{Message, History}
+use Rattle.sled_store.specs.Device.{State}
+use Rattle.sled_core.specs.declared.iobuf.Reserved.{Reserved}
+use Rattle.sled_core.specs.declared.iobuf.SegmentPosition.{SegmentPosition}
+use Rattle.sled_core.specs.Buffers.{body_in, IsChain, completed_in, Stands}
+use Rattle.sled_core.specs.Fits.{log_parts}
+use Rattle.sled_core.specs.NextFits.{HoldsIn}
+use Rattle.sled_core.proofs.Reserve.Ranges.{completed-same, completed-append, chain-append}
+use Rattle.sled_core.proofs.Holds.HoldsLemmas.{body-append, stands-append, one, completed_open}
+
+module _ (sum : List ℕ → ℕ) (size : ℕ) (site : SegmentPosition) (device : State) (fault : Option IoError) (bytes : List ℕ) (from : ℕ) (rs : List Reserved) (H : History)
+    (holds : HoldsIn sum (log_parts size site device fault bytes from rs) H) where
+  -- A place is reserved: its placeholder stands behind what is there.
+  pub holds-append : (more : List ℕ) (r : Reserved) → 20 ≤ length bytes → All (λ x. x.from + x.len ≤ length bytes) rs
+      → r.from ≡ length bytes → r.len ≡ length more → r.is_open ≡ true → r.from + 32 ≤ size → Stands sum (site.place / size) (bytes ++ more) r
+      → HoldsIn sum (log_parts size site device fault (bytes ++ more) from (rs ++ r ∷ [])) H
+  holds-append more r begun within at long is_open has_room stands =
+      let number : ℕ = site.place / size in
+      let new : List ℕ = bytes ++ more in
+      let bodies : All (λ x. body_in new x ≡ body_in bytes x) rs = λ k d lt. body-append bytes more (get_or rs k d) (within k d lt) (holds.stand k d lt).long in
+      let none : completed_in site new (r ∷ []) ≡ [] = completed_open site new r [] is_open in
+      let end : length bytes + r.len ≡ length new = omega (arith, length-append bytes more) in
+      record {
+        earlier = holds.earlier;
+        messages = holds.messages ∙ ap (λ (ms : List Message). holds.earlier ++ ms) (sym (
+            completed-append site new rs (r ∷ []) ∙ ap (λ (ms : List Message). completed_in site new rs ++ ms) none ∙ append-nil (completed_in site new rs) ∙ completed-same site bytes new rs bodies));
+        below = holds.below;
+        apart = holds.apart;
+        batches = holds.batches;
+        place_begins = holds.place_begins;
+        slot_begins = holds.slot_begins;
+        header = λ first. take-append-le 20 bytes more begun ∙ holds.header first;
+        chain = subst (λ (n : ℕ). IsChain (max 20 from) (rs ++ r ∷ []) n) end (chain-append (max 20 from) (length bytes) rs r holds.chain at);
+        stand = All-append (Stands sum number new) rs (r ∷ []) (λ k d lt. stands-append sum number bytes more (get_or rs k d) (within k d lt) (holds.stand k d lt)) (one (Stands sum number new) r stands);
+        room = All-append (λ (x : Reserved). x.from + 32 ≤ size) rs (r ∷ []) holds.room (one (λ (x : Reserved). x.from + 32 ≤ size) r has_room);
+        begun = holds.begun;
+        written = holds.written;
+      }
+
+-- The same bytes, from the same offset, and the same reservations hold the same.
+pub holds-same : (sum : List ℕ → ℕ) (size : ℕ) (site : SegmentPosition) (device : State) (fault : Option IoError) (bytes bytes' : List ℕ) (from from' : ℕ) (rs rs' : List Reserved) (H : History)
+    → bytes' ≡ bytes → from' ≡ from → rs' ≡ rs → HoldsIn sum (log_parts size site device fault bytes from rs) H → HoldsIn sum (log_parts size site device fault bytes' from' rs') H
+holds-same sum size site device fault bytes bytes' from from' rs rs' H b f r holds =
+    subst (λ (l : List ℕ). HoldsIn sum (log_parts size site device fault l from' rs') H) (sym b)
+    (subst (λ n. HoldsIn sum (log_parts size site device fault bytes n rs') H) (sym f)
+    (subst (λ (l : List Reserved). HoldsIn sum (log_parts size site device fault bytes from l) H) (sym r) holds))

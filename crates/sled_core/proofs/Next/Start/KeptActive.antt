@@ -1,0 +1,84 @@
+-- A log that goes on from a snapshot stands in each file that keeps the slots which the snapshot uses.
+use Rattle.std.proofs.Common.{◌≡◌, ◌+◌, ◌*◌, ◌/◌, ◌%◌, ◌<◌, ℕ, true, List, Some, sym, subst, arith}
+use Rattle.std.specs.List.{Contains}
+use Rattle.sled_codec.specs.History.{Message, History, table}
+use Rattle.sled_codec.specs.PageTables.{IsTable}
+use Rattle.sled_codec.specs.Snapshots.{SnapshotModel, stable_place}
+use Rattle.sled_store.specs.Begin.{is_used}
+use Rattle.sled_core.specs.declared.iobuf.SegmentPosition.{SegmentPosition}
+use Rattle.sled_core.specs.declared.iterator.Segment.{Segment}
+use Rattle.sled_core.specs.Reached.{StandsTo, StandsAlone, StandsActive, GoesOnIn}
+use Rattle.sled_core.specs.Scan.{IsFoundSegment}
+use Rattle.sled_core.specs.Tail.{Scanned, IsScanned, least_place}
+use Rattle.sled_core.proofs.Next.Start.Entries.{message_used, active_used}
+use Rattle.sled_core.proofs.Next.Start.Recoverable.{same_place}
+use Rattle.sled_core.proofs.Reached.KeptStands.{SameInUsed, found_kept, scan_kept, kept_stands}
+use Rattle.sled_core.proofs.Reached.StartedStands.{slot_needed}
+use Rattle.sled_core.proofs.Tail.OneTail.{segment_there, reading_there}
+use Rattle.sled_core.proofs.Torn.KeptSlots.{KeepsSlots}
+
+-- a slot that a snapshot uses
+abbrev pub Uses : ℕ → SnapshotModel → ℕ → Type 0
+Uses size s j = is_used size s j ≡ true
+
+module _ (sum : List ℕ → ℕ) (size : ℕ) (log : List ℕ) (s : SnapshotModel) (H : History) (is : IsTable s.pages H (stable_place s.stable)) (alone : StandsActive sum size log s H) where
+  abbrev stable : ℕ
+  stable = stable_place s.stable
+
+  -- each segment that is found is used
+  pub found_used : (x : Segment) → IsFoundSegment sum size log (least_place size s) x → is_used size s (x.slot / size) ≡ true
+  found_used x found = active_used size s x.slot (alone.only x found)
+
+  pub listed_used : (x : Segment) → Contains alone.stands.ordering x → is_used size s (x.slot / size) ≡ true
+  listed_used x there = found_used x ((alone.stands.numbers.found x).0 there)
+
+  -- and so is that of each entry
+  pub entry_slot_used : (page : ℕ) (m : Message) (entry : Contains (table H stable page) m) → is_used size s ((alone.stands.needed page m entry).0.segment.slot / size) ≡ true
+  entry_slot_used page m entry =
+      subst (λ k. is_used size s k ≡ true) (sym (slot_needed sum size log H stable m (alone.stands.needed page m entry).0)) (message_used size s H stable is page m entry)
+
+  module _ (left : List ℕ) (keeps : KeepsSlots sum size (Uses size s) log left) (same : SameInUsed size (Uses size s) log left) where
+    pub stands_left : StandsTo sum size left H stable s stable
+    stands_left = kept_stands sum size (Uses size s) log left keeps same H stable s stable alone.stands listed_used entry_slot_used
+
+    -- where a write goes on, it still does
+    goes_left : (slot from place : ℕ) → GoesOnIn alone.stands.scanned slot from place → GoesOnIn stands_left.scanned slot from place
+    goes_left slot from place g =
+        let t : Scanned = g.scan in
+        let had = segment_there sum size log alone.stands.ordering alone.stands.scanned alone.stands.reads t g.there in
+        let found = (alone.stands.numbers.found t.segment).0 had.0 in
+        let used = found_used t.segment found in
+        let read : IsScanned sum size left t = scan_kept sum size (Uses size s) log left keeps same (least_place size s) t.segment found used t.met t.stop t.why had.1 in
+        let there = (stands_left.numbers.found t.segment).1 (found_kept sum size (Uses size s) log left keeps same (least_place size s) t.segment found used) in
+        record {
+          scan = t;
+          there = reading_there sum size left stands_left.ordering stands_left.scanned stands_left.reads t there read;
+          in_slot = g.in_slot;
+          at_place = g.at_place;
+          ended = g.ended;
+          broken = g.broken;
+        }
+
+    pub active_left : StandsActive sum size left s H
+    active_left = record {
+      stands = stands_left;
+      only = λ x found. alone.only x (keeps.before (least_place size s) x found);
+      going = λ slot active. goes_left slot (stable % size) (stable / size * size) (alone.going slot active);
+    }
+
+-- So a log that begins where the snapshot ends stands alone, with the newest snapshot in place of this one.
+pub begins_alone : (sum : List ℕ → ℕ) (size : ℕ) (log : List ℕ) (s first : SnapshotModel) (H : History) (site : SegmentPosition) (from : ℕ) → stable_place first.stable ≡ stable_place s.stable → site.place + from ≡ stable_place s.stable
+    → ((slot : ℕ) → s.active ≡ Some slot → slot ≡ site.slot)
+    → (0 < from → (s.active ≡ Some site.slot) × (from ≡ stable_place s.stable % size) × (site.place ≡ stable_place s.stable / size * size))
+    → StandsActive sum size log s H → StandsAlone sum size log site from H first
+begins_alone sum size log s first H site from same end own behind alone =
+    let reach : ℕ = site.place + from in
+    let on = same_place sum size log H (stable_place s.stable) reach s first (stable_place s.stable) reach same end (omega arith) alone.stands in
+    record {
+      stands = on.0;
+      only = λ x found. own x.slot (alone.only x (subst (λ n. IsFoundSegment sum size log (n / size * size) x) same found));
+      going = λ some room.
+          let at = behind some in
+          subst (λ (ss : List Scanned). GoesOnIn ss site.slot from site.place) (sym on.1)
+          (subst (λ n. GoesOnIn alone.stands.scanned site.slot n site.place) (sym at.1) (subst (λ n. GoesOnIn alone.stands.scanned site.slot (stable_place s.stable % size) n) (sym at.2) (alone.going site.slot at.0)));
+    }

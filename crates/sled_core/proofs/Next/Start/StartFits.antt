@@ -1,0 +1,113 @@
+-- A log that begins on what a recovery left fits the history.
+use Rattle.std.proofs.Common.{◌≡◌, ◌≤◌, ◌<◌, ◌+◌, ◌*◌, ◌/◌, ◌%◌, ◌∙◌, ◌-ℤ◌, ℕ, pos, List, [], length, Option, Some, None, IfSome, refl, sym, ap, subst, arith}
+use Rattle.std.proofs.Math.Nat.{mod-add-div'}
+use Rattle.sled_codec.specs.Coords.{raised}
+use Rattle.sled_codec.specs.Record.{short_header}
+use Rattle.sled_codec.specs.History.{History}
+use Rattle.sled_codec.specs.Snapshots.{SnapshotModel, stable_place}
+use Rattle.sled_store.specs.Device.{LogState, NamesState, State, at_rest}
+use Rattle.sled_store.specs.declared.segment.start.Beginning.{Beginning}
+use Rattle.sled_core.specs.declared.iobuf.Reserved.{Reserved}
+use Rattle.sled_core.specs.declared.iobuf.SegmentPosition.{SegmentPosition}
+use Rattle.sled_store.specs.Begin.{slots_of, unused, first_or, beginning_at, beginning_of, MayBeActive, IsStartable}
+use Rattle.sled_store.proofs.Segments.FilledLemmas.{filled, filled_grows, begins_in}
+use Rattle.sled_core.specs.Fits.{log_parts}
+use Rattle.sled_core.specs.NextFits.{HoldsIn}
+use Rattle.sled_core.specs.NextLogFile.{padded}
+use Rattle.sled_core.specs.NextReady.{HasFile}
+use Rattle.sled_core.specs.NextRecoverable.{LeavesRecoverable}
+use Rattle.sled_core.specs.NextRunning.{BlobsFit, NamesFit, FitsIn, IsReadyFor}
+use Rattle.sled_core.specs.Reached.{StandsActive, StandsAlone}
+use Rattle.sled_core.specs.Recoverable.{NoHeaderOfZeros}
+use Rattle.sled_core.proofs.Next.Start.FilledActive.{filled_active}
+use Rattle.sled_core.proofs.Next.Start.KeptActive.{begins_alone}
+use Rattle.sled_core.proofs.Next.Start.PaddedActive.{padded_same, padded_active}
+use Rattle.sled_core.proofs.Next.Start.ReadyLemmas.{raised_same, file_there, begins_from}
+use Rattle.sled_core.proofs.Next.Start.Recoverable.{same_place, settled_leaves}
+
+some_is : (a b : ℕ) → Some a ≡ Some b → a ≡ b
+some_is a b same = cc
+
+module _ (sum : List ℕ → ℕ) (size : ℕ) (device now : State) (s : SnapshotModel) (H : History) (A f : ℕ) (long : 256 ≤ size) (ready : IsReadyFor sum size device s H A f) (startable : IsStartable size (length device.log.bytes) s)
+    (log_is : now.log ≡ at_rest (filled size device.log.bytes (unused size (slots_of size (length device.log.bytes)) s))) (same_blobs : now.blobs ≡ device.blobs) (same_names : now.snapshots ≡ device.snapshots) where
+  abbrev log : List ℕ
+  log = device.log.bytes
+
+  abbrev stable : ℕ
+  stable = stable_place s.stable
+
+  abbrev slots : ℕ
+  slots = slots_of size (length log)
+
+  abbrev free : List ℕ
+  free = unused size slots s
+
+  abbrev new : List ℕ
+  new = filled size log free
+
+  bytes_now : now.log.bytes ≡ new
+  bytes_now = ap (λ (l : LogState). l.bytes) log_is
+
+  same_stable : stable_place ready.ready.first.stable ≡ stable
+  same_stable = ap stable_place ready.ready.same_place
+
+  active_now : NoHeaderOfZeros sum → StandsActive sum size new s H
+  active_now zeros = filled_active sum size long zeros log s H ready.ready.table ready.alone
+
+  -- Whatever a crash leaves now can be recovered.
+  left_now : LeavesRecoverable sum size H stable f now
+  left_now =
+      settled_leaves sum size now new H stable f ready.ready.first stable long ready.ready.apart ready.ready.below log_is
+      (λ zeros. (same_place sum size new H stable stable s ready.ready.first stable stable same_stable refl (omega arith) (active_now zeros).stands).0)
+      (subst (λ (n : NamesState). NamesFit sum size n H f ready.ready.first) (sym same_names) ready.names) (subst (λ (n : NamesState). BlobsFit sum n H stable) (sym same_blobs) ready.blobs)
+
+  -- Where it begins at a site.
+  module _ (site : SegmentPosition) (from : ℕ) (end : site.place + from ≡ stable) (own : (slot : ℕ) → s.active ≡ Some slot → slot ≡ site.slot)
+      (behind : 0 < from → (s.active ≡ Some site.slot) × (from ≡ stable % size) × (site.place ≡ stable / size * size)) (beyond : NoHeaderOfZeros sum → StandsActive sum size (padded site.slot new) s H) where
+    fits_at : (bytes : List ℕ) (holds : HoldsIn sum (log_parts size site now None bytes from []) H) → holds.begun.first ≡ ready.ready.first → FitsIn sum (log_parts size site now None bytes from []) 0 H A f []
+    fits_at bytes holds first =
+        let same : stable_place holds.begun.first.stable ≡ stable = ap (λ (x : SnapshotModel). stable_place x.stable) first ∙ same_stable in
+        record {
+          holds = holds;
+          alone = λ none zeros. subst (λ (l : List ℕ). StandsAlone sum size l site from H holds.begun.first) (sym bytes_now) (begins_alone sum size new s holds.begun.first H site from same end own behind (active_now zeros));
+          beyond = λ none zeros. subst (λ (l : List ℕ). StandsAlone sum size (padded site.slot l) site from H holds.begun.first) (sym bytes_now) (begins_alone sum size (padded site.slot new) s holds.begun.first H site from same end own behind (beyond zeros));
+          blobs = subst (λ (n : NamesState). BlobsFit sum n H (site.place + from)) (sym same_blobs) (subst (BlobsFit sum device.blobs H) (sym end) ready.blobs);
+          names = subst (λ (n : NamesState). NamesFit sum size n H f holds.begun.first) (sym same_names) (subst (NamesFit sum size device.snapshots H f) (sym first) ready.names);
+          passes = let passes = ready.passes in omega (arith, passes, end);
+          pinned = λ some. absurd (some refl);
+          left = subst (λ n. LeavesRecoverable sum size H n f now) (sym end) left_now;
+        }
+
+  -- It fits where it begins.
+  FitsAt : List ℕ → Beginning → Type 0
+  FitsAt bytes b = (holds : HoldsIn sum (log_parts size (record { place = b.place; slot = b.slot }) now None bytes b.offset []) H) → holds.begun.first ≡ ready.ready.first
+      → FitsIn sum (log_parts size (record { place = b.place; slot = b.slot }) now None bytes b.offset []) 0 H A f []
+
+  fits_from : (bytes : List ℕ) → FitsAt bytes (beginning_of size (length log) s)
+  unfolding FitsAt
+  fits_from bytes = by s.active refl (file_there sum size device now s H bytes long ready.ready startable log_is (ap (λ (n : NamesState). n.file) same_names)) startable.active
+    where
+      by : (o : Option ℕ) → s.active ≡ o → HasFile sum size log s o H → IfSome o (MayBeActive size slots stable) → FitsAt bytes (beginning_at size slots stable free o)
+      by (Some a) active has may =
+          let begins : a / size * size < length log = begins_in size (length log) (a / size) (omega (arith, long)) may.slot in
+          let aligned = may.aligned in
+          let inside : a ≤ length new = omega (arith, begins, mod-add-div' a size, aligned, filled_grows size (omega (arith, long)) free log) in
+          fits_at (record { place = stable / size * size; slot = a }) (stable % size) (omega (arith, mod-add-div' stable size))
+          (λ slot is. some_is slot a (sym is ∙ active)) (λ some. (active, refl, refl))
+          (λ zeros. subst (λ (l : List ℕ). StandsActive sum size l s H) (sym (padded_same a new inside)) (active_now zeros)) bytes
+      by None none has may =
+          let begins = has.begins in
+          let place : raised size stable ≡ stable = raised_same size stable (omega (arith, long)) begins in
+          fits_at (record { place = raised size stable; slot = first_or slots free * size }) 0 (omega (arith, place))
+          (λ slot is. absurd (let both : None ≡ Some slot = sym none ∙ is in cc)) (λ some. absurd (omega (arith, some)))
+          (λ zeros. padded_active sum size long zeros log s H ready.ready.table ready.alone none (active_now zeros)) bytes
+
+  -- The log fits the history that it holds.
+  pub start_fits : (b : Beginning) → b ≡ beginning_of size (length log) s → (bytes : List ℕ) (from : ℕ) (reserved : List Reserved) → (b.offset ≡ 0 → bytes ≡ short_header sum (pos b.place) (pos b.place -ℤ pos 1)) → (0 < b.offset → length bytes ≡ b.offset)
+      → from ≡ b.offset → reserved ≡ [] → FitsIn sum (log_parts size (record { place = b.place; slot = b.slot }) now None bytes from reserved) 0 H A f []
+  unfolding FitsAt
+  start_fits b is bytes from reserved header more offset none =
+      let begun = begins_from sum size device now s H bytes long ready.ready startable log_is (ap (λ (n : NamesState). n.file) same_names) b is header more in
+      let fits : FitsAt bytes b = subst (FitsAt bytes) (sym is) (fits_from bytes) in
+      subst (λ n. FitsIn sum (log_parts size (record { place = b.place; slot = b.slot }) now None bytes n reserved) 0 H A f []) (sym offset)
+      (subst (λ (r : List Reserved). FitsIn sum (log_parts size (record { place = b.place; slot = b.slot }) now None bytes b.offset r) 0 H A f []) (sym none) (fits begun.0 begun.1))

@@ -1,0 +1,186 @@
+-- What stands in the slots that are used stays when the others are filled: the log file that a log begins on.
+use Rattle.std.proofs.Common.{◌≡◌, ◌≢◌, ◌⊎◌, ◌≤◌, ◌<◌, ◌+◌, ◌*◌, ◌/◌, ◌%◌, ◌∙◌, ℕ, pos, true, false, List, length, get_or, sym, ap, subst, arith, inl, inr, Some, unsigned_abs}
+use Rattle.std.specs.List.{All, Contains}
+use Rattle.std.proofs.Math.Nat.{mul-le-mul_right, mod-add-div', mod-lt}
+use Rattle.std.proofs.lemmas.Bool.{cases_lt}
+use Rattle.std.proofs.lemmas.List.{get_or_past}
+use Rattle.std.proofs.lemmas.List.Elements.{All-contains}
+use Rattle.sled_codec.specs.declared.result.DiskPtr.TheVariants.{Inline}
+use Rattle.sled_codec.specs.Places.{part}
+use Rattle.sled_codec.specs.Pointers.{lid_of}
+use Rattle.sled_codec.specs.Record.{IsHeader}
+use Rattle.sled_codec.specs.History.{Message, History, table}
+use Rattle.sled_codec.specs.PageTables.{IsTable}
+use Rattle.sled_codec.specs.Snapshots.{Entry, SnapshotModel, stable_place}
+use Rattle.sled_core.specs.declared.iobuf.SegmentPosition.{SegmentPosition}
+use Rattle.sled_store.specs.Begin.{slots_of, slot_of, segment_number_of, entries_of, is_used, unused, first_or}
+use Rattle.sled_core.specs.LogFile.{MessageStands}
+use Rattle.sled_core.specs.NextFits.{EndBelow}
+use Rattle.sled_core.specs.NextLogFile.{StandsHere, StandsElsewhere, HasHeader, IsLogFile}
+use Rattle.sled_core.specs.NextReady.{HasActive, HasNoActive, active_site}
+use Rattle.sled_store.proofs.Segments.FilledLemmas.{filled, slots_cover, slot_before, filled_grows, filled_byte, filled_part, filled_zero, filled_covered, free_below, first_there}
+use Rattle.sled_core.proofs.Flush.LogFileLemmas.{stands_some}
+use Rattle.sled_core.proofs.Next.Start.Entries.{table_entry, active_used}
+use Rattle.sled_core.proofs.Read.ScanLemmas.{aligned_number}
+use Rattle.sled_core.proofs.Tail.Moved.{message_moved}
+use Rattle.sled_core.proofs.Torn.FilledAlong.{unused_begin, used_apart}
+
+module _ (sum : List ℕ → ℕ) (size : ℕ) (long : 256 ≤ size) (log : List ℕ) (s : SnapshotModel) (H : History) where
+  abbrev slots : ℕ
+  slots = slots_of size (length log)
+
+  abbrev free : List ℕ
+  free = unused size slots s
+
+  abbrev stable : ℕ
+  stable = stable_place s.stable
+
+  -- the file once it is filled
+  abbrev new : List ℕ
+  new = filled size log free
+
+  some : 0 < size
+  some = omega (arith, long)
+
+  past_slots : (k : ℕ) → slots ≤ k → slots * size ≤ k * size
+  past_slots k le = mul-le-mul_right size le
+
+  free_slots : All (λ k. k < slots) free
+  free_slots = λ k d lt. (free_below (is_used size s) slots k d lt).0
+
+  free_begin : All (λ k. k * size < length log) free
+  free_begin = unused_begin size (length log) s some
+
+  grows : length log ≤ length new
+  grows = filled_grows size some free log
+
+  covered : length new ≤ slots * size
+  covered = filled_covered size some log free free_slots
+
+  -- What stands in a slot that is used stays.
+
+  module _ (lid : ℕ) (used : is_used size s (lid / size) ≡ true) where
+    used_part : (n : ℕ) → lid % size + n ≤ size → part new lid n ≡ part log lid n
+    used_part n within = filled_part size some free log (lid / size) lid n free_begin (used_apart size (length log) s (lid / size) used) (omega (arith, mod-add-div' lid size)) (omega (arith, mod-add-div' lid size, within))
+
+    used_message : (number : ℕ) (m : Message) → MessageStands sum size log lid number m → MessageStands sum size new lid number m
+    used_message number m r = let end = r.stands.in_file in message_moved sum size log new lid number m (used_part m.size r.stands.in_slot) (omega (arith, end, grows)) r
+
+  used_byte : (j i : ℕ) → is_used size s j ≡ true → j * size ≤ i → i < j * size + size → get_or new i 0 ≡ get_or log i 0
+  used_byte j i used low high = filled_byte size some free log j i free_begin (used_apart size (length log) s j used) low high
+
+  -- a record in another slot lies apart from one
+  other_slot : (lid n j : ℕ) → lid / size ≢ j → lid % size + n ≤ size → (lid + n ≤ j * size) ⊎ (j * size + size ≤ lid)
+  other_slot lid n j other within = elim (cases_lt (lid / size) j) [
+    | inl before ↦ inl (omega (arith, slot_before size (lid / size) j before, mod-add-div' lid size, within))
+    | inr behind ↦ (let after : j < lid / size = omega (arith, behind, other) in inr (omega (arith, slot_before size j (lid / size) after, mod-add-div' lid size)))
+  ]
+
+  -- The active segment goes on.
+
+  module _ (a : ℕ) (active : s.active ≡ Some a) (aligned : a % size ≡ 0) (is : IsTable s.pages H stable)
+      (of_active : (e : Entry) → Contains (entries_of s.pages) e → slot_of size e ≡ a / size → segment_number_of size e ≡ stable / size) (has : HasActive sum size log s a H) where
+    abbrev site : SegmentPosition
+    site = active_site size stable a
+
+    whole : a / size * size ≡ a
+    whole = omega (arith, mod-add-div' a size, aligned)
+
+    own_used : (at : ℕ) → at < size → is_used size s ((a + at) / size) ≡ true
+    own_used at less = ap (is_used size s) (aligned_number a at size aligned less) ∙ active_used size s a active
+
+    -- its own messages stand
+    here_used : (lid : ℕ) (m : Message) → StandsHere sum size log site (stable % size) lid m → StandsHere sum size new site (stable % size) lid m
+    here_used lid m h =
+        let inside = h.inside in
+        let less : h.at < size = omega (arith, inside, mod-lt stable some, stands_some sum size log lid (m.place / size) m h.stands) in
+        record {
+          at = h.at;
+          place = h.place;
+          offset = h.offset;
+          begins = h.begins;
+          stands = used_message lid (ap (λ n. is_used size s (n / size)) h.offset ∙ own_used h.at less) (m.place / size) m h.stands;
+          inside = h.inside;
+        }
+
+    header_used : HasHeader sum log site → HasHeader sum new site
+    header_used h =
+        let same : part new a 20 ≡ part log a 20 = used_part a (active_used size s a active) 20 (omega (arith, aligned, long)) in
+        record { mark = h.mark; header = subst (λ (l : List ℕ). IsHeader sum l (pos site.place) h.mark) (sym same) h.header; below = h.below }
+
+    -- a message of an earlier segment lies in another slot
+    other_segment : (page : ℕ) (m : Message) → Contains (table H stable page) m → m.place < site.place → lid_of m.pointer / size ≢ a / size
+    other_segment page m entry lower same =
+        let e = table_entry s.pages H stable is page m entry in
+        let number : segment_number_of size e.entry ≡ stable / size = of_active e.entry e.there (ap (λ p. lid_of p / size) e.pointer ∙ same) in
+        let own : m.place / size ≡ stable / size = ap (λ z. unsigned_abs z / size) (sym e.place) ∙ number in
+        let begins : m.place / size * size ≡ stable / size * size = ap (λ n. n * size) own in
+        omega (arith, begins, lower, mod-add-div' m.place size)
+
+    elsewhere_used : (page : ℕ) (m : Message) → Contains (table H stable page) m → m.place < site.place → (lid : ℕ) → m.pointer ≡ Inline lid → StandsElsewhere sum size new site lid m
+    elsewhere_used page m entry lower lid pointer =
+        let u = has.older page m entry lower lid pointer in
+        let other : lid / size ≢ a / size = λ same. other_segment page m entry lower (ap (λ p. lid_of p / size) pointer ∙ same) in
+        record {
+          begins = u.begins;
+          stands = used_message lid u.used (m.place / size) m u.stands;
+          apart = elim (other_slot lid m.size (a / size) other u.stands.stands.in_slot) [ inl before ↦ inl (omega (arith, before, whole)) | inr behind ↦ inr (omega (arith, behind, whole)) ];
+        }
+
+    pub active_file : IsLogFile sum size new site (stable % size) H.messages (table H stable)
+    active_file = record {
+      own = λ m there above lid pointer. here_used lid m (has.own m there above lid pointer);
+      elsewhere = elsewhere_used;
+      begun = λ more. has.inside;
+      header = λ more. header_used has.header;
+      clean = λ i above below. used_byte (a / size) i (active_used size s a active) (omega (arith, whole, above)) (omega (arith, whole, below)) ∙ has.clean i above below;
+    }
+
+  -- A new segment begins in the lowest slot that is not used, or behind the file.
+
+  abbrev lowest : ℕ
+  lowest = first_or slots free
+
+  lowest_apart : (j : ℕ) → is_used size s j ≡ true → j < slots → j ≢ lowest
+  lowest_apart j used less same = elim (first_there slots free) [
+    | inl there ↦ (
+        let r = All-contains (λ k. (k < slots) × (is_used size s k ≡ false)) free lowest (free_below (is_used size s) slots) there in
+        let both : true ≡ false = sym used ∙ ap (is_used size s) same ∙ r.1 in
+        cc)
+    | inr behind ↦ (omega (arith, behind, same, less))
+  ]
+
+  lowest_zero : (i : ℕ) → lowest * size ≤ i → i < lowest * size + size → get_or new i 0 ≡ 0
+  lowest_zero i low high = elim (first_there slots free) [
+    | inl there ↦ filled_zero size some free log lowest i free_begin there low high
+    | inr behind ↦ get_or_past new i 0 (let past : slots * size ≤ i = subst (λ k. k * size ≤ i) behind low in omega (arith, past, covered))
+  ]
+
+  module _ (below : EndBelow stable H.messages) (has : HasNoActive sum size log s H) where
+    abbrev new_site : SegmentPosition
+    new_site = record { place = stable; slot = lowest * size }
+
+    elsewhere_new : (page : ℕ) (m : Message) → Contains (table H stable page) m → m.place < stable → (lid : ℕ) → m.pointer ≡ Inline lid → StandsElsewhere sum size new new_site lid m
+    elsewhere_new page m entry lower lid pointer =
+        let u = has.older page m entry lower lid pointer in
+        let grown = stands_some sum size log lid (m.place / size) m u.stands in
+        let in_file = u.stands.stands.in_file in
+        let parts : lid % size + lid / size * size ≡ lid = mod-add-div' lid size in
+        let less : lid / size < slots = elim (cases_lt (lid / size) slots) [
+          | inl is ↦ is
+          | inr past ↦ absurd (omega (arith, parts, past_slots (lid / size) past, slots_cover size (length log) some, in_file, grown))
+        ] in
+        record {
+          begins = u.begins;
+          stands = used_message lid u.used (m.place / size) m u.stands;
+          apart = other_slot lid m.size lowest (lowest_apart (lid / size) u.used less) u.stands.stands.in_slot;
+        }
+
+    pub new_file : IsLogFile sum size new new_site 0 H.messages (table H stable)
+    new_file = record {
+      own = λ m there above lid pointer. absurd (let under = (All-contains (λ (x : Message). (x.place < stable) × (x.place + x.size ≤ stable)) H.messages m below there).0 in omega (arith, under, above));
+      elsewhere = elsewhere_new;
+      begun = λ more. absurd (omega (arith, more));
+      header = λ more. absurd (omega (arith, more));
+      clean = λ i above under. lowest_zero i (omega (arith, above)) under;
+    }
