@@ -1,1 +1,12 @@
+pub mod Completed
+pub mod FlushCalls
+pub mod FlushFits
+pub mod FlushLemmas
+pub mod LogFileKept
 pub mod LogFileLemmas
+pub mod Padded
+pub mod SameFits
+pub mod Settled
+pub mod WholeBuffer
+pub mod WrittenBuffer
+pub mod WrittenFile

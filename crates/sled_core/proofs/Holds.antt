@@ -1,8 +1,11 @@
+pub mod Added
 pub mod BegunLemmas
 pub mod CallMoments
-pub mod HeldPointers
+pub mod CompletedLemmas
+pub mod HeldRecords
 pub mod HoldsLemmas
 pub mod KeptCalls
 pub mod OpenTickets
 pub mod ReachLemmas
 pub mod RunningLemmas
+pub mod StandsAdds

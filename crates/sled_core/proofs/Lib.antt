@@ -1,7 +1,6 @@
 pub mod Crash
 pub mod Flush
 pub mod Holds
-pub mod Next
 pub mod PublicLaws
 pub mod Reached
 pub mod Read

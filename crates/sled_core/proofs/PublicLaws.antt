@@ -18,17 +18,11 @@ use Rattle.sled_core.specs.Ready.{IsReady}
 use Rattle.sled_core.specs.Recoverable.{NoForeign, Recoverable, LeavesRecoverable}
 use Rattle.sled_core.specs.Running.{Fits}
 use Rattle.sled_core.proofs.Holds.CallMoments.{own_after_crash}
-use Rattle.sled_core.proofs.Read.FirstSegment.{nothing_recoverable}
-use Rattle.sled_core.proofs.Start.FreshLemmas.{ready_fresh}
-use Rattle.sled_core.proofs.Holds.HeldPointers.{fits_lie}
-use Rattle.sled_core.proofs.Holds.ReachLemmas.{fits_reach, fits_apart, kept_past}
-pub use Rattle.sled_core.proofs.Start.FreshReady.{fresh_leaves, fresh_ready}
+use Rattle.sled_core.proofs.Holds.ReachLemmas.{kept_past}
+pub use Rattle.sled_core.proofs.Start.FreshReady.{fresh_leaves, fresh_ready, empty_ready, empty_recoverable}
 pub use Rattle.sled_core.proofs.Holds.KeptCalls.{goes_on_still, goes_on_further, kept_still, kept_further}
-pub use Rattle.sled_core.proofs.Holds.ReachLemmas.{fits_holds, fits_acknowledged, fits_reach, fits_apart, fits_leaves, awaited, next_small}
-
--- Messages that a log fits have inline pointers.
-pub fits_inline : {D C : Type 0} (trace : D → Trace) (sum : List ℕ → ℕ) (log : Log D C) (H : History) (A f : ℕ) (U : List Message) → Fits trace sum log H A f U → fault_of log ≡ None → All (λ m. IsInline m.pointer) H.messages
-fits_inline trace sum log H A f U fits none = λ k d lt. let lies = fits_lie trace sum log H A f U fits none k d lt in subst IsInline (sym lies.pointer) tt
+pub use Rattle.sled_core.proofs.Holds.ReachLemmas.{fits_holds, fits_acknowledged, fits_reach, fits_apart, fits_inline, awaited, awaited_inline, next_small}
+pub use Rattle.sled_core.proofs.Holds.RunningLemmas.{fits_leaves}
 
 -- Where no reservation was open, none is as long as nothing is another.
 pub unchanged_ended : {D C : Type 0} (old new : Log D C) → IsUnchanged old new → NoneOpen old → NoneOpen new
@@ -41,14 +35,6 @@ place_back z n is small = let fits : FitsSigned w64 (pos n) = search rules in sy
 -- What was written ends at the stable end at most.
 pub written_past : {D C : Type 0} (trace : D → Trace) (sum : List ℕ → ℕ) (log : Log D C) (H : History) → IsWritten trace sum log H → All (λ m. m.place + m.size ≤ synced_end log) H.messages
 written_past trace sum log H written = kept_past sum (segment_size_of log) log.site log.buffer.written_len _ H written
-
--- An empty log file without a snapshot is ready, whatever blobs there are.
-pub empty_ready : (sum : List ℕ → ℕ) (size : ℕ) (device : State) → device.log ≡ at_rest [] → ((n : ℤ) → device.snapshots.file n ≡ None) → IsReady sum size device empty_model no_history
-empty_ready sum size device empty none = ready_fresh sum size device empty none
-
--- A recovery can go on from nothing.
-pub empty_recoverable : (sum : List ℕ → ℕ) (size : ℕ) → 256 ≤ size → size < 2 ^ 63 → Recoverable sum size (record { log = []; blobs = λ n. None; snapshots = λ n. None }) no_history 0 0
-empty_recoverable sum size large small = nothing_recoverable sum size (record { log = []; blobs = λ n. None; snapshots = λ n. None }) large small refl (λ n. refl) (λ n. refl)
 
 module _ (sum : List ℕ → ℕ) (size : ℕ) (H : History) (A f : ℕ) where
   -- What is read now can be recovered where whatever a crash leaves can.

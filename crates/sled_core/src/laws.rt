@@ -1,6 +1,6 @@
 //! Laws of logs, each the contract of a function that does nothing. A proof cites them by the lemmas of
 //! `proofs/PublicLaws.antt`.
-ghost use Rattle.std.specs.Prelude.{◌≡◌, ◌≤◌, ◌<◌, ◌+◌, ◌^◌, ◌∷◌, ℕ, ℤ, pos, List, [], replicate, None, length, ◌-◌};
+ghost use Rattle.std.specs.Prelude.{◌≡◌, ◌≤◌, ◌<◌, ◌+◌, ◌^◌, ◌∷◌, ℕ, ℤ, pos, List, [], replicate, None, length, ◌-◌, Contains};
 ghost use Rattle.std.specs.Int.{w64, cast_signed, cast_unsigned};
 ghost use Rattle.std.specs.List.{All};
 ghost use Rattle.sled_codec.specs.History.{Message, History, no_history};
@@ -9,7 +9,7 @@ ghost use Rattle.sled_codec.specs.WellFormed.{LieApart};
 ghost use Rattle.sled_store.specs.Device.{Trace, State, Left, Leaves, Crashed, state_of, content_of, content_left, at_rest, fresh, Content, Settled, Wrote, Synced, step};
 ghost use Rattle.sled_store.specs.Moments.{IsLater, LeavesOnly};
 ghost use Rattle.sled_codec.specs.Snapshots.{empty_model};
-ghost use Rattle.sled_core.specs.Fits.{Holds, NoneOpen, Awaits, IsUnchanged, IsWritten, fault_of, next_place, synced_end, device_of, segment_size_of};
+ghost use Rattle.sled_core.specs.Fits.{Holds, NoneOpen, Awaits, IsUnchanged, IsWritten, next_place, synced_end, device_of, segment_size_of};
 ghost use Rattle.sled_core.specs.Keeps.{GoesOn, Preserves};
 ghost use Rattle.sled_core.specs.Reading.{IsInline};
 ghost use Rattle.sled_core.specs.Ready.{IsReady};
@@ -30,15 +30,15 @@ pub fn a_fitting_log_holds<D: Device, C: Checksum>()
     ensures acknowledged { (log : Log D C) (H : History) (A f : ℕ) (U : List Message) → Fits D.trace C.sum_of log H A f U → A ≤ synced_end log }
 {}
 
-/// The messages of a history that a log fits lie below its next place, one behind another, and their
-/// pointers are inline.
+/// The messages of a history that a log fits lie below its next place, one behind another. Those that are not stable yet
+/// have inline pointers, and so have the messages of tickets.
 pub fn messages_lie_in_order<D: Device, C: Checksum>()
     ensures below { (log : Log D C) (H : History) (A f : ℕ) (U : List Message) → Fits D.trace C.sum_of log H A f U
         → All (λ m. m.place < next_place log) H.messages }
-    ensures apart { (log : Log D C) (H : History) (A f : ℕ) (U : List Message) → Fits D.trace C.sum_of log H A f U
-        → fault_of log ≡ None → LieApart H.messages }
+    ensures apart { (log : Log D C) (H : History) (A f : ℕ) (U : List Message) → Fits D.trace C.sum_of log H A f U → LieApart H.messages }
     ensures inline { (log : Log D C) (H : History) (A f : ℕ) (U : List Message) → Fits D.trace C.sum_of log H A f U
-        → fault_of log ≡ None → All (λ m. IsInline m.pointer) H.messages }
+        → (m : Message) → Contains H.messages m → synced_end log ≤ m.place → IsInline m.pointer }
+    ensures awaited { (log : Log D C) (ticket : Reservation) (m : Message) → Awaits log ticket m → IsInline m.pointer }
     ensures small { (log : Log D C) → next_place log < 2 ^ 63 }
 {}
 

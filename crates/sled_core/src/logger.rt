@@ -20,7 +20,6 @@ ghost use Rattle.sled_codec.specs.Snapshots.{model_of};
 ghost use Rattle.sled_store.specs.Script.{after_all, Performs};
 ghost use Rattle.sled_store.specs.Moments.{IsLater, LeavesOnly};
 ghost use Rattle.sled_store.specs.Begin.{IsStartable, IsInReach, slots_of, unused, filling};
-ghost use Rattle.sled_core.specs.Ready.{IsReady};
 ghost use Rattle.sled_core.specs.Recoverable.{LeavesRecoverable, RecoverableIfOwn};
 ghost use Rattle.sled_core.specs.Causes.{Answers, FaultAnswers, ReserveAnswers, ReadAnswers, failure_in};
 
@@ -55,8 +54,9 @@ pub struct Log<D, C> {
 }
 
 impl<D: Device, C: Checksum> Log<D, C> {
-    ghost use Rattle.sled_core.specs.Fits.{Holds, NoneOpen, Awaits, IsOpen, IsOnlyOpen, HasRoom, IsUnchanged, fault_of, next_place, synced_end, reserved_end, pins_of, config_of, device_of, IsWritten, flushing, manifest_page, segment_size_of, size_for, message_for, KeepsAll};
+    ghost use Rattle.sled_core.specs.Fits.{Holds, NoneOpen, Awaits, IsOpen, IsOnlyOpen, HasRoom, IsUnchanged, fault_of, next_place, synced_end, reserved_end, pins_of, config_of, device_of, IsWritten, HasRecordOf, flushing, manifest_page, segment_size_of, size_for, message_for, KeepsAll};
     ghost use Rattle.sled_core.specs.Keeps.{ConfigKept, GoesOn, Preserves, SamePosition};
+    ghost use Rattle.sled_core.specs.Ready.{IsReady};
     ghost use Rattle.sled_core.specs.Running.{Fits, Ready};
     ghost use Rattle.sled_core.specs.Starts.{BeginsBehind, StartsOrRefuses, config_left};
 
@@ -80,7 +80,7 @@ impl<D: Device, C: Checksum> Log<D, C> {
         ensures crash { (H : History) (A f : ℕ) → Ready C.sum_of config.config.segment_size (state_of (D.trace config.device)) (model_of snapshot.now) H A f
             → LeavesOnly (RecoverableIfOwn C.sum_of config.config.segment_size H A f) (D.trace config.device) (D.trace (config_left result).device) }
         ensures starts { (H : History) (A f : ℕ) → Ready C.sum_of config.config.segment_size (state_of (D.trace config.device)) (model_of snapshot.now) H A f
-            → IfErr result (λ e. (IsCorrupt e.0 → ⊥) × (e.0 ≢ Error.PlacesUsedUp)) }
+            → IfErr result (λ e. IsCorrupt e.0 → ⊥) }
         ensures begins { let len = length (state_of (D.trace config.device)).log.bytes in
             IfOk result (λ log. BeginsBehind config.config.segment_size len (model_of snapshot.now) log) }
         ensures config { ConfigKept config (config_left result) }
@@ -274,7 +274,8 @@ impl<D: Device, C: Checksum> Log<D, C> {
 
     /// Reads the message of this page and place that lies there, from the device. Where its place is not
     /// written yet, what was completed is written first, as `flush` does; for that alone no reservation may
-    /// be open. Returns what stands there.
+    /// be open. Returns what stands there. A message has its record as long as it is of the current segment, or the
+    /// table of what was written needs it; else its slot may have been filled when the log started.
     ///
     /// # Errors
     ///
@@ -284,10 +285,10 @@ impl<D: Device, C: Checksum> Log<D, C> {
         requires ended { pos (synced_end self.old) ≤ℤ lsn → NoneOpen self.old }
         requires inline { IsInline ptr }
         requires reserved { lsn <ℤ pos (reserved_end self.old) }
-        ensures message { (H : History) (m : Message) → Holds D.trace C.sum_of self.old H → Contains H.messages m
+        ensures message { (H : History) (m : Message) → Holds D.trace C.sum_of self.old H → Contains H.messages m → HasRecordOf self.old H m
             → pos m.place ≡ lsn → m.pointer ≡ ptr → IfOk result (GivesMessage m) }
         ensures undamaged { (H : History) (A f : ℕ) (U : List Message) (m : Message) → Fits D.trace C.sum_of self.old H A f U → Contains H.messages m
-            → pos m.place ≡ lsn → m.pointer ≡ ptr → IsCorruption result → ⊥ }
+            → HasRecordOf self.old H m → pos m.place ≡ lsn → m.pointer ≡ ptr → IsCorruption result → ⊥ }
         ensures reading { let s = state_of (D.trace (device_of self.new)) in let size = segment_size_of self.old in
             IfOk result (IsReading C.sum_of size s.log.bytes s.blobs.file (lid_of ptr) (unsigned_abs lsn / size)) }
         ensures corrupt { let s = state_of (D.trace (device_of self.new)) in let size = segment_size_of self.old in

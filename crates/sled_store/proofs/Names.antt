@@ -3,5 +3,6 @@ pub mod KeepsLemmas
 pub mod KeptLemmas
 pub mod NamesLemmas
 pub mod OfferLemmas
+pub mod OneBegin
 pub mod TakenLemmas
 pub mod Trailers

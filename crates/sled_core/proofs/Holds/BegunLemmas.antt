@@ -1,32 +1,20 @@
--- A message that is completed leaves the tables below the snapshots' places as they were.
-use Rattle.std.proofs.Common.{◌≡◌, ◌≤◌, ◌≤ℤ◌, ◌+◌, ◌∙◌, ℕ, ℤ, pos, negsuc, List, sym, ap, subst, arith, Option, Some, IsSome, refl, inl, inr}
+-- A message that is completed leaves the tables as they were below the snapshots' places and below what was written, and needs no blob.
+use Rattle.std.proofs.Common.{◌≡◌, ◌∙◌, ◌≤◌, ◌≤ℤ◌, ◌+◌, ℕ, ℤ, pos, negsuc, List, Option, Some, IsSome, refl, sym, ap, subst, arith, inl, inr}
 use Rattle.std.proofs.Math.Dec.{leb→le}
-use Rattle.sled_codec.specs.History.{Message, History, AddsMessage}
+use Rattle.std.specs.List.{Contains}
+use Rattle.sled_codec.specs.declared.result.DiskPtr.{DiskPtr}
+use Rattle.sled_codec.specs.declared.result.DiskPtr.TheVariants.{Inline}
+use Rattle.sled_codec.specs.History.{Message, History, AddsMessage, table}
 use Rattle.sled_codec.specs.Snapshots.{SnapshotModel, stable_place}
-use Rattle.sled_codec.proofs.Histories.{table-adds, fits-adds}
-use Rattle.sled_store.specs.Device.{NamesState}
+use Rattle.sled_codec.proofs.Histories.{table_stays, table-adds, fits-adds}
+use Rattle.sled_store.specs.Device.{NamesState, State}
 use Rattle.sled_store.specs.SnapshotFiles.{BeginsFrom}
 use Rattle.sled_store.proofs.Names.Trailers.{one_snapshot}
 use Rattle.sled_core.specs.declared.iobuf.SegmentPosition.{SegmentPosition}
-use Rattle.sled_core.specs.Fits.{IsBegunFrom}
-use Rattle.sled_core.specs.Recoverable.{IsTableFile}
-use Rattle.sled_core.specs.Running.{CanBegin, NamesFit}
-
-pub begun-adds : (sum : List ℕ → ℕ) (size : ℕ) (snapshots : ℤ → Option (List ℕ)) (site : SegmentPosition) (from : ℕ) (H H' : History) (m : Message)
-    → AddsMessage H m H' → site.place + from ≤ m.place → IsBegunFrom sum size snapshots site from H → IsBegunFrom sum size snapshots site from H'
-begun-adds sum size snapshots site from H H' m adds above begun =
-    let reached = begun.reached in
-    let past : stable_place begun.first.stable ≤ m.place = omega (arith, above, reached) in
-    record {
-      first = begun.first;
-      begins = begun.begins;
-      table = table-adds begun.first.pages H H' m (stable_place begun.first.stable) adds past begun.table;
-      fits = fits-adds H H' m (stable_place begun.first.stable) adds past begun.fits;
-      least = begun.least;
-      reached = begun.reached;
-      active = begun.active;
-      none_active = begun.none_active;
-    }
+use Rattle.sled_core.specs.Recoverable.{AreRecoverableSnapshots, AreRecoverableBlobs, IsTableFile, PassesIfThere}
+use Rattle.sled_core.specs.Fits.{IsBegunFrom, IsOnDevice}
+use Rattle.sled_core.specs.Running.{NamesFit, BlobsFit}
+use Rattle.sled_core.proofs.Holds.Added.{was_or_added}
 
 -- All snapshots that are listed.
 
@@ -47,7 +35,7 @@ not_above_newest sum snapshots H first (inr newest) listed n bytes there =
     let le : n ≤ℤ number = newest.2.greatest n (subst (λ (o : Option (List ℕ)). IsSome o) (sym there) refl) in
     subst (λ (o : Option ℤ). stable_place (Some n) ≤ stable_place o) (sym named) (stable_grows n number le)
 
-pub table_file-adds : (sum : List ℕ → ℕ) (H H' : History) (m : Message) (n : ℤ) (bytes : List ℕ) → AddsMessage H m H' → stable_place (Some n) ≤ m.place → IsTableFile sum H n bytes → IsTableFile sum H' n bytes
+table_file-adds : (sum : List ℕ → ℕ) (H H' : History) (m : Message) (n : ℤ) (bytes : List ℕ) → AddsMessage H m H' → stable_place (Some n) ≤ m.place → IsTableFile sum H n bytes → IsTableFile sum H' n bytes
 table_file-adds sum H H' m n bytes adds past file =
     let past' : stable_place file.model.stable ≤ m.place = subst (λ (o : Option ℤ). stable_place o ≤ m.place) (sym file.named) past in
     record {
@@ -59,22 +47,65 @@ table_file-adds sum H H' m n bytes adds past file =
       fits = fits-adds H H' m (stable_place file.model.stable) adds past' file.fits;
     }
 
--- Recovery can begin from the same snapshots as before.
-pub names-adds : (sum : List ℕ → ℕ) (size : ℕ) (names : NamesState) (H H' : History) (m : Message) (f from : ℕ) → AddsMessage H m H' → from ≤ m.place → NamesFit sum size names H f from → NamesFit sum size names H' f from
-names-adds sum size names H H' m f from adds above fits = λ left leaves only_own.
-    let can : CanBegin sum size left H f from = fits left leaves only_own in
-    let tables = can.tables in
-    let reached = can.not_above in
-    record {
-      first = can.first;
-      tables = record {
+module _ (H H' : History) (m : Message) (adds : AddsMessage H m H') where
+  -- an entry of the table below a place that the message doesn't lie below was one
+  pub entry_stays : (cut page : ℕ) → cut ≤ m.place → (x : Message) → Contains (table H' cut page) x → Contains (table H cut page) x
+  entry_stays cut page past x there = subst (λ (l : List Message). Contains l x) (table_stays H H' m cut page adds past) there
+
+  -- The newest snapshot is where it was begun from still.
+  pub begun-adds : (sum : List ℕ → ℕ) (size : ℕ) (snapshots : ℤ → Option (List ℕ)) (site : SegmentPosition) (from : ℕ) → site.place + from ≤ m.place → IsBegunFrom sum size snapshots site from H → IsBegunFrom sum size snapshots site from H'
+  begun-adds sum size snapshots site from above begun =
+      let reached = begun.reached in
+      let past : stable_place begun.first.stable ≤ m.place = omega (arith, above, reached) in
+      record {
+        first = begun.first;
+        begins = begun.begins;
+        table = table-adds begun.first.pages H H' m (stable_place begun.first.stable) adds past begun.table;
+        fits = fits-adds H H' m (stable_place begun.first.stable) adds past begun.fits;
+        least = begun.least;
+        reached = begun.reached;
+      }
+
+  -- What was written of the history is on the device still, with the entries below that place.
+  pub device-adds : (sum : List ℕ → ℕ) (size : ℕ) (device : State) (site : SegmentPosition) (from : ℕ) (above : site.place + from ≤ m.place) (begun : IsBegunFrom sum size device.snapshots.file site from H) (earlier : List Message)
+      → IsOnDevice sum size device.log site from earlier (table H (stable_place begun.first.stable))
+      → IsOnDevice sum size device.log site from earlier (table H' (stable_place (begun-adds sum size device.snapshots.file site from above begun).first.stable))
+  unfolding begun-adds
+  device-adds sum size device site from above begun earlier on =
+      let reached = begun.reached in
+      record {
+        log = on.log;
+        settled = on.settled;
+        file = record {
+          own = on.file.own;
+          elsewhere = λ page x there. on.file.elsewhere page x (entry_stays (stable_place begun.first.stable) page (omega (arith, above, reached)) x there);
+          begun = on.file.begun;
+          header = on.file.header;
+          clean = on.file.clean;
+        };
+      }
+
+  -- Recovery begins from the same snapshot as before, whatever a crash leaves of the names.
+  pub names-adds : (sum : List ℕ → ℕ) (size : ℕ) (names : NamesState) (f : ℕ) (first : SnapshotModel) → stable_place first.stable ≤ m.place → NamesFit sum size names H f first → NamesFit sum size names H' f first
+  names-adds sum size names f first past fits = λ left leaves only_own.
+      let tables : AreRecoverableSnapshots sum size left H f first = fits left leaves only_own in
+      record {
         begins = tables.begins;
         listed = λ n bytes there.
-            let lower = not_above_newest sum left H can.first tables.begins tables.listed n bytes there in
-            table_file-adds sum H H' m n bytes adds (omega (arith, lower, reached, above)) (tables.listed n bytes there);
+            let lower = not_above_newest sum left H first tables.begins tables.listed n bytes there in
+            table_file-adds sum H H' m n bytes adds (omega (arith, lower, past)) (tables.listed n bytes there);
         not_below = tables.not_below;
         active = tables.active;
-      };
-      slot = can.slot;
-      not_above = reached;
-    }
+      }
+
+  -- Whatever a crash leaves of the blobs, each is there that the table needs below what was written.
+  pub blobs-adds : (sum : List ℕ → ℕ) (blobs : NamesState) (reach lid : ℕ) → reach ≤ m.place → m.pointer ≡ Inline lid → BlobsFit sum blobs H reach → BlobsFit sum blobs H' reach
+  blobs-adds sum blobs reach lid past inline fits = λ left leaves only_own.
+      let are : AreRecoverableBlobs sum left H reach = fits left leaves only_own in
+      record {
+        needed = λ page x entry. are.needed page x (entry_stays reach page past x entry);
+        named = λ x there. elim (was_or_added H H' m adds x there) [
+          | inl was ↦ are.named x was
+          | inr own ↦ subst (λ (y : Message). PassesIfThere sum left y y.pointer) own (subst (λ (p : DiskPtr). PassesIfThere sum left m p) (sym inline) tt)
+        ];
+      }

@@ -1,4 +1,4 @@
--- How a log goes on holding a history: when a place is reserved, and when a message is completed.
+-- How a log goes on holding a history when a place is reserved.
 use Rattle.std.proofs.Common.{◌≡◌, ◌≤◌, ◌+◌, ◌-◌, ◌/◌, ℕ, zero, suc, max, List, [], ◌∷◌, ◌++◌, length, sym, ◌∙◌, ap, arith, subst, length-append, true, Bool, if◌then◌else◌, Option, get_or}
 use Rattle.std.specs.List.{All}
 use Rattle.std.specs.declared.io.Error.{Error as IoError}
@@ -9,7 +9,7 @@ use Rattle.sled_store.specs.Device.{State}
 use Rattle.sled_core.specs.declared.iobuf.Reserved.{Reserved}
 use Rattle.sled_core.specs.declared.iobuf.SegmentPosition.{SegmentPosition}
 use Rattle.sled_core.specs.Buffers.{text_in, body_in, message_in, IsChain, completed_in, StandsAs, Stands}
-use Rattle.sled_core.specs.Fits.{HoldsIn, log_parts}
+use Rattle.sled_core.specs.Fits.{log_parts, HoldsIn}
 use Rattle.sled_core.proofs.Reserve.Ranges.{part-append, completed-same, completed-append, chain-append}
 
 -- Where a text and a body are the same, what stands there is.
@@ -50,16 +50,17 @@ module _ (sum : List ℕ → ℕ) (size : ℕ) (site : SegmentPosition) (device 
         earlier = holds.earlier;
         messages = holds.messages ∙ ap (λ (ms : List Message). holds.earlier ++ ms) (sym (
             completed-append site new rs (r ∷ []) ∙ ap (λ (ms : List Message). completed_in site new rs ++ ms) none ∙ append-nil (completed_in site new rs) ∙ completed-same site bytes new rs bodies));
+        below = holds.below;
+        apart = holds.apart;
         batches = holds.batches;
         place_begins = holds.place_begins;
         slot_begins = holds.slot_begins;
-        below = holds.below;
         header = λ first. take-append-le 20 bytes more begun ∙ holds.header first;
         chain = subst (λ (n : ℕ). IsChain (max 20 from) (rs ++ r ∷ []) n) end (chain-append (max 20 from) (length bytes) rs r holds.chain at);
         stand = All-append (Stands sum number new) rs (r ∷ []) (λ k d lt. stands-append sum number bytes more (get_or rs k d) (within k d lt) (holds.stand k d lt)) (one (Stands sum number new) r stands);
         room = All-append (λ (x : Reserved). x.from + 32 ≤ size) rs (r ∷ []) holds.room (one (λ (x : Reserved). x.from + 32 ≤ size) r has_room);
-        written = holds.written;
         begun = holds.begun;
+        written = holds.written;
       }
 
 -- The same bytes, from the same offset, and the same reservations hold the same.

@@ -11,7 +11,7 @@ use Rattle.sled_core.specs.Fits.{config_of, device_of, segment_size_of, synced_e
 use Rattle.sled_core.specs.Keeps.{ConfigKept, GoesOn, Preserves}
 use Rattle.sled_core.specs.Recoverable.{RecoverableIfOwn}
 use Rattle.sled_core.specs.Running.{Fits}
-use Rattle.sled_core.proofs.Holds.ReachLemmas.{fits_leaves}
+use Rattle.sled_core.proofs.Holds.RunningLemmas.{fits_leaves}
 
 module _ {D C : Type 0} (trace : D → Trace) (sum : List ℕ → ℕ) where
   -- a device that was left alone has no other moment

@@ -1,45 +1,58 @@
--- Where the messages of a log lie that fits its history: one behind another, below the next place, and, where nothing is left to be written, below the stable end.
-use Rattle.std.proofs.Common.{◌^◌, ◌≡◌, ◌∙◌, ◌≤◌, ◌<◌, ◌+◌, ◌/◌, ℕ, zero, suc, max, true, false, if◌then◌else◌, List, [], ◌∷◌, ◌++◌, length, None, Option, sym, ap, subst, arith, pos}
-use Rattle.std.specs.List.{All}
+-- Where the messages of a log lie that fits its history: one behind another, below the next place; those behind the written end in the current segment, with inline pointers.
+use Rattle.std.proofs.Common.{◌^◌, ◌≡◌, ◌∙◌, ◌≤◌, ◌<◌, ◌+◌, ◌/◌, ◌%◌, ℕ, max, true, false, if◌then◌else◌, List, [], ◌∷◌, length, Option, refl, sym, ap, subst, arith, pos, inl, inr}
+use Rattle.std.specs.List.{All, Contains}
 use Rattle.std.specs.declared.io.Error.{Error as IoError}
-use Rattle.std.proofs.lemmas.List.Elements.{All-tail, All-append}
+use Rattle.std.proofs.lemmas.List.Elements.{All-tail, All-append, All-cons, All-contains, Contains-append_cases}
+use Rattle.sled_codec.specs.declared.result.DiskPtr.TheVariants.{Inline}
 use Rattle.sled_codec.specs.History.{Message, History}
+use Rattle.sled_codec.specs.Places.{MayBegin}
 use Rattle.sled_codec.specs.WellFormed.{LieApart}
-use Rattle.sled_store.specs.Device.{Trace, State, state_of}
+use Rattle.sled_store.specs.Device.{Trace, State}
 use Rattle.sled_core.specs.declared.iobuf.Reserved.{Reserved}
 use Rattle.sled_core.specs.declared.iobuf.SegmentPosition.{SegmentPosition}
 use Rattle.sled_core.specs.declared.logger.Log.{Log}
 use Rattle.sled_core.specs.declared.reservation.Reservation.{Reservation}
 use Rattle.sled_core.specs.Tickets.{place_of, pointer_of}
 use Rattle.sled_core.specs.Buffers.{IsChain, completed_in, message_in}
-use Rattle.sled_core.specs.LogFile.{StandIn, StandsElsewhere}
-use Rattle.sled_core.specs.Fits.{HoldsIn, Holds, IsKept, Awaits, next_place, synced_end, fault_of, device_of, segment_size_of, log_parts}
-use Rattle.sled_core.specs.Recoverable.{LeavesRecoverable, first_site}
+use Rattle.sled_core.specs.Fits.{Awaits, log_parts, next_place, synced_end, HoldsIn, Holds, IsKept}
 use Rattle.sled_core.specs.Running.{Fits}
+use Rattle.sled_core.specs.Reading.{IsInline}
+use Rattle.sled_core.specs.Recoverable.{LiesInSegment}
 use Rattle.sled_core.proofs.Reserve.Ranges.{completed_between, chain_grows}
 use Rattle.sled_core.proofs.Reserve.CompletesLemmas.{some_long}
-use Rattle.sled_core.proofs.Holds.RunningLemmas.{fits-leaves}
-use Rattle.sled_core.proofs.Flush.LogFileLemmas.{stand_none, stand_below, stand_apart, none_older}
+use Rattle.sled_core.proofs.Flush.Completed.{apart_both, completed_apart}
+use Rattle.sled_core.proofs.Read.ScanLemmas.{aligned_offset}
 
--- messages that lie apart, and below others that do
-pub apart_both : (place : ℕ) (xs ys : List Message) → LieApart xs → LieApart ys → All (λ m. m.place + m.size ≤ place) xs → All (λ m. place ≤ m.place) ys → LieApart (xs ++ ys)
-apart_both place [] ys first second below above = second
-apart_both place (x ∷ xs) ys first second below above =
-    let here : x.place + x.size ≤ place = below 0 x (omega arith) in
-    let over : All (λ n. x.place + x.size ≤ n.place) ys = λ k d lt. let b = above k d lt in omega (arith, b, here) in
-    (first.0, All-append (λ n. x.place + x.size ≤ n.place) xs ys first.1 over, apart_both place xs ys first.2 second (All-tail (λ m. m.place + m.size ≤ place) x xs below) above)
+-- A message lies behind a place in a segment, where a record may begin and in the segment's slot, and its pointer says so.
+pub record LiesBehind (size : ℕ) (site : SegmentPosition) (m : Message) : Type 0 where
+  pub lid : ℕ
+  pub pointer : m.pointer ≡ Inline lid
+  pub begins : MayBegin size lid
+  pub room : m.place + 32 ≤ site.place + size
+  pub lies : LiesInSegment size m
 
--- what is completed in a chain of reservations
-pub completed_apart : (site : SegmentPosition) (bytes : List ℕ) (from end : ℕ) (rs : List Reserved) → IsChain from rs end → All (λ r. 0 < r.len) rs → LieApart (completed_in site bytes rs)
-completed_apart site bytes from end [] is some = tt
-completed_apart site bytes from end (r ∷ rs) is some =
-    let here : r.from ≡ from = is.0 in
-    let long : 0 < r.len = some 0 r (omega arith) in
-    let later = completed_between site bytes (from + r.len) end rs is.1 (All-tail (λ x. 0 < x.len) r rs some) in
-    let rest : LieApart (completed_in site bytes rs) = completed_apart site bytes (from + r.len) end rs is.1 (All-tail (λ x. 0 < x.len) r rs some) in
-    let over : All (λ n. site.place + r.from + r.len ≤ n.place) (completed_in site bytes rs) = λ k d lt. let b = later k d lt in omega (arith, b.0, here) in
-    elim r.is_open as (λ o. LieApart (if o then completed_in site bytes rs else message_in site bytes r ∷ completed_in site bytes rs))
-    [ true ↦ rest | false ↦ (long, over, rest) ]
+module _ (size : ℕ) (site : SegmentPosition) (place_begins : site.place % size ≡ 0) (slot_begins : site.slot % size ≡ 0) where
+  lies_behind : (bytes : List ℕ) (r : Reserved) → 20 ≤ r.from → r.from + 32 ≤ size → r.from + r.len ≤ size → LiesBehind size site (message_in site bytes r)
+  lies_behind bytes r behind room whole =
+      let offset : (site.slot + r.from) % size ≡ r.from = aligned_offset site.slot r.from size slot_begins (omega (arith, room)) in
+      let place : (site.place + r.from) % size ≡ r.from = aligned_offset site.place r.from size place_begins (omega (arith, room)) in
+      record {
+        lid = site.slot + r.from;
+        pointer = refl;
+        begins = record { behind_header = omega (arith, offset, behind); before_end = omega (arith, offset, room) };
+        room = omega (arith, room);
+        lies = record { begins = record { behind = omega (arith, place, behind); room = omega (arith, place, room) }; ends = omega (arith, place, whole); blob = tt };
+      }
+
+  -- the messages of reservations that were completed
+  completed_lie : (bytes : List ℕ) (from end : ℕ) (rs : List Reserved) → 20 ≤ from → end ≤ size → IsChain from rs end → All (λ r. r.from + 32 ≤ size) rs → All (LiesBehind size site) (completed_in site bytes rs)
+  completed_lie bytes from end [] behind inside chain room = λ k d lt. absurd (omega arith)
+  completed_lie bytes from end (r ∷ rs) behind inside chain room =
+      let here : r.from ≡ from = chain.0 in
+      let grows : from + r.len ≤ end = chain_grows (from + r.len) end rs chain.1 in
+      let rest : All (LiesBehind size site) (completed_in site bytes rs) = completed_lie bytes (from + r.len) end rs (omega (arith, behind)) inside chain.1 (All-tail (λ x. x.from + 32 ≤ size) r rs room) in
+      elim r.is_open as (λ o. All (LiesBehind size site) (if o then completed_in site bytes rs else message_in site bytes r ∷ completed_in site bytes rs))
+      [ true ↦ rest | false ↦ All-cons (LiesBehind size site) (message_in site bytes r) (completed_in site bytes rs) (lies_behind bytes r (omega (arith, here, behind)) (room 0 r (omega arith)) (omega (arith, here, grows, inside))) rest ]
 
 module _ (sum : List ℕ → ℕ) (size : ℕ) (site : SegmentPosition) (device : State) (fault : Option IoError) (bytes : List ℕ) (from : ℕ) (rs : List Reserved) (H : History) (holds : HoldsIn sum (log_parts size site device fault bytes from rs) H) where
   abbrev done : List Message
@@ -54,34 +67,35 @@ module _ (sum : List ℕ → ℕ) (size : ℕ) (site : SegmentPosition) (device 
   grows : max 20 from ≤ length bytes
   grows = chain_grows (max 20 from) (length bytes) rs holds.chain
 
+  -- each message begins below the end of the bytes
   pub reach_in : All (λ m. m.place < site.place + length bytes) H.messages
   reach_in =
       subst (λ (l : List Message). All (λ m. m.place < site.place + length bytes) l) (sym holds.messages)
       (All-append (λ m. m.place < site.place + length bytes) holds.earlier done (λ k d lt. let b = holds.below k d lt in omega (arith, b.0, grows)) (λ k d lt. (between k d lt).1))
 
-  pub apart_in : fault ≡ None → site ≡ first_site → LieApart H.messages
-  apart_in none is =
-      let on = holds.written none in
-      let file = on.file in
-      let older : file.older ≡ [] = none_older sum size on.log file.older (subst (λ (s : SegmentPosition). All (StandsElsewhere sum size on.log s) file.older) is file.elsewhere) in
-      let own : holds.earlier ≡ file.own = file.parts ∙ ap (λ (l : List Message). l ++ file.own) older in
-      let first : LieApart holds.earlier = subst LieApart (sym own) (stand_apart sum size on.log site 20 file.own (max 20 from) file.stand) in
+  -- the messages lie one behind another
+  pub apart_in : LieApart H.messages
+  apart_in =
       subst LieApart (sym holds.messages)
-      (apart_both (site.place + from) holds.earlier done first (completed_apart site bytes (max 20 from) (length bytes) rs holds.chain long) (λ k d lt. (holds.below k d lt).1) (λ k d lt. let b = between k d lt in omega (arith, b.0)))
+      (apart_both (site.place + from) holds.earlier done holds.apart (completed_apart site bytes (max 20 from) (length bytes) rs holds.chain long) (λ k d lt. (holds.below k d lt).1) (λ k d lt. let b = between k d lt in omega (arith, b.0)))
+
+  -- one that begins below the written end was written
+  pub written_before : (m : Message) → Contains H.messages m → m.place < site.place + from → Contains holds.earlier m
+  written_before m there written = elim (Contains-append_cases holds.earlier done m (subst (λ (ms : List Message). Contains ms m) holds.messages there)) [
+    | inl first ↦ first
+    | inr later ↦ (let b = All-contains (λ x. (site.place + max 20 from ≤ x.place) × (x.place < site.place + length bytes) × (x.place + x.size ≤ site.place + length bytes)) done m between later in absurd (omega (arith, b.0, written)))
+  ]
+
+  -- one that doesn't lies in the buffer
+  pub completed_behind : length bytes ≤ size → (m : Message) → Contains H.messages m → site.place + from ≤ m.place → LiesBehind size site m
+  completed_behind inside m there above = elim (Contains-append_cases holds.earlier done m (subst (λ (ms : List Message). Contains ms m) holds.messages there)) [
+    | inl early ↦ (let b = All-contains (λ x. (x.place < site.place + from) × (x.place + x.size ≤ site.place + from)) holds.earlier m holds.below early in absurd (omega (arith, b.0, above)))
+    | inr later ↦ All-contains (LiesBehind size site) done m (completed_lie size site holds.place_begins holds.slot_begins bytes (max 20 from) (length bytes) rs (omega arith) inside holds.chain holds.room) later
+  ]
 
 -- Where all of a history is on the device, it ends at the stable end.
-
-own_to : (sum : List ℕ → ℕ) (size : ℕ) (log : List ℕ) (site : SegmentPosition) (from : ℕ) (ms : List Message) → (0 < from → 20 ≤ from) → StandIn sum size log site 20 ms (max 20 from) → All (λ m. m.place + m.size ≤ site.place + from) ms
-own_to sum size log site zero ms begun stand = subst (λ (l : List Message). All (λ m. m.place + m.size ≤ site.place + 0) l) (sym (stand_none sum size log site 20 ms stand)) (λ k d lt. absurd (omega arith))
-own_to sum size log site (suc n) ms begun stand =
-    let some = begun (omega arith) in
-    λ k d lt. (stand_below sum size log site 20 ms (suc n) (subst (λ k. StandIn sum size log site 20 ms k) (omega (arith, some)) stand) k d lt).1
-
 pub kept_past : (sum : List ℕ → ℕ) (size : ℕ) (site : SegmentPosition) (from : ℕ) (device : State) (H : History) → IsKept sum size site from device H → All (λ m. m.place + m.size ≤ site.place + from) H.messages
-kept_past sum size site from device H kept =
-    let file = kept.on_device.file in
-    subst (λ (l : List Message). All (λ m. m.place + m.size ≤ site.place + from) l) (sym file.parts)
-    (All-append (λ m. m.place + m.size ≤ site.place + from) file.older file.own (λ k d lt. let below = (file.elsewhere k d lt).below in omega (arith, below)) (own_to sum size kept.on_device.log site from file.own file.begun file.stand))
+kept_past sum size site from device H kept = λ k d lt. (kept.below k d lt).1
 
 -- Of a log that fits a history.
 
@@ -91,9 +105,16 @@ unfolding Fits
 fits_reach trace sum log H A f U fits = reach_in sum log.config.config.segment_size log.site _ log.fault log.buffer.bytes.items log.buffer.written_len log.buffer.reserved.items H fits.holds
 
 -- the messages lie one behind another
-pub fits_apart : {D C : Type 0} (trace : D → Trace) (sum : List ℕ → ℕ) (log : Log D C) (H : History) (A f : ℕ) (U : List Message) → Fits trace sum log H A f U → fault_of log ≡ None → LieApart H.messages
+pub fits_apart : {D C : Type 0} (trace : D → Trace) (sum : List ℕ → ℕ) (log : Log D C) (H : History) (A f : ℕ) (U : List Message) → Fits trace sum log H A f U → LieApart H.messages
 unfolding Fits
-fits_apart trace sum log H A f U fits none = apart_in sum log.config.config.segment_size log.site _ log.fault log.buffer.bytes.items log.buffer.written_len log.buffer.reserved.items H fits.holds none fits.one_segment
+fits_apart trace sum log H A f U fits = apart_in sum log.config.config.segment_size log.site _ log.fault log.buffer.bytes.items log.buffer.written_len log.buffer.reserved.items H fits.holds
+
+-- one that is not written yet has an inline pointer
+pub fits_inline : {D C : Type 0} (trace : D → Trace) (sum : List ℕ → ℕ) (log : Log D C) (H : History) (A f : ℕ) (U : List Message) → Fits trace sum log H A f U → (m : Message) → Contains H.messages m → synced_end log ≤ m.place → IsInline m.pointer
+unfolding Fits
+fits_inline trace sum log H A f U fits m there above =
+    let lies = completed_behind sum log.config.config.segment_size log.site _ log.fault log.buffer.bytes.items log.buffer.written_len log.buffer.reserved.items H fits.holds log.in_segment m there above in
+    subst IsInline (sym lies.pointer) tt
 
 -- it holds the history
 pub fits_holds : {D C : Type 0} (trace : D → Trace) (sum : List ℕ → ℕ) (log : Log D C) (H : History) (A f : ℕ) (U : List Message) → Fits trace sum log H A f U → Holds trace sum log H
@@ -103,20 +124,19 @@ fits_holds trace sum log H A f U fits = fits.holds
 -- what was acknowledged is written
 pub fits_acknowledged : {D C : Type 0} (trace : D → Trace) (sum : List ℕ → ℕ) (log : Log D C) (H : History) (A f : ℕ) (U : List Message) → Fits trace sum log H A f U → A ≤ synced_end log
 unfolding Fits
-fits_acknowledged trace sum log H A f U fits = let passes = fits.passes in omega (arith, passes)
+fits_acknowledged trace sum log H A f U fits = fits.passes
+
+-- Of tickets and places.
 
 -- the place and the pointer of a ticket are those of its message
 pub awaited : {D C : Type 0} (log : Log D C) (ticket : Reservation) (m : Message) → Awaits log ticket m → (pos m.place ≡ place_of ticket) × (m.pointer ≡ pointer_of ticket)
 awaited log ticket m awaits =
     (ap (λ (x : Message). pos x.place) awaits.message ∙ sym awaits.own.place, ap (λ (x : Message). x.pointer) awaits.message ∙ sym awaits.own.pointer)
 
+-- and that pointer is inline
+pub awaited_inline : {D C : Type 0} (log : Log D C) (ticket : Reservation) (m : Message) → Awaits log ticket m → IsInline m.pointer
+awaited_inline log ticket m awaits = subst (λ (x : Message). IsInline x.pointer) (sym awaits.message) tt
+
 -- the next place is a place
 pub next_small : {D C : Type 0} (log : Log D C) → next_place log < 2 ^ 63
 next_small log = let inside = log.in_segment in let reach = log.place_in_reach in omega (arith, inside, reach)
-
--- what a crash leaves of its device can be recovered
-pub fits_leaves : {D C : Type 0} (trace : D → Trace) (sum : List ℕ → ℕ) (log : Log D C) (H : History) (A f : ℕ) (U : List Message) → Fits trace sum log H A f U → LeavesRecoverable sum (segment_size_of log) H A f (state_of (trace (device_of log)))
-unfolding Fits
-fits_leaves trace sum log H A f U fits =
-    let reach = log.place_in_reach in
-    fits-leaves sum log.config.config.segment_size log.site _ log.fault log.buffer.bytes.items log.buffer.written_len log.buffer.reserved.items log.pins H A f U fits log.config.config.least (omega (arith, reach))

@@ -1,46 +1,64 @@
 -- How a running log goes on fitting its history at the calls that write nothing.
-use Rattle.std.proofs.Common.{◌≡◌, ◌≢◌, ◌≤◌, ◌<◌, ◌+◌, ◌^◌, ◌∙◌, ℕ, List, [], ◌∷◌, length, Option, None, sym, ap, arith, subst}
+use Rattle.std.proofs.Common.{◌≡◌, ◌≢◌, ◌≤◌, ◌<◌, ◌+◌, ◌∙◌, ℕ, List, [], ◌∷◌, length, get_or, Option, None, sym, ap, arith, subst}
+use Rattle.std.specs.List.{Contains}
 use Rattle.std.specs.declared.io.Error.{Error as IoError}
 use Rattle.sled_codec.specs.History.{Message, History, AddsMessage}
-use Rattle.sled_store.specs.Device.{State}
+use Rattle.sled_codec.specs.Snapshots.{SnapshotModel}
+use Rattle.sled_store.specs.Device.{LogState, State, Trace, state_of}
+use Rattle.sled_store.proofs.Histories.Ascending.{apart_ascends}
+use Rattle.sled_store.proofs.Names.OneBegin.{one_begin}
 use Rattle.sled_core.specs.declared.iobuf.Reserved.{Reserved}
 use Rattle.sled_core.specs.declared.iobuf.SegmentPosition.{SegmentPosition}
-use Rattle.sled_core.specs.Fits.{HoldsIn, log_parts}
-use Rattle.sled_core.specs.Recoverable.{LeavesRecoverable}
-use Rattle.sled_core.specs.Running.{NamesFit, FitsIn}
-use Rattle.sled_core.proofs.Holds.BegunLemmas.{names-adds}
-use Rattle.sled_core.proofs.Crash.MainLemmas.{settled_recoverable, leaves_less}
+use Rattle.sled_core.specs.declared.logger.Log.{Log}
+use Rattle.sled_core.specs.Fits.{HoldsIn, device_of, log_parts, segment_size_of}
+use Rattle.sled_core.specs.LogFile.{padded}
+use Rattle.sled_core.specs.Running.{BlobsFit, NamesFit, Fits, FitsIn}
+use Rattle.sled_core.specs.Reached.{StandsAlone}
+use Rattle.sled_core.specs.Recoverable.{LeavesRecoverable, NoHeaderOfZeros}
+use Rattle.sled_core.proofs.Holds.Added.{added_there}
+use Rattle.sled_core.proofs.Holds.BegunLemmas.{names-adds, blobs-adds}
+use Rattle.sled_core.proofs.Flush.Padded.{padded_clean}
+use Rattle.sled_core.proofs.Holds.ReachLemmas.{LiesBehind, apart_in, completed_behind}
+use Rattle.sled_core.proofs.Flush.Settled.{InlineFrom, leaves_less, rests, settled_recoverable}
+use Rattle.sled_core.proofs.Holds.StandsAdds.{alone-adds}
 
 module _ (sum : List ℕ → ℕ) (size : ℕ) (site : SegmentPosition) (device : State) (fault : Option IoError) (bytes : List ℕ) (from : ℕ) (rs : List Reserved) (pins : ℕ) (H : History) (A f : ℕ) (U : List Message)
     (fits : FitsIn sum (log_parts size site device fault bytes from rs) pins H A f U) where
+  abbrev first : SnapshotModel
+  first = fits.holds.begun.first
+
+  -- Whatever else is held over this device, it was begun from the same snapshot.
+  first_same : (bytes' : List ℕ) (from' : ℕ) (rs' : List Reserved) (H' : History) (holds : HoldsIn sum (log_parts size site device fault bytes' from' rs') H') → first ≡ holds.begun.first
+  first_same bytes' from' rs' H' holds = one_begin sum device.snapshots.file first holds.begun.first fits.holds.begun.begins holds.begun.begins
+
   -- Other bytes and reservations behind what was written fit the history, where they hold it.
   pub fits-moved : (bytes' : List ℕ) (from' : ℕ) (rs' : List Reserved) → from' ≡ from → HoldsIn sum (log_parts size site device fault bytes' from' rs') H → FitsIn sum (log_parts size site device fault bytes' from' rs') pins H A f U
-  fits-moved bytes' from' rs' is holds = record {
-    holds = holds;
-    one_segment = fits.one_segment;
-    short = fits.short;
-    unbegun = λ ok none. fits.unbegun ok (sym is ∙ none);
-    blobs = fits.blobs;
-    names = subst (λ n. NamesFit sum size device.snapshots H f n) (sym is) fits.names;
-    passes = let le = fits.passes in omega (arith, le, is);
-    pinned = fits.pinned;
-    left = subst (λ n. LeavesRecoverable sum size H n f device) (sym is) fits.left;
-  }
+  fits-moved bytes' from' rs' is holds =
+      let same : first ≡ holds.begun.first = first_same bytes' from' rs' H holds in
+      record {
+        holds = holds;
+        alone = λ ok none. subst (λ (s : SnapshotModel). StandsAlone sum size device.log.bytes site from' H s) same (subst (λ n. StandsAlone sum size device.log.bytes site n H first) (sym is) (fits.alone ok none));
+        beyond = λ ok none. subst (λ (s : SnapshotModel). StandsAlone sum size (padded site.slot device.log.bytes) site from' H s) same (subst (λ n. StandsAlone sum size (padded site.slot device.log.bytes) site n H first) (sym is) (fits.beyond ok none));
+        blobs = subst (λ n. BlobsFit sum device.blobs H (site.place + n)) (sym is) fits.blobs;
+        names = subst (λ (s : SnapshotModel). NamesFit sum size device.snapshots H f s) same fits.names;
+        passes = let le = fits.passes in omega (arith, le, is);
+        pinned = fits.pinned;
+        left = subst (λ n. LeavesRecoverable sum size H (site.place + n) f device) (sym is) fits.left;
+      }
 
   -- A crash leaves what can be recovered with no more counted as acknowledged than was.
-  pub fits-leaves : 256 ≤ size → size < 2 ^ 63 → LeavesRecoverable sum size H A f device
-  fits-leaves least most = leaves_less sum size H A from f device least most fits.passes fits.left
+  pub fits-leaves : LeavesRecoverable sum size H A f device
+  fits-leaves = leaves_less sum size H A (site.place + from) f device fits.passes fits.left
 
   -- All that is written may count as acknowledged.
   pub fits-synced : (end : ℕ) → end ≡ site.place + from → FitsIn sum (log_parts size site device fault bytes from rs) pins H end f U
   fits-synced end is = record {
     holds = fits.holds;
-    one_segment = fits.one_segment;
-    short = fits.short;
-    unbegun = fits.unbegun;
+    alone = fits.alone;
+    beyond = fits.beyond;
     blobs = fits.blobs;
     names = fits.names;
-    passes = let first : site.place ≡ 0 = ap (λ (s : SegmentPosition). s.place) fits.one_segment in omega (arith, is, first);
+    passes = omega (arith, is);
     pinned = fits.pinned;
     left = fits.left;
   }
@@ -49,9 +67,8 @@ module _ (sum : List ℕ → ℕ) (size : ℕ) (site : SegmentPosition) (device 
   pub fits-pinned : (pins' : ℕ) → (U ≢ [] → 0 < pins') → FitsIn sum (log_parts size site device fault bytes from rs) pins' H A f U
   fits-pinned pins' pinned = record {
     holds = fits.holds;
-    one_segment = fits.one_segment;
-    short = fits.short;
-    unbegun = fits.unbegun;
+    alone = fits.alone;
+    beyond = fits.beyond;
     blobs = fits.blobs;
     names = fits.names;
     passes = fits.passes;
@@ -60,20 +77,60 @@ module _ (sum : List ℕ → ℕ) (size : ℕ) (site : SegmentPosition) (device 
   }
 
   -- With one more message, which lies behind what was written, it fits the history that has that message.
-  pub fits-completed : (bytes' : List ℕ) (from' : ℕ) (rs' : List Reserved) (H' : History) (m : Message) → from' ≡ from → 256 ≤ size → size < 2 ^ 63 → from' ≤ length bytes' → length bytes' ≤ size → fault ≡ None
-      → HoldsIn sum (log_parts size site device fault bytes' from' rs') H' → AddsMessage H m H' → from ≤ m.place → 0 < pins → FitsIn sum (log_parts size site device fault bytes' from' rs') pins H' A f (m ∷ U)
-  fits-completed bytes' from' rs' H' m is least most behind in_segment ok holds adds above out =
-      let names : NamesFit sum size device.snapshots H' f from' = subst (λ n. NamesFit sum size device.snapshots H' f n) (sym is) (names-adds sum size device.snapshots H H' m f from adds above fits.names) in
-      let passes : A ≤ from' = let le = fits.passes in omega (arith, le, is) in
-      record {
-        holds = holds;
-        one_segment = fits.one_segment;
-        short = fits.short;
-        unbegun = λ fine none. fits.unbegun fine (sym is ∙ none);
-        blobs = fits.blobs;
-        names = names;
-        passes = passes;
-        pinned = λ some. out;
-        left = settled_recoverable sum size site device bytes' from' rs' H' from' f least most behind in_segment (subst (λ (e : Option IoError). HoldsIn sum (log_parts size site device e bytes' from' rs') H') ok holds)
-            fits.one_segment (fits.short ok) (λ none. fits.unbegun ok (sym is ∙ none)) fits.blobs names (omega arith);
-      }
+  module _ (bytes' : List ℕ) (from' : ℕ) (rs' : List Reserved) (H' : History) (m : Message) (is : from' ≡ from) (least : 256 ≤ size) (in_segment : length bytes' ≤ size) (ok : fault ≡ None)
+      (holds : HoldsIn sum (log_parts size site device fault bytes' from' rs') H') (adds : AddsMessage H m H') (above : site.place + from ≤ m.place) where
+    abbrev reach : ℕ
+    reach = site.place + from
+
+    lies : LiesBehind size site m
+    lies = completed_behind sum size site device fault bytes' from' rs' H' holds in_segment m (added_there H H' m adds) (omega (arith, is, above))
+
+    -- behind what was written the slot has zeros
+    clean : (i : ℕ) → site.slot + from ≤ i → i < site.slot + size → get_or device.log.bytes i 0 ≡ 0
+    clean i low high =
+        let on = fits.holds.written ok in
+        ap (λ (s : LogState). get_or s.bytes i 0) on.settled ∙ on.file.clean i low high
+
+    room : from + 32 ≤ size
+    room = let inside = lies.room in omega (arith, inside, above)
+
+    alone_new : NoHeaderOfZeros sum → StandsAlone sum size device.log.bytes site from H' first
+    alone_new none = alone-adds sum size device.log.bytes site from H H' first least none clean m adds above room lies.lies (fits.alone ok none)
+
+    beyond_new : NoHeaderOfZeros sum → StandsAlone sum size (padded site.slot device.log.bytes) site from H' first
+    beyond_new none = alone-adds sum size (padded site.slot device.log.bytes) site from H H' first least none (λ i low high. padded_clean site.slot device.log.bytes i (omega (arith, low)) (clean i low high)) m adds above room lies.lies (fits.beyond ok none)
+
+    names_new : NamesFit sum size device.snapshots H' f first
+    names_new = let reached = fits.holds.begun.reached in names-adds H H' m adds sum size device.snapshots f first (omega (arith, reached, above)) fits.names
+
+    blobs_new : BlobsFit sum device.blobs H' reach
+    blobs_new = blobs-adds H H' m adds sum device.blobs reach lies.lid above lies.pointer fits.blobs
+
+    inline_behind : InlineFrom H' reach
+    inline_behind x there behind =
+        let its : LiesBehind size site x = completed_behind sum size site device fault bytes' from' rs' H' holds in_segment x there (omega (arith, is, behind)) in
+        (its.lid, its.pointer)
+
+    left_new : LeavesRecoverable sum size H' reach f device
+    left_new =
+        let on = fits.holds.written ok in
+        settled_recoverable sum size least device H' reach f first reach (apart_ascends H'.messages (apart_in sum size site device fault bytes' from' rs' H' holds)) inline_behind (rests device.log on.log on.settled) names_new blobs_new (λ none. (alone_new none).stands)
+
+    pub fits-completed : 0 < pins → FitsIn sum (log_parts size site device fault bytes' from' rs') pins H' A f (m ∷ U)
+    fits-completed out =
+        let same : first ≡ holds.begun.first = first_same bytes' from' rs' H' holds in
+        record {
+          holds = holds;
+          alone = λ fine none. subst (λ (s : SnapshotModel). StandsAlone sum size device.log.bytes site from' H' s) same (subst (λ n. StandsAlone sum size device.log.bytes site n H' first) (sym is) (alone_new none));
+          beyond = λ fine none. subst (λ (s : SnapshotModel). StandsAlone sum size (padded site.slot device.log.bytes) site from' H' s) same (subst (λ n. StandsAlone sum size (padded site.slot device.log.bytes) site n H' first) (sym is) (beyond_new none));
+          blobs = subst (λ n. BlobsFit sum device.blobs H' (site.place + n)) (sym is) blobs_new;
+          names = subst (λ (s : SnapshotModel). NamesFit sum size device.snapshots H' f s) same names_new;
+          passes = let le = fits.passes in omega (arith, le, is);
+          pinned = λ some. out;
+          left = subst (λ n. LeavesRecoverable sum size H' (site.place + n) f device) (sym is) left_new;
+        }
+
+-- What a crash leaves of the device of a log can be recovered.
+pub fits_leaves : {D C : Type 0} (trace : D → Trace) (sum : List ℕ → ℕ) (log : Log D C) (H : History) (A f : ℕ) (U : List Message) → Fits trace sum log H A f U → LeavesRecoverable sum (segment_size_of log) H A f (state_of (trace (device_of log)))
+unfolding Fits
+fits_leaves trace sum log H A f U fits = fits-leaves sum log.config.config.segment_size log.site _ log.fault log.buffer.bytes.items log.buffer.written_len log.buffer.reserved.items log.pins H A f U fits

@@ -1,32 +1,63 @@
 -- An empty device is ready for a log in which nothing happened, and whatever a crash leaves of it can be recovered.
-use Rattle.std.proofs.Common.{◌≡◌, ◌≤◌, ◌<◌, ◌^◌, ℕ, ℤ, List, [], Option, None, refl, arith, inr}
+use Rattle.std.proofs.Common.{◌≡◌, ◌≤◌, ◌<◌, ◌^◌, ◌∙◌, ℕ, ℤ, List, [], Option, Some, None, refl, sym, subst, arith, inl}
 use Rattle.sled_codec.specs.History.{no_history}
-use Rattle.sled_store.specs.Device.{fresh, names_at_rest, LeavesName}
 use Rattle.sled_codec.specs.Snapshots.{empty_model}
+use Rattle.sled_store.specs.Device.{Content, State, fresh, at_rest, names_at_rest, LeavesName}
 use Rattle.sled_store.proofs.LogFile.LogLemmas.{at_rest_left}
 use Rattle.sled_store.proofs.Names.NamesLemmas.{settled_name_left, settled_name_at_rest}
-use Rattle.sled_core.specs.Recoverable.{LeavesRecoverable}
+use Rattle.sled_store.proofs.Segments.Elements.{in_nothing}
+use Rattle.sled_core.specs.Recoverable.{Recoverable, LeavesRecoverable, AreRecoverableSnapshots, AreRecoverableBlobs}
+use Rattle.sled_core.specs.Ready.{IsReady}
 use Rattle.sled_core.specs.Running.{Ready}
-use Rattle.sled_core.proofs.Read.FirstSegment.{none_listed, nothing_recoverable}
-use Rattle.sled_core.proofs.Read.FoundLemmas.{found_there}
-use Rattle.sled_core.proofs.Start.FreshLemmas.{ready_fresh}
+use Rattle.sled_core.specs.Reached.{StandsTo}
+use Rattle.sled_core.proofs.Start.FreshLemmas.{no_entry, ready_fresh, nothing_stands, nothing_active}
+use Rattle.sled_core.proofs.Start.Recoverable.{stands_recoverable}
+use Rattle.sled_core.proofs.Read.FoundLemmas.{zero_mod}
 
 -- a crash leaves no names where there are none
 none_left : (n : ℤ) (left : Option (List ℕ)) → LeavesName (names_at_rest (λ _. None)) n left → left ≡ None
 none_left n left leaves = settled_name_left (names_at_rest (λ _. None)) n left (settled_name_at_rest (λ _. None) n) leaves
 
+-- where there are no snapshots, recovery begins from that of a log that was never begun
+pub none_listed : (sum : List ℕ → ℕ) (size : ℕ) (snapshots : ℤ → Option (List ℕ)) → ((n : ℤ) → snapshots n ≡ None) → AreRecoverableSnapshots sum size snapshots no_history 0 empty_model
+none_listed sum size snapshots none = record {
+  begins = inl (none, refl);
+  listed = λ n bytes there. absurd (none_some bytes (sym (none n) ∙ there));
+  not_below = omega arith;
+  active = zero_mod size;
+} where
+  none_some : (bytes : List ℕ) → None ≡ Some bytes → ⊥
+  none_some bytes is = cc
+
+-- no message needs a blob
+no_blobs : (sum : List ℕ → ℕ) (blobs : ℤ → Option (List ℕ)) → AreRecoverableBlobs sum blobs no_history 0
+no_blobs sum blobs = record { needed = λ page m there. absurd (no_entry 0 page m there); named = λ m there. absurd (in_nothing m there) }
+
+-- the empty content, of a log that was never begun
+pub nothing_recoverable : (sum : List ℕ → ℕ) (size : ℕ) (content : Content) → 256 ≤ size → content.log ≡ [] → ((n : ℤ) → content.snapshots n ≡ None) → Recoverable sum size content no_history 0 0
+nothing_recoverable sum size content long log snapshots =
+    stands_recoverable sum size content no_history 0 0 empty_model 0 long tt (λ k d lt. absurd (omega (arith, lt)))
+    (subst (λ (l : List ℕ). StandsTo sum size l no_history 0 empty_model 0) (sym log) (nothing_stands sum size)) (none_listed sum size content.snapshots snapshots) (no_blobs sum content.blobs)
+
 pub fresh_leaves : (sum : List ℕ → ℕ) (size : ℕ) → 256 ≤ size → size < 2 ^ 63 → LeavesRecoverable sum size no_history 0 0 fresh
-fresh_leaves sum size large small left leaves own =
-    nothing_recoverable sum size left large small (at_rest_left [] left.log leaves.log) (λ n. none_left n (left.blobs n) (leaves.blobs n)) (λ n. none_left n (left.snapshots n) (leaves.snapshots n))
+fresh_leaves sum size large small left leaves own = nothing_recoverable sum size left large (at_rest_left [] left.log leaves.log) (λ n. none_left n (left.snapshots n) (leaves.snapshots n))
 
 pub fresh_ready : (sum : List ℕ → ℕ) (size : ℕ) → 256 ≤ size → size < 2 ^ 63 → Ready sum size fresh empty_model no_history 0 0
 unfolding Ready
 fresh_ready sum size large small = record {
   ready = ready_fresh sum size fresh refl (λ n. refl);
-  one_segment = inr (refl, refl, λ s found. let there = found_there sum size [] 0 s found in absurd (omega (arith, there)));
-  short = omega arith;
-  blobs = none_left;
-  names = λ left leaves own. record { first = empty_model; tables = none_listed sum size left (λ n. none_left n (left n) (leaves n)); slot = λ slot is. cc; not_above = omega arith };
+  alone = nothing_active sum size;
+  active = zero_mod size;
+  blobs = λ left leaves own. no_blobs sum left;
+  names = λ left leaves own. none_listed sum size left (λ n. none_left n (left n) (leaves n));
   passes = omega arith;
   left = fresh_leaves sum size large small;
 }
+
+-- An empty log file without a snapshot is ready, whatever blobs there are.
+pub empty_ready : (sum : List ℕ → ℕ) (size : ℕ) (device : State) → device.log ≡ at_rest [] → ((n : ℤ) → device.snapshots.file n ≡ None) → IsReady sum size device empty_model no_history
+empty_ready sum size device empty none = ready_fresh sum size device empty none
+
+-- A recovery can go on from nothing.
+pub empty_recoverable : (sum : List ℕ → ℕ) (size : ℕ) → 256 ≤ size → size < 2 ^ 63 → Recoverable sum size (record { log = []; blobs = λ n. None; snapshots = λ n. None }) no_history 0 0
+empty_recoverable sum size large small = nothing_recoverable sum size (record { log = []; blobs = λ n. None; snapshots = λ n. None }) large refl (λ n. refl)

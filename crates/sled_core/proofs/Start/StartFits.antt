@@ -1,30 +1,33 @@
--- A log that begins on what a recovery left in the first segment fits the history.
-use Rattle.std.proofs.Common.{◌≡◌, ◌≤◌, ◌<◌, ◌+◌, ◌-◌, ◌*◌, ◌/◌, ◌%◌, ◌^◌, ◌∙◌, ℕ, List, [], ◌∷◌, length, Option, None, refl, sym, ap, subst, arith, inl, inr}
-use Rattle.std.specs.List.{All}
-use Rattle.std.proofs.Math.Nat.{div-eq_of_lt, mod-eq_of_lt}
+-- A log that begins on what a recovery left fits the history.
+use Rattle.std.proofs.Common.{◌≡◌, ◌≤◌, ◌<◌, ◌+◌, ◌*◌, ◌/◌, ◌%◌, ◌∙◌, ◌-ℤ◌, ℕ, pos, List, [], length, Option, Some, None, IfSome, refl, sym, ap, subst, arith}
+use Rattle.std.proofs.Math.Nat.{mod-add-div'}
+use Rattle.sled_codec.specs.Coords.{raised}
+use Rattle.sled_codec.specs.Record.{short_header}
 use Rattle.sled_codec.specs.History.{History}
-use Rattle.sled_codec.specs.Snapshots.{Entry, SnapshotModel, stable_place}
+use Rattle.sled_codec.specs.Snapshots.{SnapshotModel, stable_place}
 use Rattle.sled_store.specs.Device.{LogState, NamesState, State, at_rest}
 use Rattle.sled_store.specs.declared.segment.start.Beginning.{Beginning}
 use Rattle.sled_core.specs.declared.iobuf.Reserved.{Reserved}
-use Rattle.sled_store.specs.Begin.{slots_of, unused, entries_of, first_or, beginning_at, beginning_of, IsPlacedIn, IsStartable}
-use Rattle.sled_core.specs.Fits.{HoldsIn, log_parts}
-use Rattle.sled_core.specs.Ready.{HasActive, HasFile}
-use Rattle.sled_core.specs.Recoverable.{first_site}
-use Rattle.sled_core.specs.Running.{NoneBegun, NoBlobs, NamesFit, FitsIn, IsReadyFor}
-use Rattle.sled_store.proofs.Segments.FilledLemmas.{filled}
-use Rattle.sled_core.proofs.Crash.MainLemmas.{settled_recoverable}
-use Rattle.sled_core.proofs.Start.FilledMoments.{free_of_one, filled_short, filled_unbegun}
+use Rattle.sled_core.specs.declared.iobuf.SegmentPosition.{SegmentPosition}
+use Rattle.sled_store.specs.Begin.{slots_of, unused, first_or, beginning_at, beginning_of, MayBeActive, IsStartable}
+use Rattle.sled_store.proofs.Segments.FilledLemmas.{filled, filled_grows, begins_in}
+use Rattle.sled_core.specs.Fits.{log_parts, HoldsIn}
+use Rattle.sled_core.specs.LogFile.{padded}
+use Rattle.sled_core.specs.Ready.{HasFile}
+use Rattle.sled_core.specs.Recoverable.{LeavesRecoverable, NoHeaderOfZeros}
+use Rattle.sled_core.specs.Running.{BlobsFit, NamesFit, FitsIn, IsReadyFor}
+use Rattle.sled_core.specs.Reached.{StandsActive, StandsAlone}
+use Rattle.sled_core.proofs.Start.FilledActive.{filled_active}
+use Rattle.sled_core.proofs.Start.KeptActive.{begins_alone}
+use Rattle.sled_core.proofs.Start.PaddedActive.{padded_same, padded_active}
+use Rattle.sled_core.proofs.Start.ReadyLemmas.{raised_same, file_there, begins_from}
+use Rattle.sled_core.proofs.Start.Recoverable.{same_place, settled_leaves}
 
--- below the first place there are no entries
-no_entries : (size slots stable : ℕ) (es : List Entry) → stable ≡ 0 → All (IsPlacedIn size slots stable) es → es ≡ []
-no_entries size slots stable [] first placed = refl
-no_entries size slots stable (e ∷ es) first placed = absurd (let p = placed 0 e (omega arith) in let below = p.below in omega (arith, below, first))
+some_is : (a b : ℕ) → Some a ≡ Some b → a ≡ b
+some_is a b same = cc
 
-no_slots : (n size : ℕ) → n ≡ 0 → n * size ≡ 0
-no_slots n size none = omega (arith, ap (λ k. k * size) none)
-
-module _ (sum : List ℕ → ℕ) (size : ℕ) (device now : State) (s : SnapshotModel) (H : History) (A f : ℕ) (long : 256 ≤ size) (small : size < 2 ^ 63) (ready : IsReadyFor sum size device s H A f) (startable : IsStartable size (length device.log.bytes) s) where
+module _ (sum : List ℕ → ℕ) (size : ℕ) (device now : State) (s : SnapshotModel) (H : History) (A f : ℕ) (long : 256 ≤ size) (ready : IsReadyFor sum size device s H A f) (startable : IsStartable size (length device.log.bytes) s)
+    (log_is : now.log ≡ at_rest (filled size device.log.bytes (unused size (slots_of size (length device.log.bytes)) s))) (same_blobs : now.blobs ≡ device.blobs) (same_names : now.snapshots ≡ device.snapshots) where
   abbrev log : List ℕ
   log = device.log.bytes
 
@@ -37,68 +40,72 @@ module _ (sum : List ℕ → ℕ) (size : ℕ) (device now : State) (s : Snapsho
   abbrev free : List ℕ
   free = unused size slots s
 
-  -- A segment is begun in the first slot.
-  lowest_first : s.active ≡ None → stable ≡ 0 → first_or slots free ≡ 0
-  lowest_first none first = elim (free_of_one size (length log) s (omega (arith, long)) ready.short) [
-    | inl all ↦ ap (first_or slots) all.0 ∙ elim all.1 [
-      | inl no_slot ↦ no_slot
-      | inr used ↦ (
-          let empty : entries_of s.pages ≡ [] = no_entries size slots stable (entries_of s.pages) first startable.placed in
-          absurd (cc))
-    ]
-    | inr one ↦ ap (first_or slots) one.0
-  ]
+  abbrev new : List ℕ
+  new = filled size log free
 
-  -- where the log begins is the first segment, and the stable place in it
-  AtFirst : Beginning → Type 0
-  AtFirst b = (b.place ≡ 0) × (b.slot ≡ 0) × (b.offset ≡ stable)
+  bytes_now : now.log.bytes ≡ new
+  bytes_now = ap (λ (l : LogState). l.bytes) log_is
 
-  begins_first : AtFirst (beginning_of size (length log) s)
-  unfolding AtFirst
-  begins_first = elim ready.one_segment [
-    | inl active ↦ (
-        let room = active.1 in
-        let below : stable < size = omega (arith, room) in
-        subst (λ (o : Option ℕ). AtFirst (beginning_at size slots stable free o)) (sym active.0) (no_slots (stable / size) size (div-eq_of_lt below), refl, mod-eq_of_lt below))
-    | inr none ↦ subst (λ (o : Option ℕ). AtFirst (beginning_at size slots stable free o)) (sym none.0)
-        (no_slots ((stable + (size - 1)) / size) size (div-eq_of_lt (let first = none.1 in omega (arith, first, long))), no_slots (first_or slots free) size (lowest_first none.0 none.1), sym none.1)
-  ]
+  same_stable : stable_place ready.ready.first.stable ≡ stable
+  same_stable = ap stable_place ready.ready.same_place
 
-  -- where nothing was written, no segment was begun
-  none_begun : stable ≡ 0 → NoneBegun sum size log
-  none_begun first = elim ready.one_segment [
-    | inl active ↦ (
-        let same : log ≡ ready.ready.log = ap (λ (l : LogState). l.bytes) ready.ready.settled in
-        let file : HasActive sum size ready.ready.log s 0 H.messages = subst (λ (o : Option ℕ). HasFile sum size ready.ready.log s o H.messages) active.0 ready.ready.file in
-        let inside = file.inside in
-        let below : stable % size ≡ 0 = ap (λ n. n % size) first ∙ mod-eq_of_lt (omega (arith, long)) in
-        absurd (omega (arith, inside, below)))
-    | inr none ↦ none.2
-  ]
+  active_now : NoHeaderOfZeros sum → StandsActive sum size new s H
+  active_now zeros = filled_active sum size long zeros log s H ready.ready.table ready.alone
+
+  -- Whatever a crash leaves now can be recovered.
+  left_now : LeavesRecoverable sum size H stable f now
+  left_now =
+      settled_leaves sum size now new H stable f ready.ready.first stable long ready.ready.apart ready.ready.below log_is
+      (λ zeros. (same_place sum size new H stable stable s ready.ready.first stable stable same_stable refl (omega arith) (active_now zeros).stands).0)
+      (subst (λ (n : NamesState). NamesFit sum size n H f ready.ready.first) (sym same_names) ready.names) (subst (λ (n : NamesState). BlobsFit sum n H stable) (sym same_blobs) ready.blobs)
+
+  -- Where it begins at a site.
+  module _ (site : SegmentPosition) (from : ℕ) (end : site.place + from ≡ stable) (own : (slot : ℕ) → s.active ≡ Some slot → slot ≡ site.slot)
+      (behind : 0 < from → (s.active ≡ Some site.slot) × (from ≡ stable % size) × (site.place ≡ stable / size * size)) (beyond : NoHeaderOfZeros sum → StandsActive sum size (padded site.slot new) s H) where
+    fits_at : (bytes : List ℕ) (holds : HoldsIn sum (log_parts size site now None bytes from []) H) → holds.begun.first ≡ ready.ready.first → FitsIn sum (log_parts size site now None bytes from []) 0 H A f []
+    fits_at bytes holds first =
+        let same : stable_place holds.begun.first.stable ≡ stable = ap (λ (x : SnapshotModel). stable_place x.stable) first ∙ same_stable in
+        record {
+          holds = holds;
+          alone = λ none zeros. subst (λ (l : List ℕ). StandsAlone sum size l site from H holds.begun.first) (sym bytes_now) (begins_alone sum size new s holds.begun.first H site from same end own behind (active_now zeros));
+          beyond = λ none zeros. subst (λ (l : List ℕ). StandsAlone sum size (padded site.slot l) site from H holds.begun.first) (sym bytes_now) (begins_alone sum size (padded site.slot new) s holds.begun.first H site from same end own behind (beyond zeros));
+          blobs = subst (λ (n : NamesState). BlobsFit sum n H (site.place + from)) (sym same_blobs) (subst (BlobsFit sum device.blobs H) (sym end) ready.blobs);
+          names = subst (λ (n : NamesState). NamesFit sum size n H f holds.begun.first) (sym same_names) (subst (NamesFit sum size device.snapshots H f) (sym first) ready.names);
+          passes = let passes = ready.passes in omega (arith, passes, end);
+          pinned = λ some. absurd (some refl);
+          left = subst (λ n. LeavesRecoverable sum size H n f now) (sym end) left_now;
+        }
+
+  -- It fits where it begins.
+  FitsAt : List ℕ → Beginning → Type 0
+  FitsAt bytes b = (holds : HoldsIn sum (log_parts size (record { place = b.place; slot = b.slot }) now None bytes b.offset []) H) → holds.begun.first ≡ ready.ready.first
+      → FitsIn sum (log_parts size (record { place = b.place; slot = b.slot }) now None bytes b.offset []) 0 H A f []
+
+  fits_from : (bytes : List ℕ) → FitsAt bytes (beginning_of size (length log) s)
+  unfolding FitsAt
+  fits_from bytes = by s.active refl (file_there sum size device now s H bytes long ready.ready startable log_is (ap (λ (n : NamesState). n.file) same_names)) startable.active
+    where
+      by : (o : Option ℕ) → s.active ≡ o → HasFile sum size log s o H → IfSome o (MayBeActive size slots stable) → FitsAt bytes (beginning_at size slots stable free o)
+      by (Some a) active has may =
+          let begins : a / size * size < length log = begins_in size (length log) (a / size) (omega (arith, long)) may.slot in
+          let aligned = may.aligned in
+          let inside : a ≤ length new = omega (arith, begins, mod-add-div' a size, aligned, filled_grows size (omega (arith, long)) free log) in
+          fits_at (record { place = stable / size * size; slot = a }) (stable % size) (omega (arith, mod-add-div' stable size))
+          (λ slot is. some_is slot a (sym is ∙ active)) (λ some. (active, refl, refl))
+          (λ zeros. subst (λ (l : List ℕ). StandsActive sum size l s H) (sym (padded_same a new inside)) (active_now zeros)) bytes
+      by None none has may =
+          let begins = has.begins in
+          let place : raised size stable ≡ stable = raised_same size stable (omega (arith, long)) begins in
+          fits_at (record { place = raised size stable; slot = first_or slots free * size }) 0 (omega (arith, place))
+          (λ slot is. absurd (let both : None ≡ Some slot = sym none ∙ is in cc)) (λ some. absurd (omega (arith, some)))
+          (λ zeros. padded_active sum size long zeros log s H ready.ready.table ready.alone none (active_now zeros)) bytes
 
   -- The log fits the history that it holds.
-  pub start_fits : (b : Beginning) → b ≡ beginning_of size (length log) s → (bytes : List ℕ) (from : ℕ) (reserved : List Reserved) → from ≡ b.offset
-      → HoldsIn sum (log_parts size (record { place = b.place; slot = b.slot }) now None bytes from reserved) H
-      → from ≤ length bytes → length bytes ≤ size → now.log ≡ at_rest (filled size log free) → now.blobs ≡ device.blobs → now.snapshots ≡ device.snapshots
-      → FitsIn sum (log_parts size (record { place = b.place; slot = b.slot }) now None bytes from reserved) 0 H A f []
-  unfolding AtFirst
-  start_fits b is bytes from reserved offset holds behind in_segment log_is same_blobs same_names =
-      let first : AtFirst b = subst AtFirst (sym is) begins_first in
-      let reached : from ≡ stable = offset ∙ first.2 in
-      let bytes_now : now.log.bytes ≡ filled size log free = ap (λ (l : LogState). l.bytes) log_is in
-      let in_first : record { place = b.place; slot = b.slot } ≡ first_site = ap (λ n. record { place = n; slot = b.slot }) first.0 ∙ ap (λ n. record { place = 0; slot = n }) first.1 in
-      let short : length now.log.bytes ≤ size = subst (λ (l : List ℕ). length l ≤ size) (sym bytes_now) (filled_short sum size device s H A f long small ready) in
-      let unbegun : from ≡ 0 → NoneBegun sum size now.log.bytes = λ none. subst (NoneBegun sum size) (sym bytes_now) (filled_unbegun sum size device s H A f long small ready (none_begun (sym reached ∙ none))) in
-      let blobs : NoBlobs now.blobs = subst NoBlobs (sym same_blobs) ready.blobs in
-      let names : NamesFit sum size now.snapshots H f from = subst (λ (n : NamesState). NamesFit sum size n H f from) (sym same_names) (subst (λ n. NamesFit sum size device.snapshots H f n) (sym reached) ready.names) in
-      record {
-        holds = holds;
-        one_segment = in_first;
-        short = λ _. short;
-        unbegun = λ _. unbegun;
-        blobs = blobs;
-        names = names;
-        passes = let passes = ready.passes in omega (arith, passes, reached);
-        pinned = λ some. absurd (some refl);
-        left = settled_recoverable sum size (record { place = b.place; slot = b.slot }) now bytes from reserved H from f long small behind in_segment holds in_first short unbegun blobs names (omega arith);
-      }
+  pub start_fits : (b : Beginning) → b ≡ beginning_of size (length log) s → (bytes : List ℕ) (from : ℕ) (reserved : List Reserved) → (b.offset ≡ 0 → bytes ≡ short_header sum (pos b.place) (pos b.place -ℤ pos 1)) → (0 < b.offset → length bytes ≡ b.offset)
+      → from ≡ b.offset → reserved ≡ [] → FitsIn sum (log_parts size (record { place = b.place; slot = b.slot }) now None bytes from reserved) 0 H A f []
+  unfolding FitsAt
+  start_fits b is bytes from reserved header more offset none =
+      let begun = begins_from sum size device now s H bytes long ready.ready startable log_is (ap (λ (n : NamesState). n.file) same_names) b is header more in
+      let fits : FitsAt bytes b = subst (FitsAt bytes) (sym is) (fits_from bytes) in
+      subst (λ n. FitsIn sum (log_parts size (record { place = b.place; slot = b.slot }) now None bytes n reserved) 0 H A f []) (sym offset)
+      (subst (λ (r : List Reserved). FitsIn sum (log_parts size (record { place = b.place; slot = b.slot }) now None bytes b.offset r) 0 H A f []) (sym none) (fits begun.0 begun.1))

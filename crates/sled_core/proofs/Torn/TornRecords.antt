@@ -21,12 +21,12 @@ use Rattle.sled_core.specs.declared.iobuf.SegmentPosition.{SegmentPosition}
 use Rattle.sled_core.specs.declared.iterator.Segment.{Segment}
 use Rattle.sled_core.specs.Reading.{StandsAt}
 use Rattle.sled_core.specs.Scan.{IsFoundSegment}
-use Rattle.sled_core.specs.LogFile.{MessageStands, StandIn, HasHeader, IsLogFile}
+use Rattle.sled_core.specs.LogFile.{MessageStands, HasHeader, IsLogFile}
+use Rattle.sled_core.proofs.Read.StandIn.{StandIn}
 use Rattle.sled_core.proofs.Read.ReadingLemmas.{header_some, laid_of}
 use Rattle.sled_core.proofs.Read.GivesLemmas.{one_len}
 use Rattle.sled_core.proofs.Read.PathLemmas.{IsEmpty, zeros_empty}
 use Rattle.sled_core.proofs.Read.ScanLemmas.{aligned_offset}
-use Rattle.sled_core.proofs.Flush.LogFileLemmas.{stand_grows, stand-append, record_moved, first_stay, header_stays, part_laid, laid_within}
 use Rattle.sled_core.proofs.Torn.TornLemmas.{after_write, left_grows, part_left}
 
 -- one text is the other, or isn't

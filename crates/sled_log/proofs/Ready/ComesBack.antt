@@ -7,11 +7,9 @@ use Rattle.sled_store.specs.Moments.{LeavesOnly}
 use Rattle.sled_store.proofs.Traces.MomentLemmas.{weaker}
 use Rattle.sled_core.specs.declared.iobuf.SegmentPosition.{SegmentPosition}
 use Rattle.sled_core.specs.declared.logger.Log.{Log}
-use Rattle.sled_core.specs.Fits.{synced_end, segment_size_of, device_of}
-use Rattle.sled_core.specs.NextFits.{EndBelow, CloseBelow, IsKept}
-use Rattle.sled_core.specs.NextRecoverable.{LeavesRecoverable, RecoverableIfOwn}
-use Rattle.sled_core.specs.NextRunning.{Fits, Ready}
-use Rattle.sled_core.specs.Recoverable.{NoForeign}
+use Rattle.sled_core.specs.Fits.{synced_end, segment_size_of, device_of, EndBelow, CloseBelow, IsKept}
+use Rattle.sled_core.specs.Recoverable.{LeavesRecoverable, RecoverableIfOwn, NoForeign}
+use Rattle.sled_core.specs.Running.{Fits, Ready}
 use Rattle.sled_log.specs.Orderly.{IsOrderly, CanReadOn, LeavesReadable}
 use Rattle.sled_log.specs.Restores.{BeginsAgain, RecoveryCalls, Restores}
 use Rattle.sled_log.proofs.Moments.RecoveryAlong.{recovery_throughout}

@@ -2,7 +2,7 @@
 use Rattle.std.proofs.Common.{ℕ, List}
 use Rattle.sled_codec.specs.History.{History}
 use Rattle.sled_store.specs.Device.{Content, State}
-use Rattle.sled_core.specs.NextRecoverable.{Recoverable, LeavesRecoverable}
+use Rattle.sled_core.specs.Recoverable.{Recoverable, LeavesRecoverable}
 use Rattle.sled_log.specs.Orderly.{IsOrderly, CanRead, LeavesReadable}
 
 module _ (sum : List ℕ → ℕ) (size : ℕ) where

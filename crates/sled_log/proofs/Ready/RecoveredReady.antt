@@ -8,9 +8,9 @@ use Rattle.sled_codec.specs.Snapshots.{SnapshotModel, stable_place}
 use Rattle.sled_store.specs.Device.{Synced, NamesSynced, LogState, State, Content, Trace, state_of, content_of, at_rest}
 use Rattle.sled_store.specs.SnapshotFiles.{BeginsFrom}
 use Rattle.sled_store.proofs.Histories.Ascending.{Ascends, apart_ascends, all_from_in}
-use Rattle.sled_core.specs.NextFits.{EndBelow, CloseBelow}
-use Rattle.sled_core.specs.NextReady.{HasFile, IsReady}
-use Rattle.sled_core.specs.NextRunning.{BlobsFit, NamesFit, IsReadyFor, Ready}
+use Rattle.sled_core.specs.Fits.{EndBelow, CloseBelow}
+use Rattle.sled_core.specs.Ready.{HasFile, IsReady}
+use Rattle.sled_core.specs.Running.{BlobsFit, NamesFit, IsReadyFor, Ready}
 use Rattle.sled_core.specs.Reached.{StandsActive}
 use Rattle.sled_core.specs.Recoverable.{NoForeign, NoHeaderOfZeros, IsRecoverableLog, AreRecoverableSnapshots}
 use Rattle.sled_log.specs.Orderly.{CanRead, CanReadOn, LeavesReadable}

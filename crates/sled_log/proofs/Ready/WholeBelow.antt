@@ -3,7 +3,7 @@ use Rattle.std.proofs.Common.{◌≡◌, ◌∙◌, ◌≤◌, ◌<◌, ◌+◌,
 use Rattle.std.specs.List.{All, filter}
 use Rattle.std.proofs.lemmas.List.Elements.{All-tail, All-weaker}
 use Rattle.sled_codec.specs.History.{Message, Batch, History, below}
-use Rattle.sled_core.specs.NextFits.{EndBelow, CloseBelow}
+use Rattle.sled_core.specs.Fits.{EndBelow, CloseBelow}
 
 -- a filter keeps a list of which all passes
 keeps_all : {X : Type 0} (p : X → Bool) (xs : List X) → All (λ x. p x ≡ true) xs → filter p xs ≡ xs

@@ -1,14 +1,17 @@
-use Rattle.sled_core.proofs.PublicLaws.{fits_reach, fits_apart, fits_inline, next_small}
+use Rattle.sled_core.proofs.PublicLaws.{fits_reach, fits_apart, fits_inline, awaited_inline, next_small}
 use Rattle.sled_core.proofs.laws.messages_lie_in_order.Goals as goal
 
 pub returns-clause-below : goal.returns-clause-below
 returns-clause-below g c = λ log H A f U fits. fits_reach g.D.Device.trace g.C.Checksum.sum_of log H A f U fits
 
 pub returns-clause-apart : goal.returns-clause-apart
-returns-clause-apart g c = λ log H A f U fits none. fits_apart g.D.Device.trace g.C.Checksum.sum_of log H A f U fits none
+returns-clause-apart g c = λ log H A f U fits. fits_apart g.D.Device.trace g.C.Checksum.sum_of log H A f U fits
 
 pub returns-clause-inline : goal.returns-clause-inline
-returns-clause-inline g c = λ log H A f U fits none. fits_inline g.D.Device.trace g.C.Checksum.sum_of log H A f U fits none
+returns-clause-inline g c = λ log H A f U fits m there above. fits_inline g.D.Device.trace g.C.Checksum.sum_of log H A f U fits m there above
+
+pub returns-clause-awaited : goal.returns-clause-awaited
+returns-clause-awaited g c = λ log ticket m awaits. awaited_inline log ticket m awaits
 
 pub returns-clause-small : goal.returns-clause-small
 returns-clause-small g c = λ log. next_small log

@@ -14,7 +14,7 @@ use Rattle.sled_core.proofs.Holds.RunningLemmas.{fits-completed}
 use Rattle.sled_core.proofs.Holds.HoldsLemmas.{holds-same}
 use Rattle.sled_core.proofs.Holds.KeptCalls.{goes_on_still, goes_on_quietly}
 use Rattle.sled_core.proofs.Holds.OpenTickets.{only_closed}
-use Rattle.sled_core.proofs.Reserve.CompletesLemmas.{holds-complete, others_stay}
+use Rattle.sled_core.proofs.Holds.CompletedLemmas.{holds-complete, others_stay}
 use Rattle.sled_core.proofs.logger.Log.complete.Goals as goal
 
 pub returns-clause-history : goal.returns-clause-history
@@ -82,6 +82,5 @@ returns-clause-fits g c = λ H A f U m fits awaits out.
       done.0,
       done.1,
       fits-completed g.C.Checksum.sum_of old.config.config.segment_size old.site _ old.fault old.buffer.bytes.items old.buffer.written_len old.buffer.reserved.items old.pins H A f U fits _ _ _ done.0 m c.complete.ensures.from
-          old.config.config.least (let reach = old.place_in_reach in omega (arith, reach)) (omega (arith, c.complete.ensures.from, c.complete.ensures.len, old.buffer.behind)) (omega (arith, c.complete.ensures.len, old.in_segment)) c.in_default.is
-          done.2 done.1 (omega (arith, inside.0, place)) out,
+          old.config.config.least (omega (arith, c.complete.ensures.len, old.in_segment)) c.in_default.is done.2 done.1 (omega (arith, inside.0, place)) out,
     )

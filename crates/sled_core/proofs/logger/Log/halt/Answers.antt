@@ -1,8 +1,7 @@
-use Rattle.std.proofs.Common.{arith}
 use Rattle.sled_core.specs.Running.{Fits}
 use Rattle.sled_core.proofs.Holds.RunningLemmas.{fits-leaves}
 use Rattle.sled_core.proofs.logger.Log.halt.Goals as goal
 
 pub returns-clause-recoverable : goal.returns-clause-recoverable
 unfolding Fits
-returns-clause-recoverable g c = λ H A f U fits. fits-leaves _ _ _ _ _ _ _ _ _ H A f U fits c.args.self.config.config.least (let reach = c.args.self.place_in_reach in omega (arith, reach))
+returns-clause-recoverable g c = λ H A f U fits. fits-leaves _ _ _ _ _ _ _ _ _ H A f U fits

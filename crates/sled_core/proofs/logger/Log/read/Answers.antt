@@ -1,22 +1,27 @@
-use Rattle.std.proofs.Common.{◌≡◌, ◌∙◌, ◌+◌, ◌<◌, ◌/◌, ap, sym, subst, ℕ, arith, inr, Option, IsTrue, rules, pos}
+use Rattle.std.proofs.Common.{◌≡◌, ◌⊎◌, ◌∙◌, ◌+◌, ◌<◌, ◌≤◌, ◌/◌, ap, sym, subst, ℕ, arith, inl, inr, Option, IsTrue, rules, pos}
 use Rattle.std.specs.Int.{w64}
 use Rattle.std.specs.Prelude.{unsigned_abs, ◌<ℤ◌}
 use Rattle.std.specs.List.{Contains}
-use Rattle.std.proofs.lemmas.List.Elements.{All-contains}
-use Rattle.sled_codec.specs.History.{Message, History}
+use Rattle.std.proofs.lemmas.Bool.{cases_lt}
+use Rattle.sled_codec.specs.declared.result.DiskPtr.TheVariants.{Inline}
+use Rattle.sled_codec.specs.History.{Message, History, table}
+use Rattle.sled_codec.specs.Snapshots.{SnapshotModel, stable_place}
 use Rattle.sled_codec.specs.Places.{MayBegin}
 use Rattle.sled_core.specs.LogFile.{MessageStands}
 use Rattle.std.specs.declared.io.Error.{Error as IoError}
 use Rattle.std.proofs.lemmas.Int.{to_z-of_z}
 use Rattle.sled_codec.specs.Pointers.{lid_of}
-use Rattle.sled_store.specs.Device.{State, state_of}
+use Rattle.sled_store.specs.Device.{State, Trace, state_of}
+use Rattle.sled_store.specs.SnapshotFiles.{BeginsFrom}
+use Rattle.sled_store.proofs.Names.OneBegin.{one_begin}
 use Rattle.sled_core.specs.Reading.{IsUnreadable, GivesMessage}
-use Rattle.sled_core.specs.Fits.{Holds, HoldsIn, segment_size_of, log_parts}
+use Rattle.sled_core.specs.Fits.{HasRecordOf, Holds, HoldsIn, segment_size_of, log_parts}
+use Rattle.sled_core.specs.declared.iobuf.SegmentPosition.{SegmentPosition}
 use Rattle.sled_core.specs.declared.logger.read_message.LogRead.{LogRead}
 use Rattle.sled_core.proofs.Reserve.Parts.{moved}
 use Rattle.sled_core.proofs.Read.ReadingLemmas.{if_ok}
-use Rattle.sled_core.proofs.Read.GivesLemmas.{gives, message_found}
-use Rattle.sled_core.proofs.Holds.HeldPointers.{LiesInline, fits_lie}
+use Rattle.sled_core.proofs.Read.GivesLemmas.{gives}
+use Rattle.sled_core.proofs.Holds.HeldRecords.{fits_begins, held_record, inline_is}
 use Rattle.sled_core.proofs.Read.PathLemmas.{stands_readable}
 use Rattle.sled_core.proofs.Holds.KeptCalls.{kept_still, kept_further}
 use Rattle.sled_core.proofs.Holds.ReachLemmas.{fits_holds}
@@ -35,47 +40,65 @@ returns-clause-corrupt g c = λ damaged.
     c.in_ok-settle.ensures.position.size (ap state_of (sym c.read_settled.ensures.trace)) c.lid-lid.ensures (ap (λ n. n / size) (place_is g c))
     (c.read_settled.ensures.unreadable damaged))
 
+-- A message that lies below the current segment was written, so the device stayed as it was.
+was_written : (g : given.Over) (c : goal.After-read_settled g) (m : Message) → pos m.place ≡ c.args.lsn → m.place < c.args.self.now.site.place → g.D.Device.trace c.settle.new.self.config.device ≡ g.D.Device.trace c.args.self.now.config.device
+was_written g c m at lower =
+    let place : c.unsigned_abs-place.result ≡ m.place = place_is g c ∙ ap unsigned_abs (sym at) in
+    c.settle.ensures.unwritten (omega (arith, place, lower))
+
 -- the record of a message stands where it is read
-stands_there : (g : given.Over) (c : goal.After-read_settled g) (H : History) (m : Message) → Holds g.D.Device.trace g.C.Checksum.sum_of c.args.self.now H → Contains H.messages m → pos m.place ≡ c.args.lsn → m.pointer ≡ c.args.ptr
+held_there : (g : given.Over) (c : goal.After-read_settled g) (H : History) (m : Message) → Holds g.D.Device.trace g.C.Checksum.sum_of c.args.self.now H → Contains H.messages m → HasRecordOf c.args.self.now H m → pos m.place ≡ c.args.lsn → m.pointer ≡ c.args.ptr
     → MessageStands g.C.Checksum.sum_of (segment_size_of c.settle.new.self) (state_of (g.D.Device.trace c.settle.new.self.config.device)).log.bytes c.lid-lid.result (c.unsigned_abs-place.result / c.args.self.now.config.config.segment_size) m
 unfolding Holds
-stands_there g c H m holds there at pointer =
+held_there g c H m holds there has at pointer =
+    let old = c.args.self.now in
     let log = c.settle.new.self in
     let device : State = state_of (g.D.Device.trace log.config.device) in
     let size : ℕ = log.config.config.segment_size in
     let place : c.unsigned_abs-place.result ≡ m.place = place_is g c ∙ ap unsigned_abs (sym at) in
     let after = subst (λ (o : Option IoError). HoldsIn g.C.Checksum.sum_of (log_parts size log.site device o log.buffer.bytes.items log.buffer.written_len log.buffer.reserved.items) H) c.in_ok-settle.ensures.answers.1 (c.in_ok-settle.ensures.keeps.history H holds) in
     let written : m.place < log.site.place + log.buffer.written_len = omega (arith, c.in_ok-settle.ensures.written, place) in
-    let found = message_found g.C.Checksum.sum_of size log.site device log.buffer.bytes.items log.buffer.written_len log.buffer.reserved.items H m after there written in
-    let lid : c.lid-lid.result ≡ found.0 = c.lid-lid.ensures ∙ ap lid_of (sym pointer ∙ found.1) in
+    let here : log.site.place ≡ old.site.place = ap (λ (x : SegmentPosition). x.place) c.in_ok-settle.ensures.position.site in
+    let still : (log.site.place ≤ m.place) ⊎ ((cut : ℕ) × (stable_place after.begun.first.stable ≤ cut) × Contains (table H cut m.page) m) = elim (cases_lt m.place old.site.place) [
+      | inr above ↦ inl (omega (arith, above, here))
+      | inl lower ↦ elim has [
+        | inl above ↦ absurd (omega (arith, above, lower))
+        | inr (cut, far, entry) ↦ (
+            let same : after.begun.first ≡ holds.begun.first = one_begin g.C.Checksum.sum_of _ after.begun.first holds.begun.first after.begun.begins
+            (subst (λ (t : Trace). BeginsFrom g.C.Checksum.sum_of (state_of t).snapshots.file holds.begun.first) (sym (was_written g c m at lower)) holds.begun.begins) in
+            let reached = holds.begun.reached in
+            let low : stable_place after.begun.first.stable ≡ stable_place holds.begun.first.stable = ap (λ (x : SnapshotModel). stable_place x.stable) same in
+            inr (cut, omega (arith, low, reached, far), entry))
+      ]
+    ] in
+    let inline : m.pointer ≡ Inline (lid_of c.args.ptr) = pointer ∙ inline_is c.args.ptr c.requires.inline in
+    let found = held_record g.C.Checksum.sum_of size log.site device log.buffer.bytes.items log.buffer.written_len log.buffer.reserved.items H after m there written still (lid_of c.args.ptr) inline in
     let number : c.unsigned_abs-place.result / c.args.self.now.config.config.segment_size ≡ m.place / size =
     ap (λ n. n / c.args.self.now.config.config.segment_size) place ∙ ap (λ n. m.place / n) (sym c.in_ok-settle.ensures.position.size) in
-    subst (λ n. MessageStands g.C.Checksum.sum_of size device.log.bytes n (c.unsigned_abs-place.result / c.args.self.now.config.config.segment_size) m) (sym lid)
-    (subst (λ n. MessageStands g.C.Checksum.sum_of size device.log.bytes found.0 n m) (sym number) found.2)
+    subst (λ n. MessageStands g.C.Checksum.sum_of size device.log.bytes n (c.unsigned_abs-place.result / c.args.self.now.config.config.segment_size) m) (sym c.lid-lid.ensures)
+    (subst (λ n. MessageStands g.C.Checksum.sum_of size device.log.bytes (lid_of c.args.ptr) n m) (sym number) found.stands)
 
 pub returns-clause-message : goal.returns-clause-message
-returns-clause-message g c = λ H m holds there at pointer.
-    let s = stands_there g c H m holds there at pointer in
+returns-clause-message g c = λ H m holds there has at pointer.
+    let s = held_there g c H m holds there has at pointer in
     if_ok c.read_settled.result _ (GivesMessage m) (λ (r : LogRead) reads. gives g.C.Checksum.sum_of _ _ _ _ _ m s.header r s.stands s.known s.page reads) c.read_settled.ensures.reading
 
 -- what a log fits is held without damage
 
 pub returns-clause-undamaged : goal.returns-clause-undamaged
-returns-clause-undamaged g c = λ H A f U m fits there at pointer damaged.
-    stands_readable g.C.Checksum.sum_of _ _ _ _ m (stands_there g c H m (fits_holds g.D.Device.trace g.C.Checksum.sum_of c.args.self.now H A f U fits) there at pointer) _ (c.read_settled.ensures.unreadable damaged)
+returns-clause-undamaged g c = λ H A f U m fits there has at pointer damaged.
+    stands_readable g.C.Checksum.sum_of _ _ _ _ m (held_there g c H m (fits_holds g.D.Device.trace g.C.Checksum.sum_of c.args.self.now H A f U fits) there has at pointer) _ (c.read_settled.ensures.unreadable damaged)
 
 pub returns-then-lsn-lt0-clause-undamaged : goal.returns-then-lsn-lt0-clause-undamaged
-returns-then-lsn-lt0-clause-undamaged g c = λ H A f U m fits there at pointer damaged.
+returns-then-lsn-lt0-clause-undamaged g c = λ H A f U m fits there has at pointer damaged.
     let log = c.args.self.now in
-    let lies : LiesInline (segment_size_of log) m = All-contains (LiesInline (segment_size_of log)) H.messages m (fits_lie g.D.Device.trace g.C.Checksum.sum_of log H A f U fits c.in_default.is) there in
-    let lid : c.lid-lid.result ≡ lies.lid = c.lid-lid.ensures ∙ ap lid_of (sym pointer ∙ lies.pointer) in
-    let begins : MayBegin (segment_size_of log) c.lid-lid.result = subst (MayBegin (segment_size_of log)) (sym lid) lies.begins in
+    let inline : m.pointer ≡ Inline (lid_of c.args.ptr) = pointer ∙ inline_is c.args.ptr c.requires.inline in
+    let begins : MayBegin (segment_size_of log) (lid_of c.args.ptr) = fits_begins g.D.Device.trace g.C.Checksum.sum_of log H A f U fits c.in_default.is m there has (lid_of c.args.ptr) inline in
+    let begins_there : MayBegin (segment_size_of log) c.lid-lid.result = subst (MayBegin (segment_size_of log)) (sym c.lid-lid.ensures) begins in
     elim c.then-lsn-lt0.branch [
       | then-lsn-lt0-via-then-lsn-lt0 w ↦ (let negative : c.args.lsn <ℤ pos 0 = search rules in let both : pos m.place <ℤ pos 0 = subst (λ z. z <ℤ pos 0) (sym at) negative in search rules)
-      | then-lsn-lt0-via-else-lsn-lt0+then-not-may_begin w ↦ (let yes : IsTrue w.may_begin.result = w.may_begin.ensures.1 begins in search rules)
+      | then-lsn-lt0-via-else-lsn-lt0+then-not-may_begin w ↦ (let yes : IsTrue w.may_begin.result = w.may_begin.ensures.1 begins_there in search rules)
     ]
-
--- what a log fits is held without damage
 
 pub returns-clause-keeps : goal.returns-clause-keeps
 returns-clause-keeps g c = kept_further g.D.Device.trace g.C.Checksum.sum_of c.args.self.now c.settle.new.self _ c.settle.ensures.keeps c.read_settled.ensures.keeps

@@ -8,15 +8,15 @@ use Rattle.sled_store.specs.Device.{State, LogState, NamesState, Trace, state_of
 use Rattle.sled_store.specs.declared.segment.start.Beginning.{Beginning}
 use Rattle.sled_store.specs.Script.{after_all}
 use Rattle.sled_store.specs.Begin.{unused, slots_of, place_at, filling, IsStartable, IsInReach}
-use Rattle.sled_core.specs.declared.iobuf.IoBuf.{IoBuf}
+use Rattle.sled_core.specs.declared.iobuf.Reserved.{Reserved}
 use Rattle.sled_core.specs.Causes.{StartAnswers}
-use Rattle.sled_core.specs.Fits.{Holds, HoldsIn, log_parts}
+use Rattle.sled_core.specs.Fits.{log_parts}
+use Rattle.sled_core.specs.Fits.{Holds, HoldsIn}
 use Rattle.sled_core.specs.declared.iobuf.SegmentPosition.{SegmentPosition}
 use Rattle.sled_core.specs.Running.{Ready, Fits, FitsIn}
-use Rattle.sled_core.proofs.Holds.HoldsLemmas.{holds-same}
 use Rattle.sled_store.proofs.Segments.FilledLemmas.{filled, filling-log, filling-snapshots, filling-blobs}
 use Rattle.sled_core.proofs.Start.FilledMoments.{filled_throughout}
-use Rattle.sled_core.proofs.Start.ReadyStarts.{ready_starts, ready_in_reach}
+use Rattle.sled_core.proofs.Start.ReadyStarts.{ready_starts}
 use Rattle.sled_core.proofs.Start.StartFits.{start_fits}
 use Rattle.sled_core.proofs.Start.OpenLemmas.{in_segment, place_in_reach, slot_in_reach, first_next, begins_place}
 use Rattle.sled_core.proofs.Start.ReadyLemmas.{begins_ready}
@@ -40,10 +40,6 @@ filled_log : (size : ℕ) (ks : List ℕ) (old new : Trace) → new ≡ after_al
 filled_log size ks old new done log settled =
     ap (λ (t : Trace). (state_of t).log) done ∙ filling-log size ks old log settled ∙ ap (λ (l : List ℕ). at_rest (filled size l ks)) (sym (ap (λ (x : LogState). x.bytes) settled))
 
--- a segment is short enough for its offsets to be in reach
-in_reach : (size : ℕ) → size ≤ 8388608 → size < 2 ^ 63
-in_reach size most = omega (arith, most)
-
 pub returns-in-Ok-clause-history : goal.returns-in-Ok-clause-history
 unfolding Holds
 returns-in-Ok-clause-history g c = λ H ready.
@@ -58,15 +54,15 @@ returns-in-Ok-clause-history g c = λ H ready.
     let holds = begins_ready g.C.Checksum.sum_of size old now s H c.in-Ok.buffer.bytes.items c.args.config.config.least ready c.in-Ok.ensures.startable log_now names_now c.in-Ok.beginning c.in-Ok.ensures.beginning first.header first.resumed in
     subst (λ (n : ℕ). HoldsIn g.C.Checksum.sum_of (log_parts n (record { place = c.in-Ok.beginning.place; slot = c.in-Ok.beginning.slot }) now None c.in-Ok.buffer.bytes.items c.in-Ok.buffer.written_len c.in-Ok.buffer.reserved.items) H)
     (sym (ap (λ (x : Config). x.segment_size) c.begin.ensures.config))
-    (holds-same g.C.Checksum.sum_of size (record { place = c.in-Ok.beginning.place; slot = c.in-Ok.beginning.slot }) now None c.in-Ok.buffer.bytes.items c.in-Ok.buffer.bytes.items c.in-Ok.beginning.offset c.in-Ok.buffer.written_len [] c.in-Ok.buffer.reserved.items H
-    refl first.from first.reserved holds)
+    (subst (λ (n : ℕ). HoldsIn g.C.Checksum.sum_of (log_parts size (record { place = c.in-Ok.beginning.place; slot = c.in-Ok.beginning.slot }) now None c.in-Ok.buffer.bytes.items n c.in-Ok.buffer.reserved.items) H) (sym first.from)
+    (subst (λ (r : List Reserved). HoldsIn g.C.Checksum.sum_of (log_parts size (record { place = c.in-Ok.beginning.place; slot = c.in-Ok.beginning.slot }) now None c.in-Ok.buffer.bytes.items c.in-Ok.beginning.offset r) H) (sym first.reserved) holds))
 
 pub returns-in-Ok-clause-crash : goal.returns-in-Ok-clause-crash
-returns-in-Ok-clause-crash g c = λ H A f ready. filled_throughout g.C.Checksum.sum_of c.args.config.config.segment_size (model_of c.args.snapshot.now) H A f c.args.config.config.least (in_reach c.args.config.config.segment_size c.args.config.config.most)
+returns-in-Ok-clause-crash g c = λ H A f ready. filled_throughout g.C.Checksum.sum_of c.args.config.config.segment_size (model_of c.args.snapshot.now) H A f c.args.config.config.least
     (g.D.Device.trace c.args.config.device) (g.D.Device.trace c.begin.new.config.device) ready c.begin.ensures.calls
 
 pub returns-in-Err-clause-crash : goal.returns-in-Err-clause-crash
-returns-in-Err-clause-crash g c = λ H A f ready. filled_throughout g.C.Checksum.sum_of c.args.config.config.segment_size (model_of c.args.snapshot.now) H A f c.args.config.config.least (in_reach c.args.config.config.segment_size c.args.config.config.most)
+returns-in-Err-clause-crash g c = λ H A f ready. filled_throughout g.C.Checksum.sum_of c.args.config.config.segment_size (model_of c.args.snapshot.now) H A f c.args.config.config.least
     (g.D.Device.trace c.args.config.device) (g.D.Device.trace c.begin.new.config.device) ready c.begin.ensures.calls
 
 pub returns-in-Ok-clause-fits : goal.returns-in-Ok-clause-fits
@@ -80,32 +76,15 @@ returns-in-Ok-clause-fits g c = λ H A f ready.
     let same : c.begin.new.config.config.segment_size ≡ size = ap (λ (x : Config). x.segment_size) c.begin.ensures.config in
     let site : SegmentPosition = record { place = c.in-Ok.beginning.place; slot = c.in-Ok.beginning.slot } in
     let first = c.in-Ok.ensures.buffer in
-    let holds : HoldsIn g.C.Checksum.sum_of (log_parts size site now None c.in-Ok.buffer.bytes.items c.in-Ok.buffer.written_len c.in-Ok.buffer.reserved.items) H =
-    subst (λ n. HoldsIn g.C.Checksum.sum_of (log_parts n site now None c.in-Ok.buffer.bytes.items c.in-Ok.buffer.written_len c.in-Ok.buffer.reserved.items) H) same (returns-in-Ok-clause-history g c H ready.ready) in
     subst (λ n. FitsIn g.C.Checksum.sum_of (log_parts n site now None c.in-Ok.buffer.bytes.items c.in-Ok.buffer.written_len c.in-Ok.buffer.reserved.items) 0 H A f []) (sym same)
-    (start_fits g.C.Checksum.sum_of size (state_of old) now s H A f c.args.config.config.least (in_reach size c.args.config.config.most) ready c.in-Ok.ensures.startable c.in-Ok.beginning c.in-Ok.ensures.beginning
-    c.in-Ok.buffer.bytes.items c.in-Ok.buffer.written_len c.in-Ok.buffer.reserved.items first.from holds c.in-Ok.buffer.behind
-    (in_segment size (length (state_of old).log.bytes) s c.in-Ok.beginning c.in-Ok.ensures.beginning c.in-Ok.ensures.startable c.in-Ok.ensures.answers.1 g.C.Checksum.sum_of c.in-Ok.buffer c.args.config.config.least first)
-    (filled_log size ks old (g.D.Device.trace c.begin.new.config.device) c.in-Ok.ensures.done ready.ready.log ready.ready.settled) (ap (λ (t : Trace). (state_of t).blobs) c.in-Ok.ensures.done ∙ filling-blobs size ks old) (ap (λ (t : Trace). (state_of t).snapshots) c.in-Ok.ensures.done ∙ filling-snapshots size ks old))
-
--- a log that can begin is refused for no damage, and not where a further segment is in reach
-not_refused : (startable in_reach : Type 0) (e : Error) (before after : ℕ) → startable → in_reach → (IsCorruption {T = Beginning × IoBuf} (Err e) → startable → ⊥) → StartAnswers {T = Beginning × IoBuf} (Err e) in_reach before after
-    → (IsCorrupt e → ⊥) × (e ≢ PlacesUsedUp)
-not_refused startable in_reach e before after can reach corrupt answers = (
-  λ damaged. corrupt damaged can,
-  λ used_up. (subst (λ (x : Error). StartAnswers {T = Beginning × IoBuf} (Err x) in_reach before after) used_up answers).1 reach,
-)
+    (start_fits g.C.Checksum.sum_of size (state_of old) now s H A f c.args.config.config.least ready c.in-Ok.ensures.startable
+    (filled_log size ks old (g.D.Device.trace c.begin.new.config.device) c.in-Ok.ensures.done ready.ready.log ready.ready.settled) (ap (λ (t : Trace). (state_of t).blobs) c.in-Ok.ensures.done ∙ filling-blobs size ks old) (ap (λ (t : Trace). (state_of t).snapshots) c.in-Ok.ensures.done ∙ filling-snapshots size ks old)
+    c.in-Ok.beginning c.in-Ok.ensures.beginning c.in-Ok.buffer.bytes.items c.in-Ok.buffer.written_len c.in-Ok.buffer.reserved.items first.header first.resumed first.from first.reserved)
 
 pub returns-in-Err-clause-starts : goal.returns-in-Err-clause-starts
 unfolding Ready
-returns-in-Err-clause-starts g c = λ H A f ready.
-    let size : ℕ = c.args.config.config.segment_size in
-    let old : State = state_of (g.D.Device.trace c.args.config.device) in
-    let s : SnapshotModel = model_of c.args.snapshot.now in
-    let long = c.args.config.config.least in
-    let most = c.args.config.config.most in
-    not_refused (IsStartable size (length old.log.bytes) s) (IsInReach size (length old.log.bytes) s) c.in-Err.e (g.D.Device.faults c.args.config.device) (g.D.Device.faults c.begin.new.config.device)
-    (ready_starts g.C.Checksum.sum_of size old s H A f long most ready) (ready_in_reach g.C.Checksum.sum_of size old s H A f long most ready) c.in-Err.ensures.corrupt c.in-Err.ensures.answers
+returns-in-Err-clause-starts g c = λ H A f ready damaged.
+    c.in-Err.ensures.corrupt damaged (ready_starts g.C.Checksum.sum_of c.args.config.config.segment_size (state_of (g.D.Device.trace c.args.config.device)) (model_of c.args.snapshot.now) H A f c.args.config.config.least c.args.config.config.most ready)
 
 -- Nothing is reserved in it yet.
 pub returns-in-Ok-clause-begins : goal.returns-in-Ok-clause-begins

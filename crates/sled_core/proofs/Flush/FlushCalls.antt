@@ -10,20 +10,18 @@ use Rattle.sled_store.proofs.Histories.Ascending.{Ascends}
 use Rattle.sled_core.specs.declared.iobuf.Reserved.{Reserved}
 use Rattle.sled_core.specs.declared.iobuf.SegmentPosition.{SegmentPosition}
 use Rattle.sled_core.specs.Buffers.{none_open}
-use Rattle.sled_core.specs.Fits.{log_parts}
-use Rattle.sled_core.specs.NextFits.{HoldsIn, IsOnDevice}
-use Rattle.sled_core.specs.NextLogFile.{HasHeader, IsLogFile, padded}
-use Rattle.sled_core.specs.NextRecoverable.{LeavesRecoverable}
-use Rattle.sled_core.specs.NextRunning.{BlobsFit, FitsIn}
+use Rattle.sled_core.specs.Fits.{log_parts, HoldsIn, IsOnDevice}
+use Rattle.sled_core.specs.LogFile.{HasHeader, IsLogFile, padded}
+use Rattle.sled_core.specs.Recoverable.{LeavesRecoverable, NoHeaderOfZeros}
+use Rattle.sled_core.specs.Running.{BlobsFit, FitsIn}
 use Rattle.sled_core.specs.Reached.{StandsAlone}
-use Rattle.sled_core.specs.Recoverable.{NoHeaderOfZeros}
-use Rattle.sled_core.proofs.Next.Flush.Completed.{all_ascend, has_only, inline_from, none_crosses}
-use Rattle.sled_core.proofs.Next.Flush.FlushLemmas.{grown, has_room, holds-flush}
-use Rattle.sled_core.proofs.Next.Flush.Padded.{overwritten-padded, padded_clean, padded_long, padded_none}
-use Rattle.sled_core.proofs.Next.Flush.Settled.{InlineFrom, blobs_higher, leaves_less, rests, settled_recoverable, stands_recoverable}
-use Rattle.sled_core.proofs.Next.Flush.WholeBuffer.{alone_behind}
-use Rattle.sled_core.proofs.Next.Flush.WrittenBuffer.{torn_alone}
-use Rattle.sled_core.proofs.Next.Flush.WrittenFile.{header_stands}
+use Rattle.sled_core.proofs.Flush.Completed.{all_ascend, has_only, inline_from, none_crosses}
+use Rattle.sled_core.proofs.Flush.FlushLemmas.{grown, has_room, holds-flush}
+use Rattle.sled_core.proofs.Flush.Padded.{overwritten-padded, padded_clean, padded_long, padded_none}
+use Rattle.sled_core.proofs.Flush.Settled.{InlineFrom, blobs_higher, leaves_less, rests, settled_recoverable, stands_recoverable}
+use Rattle.sled_core.proofs.Flush.WholeBuffer.{alone_behind}
+use Rattle.sled_core.proofs.Flush.WrittenBuffer.{torn_alone}
+use Rattle.sled_core.proofs.Flush.WrittenFile.{header_stands}
 use Rattle.sled_core.proofs.Reached.BufferStands.{written_within}
 
 -- The calls of a flush, on a log with something to write.

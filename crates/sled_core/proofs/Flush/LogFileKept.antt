@@ -9,8 +9,8 @@ use Rattle.sled_codec.specs.History.{Message}
 use Rattle.sled_codec.proofs.Segments.{length-short_header}
 use Rattle.sled_store.specs.Device.{overwritten}
 use Rattle.sled_core.specs.declared.iobuf.SegmentPosition.{SegmentPosition}
-use Rattle.sled_core.specs.LogFile.{MessageStands, StandIn}
-use Rattle.sled_core.specs.NextLogFile.{StandsHere, StandsElsewhere, HasHeader}
+use Rattle.sled_core.specs.LogFile.{MessageStands, StandsHere, StandsElsewhere, HasHeader}
+use Rattle.sled_core.proofs.Read.StandIn.{StandIn}
 use Rattle.sled_core.proofs.Flush.LogFileLemmas.{stand_grows, part_kept, message_kept}
 use Rattle.sled_core.proofs.Read.ScanLemmas.{aligned_offset, aligned_number}
 

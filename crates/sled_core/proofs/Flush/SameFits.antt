@@ -6,9 +6,9 @@ use Rattle.sled_store.specs.Device.{NamesState, State}
 use Rattle.sled_core.specs.declared.iobuf.Reserved.{Reserved}
 use Rattle.sled_core.specs.declared.iobuf.SegmentPosition.{SegmentPosition}
 use Rattle.sled_core.specs.Fits.{log_parts}
-use Rattle.sled_core.specs.NextRecoverable.{LeavesRecoverable}
-use Rattle.sled_core.specs.NextRunning.{BlobsFit, FitsIn, NamesFit}
-use Rattle.sled_core.proofs.Next.Flush.FlushLemmas.{fault_or_none, holds-faulty}
+use Rattle.sled_core.specs.Recoverable.{LeavesRecoverable}
+use Rattle.sled_core.specs.Running.{BlobsFit, FitsIn, NamesFit}
+use Rattle.sled_core.proofs.Flush.FlushLemmas.{fault_or_none, holds-faulty}
 
 module _ (sum : List ℕ → ℕ) (size : ℕ) (site : SegmentPosition) (device : State) (fault : Option IoError) (bytes : List ℕ) (from : ℕ) (rs : List Reserved) (pins : ℕ) (H : History) (A f : ℕ) (U : List Message)
     (fits : FitsIn sum (log_parts size site device fault bytes from rs) pins H A f U) where

@@ -9,7 +9,7 @@ use Rattle.sled_store.specs.Foreign.{NoForeignLog}
 use Rattle.sled_store.proofs.Segments.FilledLemmas.{filled}
 use Rattle.sled_core.specs.Reached.{StandsActive}
 use Rattle.sled_core.specs.Recoverable.{NoHeaderOfZeros}
-use Rattle.sled_core.proofs.Next.Start.KeptActive.{Uses, active_left}
+use Rattle.sled_core.proofs.Start.KeptActive.{Uses, active_left}
 use Rattle.sled_core.proofs.Torn.FilledAlong.{unused_begin, used_apart}
 use Rattle.sled_core.proofs.Torn.FilledBehind.{filled_same}
 use Rattle.sled_core.proofs.Torn.FilledSlots.{IsFilling, others_same}

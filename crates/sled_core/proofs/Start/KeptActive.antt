@@ -10,8 +10,8 @@ use Rattle.sled_core.specs.declared.iterator.Segment.{Segment}
 use Rattle.sled_core.specs.Reached.{StandsTo, StandsAlone, StandsActive, GoesOnIn}
 use Rattle.sled_core.specs.Scan.{IsFoundSegment}
 use Rattle.sled_core.specs.Tail.{Scanned, IsScanned, least_place}
-use Rattle.sled_core.proofs.Next.Start.Entries.{message_used, active_used}
-use Rattle.sled_core.proofs.Next.Start.Recoverable.{same_place}
+use Rattle.sled_core.proofs.Start.Entries.{message_used, active_used}
+use Rattle.sled_core.proofs.Start.Recoverable.{same_place}
 use Rattle.sled_core.proofs.Reached.KeptStands.{SameInUsed, found_kept, scan_kept, kept_stands}
 use Rattle.sled_core.proofs.Reached.StartedStands.{slot_needed}
 use Rattle.sled_core.proofs.Tail.OneTail.{segment_there, reading_there}

@@ -10,10 +10,9 @@ use Rattle.sled_store.proofs.LogFile.LogLemmas.{at_rest_left}
 use Rattle.sled_store.proofs.Histories.Ascending.{apart_ascends}
 use Rattle.sled_store.proofs.Histories.EarlierEntries.{entry_earlier}
 use Rattle.sled_store.proofs.Histories.TableParts.{from_table}
-use Rattle.sled_core.specs.NextFits.{EndBelow}
-use Rattle.sled_core.specs.NextRecoverable.{Recoverable, LeavesRecoverable}
-use Rattle.sled_core.specs.NextRunning.{BlobsFit, NamesFit}
-use Rattle.sled_core.specs.Recoverable.{IsMarkBelow, IsSegmentOf, NoHeaderOfZeros, AreRecoverableSnapshots, AreRecoverableBlobs}
+use Rattle.sled_core.specs.Fits.{EndBelow}
+use Rattle.sled_core.specs.Recoverable.{Recoverable, LeavesRecoverable, IsMarkBelow, IsSegmentOf, NoHeaderOfZeros, AreRecoverableSnapshots, AreRecoverableBlobs}
+use Rattle.sled_core.specs.Running.{BlobsFit, NamesFit}
 use Rattle.sled_core.specs.Tail.{IsOrdering}
 use Rattle.sled_core.proofs.Reached.Recoverable.{reached_recoverable}
 use Rattle.sled_core.proofs.Reached.StandsTo.{StandsTo}

@@ -13,7 +13,7 @@ use Rattle.sled_store.proofs.Histories.TableParts.{from_table}
 use Rattle.sled_core.specs.declared.iterator.Segment.{Segment}
 use Rattle.sled_core.specs.Reached.{StandsActive}
 use Rattle.sled_core.specs.Recoverable.{LiesInSegment, IsSegmentOf}
-use Rattle.sled_core.proofs.Next.Start.Entries.{entry_message}
+use Rattle.sled_core.proofs.Start.Entries.{entry_message}
 use Rattle.sled_core.proofs.Reached.StartedStands.{found_inside, slot_needed}
 use Rattle.sled_core.proofs.Read.ScanLemmas.{aligned_offset}
 use Rattle.sled_core.proofs.Tail.Moved.{one_in_slot}

@@ -10,11 +10,11 @@ use Rattle.sled_store.proofs.Traces.ScriptLemmas.{performs_throughout}
 use Rattle.sled_core.specs.declared.iobuf.Reserved.{Reserved}
 use Rattle.sled_core.specs.declared.logger.Log.{Log}
 use Rattle.sled_core.specs.Fits.{NoneOpen, fault_of, device_of, segment_size_of, log_parts}
-use Rattle.sled_core.specs.NextRecoverable.{LeavesRecoverable}
-use Rattle.sled_core.specs.NextRunning.{FitsIn, Fits}
-use Rattle.sled_core.proofs.Next.Flush.Settled.{leaves_less}
-use Rattle.sled_core.proofs.Next.Flush.FlushCalls.{flush_along, fits_flushed}
-pub use Rattle.sled_core.proofs.Next.Flush.SameFits.{fits_answered, fits_faulty, fits_same_buffer, fits_same_device}
+use Rattle.sled_core.specs.Recoverable.{LeavesRecoverable}
+use Rattle.sled_core.specs.Running.{FitsIn, Fits}
+use Rattle.sled_core.proofs.Flush.Settled.{leaves_less}
+use Rattle.sled_core.proofs.Flush.FlushCalls.{flush_along, fits_flushed}
+pub use Rattle.sled_core.proofs.Flush.SameFits.{fits_answered, fits_faulty, fits_same_buffer, fits_same_device}
 
 -- A log whose device has not failed, with something to write.
 module _ {D C : Type 0} (trace : D → Trace) (sum : List ℕ → ℕ) (log : Log D C) (H : History) (A f : ℕ) (U : List Message) (fits : Fits trace sum log H A f U)

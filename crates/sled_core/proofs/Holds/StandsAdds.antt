@@ -13,17 +13,17 @@ use Rattle.sled_core.specs.declared.iterator.Segment.{Segment}
 use Rattle.sled_core.specs.declared.iterator.scan.ScannedRecord.{ScannedRecord}
 use Rattle.sled_core.specs.declared.iterator.scan.ScanEnd.TheVariants.{Capped, Broken}
 use Rattle.sled_core.specs.Reached.{StandsTo, StandsAlone, GoesOnIn}
-use Rattle.sled_core.specs.Recoverable.{NoHeaderOfZeros, NoMessageBegins, NoBatchBegins, StandsInline, IsOfHistory, IsSegmentOf, IsMarkOf, IsPlacedBatch, LiesInSegment}
+use Rattle.sled_core.specs.Recoverable.{NoHeaderOfZeros, NoMessageBegins, NoBatchBegins, StandsInline, IsOfHistory, IsSegmentOf, LiesInSegment}
 use Rattle.sled_core.specs.Scan.{IsFoundSegment, IsScan}
 use Rattle.sled_core.specs.Tail.{Scanned, IsScanned, least_place}
 use Rattle.sled_core.proofs.Read.FoundLemmas.{pos_injective}
 use Rattle.sled_core.proofs.Reached.Recoverable.{less_than}
 use Rattle.sled_core.proofs.Tail.OneTail.{scan_there, segment_there}
-use Rattle.sled_core.proofs.Tail.Rows.{path_stands, stand_in, stand_rises}
+use Rattle.sled_core.proofs.Tail.Rows.{path_stands, stand_in}
 use Rattle.sled_core.proofs.Tail.Tails.{one_reading}
 use Rattle.sled_core.proofs.Torn.WrittenBegun.{none_in_zeros}
-use Rattle.sled_core.proofs.Next.Holds.Added.{was_or_added, stays_there}
-use Rattle.sled_core.proofs.Next.Holds.BegunLemmas.{entry_stays}
+use Rattle.sled_core.proofs.Holds.Added.{was_or_added, stays_there}
+use Rattle.sled_core.proofs.Holds.BegunLemmas.{entry_stays}
 
 -- two headers that pass in one slot say one place
 pub one_place : (sum : List ℕ → ℕ) (size : ℕ) (log : List ℕ) (least : ℕ) (s t : Segment) → IsFoundSegment sum size log least s → IsFoundSegment sum size log least t → s.slot ≡ t.slot → s.place ≡ t.place
@@ -126,3 +126,16 @@ module _ (sum : List ℕ → ℕ) (size : ℕ) (log : List ℕ) (some : 256 ≤ 
     where
       not_both : Broken ≡ Capped → ⊥
       not_both same = cc
+
+-- And the current segment is still all that is found, and read to its written end.
+pub alone-adds : (sum : List ℕ → ℕ) (size : ℕ) (log : List ℕ) (site : SegmentPosition) (from : ℕ) (H H' : History) (first : SnapshotModel) → 256 ≤ size → NoHeaderOfZeros sum
+    → ((i : ℕ) → site.slot + from ≤ i → i < site.slot + size → get_or log i 0 ≡ 0) → (m : Message) → AddsMessage H m H' → site.place + from ≤ m.place → from + 32 ≤ size → LiesInSegment size m
+    → StandsAlone sum size log site from H first → StandsAlone sum size log site from H' first
+unfolding stands-adds
+alone-adds sum size log site from H H' first some none clean m adds above room lies alone =
+    let reach : ℕ = site.place + from in
+    record {
+      stands = stands-adds sum size log some H H' reach first reach alone.stands (alone_ends sum size log site from H first some none clean alone room) m adds above lies;
+      only = alone.only;
+      going = alone.going;
+    }

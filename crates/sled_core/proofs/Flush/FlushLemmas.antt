@@ -16,12 +16,11 @@ use Rattle.sled_store.specs.SnapshotFiles.{BeginsFrom}
 use Rattle.sled_core.specs.declared.iobuf.Reserved.{Reserved}
 use Rattle.sled_core.specs.declared.iobuf.SegmentPosition.{SegmentPosition}
 use Rattle.sled_core.specs.Buffers.{IsChain, completed_in, none_open, Stands}
-use Rattle.sled_core.specs.Fits.{log_parts}
-use Rattle.sled_core.specs.NextFits.{HoldsIn, IsOnDevice, IsBegunFrom, IsKept, EndBelow}
-use Rattle.sled_core.specs.NextLogFile.{IsLogFile}
+use Rattle.sled_core.specs.Fits.{log_parts, HoldsIn, IsOnDevice, IsBegunFrom, IsKept, EndBelow}
+use Rattle.sled_core.specs.LogFile.{IsLogFile}
 use Rattle.sled_core.proofs.Reserve.Ranges.{chain_grows}
-use Rattle.sled_core.proofs.Next.Flush.Completed.{all_below, all_apart, batches_to}
-use Rattle.sled_core.proofs.Next.Flush.WrittenFile.{file_written}
+use Rattle.sled_core.proofs.Flush.Completed.{all_below, all_apart, batches_to}
+use Rattle.sled_core.proofs.Flush.WrittenFile.{file_written}
 
 -- The snapshot is the same, and more of the log is settled.
 abbrev pub begun-more : (sum : List ℕ → ℕ) (size : ℕ) (snapshots snapshots' : ℤ → Option (List ℕ)) (site : SegmentPosition) (from from' : ℕ) (H : History) → snapshots' ≡ snapshots → from ≤ from'

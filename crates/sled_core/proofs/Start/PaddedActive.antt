@@ -14,12 +14,12 @@ use Rattle.sled_store.specs.Begin.{slots_of, is_used, unused, first_or}
 use Rattle.sled_store.proofs.Segments.Elements.{in_nothing}
 use Rattle.sled_store.proofs.Segments.FilledLemmas.{filled, filled_covered, filled_grows, filled_zero, free_below, free_has, first_there, begins_in}
 use Rattle.sled_core.specs.declared.iterator.Segment.{Segment}
-use Rattle.sled_core.specs.NextLogFile.{padded}
+use Rattle.sled_core.specs.LogFile.{padded}
 use Rattle.sled_core.specs.Reached.{StandsTo, StandsActive}
 use Rattle.sled_core.specs.Recoverable.{NoHeaderOfZeros, IsSegmentOf, StandsInline}
 use Rattle.sled_core.specs.Scan.{IsFoundSegment}
 use Rattle.sled_core.specs.Tail.{Scanned, least_place}
-use Rattle.sled_core.proofs.Next.Start.Entries.{entry_message, used_entry}
+use Rattle.sled_core.proofs.Start.Entries.{entry_message, used_entry}
 use Rattle.sled_core.proofs.Reached.KeptStands.{reached_kept, item_kept}
 use Rattle.sled_core.proofs.Reached.Reread.{stands_still}
 use Rattle.sled_core.proofs.Reached.StartedStands.{slot_needed}

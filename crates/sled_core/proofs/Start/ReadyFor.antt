@@ -3,11 +3,11 @@ use Rattle.std.proofs.Common.{◌≡◌, ◌≤◌, ℕ, List, refl, ap, subst}
 use Rattle.sled_codec.specs.History.{History}
 use Rattle.sled_codec.specs.Snapshots.{SnapshotModel, stable_place}
 use Rattle.sled_store.specs.Device.{LogState, State}
-use Rattle.sled_core.specs.NextReady.{IsReady}
-use Rattle.sled_core.specs.NextRunning.{BlobsFit, NamesFit, IsReadyFor}
+use Rattle.sled_core.specs.Ready.{IsReady}
+use Rattle.sled_core.specs.Running.{BlobsFit, NamesFit, IsReadyFor}
 use Rattle.sled_core.specs.Reached.{StandsTo, StandsActive}
 use Rattle.sled_core.specs.Recoverable.{ActiveFits}
-use Rattle.sled_core.proofs.Next.Start.Recoverable.{same_place, settled_leaves}
+use Rattle.sled_core.proofs.Start.Recoverable.{same_place, settled_leaves}
 
 pub ready_for : (sum : List ℕ → ℕ) (size : ℕ) (device : State) (s : SnapshotModel) (H : History) (A f : ℕ) → 256 ≤ size → (ready : IsReady sum size device s H) → StandsActive sum size device.log.bytes s H → ActiveFits size (stable_place s.stable) s.active
     → BlobsFit sum device.blobs H (stable_place s.stable) → NamesFit sum size device.snapshots H f ready.first → A ≤ stable_place s.stable → IsReadyFor sum size device s H A f

@@ -3,7 +3,7 @@ use Rattle.std.proofs.Common.{◌≡◌, ◌≤◌, ◌<◌, ◌+◌, ◌-◌, �
 use Rattle.std.proofs.lemmas.Bool.{cases_lt}
 use Rattle.std.proofs.lemmas.List.{append-nil, drop_all, get_or_past, length-replicate, replicate-append-replicate}
 use Rattle.sled_store.specs.Device.{overwritten}
-use Rattle.sled_core.specs.NextLogFile.{padded}
+use Rattle.sled_core.specs.LogFile.{padded}
 
 pub length-padded : (to : ℕ) (log : List ℕ) → length (padded to log) ≡ length log + (to - length log)
 length-padded to log = length-append log (replicate (to - length log) 0) ∙ ap (λ n. length log + n) (length-replicate {A = ℕ} (to - length log) 0)

@@ -11,12 +11,11 @@ use Rattle.sled_store.specs.Device.{State}
 use Rattle.sled_core.specs.declared.iobuf.Reserved.{Reserved}
 use Rattle.sled_core.specs.declared.iobuf.SegmentPosition.{SegmentPosition}
 use Rattle.sled_core.specs.Buffers.{body_in, message_in, IsChain, completed_in, completing, closed, Stands}
-use Rattle.sled_core.specs.Fits.{log_parts}
-use Rattle.sled_core.specs.NextFits.{HoldsIn}
+use Rattle.sled_core.specs.Fits.{log_parts, HoldsIn}
 use Rattle.sled_core.proofs.Reserve.Ranges.{part-written_before, length-written, completed-same, completed-append, completed_between, chain-split, chain-joined, chain_grows, chain_within, there_split, all_split, all_joined, at_there, there-set_other, chain_apart}
 use Rattle.sled_core.proofs.Reserve.CompletesLemmas.{changes_page, body_before, same_before, body_behind, same_behind, body_own, closed_stands, some_long}
 use Rattle.sled_core.proofs.Holds.HoldsLemmas.{completed_open}
-use Rattle.sled_core.proofs.Next.Holds.BegunLemmas.{begun-adds, device-adds}
+use Rattle.sled_core.proofs.Holds.BegunLemmas.{begun-adds, device-adds}
 
 module _ (sum : List ℕ → ℕ) (size : ℕ) (site : SegmentPosition) (device : State) (fault : Option IoError) (bytes : List ℕ) (from : ℕ) (xs ys : List Reserved) (r : Reserved) (H : History)
     (holds : HoldsIn sum (log_parts size site device fault bytes from (xs ++ r ∷ ys)) H) (is_open : r.is_open ≡ true) (behind : from ≤ length bytes) where

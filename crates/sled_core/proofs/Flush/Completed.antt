@@ -11,15 +11,14 @@ use Rattle.sled_store.proofs.Histories.Ascending.{Ascends, apart_ascends}
 use Rattle.sled_core.specs.declared.iobuf.Reserved.{Reserved}
 use Rattle.sled_core.specs.declared.iobuf.SegmentPosition.{SegmentPosition}
 use Rattle.sled_core.specs.Buffers.{IsChain, completed_in, message_in}
-use Rattle.sled_core.specs.Fits.{log_parts}
-use Rattle.sled_core.specs.NextFits.{HoldsIn, EndBelow, CloseBelow}
+use Rattle.sled_core.specs.Fits.{log_parts, HoldsIn, EndBelow, CloseBelow}
 use Rattle.sled_core.proofs.Reached.BufferPath.{HasOnly}
 use Rattle.sled_core.proofs.Reserve.Ranges.{chain_grows, completed_between}
 use Rattle.sled_core.proofs.Reserve.CompletesLemmas.{some_long}
-use Rattle.sled_core.proofs.Next.Flush.Settled.{InlineFrom}
+use Rattle.sled_core.proofs.Flush.Settled.{InlineFrom}
 
 -- messages that lie apart, and below others that do
-apart_both : (place : ℕ) (xs ys : List Message) → LieApart xs → LieApart ys → All (λ m. m.place + m.size ≤ place) xs → All (λ m. place ≤ m.place) ys → LieApart (xs ++ ys)
+pub apart_both : (place : ℕ) (xs ys : List Message) → LieApart xs → LieApart ys → All (λ m. m.place + m.size ≤ place) xs → All (λ m. place ≤ m.place) ys → LieApart (xs ++ ys)
 apart_both place [] ys first second below above = second
 apart_both place (x ∷ xs) ys first second below above =
     let here : x.place + x.size ≤ place = below 0 x (omega arith) in
@@ -27,7 +26,7 @@ apart_both place (x ∷ xs) ys first second below above =
     (first.0, All-append (λ n. x.place + x.size ≤ n.place) xs ys first.1 over, apart_both place xs ys first.2 second (All-tail (λ m. m.place + m.size ≤ place) x xs below) above)
 
 -- what is completed in a chain of reservations lies apart
-completed_apart : (site : SegmentPosition) (bytes : List ℕ) (from end : ℕ) (rs : List Reserved) → IsChain from rs end → All (λ r. 0 < r.len) rs → LieApart (completed_in site bytes rs)
+pub completed_apart : (site : SegmentPosition) (bytes : List ℕ) (from end : ℕ) (rs : List Reserved) → IsChain from rs end → All (λ r. 0 < r.len) rs → LieApart (completed_in site bytes rs)
 completed_apart site bytes from end [] is some = tt
 completed_apart site bytes from end (r ∷ rs) is some =
     let here : r.from ≡ from = is.0 in

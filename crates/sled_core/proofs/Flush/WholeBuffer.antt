@@ -15,12 +15,12 @@ use Rattle.sled_core.specs.declared.iterator.Segment.{Segment}
 use Rattle.sled_core.specs.declared.iterator.scan.ScannedRecord.{ScannedRecord}
 use Rattle.sled_core.specs.declared.iterator.scan.ScanEnd.TheVariants.{Full, Broken}
 use Rattle.sled_core.specs.Buffers.{IsChain, completed_in, none_open, Stands}
-use Rattle.sled_core.specs.NextLogFile.{HasHeader}
+use Rattle.sled_core.specs.LogFile.{HasHeader}
 use Rattle.sled_core.specs.Reached.{StandsAlone}
 use Rattle.sled_core.specs.Recoverable.{NoHeaderOfZeros}
 use Rattle.sled_core.specs.Scan.{IsFoundSegment, IsPath, IsScan}
 use Rattle.sled_core.specs.Tail.{Scanned, IsScanned, least_place}
-use Rattle.sled_core.proofs.Next.Flush.WrittenBuffer.{written_alone}
+use Rattle.sled_core.proofs.Flush.WrittenBuffer.{written_alone}
 use Rattle.sled_core.proofs.Reached.BufferPath.{HasOnly, buffer_path, buffer_end}
 use Rattle.sled_core.proofs.Reached.Higher.{known_in}
 use Rattle.sled_core.proofs.Reached.LeftBeside.{IsSameBeside}

@@ -13,10 +13,10 @@ use Rattle.sled_store.proofs.Segments.Elements.{in_nothing}
 use Rattle.sled_core.specs.declared.iobuf.Reserved.{Reserved}
 use Rattle.sled_core.specs.declared.iobuf.SegmentPosition.{SegmentPosition}
 use Rattle.sled_core.specs.Buffers.{IsChain, completed_in, none_open, Stands}
-use Rattle.sled_core.specs.LogFile.{StandIn}
-use Rattle.sled_core.specs.NextLogFile.{StandsHere, HasHeader, IsLogFile}
+use Rattle.sled_core.specs.LogFile.{StandsHere, HasHeader, IsLogFile}
+use Rattle.sled_core.proofs.Read.StandIn.{StandIn}
 use Rattle.sled_core.proofs.Flush.LogFileLemmas.{behind_write}
-use Rattle.sled_core.proofs.Next.Flush.LogFileLemmas.{here_below, each_here, here_kept, elsewhere_kept, header_kept}
+use Rattle.sled_core.proofs.Flush.LogFileKept.{here_below, each_here, here_kept, elsewhere_kept, header_kept}
 use Rattle.sled_core.proofs.Reached.BufferPath.{buffer_header, buffer_mark}
 use Rattle.sled_core.proofs.Reached.BufferStands.{written_part, written_stand}
 use Rattle.sled_core.proofs.Tail.GreatestMark.{mark_below}

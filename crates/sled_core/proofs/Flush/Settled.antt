@@ -10,9 +10,8 @@ use Rattle.sled_store.proofs.Histories.Ascending.{Ascends}
 use Rattle.sled_store.proofs.Histories.EarlierEntries.{entry_earlier}
 use Rattle.sled_store.proofs.LogFile.LogLemmas.{at_rest_left}
 use Rattle.sled_store.proofs.Segments.TableEntries.{from_table}
-use Rattle.sled_core.specs.Recoverable.{AreRecoverableSnapshots, AreRecoverableBlobs, HasItem, NoHeaderOfZeros}
-use Rattle.sled_core.specs.NextRecoverable.{Recoverable, LeavesRecoverable}
-use Rattle.sled_core.specs.NextRunning.{NamesFit, BlobsFit}
+use Rattle.sled_core.specs.Recoverable.{AreRecoverableSnapshots, AreRecoverableBlobs, HasItem, NoHeaderOfZeros, Recoverable, LeavesRecoverable}
+use Rattle.sled_core.specs.Running.{NamesFit, BlobsFit}
 use Rattle.sled_core.proofs.Reached.Recoverable.{reached_recoverable}
 use Rattle.sled_core.proofs.Reached.StandsTo.{StandsTo}
 

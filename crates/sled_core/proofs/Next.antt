@@ -1,3 +1,0 @@
-pub mod Flush
-pub mod Holds
-pub mod Start
