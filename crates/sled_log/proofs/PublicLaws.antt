@@ -1,4 +1,4 @@
--- What a crate above may rely on of histories and tables: a history of Replaces in the order of pages stays orderly, a message of a greater place is appended, a table has the last message of each page, and what can be recovered can be read back, now and by the next recovery.
+-- What a crate above may rely on of histories and tables: a history of Replaces in the order of pages stays orderly, a message of a greater place is appended, and a table has the last message of each page.
 use Rattle.std.proofs.Common.{⊎_elim, ◌≡◌, ◌∙◌, ◌<◌, ◌≤◌, ℕ, ◌&&◌, if◌then◌else◌, cond, nat_lt, List, [], ◌∷◌, ◌++◌, length, Option, Some, None, refl, sym, ap, subst, arith, pos}
 use Rattle.std.specs.List.{All, Contains}
 use Rattle.std.proofs.lemmas.List.{append-nil}
@@ -16,7 +16,6 @@ use Rattle.sled_store.proofs.Histories.TableParts.{in_page, page_ascends, has_pa
 pub use Rattle.sled_log.proofs.Sessions.RunHistories.{orderly, none_orderly, completed, forgotten, new_there}
 pub use Rattle.sled_log.proofs.PageTable.TableCuts.{table_below}
 pub use Rattle.sled_store.proofs.Histories.TableParts.{from_page, from_table}
-pub use Rattle.sled_log.proofs.WriteBack.RecoveryHolds.{read_of, read_on_of, read_on_again}
 
 -- A message behind all others is appended.
 pub appended : (H H' : History) (m : Message) → Step H (Completed m) H' → All (λ x. x.place < m.place) H.messages → (H'.messages ≡ H.messages ++ m ∷ []) × (H'.batches ≡ H.batches)

@@ -3,7 +3,6 @@ pub mod Convertible
 pub mod FileThere
 pub mod ReadToPlace
 pub mod RecoveredReady
-pub mod ShownActive
 pub mod SlotNamed
 pub mod WholeBelow
 pub mod ZerosStay

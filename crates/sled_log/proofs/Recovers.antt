@@ -7,6 +7,7 @@ pub mod PassCut
 pub mod PassTable
 pub mod PassedMessages
 pub mod PassedRows
+pub mod Readable
 pub mod RecoversGood
 pub mod ShownActive
 pub mod TailBegins

@@ -1,12 +1,6 @@
 pub mod BlobLemmas
-pub mod FirstConclusion
-pub mod FirstRecovers
 pub mod FirstSnapshot
-pub mod KeptRecovers
 pub mod LineLemmas
 pub mod LookLemmas
-pub mod OneSegment
-pub mod OnlySegment
 pub mod PassedLemmas
 pub mod RecoveryLemmas
-pub mod SegmentRecovers

@@ -1,12 +1,5 @@
-pub mod AfterRecovery
 pub mod ForgetLemmas
-pub mod MomentsLemmas
-pub mod ReadyAfter
-pub mod RecoveryHolds
 pub mod RecoveryLater
-pub mod RecoveryMoments
 pub mod RestartCauses
-pub mod RestartLemmas
-pub mod SegmentReady
 pub mod UsedSlot
 pub mod WriteLemmas

@@ -6,20 +6,24 @@ use Rattle.sled_codec.specs.declared.result.Error.TheVariants.{Io, OutOfMemory}
 use Rattle.sled_codec.specs.History.{Message, History}
 use Rattle.sled_store.specs.Answers.{is_fault}
 use Rattle.sled_store.specs.Blobs.{ItemAnswers}
-use Rattle.sled_store.specs.Device.{Event, Trace, state_of}
+use Rattle.sled_store.specs.Device.{Event, State, Trace, content_of, state_of}
 use Rattle.sled_store.specs.Script.{Performs, after_all}
 use Rattle.sled_core.specs.declared.logger.Log.{Log}
 use Rattle.sled_core.specs.Fits.{device_of, flushing, segment_size_of}
+use Rattle.sled_core.specs.Recoverable.{NoForeign}
 use Rattle.sled_core.specs.Running.{Fits}
+use Rattle.sled_log.specs.Orderly.{IsOrderly}
 use Rattle.sled_log.specs.Restores.{RecoveryCalls}
 
--- once what was reserved is written, the log file is no longer than a segment
-abbrev pub IsShort : {D C : Type 0} → (D → Trace) → Log D C → Type 0
-IsShort trace log = length (state_of (after_all (flushing log) (trace (device_of log)))).log.bytes ≤ segment_size_of log
+-- the device, once what was reserved is written
+abbrev pub flushed_state : {D C : Type 0} → (D → Trace) → Log D C → State
+flushed_state trace log = state_of (after_all (flushing log) (trace (device_of log)))
 
--- The log file lies in one segment, once what was reserved is written: it is no longer than that, or the log fits its history.
-abbrev pub LiesInSegment : {D C : Type 0} → (D → Trace) → (List ℕ → ℕ) → Log D C → History → Type 0
-LiesInSegment trace sum log H = IsShort trace log ⊎ ((A f : ℕ) × (U : List Message) × Fits trace sum log H A f U)
+-- A log fits an orderly history, and once what was reserved is written, only what the log itself wrote passes as its own in what is read.
+pub record CanRestart {D C : Type 0} (trace : D → Trace) (sum : List ℕ → ℕ) (log : Log D C) (H : History) (A f : ℕ) (U : List Message) : Type 0 where
+  pub fits : Fits trace sum log H A f U
+  pub orderly : IsOrderly H
+  pub own : NoForeign sum (segment_size_of log) (flushed_state trace log) (content_of (flushed_state trace log))
 
 -- a flush failed: for the failure that the log kept, for one of this call, which is counted, or for want of memory
 abbrev pub FlushFails : {T : Type 0} → Result T Error → Option IoError → ℕ → ℕ → Type 0

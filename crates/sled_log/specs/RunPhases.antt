@@ -163,12 +163,11 @@ pub record Continues {D C : Type 0} (trace : D → Trace) (phase next : Phase D 
   pub runs_on : RunsOn trace (running phase) (running next)
   pub can_go_on : CanGoOn next
 
--- A recovery has left this: a table of which each page has a message, with the segment in which a log goes on; and where its place lies in the segment, a log can be started on it.
+-- A recovery has left this: a table of which each page has a message, with the segment in which a log goes on, and on which a log can be started.
 pub record IsRecoveredAt {D C : Type 0} (trace : D → Trace) (sum : List ℕ → ℕ) (config : RunningConfig D C) (s : SnapshotModel) (k : Unstored) : Type 0 where
   pub closed : IsClosedAt sum config.config.segment_size (trace config.device) k
   pub active : ShowsActive config.config.segment_size (stable_place s.stable) s.active
-  pub ready : stable_place s.stable < config.config.segment_size
-      → Ready sum config.config.segment_size (state_of (trace config.device)) s k.history k.acknowledged k.floor
+  pub ready : Ready sum config.config.segment_size (state_of (trace config.device)) s k.history k.acknowledged k.floor
   pub begun : (page : ℕ) → page < length s.pages → HasMessageOf k.history.messages page
 
 -- a reply that shows this recovered table
@@ -183,7 +182,7 @@ log_shown size len s (reply.Opened t) = Some (started_on size len s)
 log_shown size len s _ = None
 
 abbrev pub SaysWhy : Reply → ℕ → ℕ → Type 0
-SaysWhy (reply.Recovered t (Some e)) before after = IsStartCause e before after
+SaysWhy (reply.Recovered t e) before after = IsStartCause e before after
 SaysWhy _ before after = Unit {0}
 
 -- What a start makes of a table that was recovered.

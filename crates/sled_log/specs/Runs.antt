@@ -77,15 +77,13 @@ pub record HasRecovered (sum : List ℕ → ℕ) (size : ℕ) (old new : DeviceV
 abbrev pub starting : ℕ → Trace → SnapshotModel → List Event
 starting size trace s = filling size (unused size (slots_of size (length (state_of trace).log.bytes)) s)
 
--- A log was started on what was recovered, where one can begin on that and a further segment is in reach; or the calls for it were made up to one that failed; or none where the segment is full, or where it is refused.
+-- A log was started on what was recovered, where one can begin on that and a further segment is in reach; or the calls for it were made up to one that failed; or none where it is refused.
 abbrev pub StartActs : ℕ → DeviceView → Reply → DeviceView → Type 0
 StartActs size old (reply.Opened s) new =
     IsStartable size (length_of old) (model_of s) × IsInReach size (length_of old) (model_of s)
     × (new.trace ≡ after_all (starting size old.trace (model_of s)) old.trace) × (new.failures ≡ old.failures)
-StartActs size old (reply.Recovered s None) new = (size ≤ stable_place s.stable_lsn) × (new ≡ old)
-StartActs size old (reply.Recovered s (Some e)) new =
-    (stable_place s.stable_lsn < size)
-    × StartRefuses e (IsStartable size (length_of old) (model_of s)) (IsInReach size (length_of old) (model_of s)) (new.trace ≡ old.trace) old.failures new.failures
+StartActs size old (reply.Recovered s e) new =
+    StartRefuses e (IsStartable size (length_of old) (model_of s)) (IsInReach size (length_of old) (model_of s)) (new.trace ≡ old.trace) old.failures new.failures
     × Performs (starting size old.trace (model_of s)) old.trace new.trace
 StartActs size old _ new = ⊥
 
@@ -151,8 +149,7 @@ pub record IsGoodFor (sum : List ℕ → ℕ) (size : ℕ) (a : RunState) (new :
 
 abbrev pub OpenStep : (List ℕ → ℕ) → ℕ → RunState → Reply → DeviceView → RunState → Type 0
 OpenStep sum size a (reply.Opened s) new b = IsGoodFor sum size a new (model_of s) × (b ≡ recovered a new (model_of s) (Some (started_on size (length_of new) (model_of s))))
-OpenStep sum size a (reply.Recovered s None) new b = IsGoodFor sum size a new (model_of s) × (b ≡ recovered a new (model_of s) None)
-OpenStep sum size a (reply.Recovered s (Some e)) new b =
+OpenStep sum size a (reply.Recovered s e) new b =
     IsGoodFor sum size a new (model_of s) × IsStartCause e a.device.failures new.failures × (b ≡ recovered a new (model_of s) None)
 OpenStep sum size a (reply.Failed e) new b = IsCause e a.device.failures new.failures × (b ≡ with_log a new None)
 OpenStep sum size a _ new b = ⊥

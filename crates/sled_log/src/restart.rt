@@ -7,17 +7,13 @@ ghost use Rattle.std.specs.List.{All};
 ghost use Rattle.sled_codec.specs.History.{History, Message};
 ghost use Rattle.sled_codec.specs.PageTables.{IsTable};
 ghost use Rattle.sled_codec.specs.Snapshots.{model_of, stable_place};
-ghost use Rattle.sled_codec.specs.WellFormed.{IsWellFormed};
-ghost use Rattle.sled_store.specs.Device.{state_of, content_of};
+ghost use Rattle.sled_store.specs.Device.{state_of};
 ghost use Rattle.sled_store.specs.Moments.{LeavesOnly};
-ghost use Rattle.sled_store.specs.Script.{after_all};
-ghost use Rattle.sled_core.specs.Fits.{Holds, NoneOpen, config_of, device_of, fault_of, flushing, segment_size_of};
+ghost use Rattle.sled_core.specs.Fits.{NoneOpen, config_of, device_of, fault_of, flushing, reserved_end, segment_size_of};
 ghost use Rattle.sled_core.specs.Keeps.{ConfigKept};
-ghost use Rattle.sled_core.specs.Ready.{IsReady};
-ghost use Rattle.sled_core.specs.Recoverable.{NoForeign, RecoverableIfOwn};
-ghost use Rattle.sled_core.specs.Running.{Fits};
-ghost use Rattle.sled_log.specs.Orderly.{IsOrderly};
-ghost use Rattle.sled_log.specs.Restarts.{LiesInSegment, Restarts};
+ghost use Rattle.sled_core.specs.Recoverable.{RecoverableIfOwn};
+ghost use Rattle.sled_core.specs.Running.{Ready};
+ghost use Rattle.sled_log.specs.Restarts.{CanRestart, Restarts};
 
 use crate::snapshot::{Snapshot, read_snapshot_or_default};
 use sled_codec::result::Result;
@@ -26,7 +22,7 @@ use sled_core::logger::Log;
 use sled_store::{Device, RunningConfig};
 
 /// Writes what a log holds, gives the log up, and recovers its device. Returns what the log ran on, and what was
-/// recovered. Where all of this succeeds, and the log file lies in one segment then, the table is that of all completed
+/// recovered. Where all of this succeeds, for a log that fits an orderly history, the table is that of all completed
 /// messages, its place lies past each of them, and `Log::start` on the snapshot gives a log that holds them again. No
 /// reservation may be open.
 ///
@@ -36,16 +32,15 @@ use sled_store::{Device, RunningConfig};
 /// comes back with each of them.
 pub fn restart<D: Device, C: Checksum>(log: Log<D, C>) -> (RunningConfig<D, C>, Result<Snapshot>)
     requires ended { NoneOpen log }
-    ensures table { (H : History) → Holds D.trace C.sum_of log H → IsWellFormed H → LiesInSegment D.trace C.sum_of log H
+    ensures table { (H : History) (A f : ℕ) (U : List Message) → CanRestart D.trace C.sum_of log H A f U
         → IfOk result.1 (λ s. IsTable (model_of s).pages H (stable_place s.stable_lsn)) }
-    ensures past { (H : History) → Holds D.trace C.sum_of log H → IsWellFormed H → LiesInSegment D.trace C.sum_of log H
+    ensures past { (H : History) (A f : ℕ) (U : List Message) → CanRestart D.trace C.sum_of log H A f U
         → IfOk result.1 (λ s. All (λ m. m.place + m.size ≤ stable_place s.stable_lsn) H.messages) }
-    ensures ready { (H : History) → Holds D.trace C.sum_of log H → IsWellFormed H → LiesInSegment D.trace C.sum_of log H
-        → IfOk result.1 (λ s. IsReady C.sum_of (segment_size_of log) (state_of (D.trace result.0.device)) (model_of s) H) }
+    ensures ready { (H : History) (A f : ℕ) (U : List Message) → CanRestart D.trace C.sum_of log H A f U
+        → IfOk result.1 (λ s. Ready C.sum_of (segment_size_of log) (state_of (D.trace result.0.device)) (model_of s) H (reserved_end log) (stable_place s.stable_lsn)) }
     ensures did { let old = device_of log in let new = result.0.device in
         Restarts C.sum_of (segment_size_of log) (flushing log) (fault_of log) result.1 (D.trace old) (D.trace new) (D.faults old) (D.faults new) }
-    ensures crash { (H : History) (A f : ℕ) (U : List Message) → Fits D.trace C.sum_of log H A f U → IsOrderly H
-        → let flushed = state_of (after_all (flushing log) (D.trace (device_of log))) in NoForeign C.sum_of (segment_size_of log) flushed (content_of flushed)
+    ensures crash { (H : History) (A f : ℕ) (U : List Message) → CanRestart D.trace C.sum_of log H A f U
         → LeavesOnly (RecoverableIfOwn C.sum_of (segment_size_of log) H A f) (D.trace (device_of log)) (D.trace result.0.device) }
     ensures kept { ConfigKept (config_of log) result.0 }
 {

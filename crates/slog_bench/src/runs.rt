@@ -104,10 +104,8 @@ fn push_reply(out: &mut Text, reply: &Reply) {
         Reply::Opened(s) => push_table(out, "opened ", s),
         Reply::Recovered(s, error) => {
             push_table(out, "recovered ", s);
-            if let Some(e) = error {
-                out.push(" ");
-                out.error(e);
-            }
+            out.push(" ");
+            out.error(error);
         }
         Reply::Reserved(place, at) => {
             out.push("reserved ");

@@ -5,8 +5,9 @@ use Rattle.std.proofs.lemmas.List.{take-replicate, drop-replicate, length-replic
 use Rattle.sled_codec.specs.declared.serialization.message.MessageHeader.{MessageHeader}
 use Rattle.sled_codec.specs.Places.{part}
 use Rattle.sled_codec.specs.Record.{IsHeader}
-use Rattle.sled_store.specs.Device.{LeavesLog}
+use Rattle.sled_store.specs.Device.{LeavesLog, overwritten}
 use Rattle.sled_store.specs.Foreign.{IsReached, Covers, NoForeignLog}
+use Rattle.sled_store.proofs.LogFile.OverwrittenLemmas.{overwritten-part}
 use Rattle.sled_core.specs.declared.iterator.scan.ScannedRecord.{ScannedRecord}
 use Rattle.sled_core.specs.Reading.{StandsAt}
 use Rattle.sled_core.specs.Recoverable.{NoHeaderOfZeros}
@@ -16,6 +17,20 @@ use Rattle.sled_core.proofs.Read.PathLemmas.{zeros_empty}
 use Rattle.sled_core.proofs.Torn.TornLemmas.{after_write, left_grows, part_left}
 use Rattle.sled_core.proofs.Torn.TornRecords.{long_enough}
 use Rattle.sled_core.proofs.Torn.WrittenParts.{twenty, all_there, in_this_file, comes_behind, header_where, record_where, path_stays as path_written}
+
+-- Zeros that were written are read.
+pub zeros_read : (bytes : List ℕ) (at n i : ℕ) → at ≤ i → i < at + n → get_or (overwritten bytes at (replicate n 0)) i 0 ≡ 0
+zeros_read bytes at n i from to =
+    let new : List ℕ = overwritten bytes at (replicate n 0) in
+    let here : at + (i - at) ≡ i = omega (arith, from) in
+    let within : i - at < n = omega (arith, from, to) in
+    let long : length (replicate {A = ℕ} n 0) ≡ n = length-replicate n 0 in
+    ap (λ k. get_or new k 0) (sym here)
+    ∙ sym (get_or-drop at new (i - at) 0)
+    ∙ sym (get_or-take n (drop at new) (i - at) 0 within)
+    ∙ ap (λ k. get_or (take k (drop at new)) (i - at) 0) (sym long)
+    ∙ ap (λ (l : List ℕ). get_or l (i - at) 0) (overwritten-part bytes at (replicate n 0))
+    ∙ get_or-replicate n (i - at) 0 0 within
 
 -- a part of zeros
 part_of_zeros : (count k n : ℕ) → k + n ≤ count → part (replicate count 0) k n ≡ replicate n 0

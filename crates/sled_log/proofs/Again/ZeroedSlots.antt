@@ -11,7 +11,7 @@ use Rattle.sled_store.proofs.Segments.Elements.{in_first, in_rest, in_cases, in_
 use Rattle.sled_core.specs.declared.iterator.Segment.{Segment}
 use Rattle.sled_core.specs.Scan.{IsFoundSegment, IsMisplaced, IsScan}
 use Rattle.sled_core.proofs.Read.FoundLemmas.{found_there}
-use Rattle.sled_core.proofs.Start.UsedLemmas.{zero_header}
+use Rattle.sled_core.proofs.Start.ZeroHeader.{zero_header}
 use Rattle.sled_log.specs.Recovery.{Scanned, IsScanned}
 use Rattle.sled_log.specs.WritesBack.{after_zeroing}
 use Rattle.sled_log.proofs.Moments.ZerosStand.{bytes_same, slot_beside, lay_before, end_same_there, path_there}

@@ -29,8 +29,8 @@ use Rattle.sled_log.proofs.Moments.SnapshotNames.{IsTableAt, synced_twice, settl
 use Rattle.sled_log.proofs.Moments.UnreadSlots.{free_left}
 use Rattle.sled_log.proofs.Moments.WritingAlong.{IsConcluded, writing_along, filling_along}
 use Rattle.sled_log.proofs.Recovers.RecoversGood.{RecoversWell, well_of}
-use Rattle.sled_log.proofs.WriteBack.AfterRecovery.{not_beyond}
-use Rattle.sled_log.proofs.WriteBack.RecoveryMoments.{removed_apart}
+use Rattle.sled_log.proofs.SnapshotFile.NewestLemmas.{not_beyond}
+use Rattle.sled_log.proofs.SnapshotFile.OtherLemmas.{removed_apart}
 
 -- What a recovery gives, where it begins from these parts of a content.
 module _ (sum : List ℕ → ℕ) (size : ℕ) (content : Content) (H : History) (A f : ℕ) (some : 256 ≤ size) (can : CanRead sum size content H A f) (x : RecoveryResult)

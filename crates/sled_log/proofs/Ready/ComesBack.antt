@@ -1,39 +1,39 @@
 -- What a recovery leaves for a log, said of its answer: over any content that can be read back, and of a log that was flushed, whose whole history it holds again.
-use Rattle.std.proofs.Common.{◌≡◌, ◌∙◌, ◌≤◌, ◌<◌, ◌+◌, ℕ, List, sym, ap, subst, arith}
+use Rattle.std.proofs.Common.{◌≤◌, ◌+◌, ℕ, List, sym, subst}
 use Rattle.sled_codec.specs.History.{Message, History, below}
 use Rattle.sled_codec.specs.Snapshots.{SnapshotModel, stable_place}
 use Rattle.sled_store.specs.Device.{State, Trace, state_of, content_of}
 use Rattle.sled_store.specs.Moments.{LeavesOnly}
 use Rattle.sled_store.proofs.Traces.MomentLemmas.{weaker}
 use Rattle.sled_core.specs.declared.iobuf.SegmentPosition.{SegmentPosition}
-use Rattle.sled_core.specs.declared.logger.Log.{Log}
 use Rattle.sled_core.specs.Fits.{synced_end, segment_size_of, device_of, EndBelow, CloseBelow, IsKept}
 use Rattle.sled_core.specs.Recoverable.{LeavesRecoverable, RecoverableIfOwn, NoForeign}
 use Rattle.sled_core.specs.Running.{Fits, Ready}
-use Rattle.sled_log.specs.Orderly.{IsOrderly, CanReadOn, LeavesReadable}
+use Rattle.sled_log.proofs.Recovers.Readable.{LeavesReadable}
+use Rattle.sled_log.specs.Orderly.{CanRecover}
 use Rattle.sled_log.specs.Restores.{BeginsAgain, RecoveryCalls, Restores}
 use Rattle.sled_log.proofs.Moments.RecoveryAlong.{recovery_throughout}
 use Rattle.sled_log.proofs.Ready.Convertible.{leaves_readable, leaves_recoverable}
 use Rattle.sled_log.proofs.Ready.RecoveredReady.{recovered_ready}
 use Rattle.sled_log.proofs.Ready.WholeBelow.{whole_below}
 
--- A device of which each content that a crash leaves can be recovered can be read back on, where what is read is the log's own.
-pub read_on_of : (sum : List ℕ → ℕ) (size : ℕ) (device : State) (H : History) (A f : ℕ) → IsOrderly H → LeavesRecoverable sum size H A f device → NoForeign sum size device (content_of device) → CanReadOn sum size device H A f
-read_on_of sum size device H A f orderly left own = record { left = leaves_readable sum size H A f device orderly left; own = own }
+module _ (sum : List ℕ → ℕ) (size : ℕ) (some : 256 ≤ size) (old : Trace) (H : History) (A f : ℕ) (can : CanRecover sum size (state_of old) H A f) (new : Trace) where
+  -- each content that a crash leaves can be read back
+  pub reads_back : LeavesReadable sum size H A f (state_of old)
+  reads_back = leaves_readable sum size H A f (state_of old) can.orderly can.left
 
-module _ (sum : List ℕ → ℕ) (size : ℕ) (some : 256 ≤ size) (old : Trace) (H : History) (A f : ℕ) (can : CanReadOn sum size (state_of old) H A f) (new : Trace) where
   -- At each moment of a recovery what a crash leaves can be recovered.
   pub holds_throughout : RecoveryCalls sum size old new → LeavesOnly (RecoverableIfOwn sum size H A f) old new
   holds_throughout calls =
       weaker (LeavesReadable sum size H A f) (LeavesRecoverable sum size H A f) (λ s kept. leaves_recoverable sum size H A f s kept) old new
-      (recovery_throughout sum size H A f some old can.left can.own new calls)
+      (recovery_throughout sum size H A f some old reads_back can.own new calls)
 
   module _ (s : SnapshotModel) (ok : Restores sum size old new s) where
     -- Behind it all is ready for a log that holds what lies below the cut.
     pub is_ready : Ready sum size (state_of new) s (below H (stable_place s.stable)) A (stable_place s.stable)
     is_ready =
         subst (λ (t : SnapshotModel). Ready sum size (state_of new) t (below H (stable_place t.stable)) A (stable_place t.stable)) (sym ok.model)
-        (recovered_ready sum size H A f some old can.left can.own ok.conclusion ok.recovers ok.fits new ok.done (subst (λ (t : SnapshotModel). BeginsAgain sum (state_of old).snapshots.file (state_of new) t) ok.model ok.newest))
+        (recovered_ready sum size H A f some old reads_back can.own ok.conclusion ok.recovers ok.fits new ok.done (subst (λ (t : SnapshotModel). BeginsAgain sum (state_of old).snapshots.file (state_of new) t) ok.model ok.newest))
 
     passes : A ≤ stable_place s.stable
     unfolding Ready
@@ -44,14 +44,6 @@ module _ (sum : List ℕ → ℕ) (size : ℕ) (some : 256 ≤ size) (old : Trac
     ready_whole messages batches = subst (λ (K : History). Ready sum size (state_of new) s K A (stable_place s.stable)) (whole_below H A (stable_place s.stable) messages batches passes) is_ready
 
 -- Behind a flush all of a history is on the device: a recovery of that leaves what a log goes on from that holds the whole history.
-pub ready_kept : (sum : List ℕ → ℕ) (size : ℕ) (site : SegmentPosition) (from : ℕ) (old new : Trace) (H : History) (f : ℕ) → IsKept sum size site from (state_of old) H → IsOrderly H → 256 ≤ size
-    → LeavesRecoverable sum size H (site.place + from) f (state_of old) → NoForeign sum size (state_of old) (content_of (state_of old))
+pub ready_kept : (sum : List ℕ → ℕ) (size : ℕ) (site : SegmentPosition) (from : ℕ) (old new : Trace) (H : History) (f : ℕ) → 256 ≤ size → IsKept sum size site from (state_of old) H → CanRecover sum size (state_of old) H (site.place + from) f
     → (s : SnapshotModel) → Restores sum size old new s → Ready sum size (state_of new) s H (site.place + from) (stable_place s.stable)
-ready_kept sum size site from old new H f kept orderly some left own s ok =
-    ready_whole sum size some old H (site.place + from) f (read_on_of sum size (state_of old) H (site.place + from) f orderly left own) new s ok kept.below kept.batches
-
--- Of a log that fits a history what a crash leaves can be recovered, with all that is written counted as acknowledged.
-pub fits_left : {D C : Type 0} (trace : D → Trace) (sum : List ℕ → ℕ) (log : Log D C) (H : History) (A f : ℕ) (U : List Message) → Fits trace sum log H A f U
-    → LeavesRecoverable sum (segment_size_of log) H (synced_end log) f (state_of (trace (device_of log)))
-unfolding Fits
-fits_left trace sum log H A f U fits = fits.left
+ready_kept sum size site from old new H f some kept can s ok = ready_whole sum size some old H (site.place + from) f can new s ok kept.below kept.batches

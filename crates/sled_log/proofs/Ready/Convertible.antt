@@ -3,7 +3,8 @@ use Rattle.std.proofs.Common.{ℕ, List}
 use Rattle.sled_codec.specs.History.{History}
 use Rattle.sled_store.specs.Device.{Content, State}
 use Rattle.sled_core.specs.Recoverable.{Recoverable, LeavesRecoverable}
-use Rattle.sled_log.specs.Orderly.{IsOrderly, CanRead, LeavesReadable}
+use Rattle.sled_log.proofs.Recovers.Readable.{CanRead, LeavesReadable}
+use Rattle.sled_log.specs.Orderly.{IsOrderly}
 
 module _ (sum : List ℕ → ℕ) (size : ℕ) where
   -- A content that can be recovered can be read back.

@@ -1,7 +1,6 @@
 -- The log file that a recovery leaves has what a log needs of it that goes on from the snapshot: the messages of the active segment up to the cut, behind its header, with zeros behind them, and the records of all entries, in slots that the snapshot uses.
 use Rattle.std.proofs.Common.{◌≡◌, ◌∙◌, ◌+◌, ◌-◌, ◌*◌, ◌/◌, ◌%◌, ◌<◌, ◌≤◌, ℕ, pos, List, Option, Some, None, get_or, refl, sym, ap, subst, arith, inl, inr}
 use Rattle.std.specs.List.{Contains}
-use Rattle.std.proofs.lemmas.Bool.{cases_lt}
 use Rattle.sled_codec.specs.declared.result.DiskPtr.{DiskPtr}
 use Rattle.sled_codec.specs.declared.result.DiskPtr.TheVariants.{Inline}
 use Rattle.sled_codec.specs.Pointers.{lid_of}
@@ -13,7 +12,6 @@ use Rattle.sled_codec.specs.Snapshots.{SnapshotModel, stable_place}
 use Rattle.sled_store.specs.Begin.{is_used}
 use Rattle.sled_store.proofs.Histories.Ascending.{Ascends}
 use Rattle.sled_core.specs.declared.iterator.Segment.{Segment}
-use Rattle.sled_core.specs.declared.iterator.scan.ScannedRecord.{ScannedRecord}
 use Rattle.sled_core.specs.LogFile.{HasHeader, StandsHere}
 use Rattle.sled_core.specs.Ready.{StandsUsed, HaveRecords, HasActive, HasNoActive, HasFile, active_site}
 use Rattle.sled_core.specs.Recoverable.{ActiveFits, StandsInline, IsReachedIn, IsRecoverableLog}

@@ -1,7 +1,7 @@
 -- The log file that a recovery leaves is read up to the cut under a snapshot with that place and its slot: no other segment is found from there on, and a write goes on where reading ends.
-use Rattle.std.proofs.Common.{⊎_elim, ◌≡◌, ◌⊎◌, ◌∙◌, ◌+◌, ◌-◌, ◌*◌, ◌/◌, ◌%◌, ◌<◌, ◌≤◌, ℕ, List, Option, Some, None, refl, sym, ap, subst, arith, inl, inr}
+use Rattle.std.proofs.Common.{◌≡◌, ◌⊎◌, ◌∙◌, ◌*◌, ◌/◌, ◌%◌, ◌<◌, ◌≤◌, ℕ, List, Option, Some, None, sym, ap, subst, arith, inl, inr}
 use Rattle.std.specs.List.{Contains}
-use Rattle.sled_codec.specs.History.{Message, Batch, History, CutFits, below}
+use Rattle.sled_codec.specs.History.{Message, Batch, History, CutFits}
 use Rattle.sled_codec.specs.Snapshots.{SnapshotModel, stable_place}
 use Rattle.sled_core.specs.declared.iterator.Segment.{Segment}
 use Rattle.sled_core.specs.Reached.{GoesOnIn, StandsActive}
@@ -11,7 +11,7 @@ use Rattle.sled_core.specs.Tail.{Scanned, least_place}
 use Rattle.sled_core.proofs.Reached.StandsTo.{StandsTo}
 use Rattle.sled_core.proofs.Tail.Multiples.{put_down}
 use Rattle.sled_core.proofs.Tail.OneTail.{rises_of, one_at_place, segment_there, reading_there}
-use Rattle.sled_log.proofs.Afterwards.EndsBelow.{in_segment, recoverable_below}
+use Rattle.sled_log.proofs.Afterwards.EndsBelow.{in_segment}
 use Rattle.sled_log.proofs.Moments.FromCut.{EndsAtCut}
 use Rattle.sled_log.proofs.Moments.UnreadSlots.{StopsAtCut, StopsIn}
 use Rattle.sled_log.proofs.Reached.AtCut.{stands_at_cut, reads_at_cut}

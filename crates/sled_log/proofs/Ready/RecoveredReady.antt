@@ -1,19 +1,19 @@
 -- Behind a recovery, over any number of segments, snapshot and device are ready for a log that holds what lies below the cut, with the cut for the floor.
-use Rattle.std.proofs.Common.{◌≡◌, ◌∙◌, ◌≤◌, ◌<◌, ◌+◌, ℕ, true, false, List, ◌∷◌, Option, sym, ap, subst}
+use Rattle.std.proofs.Common.{◌≡◌, ◌∙◌, ◌≤◌, ◌<◌, ◌+◌, ℕ, true, false, List, ◌∷◌, sym, ap, subst}
 use Rattle.std.specs.Bool.{MatchBool}
 use Rattle.std.specs.List.{Contains}
 use Rattle.sled_codec.specs.History.{Message, Batch, History, CutFits, below}
 use Rattle.sled_codec.specs.PageTables.{IsTable}
 use Rattle.sled_codec.specs.Snapshots.{SnapshotModel, stable_place}
-use Rattle.sled_store.specs.Device.{Synced, NamesSynced, LogState, State, Content, Trace, state_of, content_of, at_rest}
+use Rattle.sled_store.specs.Device.{Synced, NamesSynced, LogState, State, Content, Trace, state_of, content_of}
 use Rattle.sled_store.specs.SnapshotFiles.{BeginsFrom}
-use Rattle.sled_store.proofs.Histories.Ascending.{Ascends, apart_ascends, all_from_in}
+use Rattle.sled_store.proofs.Histories.Ascending.{apart_ascends, all_from_in}
 use Rattle.sled_core.specs.Fits.{EndBelow, CloseBelow}
 use Rattle.sled_core.specs.Ready.{HasFile, IsReady}
 use Rattle.sled_core.specs.Running.{BlobsFit, NamesFit, IsReadyFor, Ready}
 use Rattle.sled_core.specs.Reached.{StandsActive}
 use Rattle.sled_core.specs.Recoverable.{NoForeign, NoHeaderOfZeros, IsRecoverableLog, AreRecoverableSnapshots}
-use Rattle.sled_log.specs.Orderly.{CanRead, CanReadOn, LeavesReadable}
+use Rattle.sled_log.proofs.Recovers.Readable.{CanRead, LeavesReadable}
 use Rattle.sled_log.specs.Recovery.{RecoveryResult, Recovered, Recovers}
 use Rattle.sled_log.specs.Restores.{BeginsAgain}
 use Rattle.sled_log.specs.WritesBack.{FitsIfNew, HasWrittenBack, IsWrittenBack, IsOnlySnapshot, short_file, snapshot_number_of}

@@ -1,14 +1,22 @@
 -- A table uses the slot of each of its entries.
-use Rattle.std.proofs.Common.{⊎_elim, ◌≡◌, ◌∙◌, ◌||◌, ◌==◌, ◌/◌, ◌&&◌, ℕ, pos, Bool, true, false, nat_lt, if◌then◌else◌, List, [], ◌∷◌, map, Option, Some, None, ap, subst, eq-eqb, refl}
+use Rattle.std.proofs.Common.{⊎_elim, ◌≡◌, ◌∙◌, ◌||◌, ◌==◌, ◌/◌, ◌&&◌, ℕ, zero, suc, pos, Bool, true, false, nat_lt, if◌then◌else◌, List, [], ◌∷◌, map, get_or, Option, Some, None, ap, eq-eqb, refl}
 use Rattle.std.specs.List.{Contains, list_any, filter}
 use Rattle.std.proofs.Math.Bool.{or-true}
+use Rattle.std.proofs.lemmas.List.Folds.{list_any-append}
 use Rattle.sled_codec.specs.Pointers.{lid_of}
 use Rattle.sled_codec.specs.History.{Message, History, table, of_page, page_state, last_beginning, entries_from, is_replace, is_link}
 use Rattle.sled_codec.specs.PageTables.{entry_of, page_with, IsTable}
-use Rattle.sled_codec.specs.Snapshots.{Entry, Page, Present, Free, SnapshotModel}
+use Rattle.sled_codec.specs.Snapshots.{Entry, Page, Present, Free, Uninitialized, SnapshotModel}
 use Rattle.sled_store.specs.Begin.{entries_in, entries_of, slot_of, is_active, is_used}
 use Rattle.sled_store.proofs.Segments.Elements.{in_cases, in_nothing}
-use Rattle.sled_log.proofs.WriteBack.UsedSlot.{any_page}
+
+module _ (test : Entry → Bool) where
+  -- an entry that passes is found in the page that has it
+  pub any_page : (pages : List Page) (p : ℕ) → list_any test (entries_in (get_or pages p Uninitialized)) ≡ true → list_any test (entries_of pages) ≡ true
+  any_page [] p is = cc
+  any_page (page ∷ pages) zero is = list_any-append test (entries_in page) (entries_of pages) ∙ ap (λ (b : Bool). b || list_any test (entries_of pages)) is
+  any_page (page ∷ pages) (suc p) is =
+      list_any-append test (entries_in page) (entries_of pages) ∙ ap (λ (b : Bool). list_any test (entries_in page) || b) (any_page pages p is) ∙ or-true (list_any test (entries_in page))
 
 module _ (size : ℕ) (m : Message) where
   -- an entry lies in the slot of a message

@@ -2,7 +2,7 @@
 use Rattle.std.proofs.Common.{◌≡◌, ◌∙◌, ◌≤◌, ◌<◌, ◌+◌, ℕ, Bool, true, cond, nat_lt, List, [], ◌∷◌, refl, ap, arith, lt-ltb}
 use Rattle.std.specs.List.{All, filter}
 use Rattle.std.proofs.lemmas.List.Elements.{All-tail, All-weaker}
-use Rattle.sled_codec.specs.History.{Message, Batch, History, below}
+use Rattle.sled_codec.specs.History.{History, below}
 use Rattle.sled_core.specs.Fits.{EndBelow, CloseBelow}
 
 -- a filter keeps a list of which all passes

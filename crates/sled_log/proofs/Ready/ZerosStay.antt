@@ -1,5 +1,5 @@
 -- Behind the cut the slot of the active segment has zeros, and keeps them while slots that were not read are filled.
-use Rattle.std.proofs.Common.{◌≡◌, ◌∙◌, ◌+◌, ◌-◌, ◌%◌, ◌<◌, ◌≤◌, ℕ, zero, suc, List, [], ◌∷◌, length, replicate, get_or, Option, Some, refl, sym, subst, arith, inl, inr}
+use Rattle.std.proofs.Common.{◌≡◌, ◌∙◌, ◌+◌, ◌-◌, ◌%◌, ◌<◌, ◌≤◌, ℕ, zero, suc, List, [], ◌∷◌, length, replicate, get_or, Option, Some, sym, subst, arith, inl, inr}
 use Rattle.std.proofs.lemmas.Bool.{cases_lt}
 use Rattle.std.proofs.lemmas.List.{length-replicate}
 use Rattle.sled_codec.specs.History.{History}
@@ -7,8 +7,8 @@ use Rattle.sled_store.specs.Device.{Content, at_rest, overwritten, end_of}
 use Rattle.sled_store.proofs.LogFile.OverwrittenLemmas.{overwritten-below, overwritten-above}
 use Rattle.sled_store.proofs.Segments.Elements.{in_first, in_rest}
 use Rattle.sled_core.specs.Recoverable.{NoHeaderOfZeros}
-use Rattle.sled_core.proofs.Torn.TornZeros.{zeros_read}
-use Rattle.sled_log.specs.Orderly.{CanRead}
+use Rattle.sled_core.proofs.Torn.ZeroedSlots.{zeros_read}
+use Rattle.sled_log.proofs.Recovers.Readable.{CanRead}
 use Rattle.sled_log.specs.Recovery.{RecoveryResult, shred_range_of}
 use Rattle.sled_log.specs.WritesBack.{after_shredding, after_zeroing}
 use Rattle.sled_log.proofs.Afterwards.LeftGood.{left_log, fits, free}

@@ -1,5 +1,5 @@
 -- What a recovery reads, in its parts: recoverable, with one cut, for an orderly history.
-use Rattle.std.specs.Prelude.{◌×◌, ℕ, List, Option}
+use Rattle.std.specs.Prelude.{ℕ, List, Option}
 use Rattle.sled_codec.specs.History.{History}
 use Rattle.sled_codec.specs.Snapshots.{SnapshotModel}
 use Rattle.sled_store.specs.Device.{Content, State}

@@ -30,7 +30,7 @@ use Rattle.sled_store.specs.Causes.{StartRefuses}
 use Rattle.sled_core.specs.Fits.{config_of, device_of, segment_size_of}
 use Rattle.sled_core.specs.Recoverable.{NoForeign, Recoverable, LeavesRecoverable}
 use Rattle.sled_core.proofs.Start.FreshReady.{fresh_leaves}
-use Rattle.sled_core.proofs.Holds.ReachLemmas.{fits_leaves}
+use Rattle.sled_core.proofs.Holds.RunningLemmas.{fits_leaves}
 use Rattle.sled_log.specs.declared.session.command.Command.{Command}
 use Rattle.sled_log.specs.declared.session.command.Command.TheVariants as command
 use Rattle.sled_log.specs.declared.session.step.Opened.{Opened}
@@ -227,10 +227,7 @@ pub open_step : (sum : List ℕ → ℕ) (size : ℕ) (device new : DeviceView) 
 open_step sum size device new H A f s (reply.Opened t) b shows good why is =
     let a : RunState = record { device = device; history = H; acknowledged = A; floor = f; log = None } in
     (subst (λ (x : SnapshotModel). IsGoodFor sum size a new x) (sym shows) good, subst (λ (x : SnapshotModel). b ≡ recovered a new x (Some (started_on size (length_of new) x))) (sym shows) is)
-open_step sum size device new H A f s (reply.Recovered t None) b shows good why is =
-    let a : RunState = record { device = device; history = H; acknowledged = A; floor = f; log = None } in
-    (subst (λ (x : SnapshotModel). IsGoodFor sum size a new x) (sym shows) good, subst (λ (x : SnapshotModel). b ≡ recovered a new x None) (sym shows) is)
-open_step sum size device new H A f s (reply.Recovered t (Some e)) b shows good why is =
+open_step sum size device new H A f s (reply.Recovered t e) b shows good why is =
     let a : RunState = record { device = device; history = H; acknowledged = A; floor = f; log = None } in
     (subst (λ (x : SnapshotModel). IsGoodFor sum size a new x) (sym shows) good, why, subst (λ (x : SnapshotModel). b ≡ recovered a new x None) (sym shows) is)
 open_step sum size device new H A f s _ b shows good why is = absurd shows

@@ -167,7 +167,6 @@ start_good sum size old new s (reply.Opened t) shows acts H A f good =
     filled (performs_whole (starting size old.trace (model_of t)) old.trace new.trace acts.2) where
       filled : Performs (starting size old.trace (model_of t)) old.trace new.trace → IsGood sum size (content_of (state_of new.trace)) H A f s
       filled calls = good_filled sum size s (slots_of size (length_of old)) old.trace new.trace (subst (λ (x : SnapshotModel). Performs (starting size old.trace x) old.trace new.trace) shows calls) H A f good
-start_good sum size old new s (reply.Recovered t None) shows acts H A f good = subst (λ (d : DeviceView). IsGood sum size (content_of (state_of d.trace)) H A f s) (sym acts.1) good
-start_good sum size old new s (reply.Recovered t (Some e)) shows acts H A f good =
-    good_filled sum size s (slots_of size (length_of old)) old.trace new.trace (subst (λ (x : SnapshotModel). Performs (starting size old.trace x) old.trace new.trace) shows acts.2) H A f good
+start_good sum size old new s (reply.Recovered t e) shows acts H A f good =
+    good_filled sum size s (slots_of size (length_of old)) old.trace new.trace (subst (λ (x : SnapshotModel). Performs (starting size old.trace x) old.trace new.trace) shows acts.1) H A f good
 start_good sum size old new s _ shows acts H A f good = absurd shows

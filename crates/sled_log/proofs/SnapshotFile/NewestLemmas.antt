@@ -62,6 +62,12 @@ chosen_well false true c made x is = absurd (cc)
 chosen_well false false false made x is = absurd (cc)
 chosen_well false false true made x is = (refl, cc)
 
+-- a cut that isn't beyond a place isn't above it
+pub not_beyond : (stable : Option ℤ) (cut : ℕ) → is_beyond stable cut ≡ false → cut ≤ stable_place stable
+not_beyond None cut is = absurd (cc)
+not_beyond (Some (negsuc n)) cut is = absurd (cc)
+not_beyond (Some (pos n)) cut is = grind (arith, nat_tests, is)
+
 -- a cut that does not lie above a place and not below it is at it
 at_place : (stable : Option ℤ) (cut : ℕ) → is_beyond stable cut ≡ false → nat_lt cut (stable_place stable) ≡ false → (stable ≡ Some (pos cut)) × (stable_place stable ≡ cut)
 at_place None cut beyond low = absurd (cc)

@@ -1,5 +1,5 @@
 -- The snapshots but the one that is kept, and what their removal leaves under each number.
-use Rattle.std.proofs.Common.{◌≡◌, ◌≢◌, ◌∙◌, ◌&&◌, ◌⊎◌, ◌↔◌, ℕ, ℤ, zero, suc, Bool, true, false, not, is_some, if◌then◌else◌, List, [], ◌∷◌, get_or, Option, Some, None, IsSome, refl, sym, ap, subst, inl, inr, arith}
+use Rattle.std.proofs.Common.{◌≡◌, ◌≢◌, ◌∙◌, ◌&&◌, ◌⊎◌, ◌↔◌, ℕ, ℤ, zero, suc, Bool, true, false, not, is_some, if◌then◌else◌, List, [], ◌∷◌, get_or, Option, Some, None, IsSome, length, refl, sym, ap, subst, inl, inr, arith}
 use Rattle.std.specs.Ordering.{int_eq, int_cmp}
 use Rattle.std.specs.Cmp.{signed_Decides}
 use Rattle.std.specs.List.{Contains}
@@ -8,7 +8,7 @@ use Rattle.std.proofs.lemmas.List.Elements.{filter_passes}
 use Rattle.std.proofs.lemmas.List.Kept.{IsStrictlySortedBy-filter}
 use Rattle.sled_store.specs.Device.{Trace, SnapshotRemoved, NamesState, state_of, unnamed, renamed}
 use Rattle.sled_store.specs.Script.{after_all}
-use Rattle.sled_log.specs.WritesBack.{removing, others, is_other, AreOthers}
+use Rattle.sled_log.specs.WritesBack.{removing, others, is_other, AreOthers, MayBeRemoved}
 
 -- Elements of a list.
 
@@ -188,3 +188,8 @@ one_other kept n other = ap (λ (b : Bool). if b then n ∷ [] else []) (other_p
 
 pub one_kept : (kept n : ℤ) → n ≡ kept → others kept (n ∷ []) ≡ []
 one_kept kept n same = ap (λ (b : Bool). if b then n ∷ [] else []) (kept_fails kept n same)
+
+-- what may be removed is not the one that is kept
+pub removed_apart : (file : ℤ → Option (List ℕ)) (kept : ℤ) (ns : List ℤ) → MayBeRemoved file kept ns → (n : ℤ) → Contains ns n → n ≢ kept
+removed_apart file kept ns (inl none) n there = let short : length ns ≡ 0 = ap length none in absurd (omega (arith, there.1, short))
+removed_apart file kept ns (inr are) n there = ((are.each n).0 there).1

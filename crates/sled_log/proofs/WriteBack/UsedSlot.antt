@@ -1,26 +1,17 @@
 -- Where all messages of a history lie in the first slot of a file, the table of it uses that slot.
-use Rattle.std.proofs.Common.{◌≡◌, ◌∙◌, ◌||◌, ◌==◌, ◌/◌, ◌<◌, ℕ, zero, suc, pos, Bool, true, false, if◌then◌else◌, List, [], ◌∷◌, map, get_or, Option, Some, None, refl, ap, inl, inr}
+use Rattle.std.proofs.Common.{◌≡◌, ◌∙◌, ◌||◌, ◌==◌, ◌/◌, ◌<◌, ℕ, pos, Bool, true, false, if◌then◌else◌, List, ◌∷◌, map, Option, Some, None, refl, ap, inl, inr}
 use Rattle.std.specs.List.{All, Contains, list_any}
-use Rattle.std.proofs.Math.Bool.{or-true}
-use Rattle.std.proofs.lemmas.List.Folds.{list_any-append}
 use Rattle.std.proofs.lemmas.List.Elements.{All-contains}
 use Rattle.sled_codec.specs.Pointers.{lid_of}
 use Rattle.sled_codec.specs.History.{Message, History, HasPage, table, of_page, page_state, last_beginning, entries_from, is_replace, begins_page}
 use Rattle.sled_codec.specs.PageTables.{entry_of, page_with, IsTable}
-use Rattle.sled_codec.specs.Snapshots.{Entry, Page, Present, Free, Uninitialized}
+use Rattle.sled_codec.specs.Snapshots.{Page, Present, Free}
 use Rattle.sled_codec.specs.WellFormed.{IsWellFormed}
 use Rattle.sled_store.specs.Begin.{entries_in, entries_of, slot_of}
 use Rattle.sled_store.proofs.Histories.Ascending.{Ascends, apart_ascends}
 use Rattle.sled_store.proofs.Histories.PageStates.{none_begins, begins_false, last_found}
+use Rattle.sled_log.proofs.Ready.SlotNamed.{any_page}
 use Rattle.sled_store.proofs.Histories.TableParts.{split_at, from_page, page_ascends, has_page, replaced_before}
-
-module _ (test : Entry → Bool) where
-  -- an entry that passes is found in the page that has it
-  pub any_page : (pages : List Page) (p : ℕ) → list_any test (entries_in (get_or pages p Uninitialized)) ≡ true → list_any test (entries_of pages) ≡ true
-  any_page [] p is = cc
-  any_page (page ∷ pages) zero is = list_any-append test (entries_in page) (entries_of pages) ∙ ap (λ (b : Bool). b || list_any test (entries_of pages)) is
-  any_page (page ∷ pages) (suc p) is =
-      list_any-append test (entries_in page) (entries_of pages) ∙ ap (λ (b : Bool). list_any test (entries_in page) || b) (any_page pages p is) ∙ or-true (list_any test (entries_in page))
 
 -- the page of a message has an entry with its pointer
 of_base : (size : ℕ) (b : Message) (ms : List Message) → lid_of b.pointer / size ≡ 0 → list_any (λ e. slot_of size e == 0) (entries_in (page_with (b ∷ ms))) ≡ true

@@ -30,9 +30,8 @@ pub enum Command {
 pub enum Reply {
     /// This was recovered, and a log is open on it.
     Opened(Snapshot),
-    /// This was recovered, and no log is open: the segment is full, or the log could not be started for this
-    /// error.
-    Recovered(Snapshot, Option<Error>),
+    /// This was recovered, and no log is open: none could be started for this error.
+    Recovered(Snapshot, Error),
     /// A place is kept for the message, with this pointer.
     Reserved(Lsn, DiskPtr),
     /// The message of this place was completed.

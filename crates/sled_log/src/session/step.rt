@@ -121,7 +121,7 @@ fn open<D: CrashDevice, C: Checksum>(config: RunningConfig<D, C>) -> (Phase<D, C
     }
 }
 
-/// Opens a log on what was recovered, where that doesn't fill the segment.
+/// Opens a log on what was recovered.
 fn start<D: CrashDevice, C: Checksum>(
     config: RunningConfig<D, C>,
     snapshot: Snapshot,
@@ -132,9 +132,6 @@ fn start<D: CrashDevice, C: Checksum>(
     ensures starts { Starts (view_by D.trace D.faults D.is_stopped D.stops_in) C.sum_of config (model_of snapshot) result }
     ensures on { Continues D.trace (Phase.Closed config) result.0 }
 {
-    if snapshot.stable_place() >= config.config.segment_size {
-        return (Phase::Closed(config), Reply::Recovered(snapshot, None));
-    }
     match Log::start(config, &snapshot) {
         Ok(log) => {
             let mut log = log;
@@ -145,7 +142,7 @@ fn start<D: CrashDevice, C: Checksum>(
                 Reply::Opened(snapshot),
             )
         }
-        Err((e, config)) => (Phase::Closed(config), Reply::Recovered(snapshot, Some(e))),
+        Err((e, config)) => (Phase::Closed(config), Reply::Recovered(snapshot, e)),
     }
 }
 

@@ -1,60 +1,66 @@
-use Rattle.std.proofs.Common.{◌≡◌, ◌∙◌, ◌≤◌, ◌+◌, ℕ, length, sym, ap, subst, inl, inr}
+use Rattle.std.proofs.Common.{◌≡◌, ◌∙◌, ◌≤◌, ◌+◌, ℕ, sym, ap, subst, inl, inr, arith}
 use Rattle.std.specs.Prelude.{Err, IfOk}
-use Rattle.sled_codec.specs.declared.serialization.snapshot.Snapshot.{Snapshot}
-use Rattle.sled_store.specs.Moments.{LeavesOnly}
-use Rattle.sled_store.specs.Script.{Performs, after_all}
-use Rattle.sled_store.proofs.Traces.MomentLemmas.{joined}
-use Rattle.sled_store.specs.Blobs.{ItemAnswers}
-use Rattle.sled_core.specs.Recoverable.{LeavesRecoverable, NoForeign, RecoverableIfOwn}
-use Rattle.sled_core.proofs.Holds.ReachLemmas.{fits_leaves}
-use Rattle.sled_log.specs.Orderly.{CanRecover}
-use Rattle.sled_log.specs.Restarts.{FlushFails}
-use Rattle.sled_log.specs.Restores.{RecoveryCalls}
-use Rattle.sled_log.proofs.WriteBack.RestartCauses.{flush_fails, some_of}
 use Rattle.std.specs.List.{All}
+use Rattle.sled_codec.specs.declared.serialization.snapshot.Snapshot.{Snapshot}
 use Rattle.sled_codec.specs.History.{Message}
 use Rattle.sled_codec.specs.PageTables.{IsTable}
 use Rattle.sled_codec.specs.Snapshots.{model_of, stable_place}
 use Rattle.sled_store.specs.declared.config.RunningConfig.{RunningConfig}
-use Rattle.sled_store.specs.Device.{State, Trace, state_of, content_of}
-use Rattle.sled_core.specs.Fits.{IsKept, device_of, fault_of, flushing, segment_size_of}
-use Rattle.sled_core.specs.Ready.{IsReady}
+use Rattle.sled_store.specs.Blobs.{ItemAnswers}
+use Rattle.sled_store.specs.Device.{Trace, state_of, content_of}
+use Rattle.sled_store.specs.Moments.{LeavesOnly}
+use Rattle.sled_store.specs.Script.{Performs, after_all}
+use Rattle.sled_store.proofs.Traces.MomentLemmas.{joined}
+use Rattle.sled_core.specs.Fits.{IsKept, device_of, fault_of, flushing, segment_size_of, synced_end}
+use Rattle.sled_core.specs.Recoverable.{LeavesRecoverable, NoForeign, RecoverableIfOwn}
+use Rattle.sled_core.specs.Running.{Ready}
+use Rattle.sled_core.proofs.Holds.ReachLemmas.{fits_holds}
+use Rattle.sled_core.proofs.Holds.RunningLemmas.{fits_leaves}
 use Rattle.sled_core.proofs.Read.ReadingLemmas.{if_ok}
-use Rattle.sled_log.proofs.WriteBack.RestartLemmas.{ready_kept, fits_short}
+use Rattle.sled_log.specs.Orderly.{CanRecover}
+use Rattle.sled_log.specs.Restarts.{FlushFails}
+use Rattle.sled_log.specs.Restores.{RecoveryCalls, Restores}
+use Rattle.sled_log.proofs.Ready.ComesBack.{ready_kept}
+use Rattle.sled_log.proofs.WriteBack.RestartCauses.{flush_fails, some_of}
 use Rattle.sled_log.proofs.restart.restart.Goals as goal
 
 pub returns-in-Ok-clause-ready : goal.returns-in-Ok-clause-ready
-returns-in-Ok-clause-ready g c = λ H holds formed inside.
+returns-in-Ok-clause-ready g c = λ H A f U can.
+    let trace = g.D.Device.trace in
+    let sum = g.C.Checksum.sum_of in
     let log = c.flush-flushed.new.self in
-    let size : ℕ = c.halt-config.result.config.segment_size in
-    let device : State = state_of (g.D.Device.trace c.halt-config.result.device) in
-    let new : State = state_of (g.D.Device.trace c.read_snapshot_or_default-snapshot.new.config.device) in
-    let kept : IsKept g.C.Checksum.sum_of size log.site log.buffer.written_len device H =
-    subst (λ (x : RunningConfig _ _). IsKept g.C.Checksum.sum_of x.config.segment_size log.site log.buffer.written_len (state_of (g.D.Device.trace x.device)) H) (sym c.halt-config.ensures.config) (c.in-Ok.ensures.records H holds) in
-    let sizes : size ≡ segment_size_of c.args.log = ap (λ (x : RunningConfig _ _). x.config.segment_size) c.halt-config.ensures.config ∙ c.flush-flushed.ensures.position.size in
-    let many = c.halt-config.result.config.least in
-    let came : g.D.Device.trace c.halt-config.result.device ≡ after_all (flushing c.args.log) (g.D.Device.trace (device_of c.args.log)) =
-    ap (λ (x : RunningConfig _ _). g.D.Device.trace x.device) c.halt-config.ensures.config ∙ c.in-Ok.ensures.calls in
-    let short : length device.log.bytes ≤ size = elim inside [
-      | inl short ↦
-          subst (λ (t : Trace). length (state_of t).log.bytes ≤ size) (sym came) (subst (λ (n : ℕ). length (state_of (after_all (flushing c.args.log) (g.D.Device.trace (device_of c.args.log)))).log.bytes ≤ n) (sym sizes) short)
-      | inr (A, f, U, fits) ↦
-          subst (λ (x : RunningConfig _ _). length (state_of (g.D.Device.trace x.device)).log.bytes ≤ x.config.segment_size) (sym c.halt-config.ensures.config)
-          (fits_short g.D.Device.trace g.C.Checksum.sum_of log H A f U (c.flush-flushed.ensures.keeps.fits H A f U fits) c.in-Ok.ensures.answers.1)
-    ] in
-    subst (λ (n : ℕ). IfOk c.read_snapshot_or_default-snapshot.result (λ s. IsReady g.C.Checksum.sum_of n new (model_of s) H)) sizes
-    (if_ok c.read_snapshot_or_default-snapshot.result _ (λ s. IsReady g.C.Checksum.sum_of size new (model_of s) H)
-    (λ s ok. ready_kept g.C.Checksum.sum_of size log.site log.buffer.written_len device new H kept formed many short (model_of s) ok.conclusion ok.recovers ok.model ok.written ok.newest)
+    let config = c.halt-config.result in
+    let new : Trace = trace c.read_snapshot_or_default-snapshot.new.config.device in
+    let old : Trace = trace config.device in
+    let is = c.halt-config.ensures.config in
+    let size : ℕ = segment_size_of c.args.log in
+    let end : ℕ = synced_end log in
+    let now_size : segment_size_of log ≡ size = c.flush-flushed.ensures.position.size in
+    let sizes : config.config.segment_size ≡ size = ap (λ (x : RunningConfig _ _). x.config.segment_size) is ∙ now_size in
+    let same : old ≡ trace (device_of log) = ap (λ (x : RunningConfig _ _). trace x.device) is in
+    let came : old ≡ after_all (flushing c.args.log) (trace (device_of c.args.log)) = same ∙ c.in-Ok.ensures.calls in
+    let left : LeavesRecoverable sum size H end f (state_of old) =
+    subst (λ (t : Trace). LeavesRecoverable sum size H end f (state_of t)) (sym same) (subst (λ n. LeavesRecoverable sum n H end f (state_of (trace (device_of log)))) now_size (fits_leaves trace sum log H end f U (c.in-Ok.ensures.acknowledges H A f U can.fits))) in
+    let there : CanRecover sum size (state_of old) H end f =
+    record { orderly = can.orderly; left = left; own = subst (λ (t : Trace). NoForeign sum size (state_of t) (content_of (state_of t))) (sym came) can.own } in
+    let kept : IsKept sum size log.site log.buffer.written_len (state_of old) H =
+    subst (λ (t : Trace). IsKept sum size log.site log.buffer.written_len (state_of t) H) (sym same)
+    (subst (λ n. IsKept sum n log.site log.buffer.written_len (state_of (trace (device_of log))) H) now_size (c.in-Ok.ensures.records H (fits_holds trace sum c.args.log H A f U can.fits))) in
+    let long : 256 ≤ size = (let least = config.config.least in omega (arith, least, sizes)) in
+    subst (λ n. IfOk c.read_snapshot_or_default-snapshot.result (λ s. Ready sum size (state_of new) (model_of s) H n (stable_place s.stable_lsn))) c.in-Ok.ensures.whole
+    (if_ok c.read_snapshot_or_default-snapshot.result _ (λ s. Ready sum size (state_of new) (model_of s) H end (stable_place s.stable_lsn))
+    (λ s ok. ready_kept sum size log.site log.buffer.written_len old new H f long kept there (model_of s) (subst (λ n. Restores sum n old new (model_of s)) sizes ok))
     c.read_snapshot_or_default-snapshot.ensures.ok)
 
 pub returns-in-Ok-clause-table : goal.returns-in-Ok-clause-table
-returns-in-Ok-clause-table g c = λ H holds formed inside.
-    if_ok c.read_snapshot_or_default-snapshot.result _ (λ s. IsTable (model_of s).pages H (stable_place s.stable_lsn)) (λ s ready. ready.table) (returns-in-Ok-clause-ready g c H holds formed inside)
+unfolding Ready
+returns-in-Ok-clause-table g c = λ H A f U can.
+    if_ok c.read_snapshot_or_default-snapshot.result _ (λ s. IsTable (model_of s).pages H (stable_place s.stable_lsn)) (λ s ready. ready.ready.table) (returns-in-Ok-clause-ready g c H A f U can)
 
 pub returns-in-Ok-clause-past : goal.returns-in-Ok-clause-past
-returns-in-Ok-clause-past g c = λ H holds formed inside.
-    if_ok c.read_snapshot_or_default-snapshot.result _ (λ s. All (λ (m : Message). m.place + m.size ≤ stable_place s.stable_lsn) H.messages) (λ s ready k d lt. (ready.below k d lt).1) (returns-in-Ok-clause-ready g c H holds formed inside)
-
+unfolding Ready
+returns-in-Ok-clause-past g c = λ H A f U can.
+    if_ok c.read_snapshot_or_default-snapshot.result _ (λ s. All (λ (m : Message). m.place + m.size ≤ stable_place s.stable_lsn) H.messages) (λ s ready k d lt. (ready.ready.below k d lt).1) (returns-in-Ok-clause-ready g c H A f U can)
 -- the size is the same behind flush and halt
 pub returns-in-Ok-clause-did : goal.returns-in-Ok-clause-did
 returns-in-Ok-clause-did g c =
@@ -75,7 +81,8 @@ returns-in-Ok-clause-did g c =
     )
 
 pub returns-in-Ok-clause-crash : goal.returns-in-Ok-clause-crash
-returns-in-Ok-clause-crash g c = λ H A f U fits formed own.
+returns-in-Ok-clause-crash g c = λ H A f U restarts.
+    let fits = restarts.fits in
     let trace = g.D.Device.trace in
     let sum = g.C.Checksum.sum_of in
     let log = c.flush-flushed.new.self in
@@ -91,7 +98,7 @@ returns-in-Ok-clause-crash g c = λ H A f U fits formed own.
     let there : LeavesRecoverable sum size H A f (state_of (trace config.device)) =
     subst (λ (t : Trace). LeavesRecoverable sum size H A f (state_of t)) (sym same) (subst (λ n. LeavesRecoverable sum n H A f (state_of (trace (device_of log)))) c.flush-flushed.ensures.position.size left) in
     let can : CanRecover sum size (state_of (trace config.device)) H A f =
-    record { orderly = formed; left = there; own = subst (λ (t : Trace). NoForeign sum size (state_of t) (content_of (state_of t))) (sym came) own } in
+    record { orderly = restarts.orderly; left = there; own = subst (λ (t : Trace). NoForeign sum size (state_of t) (content_of (state_of t))) (sym came) restarts.own } in
     let later = c.read_snapshot_or_default-snapshot.ensures.recoverable H A f (subst (λ n. CanRecover sum n (state_of (trace config.device)) H A f) (sym sizes) can) in
     joined (LeavesRecoverable sum size H A f) (trace (device_of c.args.log)) (trace config.device) (trace new.device)
     (subst (λ (t : Trace). LeavesOnly (RecoverableIfOwn sum size H A f) (trace (device_of c.args.log)) t) (sym same) (keeps.goes_on.crash H A f U fits))
@@ -122,9 +129,9 @@ returns-in-Err-clause-did g c =
     )
 
 pub returns-in-Err-clause-crash : goal.returns-in-Err-clause-crash
-returns-in-Err-clause-crash g c = λ H A f U fits formed own.
+returns-in-Err-clause-crash g c = λ H A f U restarts.
     subst (λ (x : RunningConfig _ _). LeavesOnly (RecoverableIfOwn g.C.Checksum.sum_of (segment_size_of c.args.log) H A f) (g.D.Device.trace (device_of c.args.log)) (g.D.Device.trace x.device)) (sym c.halt-config.ensures.config)
-    (c.flush-flushed.ensures.keeps.goes_on.crash H A f U fits)
+    (c.flush-flushed.ensures.keeps.goes_on.crash H A f U restarts.fits)
 
 pub returns-in-Err-clause-kept : goal.returns-in-Err-clause-kept
 returns-in-Err-clause-kept g c =

@@ -33,8 +33,7 @@ returns-after-page-opened-clause-step g c = λ k at.
     let done = c.in-Ok.ensures.fits k.history k.acknowledged k.floor opened.unmarked m opened.fits waits.awaits opened.pinned in
     let H' : History = done.0 in
     let fault : fault_of old ≡ None = c.in-Ok.ensures.answers in
-    let whole : fault_of new ≡ None = same.fault ∙ fault in
-    let formed = completed k.history H' m opened.formed waits.may_come done.1 (fits_apart trace sum new H' k.acknowledged k.floor (m ∷ opened.unmarked) done.2 whole) in
+    let formed = completed k.history H' m opened.formed waits.may_come done.1 (fits_apart trace sum new H' k.acknowledged k.floor (m ∷ opened.unmarked) done.2) in
     let both = awaited old c.args.ticket.reservation m waits.awaits in
     let small = All-contains (λ x. x.place < next_place new) H'.messages m (fits_reach trace sum new H' k.acknowledged k.floor (m ∷ opened.unmarked) done.2) (new_there k.history H' m done.1) in
     let lies : pos m.place ≡ cast_signed w64 (cast_unsigned w64 c.in-Ok.place) = place_back c.in-Ok.place m.place (c.in-Ok.ensures.place.0 ∙ sym both.0) (let far = next_small new in omega (arith, small, far)) in

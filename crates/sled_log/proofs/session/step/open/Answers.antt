@@ -9,7 +9,8 @@ use Rattle.sled_store.proofs.Traces.MomentLemmas.{at_last}
 use Rattle.sled_core.specs.Recoverable.{LeavesRecoverable}
 use Rattle.sled_core.specs.Running.{Ready}
 use Rattle.sled_log.specs.Orderly.{CanRecover}
-use Rattle.sled_log.proofs.WriteBack.RecoveryHolds.{read_of, read_on_of}
+use Rattle.sled_store.proofs.Crashes.SettledLemmas.{read_left}
+use Rattle.sled_log.proofs.Ready.Convertible.{read_of}
 use Rattle.sled_log.specs.RunStates.{DeviceView, ShowsActive, length_of}
 use Rattle.sled_log.specs.Runs.{HasRecovered, StartActs}
 use Rattle.sled_log.specs.RunPhases.{IsClosedAt, IsRecoveredAt, Unstored, SaysWhy, device_in, log_in, log_shown, view_by}
@@ -41,16 +42,16 @@ returns-in-Ok-clause-step g c = λ k at.
       acts = open_acts sum size old mid new s c.start.result.1 c.start.ensures.shows has acts;
       step = λ own.
           let can : CanRecover sum size (state_of old.trace) k.history k.acknowledged k.floor = record { orderly = orderly k.history at.formed; left = at.left; own = own } in
-          let good = c.in-Ok.ensures.good k.history k.acknowledged k.floor (read_on_of sum size (state_of old.trace) k.history k.acknowledged k.floor can) in
+          let good = c.in-Ok.ensures.good k.history k.acknowledged k.floor can in
           let cut : ℕ = stable_place s.stable in
           let l : Unstored = record { history = below k.history cut; acknowledged = k.acknowledged; floor = cut; reserved = None } in
-          let kept = c.in-Ok.ensures.ready k.history k.acknowledged k.floor can in
+          let kept = c.in-Ok.ensures.kept k.history k.acknowledged k.floor can in
           let active : ShowsActive size cut s.active = subst (λ (x : SnapshotModel). ShowsActive size (stable_place x.stable) x.active) (sym ok.model)
-          (shows_active sum size (content_of (state_of old.trace)) k.history k.acknowledged k.floor given.least (read_of sum size old.trace k.history k.acknowledged k.floor can) ok.conclusion ok.recovers) in
+          (shows_active sum size (content_of (state_of old.trace)) k.history k.acknowledged k.floor given.least (read_of sum size (content_of (state_of old.trace)) k.history k.acknowledged k.floor can.orderly (can.left (content_of (state_of old.trace)) (read_left old.trace) own)) ok.conclusion ok.recovers) in
           let recovered : IsRecoveredAt trace sum config s l = record {
-            closed = subst (λ n. IsClosedAt sum n mid.trace l) (sym sizes) (record { formed = forgotten k.history cut at.formed; left = kept.left });
+            closed = subst (λ n. IsClosedAt sum n mid.trace l) (sym sizes) (record { formed = forgotten k.history cut at.formed; left = kept });
             active = subst (λ n. ShowsActive n cut s.active) (sym sizes) active;
-            ready = subst (λ n. cut < n → Ready sum n (state_of mid.trace) s l.history l.acknowledged l.floor) (sym sizes) kept.ready;
+            ready = subst (λ n. Ready sum n (state_of mid.trace) s l.history l.acknowledged l.floor) (sym sizes) (c.in-Ok.ensures.ready k.history k.acknowledged k.floor can);
             begun = has_of_table k.history cut s.pages good.table;
           } in
           let started = c.start.ensures.starts l recovered in
@@ -90,7 +91,7 @@ returns-in-Err-clause-step g c = λ k at.
       acts = c.read_snapshot_or_default.ensures.calls;
       step = λ own.
           let can : CanRecover sum size (state_of old) k.history k.acknowledged k.floor = record { orderly = orderly k.history at.formed; left = at.left; own = own } in
-          let whole = (c.in-Err.ensures.read k.history k.acknowledged k.floor (read_of sum size old k.history k.acknowledged k.floor can)).0 in
+          let whole = (c.in-Err.ensures.read k.history k.acknowledged k.floor can.orderly (can.left (content_of (state_of old)) (read_left old) own)).0 in
           let sizes : c.read_snapshot_or_default.new.config.config.segment_size ≡ size = ap (λ (x : Config). x.segment_size) c.read_snapshot_or_default.ensures.config.config in (
             k,
             (cause_of Snapshot sum (state_of old).blobs.file c.in-Err.e _ _ c.in-Err.ensures.answers whole, refl),

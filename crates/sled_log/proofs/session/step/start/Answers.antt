@@ -29,8 +29,6 @@ returns-in-Ok-clause-starts g c = λ k at.
     let size : ℕ = c.args.config.config.segment_size in
     let old : Trace = trace c.args.config.device in
     let s : SnapshotModel = model_of c.args.snapshot in
-    let below : stable_place s.stable < size = search rules in
-    let ready = at.ready below in
     let begins = c.in-Ok.ensures.begins in
     let taken = c.pin-guard.ensures.taken in
     let new = c.pin-guard.new.self in
@@ -49,7 +47,7 @@ returns-in-Ok-clause-starts g c = λ k at.
       at = record {
         formed = at.closed.formed;
         unmarked = [];
-        fits = c.pin-guard.ensures.keeps.fits k.history k.acknowledged k.floor [] (c.in-Ok.ensures.fits k.history k.acknowledged k.floor ready);
+        fits = c.pin-guard.ensures.keeps.fits k.history k.acknowledged k.floor [] (c.in-Ok.ensures.fits k.history k.acknowledged k.floor at.ready);
         pinned = omega (arith, pinned);
         begun = λ page less. at.begun page (omega (arith, less, begun));
       };
@@ -76,21 +74,19 @@ returns-in-Err-clause-starts g c = λ k at.
     let size : ℕ = c.args.config.config.segment_size in
     let old : Trace = trace c.args.config.device in
     let s : SnapshotModel = model_of c.args.snapshot in
-    let below : stable_place s.stable < size = search rules in
-    let ready = at.ready below in
-    let starts = c.in-Err.ensures.starts k.history k.acknowledged k.floor ready in
+    let starts = c.in-Err.ensures.starts k.history k.acknowledged k.floor at.ready in
     record {
       log = refl;
       at = record {
         formed = at.closed.formed;
         left = subst (λ n. LeavesRecoverable sum n k.history k.acknowledged k.floor (state_of (trace c.in-Err.config.device))) (sym (ap (λ x. x.segment_size) c.in-Err.ensures.config.config))
-            (at_last (LeavesRecoverable sum size k.history k.acknowledged k.floor) old (trace c.in-Err.config.device) (c.in-Err.ensures.crash k.history k.acknowledged k.floor ready));
+            (at_last (LeavesRecoverable sum size k.history k.acknowledged k.floor) old (trace c.in-Err.config.device) (c.in-Err.ensures.crash k.history k.acknowledged k.floor at.ready));
       };
-      why = start_cause c.in-Err.e _ _ _ _ _ c.in-Err.ensures.answers starts.0;
+      why = start_cause c.in-Err.e _ _ _ _ _ c.in-Err.ensures.answers starts;
     }
 
 pub returns-in-Err-clause-acts : goal.returns-in-Err-clause-acts
-returns-in-Err-clause-acts g c = (search rules, c.in-Err.ensures.answers, c.in-Err.ensures.calls)
+returns-in-Err-clause-acts g c = (c.in-Err.ensures.answers, c.in-Err.ensures.calls)
 
 pub returns-in-Err-clause-on : goal.returns-in-Err-clause-on
 returns-in-Err-clause-on g c = record { runs_on = record { later = c.in-Err.ensures.later; kept = c.in-Err.ensures.config }; can_go_on = tt }
