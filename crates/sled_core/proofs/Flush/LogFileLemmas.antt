@@ -31,27 +31,6 @@ pub stand_grows : (sum : List ℕ → ℕ) (size : ℕ) (log : List ℕ) (site :
 stand_grows sum size log site at [] end stand = omega (arith, stand)
 stand_grows sum size log site at (m ∷ ms) end stand = let rest = stand_grows sum size log site (at + m.size) ms end stand.4 in omega (arith, rest)
 
--- between an offset and itself there are none
-pub stand_none : (sum : List ℕ → ℕ) (size : ℕ) (log : List ℕ) (site : SegmentPosition) (at : ℕ) (ms : List Message) → StandIn sum size log site at ms at → ms ≡ []
-stand_none sum size log site at [] stand = refl
-stand_none sum size log site at (m ∷ ms) stand =
-    let rest = stand_grows sum size log site (at + m.size) ms at stand.4 in
-    let some = stands_some sum size log (site.slot + at) (site.place / size) m stand.3 in
-    absurd (omega (arith, rest, some))
-
--- records behind records
-pub stand-append : (sum : List ℕ → ℕ) (size : ℕ) (log : List ℕ) (site : SegmentPosition) (at : ℕ) (ms : List Message) (mid : ℕ) (more : List Message) (end : ℕ)
-    → StandIn sum size log site at ms mid → StandIn sum size log site mid more end → StandIn sum size log site at (ms ++ more) end
-stand-append sum size log site at [] mid more end stand rest = subst (λ n. StandIn sum size log site n more end) stand rest
-stand-append sum size log site at (m ∷ ms) mid more end stand rest =
-    (stand.0, stand.1, stand.2, stand.3, stand-append sum size log site (at + m.size) ms mid more end stand.4 rest)
-
--- what is left of records that stand in one file, behind the first ones, which stand in another
-pub stand_rest : (sum : List ℕ → ℕ) (size : ℕ) (log log' : List ℕ) (site : SegmentPosition) (at : ℕ) (ms : List Message) (mid : ℕ) (more : List Message) (end : ℕ)
-    → StandIn sum size log' site at ms mid → StandIn sum size log site at (ms ++ more) end → StandIn sum size log site mid more end
-stand_rest sum size log log' site at [] mid more end first whole = subst (λ n. StandIn sum size log site n more end) (sym first) whole
-stand_rest sum size log log' site at (m ∷ ms) mid more end first whole = stand_rest sum size log log' site (at + m.size) ms mid more end first.4 whole.4
-
 -- records from an offset on lie there or behind it, where there is room
 pub stand_above : (sum : List ℕ → ℕ) (size : ℕ) (log : List ℕ) (site : SegmentPosition) (at : ℕ) (ms : List Message) (end : ℕ) → StandIn sum size log site at ms end → All (λ m. (site.place + at ≤ m.place) × (at + 32 ≤ size)) ms
 stand_above sum size log site at [] end stand k d lt = absurd (omega (arith, lt))
@@ -112,18 +91,6 @@ module _ (sum : List ℕ → ℕ) (size : ℕ) (old new : List ℕ) (at n : ℕ)
   message_stays : (lid number : ℕ) (m : Message) → (lid + m.size ≤ at) ⊎ (at + n ≤ lid) → MessageStands sum size old lid number m → MessageStands sum size new lid number m
   message_stays lid number m apart s = record { header = s.header; stands = record_stays lid number s.header m.bytes m.size apart s.stands; known = s.known; short = (let end = s.stands.in_file in same lid m.size end apart) ∙ s.short; page = s.page }
 
-  -- the records of a segment up to the beginning of the range
-  pub stand_stays : (site : SegmentPosition) (from : ℕ) (ms : List Message) (end : ℕ) → site.slot + end ≤ at → StandIn sum size old site from ms end → StandIn sum size new site from ms end
-  stand_stays site from [] end before stand = stand
-  stand_stays site from (m ∷ ms) end before stand =
-      let rest = stand_grows sum size old site (from + m.size) ms end stand.4 in (
-        stand.0,
-        stand.1,
-        stand.2,
-        message_stays (site.slot + from) (site.place / size) m (inl (omega (arith, rest, before))) stand.3,
-        stand_stays site (from + m.size) ms end before stand.4,
-      )
-
   -- a header before the range
   pub header_stays : (site : SegmentPosition) → site.slot + 20 ≤ at → HasHeader sum old site → HasHeader sum new site
   header_stays site before h =
@@ -145,10 +112,6 @@ module _ (sum : List ℕ → ℕ) (size : ℕ) (old : List ℕ) (at : ℕ) (xs :
 
   pub message_kept : (lid number : ℕ) (m : Message) → (lid + m.size ≤ at) ⊎ (at + length xs ≤ lid) → MessageStands sum size old lid number m → MessageStands sum size new lid number m
   message_kept = message_stays sum size old new at (length xs) file_grows part_kept
-
-  -- the records of a segment up to the beginning of the write
-  pub stand_kept : (site : SegmentPosition) (from : ℕ) (ms : List Message) (end : ℕ) → site.slot + end ≤ at → StandIn sum size old site from ms end → StandIn sum size new site from ms end
-  stand_kept = stand_stays sum size old new at (length xs) file_grows part_kept
 
   -- a header before the write
   pub header_kept : (site : SegmentPosition) → site.slot + 20 ≤ at → HasHeader sum old site → HasHeader sum new site

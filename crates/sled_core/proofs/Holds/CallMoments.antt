@@ -46,10 +46,3 @@ module _ (sum : List ℕ → ℕ) (size : ℕ) (H : History) (A f : ℕ) where
   along_call e es s asked rest =
       let after = along_first P es (step e s) rest in
       (recoverable_before e s asked after, λ torn tears. recoverable_torn e torn s asked tears after, rest)
-
-  -- a sync is not torn
-  pub along_synced : (es : List Event) (s : State) → P s → Along P es (step Synced s) → Along P (Synced ∷ es) s
-  along_synced es s here rest = (here, λ torn tears. absurd tears, rest)
-
-  pub along_names_synced : (es : List Event) (s : State) → P s → Along P es (step NamesSynced s) → Along P (NamesSynced ∷ es) s
-  along_names_synced es s here rest = (here, λ torn tears. absurd tears, rest)

@@ -128,13 +128,6 @@ module _ (sum : List ℕ → ℕ) (size : ℕ) (log : List ℕ) (lid number : �
         let counted : length body ≡ h0.len = sym stands.counted ∙ ap (λ (x : MessageHeader). x.len) same.1 in
         omega (arith, record_long h body len stands, ap length same.0, found_long, counted)
 
-    -- and the body that stands behind that header
-    pub same_body : (h : MessageHeader) (body : List ℕ) (len : ℕ) (stands : StandsAt sum size log lid number h body len) → body ≡ part log (lid + n) h0.len
-    same_body h body len stands =
-        let same = same_found h body len stands in
-        let is : part log lid (n + h0.len) ≡ take n head ++ body = ap (part log lid) (sym (same_long h body len stands)) ∙ stands.is ∙ ap (λ (l : List ℕ). l ++ body) same.0 in
-        sym (drop_at (take n head) body n found_long) ∙ ap (drop n) (sym is) ∙ drop-take n h0.len (drop lid log) ∙ ap (take h0.len) (drop-drop n lid log)
-
     -- What passes the tests is laid there.
     pub laid_here : (body : List ℕ) → h0.kind ≢ kind.Corrupted → h0.segment_number.0 ≡ number → body ≡ part log (lid + n) h0.len → length body ≡ h0.len
         → n + h0.len ≤ size - lid % size → lid + n + h0.len ≤ length log → lid + (n + h0.len) < 2 ^ 64 → IsLaid size log lid number (take n head) h0 body

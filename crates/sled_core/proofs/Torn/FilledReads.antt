@@ -35,8 +35,3 @@ module _ (sum : List ℕ → ℕ) (size : ℕ) (old ks : List ℕ) (s : LogState
         ap (part old (slot * size + from)) (sym whole)
         ∙ stood_whole (slot * size + from) (part left (slot * size + from) len) (λ zero. no_zeros sum size left (slot * size + from) (place / size) h body len r (zero ∙ ap (λ n. replicate n 0) whole))
         (only_own.records slot place mark from len h.kind h.pid body header comes fits (record_of_stands sum size left (slot * size + from) (place / size) h body len r)).1
-
-    -- So the reading meets what was met before, or the beginning of it.
-    pub filled_reads : (met : List ScannedRecord) (stop : ℕ) (why : ScanEnd) → IsScan sum size old (slot * size) place met stop why → ReadsFirst sum size left (slot * size) place 20 (slot * size) met
-    filled_reads = scan_first sum size old left slot place (slot * size) same
-        (λ from h body len r other. let some = long_enough sum size old (slot * size + from) (place / size) h body len r in omega (arith, some))

@@ -90,6 +90,3 @@ module _ (sum : List ℕ → ℕ) (size : ℕ) (H : History) (A f : ℕ) (some :
       subst (λ (l : List ℕ). IsRecoverableLog sum size l (below H cut) A t can.cut) (sym (log_end left leaves)) (recoverable_below sum size last some H A can.cut stops nothing fits t at active))
       (begin_below sum size H f cut at_cut (λ t at. at) (state_of new).snapshots names.begin)
       (λ left leaves own_left. blobs_forget sum left H cut (names.stand left leaves own_left))
-
-  pub kept_left : LeavesReadable sum size (below H (stable_place x.model.stable)) A (stable_place x.model.stable) (state_of new)
-  kept_left = subst (λ n. LeavesReadable sum size (below H n) A n (state_of new)) (sym well.place) below_cut

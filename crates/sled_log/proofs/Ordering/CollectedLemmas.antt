@@ -35,10 +35,6 @@ module _ (sum : List ℕ → ℕ) (size : ℕ) (log : List ℕ) (least : ℕ) wh
       let places : s.place ≡ t.place = pos_injective s.place t.place same.0 in
       λ i. record { place = places i; slot = slots i; mark = same.1 i }
 
-  -- none are below the first slot
-  pub none_yet : AreCollected sum size log least [] 0
-  none_yet = record { has = λ s. (λ there. absurd (in_nothing s there), λ both. absurd (omega (arith, both.1))); apart = λ i j d lt within. absurd (omega (arith, within)) }
-
   -- one slot more, in which none is found
   pub none_more : (ss : List Segment) (slot : ℕ) → slot % size ≡ 0 → ((s : Segment) → Found s → s.slot ≡ slot → ⊥) → 0 < size → AreCollected sum size log least ss slot → AreCollected sum size log least ss (slot + size)
   none_more ss slot aligned none some are = record {

@@ -130,21 +130,3 @@ module _ (H : History) (low cut : ℕ) (first : List Page) (L : List Message) (f
   -- Applied to the table of the first cut they make the table of the second.
   pub fold : IsTable (table_of first (map applied L)) H cut
   fold = record { states = state_is; begun = λ page. (was_begun page, is_there page) }
-
--- All messages of the history from one cut to another make the table of the second.
-pub fold_all : (H : History) (low cut : ℕ) (first : List Page) → IsWellFormed H → low ≤ cut → IsTable first H low
-    → IsTable (table_of first (map applied (filter (λ m. nat_le low m.place && nat_lt m.place cut) H.messages))) H cut
-unfolding table
-fold_all H low cut first formed le is = fold H low cut first (filter between H.messages) formed le is (filter_sublist between H.messages) within entries where
-  between : Message → Bool
-  between = λ m. nat_le low m.place && nat_lt m.place cut
-
-  within : All (λ m. (low ≤ m.place) × (m.place < cut)) (filter (λ m. nat_le low m.place && nat_lt m.place cut) H.messages)
-  within = all_from_in (λ m. (low ≤ m.place) × (m.place < cut)) (filter between H.messages) (λ m there.
-      let passes = and_parts (nat_le low m.place) (nat_lt m.place cut) (from_filter between H.messages m there).1 in
-      (leb-true low m.place passes.0, ltb-true m.place cut passes.1))
-
-  entries : (page : ℕ) (m : Message) → Contains (table H cut page) m → low ≤ m.place → Contains (filter (λ x. nat_le low x.place && nat_lt x.place cut) H.messages) m
-  entries page m there above =
-      let found = from_table H cut page m there in
-      in_filter between H.messages m found.0 (and_from (nat_le low m.place) (nat_lt m.place cut) (le-leb low m.place above) (lt-ltb m.place cut found.2))

@@ -32,20 +32,6 @@ no_pages_at_first H =
 
 -- A message at or above the cut.
 
-left_out : (p : Message → Bool) (before : List Message) (m : Message) (after : List Message) → p m ≡ false → filter p (before ++ m ∷ after) ≡ filter p (before ++ after)
-left_out p before m after fails =
-    filter-append p before (m ∷ after) ∙ ap (λ (b : Bool). filter p before ++ cond b (m ∷ filter p after) (filter p after)) fails ∙ sym (filter-append p before after)
-
-added_above : (H : History) (m : Message) (K : History) (cut page : ℕ) → AddsMessage H m K → cut ≤ m.place → of_page H.messages cut page ≡ of_page K.messages cut page
-unfolding of_page
-added_above H m K cut page adds le =
-    let test : Message → Bool = λ x. (x.page == page) && nat_lt x.place cut in
-    ap (filter test) adds.old ∙ sym (left_out test adds.before m adds.after (and_right (m.page == page) (nat_lt m.place cut) (le-ltb m.place cut le))) ∙ ap (filter test) (sym adds.new)
-
--- With one more message at or above the cut the table below it is the same.
-pub table_added : (H : History) (m : Message) (K : History) (cut : ℕ) (pages : List Page) → AddsMessage H m K → cut ≤ m.place → IsTable pages H cut → IsTable pages K cut
-table_added H m K cut pages adds le is = same_table H K cut (λ page. added_above H m K cut page adds le) pages is
-
 -- What lies below a place.
 
 -- a filter that keeps all that a second one keeps

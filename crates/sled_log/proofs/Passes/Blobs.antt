@@ -105,9 +105,6 @@ module _ (sum : List ℕ → ℕ) (blobs : ℤ → Option (List ℕ)) (end : ℕ
   pub kinds_on : (x : Pass) → All HasKinds (drop i ps) → All HasKinds (drop (i + 1) (set ps i x))
   kinds_on x all = subst (All HasKinds) (sym (drop-set-lt (i + 1) ps i x (omega arith))) (All-tail HasKinds (get_or ps i d) (drop (i + 1) ps) (subst (All HasKinds) (drop_more ps i d lt) all))
 
-  pub bad_pass_here : MeetsBadBlob sum blobs (before_open end (get_or ps i d).scan.met.items) → MeetsBadPass sum blobs end (map pass_of (drop i ps))
-  bad_pass_here bad = subst (λ (l : List Pass). MeetsBadPass sum blobs end (map pass_of l)) (sym (drop_more ps i d lt)) (inl bad)
-
   pub bad_pass_on : (x : Pass) (all : Type 0) → (MeetsBadBlob sum blobs (before_open end (get_or ps i d).scan.met.items) → ⊥) → (MeetsBadPass sum blobs end (map pass_of (drop i ps)) ↔ all)
       → MeetsBadPass sum blobs end (map pass_of (drop (i + 1) (set ps i x))) ↔ all
   bad_pass_on x all fine both =

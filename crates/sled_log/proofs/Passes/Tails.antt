@@ -56,12 +56,6 @@ begun_here end ss i d lt below =
     let is : nat_lt s.place end ≡ true = grind (arith, nat_tests, below) in
     ap (begun_below end) (behind ss i d lt) ∙ ap (λ (b : Bool). if b then s ∷ begun_below end (drop (i + 1) ss) else begun_below end (drop (i + 1) ss)) is
 
-pub begun_later : (end : ℕ) (ss : List Segment) (i : ℕ) (d : Segment) → i < length ss → end ≤ (get_or ss i d).place → begun_below end (drop i ss) ≡ begun_below end (drop (i + 1) ss)
-begun_later end ss i d lt above =
-    let s : Segment = get_or ss i d in
-    let is : nat_lt s.place end ≡ false = grind (arith, nat_tests, above) in
-    ap (begun_below end) (behind ss i d lt) ∙ ap (λ (b : Bool). if b then s ∷ begun_below end (drop (i + 1) ss) else begun_below end (drop (i + 1) ss)) is
-
 -- one more was read
 pub split_more : (end : ℕ) (ss : List Segment) (i : ℕ) (d : Segment) (ps new : List Pass) (p : Pass) → i < length ss → (get_or ss i d).place < end → p.segment ≡ get_or ss i d → new ≡ ps ++ p ∷ []
     → begun_below end ss ≡ map (λ x. x.segment) ps ++ begun_below end (drop i ss) → begun_below end ss ≡ map (λ x. x.segment) new ++ begun_below end (drop (i + 1) ss)

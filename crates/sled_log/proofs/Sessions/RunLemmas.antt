@@ -70,10 +70,6 @@ later_performed es old new came = let run = performs_throughout (λ s. Unit {0})
     all_along [] s = tt
     all_along (f ∷ fs) s = (tt, λ torn tears. tt, all_along fs (step f s))
 
--- what is made by a list of calls is later
-pub later_all : (es : List Event) (old new : Trace) → new ≡ after_all es old → IsLater old new
-later_all es old new is = later_performed es old new (performs_whole es old new is)
-
 -- one configuration runs on after another
 pub runs_on_both : {D C : Type 0} (trace : D → Trace) (old mid new : RunningConfig D C) → RunsOn trace old mid → RunsOn trace mid new → RunsOn trace old new
 runs_on_both trace old mid new first second = record {

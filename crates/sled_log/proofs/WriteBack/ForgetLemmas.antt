@@ -144,8 +144,3 @@ module _ (size : ℕ) (unread : List ℕ) (least : ℤ) (old : Trace) where
 module _ (size : ℕ) (unread : List ℕ) (none : unread ≡ []) (file : ℤ → Option (List ℕ)) (no_blobs : (n : ℤ) → file n ≡ None) (least : ℤ) where
   none_listed : (places : List ℤ) → AreFrom file least places → places ≡ []
   none_listed places are = no_element places (λ n there. let some = ((are.each n).0 there).0 in let is = no_blobs n in absurd (cc))
-
-  pub nothing_forgotten : (places : List ℤ) → MayGo file least places → forgetting size unread places ≡ []
-  nothing_forgotten places may =
-      let gone : places ≡ [] = elim may [ inl is ↦ is | inr are ↦ none_listed places are ] in
-      ap (λ (slots : List ℕ). forgetting size slots places) none ∙ ap removing_blobs gone

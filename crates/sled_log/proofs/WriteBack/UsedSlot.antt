@@ -36,13 +36,3 @@ module _ (size : ℕ) (H : History) (cut : ℕ) (pages : List Page) (formed : Is
         → list_any (λ e. slot_of size e == 0) (entries_in (page_with (entries_from o (of_page H.messages cut page)))) ≡ true
     by ms same None none = absurd (begins_false has.message (of_page H.messages cut page) (none_begins (of_page H.messages cut page) none) has.there (ap begins_page has.replaces))
     by ms same (Some b) last = of_base size b _ (slots b (from_page H.messages cut page b (last_found (of_page H.messages cut page) b (page_ascends H.messages cut page order) last).there).0)
-
-  -- the page of a message is one
-  pub uses_slot : (m : Message) → Contains H.messages m → list_any (λ e. slot_of size e == 0) (entries_of pages) ≡ true
-  uses_slot m there =
-      let parts = split_at H.messages m there in
-      let under : m.place < cut = All-contains (λ x. x.place < cut) H.messages m below there in
-      elim (formed.begun parts.0 m parts.1 parts.2).own [
-        | inl replaces ↦ in_table m.page (has_page H cut m.page m there refl under replaces)
-        | inr earlier ↦ in_table m.page (replaced_before H cut m.page parts.0 m parts.1 order parts.2 under earlier)
-      ]

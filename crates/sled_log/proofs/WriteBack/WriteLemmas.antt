@@ -93,11 +93,6 @@ module _ (sum : List ℕ → ℕ) (model : SnapshotModel) (file : List ℕ) (num
   same_calls ns =
       ap (λ (b : List ℕ). publishing_file b number ++ removing ns) is_file ∙ ap (λ (n : ℤ). publishing_file (short_file sum model) n ++ removing ns) is_number
 
-  -- it was not published
-  pub publishing_stops : (new : Trace) → FitsSnapshot model → Performs (publishing_file file number) old new → Publishes sum model old new
-  publishing_stops new fits came =
-      inr (fits, [], inl refl, subst (λ (es : List Event). Performs es old new) (same_calls []) (performs_more (publishing_file file number) (removing []) old new came))
-
   module _ (mid new : Trace) (came : mid ≡ after_all (publishing_file file number) old) where
     others_before : (ns : List ℤ) → AreOthers (file_at mid) number ns → AreOthers (file_at old) (snapshot_number_of model) ns
     others_before ns are =
