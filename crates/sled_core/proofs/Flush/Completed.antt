@@ -18,7 +18,7 @@ use Rattle.sled_core.proofs.Reserve.CompletesLemmas.{some_long}
 use Rattle.sled_core.proofs.Flush.Settled.{InlineFrom}
 
 -- messages that lie apart, and below others that do
-pub apart_both : (place : ℕ) (xs ys : List Message) → LieApart xs → LieApart ys → All (λ m. m.place + m.size ≤ place) xs → All (λ m. place ≤ m.place) ys → LieApart (xs ++ ys)
+apart_both : (place : ℕ) (xs ys : List Message) → LieApart xs → LieApart ys → All (λ m. m.place + m.size ≤ place) xs → All (λ m. place ≤ m.place) ys → LieApart (xs ++ ys)
 apart_both place [] ys first second below above = second
 apart_both place (x ∷ xs) ys first second below above =
     let here : x.place + x.size ≤ place = below 0 x (omega arith) in
@@ -26,7 +26,7 @@ apart_both place (x ∷ xs) ys first second below above =
     (first.0, All-append (λ n. x.place + x.size ≤ n.place) xs ys first.1 over, apart_both place xs ys first.2 second (All-tail (λ m. m.place + m.size ≤ place) x xs below) above)
 
 -- what is completed in a chain of reservations lies apart
-pub completed_apart : (site : SegmentPosition) (bytes : List ℕ) (from end : ℕ) (rs : List Reserved) → IsChain from rs end → All (λ r. 0 < r.len) rs → LieApart (completed_in site bytes rs)
+completed_apart : (site : SegmentPosition) (bytes : List ℕ) (from end : ℕ) (rs : List Reserved) → IsChain from rs end → All (λ r. 0 < r.len) rs → LieApart (completed_in site bytes rs)
 completed_apart site bytes from end [] is some = tt
 completed_apart site bytes from end (r ∷ rs) is some =
     let here : r.from ≡ from = is.0 in
@@ -61,9 +61,6 @@ module _ (sum : List ℕ → ℕ) (size : ℕ) (site : SegmentPosition) (device 
 
   between : All (λ m. (site.place + max 20 from ≤ m.place) × (m.place < site.place + length bytes) × (m.place + m.size ≤ site.place + length bytes)) done
   between = completed_between site bytes (max 20 from) (length bytes) rs holds.chain long
-
-  between_in : (m : Message) → Contains done m → (site.place + max 20 from ≤ m.place) × (m.place < site.place + length bytes) × (m.place + m.size ≤ site.place + length bytes)
-  between_in m there = All-contains (λ x. (site.place + max 20 from ≤ x.place) × (x.place < site.place + length bytes) × (x.place + x.size ≤ site.place + length bytes)) done m between there
 
   below_in : (m : Message) → Contains holds.earlier m → (m.place < site.place + from) × (m.place + m.size ≤ site.place + from)
   below_in m there = All-contains (λ x. (x.place < site.place + from) × (x.place + x.size ≤ site.place + from)) holds.earlier m holds.below there

@@ -10,7 +10,6 @@ use Rattle.sled_codec.specs.Places.{MayBegin}
 use Rattle.sled_codec.specs.Pointers.{lid_of}
 use Rattle.sled_codec.specs.Snapshots.{stable_place}
 use Rattle.sled_store.specs.Device.{LogState, State, Trace, state_of}
-use Rattle.sled_store.proofs.Histories.Ascending.{apart_ascends}
 use Rattle.sled_store.proofs.Histories.EarlierEntries.{entry_earlier}
 use Rattle.sled_core.specs.declared.iobuf.Reserved.{Reserved}
 use Rattle.sled_core.specs.declared.iobuf.SegmentPosition.{SegmentPosition}
@@ -19,7 +18,8 @@ use Rattle.sled_core.specs.Fits.{HasRecordOf, HoldsIn, fault_of, log_parts, segm
 use Rattle.sled_core.specs.LogFile.{MessageStands}
 use Rattle.sled_core.specs.Reading.{IsInline}
 use Rattle.sled_core.specs.Running.{Fits}
-use Rattle.sled_core.proofs.Holds.ReachLemmas.{apart_in, completed_behind, written_before}
+use Rattle.sled_core.proofs.Flush.Completed.{all_ascend}
+use Rattle.sled_core.proofs.Holds.ReachLemmas.{completed_behind, written_before}
 use Rattle.sled_core.proofs.Tail.Multiples.{put_down}
 
 -- an inline pointer is one to its offset
@@ -50,7 +50,7 @@ module _ (sum : List ℕ → ℕ) (size : ℕ) (site : SegmentPosition) (device 
           | inr (cut, far, entry) ↦ (
               let least = holds.begun.least in
               let under : site.place ≤ stable = (let parts = put_down size stable in omega (arith, parts.0, least)) in
-              let low : Contains (table H stable m.page) m = entry_earlier H (apart_ascends H.messages (apart_in sum size site device None bytes from rs H holds)) stable cut m.page far m (omega (arith, lower, under)) entry in
+              let low : Contains (table H stable m.page) m = entry_earlier H (all_ascend sum size site device None bytes from rs H holds) stable cut m.page far m (omega (arith, lower, under)) entry in
               let s = on.file.elsewhere m.page m low lower lid pointer in
               record { begins = s.begins; stands = s.stands })
         ]

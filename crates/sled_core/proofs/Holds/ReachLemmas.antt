@@ -2,7 +2,7 @@
 use Rattle.std.proofs.Common.{◌^◌, ◌≡◌, ◌∙◌, ◌≤◌, ◌<◌, ◌+◌, ◌/◌, ◌%◌, ℕ, max, true, false, if◌then◌else◌, List, [], ◌∷◌, length, Option, refl, sym, ap, subst, arith, pos, inl, inr}
 use Rattle.std.specs.List.{All, Contains}
 use Rattle.std.specs.declared.io.Error.{Error as IoError}
-use Rattle.std.proofs.lemmas.List.Elements.{All-tail, All-append, All-cons, All-contains, Contains-append_cases}
+use Rattle.std.proofs.lemmas.List.Elements.{All-tail, All-cons, All-contains}
 use Rattle.sled_codec.specs.declared.result.DiskPtr.TheVariants.{Inline}
 use Rattle.sled_codec.specs.History.{Message, History}
 use Rattle.sled_codec.specs.Places.{MayBegin}
@@ -20,7 +20,7 @@ use Rattle.sled_core.specs.Reading.{IsInline}
 use Rattle.sled_core.specs.Recoverable.{LiesInSegment}
 use Rattle.sled_core.proofs.Reserve.Ranges.{completed_between, chain_grows}
 use Rattle.sled_core.proofs.Reserve.CompletesLemmas.{some_long}
-use Rattle.sled_core.proofs.Flush.Completed.{apart_both, completed_apart}
+use Rattle.sled_core.proofs.Flush.Completed.{all_apart, all_below, which}
 use Rattle.sled_core.proofs.Read.ScanLemmas.{aligned_offset}
 
 -- A message lies behind a place in a segment, where a record may begin and in the segment's slot, and its pointer says so.
@@ -64,31 +64,16 @@ module _ (sum : List ℕ → ℕ) (size : ℕ) (site : SegmentPosition) (device 
   between : All (λ m. (site.place + max 20 from ≤ m.place) × (m.place < site.place + length bytes) × (m.place + m.size ≤ site.place + length bytes)) done
   between = completed_between site bytes (max 20 from) (length bytes) rs holds.chain long
 
-  grows : max 20 from ≤ length bytes
-  grows = chain_grows (max 20 from) (length bytes) rs holds.chain
-
-  -- each message begins below the end of the bytes
-  pub reach_in : All (λ m. m.place < site.place + length bytes) H.messages
-  reach_in =
-      subst (λ (l : List Message). All (λ m. m.place < site.place + length bytes) l) (sym holds.messages)
-      (All-append (λ m. m.place < site.place + length bytes) holds.earlier done (λ k d lt. let b = holds.below k d lt in omega (arith, b.0, grows)) (λ k d lt. (between k d lt).1))
-
-  -- the messages lie one behind another
-  pub apart_in : LieApart H.messages
-  apart_in =
-      subst LieApart (sym holds.messages)
-      (apart_both (site.place + from) holds.earlier done holds.apart (completed_apart site bytes (max 20 from) (length bytes) rs holds.chain long) (λ k d lt. (holds.below k d lt).1) (λ k d lt. let b = between k d lt in omega (arith, b.0)))
-
   -- one that begins below the written end was written
   pub written_before : (m : Message) → Contains H.messages m → m.place < site.place + from → Contains holds.earlier m
-  written_before m there written = elim (Contains-append_cases holds.earlier done m (subst (λ (ms : List Message). Contains ms m) holds.messages there)) [
+  written_before m there written = elim (which sum size site device fault bytes from rs H holds m there) [
     | inl first ↦ first
     | inr later ↦ (let b = All-contains (λ x. (site.place + max 20 from ≤ x.place) × (x.place < site.place + length bytes) × (x.place + x.size ≤ site.place + length bytes)) done m between later in absurd (omega (arith, b.0, written)))
   ]
 
   -- one that doesn't lies in the buffer
   pub completed_behind : length bytes ≤ size → (m : Message) → Contains H.messages m → site.place + from ≤ m.place → LiesBehind size site m
-  completed_behind inside m there above = elim (Contains-append_cases holds.earlier done m (subst (λ (ms : List Message). Contains ms m) holds.messages there)) [
+  completed_behind inside m there above = elim (which sum size site device fault bytes from rs H holds m there) [
     | inl early ↦ (let b = All-contains (λ x. (x.place < site.place + from) × (x.place + x.size ≤ site.place + from)) holds.earlier m holds.below early in absurd (omega (arith, b.0, above)))
     | inr later ↦ All-contains (LiesBehind size site) done m (completed_lie size site holds.place_begins holds.slot_begins bytes (max 20 from) (length bytes) rs (omega arith) inside holds.chain holds.room) later
   ]
@@ -102,12 +87,12 @@ kept_past sum size site from device H kept = λ k d lt. (kept.below k d lt).1
 -- each message begins below the next place
 pub fits_reach : {D C : Type 0} (trace : D → Trace) (sum : List ℕ → ℕ) (log : Log D C) (H : History) (A f : ℕ) (U : List Message) → Fits trace sum log H A f U → All (λ m. m.place < next_place log) H.messages
 unfolding Fits
-fits_reach trace sum log H A f U fits = reach_in sum log.config.config.segment_size log.site _ log.fault log.buffer.bytes.items log.buffer.written_len log.buffer.reserved.items H fits.holds
+fits_reach trace sum log H A f U fits = λ k d lt. (all_below sum log.config.config.segment_size log.site _ log.fault log.buffer.bytes.items log.buffer.written_len log.buffer.reserved.items H fits.holds k d lt).0
 
 -- the messages lie one behind another
 pub fits_apart : {D C : Type 0} (trace : D → Trace) (sum : List ℕ → ℕ) (log : Log D C) (H : History) (A f : ℕ) (U : List Message) → Fits trace sum log H A f U → LieApart H.messages
 unfolding Fits
-fits_apart trace sum log H A f U fits = apart_in sum log.config.config.segment_size log.site _ log.fault log.buffer.bytes.items log.buffer.written_len log.buffer.reserved.items H fits.holds
+fits_apart trace sum log H A f U fits = all_apart sum log.config.config.segment_size log.site _ log.fault log.buffer.bytes.items log.buffer.written_len log.buffer.reserved.items H fits.holds
 
 -- one that is not written yet has an inline pointer
 pub fits_inline : {D C : Type 0} (trace : D → Trace) (sum : List ℕ → ℕ) (log : Log D C) (H : History) (A f : ℕ) (U : List Message) → Fits trace sum log H A f U → (m : Message) → Contains H.messages m → synced_end log ≤ m.place → IsInline m.pointer

@@ -5,7 +5,6 @@ use Rattle.std.specs.declared.io.Error.{Error as IoError}
 use Rattle.sled_codec.specs.History.{Message, History, AddsMessage}
 use Rattle.sled_codec.specs.Snapshots.{SnapshotModel}
 use Rattle.sled_store.specs.Device.{LogState, State, Trace, state_of}
-use Rattle.sled_store.proofs.Histories.Ascending.{apart_ascends}
 use Rattle.sled_store.proofs.Names.OneBegin.{one_begin}
 use Rattle.sled_core.specs.declared.iobuf.Reserved.{Reserved}
 use Rattle.sled_core.specs.declared.iobuf.SegmentPosition.{SegmentPosition}
@@ -18,7 +17,8 @@ use Rattle.sled_core.specs.Recoverable.{LeavesRecoverable, NoHeaderOfZeros}
 use Rattle.sled_core.proofs.Holds.Added.{added_there}
 use Rattle.sled_core.proofs.Holds.BegunLemmas.{names-adds, blobs-adds}
 use Rattle.sled_core.proofs.Flush.Padded.{padded_clean}
-use Rattle.sled_core.proofs.Holds.ReachLemmas.{LiesBehind, apart_in, completed_behind}
+use Rattle.sled_core.proofs.Holds.ReachLemmas.{LiesBehind, completed_behind}
+use Rattle.sled_core.proofs.Flush.Completed.{all_ascend}
 use Rattle.sled_core.proofs.Flush.Settled.{InlineFrom, leaves_less, rests, settled_recoverable}
 use Rattle.sled_core.proofs.Holds.StandsAdds.{alone-adds}
 
@@ -114,7 +114,7 @@ module _ (sum : List ℕ → ℕ) (size : ℕ) (site : SegmentPosition) (device 
     left_new : LeavesRecoverable sum size H' reach f device
     left_new =
         let on = fits.holds.written ok in
-        settled_recoverable sum size least device H' reach f first reach (apart_ascends H'.messages (apart_in sum size site device fault bytes' from' rs' H' holds)) inline_behind (rests device.log on.log on.settled) names_new blobs_new (λ none. (alone_new none).stands)
+        settled_recoverable sum size least device H' reach f first reach (all_ascend sum size site device fault bytes' from' rs' H' holds) inline_behind (rests device.log on.log on.settled) names_new blobs_new (λ none. (alone_new none).stands)
 
     pub fits-completed : 0 < pins → FitsIn sum (log_parts size site device fault bytes' from' rs') pins H' A f (m ∷ U)
     fits-completed out =
