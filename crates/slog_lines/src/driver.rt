@@ -55,8 +55,6 @@ impl From<io::Error> for Stop {
 pub enum Reply {
     /// The log is open, on what was recovered.
     Opened(Recovered),
-    /// This was recovered, and no log is open: the segment is full.
-    Full(Recovered),
     /// A place is kept for a message.
     Reserved {
         /// The number of its ticket.
@@ -83,7 +81,7 @@ pub enum Reply {
 /// What a recovery found.
 #[derive(Debug, Clone, Copy)]
 pub struct Recovered {
-    /// The place at which the log goes on, if it was ever begun.
+    /// The place at which the log goes on, if it was ever begun; where no segment is active, one begins there.
     pub stable: Option<Lsn>,
     /// The segment that it goes on in, if that has begun.
     pub active: Option<LogOffset>,
@@ -197,8 +195,7 @@ impl Driver {
         }
     }
 
-    // Opens a log on what was recovered, unless the segment is full: a message more would begin a second
-    // segment, which no recovery reads yet.
+    // Opens a log on what was recovered.
     fn start(
         &mut self,
         config: RunningConfig<MemDevice, PlaceSum>,
@@ -213,9 +210,6 @@ impl Driver {
             active: snapshot.active_segment,
             pages: snapshot.pt.len(),
         };
-        if recovered.stable.is_some() && recovered.active.is_none() {
-            return Ok(self.keep(config, Reply::Full(recovered)));
-        }
         let pages = pages_of(self.alloc, snapshot)?;
         match Log::start(config, snapshot) {
             Ok(log) => self.set_open(log, pages),

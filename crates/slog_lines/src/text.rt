@@ -199,7 +199,6 @@ impl Line {
     fn reply(&mut self, alloc: Global, reply: &Reply) {
         match reply {
             Reply::Opened(recovered) => self.recovered("opened ", recovered),
-            Reply::Full(recovered) => self.recovered("full ", recovered),
             Reply::Reserved {
                 ticket,
                 place,
