@@ -1,4 +1,4 @@
--- Where a run of commands over a log of one segment stands between two commands.
+-- Where a run of commands stands between two commands.
 use Rattle.std.specs.Prelude.{◌≡◌, ◌≤◌, ◌+◌, ◌-◌, ◌/◌, ◌%◌, ℕ, max, nat_lt, Bool, if◌then◌else◌, List, length, Option, None, Some}
 use Rattle.std.specs.declared.io.Error.{Error as IoError}
 use Rattle.sled_codec.specs.declared.result.DiskPtr.TheVariants.{Inline}

@@ -1,4 +1,4 @@
--- What runs of commands over a log of one segment come to: what each command does to the device, what it is answered, and where the run stands then.
+-- What runs of commands come to: what each command does to the device, what it is answered, and where the run stands then.
 use Rattle.std.specs.Prelude.{◌≡◌, ◌⊎◌, ◌↔◌, ◌+◌, ◌-◌, ◌%◌, ◌^◌, ◌==◌, ◌<◌, ◌≤◌, ◌∷◌, ℕ, ℤ, pos, if◌then◌else◌, IsTrue, IsSome, List, [], length, Option, None, Some, false}
 use Rattle.std.specs.List.{All}
 use Rattle.std.specs.declared.io.Error.{Error as IoError}

@@ -1,4 +1,4 @@
-//! Runs of commands over a log of one segment, with crashes: what a log's users rely on, said of whole runs
+//! Runs of commands over a log, with crashes: what a log's users rely on, said of whole runs
 //! (`specs/Runs.antt`).
 //!
 //! A run begins on an empty device with no log open. One reservation is open at a time, and all messages are
