@@ -1,5 +1,5 @@
 -- The record of a message that was written stands where its pointer says, where the log has it still.
-use Rattle.std.proofs.Common.{◌≡◌, ◌⊎◌, ◌∙◌, ◌≤◌, ◌<◌, ◌+◌, ◌*◌, ◌/◌, ℕ, List, Option, None, refl, sym, ap, subst, arith, inl, inr}
+use Rattle.std.proofs.Common.{◌≡◌, ◌⊎◌, ◌∙◌, ◌≤◌, ◌<◌, ◌+◌, ◌/◌, ℕ, List, Option, None, refl, sym, ap, subst, arith, inl, inr}
 use Rattle.std.specs.List.{Contains}
 use Rattle.std.specs.declared.io.Error.{Error as IoError}
 use Rattle.std.proofs.lemmas.Bool.{cases_lt}
@@ -69,7 +69,7 @@ fits_begins trace sum log H A f U fits none m there has lid pointer =
     subst (λ (o : Option IoError). HoldsIn sum (log_parts size log.site device o bytes log.buffer.written_len log.buffer.reserved.items) H) none fits.holds in
     let reached = holds.begun.reached in
     elim (cases_lt m.place (log.site.place + log.buffer.written_len)) [
-      | inl written ↦ (held_record sum size log.site device bytes log.buffer.written_len log.buffer.reserved.items H holds m there written (elim has [ | inl above ↦ inl above | inr (cut, far, entry) ↦ inr (cut, omega (arith, reached, far), entry) ]) lid pointer).begins
+      | inl written ↦ (held_record sum size log.site device bytes log.buffer.written_len log.buffer.reserved.items H holds m there written (elim has [ inl above ↦ inl above | inr (cut, far, entry) ↦ inr (cut, omega (arith, reached, far), entry) ]) lid pointer).begins
       | inr later ↦ (
           let lies = completed_behind sum size log.site device None bytes log.buffer.written_len log.buffer.reserved.items H holds log.in_segment m there later in
           let same : Inline lies.lid ≡ Inline lid = sym lies.pointer ∙ pointer in

@@ -61,6 +61,7 @@ pub returns-in-Ok-clause-past : goal.returns-in-Ok-clause-past
 unfolding Ready
 returns-in-Ok-clause-past g c = λ H A f U can.
     if_ok c.read_snapshot_or_default-snapshot.result _ (λ s. All (λ (m : Message). m.place + m.size ≤ stable_place s.stable_lsn) H.messages) (λ s ready k d lt. (ready.ready.below k d lt).1) (returns-in-Ok-clause-ready g c H A f U can)
+
 -- the size is the same behind flush and halt
 pub returns-in-Ok-clause-did : goal.returns-in-Ok-clause-did
 returns-in-Ok-clause-did g c =
