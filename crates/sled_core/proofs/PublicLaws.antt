@@ -1,22 +1,18 @@
 -- What a crate above may rely on of logs: where the messages lie that a log fits, what a crash leaves of its device, and that an empty device is ready.
-use Rattle.std.proofs.Common.{◌≡◌, ◌∙◌, ◌≤◌, ◌<◌, ◌+◌, ◌^◌, ℕ, ℤ, pos, List, [], ◌∷◌, None, refl, rules, sym, ap, subst}
+use Rattle.std.proofs.Common.{◌≡◌, ◌∙◌, ◌≤◌, ◌<◌, ◌+◌, ◌^◌, ℕ, ℤ, pos, List, ◌∷◌, rules, sym, ap, subst}
 use Rattle.std.specs.Prelude.{FitsSigned}
 use Rattle.std.specs.Int.{w64, cast_signed, cast_unsigned}
 use Rattle.std.specs.List.{All}
 use Rattle.std.proofs.lemmas.Int.{to_z-of_z}
-use Rattle.sled_codec.specs.History.{Message, History, no_history}
-use Rattle.sled_store.specs.Device.{Trace, State, Content, Left, Leaves, Crashed, state_of, content_of, content_left, at_rest, names_at_rest, step}
-use Rattle.sled_codec.specs.Snapshots.{empty_model}
+use Rattle.sled_codec.specs.History.{History}
+use Rattle.sled_store.specs.Device.{Trace, State, Content, Left, Leaves, Crashed, state_of, content_of, content_left, names_at_rest, step}
 use Rattle.sled_store.proofs.LogFile.LogLemmas.{at_rest_left}
 use Rattle.sled_store.proofs.Names.NamesLemmas.{settled_name_left, settled_name_at_rest}
 use Rattle.sled_store.proofs.Crashes.SettledLemmas.{read_left}
 use Rattle.sled_core.specs.declared.logger.Log.{Log}
-use Rattle.sled_core.specs.Fits.{NoneOpen, IsUnchanged, IsWritten, fault_of, synced_end, segment_size_of}
+use Rattle.sled_core.specs.Fits.{NoneOpen, IsUnchanged, IsWritten, synced_end, segment_size_of}
 use Rattle.sled_core.specs.Buffers.{none_open}
-use Rattle.sled_core.specs.Reading.{IsInline}
-use Rattle.sled_core.specs.Ready.{IsReady}
 use Rattle.sled_core.specs.Recoverable.{NoForeign, Recoverable, LeavesRecoverable}
-use Rattle.sled_core.specs.Running.{Fits}
 use Rattle.sled_core.proofs.Holds.CallMoments.{own_after_crash}
 use Rattle.sled_core.proofs.Holds.ReachLemmas.{kept_past}
 pub use Rattle.sled_core.proofs.Start.FreshReady.{fresh_leaves, fresh_ready, empty_ready, empty_recoverable}

@@ -1,6 +1,5 @@
 -- How a running log goes on fitting its history at the calls that write nothing.
 use Rattle.std.proofs.Common.{◌≡◌, ◌≢◌, ◌≤◌, ◌<◌, ◌+◌, ◌∙◌, ℕ, List, [], ◌∷◌, length, get_or, Option, None, sym, ap, arith, subst}
-use Rattle.std.specs.List.{Contains}
 use Rattle.std.specs.declared.io.Error.{Error as IoError}
 use Rattle.sled_codec.specs.History.{Message, History, AddsMessage}
 use Rattle.sled_codec.specs.Snapshots.{SnapshotModel}

@@ -9,7 +9,7 @@ use Rattle.sled_store.specs.Foreign.{NoForeignLog}
 use Rattle.sled_core.specs.declared.iterator.Segment.{Segment}
 use Rattle.sled_core.specs.declared.iterator.scan.ScannedRecord.{ScannedRecord}
 use Rattle.sled_core.specs.declared.iterator.scan.ScanEnd.{ScanEnd}
-use Rattle.sled_core.specs.declared.iterator.scan.ScanEnd.TheVariants.{Capped, Broken}
+use Rattle.sled_core.specs.declared.iterator.scan.ScanEnd.TheVariants.{Capped}
 use Rattle.sled_core.specs.Recoverable.{NoHeaderOfZeros, NoMessageBegins, NoBatchBegins, IsOfHistory, IsMarkOf, IsMarkBelow}
 use Rattle.sled_core.specs.Scan.{IsPath, IsEnd, IsScan}
 use Rattle.sled_core.proofs.Torn.TornLemmas.{after_write}

@@ -3,15 +3,13 @@ use Rattle.std.proofs.Common.{⊎_elim, ◌≡◌, ◌≢◌, ◌⊎◌, ◌∙�
 use Rattle.std.specs.List.{Contains}
 use Rattle.std.proofs.lemmas.Bool.{cases_lt}
 use Rattle.sled_codec.specs.Coords.{raised}
-use Rattle.sled_codec.specs.History.{Message, Batch, History, table}
+use Rattle.sled_codec.specs.History.{History}
 use Rattle.sled_codec.specs.Snapshots.{SnapshotModel, stable_place}
 use Rattle.sled_core.specs.declared.iterator.Segment.{Segment}
-use Rattle.sled_core.specs.declared.iterator.scan.ScannedRecord.{ScannedRecord}
 use Rattle.sled_core.specs.declared.iterator.scan.ScanEnd.{ScanEnd}
 use Rattle.sled_core.specs.declared.iterator.scan.ScanEnd.TheVariants.{Full, Capped, Broken}
-use Rattle.sled_core.specs.Recoverable.{NoMessageBegins, NoBatchBegins, StandsInline, IsOfHistory, IsSegmentOf, IsMarkOf, IsMarkBelow, LiesInSegment, IsPlacedBatch}
 use Rattle.sled_core.proofs.Read.FoundLemmas.{pos_injective}
-use Rattle.sled_core.specs.Tail.{Scanned, IsOrdering, AreScanned, GoesOn, IsTail, greatest_mark, tail_begins, tail_end, least_place}
+use Rattle.sled_core.specs.Tail.{Scanned, GoesOn, IsTail, greatest_mark, tail_begins, tail_end, least_place}
 use Rattle.sled_core.proofs.Tail.OneTail.{segment_there}
 use Rattle.sled_core.proofs.Tail.GreatestMark.{greatest_is, mark_below}
 use Rattle.sled_core.proofs.Tail.Multiples.{put_down, one_multiple, next_multiple, lower_multiple}

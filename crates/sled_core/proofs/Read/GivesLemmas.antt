@@ -1,7 +1,7 @@
 -- Where the record of a message stands, what is read is that message.
-use Rattle.std.proofs.Common.{◌≡◌, ◌≤◌, ◌<◌, ◌+◌, ◌/◌, ◌%◌, ℕ, ℤ, Option, List, [], ◌∷◌, length, sym, ◌∙◌, ap, arith, refl, subst, true, false, Bool, if◌then◌else◌, ◌==◌, None, Some, max, inl, inr}
-use Rattle.std.specs.List.{All, Contains}
-use Rattle.std.proofs.lemmas.List.Elements.{Contains-append_cases, All-contains, All-cons}
+use Rattle.std.proofs.Common.{◌≡◌, ◌<◌, ◌+◌, ◌/◌, ◌%◌, ℕ, ℤ, Option, List, [], ◌∷◌, length, sym, ◌∙◌, ap, arith, refl, subst, true, false, Bool, if◌then◌else◌, ◌==◌, Some}
+use Rattle.std.specs.List.{All}
+use Rattle.std.proofs.lemmas.List.Elements.{All-cons}
 use Rattle.sled_codec.specs.declared.result.DiskPtr.TheVariants as ptr
 use Rattle.sled_codec.specs.declared.serialization.message.LogKind.{LogKind}
 use Rattle.sled_codec.specs.declared.serialization.message.LogKind.TheVariants as does
@@ -9,11 +9,8 @@ use Rattle.sled_codec.specs.declared.serialization.message.MessageKind.{MessageK
 use Rattle.sled_codec.specs.declared.serialization.message.MessageKind.TheVariants as kind
 use Rattle.sled_codec.specs.declared.serialization.message.MessageHeader.{MessageHeader}
 use Rattle.sled_codec.specs.Kinds.{kind_written}
-use Rattle.sled_codec.specs.History.{Message, History}
-use Rattle.sled_store.specs.Device.{LogState, State}
-use Rattle.sled_core.specs.declared.iobuf.Reserved.{Reserved}
+use Rattle.sled_codec.specs.History.{Message}
 use Rattle.sled_core.specs.declared.iobuf.SegmentPosition.{SegmentPosition}
-use Rattle.sled_core.specs.Buffers.{completed_in}
 use Rattle.sled_core.specs.LogFile.{MessageStands}
 use Rattle.sled_core.proofs.Read.StandIn.{StandIn}
 use Rattle.sled_core.proofs.Read.ReadingLemmas.{laid_of, one_head, one_laid, one_text}

@@ -1,6 +1,6 @@
 -- What is found of a header in the first bytes at an offset is the header of the record that stands there, and no other one does.
 use Rattle.std.proofs.Common.{◌^◌, ◌≡◌, ◌≢◌, ◌≤◌, ◌<◌, ◌+◌, ◌-◌, ◌%◌, ℕ, suc, List, [], ◌∷◌, ◌++◌, length, take, drop, get_or, sym, ◌∙◌, ap, arith, refl, subst, append_assoc, length-append, length-take, length-drop}
-use Rattle.std.proofs.lemmas.List.{drop-take, take-take, take_at, take-append-drop, drop_at, drop-drop, get_or-take, get_or_append_left, get_or-append-add, append-nil}
+use Rattle.std.proofs.lemmas.List.{drop-take, take-take, take_at, take-append-drop, drop-drop, get_or-take, get_or_append_left, get_or-append-add, append-nil}
 use Rattle.std.proofs.lemmas.Bool.Decides.{nat_tests}
 use Rattle.sled_codec.specs.declared.serialization.message.MessageHeader.{MessageHeader}
 use Rattle.sled_codec.specs.declared.serialization.message.MessageKind.TheVariants as kind

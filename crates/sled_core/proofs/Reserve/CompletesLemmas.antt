@@ -1,10 +1,6 @@
 -- A reservation that is completed becomes a message of the history, at its place, and no other one is touched.
-use Rattle.std.proofs.Common.{◌≡◌, ◌≤◌, ◌<◌, ◌+◌, ◌-◌, ◌/◌, inl, inr, ℕ, suc, max, List, ◌∷◌, ◌++◌, length, take, drop, set, sym, ◌∙◌, ap, arith, refl, subst, append_assoc, true, false, Bool, if◌then◌else◌, Option, Some, get_or}
-use Rattle.std.specs.List.{All, Contains, slice_get}
-use Rattle.std.specs.declared.io.Error.{Error as IoError}
-use Rattle.std.proofs.lemmas.List.{set_split}
-use Rattle.std.proofs.lemmas.Option.{slice_get_within}
-use Rattle.std.proofs.lemmas.List.Elements.{Contains-append_cases, All-contains}
+use Rattle.std.proofs.Common.{◌≡◌, ◌≤◌, ◌<◌, ◌+◌, ◌-◌, inl, inr, ℕ, List, ◌++◌, length, drop, sym, ◌∙◌, ap, arith, refl, subst, true, false, Bool, if◌then◌else◌, Some}
+use Rattle.std.specs.List.{All}
 use Rattle.sled_codec.specs.Written.{written}
 use Rattle.sled_codec.specs.Spelling.{short_header_tail}
 use Rattle.sled_codec.specs.Record.{record_sum, short_record}
@@ -13,12 +9,10 @@ use Rattle.sled_codec.specs.declared.serialization.message.LogKind.{LogKind}
 use Rattle.sled_codec.specs.declared.serialization.message.LogKind.TheVariants.{Replace, Link, Free, Skip, Corrupted}
 use Rattle.sled_codec.specs.declared.serialization.message.MessageKind.{MessageKind}
 use Rattle.sled_codec.specs.Kinds.{kind_written}
-use Rattle.sled_codec.specs.History.{Message, History, ChangesPage, AddsMessage}
-use Rattle.sled_store.specs.Device.{State}
+use Rattle.sled_codec.specs.History.{ChangesPage}
 use Rattle.sled_core.specs.declared.iobuf.Reserved.{Reserved}
-use Rattle.sled_core.specs.declared.iobuf.SegmentPosition.{SegmentPosition}
-use Rattle.sled_core.specs.Buffers.{text_in, body_in, message_in, placeholder, IsChain, completed_in, completing, closed, StandsAs, Stands}
-use Rattle.sled_core.proofs.Reserve.Ranges.{part-written_before, part-written_behind, part-written_at, length-written, completed-same, completed-append, completed_between, chain-split, chain-joined, chain_grows, chain_within, there_split, all_split, all_joined, at_there, there-set_other, chain_apart}
+use Rattle.sled_core.specs.Buffers.{text_in, body_in, placeholder, completing, closed, StandsAs, Stands}
+use Rattle.sled_core.proofs.Reserve.Ranges.{part-written_before, part-written_behind, part-written_at}
 use Rattle.sled_core.proofs.Holds.HoldsLemmas.{stands-same}
 
 -- a message that has a kind to be written under changes a page

@@ -1,19 +1,15 @@
 -- What is met in a slot while zeros are written into it, and into others, none synced: what was met before, or the beginning of it.
-use Rattle.std.proofs.Common.{◌≡◌, ◌<◌, ◌+◌, ◌*◌, ◌/◌, ◌∙◌, ℕ, ℤ, pos, List, length, replicate, sym, ap, arith, subst, inl, inr}
+use Rattle.std.proofs.Common.{◌≡◌, ◌<◌, ◌+◌, ◌*◌, ◌/◌, ◌∙◌, ℕ, ℤ, pos, List, length, replicate, sym, ap, subst, inl, inr}
 use Rattle.std.proofs.Math.Nat.{mul-mod_left}
 use Rattle.sled_codec.specs.declared.serialization.message.MessageHeader.{MessageHeader}
 use Rattle.sled_codec.specs.Places.{part}
 use Rattle.sled_codec.specs.Record.{IsHeader}
 use Rattle.sled_store.specs.Device.{LogState}
 use Rattle.sled_store.specs.Foreign.{Covers, IsWhole, NoForeignLog}
-use Rattle.sled_core.specs.declared.iterator.scan.ScannedRecord.{ScannedRecord}
-use Rattle.sled_core.specs.declared.iterator.scan.ScanEnd.{ScanEnd}
 use Rattle.sled_core.specs.Reading.{StandsAt}
-use Rattle.sled_core.specs.Scan.{IsScan}
 use Rattle.sled_core.proofs.Torn.FilledSlots.{IsFilling}
-use Rattle.sled_core.proofs.Torn.TornRecords.{record_of_stands, long_enough}
+use Rattle.sled_core.proofs.Torn.TornRecords.{record_of_stands}
 use Rattle.sled_core.proofs.Torn.WrittenParts.{ComesTo, all_there, in_segment}
-use Rattle.sled_core.proofs.Torn.ZeroedScans.{ReadsFirst, scan_first}
 use Rattle.sled_core.proofs.Torn.ZeroedSlots.{covered_zeros, no_zeros}
 
 module _ (sum : List ℕ → ℕ) (size : ℕ) (old ks : List ℕ) (s : LogState) (is : IsFilling size old ks s) where

@@ -1,12 +1,8 @@
 -- What a crash leaves of a settled log file and one write to it that was not synced: outside the write all is as it was.
-use Rattle.std.proofs.Common.{◌≡◌, ◌⊎◌, ◌≤◌, ◌+◌, ◌-◌, ℕ, max, List, length, take, drop, get_or, sym, ◌∙◌, ap, arith, inl, inr}
-use Rattle.std.proofs.lemmas.Bool.{cases_lt}
-use Rattle.std.proofs.lemmas.List.{get_or_past}
+use Rattle.std.proofs.Common.{◌≡◌, ◌⊎◌, ◌≤◌, ◌+◌, ◌-◌, ℕ, max, List, length, take, drop, sym, ◌∙◌, ap, arith, inl, inr}
 use Rattle.sled_codec.specs.Places.{part}
 use Rattle.sled_store.specs.Device.{LogState, log_step, at_rest, LeavesLog, Wrote}
-use Rattle.sled_store.proofs.LogFile.LogLemmas.{durable_left, durable_byte, durable_written, durable_at_rest, part_written}
-use Rattle.sled_store.proofs.LogFile.LooseLemmas.{end_of-le}
-use Rattle.sled_store.proofs.LogFile.OverwrittenLemmas.{overwritten-above}
+use Rattle.sled_store.proofs.LogFile.LogLemmas.{durable_left, durable_written, durable_at_rest, part_written}
 
 -- the state of a settled log file behind a write, of which this much may have been done
 abbrev pub after_write : List ℕ → ℕ → List ℕ → List ℕ → LogState

@@ -1,33 +1,22 @@
 -- Records in the words of what is foreign: what stands at an offset is one, and a reader comes from its beginning to its end.
-use Rattle.std.proofs.Common.{◌≡◌, ◌⊎◌, ◌≤◌, ◌<◌, ◌+◌, ◌-◌, ◌*◌, ◌/◌, ◌%◌, ◌∙◌, ℕ, suc, pos, max, List, [], ◌∷◌, ◌++◌, length, take, drop, get_or, sym, ap, arith, refl, subst, inl, inr, length-take, length-drop}
+use Rattle.std.proofs.Common.{◌≡◌, ◌⊎◌, ◌≤◌, ◌<◌, ◌+◌, ◌-◌, ◌%◌, ◌∙◌, ℕ, List, [], ◌∷◌, ◌++◌, length, take, drop, sym, ap, arith, refl, subst, inl, inr, length-take, length-drop}
 use Rattle.std.specs.List.{Contains}
 use Rattle.std.specs.Str.{bytes_eq}
-use Rattle.std.proofs.Math.Nat.{mod-add-div'}
-use Rattle.std.proofs.lemmas.Bool.{cases_lt, cases_Bool}
-use Rattle.std.proofs.lemmas.List.{drop-take, take-take, drop-drop, get_or-take, get_or-drop}
+use Rattle.std.proofs.lemmas.Bool.{cases_Bool}
+use Rattle.std.proofs.lemmas.List.{drop-take, take-take, drop-drop}
 use Rattle.std.proofs.lemmas.Slice.Eq.{bytes_eq-Decides}
 use Rattle.std.proofs.lemmas.List.Elements.{All-contains, All-cons}
 use Rattle.sled_codec.specs.declared.serialization.message.MessageHeader.{MessageHeader}
 use Rattle.sled_codec.specs.HeaderLaws.{same_header}
 use Rattle.sled_codec.specs.Places.{part}
-use Rattle.sled_codec.specs.Record.{IsRecord, IsHeader}
+use Rattle.sled_codec.specs.Record.{IsRecord}
 use Rattle.sled_codec.specs.Spelling.{SpellsMessageHeader}
 use Rattle.sled_codec.specs.Sums.{flipped}
-use Rattle.sled_codec.specs.History.{Message}
-use Rattle.sled_codec.proofs.Segments.{length-short_header}
-use Rattle.sled_store.specs.Device.{LogState, overwritten, LeavesLog}
-use Rattle.sled_store.specs.Foreign.{IsReached, at_first, behind, Covers, IsWhole, NoForeignLog}
+use Rattle.sled_store.specs.Foreign.{IsReached, behind}
 use Rattle.sled_core.specs.declared.iobuf.SegmentPosition.{SegmentPosition}
-use Rattle.sled_core.specs.declared.iterator.Segment.{Segment}
 use Rattle.sled_core.specs.Reading.{StandsAt}
-use Rattle.sled_core.specs.Scan.{IsFoundSegment}
-use Rattle.sled_core.specs.LogFile.{MessageStands, HasHeader, IsLogFile}
-use Rattle.sled_core.proofs.Read.StandIn.{StandIn}
 use Rattle.sled_core.proofs.Read.ReadingLemmas.{header_some, laid_of}
-use Rattle.sled_core.proofs.Read.GivesLemmas.{one_len}
-use Rattle.sled_core.proofs.Read.PathLemmas.{IsEmpty, zeros_empty}
 use Rattle.sled_core.proofs.Read.ScanLemmas.{aligned_offset}
-use Rattle.sled_core.proofs.Torn.TornLemmas.{after_write, left_grows, part_left}
 
 -- one text is the other, or isn't
 pub same_or_not : (xs ys : List ℕ) → (xs ≡ ys) ⊎ (xs ≡ ys → ⊥)

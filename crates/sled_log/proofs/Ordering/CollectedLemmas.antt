@@ -12,7 +12,6 @@ use Rattle.sled_core.specs.Scan.{IsFoundSegment}
 use Rattle.sled_core.proofs.Read.ScanLemmas.{aligned_offset}
 use Rattle.sled_core.proofs.Read.FoundLemmas.{found_there, pos_injective}
 use Rattle.sled_log.specs.Ordering.{AreCollected}
-use Rattle.sled_store.proofs.Histories.Ascending.{in_nothing}
 
 -- of two slots one is no further than the other, or it is a whole size further
 next_slot : (a b size : ℕ) → a % size ≡ 0 → b % size ≡ 0 → a < b + size → (a < b) ⊎ (a ≡ b)

@@ -1,10 +1,10 @@
 -- What lies below a cut, and the snapshots of that, where they were those of a whole history.
-use Rattle.std.proofs.Common.{◌≡◌, ◌∙◌, ◌≤◌, ◌<◌, ◌≤ℤ◌, ℕ, ℤ, pos, negsuc, Bool, cond, nat_lt, List, [], ◌∷◌, ◌++◌, Option, Some, refl, ap, arith, lt-ltb, leb→le}
+use Rattle.std.proofs.Common.{◌≡◌, ◌∙◌, ◌≤◌, ◌≤ℤ◌, ℕ, ℤ, pos, negsuc, Bool, cond, nat_lt, List, [], ◌∷◌, Option, Some, refl, ap, arith, leb→le}
 use Rattle.std.specs.List.{All, filter}
 use Rattle.std.proofs.lemmas.Bool.{le-ltb}
-use Rattle.std.proofs.lemmas.List.Elements.{filter-append, All-tail}
+use Rattle.std.proofs.lemmas.List.Elements.{All-tail}
 use Rattle.sled_codec.specs.History.{Message, History, CutFits, below}
-use Rattle.sled_codec.specs.Snapshots.{SnapshotModel, stable_place}
+use Rattle.sled_codec.specs.Snapshots.{stable_place}
 use Rattle.sled_core.specs.Recoverable.{IsTableFile}
 use Rattle.sled_store.proofs.Histories.Ascending.{from_filter}
 use Rattle.sled_log.proofs.PageTable.TableCuts.{table_below_place}

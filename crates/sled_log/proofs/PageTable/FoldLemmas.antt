@@ -1,18 +1,18 @@
 -- Applying a history's messages from one cut to another to the table of the first makes the table of the second.
-use Rattle.std.proofs.Common.{⊎_elim, ◌≡◌, ◌∙◌, ◌<◌, ◌≤◌, ℕ, Bool, true, ◌&&◌, ◌==◌, nat_lt, nat_le, List, ◌∷◌, ◌++◌, length, map, get_or, Option, Some, None, refl, sym, ap, subst, arith, eqb-true, eq-eqb, leb-true, le-leb, ltb-true, lt-ltb}
+use Rattle.std.proofs.Common.{⊎_elim, ◌≡◌, ◌∙◌, ◌<◌, ◌≤◌, ℕ, true, ◌==◌, List, ◌∷◌, ◌++◌, length, map, get_or, Option, Some, None, refl, sym, ap, subst, arith, eqb-true, eq-eqb}
 use Rattle.std.specs.List.{All, Contains, filter}
-use Rattle.std.proofs.lemmas.Bool.{and_parts, and_from, cases_lt}
+use Rattle.std.proofs.lemmas.Bool.{cases_lt}
 use Rattle.std.proofs.lemmas.List.Elements.{All-contains, Contains-append_left, Contains-append_right, Contains-append_cases}
 use Rattle.sled_codec.specs.History.{Message, History, begins_page, last_beginning, page_state, of_page, table, HasPage}
 use Rattle.sled_codec.specs.PageTables.{page_with, IsTable}
 use Rattle.sled_codec.specs.Snapshots.{Page, Uninitialized}
 use Rattle.sled_codec.specs.WellFormed.{IsWellFormed, MayFollow}
 use Rattle.sled_log.specs.Recovery.{applied, table_of}
-use Rattle.sled_store.proofs.Histories.Ascending.{IsSublist, in_filter, from_filter, all_from_in, sublist_in, filter_sublist, Ascends, apart_ascends, sublist_ascends, filter_ascends, append_ascends}
+use Rattle.sled_store.proofs.Histories.Ascending.{IsSublist, in_filter, from_filter, all_from_in, sublist_in, Ascends, apart_ascends, sublist_ascends, filter_ascends, append_ascends}
 use Rattle.sled_store.proofs.Histories.PageStates.{none_begins, begins_false, IsLast, last_found, same_state}
 use Rattle.sled_log.proofs.PageTable.PageRuns.{run, run-append, run_is}
 use Rattle.sled_log.proofs.PageTable.PageWise.{at_page, BatchStart, table_keeps, table_begins, table_since}
-use Rattle.sled_store.proofs.Histories.TableParts.{in_page, from_page, page_ascends, state_from, from_table, last_in_state, split_at, has_page, page_stays, replaced_before}
+use Rattle.sled_store.proofs.Histories.TableParts.{in_page, from_page, page_ascends, state_from, last_in_state, split_at, has_page, page_stays, replaced_before}
 
 -- The messages L are a history's, lie at or above the place low and below cut, and have all entries of the table that lie there.
 module _ (H : History) (low cut : ℕ) (first : List Page) (L : List Message) (formed : IsWellFormed H) (le : low ≤ cut) (is : IsTable first H low) (sub : IsSublist L H.messages)

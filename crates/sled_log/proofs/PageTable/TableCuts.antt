@@ -1,9 +1,8 @@
 -- The table of a history below a cut does not depend on what the history has from there on.
-use Rattle.std.proofs.Common.{◌≡◌, ◌∙◌, ◌↔◌, ◌≤◌, ℕ, Bool, true, false, ◌&&◌, ◌==◌, cond, nat_lt, List, [], ◌∷◌, ◌++◌, refl, sym, ap, subst, arith, ltb-true, lt-ltb, true≢false}
+use Rattle.std.proofs.Common.{◌≡◌, ◌∙◌, ◌↔◌, ◌≤◌, ℕ, Bool, true, false, ◌&&◌, ◌==◌, cond, nat_lt, List, [], ◌∷◌, refl, sym, ap, subst, arith, ltb-true, lt-ltb, true≢false}
 use Rattle.std.specs.List.{Contains, filter}
 use Rattle.std.proofs.lemmas.Bool.{and_parts, and_right, le-ltb}
-use Rattle.std.proofs.lemmas.List.Elements.{filter-append}
-use Rattle.sled_codec.specs.History.{Message, History, no_history, page_state, of_page, table, HasPage, below, AddsMessage}
+use Rattle.sled_codec.specs.History.{Message, History, no_history, page_state, of_page, table, HasPage, below}
 use Rattle.sled_codec.specs.PageTables.{page_with, IsTable}
 use Rattle.sled_codec.specs.Snapshots.{Page}
 use Rattle.sled_store.proofs.Histories.Ascending.{none_kept, all_from_in}

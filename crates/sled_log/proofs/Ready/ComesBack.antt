@@ -1,14 +1,14 @@
 -- What a recovery leaves for a log, said of its answer: over any content that can be read back, and of a log that was flushed, whose whole history it holds again.
 use Rattle.std.proofs.Common.{◌≤◌, ◌+◌, ℕ, List, sym, subst}
-use Rattle.sled_codec.specs.History.{Message, History, below}
+use Rattle.sled_codec.specs.History.{History, below}
 use Rattle.sled_codec.specs.Snapshots.{SnapshotModel, stable_place}
-use Rattle.sled_store.specs.Device.{State, Trace, state_of, content_of}
+use Rattle.sled_store.specs.Device.{Trace, state_of}
 use Rattle.sled_store.specs.Moments.{LeavesOnly}
 use Rattle.sled_store.proofs.Traces.MomentLemmas.{weaker}
 use Rattle.sled_core.specs.declared.iobuf.SegmentPosition.{SegmentPosition}
-use Rattle.sled_core.specs.Fits.{synced_end, segment_size_of, device_of, EndBelow, CloseBelow, IsKept}
-use Rattle.sled_core.specs.Recoverable.{LeavesRecoverable, RecoverableIfOwn, NoForeign}
-use Rattle.sled_core.specs.Running.{Fits, Ready}
+use Rattle.sled_core.specs.Fits.{EndBelow, CloseBelow, IsKept}
+use Rattle.sled_core.specs.Recoverable.{LeavesRecoverable, RecoverableIfOwn}
+use Rattle.sled_core.specs.Running.{Ready}
 use Rattle.sled_log.proofs.Recovers.Readable.{LeavesReadable}
 use Rattle.sled_log.specs.Orderly.{CanRecover}
 use Rattle.sled_log.specs.Restores.{BeginsAgain, RecoveryCalls, Restores}

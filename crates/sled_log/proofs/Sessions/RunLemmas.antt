@@ -19,10 +19,10 @@ use Rattle.sled_store.specs.Chosen.{MayBeChosen}
 use Rattle.sled_store.specs.Device.{Event, Left, Trace, State, Content, Crashed, Settled, state_of, fresh, step, content_left, Leaves, names_at_rest}
 use Rattle.sled_store.specs.Moments.{IsLater}
 use Rattle.sled_store.specs.Noted.{left_of}
-use Rattle.sled_store.specs.Script.{Performs, Along, after_all}
+use Rattle.sled_store.specs.Script.{Performs, Along}
 use Rattle.sled_store.proofs.LogFile.LogLemmas.{at_rest_left}
 use Rattle.sled_store.proofs.Names.NamesLemmas.{settled_name_left, settled_name_at_rest}
-use Rattle.sled_store.proofs.Traces.ScriptLemmas.{performs_throughout, performs_whole}
+use Rattle.sled_store.proofs.Traces.ScriptLemmas.{performs_throughout}
 use Rattle.sled_store.proofs.Crashes.SettledLemmas.{settled_left_too}
 use Rattle.sled_core.specs.Causes.{Answers, FaultAnswers, ReserveAnswers}
 use Rattle.sled_store.specs.Blobs.{ItemAnswers}

@@ -1,20 +1,16 @@
 -- What a crash leaves of the names of snapshots once a new table is published, and while the others are removed.
 use Rattle.std.proofs.Common.{◌≡◌, ◌≢◌, ◌⊎◌, ◌∙◌, ◌≤◌, ◌≤ℤ◌, if◌then◌else◌, ℕ, ℤ, pos, negsuc, Bool, true, false, List, [], ◌∷◌, Option, Some, None, IsSome, refl, sym, ap, subst, arith, inl, inr, le→leb}
-use Rattle.std.specs.Int.Signed.{≤ℤ_refl, <ℤ-≤ℤ_trans, <ℤ_irrefl}
+use Rattle.std.specs.Int.Signed.{<ℤ-≤ℤ_trans, <ℤ_irrefl}
 use Rattle.std.proofs.lemmas.Int.{by_lt_z}
 use Rattle.std.specs.Ordering.{int_eq}
 use Rattle.std.specs.Cmp.{signed_Decides}
-use Rattle.sled_codec.specs.History.{History, CutFits}
-use Rattle.sled_codec.specs.PageTables.{IsTable}
-use Rattle.sled_codec.specs.Snapshots.{SnapshotModel, FitsSnapshot, short_snapshot, stable_place}
-use Rattle.sled_codec.specs.SnapshotLaws.{short_spells-snapshot}
-use Rattle.sled_store.specs.Device.{NameState, NamesState, LeavesName, renamed, unnamed, names_synced}
+use Rattle.sled_codec.specs.History.{History}
+use Rattle.sled_codec.specs.Snapshots.{SnapshotModel, stable_place}
+use Rattle.sled_store.specs.Device.{NamesState, LeavesName, renamed, unnamed, names_synced}
 use Rattle.sled_store.specs.Durable.{IsSettledName}
-use Rattle.sled_store.proofs.Names.NamesLemmas.{settled_name_left, settled_name_synced, file_renamed, after_renamed, after_unnamed}
+use Rattle.sled_store.proofs.Names.NamesLemmas.{settled_name_left, settled_name_synced, file_renamed, after_unnamed}
 use Rattle.sled_store.proofs.Crashes.SyncedLemmas.{firm_renamed}
-use Rattle.sled_core.specs.Recoverable.{IsTableFile, AreRecoverableSnapshots, ActiveFits}
-use Rattle.sled_log.specs.WritesBack.{short_file}
-use Rattle.sled_log.proofs.SnapshotFile.NewestLemmas.{sound_at}
+use Rattle.sled_core.specs.Recoverable.{AreRecoverableSnapshots}
 use Rattle.sled_log.proofs.SnapshotFile.OtherLemmas.{same_name, other_name}
 use Rattle.sled_store.proofs.Names.Trailers.{one_snapshot}
 

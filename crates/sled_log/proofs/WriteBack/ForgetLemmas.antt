@@ -1,5 +1,5 @@
 -- What is read once segments that recovery did not read were overwritten with zeros, and blobs from a place on were removed.
-use Rattle.std.proofs.Common.{◌≡◌, ◌∙◌, ◌≤ℤ◌, ◌<ℤ◌, ◌+◌, ◌<◌, ℕ, ℤ, true, List, [], ◌∷◌, ◌++◌, length, get_or, take, drop, replicate, Option, Some, None, is_some, refl, sym, ap, subst, inl, inr, take-append-drop}
+use Rattle.std.proofs.Common.{◌≡◌, ◌∙◌, ◌≤ℤ◌, ◌<ℤ◌, ◌+◌, ◌<◌, ℕ, ℤ, true, List, [], ◌∷◌, ◌++◌, length, get_or, take, drop, replicate, Option, Some, None, is_some, refl, sym, ap, subst, inl, take-append-drop}
 use Rattle.std.proofs.lemmas.List.{take_more}
 use lib.Signed.{clash_ℤ}
 use Rattle.sled_store.specs.Blobs.{removing_blobs, AreFrom, MayGo}

@@ -1,7 +1,6 @@
 -- Where all messages of a history lie in the first slot of a file, the table of it uses that slot.
-use Rattle.std.proofs.Common.{◌≡◌, ◌∙◌, ◌||◌, ◌==◌, ◌/◌, ◌<◌, ℕ, pos, Bool, true, false, if◌then◌else◌, List, ◌∷◌, map, Option, Some, None, refl, ap, inl, inr}
+use Rattle.std.proofs.Common.{◌≡◌, ◌∙◌, ◌||◌, ◌==◌, ◌/◌, ◌<◌, ℕ, pos, Bool, true, false, if◌then◌else◌, List, ◌∷◌, map, Option, Some, None, refl, ap}
 use Rattle.std.specs.List.{All, Contains, list_any}
-use Rattle.std.proofs.lemmas.List.Elements.{All-contains}
 use Rattle.sled_codec.specs.Pointers.{lid_of}
 use Rattle.sled_codec.specs.History.{Message, History, HasPage, table, of_page, page_state, last_beginning, entries_from, is_replace, begins_page}
 use Rattle.sled_codec.specs.PageTables.{entry_of, page_with, IsTable}
@@ -11,7 +10,7 @@ use Rattle.sled_store.specs.Begin.{entries_in, entries_of, slot_of}
 use Rattle.sled_store.proofs.Histories.Ascending.{Ascends, apart_ascends}
 use Rattle.sled_store.proofs.Histories.PageStates.{none_begins, begins_false, last_found}
 use Rattle.sled_log.proofs.Ready.SlotNamed.{any_page}
-use Rattle.sled_store.proofs.Histories.TableParts.{split_at, from_page, page_ascends, has_page, replaced_before}
+use Rattle.sled_store.proofs.Histories.TableParts.{from_page, page_ascends}
 
 -- the page of a message has an entry with its pointer
 of_base : (size : ℕ) (b : Message) (ms : List Message) → lid_of b.pointer / size ≡ 0 → list_any (λ e. slot_of size e == 0) (entries_in (page_with (b ∷ ms))) ≡ true

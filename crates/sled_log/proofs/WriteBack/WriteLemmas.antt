@@ -8,7 +8,7 @@ use Rattle.sled_store.specs.Script.{Performs, after_all}
 use Rattle.sled_log.specs.Recovery.{RecoveryResult, Outcome, Recovers}
 use Rattle.sled_log.specs.WritesBack.{HasPublished, Publishes, HasCommitted, CommitsBehind, HasForgotten, Forgets, HasWrittenBack, WritesBack, WritesBehind, FitsIfNew, AreOthersIfNew, IsOnlySnapshot, IsWrittenBack}
 use Rattle.sled_log.specs.WritesBack.{short_file, snapshot_number_of, publishing_file, publishing, removing, shredding, committing, forgetting, forgotten_from, writing_back, AreOthers, MayBeRemoved, after_shredding, after_zeroing}
-use Rattle.sled_store.proofs.Traces.ScriptLemmas.{after_joined, performs_whole, performs_more, performs_behind}
+use Rattle.sled_store.proofs.Traces.ScriptLemmas.{after_joined, performs_whole, performs_behind}
 use Rattle.sled_log.proofs.SnapshotFile.OtherLemmas.{file_at, same_name, other_name, same_others, missing_after, gone_after, kept_after, log_after, blobs_after}
 use Rattle.sled_log.proofs.WriteBack.ForgetLemmas.{forgotten_log, forgotten_snapshots, forgotten_none, forgotten_below}
 

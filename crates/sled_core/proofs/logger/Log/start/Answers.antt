@@ -1,15 +1,11 @@
-use Rattle.std.proofs.Common.{◌≡◌, ◌≢◌, Err, ◌∙◌, ◌+◌, ◌≤◌, ◌<◌, ◌^◌, ℕ, List, [], None, length, rules, refl, ap, sym, subst, arith}
-use Rattle.sled_codec.specs.declared.result.Error.{Error}
-use Rattle.sled_codec.specs.declared.result.Error.TheVariants.{PlacesUsedUp}
-use Rattle.sled_codec.specs.Errors.{IsCorrupt, IsCorruption}
+use Rattle.std.proofs.Common.{◌≡◌, ◌∙◌, ◌+◌, ℕ, List, [], None, length, rules, refl, ap, sym, subst, arith}
 use Rattle.sled_codec.specs.Snapshots.{SnapshotModel, model_of, stable_place}
 use Rattle.sled_store.specs.declared.config.Config.{Config}
 use Rattle.sled_store.specs.Device.{State, LogState, NamesState, Trace, state_of, at_rest}
 use Rattle.sled_store.specs.declared.segment.start.Beginning.{Beginning}
 use Rattle.sled_store.specs.Script.{after_all}
-use Rattle.sled_store.specs.Begin.{unused, slots_of, place_at, filling, IsStartable, IsInReach}
+use Rattle.sled_store.specs.Begin.{unused, slots_of, place_at, filling}
 use Rattle.sled_core.specs.declared.iobuf.Reserved.{Reserved}
-use Rattle.sled_core.specs.Causes.{StartAnswers}
 use Rattle.sled_core.specs.Fits.{log_parts}
 use Rattle.sled_core.specs.Fits.{Holds, HoldsIn}
 use Rattle.sled_core.specs.declared.iobuf.SegmentPosition.{SegmentPosition}

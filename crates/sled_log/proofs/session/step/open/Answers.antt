@@ -1,5 +1,5 @@
 -- An opening goes on from what the recovery gave.
-use Rattle.std.proofs.Common.{◌≡◌, ◌<◌, ℕ, refl, sym, ap, subst, None}
+use Rattle.std.proofs.Common.{◌≡◌, ℕ, refl, sym, ap, subst, None}
 use Rattle.sled_codec.specs.declared.serialization.snapshot.Snapshot.{Snapshot}
 use Rattle.sled_codec.specs.History.{below}
 use Rattle.sled_codec.specs.Snapshots.{SnapshotModel, model_of, stable_place}
