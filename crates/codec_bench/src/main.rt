@@ -1,5 +1,5 @@
-//! The program `codec_bench`: how long the codecs take for a value, and a log for a record
-//! (`docs/BENCHMARKS.md`).
+//! The program `codec_bench`: how long the codecs take for a value, a log for a record, the accountant for a segment, and
+//! the stable end for an interval that is synced (`docs/BENCHMARKS.md`).
 //!
 //! Without an argument it prints one fixed line. With the argument `time` it measures, and prints a line
 //! for each figure.
@@ -12,6 +12,7 @@ mod logs;
 mod numbers;
 mod recoveries;
 mod sequence;
+mod syncs;
 
 use recoveries::Shape;
 use sequence::Sequence;
@@ -38,7 +39,10 @@ fn main(rt: HostRuntime) -> io::Result<()> {
     logs::measure(&rt, "records of 4000 bytes", 3997)?;
     logs::measure_start(&rt)?;
     measure_recoveries(&rt)?;
-    measure_accounts(&rt)
+    measure_accounts(&rt)?;
+    syncs::measure_in_order(&rt)?;
+    syncs::measure_shuffled(&rt, "intervals in windows of 64", 64, &mut sequence)?;
+    syncs::measure_shuffled(&rt, "intervals in windows of 4096", 4096, &mut sequence)
 }
 
 // Recovery of 100 MB with bodies of some lengths, and of more and more segments with as many pages more.

@@ -16,4 +16,5 @@ pub mod TornBegun
 pub mod TornBehind
 pub mod WholeBegun
 pub mod WholeBehind
+pub mod WrittenUnread
 pub mod WrittenWhole

@@ -1,9 +1,7 @@
 pub mod Entries
-pub mod FilledActive
-pub mod FilledMoments
 pub mod FreshLemmas
 pub mod FreshReady
-pub mod GoodFilled
+pub mod GoodStarted
 pub mod KeptActive
 pub mod OpenLemmas
 pub mod PaddedActive
@@ -14,6 +12,8 @@ pub mod ReadyStarts
 pub mod Recoverable
 pub mod SegmentSizes
 pub mod StartFits
+pub mod StartedActive
+pub mod StartedMoments
 pub mod StartedSite
 pub mod UsedEntries
 pub mod UsedLemmas

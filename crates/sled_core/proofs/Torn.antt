@@ -12,8 +12,6 @@ pub mod TornRecords
 pub mod WrittenBegun
 pub mod WrittenBehind
 pub mod WrittenBeside
-pub mod WrittenFound
-pub mod WrittenOrdering
 pub mod WrittenParts
 pub mod WrittenRecords
 pub mod WrittenTruth

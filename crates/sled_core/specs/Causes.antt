@@ -3,7 +3,7 @@ use Rattle.std.specs.Prelude.{◌≡◌, ◌⊎◌, [], ◌+◌, ◌%◌, ◌^�
 use Rattle.std.specs.declared.io.Error.{Error as IoError}
 use Rattle.sled_codec.specs.declared.result.Error.{Error}
 use Rattle.std.specs.String.{string_bytes}
-use Rattle.sled_codec.specs.declared.result.Error.TheVariants.{Io, OutOfMemory, Unsupported, Corruption, PlacesUsedUp}
+use Rattle.sled_codec.specs.declared.result.Error.TheVariants.{Io, OutOfMemory, Unsupported, Corruption}
 use Rattle.sled_codec.specs.declared.serialization.message.MessageKind.{MessageKind}
 use Rattle.sled_store.specs.Answers.{is_fault}
 use Rattle.sled_store.specs.Blobs.{NamesDamage}
@@ -40,21 +40,6 @@ ReaderAnswers (Ok _) early before after = after ≡ before
 ReaderAnswers (Err (Io e)) early before after = IsTrue (is_fault e) × (after ≡ (before + 1) % 2 ^ 64)
 ReaderAnswers (Err (Corruption at)) early before after = (after ≡ before) × (at ≡ None) × early
 ReaderAnswers (Err _) early before after = ⊥
-
--- a log can't begin on the snapshot, or no further segment is in reach
-abbrev pub IsUnfit : {T : Type 0} → Result T Error → Type 0
-IsUnfit (Err (Corruption at)) = Unit {0}
-IsUnfit (Err PlacesUsedUp) = Unit {0}
-IsUnfit _ = ⊥
-
--- The start of a log: as a call that reads, and the places are used up only where no further segment is in reach.
-abbrev pub StartAnswers : {T : Type 0} → Result T Error → Type 0 → ℕ → ℕ → Type 0
-StartAnswers (Ok _) in_reach before after = (after ≡ before) × in_reach
-StartAnswers (Err (Io e)) in_reach before after = IsTrue (is_fault e) × (after ≡ (before + 1) % 2 ^ 64)
-StartAnswers (Err OutOfMemory) in_reach before after = after ≡ before
-StartAnswers (Err (Corruption at)) in_reach before after = (after ≡ before) × (at ≡ None)
-StartAnswers (Err PlacesUsedUp) in_reach before after = (after ≡ before) × (in_reach → ⊥)
-StartAnswers (Err _) in_reach before after = ⊥
 
 -- A read of the log: as each call that may touch the device, and damage besides.
 abbrev pub ReadAnswers : {T : Type 0} → (List ℕ → ℕ) → (ℤ → Option (List ℕ)) → Result T Error → Option IoError → Option IoError → ℕ → ℕ → Type 0

@@ -12,6 +12,9 @@ pub mod Ready
 pub mod Recoverable
 pub mod Running
 pub mod Scan
+pub mod Stable
+pub mod StableEnds
 pub mod Starts
+pub mod Synced
 pub mod Tail
 pub mod Tickets

@@ -5,6 +5,7 @@ ghost use Rattle.sled_codec.specs.Written.{written};
 ghost use Rattle.sled_core.specs.declared.iobuf.Reserved.{Reserved};
 ghost use Rattle.sled_core.specs.Buffers.{completing, closed, open_in, placeholder_head, reserved_for};
 
+pub mod intervals;
 pub(crate) mod record;
 pub(crate) mod start;
 

@@ -1,6 +1,6 @@
 //! Laws of logs, each the contract of a function that does nothing. A proof cites them by the lemmas of
 //! `proofs/PublicLaws.antt`.
-ghost use Rattle.std.specs.Prelude.{◌≡◌, ◌≤◌, ◌<◌, ◌+◌, ◌^◌, ◌∷◌, ℕ, ℤ, pos, List, [], replicate, None, length, ◌-◌, Contains};
+ghost use Rattle.std.specs.Prelude.{◌≡◌, ◌⊎◌, ◌≤◌, ◌<◌, ◌≤ℤ◌, ◌<ℤ◌, ◌+◌, ◌^◌, ◌∷◌, ℕ, ℤ, pos, List, [], replicate, None, length, ◌-◌, Contains};
 ghost use Rattle.std.specs.Int.{w64, cast_signed, cast_unsigned};
 ghost use Rattle.std.specs.List.{All};
 ghost use Rattle.sled_codec.specs.History.{Message, History, no_history};
@@ -17,6 +17,7 @@ ghost use Rattle.sled_core.specs.Recoverable.{NoForeign, Recoverable, Recoverabl
 ghost use Rattle.sled_core.specs.Running.{Fits, Ready};
 ghost use Rattle.sled_core.specs.Tickets.{place_of, pointer_of};
 ghost use Rattle.sled_core.specs.Own.{IsSomeRecord, written_out_of_order, IsReachedToEnd};
+ghost use Rattle.sled_core.specs.StableEnds.{LiesIn, IsContiguousEnd, IsHalfSynced, IsStableEnd, AreApart};
 ghost use Rattle.sled_codec.specs.Sums.{place_sum};
 
 use crate::logger::Log;
@@ -156,4 +157,21 @@ pub fn nothing_becomes_foreign_by_a_write_behind()
         → NoForeign sum size (step (Wrote (length s.log.bytes) text text) s) (content_of (step (Wrote (length s.log.bytes) text text) s)) }
     ensures lost { (sum : List ℕ → ℕ) (size : ℕ) (s : State) (at : ℕ) (asked now : List ℕ) → NoForeign sum size s (content_of s)
         → NoForeign sum size (step (Wrote at asked now) (step Synced s)) (content_left (Settled []) (step (Wrote at asked now) (step Synced s))) }
+{}
+
+/// Intervals have one contiguous end, and with batches one stable end.
+pub fn there_is_one_stable_end()
+    ensures contiguous { (s : ℤ) (is : List (ℤ × ℤ)) (e e' : ℤ) → IsContiguousEnd s is e → IsContiguousEnd s is e' → e ≡ e' }
+    ensures stable { (s : ℤ) (is bs : List (ℤ × ℤ)) (r r' : ℤ) → IsStableEnd s is bs r → IsStableEnd s is bs r' → r ≡ r' }
+{}
+
+/// Where batches share no place, none has the stable end inside it, below its peg.
+pub fn no_batch_is_cut_in_two()
+    ensures { (s : ℤ) (is bs : List (ℤ × ℤ)) (r : ℤ) → IsStableEnd s is bs r → All (λ b. b.0 ≤ℤ b.1) bs
+        → ((a b : ℤ × ℤ) → Contains bs a → Contains bs b → (a ≡ b) ⊎ AreApart a b) → All (λ b. IsHalfSynced r b → ⊥) bs }
+{}
+
+/// A place above the start that is in no interval lies beyond the contiguous end.
+pub fn places_not_synced_are_beyond()
+    ensures { (s : ℤ) (is : List (ℤ × ℤ)) (e p : ℤ) → IsContiguousEnd s is e → s <ℤ p → All (λ i. LiesIn p i → ⊥) is → e <ℤ p }
 {}

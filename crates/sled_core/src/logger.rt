@@ -19,12 +19,14 @@ ghost use Rattle.sled_core.specs.Buffers.{record_size};
 ghost use Rattle.sled_codec.specs.Snapshots.{model_of};
 ghost use Rattle.sled_store.specs.Script.{after_all, Performs};
 ghost use Rattle.sled_store.specs.Moments.{IsLater, LeavesOnly};
-ghost use Rattle.sled_store.specs.Begin.{IsStartable, IsInReach, slots_of, unused, filling};
+ghost use Rattle.sled_store.specs.Begin.{IsStartable, IsInReach};
+ghost use Rattle.sled_store.specs.Started.{started};
 ghost use Rattle.sled_core.specs.Recoverable.{LeavesRecoverable, RecoverableIfOwn};
 ghost use Rattle.sled_core.specs.Causes.{Answers, FaultAnswers, ReserveAnswers, ReadAnswers, failure_in};
 
 pub mod read_at;
 pub mod read_message;
+mod stable;
 pub(crate) mod unverified_record;
 
 use crate::iobuf::record::head_of;
@@ -62,7 +64,7 @@ impl<D: Device, C: Checksum> Log<D, C> {
 
     /// Begins a log on what a recovery left: it goes on at the snapshot's stable place. First it fills the
     /// slots of the file that the snapshot does not use with zeros, in ascending order, and syncs the file
-    /// where there is one.
+    /// where there is one. Then, while more than one slot is free and the last one is, it cuts that off, and syncs the cut.
     ///
     /// # Errors
     ///
@@ -85,10 +87,10 @@ impl<D: Device, C: Checksum> Log<D, C> {
             IfOk result (λ log. BeginsBehind config.config.segment_size len (model_of snapshot.now) log) }
         ensures config { ConfigKept config (config_left result) }
         ensures later { IsLater (D.trace config.device) (D.trace (config_left result).device) }
-        ensures filled { let size = config.config.segment_size in let s = model_of snapshot.now in let old = D.trace config.device in
-            OnOk result (D.trace (config_left result).device ≡ after_all (filling size (unused size (slots_of size (length (state_of old).log.bytes)) s)) old) }
+        ensures made { let size = config.config.segment_size in let s = model_of snapshot.now in let old = D.trace config.device in
+            OnOk result (D.trace (config_left result).device ≡ after_all (started size (length (state_of old).log.bytes) s).calls old) }
         ensures calls { let size = config.config.segment_size in let s = model_of snapshot.now in let old = D.trace config.device in
-            Performs (filling size (unused size (slots_of size (length (state_of old).log.bytes)) s)) old (D.trace (config_left result).device) }
+            Performs (started size (length (state_of old).log.bytes) s).calls old (D.trace (config_left result).device) }
         ensures answers { let size = config.config.segment_size in let s = model_of snapshot.now in
             let len = length (state_of (D.trace config.device)).log.bytes in let device = (config_left result).device in
             StartsOrRefuses result (IsStartable size len s) (IsInReach size len s) (D.trace device ≡ D.trace config.device)

@@ -14,7 +14,8 @@ use Rattle.sled_store.specs.Answers.{is_fault}
 use Rattle.sled_store.specs.Chosen.{MayBeChosen}
 use Rattle.sled_store.specs.Noted.{left_of}
 use Rattle.sled_store.specs.Script.{Performs, after_all}
-use Rattle.sled_store.specs.Begin.{slots_of, unused, filling, IsStartable, IsInReach}
+use Rattle.sled_store.specs.Begin.{IsStartable, IsInReach}
+use Rattle.sled_store.specs.Started.{started}
 use Rattle.sled_store.specs.Causes.{StartRefuses}
 use Rattle.sled_core.specs.Causes.{IsFault}
 use Rattle.sled_core.specs.Fits.{IsKept}
@@ -73,9 +74,9 @@ pub record HasRecovered (sum : List ℕ → ℕ) (size : ℕ) (old new : DeviceV
   pub written : HasWrittenBack sum size conclusion (NamesSynced ∷ Synced ∷ old.trace) new.trace
   pub failures : new.failures ≡ old.failures
 
--- the calls that the start of a log makes: the slots of the file that the snapshot doesn't use are filled with zeros
+-- the calls that the start of a log makes: the slots of the file that the snapshot doesn't use are filled with zeros, and free ones at its end cut off but for one
 abbrev pub starting : ℕ → Trace → SnapshotModel → List Event
-starting size trace s = filling size (unused size (slots_of size (length (state_of trace).log.bytes)) s)
+starting size trace s = (started size (length (state_of trace).log.bytes) s).calls
 
 -- A log was started on what was recovered, where one can begin on that and a further segment is in reach; or the calls for it were made up to one that failed; or none where it is refused.
 abbrev pub StartActs : ℕ → DeviceView → Reply → DeviceView → Type 0

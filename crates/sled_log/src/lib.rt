@@ -32,10 +32,13 @@ pub mod device {
     pub use sled_store::device::memory::MemDevice;
 }
 
-/// The sizes that the bytes of a segment are laid out by.
+/// The sizes that the bytes of a segment are laid out by, and which places of the log are durable.
 ///
-/// A segment begins with its header, and a message with one of its own.
+/// A segment begins with its header, and a message with one of its own. Intervals of places are synced in any order, and a
+/// batch counts only as a whole; `stable_end_of` is the slow way to the same end, for tests.
 pub mod iobuf {
+    pub use sled_core::iobuf::intervals::StabilityIntervals;
+    pub use sled_core::iobuf::intervals::reference::stable_end_of;
     pub use sled_store::segment::{MAX_MSG_HEADER_LEN, SEG_HEADER_LEN};
 }
 

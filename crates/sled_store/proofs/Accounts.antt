@@ -14,6 +14,7 @@ pub mod StabilIndex
 pub mod StabilSlots
 pub mod StabilSteps
 pub mod StartIndex
+pub mod StartNext
 pub mod StartPages
 pub mod StartSlots
 pub mod TreeLemmas

@@ -85,6 +85,9 @@ fn laws_of_logs() {
     core_laws::nothing_becomes_foreign_after_a_crash();
     core_laws::nothing_becomes_foreign_by_a_write_behind();
     core_laws::zeros_are_no_header();
+    core_laws::there_is_one_stable_end();
+    core_laws::no_batch_is_cut_in_two();
+    core_laws::places_not_synced_are_beyond();
     log_laws::histories_of_replaces_are_orderly();
     log_laws::a_later_message_is_appended();
     log_laws::entries_stand_for_messages();

@@ -54,6 +54,7 @@ impl Opened {
         match name {
             "is_open" => self.is_open(words.number(), out),
             "flush" => self.flush(out),
+            "make_stable" => self.make_stable(words.signed(), out),
             "read" => self.read(words.number(), words.signed(), words.pointer(), out),
             "pins" => out.text.number(self.log.pins()),
             "stable" => out.text.signed(self.log.stable_offset()),
@@ -210,6 +211,18 @@ impl Opened {
         }
     }
 
+    // Makes what was reserved durable up to a place.
+    fn make_stable(&mut self, place: i64, out: &mut Answer) {
+        if !self.log.none_open() {
+            out.refused();
+            return;
+        }
+        match self.log.make_stable(place) {
+            Ok(grown) => out.text.number(grown as u64),
+            Err(e) => out.error(&e),
+        }
+    }
+
     // Reads a message that was written.
     fn read(&mut self, page: PageId, place: i64, at: DiskPtr, out: &mut Answer) {
         let DiskPtr::Inline(lid) = at else {
@@ -235,6 +248,16 @@ impl Opened {
             return (log.halt(), None);
         }
         let (config, answer) = restart(log);
+        (config, Some(answer))
+    }
+
+    /// Gives pins and tickets up, and closes the log where no reservation is open.
+    pub fn close(self) -> (Running, Option<Result<usize>>) {
+        let log = self.into_log();
+        if !log.none_open() {
+            return (log.halt(), None);
+        }
+        let (config, answer) = log.close();
         (config, Some(answer))
     }
 

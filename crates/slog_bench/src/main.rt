@@ -11,6 +11,7 @@ mod codecs;
 mod devices;
 mod functions;
 mod hostile;
+mod intervals;
 mod lines;
 mod logs;
 mod noted;
@@ -37,7 +38,7 @@ use tally::Tally;
 use texts::Text;
 
 // The files under `data/`, one a kind.
-const FILES: [&str; 13] = [
+const FILES: [&str; 14] = [
     "codecs.txt",
     "segment_headers.txt",
     "words.txt",
@@ -51,6 +52,7 @@ const FILES: [&str; 13] = [
     "accountant.txt",
     "accountant_blobs.txt",
     "accountant_start.txt",
+    "intervals.txt",
 ];
 
 fn main(rt: HostRuntime) -> ExitCode {
@@ -108,6 +110,7 @@ fn run(alloc: Global, name: &str, text: &str, tally: &mut Tally<'_>) {
         "accountant.txt" | "accountant_blobs.txt" | "accountant_start.txt" => {
             accountant::run(alloc, text, tally)
         }
+        "intervals.txt" => intervals::run(alloc, text, tally),
         _ => run_lines(alloc, name, text, tally),
     }
 }

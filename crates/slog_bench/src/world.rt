@@ -78,6 +78,7 @@ impl World {
             "size" => self.size(words.number(), out),
             "start" => self.start(out),
             "halt" => self.halt(out),
+            "close" => self.close_log(out),
             "restart" => self.restart(out),
             "recover" => self.recover(out),
             "plain" => self.recover_plainly(out),
@@ -155,6 +156,21 @@ impl World {
                 self.config = Some(opened.halt());
                 out.ok();
             }
+            None => out.refused(),
+        }
+    }
+
+    // Flushes and closes the log that is open.
+    fn close_log(&mut self, out: &mut Answer) {
+        let Some(opened) = self.opened.take() else {
+            out.refused();
+            return;
+        };
+        let (config, answer) = opened.close();
+        self.config = Some(config);
+        match answer {
+            Some(Ok(grown)) => out.text.number(grown as u64),
+            Some(Err(e)) => out.error(&e),
             None => out.refused(),
         }
     }

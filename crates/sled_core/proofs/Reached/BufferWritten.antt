@@ -15,6 +15,7 @@ use Rattle.sled_core.specs.Buffers.{IsChain, completed_in, none_open, Stands}
 use Rattle.sled_core.specs.Recoverable.{NoHeaderOfZeros, NoMessageBegins}
 use Rattle.sled_core.specs.Tail.{least_place}
 use Rattle.sled_core.proofs.Torn.TornLemmas.{after_write}
+use Rattle.sled_core.proofs.Torn.WrittenRecords.{all_clear}
 use Rattle.sled_core.proofs.Read.StandLemmas.{ending_at}
 use Rattle.sled_core.proofs.Reached.BufferPath.{HasOnly, BeginsBehind, never_capped, ended_there, buffer_path, buffer_end, buffer_truth, buffer_header, buffer_mark, buffer_mark_below}
 use Rattle.sled_core.proofs.Reached.Higher.{IsBegunOrLedTo}
@@ -64,7 +65,7 @@ module _ (sum : List ℕ → ℕ) (none : NoHeaderOfZeros sum) (size : ℕ) (som
   pub torn_buffer : (now left : List ℕ) → length now ≤ length asked → LeavesLog (after_write old (slot * size + from) asked now) left → {placed : List (ℕ × List ℕ)}
       → NoForeignLog sum size (after_write old (slot * size + from) asked now) placed left → StandsTo sum size left H A first reach
   torn_buffer now left no_more leaves only_own =
-      torn_stands sum none size some old slot from asked inside clean H A first reach is place written_how _ (length bytes) (ending_at size (length bytes))
+      torn_stands sum none size some old slot from asked inside size inside clean H A first reach is place written_how _ (length bytes) (ending_at size (length bytes)) (all_clear size (max 20 from) _)
       (buffer_path sum size site old bytes from rs behind short place_begins (mul-mod_left slot size) place_small slot_small chain stand room closed)
       (buffer_end sum size site old bytes from rs behind short place_begins (mul-mod_left slot size) place_small slot_small chain stand room closed clean)
       (buffer_truth sum size site old bytes from rs behind short place_begins (mul-mod_left slot size) place_small slot_small chain stand room closed H has)
@@ -75,7 +76,7 @@ module _ (sum : List ℕ → ℕ) (none : NoHeaderOfZeros sum) (size : ℕ) (som
       → IsBegunOrLedTo size is.scanned (least_place size first) reach place → NoMessageBegins H reach place → ((b : Batch) → Contains H.batches b → b.low < place + length bytes → b.peg < place + length bytes)
       → StandsTo sum size (overwritten old (slot * size + from) asked) H A' first (place + length bytes)
   written_buffer =
-      written_stands sum none size some old slot from asked inside clean H A first reach is place written_how _ (length bytes) (ending_at size (length bytes))
+      written_stands sum none size some old slot from asked inside size inside clean H A first reach is place written_how _ (length bytes) (ending_at size (length bytes)) (all_clear size (max 20 from) _)
       (buffer_path sum size site old bytes from rs behind short place_begins (mul-mod_left slot size) place_small slot_small chain stand room closed)
       (buffer_end sum size site old bytes from rs behind short place_begins (mul-mod_left slot size) place_small slot_small chain stand room closed clean)
       (buffer_truth sum size site old bytes from rs behind short place_begins (mul-mod_left slot size) place_small slot_small chain stand room closed H has)

@@ -14,6 +14,7 @@ use Rattle.sled_core.specs.Recoverable.{NoHeaderOfZeros, NoMessageBegins, NoBatc
 use Rattle.sled_core.specs.Scan.{IsPath, IsEnd, IsScan}
 use Rattle.sled_core.proofs.Torn.TornLemmas.{after_write}
 use Rattle.sled_core.proofs.Torn.WrittenParts.{path_rises}
+use Rattle.sled_core.proofs.Torn.WrittenRecords.{AreClear}
 use Rattle.sled_core.specs.Tail.{Scanned, least_place}
 use Rattle.sled_store.proofs.Histories.Ascending.{Ascends}
 use Rattle.sled_core.proofs.Tail.OneTail.{segment_there}
@@ -37,8 +38,8 @@ pub record BeginsSegment (sum : List ℕ → ℕ) (size : ℕ) (H : History) (or
   pub alone : (s : Segment) → Contains ordering s → s.place ≢ place
 
 module _ (sum : List ℕ → ℕ) (none : NoHeaderOfZeros sum) (size : ℕ) (some : 256 ≤ size) (old : List ℕ) (slot from : ℕ) (asked : List ℕ) (inside : from + length asked ≤ size)
-    (clean : (i : ℕ) → slot * size + from ≤ i → i < slot * size + size → get_or old i 0 ≡ 0) (H : History) (A : ℕ) (first : SnapshotModel) (reach : ℕ) (is : StandsTo sum size old H A first reach) (place : ℕ)
-    (how : GoesOnIn is.scanned (slot * size) from place ⊎ BeginsSegment sum size H is.ordering reach (slot * size) from asked place) (more : List ScannedRecord) (stop : ℕ) (why : ScanEnd)
+    (until : ℕ) (covers : from + length asked ≤ until) (clean : (i : ℕ) → slot * size + from ≤ i → i < slot * size + until → get_or old i 0 ≡ 0) (H : History) (A : ℕ) (first : SnapshotModel) (reach : ℕ) (is : StandsTo sum size old H A first reach) (place : ℕ)
+    (how : GoesOnIn is.scanned (slot * size) from place ⊎ BeginsSegment sum size H is.ordering reach (slot * size) from asked place) (more : List ScannedRecord) (stop : ℕ) (why : ScanEnd) (clear : AreClear size until (max 20 from) more)
     (path : IsPath sum size (overwritten old (slot * size + from) asked) (slot * size) place (max 20 from) more stop) (end : IsEnd sum size (overwritten old (slot * size + from) asked) (slot * size) place stop why)
     (truth : (x : ScannedRecord) → Contains more x → IsOfHistory sum size (overwritten old (slot * size + from) asked) H x)
     (caps : why ≡ Capped → NoMessageBegins H (place + stop) (place + size) × NoBatchBegins H (place + stop) (place + size)) where
@@ -61,6 +62,12 @@ module _ (sum : List ℕ → ℕ) (none : NoHeaderOfZeros sum) (size : ℕ) (som
       let begins : max 20 from ≡ from = omega (arith, far) in
       subst (λ n. IsPath sum size new (slot * size) n from more stop) (sym g.at_place) (subst (λ n. IsPath sum size new (slot * size) place n more stop) begins path)
 
+  clear_on : (g : GoesOnIn is.scanned (slot * size) from place) → AreClear size until from more
+  clear_on g = let far = behind g in let begins : max 20 from ≡ from = omega (arith, far) in subst (λ n. AreClear size until n more) begins clear
+
+  clear_first : from ≡ 0 → AreClear size until 20 more
+  clear_first begins = let at : max 20 from ≡ 20 = omega (arith, begins) in subst (λ n. AreClear size until n more) at clear
+
   end_on : (g : GoesOnIn is.scanned (slot * size) from place) → IsEnd sum size new (slot * size) g.scan.segment.place stop why
   end_on g = subst (λ n. IsEnd sum size new (slot * size) n stop why) (sym g.at_place) end
 
@@ -74,9 +81,9 @@ module _ (sum : List ℕ → ℕ) (none : NoHeaderOfZeros sum) (size : ℕ) (som
   pub torn_stands : (now left : List ℕ) → length now ≤ length asked → LeavesLog (after_write old (slot * size + from) asked now) left → {placed : List (ℕ × List ℕ)}
       → NoForeignLog sum size (after_write old (slot * size + from) asked now) placed left → StandsTo sum size left H A first reach
   torn_stands now left no_more leaves only_own = elim how [
-    | inl g ↦ torn_behind sum size some old slot from asked now left inside no_more leaves clean only_own H A first reach is g.scan g.there g.in_slot g.ended g.broken more stop why (path_on g) (end_on g) truth (caps_on g)
-    | inr b ↦ torn_begun sum none size some old slot from b.begins asked now left inside no_more leaves clean only_own H A first reach is place b.mark b.header b.whole b.fits b.its_mark b.mark_below b.alone more stop why
-        (path_first b.begins) end truth caps
+    | inl g ↦ torn_behind sum size some old slot from asked now left inside no_more leaves until covers clean only_own H A first reach is g.scan g.there g.in_slot g.ended g.broken more stop why (clear_on g) (path_on g) (end_on g) truth (caps_on g)
+    | inr b ↦ torn_begun sum none size some old slot from b.begins asked now left inside no_more leaves until covers clean only_own H A first reach is place b.mark b.header b.whole b.fits b.its_mark b.mark_below b.alone more stop why
+        (clear_first b.begins) (path_first b.begins) end truth caps
   ]
 
   -- All of it.
@@ -87,6 +94,6 @@ module _ (sum : List ℕ → ℕ) (none : NoHeaderOfZeros sum) (size : ℕ) (som
         (λ n. A' ≤ n + stop → reach ≤ n + stop → IsBegunOrLedTo size is.scanned (least_place size first) reach n → NoMessageBegins H reach n
         → ((b : Batch) → Contains H.batches b → b.low < n + stop → b.peg < n + stop) → StandsTo sum size new H A' first (n + stop))
         g.at_place (written_behind sum size some old slot from asked inside H ordered A first reach is g.scan g.there g.in_slot g.ended g.broken more stop why (path_on g) (end_on g) truth (caps_on g) A') passes far led between closed
-    | inr b ↦ written_begun sum size some old slot from asked inside H ordered A first reach is none there b.begins clean place b.mark b.header low b.whole b.fits b.its_mark b.mark_below b.alone more stop why
+    | inr b ↦ written_begun sum size some old slot from asked inside H ordered A first reach is none there b.begins until covers clean place b.mark b.header low b.whole b.fits b.its_mark b.mark_below b.alone more stop why
         (path_first b.begins) end truth caps A' passes far led between closed
   ]

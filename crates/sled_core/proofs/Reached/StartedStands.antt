@@ -1,53 +1,42 @@
--- While an accountant starts on a settled log file, a crash at any moment leaves a log file that stands up to the same place: the slots that the snapshot uses have each segment that is found and each that a table needs.
-use Rattle.std.proofs.Common.{◌≡◌, ◌≢◌, ◌≤◌, ◌<◌, ◌+◌, ◌-◌, ◌*◌, ◌/◌, ◌%◌, ◌∙◌, ℕ, suc, true, List, [], ◌∷◌, ◌++◌, length, take, drop, refl, sym, ap, arith, subst, inl, inr, length-take, length-drop}
-use Rattle.std.specs.List.{All, Contains}
+-- While an accountant starts on a settled log file, a crash at any moment leaves the bytes of the slots that the snapshot uses; the segments that are found, and those that a table needs, lie in slots of the file.
+use Rattle.std.proofs.Common.{◌≡◌, ◌≢◌, ◌≤◌, ◌<◌, ◌+◌, ◌-◌, ◌*◌, ◌/◌, ◌%◌, ◌∙◌, ℕ, suc, List, [], ◌∷◌, ◌++◌, length, take, drop, refl, sym, ap, arith, subst, inl, inr, length-take, length-drop}
+use Rattle.std.specs.List.{All}
 use Rattle.std.proofs.Math.Nat.{mod-add-div', mul-le-mul_right}
 use Rattle.std.proofs.lemmas.Bool.{cases_eq, cases_lt, cases_order}
 use Rattle.std.proofs.lemmas.List.{take_all}
-use Rattle.sled_codec.specs.History.{Message, History, table}
+use Rattle.sled_codec.specs.History.{Message, History}
 use Rattle.sled_codec.specs.Places.{part}
 use Rattle.sled_codec.specs.Pointers.{lid_of}
-use Rattle.sled_codec.specs.Snapshots.{SnapshotModel}
-use Rattle.sled_store.specs.Begin.{filling, slots_of, is_used, unused}
-use Rattle.sled_store.specs.Device.{Event, Trace, LogState, State, Content, state_of, step, at_rest, LeavesLog}
-use Rattle.sled_store.specs.Foreign.{NoForeignLog}
-use Rattle.sled_store.specs.Moments.{AllLeft, LeavesOnly}
-use Rattle.sled_store.specs.Script.{Performs, Along, after_all}
+use Rattle.sled_store.specs.Begin.{filling, slots_of}
+use Rattle.sled_store.specs.Device.{Event, Trace, LogState, State, state_of, step, at_rest, LeavesLog}
+use Rattle.sled_store.specs.Moments.{AllLeft}
+use Rattle.sled_store.specs.Script.{Along, after_all}
 use Rattle.sled_store.specs.SegmentStates.{SlotState, left_after, cutting}
-use Rattle.sled_store.specs.Started.{found, started}
 use Rattle.sled_store.proofs.LogFile.LogLemmas.{at_rest_left, part_cut}
-use Rattle.sled_store.proofs.Segments.FilledLemmas.{filled, filling-log, filled_covered, free_below, slot_before}
-use Rattle.sled_store.proofs.Traces.ScriptLemmas.{performs_throughout}
+use Rattle.sled_store.proofs.Segments.FilledLemmas.{filled, filling-log, slot_before}
 use Rattle.sled_core.specs.declared.iterator.Segment.{Segment}
-use Rattle.sled_core.specs.Recoverable.{NoHeaderOfZeros, IsSegmentOf}
+use Rattle.sled_core.specs.Recoverable.{IsSegmentOf}
 use Rattle.sled_core.specs.Scan.{IsFoundSegment}
-use Rattle.sled_core.specs.Tail.{least_place}
 use Rattle.sled_core.proofs.Read.FoundLemmas.{found_there}
 use Rattle.sled_core.proofs.Read.ScanLemmas.{aligned_offset}
 use Rattle.sled_core.proofs.Torn.AlikeSlots.{SameIn, slot_found}
 use Rattle.sled_core.proofs.Torn.CutAlong.{cutting_along}
 use Rattle.sled_core.proofs.Torn.CutSlots.{below_same}
-use Rattle.sled_core.proofs.Torn.FilledAlong.{filled_along, unused_begin, used_apart}
+use Rattle.sled_core.proofs.Torn.FilledAlong.{filled_along}
 use Rattle.sled_core.proofs.Torn.FilledBehind.{filled_same}
 use Rattle.sled_core.proofs.Torn.FilledSlots.{others_same}
-use Rattle.sled_core.proofs.Torn.KeptSlots.{KeepsIfOwn, starting_along, along_both}
-use Rattle.sled_core.proofs.Torn.StartedSlots.{UsedIn, used_left}
-use Rattle.sled_core.proofs.Reached.KeptStands.{SameInUsed, kept_stands}
-use Rattle.sled_core.proofs.Reached.StandsTo.{StandsTo}
-
--- What a crash left stands up to a place, where only what the log itself wrote passes as its own.
-abbrev pub StandsIfOwn : (List ℕ → ℕ) → ℕ → History → ℕ → SnapshotModel → ℕ → State → Content → Type 0
-StandsIfOwn sum size H A first reach past left = NoForeignLog sum size past.log past.placed left.log → StandsTo sum size left.log H A first reach
+use Rattle.sled_core.proofs.Torn.KeptSlots.{along_both}
+use Rattle.sled_core.proofs.Reached.KeptStands.{SameInUsed}
 
 -- what two things that hold on the way say together
-both_along : (P Q R : State → Type 0) → ((x : State) → P x → Q x → R x) → (es : List Event) (s : State) → Along P es s → Along Q es s → Along R es s
+pub both_along : (P Q R : State → Type 0) → ((x : State) → P x → Q x → R x) → (es : List Event) (s : State) → Along P es s → Along Q es s → Along R es s
 both_along P Q R each [] s p q = each s p q
 both_along P Q R each (e ∷ es) s p q = (each s p.0 q.0, (λ torn tears. each (step torn s) (p.1 torn tears) (q.1 torn tears)), both_along P Q R each es (step e s) p.2 q.2)
 
 -- The bytes of a slot.
 module _ (size : ℕ) where
   -- those that one file has of another, and that one of a third, it has of the third
-  same_then : (old mid left : List ℕ) (j : ℕ) → SameIn size old mid j → SameIn size mid left j → SameIn size old left j
+  pub same_then : (old mid left : List ℕ) (j : ℕ) → SameIn size old mid j → SameIn size mid left j → SameIn size old left j
   same_then old mid left j first then lid len low high there = elim (cases_eq len 0) [
     | inl nothing ↦ subst (λ n. part left lid n ≡ part old lid n) (sym nothing) refl
     | inr some ↦ (
@@ -57,7 +46,7 @@ module _ (size : ℕ) where
   ]
 
   -- a file that is cut above the slot has them
-  cut_same : (old : List ℕ) (slots j : ℕ) → j < slots → SameIn size old (take (slots * size) old) j
+  pub cut_same : (old : List ℕ) (slots j : ℕ) → j < slots → SameIn size old (take (slots * size) old) j
   cut_same old slots j below lid len low high there =
       let count : lid + len - lid ≡ len = omega arith in
       ap (λ n. take n (drop lid (take (slots * size) old))) (sym count)
@@ -85,7 +74,7 @@ module _ (sum : List ℕ → ℕ) (size : ℕ) (Used : ℕ → Type 0) (long : 2
       shorter : (m : ℕ) → left_after n slots ≤ m → SameInUsed size Used log (take (m * size) old)
       shorter m low j used = same_then size log old (take (m * size) old) j (same j used) (cut_same size old m j (let lower = below j used in omega (arith, lower, low)))
 
-  starting_has : (ks : List ℕ) (slots : List SlotState) (n : ℕ) → All (λ k. k * size < length log) ks → length (filled size log ks) ≤ n * size → ((j : ℕ) → Used j → All (λ k. k ≢ j) ks) → ((j : ℕ) → Used j → j < left_after n slots)
+  pub starting_has : (ks : List ℕ) (slots : List SlotState) (n : ℕ) → All (λ k. k * size < length log) ks → length (filled size log ks) ≤ n * size → ((j : ℕ) → Used j → All (λ k. k ≢ j) ks) → ((j : ℕ) → Used j → j < left_after n slots)
       → (t : Trace) → (state_of t).log ≡ at_rest log → Along HasBytes (filling size ks ++ cutting size n slots) (state_of t)
   starting_has ks slots n begin short apart below t is =
       let same : SameInUsed size Used log (filled size log ks) = (λ j used. filled_same sum size log ks long begin j (apart j used)) in
@@ -93,22 +82,6 @@ module _ (sum : List ℕ → ℕ) (size : ℕ) (Used : ℕ → Type 0) (long : 2
       (filled_along HasBytes size log ks (state_of t) is (λ x filling blobs snapshots left leaves j used. others_same sum size log ks x.log filling left.log leaves.log j (apart j used))
       (λ x behind blobs snapshots. rest_has (filled size log ks) same x behind))
       (cutting_has slots n (filled size log ks) same short below (state_of (after_all (filling size ks) t)) (filling-log size ks t log is))
-
--- So what stands up to a place in the log file does so in each that a crash leaves.
-module _ (sum : List ℕ → ℕ) (size : ℕ) (Used : ℕ → Type 0) (long : 20 ≤ size) (none : NoHeaderOfZeros sum) (log : List ℕ) (H : History) (A : ℕ) (first : SnapshotModel) (reach : ℕ) (is : StandsTo sum size log H A first reach)
-    (listed : (s : Segment) → Contains is.ordering s → Used (s.slot / size)) (entered : (page : ℕ) (m : Message) (entry : Contains (table H reach page) m) → Used ((is.needed page m entry).0.segment.slot / size))
-    (ks : List ℕ) (slots : List SlotState) (n : ℕ) (begin : All (λ k. k * size < length log) ks) (short : length (filled size log ks) ≤ n * size) (apart : (j : ℕ) → Used j → All (λ k. k ≢ j) ks)
-    (below : (j : ℕ) → Used j → j < left_after n slots) where
-  pub starting_stands_along : (t : Trace) → (state_of t).log ≡ at_rest log → Along (AllLeft (StandsIfOwn sum size H A first reach)) (filling size ks ++ cutting size n slots) (state_of t)
-  starting_stands_along t rest =
-      both_along (AllLeft (KeepsIfOwn sum size Used log)) (HasBytes sum size Used long log) (AllLeft (StandsIfOwn sum size H A first reach))
-      (λ x keeps has left leaves own. kept_stands sum size Used log left.log (keeps left leaves own) (has left leaves) H A first reach is listed entered)
-      (filling size ks ++ cutting size n slots) (state_of t)
-      (starting_along sum size Used long none log ks slots n begin short apart below t rest)
-      (starting_has sum size Used long log ks slots n begin short apart below t rest)
-
-  pub starting_stands : (old new : Trace) → (state_of old).log ≡ at_rest log → Performs (filling size ks ++ cutting size n slots) old new → LeavesOnly (StandsIfOwn sum size H A first reach) old new
-  starting_stands old new rest calls = performs_throughout (AllLeft (StandsIfOwn sum size H A first reach)) (filling size ks ++ cutting size n slots) old new calls (starting_stands_along old rest)
 
 -- a slot in which a segment is found lies in the file
 pub found_inside : (sum : List ℕ → ℕ) (size : ℕ) (log : List ℕ) (least : ℕ) (s : Segment) → 20 ≤ size → IsFoundSegment sum size log least s → s.slot / size < slots_of size (length log)
@@ -122,24 +95,6 @@ found_inside sum size log least s long is_found =
           let more : slots * size ≤ s.slot / size * size = mul-le-mul_right size above in
           absurd (omega (arith, there, begins, more, long)))
     ]
-
--- At each moment of the calls that an accountant makes when it starts, also within a call, a crash leaves a log file that stands up to the same place.
-pub started_stands : (sum : List ℕ → ℕ) (size : ℕ) (s : SnapshotModel) → 20 ≤ size → NoHeaderOfZeros sum → (log : List ℕ) (H : History) (A : ℕ) (first : SnapshotModel) (reach : ℕ) (is : StandsTo sum size log H A first reach)
-    → ((x : Segment) → Contains is.ordering x → is_used size s (x.slot / size) ≡ true)
-    → ((page : ℕ) (m : Message) (entry : Contains (table H reach page) m) → is_used size s ((is.needed page m entry).0.segment.slot / size) ≡ true)
-    → (old new : Trace) → (state_of old).log ≡ at_rest log → Performs (started size (length log) s).calls old new → LeavesOnly (StandsIfOwn sum size H A first reach) old new
-started_stands sum size s long none log H A first reach is listed entered old new rest calls =
-    let slots = slots_of size (length log) in
-    let some : 0 < size = omega (arith, long) in
-    starting_stands sum size (UsedIn size (length log) s) long none log H A first reach is
-    (λ x there. (listed x there, found_inside sum size log (least_place size first) x long ((is.numbers.found x).0 there)))
-    (λ page m entry. (let of = (is.needed page m entry).0 in (entered page m entry, found_inside sum size log 0 of.segment long of.found)))
-    (unused size slots s) (found size slots s).slots slots
-    (unused_begin size (length log) s some)
-    (filled_covered size some log (unused size slots s) (λ k d lt. (free_below (is_used size s) slots k d lt).0))
-    (λ j used. used_apart size (length log) s j used.0)
-    (λ j used. used_left size slots s j used.0 used.1)
-    old new rest calls
 
 -- a reader comes to a message in the slot that its pointer says
 pub slot_needed : (sum : List ℕ → ℕ) (size : ℕ) (log : List ℕ) (H : History) (cut : ℕ) (m : Message) (of : IsSegmentOf sum size log H cut m) → of.segment.slot / size ≡ lid_of m.pointer / size
@@ -156,11 +111,3 @@ slot_needed sum size log H cut m of =
       | inr (inl lower) ↦ absurd (let far = slot_before size (slot / size) (lid / size) lower in omega (arith, far, own, begins, room))
       | inr (inr higher) ↦ absurd (let far = slot_before size (lid / size) (slot / size) higher in omega (arith, far, own, begins, room))
     ]
-
--- So it is enough that the snapshot uses the slots of the pointers that a table has.
-pub started_stands_by_pointers : (sum : List ℕ → ℕ) (size : ℕ) (s : SnapshotModel) → 20 ≤ size → NoHeaderOfZeros sum → (log : List ℕ) (H : History) (A : ℕ) (first : SnapshotModel) (reach : ℕ) (is : StandsTo sum size log H A first reach)
-    → ((x : Segment) → Contains is.ordering x → is_used size s (x.slot / size) ≡ true) → ((page : ℕ) (m : Message) → Contains (table H reach page) m → is_used size s (lid_of m.pointer / size) ≡ true)
-    → (old new : Trace) → (state_of old).log ≡ at_rest log → Performs (started size (length log) s).calls old new → LeavesOnly (StandsIfOwn sum size H A first reach) old new
-started_stands_by_pointers sum size s long none log H A first reach is listed pointers =
-    started_stands sum size s long none log H A first reach is listed
-    (λ page m entry. subst (λ k. is_used size s k ≡ true) (sym (slot_needed sum size log H reach m (is.needed page m entry).0)) (pointers page m entry))

@@ -18,7 +18,7 @@ use Rattle.sled_core.specs.Recoverable.{NoHeaderOfZeros, NoMessageBegins, NoBatc
 use Rattle.sled_core.specs.Scan.{IsFoundSegment, IsMisplaced, IsPath, IsEnd, IsScan}
 use Rattle.sled_core.proofs.Read.FoundLemmas.{pos_injective}
 use Rattle.sled_core.proofs.Torn.TornLemmas.{after_write}
-use Rattle.sled_core.proofs.Torn.WrittenRecords.{MeetsFirst}
+use Rattle.sled_core.proofs.Torn.WrittenRecords.{AreClear, MeetsFirst}
 use Rattle.sled_core.proofs.Torn.WrittenBegun.{none_stood, begun_or_none, meets_begun}
 use Rattle.sled_core.specs.Tail.{Scanned, IsScanned, IsOrdering, least_place}
 use Rattle.sled_core.proofs.Tail.OneTail.{scan_there, segment_there}
@@ -145,12 +145,12 @@ module _ (sum : List ℕ → ℕ) (size : ℕ) (some : 256 ≤ size) (old : List
 
 -- Where only what the log wrote passes as its own, a crash leaves the new segment with the first of the records that were written, or none there.
 module _ (sum : List ℕ → ℕ) (none : NoHeaderOfZeros sum) (size : ℕ) (some : 256 ≤ size) (old : List ℕ) (slot from : ℕ) (begins : from ≡ 0) (asked now left : List ℕ) (inside : from + length asked ≤ size) (no_more : length now ≤ length asked)
-    (leaves : LeavesLog (after_write old (slot * size + from) asked now) left) (clean : (i : ℕ) → slot * size + from ≤ i → i < slot * size + size → get_or old i 0 ≡ 0)
+    (leaves : LeavesLog (after_write old (slot * size + from) asked now) left) (until : ℕ) (covers : from + length asked ≤ until) (clean : (i : ℕ) → slot * size + from ≤ i → i < slot * size + until → get_or old i 0 ≡ 0)
     {placed : List (ℕ × List ℕ)} (only_own : NoForeignLog sum size (after_write old (slot * size + from) asked now) placed left)
     (H : History) (A : ℕ) (first : SnapshotModel) (reach : ℕ) (is : StandsTo sum size old H A first reach)
     (place : ℕ) (mark : ℤ) (begun : IsHeader sum (take 20 asked) (pos place) mark) (whole : place % size ≡ 0) (fits : place + size < 2 ^ 63)
     (its_mark : IsMarkOf H (record { place = place; slot = slot * size; mark = mark })) (mark_below : IsMarkBelow size H reach mark) (alone : (s : Segment) → Contains is.ordering s → s.place ≢ place)
-    (more : List ScannedRecord) (stop : ℕ) (why : ScanEnd)
+    (more : List ScannedRecord) (stop : ℕ) (why : ScanEnd) (clear : AreClear size until 20 more)
     (path : IsPath sum size (overwritten old (slot * size + from) asked) (slot * size) place 20 more stop) (end : IsEnd sum size (overwritten old (slot * size + from) asked) (slot * size) place stop why)
     (truth : (x : ScannedRecord) → Contains more x → IsOfHistory sum size (overwritten old (slot * size + from) asked) H x)
     (caps : why ≡ Capped → NoMessageBegins H (place + stop) (place + size) × NoBatchBegins H (place + stop) (place + size)) where
@@ -158,7 +158,7 @@ module _ (sum : List ℕ → ℕ) (none : NoHeaderOfZeros sum) (size : ℕ) (som
   same = same_beside sum size some old slot from asked now left inside no_more leaves only_own
 
   free : (lsn mark : ℤ) → IsHeader sum (part old (slot * size) 20) lsn mark → ⊥
-  free = none_stood sum size old slot from asked now left inside no_more leaves clean none begins place mark begun
+  free = none_stood sum size old slot from asked now left inside no_more leaves until covers clean none begins place mark begun
 
   without : ((s : Segment) → IsFoundSegment sum size left (least_place size first) s → s.slot ≢ slot * size) → StandsTo sum size left H A first reach
   without = stands_without sum size some old slot from asked now left inside no_more leaves same free H A first reach is
@@ -168,14 +168,14 @@ module _ (sum : List ℕ → ℕ) (none : NoHeaderOfZeros sum) (size : ℕ) (som
 
   pub torn_begun : StandsTo sum size left H A first reach
   unfolding IsScan
-  torn_begun = elim (begun_or_none sum size old slot from asked now left inside no_more leaves clean none begins place mark begun only_own) [
+  torn_begun = elim (begun_or_none sum size old slot from asked now left inside no_more leaves until covers clean none begins place mark begun only_own) [
     | inl header ↦ elim (cases_lt place (least_place size first)) [
       | inl under ↦ without (λ s found here. (
           let one = one_header sum (part left (slot * size) 20) (pos s.place) s.mark (pos place) mark (header_of s found here) header in
           let low = found.not_below in
           omega (arith, low, under, pos_injective s.place place one.0)))
       | inr le ↦ (
-          let w = meets_begun sum size old slot from asked now left inside no_more leaves clean none begins place mark begun only_own header more stop why (path, end) in
+          let w = meets_begun sum size old slot from asked now left inside no_more leaves until covers clean none begins place mark begun only_own header more stop why clear (path, end) in
           stands_with sum size some old slot from asked now left inside no_more leaves same free H A first reach is place mark header le whole fits its_mark mark_below alone more stop why truth caps w)
     ]
     | inr no_header ↦ without (λ s found here. no_header (pos s.place) s.mark (header_of s found here))

@@ -20,7 +20,7 @@ use Rattle.sled_core.specs.Scan.{IsFoundSegment, IsPath, IsEnd, IsScan}
 use Rattle.sled_core.proofs.Read.ScanLemmas.{one_more}
 use Rattle.sled_core.proofs.Torn.TornLemmas.{after_write}
 use Rattle.sled_core.proofs.Torn.WrittenParts.{path_rises, path_stays, paths_joined}
-use Rattle.sled_core.proofs.Torn.WrittenRecords.{MeetsFirst, meets_within}
+use Rattle.sled_core.proofs.Torn.WrittenRecords.{AreClear, MeetsFirst, meets_within}
 use Rattle.sled_core.proofs.Torn.WrittenBehind.{header_same, header_left, meets_on}
 use Rattle.sled_core.specs.Tail.{Scanned, IsScanned, IsOrdering, least_place}
 use Rattle.sled_core.proofs.Tail.OneReading.{path_begins}
@@ -48,7 +48,7 @@ caps_met sum size new left H slot place from more stop why w caps capped = elim 
 module _ (sum : List ℕ → ℕ) (size : ℕ) (some : 256 ≤ size) (old : List ℕ) (slot from : ℕ) (asked now left : List ℕ) (inside : from + length asked ≤ size) (no_more : length now ≤ length asked)
     (leaves : LeavesLog (after_write old (slot * size + from) asked now) left) (same : IsSameBeside sum size old left (slot * size))
     (H : History) (A : ℕ) (first : SnapshotModel) (reach : ℕ) (is : StandsTo sum size old H A first reach)
-    (z : Scanned) (known : Contains is.scanned z) (in_slot : z.segment.slot ≡ slot * size) (ended : z.stop ≡ from) (broken : z.why ≡ Broken) where
+    (z : Scanned) (known : Contains is.scanned z) (in_slot : z.segment.slot ≡ slot * size) (e : ℕ) (low : e ≤ from) (ended : z.stop ≡ e) (broken : z.why ≡ Broken) where
   abbrev at : ℕ
   at = slot * size + from
 
@@ -72,17 +72,17 @@ module _ (sum : List ℕ → ℕ) (size : ℕ) (some : 256 ≤ size) (old : List
 
   pub behind : 20 ≤ from
   unfolding IsScan
-  behind = let rises = path_rises sum size old z.segment.slot place 20 z.met z.stop z_known.1.0 in omega (arith, rises, ended)
+  behind = let rises = path_rises sum size old z.segment.slot place 20 z.met z.stop z_known.1.0 in omega (arith, rises, ended, low)
 
   pub header : IsHeader sum (part old (slot * size) 20) (pos place) z.segment.mark
   header = subst (λ n. IsHeader sum (part old n 20) (pos place) z.segment.mark) in_slot z_found.header
 
-  pub stood : IsPath sum size old (slot * size) place 20 z.met from
+  pub stood : IsPath sum size old (slot * size) place 20 z.met e
   unfolding IsScan
-  stood = subst (λ n. IsPath sum size old n place 20 z.met from) in_slot (subst (λ n. IsPath sum size old z.segment.slot place 20 z.met n) ended z_known.1.0)
+  stood = subst (λ n. IsPath sum size old n place 20 z.met e) in_slot (subst (λ n. IsPath sum size old z.segment.slot place 20 z.met n) ended z_known.1.0)
 
-  pub before_left : IsPath sum size left (slot * size) place 20 z.met from
-  before_left = path_stays sum size old at asked now left no_more leaves (slot * size) place aligned 20 z.met from (inl (omega arith)) stood
+  pub before_left : IsPath sum size left (slot * size) place 20 z.met e
+  before_left = path_stays sum size old at asked now left no_more leaves (slot * size) place aligned 20 z.met e (inl (omega (arith, low))) stood
 
   -- The segments that are found.
 
@@ -133,30 +133,30 @@ module _ (sum : List ℕ → ℕ) (size : ℕ) (some : 256 ≤ size) (old : List
         let moved = subst (λ n. IsPath sum size old z.segment.slot n 20 (r.before ++ r.met ∷ []) next) places (subst (λ n. IsPath sum size old n s.place 20 (r.before ++ r.met ∷ []) next) slots there) in
         let begins = path_begins sum size old z.segment.slot place 20 (r.before ++ r.met ∷ []) next z.met z.stop z.why moved z_known.1.0 z_known.1.1 in
         let rises = path_rises sum size old z.segment.slot place next begins.0 z.stop begins.2 in
-        inl (omega (arith, rises, ended, here)))
+        inl (omega (arith, rises, ended, here, low)))
     | inr other ↦ elim (beside sum size some old slot from asked now left inside no_more leaves s.slot found.slot other) [ inl before ↦ inl (omega (arith, before)) | inr past ↦ inr past ]
   ]
 
   -- What is met of the write.
   module _ (more : List ScannedRecord) (stop : ℕ) (why : ScanEnd) (truth : (x : ScannedRecord) → Contains more x → IsOfHistory sum size new H x)
-      (caps : why ≡ Capped → NoMessageBegins H (place + stop) (place + size) × NoBatchBegins H (place + stop) (place + size)) (w : MeetsFirst sum size new left (slot * size) place from more stop why) where
+      (caps : why ≡ Capped → NoMessageBegins H (place + stop) (place + size) × NoBatchBegins H (place + stop) (place + size)) (w : MeetsFirst sum size new left (slot * size) place e more stop why) where
     abbrev y : Scanned
     y = record { segment = z.segment; met = z.met ++ take w.count more; stop = w.end; why = w.ending }
 
     y_scan : IsScanned sum size left y
     unfolding IsScan
-    y_scan = subst (λ n. IsScan sum size left n place y.met y.stop y.why) (sym in_slot) (paths_joined sum size left (slot * size) place 20 z.met from (take w.count more) w.end before_left w.path, w.ends)
+    y_scan = subst (λ n. IsScan sum size left n place y.met y.stop y.why) (sym in_slot) (paths_joined sum size left (slot * size) place 20 z.met e (take w.count more) w.end before_left w.path, w.ends)
 
     y_truth : (x : ScannedRecord) → Contains y.met x → IsOfHistory sum size left H x
     y_truth x there = elim (Contains-append_cases z.met (take w.count more) x there) [
-      | inl had ↦ truth_alike sum size old left H (slot * size) place 20 z.met from
-          (alike_apart sum size some old slot from asked now left inside no_more leaves (slot * size) place aligned 20 z.met from (inl (omega arith)) stood)
+      | inl had ↦ truth_alike sum size old left H (slot * size) place 20 z.met e
+          (alike_apart sum size some old slot from asked now left inside no_more leaves (slot * size) place aligned 20 z.met e (inl (omega (arith, low))) stood)
           before_left (λ u at_u. is.truth z u known at_u) x had
-      | inr own ↦ truth_alike sum size new left H (slot * size) place from (take w.count more) w.end w.alike w.path (λ u at_u. truth u (in_taken w.count more u at_u)) x own
+      | inr own ↦ truth_alike sum size new left H (slot * size) place e (take w.count more) w.end w.alike w.path (λ u at_u. truth u (in_taken w.count more u at_u)) x own
     ]
 
     y_reading : IsReading sum size left H z.segment
-    y_reading = record { scan = y; segment = refl; read = y_scan; truth = y_truth; caps = caps_met sum size new left H (slot * size) place from more stop why w caps }
+    y_reading = record { scan = y; segment = refl; read = y_scan; truth = y_truth; caps = caps_met sum size new left H (slot * size) place e more stop why w caps }
 
     reading_of : (t : Scanned) → Contains is.scanned t → IsReading sum size left H t.segment
     reading_of t there = elim (which t there) [
@@ -176,7 +176,7 @@ module _ (sum : List ℕ → ℕ) (size : ℕ) (some : 256 ≤ size) (old : List
         segment = refl;
         there = z_known.0;
         read = y_scan;
-        far = let within = meets_within sum size new left (slot * size) place from more stop why w in omega (arith, within.0, ended);
+        far = let within = meets_within sum size new left (slot * size) place e more stop why w in omega (arith, within.0, ended);
         leads = λ other. absurd (other broken);
       })
       | inr other ↦ (
@@ -197,17 +197,17 @@ module _ (sum : List ℕ → ℕ) (size : ℕ) (some : 256 ≤ size) (old : List
 
 -- Where only what the log wrote passes as its own, a crash leaves the first of the records that were written.
 pub torn_behind : (sum : List ℕ → ℕ) (size : ℕ) (some : 256 ≤ size) (old : List ℕ) (slot from : ℕ) (asked now left : List ℕ) (inside : from + length asked ≤ size) (no_more : length now ≤ length asked)
-    (leaves : LeavesLog (after_write old (slot * size + from) asked now) left) (clean : (i : ℕ) → slot * size + from ≤ i → i < slot * size + size → get_or old i 0 ≡ 0)
+    (leaves : LeavesLog (after_write old (slot * size + from) asked now) left) (until : ℕ) (covers : from + length asked ≤ until) (clean : (i : ℕ) → slot * size + from ≤ i → i < slot * size + until → get_or old i 0 ≡ 0)
     {placed : List (ℕ × List ℕ)} (only_own : NoForeignLog sum size (after_write old (slot * size + from) asked now) placed left)
     (H : History) (A : ℕ) (first : SnapshotModel) (reach : ℕ) (is : StandsTo sum size old H A first reach)
-    (z : Scanned) → Contains is.scanned z → z.segment.slot ≡ slot * size → z.stop ≡ from → z.why ≡ Broken → (more : List ScannedRecord) (stop : ℕ) (why : ScanEnd)
+    (z : Scanned) → Contains is.scanned z → z.segment.slot ≡ slot * size → z.stop ≡ from → z.why ≡ Broken → (more : List ScannedRecord) (stop : ℕ) (why : ScanEnd) → AreClear size until from more
     → IsPath sum size (overwritten old (slot * size + from) asked) (slot * size) z.segment.place from more stop → IsEnd sum size (overwritten old (slot * size + from) asked) (slot * size) z.segment.place stop why
     → ((x : ScannedRecord) → Contains more x → IsOfHistory sum size (overwritten old (slot * size + from) asked) H x)
     → (why ≡ Capped → NoMessageBegins H (z.segment.place + stop) (z.segment.place + size) × NoBatchBegins H (z.segment.place + stop) (z.segment.place + size)) → StandsTo sum size left H A first reach
-torn_behind sum size some old slot from asked now left inside no_more leaves clean only_own H A first reach is z known in_slot ended broken more stop why path end truth caps =
+torn_behind sum size some old slot from asked now left inside no_more leaves until covers clean only_own H A first reach is z known in_slot ended broken more stop why clear path end truth caps =
     let same = same_beside sum size some old slot from asked now left inside no_more leaves only_own in
-    let far = behind sum size some old slot from asked now left inside no_more leaves same H A first reach is z known in_slot ended broken in
-    let its = header sum size some old slot from asked now left inside no_more leaves same H A first reach is z known in_slot ended broken in
-    let met = stood sum size some old slot from asked now left inside no_more leaves same H A first reach is z known in_slot ended broken in
-    let w = meets_on sum size old slot from asked now left no_more leaves far only_own clean z.segment.place z.segment.mark its z.met met more stop why path end in
-    stands_behind sum size some old slot from asked now left inside no_more leaves same H A first reach is z known in_slot ended broken more stop why truth caps w
+    let far = behind sum size some old slot from asked now left inside no_more leaves same H A first reach is z known in_slot from (omega arith) ended broken in
+    let its = header sum size some old slot from asked now left inside no_more leaves same H A first reach is z known in_slot from (omega arith) ended broken in
+    let met = stood sum size some old slot from asked now left inside no_more leaves same H A first reach is z known in_slot from (omega arith) ended broken in
+    let w = meets_on sum size old slot from asked now left no_more leaves far only_own until covers clean z.segment.place z.segment.mark its z.met met more stop why clear path end in
+    stands_behind sum size some old slot from asked now left inside no_more leaves same H A first reach is z known in_slot from (omega arith) ended broken more stop why truth caps w

@@ -32,7 +32,7 @@ module _ (sum : List ℕ → ℕ) (size : ℕ) (some : 256 ≤ size) (old : List
   least = least_place size first
 
   -- At the beginning of a segment, in a slot of zeros.
-  module _ (none : NoHeaderOfZeros sum) (there : slot * size ≤ length old) (begins : from ≡ 0) (clean : (i : ℕ) → slot * size + from ≤ i → i < slot * size + size → get_or old i 0 ≡ 0)
+  module _ (none : NoHeaderOfZeros sum) (there : slot * size ≤ length old) (begins : from ≡ 0) (until : ℕ) (covers : from + length asked ≤ until) (clean : (i : ℕ) → slot * size + from ≤ i → i < slot * size + until → get_or old i 0 ≡ 0)
       (place : ℕ) (mark : ℤ) (header : IsHeader sum (take 20 asked) (pos place) mark) (low : least ≤ place) (whole : place % size ≡ 0) (fits : place + size < 2 ^ 63)
       (its_mark : IsMarkOf H (record { place = place; slot = slot * size; mark = mark })) (mark_below : IsMarkBelow size H reach mark) (alone : (s : Segment) → Contains is.ordering s → s.place ≢ place)
       (more : List ScannedRecord) (stop : ℕ) (why : ScanEnd) (path : IsPath sum size new (slot * size) place 20 more stop) (end : IsEnd sum size new (slot * size) place stop why)
@@ -47,10 +47,10 @@ module _ (sum : List ℕ → ℕ) (size : ℕ) (some : 256 ≤ size) (old : List
     same = same_whole sum size some old slot from asked inside there
 
     free : (lsn other : ℤ) → IsHeader sum (part old (slot * size) 20) lsn other → ⊥
-    free = none_stood sum size old slot from asked asked new inside done leaves clean none begins place mark header
+    free = none_stood sum size old slot from asked asked new inside done leaves until covers clean none begins place mark header
 
     came : IsHeader sum (part new (slot * size) 20) (pos place) mark
-    came = header_new sum size old slot from asked asked new inside done leaves clean none begins place mark header
+    came = header_new sum size old slot from asked asked new inside done leaves until covers clean none begins place mark header
 
     stands : StandsTo sum size new H A first reach
     stands = begun.stands_with sum size some old slot from asked asked new inside done leaves same free H A first reach is place mark came low whole fits its_mark mark_below alone more stop why truth caps

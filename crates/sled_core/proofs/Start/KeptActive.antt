@@ -1,5 +1,5 @@
 -- A log that goes on from a snapshot stands in each file that keeps the slots which the snapshot uses.
-use Rattle.std.proofs.Common.{◌≡◌, ◌+◌, ◌*◌, ◌/◌, ◌%◌, ◌<◌, ℕ, true, List, Some, sym, subst, arith}
+use Rattle.std.proofs.Common.{◌≡◌, ◌+◌, ◌*◌, ◌/◌, ◌%◌, ◌≤◌, ◌<◌, ℕ, true, List, length, Some, sym, subst, arith}
 use Rattle.std.specs.List.{Contains}
 use Rattle.sled_codec.specs.History.{Message, History, table}
 use Rattle.sled_codec.specs.PageTables.{IsTable}
@@ -13,33 +13,35 @@ use Rattle.sled_core.specs.Tail.{Scanned, IsScanned, least_place}
 use Rattle.sled_core.proofs.Start.Entries.{message_used, active_used}
 use Rattle.sled_core.proofs.Start.Recoverable.{same_place}
 use Rattle.sled_core.proofs.Reached.KeptStands.{SameInUsed, found_kept, scan_kept, kept_stands}
-use Rattle.sled_core.proofs.Reached.StartedStands.{slot_needed}
+use Rattle.sled_core.proofs.Reached.StartedStands.{found_inside, slot_needed}
 use Rattle.sled_core.proofs.Tail.OneTail.{segment_there, reading_there}
 use Rattle.sled_core.proofs.Torn.KeptSlots.{KeepsSlots}
+use Rattle.sled_core.proofs.Torn.StartedSlots.{UsedIn}
 
--- a slot that a snapshot uses
-abbrev pub Uses : ℕ → SnapshotModel → ℕ → Type 0
-Uses size s j = is_used size s j ≡ true
-
-module _ (sum : List ℕ → ℕ) (size : ℕ) (log : List ℕ) (s : SnapshotModel) (H : History) (is : IsTable s.pages H (stable_place s.stable)) (alone : StandsActive sum size log s H) where
+module _ (sum : List ℕ → ℕ) (size : ℕ) (long : 20 ≤ size) (log : List ℕ) (s : SnapshotModel) (H : History) (is : IsTable s.pages H (stable_place s.stable)) (alone : StandsActive sum size log s H) where
   abbrev stable : ℕ
   stable = stable_place s.stable
 
-  -- each segment that is found is used
-  pub found_used : (x : Segment) → IsFoundSegment sum size log (least_place size s) x → is_used size s (x.slot / size) ≡ true
-  found_used x found = active_used size s x.slot (alone.only x found)
+  -- a slot of the file that the snapshot uses
+  abbrev pub Uses : ℕ → Type 0
+  Uses = UsedIn size (length log) s
 
-  pub listed_used : (x : Segment) → Contains alone.stands.ordering x → is_used size s (x.slot / size) ≡ true
+  -- each segment that is found is used
+  pub found_used : (x : Segment) → IsFoundSegment sum size log (least_place size s) x → Uses (x.slot / size)
+  found_used x found = (active_used size s x.slot (alone.only x found), found_inside sum size log (least_place size s) x long found)
+
+  pub listed_used : (x : Segment) → Contains alone.stands.ordering x → Uses (x.slot / size)
   listed_used x there = found_used x ((alone.stands.numbers.found x).0 there)
 
   -- and so is that of each entry
-  pub entry_slot_used : (page : ℕ) (m : Message) (entry : Contains (table H stable page) m) → is_used size s ((alone.stands.needed page m entry).0.segment.slot / size) ≡ true
+  pub entry_slot_used : (page : ℕ) (m : Message) (entry : Contains (table H stable page) m) → Uses ((alone.stands.needed page m entry).0.segment.slot / size)
   entry_slot_used page m entry =
-      subst (λ k. is_used size s k ≡ true) (sym (slot_needed sum size log H stable m (alone.stands.needed page m entry).0)) (message_used size s H stable is page m entry)
+      let of = (alone.stands.needed page m entry).0 in
+      (subst (λ k. is_used size s k ≡ true) (sym (slot_needed sum size log H stable m of)) (message_used size s H stable is page m entry), found_inside sum size log 0 of.segment long of.found)
 
-  module _ (left : List ℕ) (keeps : KeepsSlots sum size (Uses size s) log left) (same : SameInUsed size (Uses size s) log left) where
+  module _ (left : List ℕ) (keeps : KeepsSlots sum size Uses log left) (same : SameInUsed size Uses log left) where
     pub stands_left : StandsTo sum size left H stable s stable
-    stands_left = kept_stands sum size (Uses size s) log left keeps same H stable s stable alone.stands listed_used entry_slot_used
+    stands_left = kept_stands sum size Uses log left keeps same H stable s stable alone.stands listed_used entry_slot_used
 
     -- where a write goes on, it still does
     goes_left : (slot from place : ℕ) → GoesOnIn alone.stands.scanned slot from place → GoesOnIn stands_left.scanned slot from place
@@ -48,8 +50,8 @@ module _ (sum : List ℕ → ℕ) (size : ℕ) (log : List ℕ) (s : SnapshotMod
         let had = segment_there sum size log alone.stands.ordering alone.stands.scanned alone.stands.reads t g.there in
         let found = (alone.stands.numbers.found t.segment).0 had.0 in
         let used = found_used t.segment found in
-        let read : IsScanned sum size left t = scan_kept sum size (Uses size s) log left keeps same (least_place size s) t.segment found used t.met t.stop t.why had.1 in
-        let there = (stands_left.numbers.found t.segment).1 (found_kept sum size (Uses size s) log left keeps same (least_place size s) t.segment found used) in
+        let read : IsScanned sum size left t = scan_kept sum size Uses log left keeps same (least_place size s) t.segment found used t.met t.stop t.why had.1 in
+        let there = (stands_left.numbers.found t.segment).1 (found_kept sum size Uses log left keeps same (least_place size s) t.segment found used) in
         record {
           scan = t;
           there = reading_there sum size left stands_left.ordering stands_left.scanned stands_left.reads t there read;

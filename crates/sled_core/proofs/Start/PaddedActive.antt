@@ -12,7 +12,9 @@ use Rattle.sled_codec.specs.Pointers.{lid_of}
 use Rattle.sled_codec.specs.Snapshots.{SnapshotModel, stable_place}
 use Rattle.sled_store.specs.Begin.{slots_of, is_used, unused, first_or}
 use Rattle.sled_store.proofs.Segments.Elements.{in_nothing}
-use Rattle.sled_store.proofs.Segments.FilledLemmas.{filled, filled_covered, filled_grows, filled_zero, free_below, free_has, first_there, begins_in}
+use Rattle.sled_store.proofs.Accounts.StartNext.{lowest_within}
+use Rattle.sled_store.proofs.Segments.FilledLemmas.{free_below, free_has, first_there, begins_in}
+use Rattle.sled_store.proofs.Segments.StartedFile.{started_file, started_short, started_inside, started_there, started_zero, left_within}
 use Rattle.sled_core.specs.declared.iterator.Segment.{Segment}
 use Rattle.sled_core.specs.LogFile.{padded}
 use Rattle.sled_core.specs.Reached.{StandsTo, StandsActive}
@@ -73,9 +75,9 @@ module _ (sum : List ℕ → ℕ) (size : ℕ) (long : 256 ≤ size) (zeros : No
   abbrev free : List ℕ
   free = unused size slots s
 
-  -- the file once it is filled
+  -- the file once the log is started
   abbrev new : List ℕ
-  new = filled size log free
+  new = started_file size log s
 
   some : 0 < size
   some = omega (arith, long)
@@ -83,14 +85,8 @@ module _ (sum : List ℕ → ℕ) (size : ℕ) (long : 256 ≤ size) (zeros : No
   free_slots : All (λ k. k < slots) free
   free_slots = λ k d lt. (free_below (is_used size s) slots k d lt).0
 
-  free_begin : All (λ k. k * size < length log) free
-  free_begin = λ k d lt. begins_in size (length log) (get_or free k d) some (free_slots k d lt)
-
   covered : length new ≤ slots * size
-  covered = filled_covered size some log free free_slots
-
-  grows : length log ≤ length new
-  grows = filled_grows size some free log
+  covered = omega (arith, started_short size some log s, mul-le-mul_right size (left_within size some log s))
 
   -- and once it reaches to the end of its slots
   abbrev rest : List ℕ
@@ -105,7 +101,7 @@ module _ (sum : List ℕ → ℕ) (size : ℕ) (long : 256 ≤ size) (zeros : No
   -- a slot that isn't used has zeros
   free_zero : (k : ℕ) → k < slots → is_used size s k ≡ false → (i : ℕ) → k * size ≤ i → i < k * size + size → get_or whole i 0 ≡ 0
   free_zero k less unused_k i low high = elim (cases_lt i (length new)) [
-    | inl inside ↦ get_or_append_left new rest 0 i inside ∙ filled_zero size some free log k i free_begin (free_has (is_used size s) slots k less unused_k) low high
+    | inl inside ↦ get_or_append_left new rest 0 i inside ∙ started_zero size some log s k i (free_has (is_used size s) slots k less unused_k) low high
     | inr past ↦ get_or-append_right new rest (length new) i 0 refl past ∙ zero_at (slots * size - length new) (i - length new)
   ] where
     zero_at : (n i : ℕ) → get_or {A = ℕ} (replicate n 0) i 0 ≡ 0
@@ -138,7 +134,9 @@ module _ (sum : List ℕ → ℕ) (size : ℕ) (long : 256 ≤ size) (zeros : No
       where
         by : x.slot / size < slots → x.slot ≡ x.slot / size * size → (b : Bool) → is_used size s (x.slot / size) ≡ b → ⊥
         by less begins true used =
-            let inside : x.slot + 20 ≤ length new = omega (arith, used_header (x.slot / size) used, begins, grows) in
+            let header = used_header (x.slot / size) used in
+            let inside : x.slot + 20 ≤ length new =
+            (let there = started_there size some log s (x.slot / size) used less (x.slot / size * size) 20 (omega (arith, long)) header in omega (arith, there, begins)) in
             none_found x (found_moved sum size whole new (least_place size s) x (sym (part-append new rest x.slot 20 inside)) found)
         by less begins false unused_k =
             none_in_zeros sum size zeros (omega (arith, long)) whole x.slot (λ i low high. free_zero (x.slot / size) less unused_k i (omega (arith, low, begins)) (omega (arith, high, begins))) (pos x.place) x.mark found.header
@@ -154,8 +152,9 @@ module _ (sum : List ℕ → ℕ) (size : ℕ) (long : 256 ≤ size) (zeros : No
     pub padded_active : StandsActive sum size (padded (first_or slots free * size) new) s H
     padded_active = elim (first_there slots free) [
       | inl there ↦ (
-          let inside : first_or slots free * size < length log = begins_in size (length log) (first_or slots free) some (lowest_below there) in
-          subst (λ (l : List ℕ). StandsActive sum size l s H) (sym (padded_same (first_or slots free * size) new (omega (arith, inside, grows)))) alone)
+          let begins : first_or slots free * size < length log = begins_in size (length log) (first_or slots free) some (lowest_below there) in
+          let inside : first_or slots free * size ≤ length new = started_inside size some log s (first_or slots free * size) (mul-le-mul_right size (lowest_within size slots s)) (omega (arith, begins)) in
+          subst (λ (l : List ℕ). StandsActive sum size l s H) (sym (padded_same (first_or slots free * size) new inside)) alone)
       | inr behind ↦ subst (λ k. StandsActive sum size (padded (k * size) new) s H) (sym behind) whole_active
     ] where
       lowest_below : Contains free (first_or slots free) → first_or slots free < slots

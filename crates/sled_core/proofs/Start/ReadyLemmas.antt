@@ -20,7 +20,7 @@ use Rattle.sled_store.specs.Begin.{slots_of, slot_of, segment_number_of, entries
 use Rattle.sled_core.specs.Fits.{log_parts, EndBelow, CloseBelow, IsBegunFrom, HoldsIn}
 use Rattle.sled_core.specs.LogFile.{IsLogFile}
 use Rattle.sled_core.specs.Ready.{HasActive, HasNoActive, HasFile, IsReady, active_site}
-use Rattle.sled_store.proofs.Segments.FilledLemmas.{filled}
+use Rattle.sled_store.proofs.Segments.StartedFile.{started_file}
 use Rattle.sled_core.proofs.Start.UsedLemmas.{active_file, new_file}
 
 -- a place that is a multiple of a size is not raised
@@ -37,7 +37,7 @@ cut_fits H cut below closed = record {
 }
 
 module _ (sum : List ℕ → ℕ) (size : ℕ) (device now : State) (s : SnapshotModel) (H : History) (bytes : List ℕ) (long : 256 ≤ size) (ready : IsReady sum size device s H) (startable : IsStartable size (length device.log.bytes) s)
-    (filled_now : now.log ≡ at_rest (filled size device.log.bytes (unused size (slots_of size (length device.log.bytes)) s))) (same_names : now.snapshots.file ≡ device.snapshots.file) where
+    (started_now : now.log ≡ at_rest (started_file size device.log.bytes s)) (same_names : now.snapshots.file ≡ device.snapshots.file) where
   abbrev log : List ℕ
   log = device.log.bytes
 
@@ -45,7 +45,7 @@ module _ (sum : List ℕ → ℕ) (size : ℕ) (device now : State) (s : Snapsho
   stable = stable_place s.stable
 
   abbrev now_log : List ℕ
-  now_log = filled size log (unused size (slots_of size (length log)) s)
+  now_log = started_file size log s
 
   same_stable : stable_place ready.first.stable ≡ stable
   same_stable = ap stable_place ready.same_place
@@ -89,7 +89,7 @@ module _ (sum : List ℕ → ℕ) (size : ℕ) (device now : State) (s : Snapsho
       stand = λ k d lt. absurd (omega (arith, lt));
       room = λ k d lt. absurd (omega (arith, lt));
       begun = begun_at site from end least;
-      written = λ none. record { log = now_log; settled = filled_now; file = subst (λ n. IsLogFile sum size now_log site from H.messages (table H n)) (sym same_stable) file };
+      written = λ none. record { log = now_log; settled = started_now; file = subst (λ n. IsLogFile sum size now_log site from H.messages (table H n)) (sym same_stable) file };
     },
     refl,
   )

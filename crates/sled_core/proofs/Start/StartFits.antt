@@ -10,14 +10,16 @@ use Rattle.sled_store.specs.declared.segment.start.Beginning.{Beginning}
 use Rattle.sled_core.specs.declared.iobuf.Reserved.{Reserved}
 use Rattle.sled_core.specs.declared.iobuf.SegmentPosition.{SegmentPosition}
 use Rattle.sled_store.specs.Begin.{slots_of, unused, first_or, beginning_at, beginning_of, MayBeActive, IsStartable}
-use Rattle.sled_store.proofs.Segments.FilledLemmas.{filled, filled_grows, begins_in}
+use Rattle.sled_store.proofs.Segments.FilledLemmas.{begins_in}
+use Rattle.sled_store.proofs.Segments.StartedFile.{started_file, started_there}
 use Rattle.sled_core.specs.Fits.{log_parts, HoldsIn}
 use Rattle.sled_core.specs.LogFile.{padded}
 use Rattle.sled_core.specs.Ready.{HasFile}
 use Rattle.sled_core.specs.Recoverable.{LeavesRecoverable, NoHeaderOfZeros}
 use Rattle.sled_core.specs.Running.{BlobsFit, NamesFit, FitsIn, IsReadyFor}
 use Rattle.sled_core.specs.Reached.{StandsActive, StandsAlone}
-use Rattle.sled_core.proofs.Start.FilledActive.{filled_active}
+use Rattle.sled_core.proofs.Start.StartedActive.{started_active}
+use Rattle.sled_core.proofs.Start.Entries.{active_used}
 use Rattle.sled_core.proofs.Start.KeptActive.{begins_alone}
 use Rattle.sled_core.proofs.Start.PaddedActive.{padded_same, padded_active}
 use Rattle.sled_core.proofs.Start.ReadyLemmas.{raised_same, file_there, begins_from}
@@ -27,7 +29,7 @@ some_is : (a b : ℕ) → Some a ≡ Some b → a ≡ b
 some_is a b same = cc
 
 module _ (sum : List ℕ → ℕ) (size : ℕ) (device now : State) (s : SnapshotModel) (H : History) (A f : ℕ) (long : 256 ≤ size) (ready : IsReadyFor sum size device s H A f) (startable : IsStartable size (length device.log.bytes) s)
-    (log_is : now.log ≡ at_rest (filled size device.log.bytes (unused size (slots_of size (length device.log.bytes)) s))) (same_blobs : now.blobs ≡ device.blobs) (same_names : now.snapshots ≡ device.snapshots) where
+    (log_is : now.log ≡ at_rest (started_file size device.log.bytes s)) (same_blobs : now.blobs ≡ device.blobs) (same_names : now.snapshots ≡ device.snapshots) where
   abbrev log : List ℕ
   log = device.log.bytes
 
@@ -41,7 +43,7 @@ module _ (sum : List ℕ → ℕ) (size : ℕ) (device now : State) (s : Snapsho
   free = unused size slots s
 
   abbrev new : List ℕ
-  new = filled size log free
+  new = started_file size log s
 
   bytes_now : now.log.bytes ≡ new
   bytes_now = ap (λ (l : LogState). l.bytes) log_is
@@ -50,7 +52,7 @@ module _ (sum : List ℕ → ℕ) (size : ℕ) (device now : State) (s : Snapsho
   same_stable = ap stable_place ready.ready.same_place
 
   active_now : NoHeaderOfZeros sum → StandsActive sum size new s H
-  active_now zeros = filled_active sum size long zeros log s H ready.ready.table ready.alone
+  active_now zeros = started_active sum size long zeros log s H ready.ready.table ready.alone
 
   -- Whatever a crash leaves now can be recovered.
   left_now : LeavesRecoverable sum size H stable f now
@@ -89,7 +91,8 @@ module _ (sum : List ℕ → ℕ) (size : ℕ) (device now : State) (s : Snapsho
       by (Some a) active has may =
           let begins : a / size * size < length log = begins_in size (length log) (a / size) (omega (arith, long)) may.slot in
           let aligned = may.aligned in
-          let inside : a ≤ length new = omega (arith, begins, mod-add-div' a size, aligned, filled_grows size (omega (arith, long)) free log) in
+          let inside : a ≤ length new =
+          (let there = started_there size (omega (arith, long)) log s (a / size) (active_used size s a active) may.slot (a / size * size) 0 (omega arith) (omega (arith, begins)) in omega (arith, there, mod-add-div' a size, aligned)) in
           fits_at (record { place = stable / size * size; slot = a }) (stable % size) (omega (arith, mod-add-div' stable size))
           (λ slot is. some_is slot a (sym is ∙ active)) (λ some. (active, refl, refl))
           (λ zeros. subst (λ (l : List ℕ). StandsActive sum size l s H) (sym (padded_same a new inside)) (active_now zeros)) bytes

@@ -1,9 +1,8 @@
--- What stands in the slots that are used stays when the others are filled: the log file that a log begins on.
-use Rattle.std.proofs.Common.{◌≡◌, ◌≢◌, ◌⊎◌, ◌≤◌, ◌<◌, ◌+◌, ◌*◌, ◌/◌, ◌%◌, ◌∙◌, ℕ, pos, true, false, List, length, get_or, sym, ap, subst, arith, inl, inr, Some, unsigned_abs}
-use Rattle.std.specs.List.{All, Contains}
+-- What stands in the slots that are used stays when the others are filled and those at the end cut off: the log file that a log begins on.
+use Rattle.std.proofs.Common.{◌≡◌, ◌≢◌, ◌⊎◌, ◌≤◌, ◌<◌, ◌+◌, ◌*◌, ◌/◌, ◌%◌, ◌∙◌, ℕ, ℤ, pos, true, false, List, length, drop, get_or, sym, ap, subst, arith, inl, inr, Some, unsigned_abs, length-take, length-drop}
+use Rattle.std.specs.List.{Contains}
 use Rattle.std.proofs.Math.Nat.{mul-le-mul_right, mod-add-div', mod-lt}
 use Rattle.std.proofs.lemmas.Bool.{cases_lt}
-use Rattle.std.proofs.lemmas.List.{get_or_past}
 use Rattle.std.proofs.lemmas.List.Elements.{All-contains}
 use Rattle.sled_codec.specs.declared.result.DiskPtr.TheVariants.{Inline}
 use Rattle.sled_codec.specs.Places.{part}
@@ -12,17 +11,24 @@ use Rattle.sled_codec.specs.Record.{IsHeader}
 use Rattle.sled_codec.specs.History.{Message, History, table}
 use Rattle.sled_codec.specs.PageTables.{IsTable}
 use Rattle.sled_codec.specs.Snapshots.{Entry, SnapshotModel, stable_place}
+use Rattle.sled_codec.proofs.Segments.{length-short_header}
 use Rattle.sled_core.specs.declared.iobuf.SegmentPosition.{SegmentPosition}
 use Rattle.sled_store.specs.Begin.{slots_of, slot_of, segment_number_of, entries_of, is_used, unused, first_or}
 use Rattle.sled_core.specs.LogFile.{MessageStands, StandsHere, StandsElsewhere, HasHeader, IsLogFile}
 use Rattle.sled_core.specs.Fits.{EndBelow}
 use Rattle.sled_core.specs.Ready.{HasActive, HasNoActive, active_site}
-use Rattle.sled_store.proofs.Segments.FilledLemmas.{filled, slots_cover, slot_before, filled_grows, filled_byte, filled_part, filled_zero, filled_covered, free_below, first_there}
+use Rattle.sled_store.proofs.Segments.FilledLemmas.{slot_before, slot_inside, free_below, first_there}
+use Rattle.sled_store.proofs.Segments.StartedFile.{started_file, started_there, started_part, started_byte, started_zero, started_past, left_within}
 use Rattle.sled_core.proofs.Flush.LogFileLemmas.{stands_some}
 use Rattle.sled_core.proofs.Start.Entries.{table_entry, active_used}
 use Rattle.sled_core.proofs.Read.ScanLemmas.{aligned_number}
 use Rattle.sled_core.proofs.Tail.Moved.{message_moved}
-use Rattle.sled_core.proofs.Torn.FilledAlong.{unused_begin, used_apart}
+
+-- a header that passes lies in the file
+header_inside : (sum : List ℕ → ℕ) (log : List ℕ) (slot : ℕ) (lsn mark : ℤ) → IsHeader sum (part log slot 20) lsn mark → slot + 20 ≤ length log
+header_inside sum log slot lsn mark header =
+    let long : length (part log slot 20) ≡ 20 = ap length header.is ∙ length-short_header sum lsn mark in
+    omega (arith, long, length-take 20 (drop slot log), length-drop slot log)
 
 module _ (sum : List ℕ → ℕ) (size : ℕ) (long : 256 ≤ size) (log : List ℕ) (s : SnapshotModel) (H : History) where
   abbrev slots : ℕ
@@ -34,39 +40,31 @@ module _ (sum : List ℕ → ℕ) (size : ℕ) (long : 256 ≤ size) (log : List
   abbrev stable : ℕ
   stable = stable_place s.stable
 
-  -- the file once it is filled
+  -- the file once the log is started
   abbrev new : List ℕ
-  new = filled size log free
+  new = started_file size log s
 
   some : 0 < size
   some = omega (arith, long)
 
-  past_slots : (k : ℕ) → slots ≤ k → slots * size ≤ k * size
-  past_slots k le = mul-le-mul_right size le
-
-  free_slots : All (λ k. k < slots) free
-  free_slots = λ k d lt. (free_below (is_used size s) slots k d lt).0
-
-  free_begin : All (λ k. k * size < length log) free
-  free_begin = unused_begin size (length log) s some
-
-  grows : length log ≤ length new
-  grows = filled_grows size some free log
-
-  covered : length new ≤ slots * size
-  covered = filled_covered size some log free free_slots
+  -- what stands in the file is in one of its slots
+  in_slots : (lid n : ℕ) → 0 < n → lid + n ≤ length log → lid / size < slots
+  in_slots lid n grown in_file = slot_inside size (length log) lid n some grown in_file
 
   -- What stands in a slot that is used stays.
 
   module _ (lid : ℕ) (used : is_used size s (lid / size) ≡ true) where
-    used_part : (n : ℕ) → lid % size + n ≤ size → part new lid n ≡ part log lid n
-    used_part n within = filled_part size some free log (lid / size) lid n free_begin (used_apart size (length log) s (lid / size) used) (omega (arith, mod-add-div' lid size)) (omega (arith, mod-add-div' lid size, within))
+    used_part : (n : ℕ) → 0 < n → lid % size + n ≤ size → lid + n ≤ length log → part new lid n ≡ part log lid n
+    used_part n grown within in_file =
+        started_part size some log s (lid / size) used (in_slots lid n grown in_file) lid n (omega (arith, mod-add-div' lid size)) (omega (arith, mod-add-div' lid size, within)) in_file
 
     used_message : (number : ℕ) (m : Message) → MessageStands sum size log lid number m → MessageStands sum size new lid number m
-    used_message number m r = let end = r.stands.in_file in message_moved sum size log new lid number m (used_part m.size r.stands.in_slot) (omega (arith, end, grows)) r
-
-  used_byte : (j i : ℕ) → is_used size s j ≡ true → j * size ≤ i → i < j * size + size → get_or new i 0 ≡ get_or log i 0
-  used_byte j i used low high = filled_byte size some free log j i free_begin (used_apart size (length log) s j used) low high
+    used_message number m r =
+        let in_file = r.stands.in_file in
+        let in_slot = r.stands.in_slot in
+        let grown : 0 < m.size = (let some = stands_some sum size log lid number m r in omega (arith, some)) in
+        message_moved sum size log new lid number m (used_part m.size grown in_slot in_file)
+        (started_there size some log s (lid / size) used (in_slots lid m.size grown in_file) lid m.size (omega (arith, mod-add-div' lid size, in_slot)) in_file) r
 
   -- a record in another slot lies apart from one
   other_slot : (lid n j : ℕ) → lid / size ≢ j → lid % size + n ≤ size → (lid + n ≤ j * size) ⊎ (j * size + size ≤ lid)
@@ -104,7 +102,8 @@ module _ (sum : List ℕ → ℕ) (size : ℕ) (long : 256 ≤ size) (log : List
 
     header_used : HasHeader sum log site → HasHeader sum new site
     header_used h =
-        let same : part new a 20 ≡ part log a 20 = used_part a (active_used size s a active) 20 (omega (arith, aligned, long)) in
+        let there : a + 20 ≤ length log = header_inside sum log a (pos site.place) h.mark h.header in
+        let same : part new a 20 ≡ part log a 20 = used_part a (active_used size s a active) 20 (omega arith) (omega (arith, aligned, long)) there in
         record { mark = h.mark; header = subst (λ (l : List ℕ). IsHeader sum l (pos site.place) h.mark) (sym same) h.header; below = h.below }
 
     -- a message of an earlier segment lies in another slot
@@ -132,7 +131,9 @@ module _ (sum : List ℕ → ℕ) (size : ℕ) (long : 256 ≤ size) (log : List
       elsewhere = elsewhere_used;
       begun = λ more. has.inside;
       header = λ more. header_used has.header;
-      clean = λ i above below. used_byte (a / size) i (active_used size s a active) (omega (arith, whole, above)) (omega (arith, whole, below)) ∙ has.clean i above below;
+      clean = λ i above below.
+          let there : a + 20 ≤ length log = header_inside sum log a (pos site.place) has.header.mark has.header.header in
+          started_byte size some log s (a / size) (active_used size s a active) (in_slots a 20 (omega arith) there) i (omega (arith, whole, above)) (omega (arith, whole, below)) ∙ has.clean i above below;
     }
 
   -- A new segment begins in the lowest slot that is not used, or behind the file.
@@ -151,8 +152,8 @@ module _ (sum : List ℕ → ℕ) (size : ℕ) (long : 256 ≤ size) (log : List
 
   lowest_zero : (i : ℕ) → lowest * size ≤ i → i < lowest * size + size → get_or new i 0 ≡ 0
   lowest_zero i low high = elim (first_there slots free) [
-    | inl there ↦ filled_zero size some free log lowest i free_begin there low high
-    | inr behind ↦ get_or_past new i 0 (let past : slots * size ≤ i = subst (λ k. k * size ≤ i) behind low in omega (arith, past, covered))
+    | inl there ↦ started_zero size some log s lowest i there low high
+    | inr behind ↦ started_past size some log s i (let past : slots * size ≤ i = subst (λ k. k * size ≤ i) behind low in omega (arith, past, mul-le-mul_right size (left_within size some log s)))
   ]
 
   module _ (below : EndBelow stable H.messages) (has : HasNoActive sum size log s H) where
@@ -164,11 +165,7 @@ module _ (sum : List ℕ → ℕ) (size : ℕ) (long : 256 ≤ size) (log : List
         let u = has.older page m entry lower lid pointer in
         let grown = stands_some sum size log lid (m.place / size) m u.stands in
         let in_file = u.stands.stands.in_file in
-        let parts : lid % size + lid / size * size ≡ lid = mod-add-div' lid size in
-        let less : lid / size < slots = elim (cases_lt (lid / size) slots) [
-          | inl is ↦ is
-          | inr past ↦ absurd (omega (arith, parts, past_slots (lid / size) past, slots_cover size (length log) some, in_file, grown))
-        ] in
+        let less : lid / size < slots = in_slots lid m.size (omega (arith, grown)) in_file in
         record {
           begins = u.begins;
           stands = used_message lid u.used (m.place / size) m u.stands;

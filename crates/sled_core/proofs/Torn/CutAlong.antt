@@ -5,16 +5,8 @@ use Rattle.std.proofs.lemmas.List.{take-take}
 use Rattle.sled_store.specs.Device.{Event, LogState, State, at_rest, log_step, step, Cut, Synced}
 use Rattle.sled_store.specs.Script.{Along}
 use Rattle.sled_store.specs.SegmentStates.{SlotState, may_be_cut, left_after, cutting}
+use Rattle.sled_store.proofs.Accounts.StartNext.{left_below}
 use Rattle.sled_core.proofs.Torn.CutSlots.{after_cut}
-
--- No more slots are left than there were.
-pub left_below : (slots : List SlotState) (n : ℕ) → left_after n slots ≤ n
-left_below slots zero = omega arith
-left_below slots (suc n) = by (may_be_cut n slots) (left_below slots n)
-  where
-    by : (b : Bool) → left_after n slots ≤ n → (if b then left_after n slots else suc n) ≤ suc n
-    by true below = omega (arith, below)
-    by false below = omega arith
 
 module _ (P : State → Type 0) (size : ℕ) (old : List ℕ) (slots : List SlotState) (s : State) where
   -- P holds of each state in which the file is cut to some slots, from so few to so many of them

@@ -11,13 +11,12 @@ use Rattle.sled_codec.specs.Record.{IsHeader}
 use Rattle.sled_store.specs.Begin.{filling}
 use Rattle.sled_store.specs.Device.{Event, Trace, LogState, State, Content, state_of, at_rest, LeavesLog}
 use Rattle.sled_store.specs.Foreign.{NoForeignLog}
-use Rattle.sled_store.specs.Moments.{AllLeft, LeavesOnly}
-use Rattle.sled_store.specs.Script.{Performs, Along, after_all}
+use Rattle.sled_store.specs.Moments.{AllLeft}
+use Rattle.sled_store.specs.Script.{Along, after_all}
 use Rattle.sled_store.specs.SegmentStates.{SlotState, left_after, cutting}
 use Rattle.sled_store.proofs.LogFile.LogLemmas.{at_rest_left}
 use Rattle.sled_store.proofs.Segments.Elements.{in_first, in_rest}
 use Rattle.sled_store.proofs.Segments.FilledLemmas.{filled, filling-log}
-use Rattle.sled_store.proofs.Traces.ScriptLemmas.{performs_throughout}
 use Rattle.sled_core.specs.declared.iterator.Segment.{Segment}
 use Rattle.sled_core.specs.declared.iterator.scan.ScannedRecord.{ScannedRecord}
 use Rattle.sled_core.specs.declared.iterator.scan.ScanEnd.{ScanEnd}
@@ -167,7 +166,3 @@ module _ (sum : List ℕ → ℕ) (size : ℕ) (Used : ℕ → Type 0) (long : 2
         (filled_along Keeps size log ks (state_of t) is (λ x filling blobs snapshots left leaves own. filling_keeps sum size Used long none log ks apart x.log filling left.log leaves.log {placed = x.placed} own)
         (λ x behind blobs snapshots. rest_keeps (filled size log ks) keeps x behind))
         (cutting_keeps_along slots n (filled size log ks) keeps short below (state_of (after_all (filling size ks) t)) (filling-log size ks t log is))
-
-    -- At each moment of that, also within a call, a crash leaves the used slots as they were, and no segment that there wasn't.
-    pub starting_keeps : (old new : Trace) → (state_of old).log ≡ at_rest log → Performs (filling size ks ++ cutting size n slots) old new → LeavesOnly (KeepsIfOwn sum size Used log) old new
-    starting_keeps old new is calls = performs_throughout Keeps (filling size ks ++ cutting size n slots) old new calls (starting_along old is)

@@ -15,7 +15,7 @@ use Rattle.sled_core.proofs.Flush.LogFileLemmas.{part_laid}
 use Rattle.sled_core.proofs.Torn.TornLemmas.{after_write}
 use Rattle.sled_core.proofs.Torn.TornRecords.{same_or_not}
 use Rattle.sled_core.proofs.Torn.WrittenParts.{twenty, header_where}
-use Rattle.sled_core.proofs.Torn.WrittenRecords.{MeetsFirst, meets_first}
+use Rattle.sled_core.proofs.Torn.WrittenRecords.{AreClear, MeetsFirst, meets_first}
 
 -- Where all bytes are zeros, a part of them is zeros.
 pub part_zeros : (log : List ℕ) (lid len : ℕ) → length (part log lid len) ≡ len → ((i : ℕ) → lid ≤ i → i < lid + len → get_or log i 0 ≡ 0) → part log lid len ≡ replicate len 0
@@ -31,7 +31,7 @@ none_in_zeros sum size none long log lid clean lsn mark is =
     none lsn mark (subst (λ (l : List ℕ). IsHeader sum l lsn mark) zeros is)
 
 module _ (sum : List ℕ → ℕ) (size : ℕ) (old : List ℕ) (slot from : ℕ) (asked now left : List ℕ) (inside : from + length asked ≤ size) (no_more : length now ≤ length asked)
-    (leaves : LeavesLog (after_write old (slot * size + from) asked now) left) (clean : (i : ℕ) → slot * size + from ≤ i → i < slot * size + size → get_or old i 0 ≡ 0)
+    (leaves : LeavesLog (after_write old (slot * size + from) asked now) left) (until : ℕ) (covers : from + length asked ≤ until) (clean : (i : ℕ) → slot * size + from ≤ i → i < slot * size + until → get_or old i 0 ≡ 0)
     (none : NoHeaderOfZeros sum) (first : from ≡ 0) (place : ℕ) (mark : ℤ) (begun : IsHeader sum (take 20 asked) (pos place) mark) where
   abbrev new : List ℕ
   new = overwritten old (slot * size + from) asked
@@ -42,7 +42,7 @@ module _ (sum : List ℕ → ℕ) (size : ℕ) (old : List ℕ) (slot from : ℕ
 
   -- no header stood in the slot
   pub none_stood : (lsn mark' : ℤ) → IsHeader sum (part old (slot * size) 20) lsn mark' → ⊥
-  none_stood = none_in_zeros sum size none (omega (arith, long, inside)) old (slot * size) (λ i above below. clean i (omega (arith, above, first)) below)
+  none_stood = none_in_zeros sum until none (omega (arith, long, covers)) old (slot * size) (λ i above below. clean i (omega (arith, above, first)) below)
 
   -- where all is written, the header passes
   pub header_new : IsHeader sum (part new (slot * size) 20) (pos place) mark
@@ -74,9 +74,9 @@ module _ (sum : List ℕ → ℕ) (size : ℕ) (old : List ℕ) (slot from : ℕ
 
     -- Where it passes, the first of the records that were written are met, and none behind them.
     module _ (header : IsHeader sum (part left (slot * size) 20) (pos place) mark) (more : List ScannedRecord) (stop : ℕ) (why : ScanEnd) where
-      pub meets_begun : IsScan sum size new (slot * size) place more stop why → MeetsFirst sum size new left (slot * size) place 20 more stop why
+      pub meets_begun : AreClear size until 20 more → IsScan sum size new (slot * size) place more stop why → MeetsFirst sum size new left (slot * size) place 20 more stop why
       unfolding IsScan
-      meets_begun (path, end) = meets_first sum size old slot from asked now left no_more leaves only_own clean place mark header 20 more stop why (omega (arith, first)) at_first path end
+      meets_begun clear (path, end) = meets_first sum size old slot from asked now left no_more leaves only_own until covers clean place mark header 20 more stop why (omega (arith, first)) clear at_first path end
 
       -- So much for all that is met in the slot.
       pub scan_begun : (w : MeetsFirst sum size new left (slot * size) place 20 more stop why) → IsScan sum size left (slot * size) place (take w.count more) w.end w.ending

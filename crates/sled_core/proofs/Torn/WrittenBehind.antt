@@ -12,7 +12,7 @@ use Rattle.sled_core.specs.Scan.{IsMet, IsPath, IsEnd, IsScan}
 use Rattle.sled_core.proofs.Flush.LogFileLemmas.{part_kept}
 use Rattle.sled_core.proofs.Torn.TornLemmas.{after_write, left_grows, part_left}
 use Rattle.sled_core.proofs.Torn.WrittenParts.{twenty, in_this_file, comes_along, path_rises, paths_joined, path_stays, path_whole, header_where}
-use Rattle.sled_core.proofs.Torn.WrittenRecords.{AlikeAlong, MeetsFirst, alike_joined, meets_first}
+use Rattle.sled_core.proofs.Torn.WrittenRecords.{AlikeAlong, AreClear, MeetsFirst, alike_joined, meets_first}
 
 module _ (sum : List ℕ → ℕ) (size : ℕ) (old : List ℕ) (slot from : ℕ) (asked now left : List ℕ) (no_more : length now ≤ length asked) (leaves : LeavesLog (after_write old (slot * size + from) asked now) left) (behind : 20 ≤ from) where
   abbrev new : List ℕ
@@ -56,7 +56,7 @@ module _ (sum : List ℕ → ℕ) (size : ℕ) (old : List ℕ) (slot from : ℕ
       | inr write ↦ (let begins = write.begins in absurd (omega (arith, begins, behind)))
     ]
 
-    module _ (clean : (i : ℕ) → slot * size + from ≤ i → i < slot * size + size → get_or old i 0 ≡ 0) (place : ℕ) (mark : ℤ) (header : IsHeader sum (part old (slot * size) 20) (pos place) mark)
+    module _ (until : ℕ) (covers : from + length asked ≤ until) (clean : (i : ℕ) → slot * size + from ≤ i → i < slot * size + until → get_or old i 0 ≡ 0) (place : ℕ) (mark : ℤ) (header : IsHeader sum (part old (slot * size) 20) (pos place) mark)
         (met : List ScannedRecord) (stood : IsPath sum size old (slot * size) place 20 met from) where
       -- what was met up to the write is met
       pub before_left : IsPath sum size left (slot * size) place 20 met from
@@ -68,10 +68,10 @@ module _ (sum : List ℕ → ℕ) (size : ℕ) (old : List ℕ) (slot from : ℕ
 
       module _ (more : List ScannedRecord) (stop : ℕ) (why : ScanEnd) where
         -- Behind it the first of the records are met that are met behind it where all is written.
-        pub meets_on : IsPath sum size new (slot * size) place from more stop → IsEnd sum size new (slot * size) place stop why → MeetsFirst sum size new left (slot * size) place from more stop why
-        meets_on path end =
+        pub meets_on : AreClear size until from more → IsPath sum size new (slot * size) place from more stop → IsEnd sum size new (slot * size) place stop why → MeetsFirst sum size new left (slot * size) place from more stop why
+        meets_on clear path end =
             let comes = comes_along sum size left (slot * size) aligned place 20 met from before_left at_first in
-            meets_first sum size old slot from asked now left no_more leaves only_own clean place mark (header_left (pos place) mark header) from more stop why (omega arith) comes path end
+            meets_first sum size old slot from asked now left no_more leaves only_own until covers clean place mark (header_left (pos place) mark header) from more stop why (omega arith) clear comes path end
 
         -- So much for all that is met in the slot.
         module _ (first : MeetsFirst sum size new left (slot * size) place from more stop why) where

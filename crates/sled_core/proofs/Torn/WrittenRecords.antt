@@ -15,12 +15,12 @@ use Rattle.sled_core.specs.declared.iterator.scan.ScanEnd.TheVariants.{Full, Cap
 use Rattle.sled_core.proofs.Read.StandIn.{IsEmpty}
 use Rattle.sled_core.specs.Reading.{StandsAt}
 use Rattle.sled_core.specs.Scan.{IsMet, IsPath, IsEnd, EndsThere}
-use Rattle.sled_core.proofs.Flush.LogFileLemmas.{record_moved}
+use Rattle.sled_core.proofs.Flush.LogFileLemmas.{part_kept, record_moved}
 use Rattle.sled_core.proofs.Read.GivesLemmas.{one_len}
 use Rattle.sled_core.proofs.Read.PathLemmas.{zeros_empty}
 use Rattle.sled_core.proofs.Torn.TornLemmas.{after_write}
 use Rattle.sled_core.proofs.Torn.TornRecords.{same_or_not, long_enough}
-use Rattle.sled_core.proofs.Torn.WrittenParts.{ComesTo, all_there, in_this_file, in_segment, comes_behind, path_rises, covered_new, record_where}
+use Rattle.sled_core.proofs.Torn.WrittenParts.{ComesTo, all_there, in_this_file, comes_behind, path_rises, covered_new, record_where}
 
 -- These records have in one file the bytes that they have in another, and are all in it.
 abbrev pub AlikeAlong : List ℕ → List ℕ → ℕ → ℕ → List ScannedRecord → Type 0
@@ -71,9 +71,24 @@ pub meets_within : (sum : List ℕ → ℕ) (size : ℕ) (new left : List ℕ) (
 meets_within sum size new left slot place from more stop why w =
     (path_rises sum size left slot place from (take w.count more) w.end w.path, path_rises sum size new slot place w.end (drop w.count more) stop w.rest)
 
+-- Where a record may begin at an offset, its sum and its kind lie in front of another one, or it lies behind that.
+abbrev pub IsClear : ℕ → ℕ → ℕ → Type 0
+IsClear size until here = here + 32 ≤ size → (here + 5 ≤ until) ⊎ (until ≤ here)
+
+-- so it is at each offset of some records that stand one behind another, and behind the last one
+abbrev pub AreClear : ℕ → ℕ → ℕ → List ScannedRecord → Type 0
+AreClear size until here [] = IsClear size until here
+AreClear size until here (m ∷ ms) = IsClear size until here × AreClear size until (here + m.len) ms
+
+-- the end of the segment lies behind all of them
+pub all_clear : (size here : ℕ) (ms : List ScannedRecord) → AreClear size size here ms
+all_clear size here [] = λ room. inl (omega (arith, room))
+all_clear size here (m ∷ ms) = ((λ room. inl (omega (arith, room))), all_clear size (here + m.len) ms)
+
+-- A write into a slot, up to an offset of which there were zeros.
 module _ (sum : List ℕ → ℕ) (size : ℕ) (old : List ℕ) (slot from : ℕ) (asked now left : List ℕ) (no_more : length now ≤ length asked) (leaves : LeavesLog (after_write old (slot * size + from) asked now) left)
     {placed : List (ℕ × List ℕ)} (only_own : NoForeignLog sum size (after_write old (slot * size + from) asked now) placed left)
-    (clean : (i : ℕ) → slot * size + from ≤ i → i < slot * size + size → get_or old i 0 ≡ 0)
+    (until : ℕ) (covers : from + length asked ≤ until) (clean : (i : ℕ) → slot * size + from ≤ i → i < slot * size + until → get_or old i 0 ≡ 0)
     (place : ℕ) (mark : ℤ) (header : IsHeader sum (part left (slot * size) 20) (pos place) mark) where
   abbrev new : List ℕ
   new = overwritten old (slot * size + from) asked
@@ -81,9 +96,9 @@ module _ (sum : List ℕ → ℕ) (size : ℕ) (old : List ℕ) (slot from : ℕ
   aligned : slot * size % size ≡ 0
   aligned = mul-mod_left slot size
 
-  -- At an offset that a reader comes to, where there were zeros.
-  module _ (here : ℕ) (later : from ≤ here) (below : here < size) (comes : ComesTo sum size left (slot * size) place here) where
-    -- A record that stands there is one of the write.
+  -- At an offset that a reader comes to, where there were zeros or which lies behind them.
+  module _ (here : ℕ) (later : from ≤ here) (below : here < size) (clear : (here + 5 ≤ until) ⊎ (until ≤ here)) (comes : ComesTo sum size left (slot * size) place here) where
+    -- A record that stands there is one of the write, or was there behind it.
     module _ (h : MessageHeader) (body : List ℕ) (len : ℕ) (s : StandsAt sum size left (slot * size + here) (place / size) h body len) where
       some : 8 ≤ len
       some = long_enough sum size left (slot * size + here) (place / size) h body len s
@@ -91,19 +106,23 @@ module _ (sum : List ℕ → ℕ) (size : ℕ) (old : List ℕ) (slot from : ℕ
       whole : length (part left (slot * size + here) len) ≡ len
       whole = all_there sum size left (slot * size + here) (place / size) h body len s
 
-      not_before : part old (slot * size + here) len ≡ part left (slot * size + here) len → ⊥
-      not_before same =
-          let fits = in_segment sum size left (slot * size) aligned here (place / size) h body len below s in
+      not_before : here + 5 ≤ until → part old (slot * size + here) len ≡ part left (slot * size + here) len → ⊥
+      not_before near same =
           let zero : get_or left (slot * size + here + 4) 0 ≡ 0 =
           sym (get_or-take len (drop (slot * size + here) left) 4 0 (omega (arith, some)) ∙ get_or-drop (slot * size + here) left 4 0)
           ∙ ap (λ (l : List ℕ). get_or l 4 0) (sym same)
           ∙ get_or-take len (drop (slot * size + here) old) 4 0 (omega (arith, some)) ∙ get_or-drop (slot * size + here) old 4 0
-          ∙ clean (slot * size + here + 4) (omega (arith, later)) (omega (arith, fits, some)) in
+          ∙ clean (slot * size + here + 4) (omega (arith, later)) (omega (arith, near)) in
           zeros_empty sum size left (slot * size + here) (place / size) zero h body len s
 
       pub written_there : part new (slot * size + here) len ≡ part left (slot * size + here) len
       written_there = elim (record_where sum size old (slot * size + from) asked now left no_more leaves only_own slot place mark header here comes below h body len s) [
-        | inl stood ↦ absurd (not_before stood)
+        | inl stood ↦ elim clear [
+          | inl near ↦ absurd (not_before near stood)
+          | inr far ↦ (
+              let there = in_this_file sum size old left (slot * size + here) len (omega (arith, some)) whole stood in
+              part_kept sum size old (slot * size + from) asked (slot * size + here) len there (inr (omega (arith, far, covers))) ∙ stood)
+        ]
         | inr write ↦ covered_new sum size old (slot * size + from) asked now left no_more leaves (slot * size + here) len whole write
       ]
 
@@ -127,36 +146,36 @@ module _ (sum : List ℕ → ℕ) (size : ℕ) (old : List ℕ) (slot from : ℕ
     ]
 
   -- where the reading of what was written ends, it ends
-  ended : (here : ℕ) → from ≤ here → ComesTo sum size left (slot * size) place here → (why : ScanEnd) → IsEnd sum size new (slot * size) place here why
+  ended : (here : ℕ) → from ≤ here → IsClear size until here → ComesTo sum size left (slot * size) place here → (why : ScanEnd) → IsEnd sum size new (slot * size) place here why
       → MeetsFirst sum size new left (slot * size) place here [] here why
   unfolding EndsThere
-  ended here later comes Full full = record { count = 0; end = here; ending = Full; path = refl; ends = full; alike = tt; rest = refl; how = inl (refl, refl, inl refl) }
-  ended here later comes Capped (room, (h, body, len, s, is_cap)) = elim (stands_or_none here later (omega (arith, room)) comes h body len s) [
+  ended here later clear comes Full full = record { count = 0; end = here; ending = Full; path = refl; ends = full; alike = tt; rest = refl; how = inl (refl, refl, inl refl) }
+  ended here later clear comes Capped (room, (h, body, len, s, is_cap)) = elim (stands_or_none here later (omega (arith, room)) (clear room) comes h body len s) [
     | inl (same, there, still) ↦
         record { count = 0; end = here; ending = Capped; path = refl; ends = (room, (h, body, len, still, is_cap)); alike = tt; rest = refl; how = inl (refl, refl, inl refl) }
     | inr none ↦ record { count = 0; end = here; ending = Broken; path = refl; ends = (room, none); alike = tt; rest = refl; how = inl (refl, refl, inr (refl, refl)) }
   ]
-  ended here later comes Broken (room, none) = record {
+  ended here later clear comes Broken (room, none) = record {
     count = 0;
     end = here;
     ending = Broken;
     path = refl;
-    ends = (room, λ h body len s. none h body len (stands_new here later (omega (arith, room)) comes h body len s));
+    ends = (room, λ h body len s. none h body len (stands_new here later (omega (arith, room)) (clear room) comes h body len s));
     alike = tt;
     rest = refl;
     how = inl (refl, refl, inl refl);
   }
 
   -- The first of the records that were written from a place on are met, and none behind them.
-  pub meets_first : (here : ℕ) (more : List ScannedRecord) (stop : ℕ) (why : ScanEnd) → from ≤ here → ComesTo sum size left (slot * size) place here
+  pub meets_first : (here : ℕ) (more : List ScannedRecord) (stop : ℕ) (why : ScanEnd) → from ≤ here → AreClear size until here more → ComesTo sum size left (slot * size) place here
       → IsPath sum size new (slot * size) place here more stop → IsEnd sum size new (slot * size) place stop why → MeetsFirst sum size new left (slot * size) place here more stop why
   unfolding IsMet EndsThere
-  meets_first here [] stop why later comes path end =
-      let at_once = ended here later comes why (subst (λ n. IsEnd sum size new (slot * size) place n why) path end) in
+  meets_first here [] stop why later clear comes path end =
+      let at_once = ended here later clear comes why (subst (λ n. IsEnd sum size new (slot * size) place n why) path end) in
       subst (λ n. MeetsFirst sum size new left (slot * size) place here [] n why) (sym path) at_once
-  meets_first here (m ∷ ms) stop why later comes (room, at_place, (h, body, stands, says), path) end = elim (stands_or_none here later (omega (arith, room)) comes h body m.len stands) [
+  meets_first here (m ∷ ms) stop why later clear comes (room, at_place, (h, body, stands, says), path) end = elim (stands_or_none here later (omega (arith, room)) (clear.0 room) comes h body m.len stands) [
     | inl (same, there, still) ↦ (
-        let on = meets_first (here + m.len) ms stop why (omega (arith, later)) (comes_behind sum size left (slot * size) aligned place here h body m.len (omega (arith, room)) still comes) path end in
+        let on = meets_first (here + m.len) ms stop why (omega (arith, later)) clear.1 (comes_behind sum size left (slot * size) aligned place here h body m.len (omega (arith, room)) still comes) path end in
         record {
           count = suc on.count;
           end = on.end;

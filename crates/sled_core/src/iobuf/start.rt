@@ -1,24 +1,25 @@
 //! The buffer that a log begins with, and where that lies (`specs/Begin.antt`, in sled_store).
-ghost use Rattle.std.specs.Prelude.{◌≡◌, ◌%◌, ◌^◌, ◌<◌, ◌≤◌, length, is_some, IfSome, IfOk, OnOk, IsOkUnless};
-ghost use Rattle.sled_codec.specs.Errors.{IsCorruption};
+ghost use Rattle.std.specs.Prelude.{◌≡◌, length, IfOk, IfErr, OnOk};
 ghost use Rattle.sled_codec.specs.Snapshots.{model_of, stable_place};
 ghost use Rattle.sled_store.specs.Device.{state_of};
 ghost use Rattle.sled_store.specs.Script.{Performs, after_all};
-ghost use Rattle.sled_store.specs.Begin.{slots_of, IsStartable, filling, IsInReach, place_at, offset_at, beginning_at, beginning_of, unused};
-ghost use Rattle.sled_core.specs.FirstBuffer.{IsFirstBuffer};
-ghost use Rattle.sled_core.specs.Causes.{StartAnswers, IsUnfit};
+ghost use Rattle.sled_store.specs.Begin.{IsStartable, IsInReach, place_at, offset_at, beginning_of};
+ghost use Rattle.sled_store.specs.Started.{started, FoundOrRefuses};
+ghost use Rattle.sled_core.specs.FirstBuffer.{IsFirstBuffer, RefusesBuffer};
 
 use crate::iobuf::IoBuf;
 use sled_codec::result::{Error, Result};
 use sled_codec::serialization::snapshot::Snapshot;
 use sled_codec::serialization::{Checksum, SegmentHeader};
-use sled_store::segment::start::{Beginning, beginning_at, check_snapshot, fill_unused, place_at};
+use sled_store::segment::SEG_HEADER_LEN;
+use sled_store::segment::accountant::SegmentAccountant;
+use sled_store::segment::start::{Beginning, beginning_at, place_at};
 use sled_store::{Device, RunningConfig};
 
 /// Where a log begins on the log file, from a snapshot: behind the stable place in the active segment, or else
-/// a segment in the lowest slot that the snapshot does not use; and the buffer of that segment. Once it has all
-/// memory it fills the slots that are not used with zeros, in ascending order, and syncs the file where there
-/// is one.
+/// a segment in the slot that the accountant of segments hands out next; and the buffer of that segment. Once it has
+/// all memory, the accountant starts: it fills the slots that are not used with zeros, syncs them, and cuts free ones
+/// off the end of the file but for one.
 ///
 /// `Corruption` comes where no log can begin from the snapshot, `PlacesUsedUp` where one more slot of the
 /// file or the segment of the log would not end below 2^63; nothing was written then. `Io` comes where the device
@@ -27,37 +28,33 @@ pub(crate) fn begin<D: Device, C: Checksum>(
     config: &mut RunningConfig<D, C>,
     snapshot: &Snapshot,
 ) -> Result<(Beginning, IoBuf)>
-    ensures startable { OnOk result (IsStartable config.old.config.segment_size (length (state_of (D.trace config.old.device)).log.bytes)
-        (model_of snapshot.now)) }
-    ensures corrupt { IsCorruption result → IsStartable config.old.config.segment_size (length (state_of (D.trace config.old.device)).log.bytes)
-        (model_of snapshot.now) → ⊥ }
     ensures beginning { IfOk result (λ b. b.0 ≡ beginning_of config.old.config.segment_size (length (state_of (D.trace config.old.device)).log.bytes)
         (model_of snapshot.now)) }
     ensures buffer { IfOk result (λ b. IsFirstBuffer C.sum_of b.0.place b.0.offset b.1) }
-    ensures done { let size = config.old.config.segment_size in
-        OnOk result (D.trace config.new.device ≡ after_all (filling size
-        (unused size (slots_of size (length (state_of (D.trace config.old.device)).log.bytes)) (model_of snapshot.now))) (D.trace config.old.device)) }
+    ensures made { let size = config.old.config.segment_size in
+        OnOk result (D.trace config.new.device ≡ after_all
+        (started size (length (state_of (D.trace config.old.device)).log.bytes) (model_of snapshot.now)).calls (D.trace config.old.device)) }
     ensures calls { let size = config.old.config.segment_size in
-        Performs (filling size (unused size (slots_of size (length (state_of (D.trace config.old.device)).log.bytes)) (model_of snapshot.now)))
+        Performs (started size (length (state_of (D.trace config.old.device)).log.bytes) (model_of snapshot.now)).calls
         (D.trace config.old.device) (D.trace config.new.device) }
-    ensures unwritten { IsUnfit result → D.trace config.new.device ≡ D.trace config.old.device }
-    ensures answers { StartAnswers result (IsInReach config.old.config.segment_size (length (state_of (D.trace config.old.device)).log.bytes)
-        (model_of snapshot.now)) (D.faults config.old.device) (D.faults config.new.device) }
+    ensures answers { let size = config.old.config.segment_size in let len = length (state_of (D.trace config.old.device)).log.bytes in
+        FoundOrRefuses result (IsStartable size len (model_of snapshot.now)) (IsInReach size len (model_of snapshot.now))
+        (D.trace config.new.device ≡ D.trace config.old.device) (D.faults config.old.device) (D.faults config.new.device) }
     ensures config { config.new.config ≡ config.old.config }
     ensures checksum { config.new.checksum ≡ config.old.checksum }
 {
-    let size = config.config.segment_size;
-    let len = config.device.len()?;
-    let (table, slots) = match check_snapshot(config.alloc(), size, len, snapshot) {
-        Ok(check_snapshot) => check_snapshot,
-        Err(e) => return Err(e),
-    };
     let buffer = match first_buffer(config, snapshot) {
         Ok(buffer) => buffer,
         Err(e) => return Err(e),
     };
-    match fill_unused(config, &table, slots) {
-        Ok(first) => Ok((beginning_at(size, slots, first, snapshot), buffer)),
+    match SegmentAccountant::start(config, snapshot) {
+        Ok(accountant) => {
+            let next = accountant.next_slot();
+            Ok((
+                beginning_at(config.config.segment_size, next, snapshot),
+                buffer,
+            ))
+        }
         Err(e) => Err(e),
     }
 }
@@ -65,20 +62,26 @@ pub(crate) fn begin<D: Device, C: Checksum>(
 /// The buffer of the segment in which a log goes on: with its header where it is begun, else with none of what is
 /// there already. Its mark is the place before it.
 fn first_buffer<D, C: Checksum>(config: &RunningConfig<D, C>, snapshot: &Snapshot) -> Result<IoBuf>
-    requires startable { IfSome (model_of snapshot.now).active (λ a. 20 ≤ stable_place (model_of snapshot.now).stable % config.now.config.segment_size) }
-    requires place { place_at config.now.config.segment_size (stable_place (model_of snapshot.now).stable) (model_of snapshot.now).active < 2 ^ 63 }
     ensures buffer { let s = model_of snapshot.now in let size = config.now.config.segment_size in
         IfOk result (λ b. IsFirstBuffer C.sum_of (place_at size (stable_place s.stable) s.active) (offset_at size (stable_place s.stable) s.active) b) }
-    ensures err { IsOkUnless result Error.OutOfMemory }
+    ensures refuses { let s = model_of snapshot.now in
+        IfErr result (RefusesBuffer config.now.config.segment_size (stable_place s.stable) s.active) }
 {
     let size = config.config.segment_size;
     if snapshot.active_segment.is_some() {
-        return IoBuf::resumed(config.alloc(), (snapshot.stable_place() % size) as usize);
+        let offset = snapshot.stable_place() % size;
+        if offset < SEG_HEADER_LEN as u64 {
+            return Err(Error::Corruption { at: None });
+        }
+        return IoBuf::resumed(config.alloc(), offset as usize);
     }
-    let place = place_at(size, snapshot) as i64;
+    let place = place_at(size, snapshot);
+    if place >= (1 << 63) - size {
+        return Err(Error::PlacesUsedUp);
+    }
     let header = SegmentHeader {
-        lsn: place,
-        max_stable_lsn: place - 1,
+        lsn: place as i64,
+        max_stable_lsn: place as i64 - 1,
         ok: true,
     };
     IoBuf::new(

@@ -22,7 +22,7 @@ use Rattle.sled_core.specs.Good.{IsGood}
 use Rattle.sled_core.specs.Running.{Fits}
 use Rattle.sled_core.proofs.Reserve.CompletesLemmas.{some_long}
 use Rattle.sled_core.proofs.Reserve.Ranges.{chain_grows}
-use Rattle.sled_core.proofs.Start.GoodFilled.{good_filled}
+use Rattle.sled_core.proofs.Start.GoodStarted.{good_started}
 use Rattle.sled_log.specs.declared.session.command.Reply.{Reply}
 use Rattle.sled_log.specs.declared.session.command.Reply.TheVariants as reply
 use Rattle.sled_log.specs.declared.session.step.Opened.{Opened}
@@ -161,12 +161,12 @@ starts_at size stable (Some slot) some shows =
     (omega (arith, whole), omega (arith, whole, shows.1))
 
 -- Whatever a start did, the table that it began on is as good as before.
-pub start_good : (sum : List ℕ → ℕ) (size : ℕ) (old new : DeviceView) (s : SnapshotModel) (r : Reply) → Shows s r → StartActs size old r new → (H : History) (A f : ℕ)
+pub start_good : (sum : List ℕ → ℕ) (size : ℕ) → 0 < size → (old new : DeviceView) (s : SnapshotModel) (r : Reply) → Shows s r → StartActs size old r new → (H : History) (A f : ℕ)
     → IsGood sum size (content_of (state_of old.trace)) H A f s → IsGood sum size (content_of (state_of new.trace)) H A f s
-start_good sum size old new s (reply.Opened t) shows acts H A f good =
-    filled (performs_whole (starting size old.trace (model_of t)) old.trace new.trace acts.2) where
-      filled : Performs (starting size old.trace (model_of t)) old.trace new.trace → IsGood sum size (content_of (state_of new.trace)) H A f s
-      filled calls = good_filled sum size s (slots_of size (length_of old)) old.trace new.trace (subst (λ (x : SnapshotModel). Performs (starting size old.trace x) old.trace new.trace) shows calls) H A f good
-start_good sum size old new s (reply.Recovered t e) shows acts H A f good =
-    good_filled sum size s (slots_of size (length_of old)) old.trace new.trace (subst (λ (x : SnapshotModel). Performs (starting size old.trace x) old.trace new.trace) shows acts.1) H A f good
-start_good sum size old new s _ shows acts H A f good = absurd shows
+start_good sum size some old new s (reply.Opened t) shows acts H A f good =
+    by (performs_whole (starting size old.trace (model_of t)) old.trace new.trace acts.2) where
+      by : Performs (starting size old.trace (model_of t)) old.trace new.trace → IsGood sum size (content_of (state_of new.trace)) H A f s
+      by calls = good_started sum size s old.trace new.trace some (subst (λ (x : SnapshotModel). Performs (starting size old.trace x) old.trace new.trace) shows calls) H A f good
+start_good sum size some old new s (reply.Recovered t e) shows acts H A f good =
+    good_started sum size s old.trace new.trace some (subst (λ (x : SnapshotModel). Performs (starting size old.trace x) old.trace new.trace) shows acts.1) H A f good
+start_good sum size some old new s _ shows acts H A f good = absurd shows

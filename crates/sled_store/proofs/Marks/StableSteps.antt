@@ -1,15 +1,16 @@
 -- A slot whose segment is done may be freed: it has no message of its own that isn't superseded.
-use Rattle.std.proofs.Common.{if◌then◌else◌, ⊎_elim, ◌≡◌, ◌≢◌, ◌∙◌, ◌⊎◌, ◌+◌, ◌*◌, ◌/◌, ◌<◌, ◌≤◌, ℕ, zero, suc, Bool, true, false, nat_lt, List, [], ◌∷◌, length, take, set, Some, refl, sym, ap, subst, arith, inl, inr}
+use Rattle.std.proofs.Common.{⊎_elim, ◌≡◌, ◌≢◌, ◌∙◌, ◌⊎◌, ◌+◌, ◌*◌, ◌/◌, ◌<◌, ◌≤◌, ℕ, true, false, List, [], ◌∷◌, length, set, Some, refl, sym, ap, subst, arith, inl, inr}
 use Rattle.std.specs.List.{Contains}
-use Rattle.std.proofs.lemmas.Bool.{true≢false, false≢true, cases_eq, cases_lt, and_parts}
+use Rattle.std.proofs.lemmas.Bool.{true≢false, false≢true, cases_lt, and_parts}
 use Rattle.std.proofs.lemmas.List.{length-set}
 use Rattle.std.proofs.lemmas.Nat.{le-div}
 use Rattle.std.proofs.Math.Nat.{div-mul-le_self, mul-le-mul_right}
 use Rattle.sled_codec.specs.History.{Message, History}
 use Rattle.sled_store.specs.Marks.{HasReplacement, IsSuperseded}
-use Rattle.sled_store.specs.SegmentStates.{SlotState, Machine, is_free, is_active, is_draining, free_slot, slots_where, same_pages, is_done, may_be_cut, left_after, freed, in_turn}
+use Rattle.sled_store.specs.SegmentStates.{SlotState, Machine, is_free, is_active, is_draining, free_slot, same_pages, is_done, left_after, freed, in_turn}
 use Rattle.sled_store.specs.declared.segment.slot.State.{State}
 use Rattle.sled_store.specs.declared.segment.slot.State.TheVariants.{Free, Active, Inactive, Draining}
+use Rattle.sled_store.proofs.Accounts.StartNext.{cut_free}
 use Rattle.sled_store.proofs.Segments.Elements.{in_first, in_rest}
 use Rattle.sled_store.proofs.Marks.SlotLemmas.{at, taken_there, set_changes, each_slot, same_is}
 use Rattle.sled_store.proofs.Marks.Tracked.{IsHeld, IsTracked, MayGo, left_free}
@@ -67,21 +68,11 @@ keeps_set size base but k old s lt why taken same as_much = record {
 
 -- Frees.
 
-left_after_free : (n : ℕ) (ss : List SlotState) (j : ℕ) → left_after n ss ≤ j → j < n → is_free (at ss j).state ≡ true
-left_after_free zero ss j le lt = absurd (omega (arith, lt))
-left_after_free (suc k) ss j le lt = by (may_be_cut k ss) refl le (left_after_free k ss j) where
-  by : (b : Bool) → may_be_cut k ss ≡ b → (if b then left_after k ss else suc k) ≤ j
-      → (left_after k ss ≤ j → j < k → is_free (at ss j).state ≡ true) → is_free (at ss j).state ≡ true
-  by true cut low rest =
-      ⊎_elim (λ is. subst (λ (i : ℕ). is_free (at ss i).state ≡ true) (sym is) (and_parts (is_free (at ss k).state) (nat_lt 1 (length (slots_where (λ s. is_free s.state) 0 (take (suc k) ss)))) cut).0)
-      (λ other. rest low (omega (arith, lt, other))) (cases_eq j k)
-  by false stays low rest = absurd (omega (arith, low, lt))
-
 module _ (size base : ℕ) (H : History) where
   pub freed_tracks : (m : Machine) (k : ℕ) → Tracks size base H m → MayGo size base H m.slots k → Tracks size base H (freed size k m).machine
   freed_tracks m k t goes =
       let new : List SlotState = set m.slots k free_slot in
-      left_free size base H m.slots m.tip t k new (left_after m.tip new) (set_changes m.slots k free_slot goes.there) goes (λ j le lt. left_after_free m.tip new j le lt)
+      left_free size base H m.slots m.tip t k new (left_after m.tip new) (set_changes m.slots k free_slot goes.there) goes (λ j le lt. cut_free m.tip new j le lt)
 
   goes_on : (m : Machine) (k j : ℕ) → k < length m.slots → MayGo size base H m.slots j → MayGo size base H (freed size k m).machine.slots j
   goes_on m k j lt goes = record {

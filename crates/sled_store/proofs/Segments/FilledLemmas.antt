@@ -1,5 +1,5 @@
 -- A log file whose slots are filled with zeros, one after another: how long it gets, which bytes stay, and which are zeros.
-use Rattle.std.proofs.Common.{◌≡◌, ◌≢◌, ◌⊎◌, ◌≤◌, ◌<◌, ◌+◌, ◌-◌, ◌*◌, ◌∙◌, ℕ, zero, suc, max, List, [], ◌∷◌, ◌++◌, length, take, drop, replicate, map, get_or, refl, sym, ap, subst, arith, inl, inr, length-append, length-take, Bool, true, false, if◌then◌else◌}
+use Rattle.std.proofs.Common.{◌≡◌, ◌≢◌, ◌⊎◌, ◌≤◌, ◌<◌, ◌+◌, ◌-◌, ◌*◌, ◌/◌, ◌∙◌, ℕ, zero, suc, max, List, [], ◌∷◌, ◌++◌, length, take, drop, replicate, map, get_or, refl, sym, ap, subst, arith, inl, inr, length-append, length-take, Bool, true, false, if◌then◌else◌}
 use Rattle.std.specs.List.{All, Contains}
 use Rattle.std.proofs.lemmas.List.Elements.{All-push, Contains-push, Contains-append_left, All-tail}
 use Rattle.std.proofs.Math.Nat.{mul-le-mul_right, div-mul-le_self, lt-div-mul-add}
@@ -75,6 +75,13 @@ pub slots_cover : (size len : ℕ) → 0 < size → len ≤ slots_of size len * 
 slots_cover size len some =
     let past : len + (size - 1) < slots_of size len * size + size = lt-div-mul-add some in
     omega (arith, some, past)
+
+-- what lies in a file is in one of its slots
+pub slot_inside : (size len lid n : ℕ) → 0 < size → 0 < n → lid + n ≤ len → lid / size < slots_of size len
+slot_inside size len lid n some grown in_file = elim (cases_lt (lid / size) (slots_of size len)) [
+  | inl is ↦ is
+  | inr past ↦ absurd (let far : slots_of size len * size ≤ lid / size * size = mul-le-mul_right size past in omega (arith, div-mul-le_self lid size, far, slots_cover size len some, in_file, grown))
+]
 
 -- what lies behind a write stays, and so does the end
 overwritten-drop : (bytes : List ℕ) (at : ℕ) (xs : List ℕ) (lid : ℕ) → at + length xs ≤ lid → drop lid (overwritten bytes at xs) ≡ drop lid bytes

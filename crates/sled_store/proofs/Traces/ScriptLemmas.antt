@@ -73,6 +73,11 @@ unfolding Performs
 performs_behind [] fs old mid new came rest = subst (λ (h : Trace). Performs fs h new) came rest
 performs_behind (e ∷ es) fs old mid new came rest = inr (performs_behind es fs (e ∷ old) mid new came rest)
 
+-- what holds along some calls holds behind them
+pub along_last : (P : State → Type 0) (es : List Event) (t : Trace) → Along P es (state_of t) → P (state_of (after_all es t))
+along_last P [] t along = along
+along_last P (e ∷ es) t along = along_last P es (e ∷ t) along.2
+
 -- it holds in the state after these calls
 abbrev pub EndsIn : (State → Type 0) → List Event → State → Type 0
 EndsIn P [] s = P s

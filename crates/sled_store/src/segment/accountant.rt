@@ -95,8 +95,9 @@ impl SegmentAccountant {
         Ok(slot * self.size)
     }
 
-    /// Returns the lowest free slot that is not cut off, or else the one behind all of them.
-    fn next_slot(&self) -> u64
+    /// Returns the slot that is handed out next: the lowest free one that is not cut off, or else the one behind all of
+    /// them.
+    pub fn next_slot(&self) -> u64
         requires { IsAccountant (size_of self.now) self.now }
         ensures slot { result ≡ next_slot (machine_of self.now) }
         ensures within { result ≤ length (machine_of self.now).slots }

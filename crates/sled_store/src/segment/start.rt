@@ -6,7 +6,7 @@ ghost use Rattle.std.specs.Ordering.{nat_cmp};
 ghost use Rattle.sled_codec.specs.Errors.{IsCorruption, IsDecodeError};
 ghost use Rattle.sled_codec.specs.Snapshots.{model_of, is_sound, stable_place};
 ghost use Rattle.sled_store.specs.Script.{Performs, after_all};
-ghost use Rattle.sled_store.specs.Begin.{slots_of, is_used, IsStartable, not_below, fill, filling, first_of, IsInReach, place_at, beginning_at};
+ghost use Rattle.sled_store.specs.Begin.{slots_of, is_used, IsStartable, not_below, fill, filling, first_of, first_or, IsInReach, place_at, beginning_at};
 ghost use Rattle.sled_store.specs.Causes.{DeviceAnswers, CheckAnswers};
 ghost use Rattle.sled_store.specs.SlotTables.{IsSlotTable};
 ghost use Rattle.sled_store.specs.Started.{all_entries};
@@ -73,13 +73,12 @@ pub fn place_at(size: u64, snapshot: &Snapshot) -> u64
     }
 }
 
-/// Where a log begins, where this is the lowest of its slots that are not used.
-pub fn beginning_at(size: u64, slots: u64, first: Option<u64>, snapshot: &Snapshot) -> Beginning
+/// Where a log begins, where a new segment would get this slot.
+pub fn beginning_at(size: u64, next: u64, snapshot: &Snapshot) -> Beginning
     requires some { 0 < size }
     requires small { size < 2 ^ 32 }
-    requires first { IfSome first (λ k. k < slots) }
-    requires slots { slots * size + size < 2 ^ 63 }
-    ensures { (free : List ℕ) → first ≡ first_of free → result ≡ beginning_at size slots (stable_place (model_of snapshot.now).stable) free
+    requires next { next * size + size < 2 ^ 63 }
+    ensures { (slots : ℕ) (free : List ℕ) → next ≡ first_or slots free → result ≡ beginning_at size slots (stable_place (model_of snapshot.now).stable) free
         (model_of snapshot.now).active }
 {
     let place = place_at(size, snapshot);
@@ -91,7 +90,7 @@ pub fn beginning_at(size: u64, slots: u64, first: Option<u64>, snapshot: &Snapsh
         },
         None => Beginning {
             place,
-            slot: first.unwrap_or(slots) * size,
+            slot: next * size,
             offset: 0,
         },
     }

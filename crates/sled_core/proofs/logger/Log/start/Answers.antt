@@ -1,17 +1,22 @@
-use Rattle.std.proofs.Common.{◌≡◌, ◌∙◌, ◌+◌, ℕ, List, [], None, length, rules, refl, ap, sym, subst, arith}
+use Rattle.std.proofs.Common.{◌≡◌, ◌∙◌, ◌+◌, ◌<◌, ℕ, List, [], None, length, rules, refl, ap, sym, subst, arith}
+use Rattle.sled_codec.specs.declared.result.Error.{Error}
+use Rattle.sled_codec.specs.declared.result.Error.TheVariants.{Corruption}
+use Rattle.sled_codec.specs.Errors.{IsCorrupt}
 use Rattle.sled_codec.specs.Snapshots.{SnapshotModel, model_of, stable_place}
+use Rattle.sled_store.specs.Causes.{StartRefuses}
 use Rattle.sled_store.specs.declared.config.Config.{Config}
 use Rattle.sled_store.specs.Device.{State, LogState, NamesState, Trace, state_of, at_rest}
 use Rattle.sled_store.specs.declared.segment.start.Beginning.{Beginning}
 use Rattle.sled_store.specs.Script.{after_all}
-use Rattle.sled_store.specs.Begin.{unused, slots_of, place_at, filling}
+use Rattle.sled_store.specs.Begin.{unused, slots_of, place_at}
+use Rattle.sled_store.specs.Started.{started}
 use Rattle.sled_core.specs.declared.iobuf.Reserved.{Reserved}
 use Rattle.sled_core.specs.Fits.{log_parts}
 use Rattle.sled_core.specs.Fits.{Holds, HoldsIn}
 use Rattle.sled_core.specs.declared.iobuf.SegmentPosition.{SegmentPosition}
 use Rattle.sled_core.specs.Running.{Ready, Fits, FitsIn}
-use Rattle.sled_store.proofs.Segments.FilledLemmas.{filled, filling-log, filling-snapshots, filling-blobs}
-use Rattle.sled_core.proofs.Start.FilledMoments.{filled_throughout}
+use Rattle.sled_store.proofs.Segments.StartedFile.{started_file, started-log, started-snapshots, started-blobs}
+use Rattle.sled_core.proofs.Start.StartedMoments.{started_throughout}
 use Rattle.sled_core.proofs.Start.ReadyStarts.{ready_starts}
 use Rattle.sled_core.proofs.Start.StartFits.{start_fits}
 use Rattle.sled_core.proofs.Start.OpenLemmas.{in_segment, place_in_reach, slot_in_reach, first_next, begins_place}
@@ -26,15 +31,16 @@ invariant_of-result g c =
     let same : c.begin.new.config.config.segment_size ≡ c.args.config.config.segment_size = ap (λ (x : Config). x.segment_size) c.begin.ensures.config in
     let s : SnapshotModel = model_of c.args.snapshot.now in
     let long = c.args.config.config.least in
-    let inside = in_segment c.args.config.config.segment_size len s c.in-Ok.beginning c.in-Ok.ensures.beginning c.in-Ok.ensures.startable c.in-Ok.ensures.answers.1 g.C.Checksum.sum_of c.in-Ok.buffer long c.in-Ok.ensures.buffer in
-    let place = place_in_reach c.args.config.config.segment_size len s c.in-Ok.beginning c.in-Ok.ensures.beginning c.in-Ok.ensures.startable c.in-Ok.ensures.answers.1 in
-    let slot = slot_in_reach c.args.config.config.segment_size len s c.in-Ok.beginning c.in-Ok.ensures.beginning c.in-Ok.ensures.startable c.in-Ok.ensures.answers.1 in
+    let inside = in_segment c.args.config.config.segment_size len s c.in-Ok.beginning c.in-Ok.ensures.beginning c.in-Ok.ensures.answers.0 c.in-Ok.ensures.answers.1 g.C.Checksum.sum_of c.in-Ok.buffer long c.in-Ok.ensures.buffer in
+    let place = place_in_reach c.args.config.config.segment_size len s c.in-Ok.beginning c.in-Ok.ensures.beginning c.in-Ok.ensures.answers.0 c.in-Ok.ensures.answers.1 in
+    let slot = slot_in_reach c.args.config.config.segment_size len s c.in-Ok.beginning c.in-Ok.ensures.beginning c.in-Ok.ensures.answers.0 c.in-Ok.ensures.answers.1 in
     record { in_segment = omega (arith, same, inside); place_in_reach = omega (arith, same, place); slot_in_reach = omega (arith, same, slot) }
 
--- the log file, once it was filled
-filled_log : (size : ℕ) (ks : List ℕ) (old new : Trace) → new ≡ after_all (filling size ks) old → (log : List ℕ) → (state_of old).log ≡ at_rest log → (state_of new).log ≡ at_rest (filled size (state_of old).log.bytes ks)
-filled_log size ks old new done log settled =
-    ap (λ (t : Trace). (state_of t).log) done ∙ filling-log size ks old log settled ∙ ap (λ (l : List ℕ). at_rest (filled size l ks)) (sym (ap (λ (x : LogState). x.bytes) settled))
+-- the log file, once the log is started
+started_log : (size : ℕ) → 0 < size → (s : SnapshotModel) (old new : Trace) → new ≡ after_all (started size (length (state_of old).log.bytes) s).calls old → (log : List ℕ) → (state_of old).log ≡ at_rest log
+    → (state_of new).log ≡ at_rest (started_file size (state_of old).log.bytes s)
+started_log size some s old new made log settled =
+    ap (λ (t : Trace). (state_of t).log) made ∙ started-log size some (state_of old).log.bytes s old (settled ∙ ap (λ (l : LogState). at_rest l.bytes) (sym settled))
 
 pub returns-in-Ok-clause-history : goal.returns-in-Ok-clause-history
 unfolding Holds
@@ -42,23 +48,23 @@ returns-in-Ok-clause-history g c = λ H ready.
     let size : ℕ = c.args.config.config.segment_size in
     let s : SnapshotModel = model_of c.args.snapshot.now in
     let old : State = state_of (g.D.Device.trace c.args.config.device) in
-    let ks : List ℕ = unused size (slots_of size (length old.log.bytes)) s in
+    let some : 0 < size = (let least = c.args.config.config.least in omega (arith, least)) in
     let now : State = state_of (g.D.Device.trace c.begin.new.config.device) in
-    let log_now = filled_log size ks (g.D.Device.trace c.args.config.device) (g.D.Device.trace c.begin.new.config.device) c.in-Ok.ensures.done ready.log ready.settled in
-    let names_now = ap (λ (t : Trace). (state_of t).snapshots.file) c.in-Ok.ensures.done ∙ ap (λ (n : NamesState). n.file) (filling-snapshots size ks (g.D.Device.trace c.args.config.device)) in
+    let log_now = started_log size some s (g.D.Device.trace c.args.config.device) (g.D.Device.trace c.begin.new.config.device) c.in-Ok.ensures.made ready.log ready.settled in
+    let names_now = ap (λ (t : Trace). (state_of t).snapshots.file) c.in-Ok.ensures.made ∙ ap (λ (n : NamesState). n.file) (started-snapshots size some old.log.bytes s (g.D.Device.trace c.args.config.device)) in
     let first = c.in-Ok.ensures.buffer in
-    let holds = begins_ready g.C.Checksum.sum_of size old now s H c.in-Ok.buffer.bytes.items c.args.config.config.least ready c.in-Ok.ensures.startable log_now names_now c.in-Ok.beginning c.in-Ok.ensures.beginning first.header first.resumed in
+    let holds = begins_ready g.C.Checksum.sum_of size old now s H c.in-Ok.buffer.bytes.items c.args.config.config.least ready c.in-Ok.ensures.answers.0 log_now names_now c.in-Ok.beginning c.in-Ok.ensures.beginning first.header first.resumed in
     subst (λ (n : ℕ). HoldsIn g.C.Checksum.sum_of (log_parts n (record { place = c.in-Ok.beginning.place; slot = c.in-Ok.beginning.slot }) now None c.in-Ok.buffer.bytes.items c.in-Ok.buffer.written_len c.in-Ok.buffer.reserved.items) H)
     (sym (ap (λ (x : Config). x.segment_size) c.begin.ensures.config))
     (subst (λ (n : ℕ). HoldsIn g.C.Checksum.sum_of (log_parts size (record { place = c.in-Ok.beginning.place; slot = c.in-Ok.beginning.slot }) now None c.in-Ok.buffer.bytes.items n c.in-Ok.buffer.reserved.items) H) (sym first.from)
     (subst (λ (r : List Reserved). HoldsIn g.C.Checksum.sum_of (log_parts size (record { place = c.in-Ok.beginning.place; slot = c.in-Ok.beginning.slot }) now None c.in-Ok.buffer.bytes.items c.in-Ok.beginning.offset r) H) (sym first.reserved) holds))
 
 pub returns-in-Ok-clause-crash : goal.returns-in-Ok-clause-crash
-returns-in-Ok-clause-crash g c = λ H A f ready. filled_throughout g.C.Checksum.sum_of c.args.config.config.segment_size (model_of c.args.snapshot.now) H A f c.args.config.config.least
+returns-in-Ok-clause-crash g c = λ H A f ready. started_throughout g.C.Checksum.sum_of c.args.config.config.segment_size (model_of c.args.snapshot.now) H A f c.args.config.config.least
     (g.D.Device.trace c.args.config.device) (g.D.Device.trace c.begin.new.config.device) ready c.begin.ensures.calls
 
 pub returns-in-Err-clause-crash : goal.returns-in-Err-clause-crash
-returns-in-Err-clause-crash g c = λ H A f ready. filled_throughout g.C.Checksum.sum_of c.args.config.config.segment_size (model_of c.args.snapshot.now) H A f c.args.config.config.least
+returns-in-Err-clause-crash g c = λ H A f ready. started_throughout g.C.Checksum.sum_of c.args.config.config.segment_size (model_of c.args.snapshot.now) H A f c.args.config.config.least
     (g.D.Device.trace c.args.config.device) (g.D.Device.trace c.begin.new.config.device) ready c.begin.ensures.calls
 
 pub returns-in-Ok-clause-fits : goal.returns-in-Ok-clause-fits
@@ -67,20 +73,25 @@ returns-in-Ok-clause-fits g c = λ H A f ready.
     let size : ℕ = c.args.config.config.segment_size in
     let old : Trace = g.D.Device.trace c.args.config.device in
     let s : SnapshotModel = model_of c.args.snapshot.now in
-    let ks : List ℕ = unused size (slots_of size (length (state_of old).log.bytes)) s in
+    let some : 0 < size = (let least = c.args.config.config.least in omega (arith, least)) in
     let now : State = state_of (g.D.Device.trace c.begin.new.config.device) in
     let same : c.begin.new.config.config.segment_size ≡ size = ap (λ (x : Config). x.segment_size) c.begin.ensures.config in
     let site : SegmentPosition = record { place = c.in-Ok.beginning.place; slot = c.in-Ok.beginning.slot } in
     let first = c.in-Ok.ensures.buffer in
     subst (λ n. FitsIn g.C.Checksum.sum_of (log_parts n site now None c.in-Ok.buffer.bytes.items c.in-Ok.buffer.written_len c.in-Ok.buffer.reserved.items) 0 H A f []) (sym same)
-    (start_fits g.C.Checksum.sum_of size (state_of old) now s H A f c.args.config.config.least ready c.in-Ok.ensures.startable
-    (filled_log size ks old (g.D.Device.trace c.begin.new.config.device) c.in-Ok.ensures.done ready.ready.log ready.ready.settled) (ap (λ (t : Trace). (state_of t).blobs) c.in-Ok.ensures.done ∙ filling-blobs size ks old) (ap (λ (t : Trace). (state_of t).snapshots) c.in-Ok.ensures.done ∙ filling-snapshots size ks old)
+    (start_fits g.C.Checksum.sum_of size (state_of old) now s H A f c.args.config.config.least ready c.in-Ok.ensures.answers.0
+    (started_log size some s old (g.D.Device.trace c.begin.new.config.device) c.in-Ok.ensures.made ready.ready.log ready.ready.settled) (ap (λ (t : Trace). (state_of t).blobs) c.in-Ok.ensures.made ∙ started-blobs size some (state_of old).log.bytes s old) (ap (λ (t : Trace). (state_of t).snapshots) c.in-Ok.ensures.made ∙ started-snapshots size some (state_of old).log.bytes s old)
     c.in-Ok.beginning c.in-Ok.ensures.beginning c.in-Ok.buffer.bytes.items c.in-Ok.buffer.written_len c.in-Ok.buffer.reserved.items first.header first.resumed first.from first.reserved)
+
+-- damage comes only where a log can't begin
+not_damaged : (e : Error) (startable in_reach unwritten : Type 0) (before after : ℕ) → StartRefuses e startable in_reach unwritten before after → IsCorrupt e → startable → ⊥
+not_damaged (Corruption at) startable in_reach unwritten before after refuses damaged can = refuses.1 can
+not_damaged _ startable in_reach unwritten before after refuses damaged can = absurd damaged
 
 pub returns-in-Err-clause-starts : goal.returns-in-Err-clause-starts
 unfolding Ready
 returns-in-Err-clause-starts g c = λ H A f ready damaged.
-    c.in-Err.ensures.corrupt damaged (ready_starts g.C.Checksum.sum_of c.args.config.config.segment_size (state_of (g.D.Device.trace c.args.config.device)) (model_of c.args.snapshot.now) H A f c.args.config.config.least c.args.config.config.most ready)
+    not_damaged c.in-Err.e _ _ _ _ _ c.in-Err.ensures.answers damaged (ready_starts g.C.Checksum.sum_of c.args.config.config.segment_size (state_of (g.D.Device.trace c.args.config.device)) (model_of c.args.snapshot.now) H A f c.args.config.config.least c.args.config.config.most ready)
 
 -- Nothing is reserved in it yet.
 pub returns-in-Ok-clause-begins : goal.returns-in-Ok-clause-begins
@@ -88,7 +99,7 @@ returns-in-Ok-clause-begins g c =
     let size : ℕ = c.args.config.config.segment_size in
     let len : ℕ = length (state_of (g.D.Device.trace c.args.config.device)).log.bytes in
     let s : SnapshotModel = model_of c.args.snapshot.now in
-    let long = first_next size len s c.in-Ok.beginning c.in-Ok.ensures.beginning c.in-Ok.ensures.startable c.in-Ok.ensures.answers.1 g.C.Checksum.sum_of c.in-Ok.buffer c.in-Ok.ensures.buffer in
+    let long = first_next size len s c.in-Ok.beginning c.in-Ok.ensures.beginning c.in-Ok.ensures.answers.0 c.in-Ok.ensures.answers.1 g.C.Checksum.sum_of c.in-Ok.buffer c.in-Ok.ensures.buffer in
     let place = ap (λ (x : Beginning). x.place) c.in-Ok.ensures.beginning ∙ begins_place size (slots_of size len) (stable_place s.stable) (unused size (slots_of size len) s) s.active in
     record {
       site = ap (λ (x : Beginning). record { place = x.place; slot = x.slot }) c.in-Ok.ensures.beginning;

@@ -1,5 +1,5 @@
 -- An opening goes on from what the recovery gave.
-use Rattle.std.proofs.Common.{◌≡◌, ℕ, refl, sym, ap, subst, None}
+use Rattle.std.proofs.Common.{arith, ◌≡◌, ℕ, refl, sym, ap, subst, None}
 use Rattle.sled_codec.specs.declared.serialization.snapshot.Snapshot.{Snapshot}
 use Rattle.sled_codec.specs.History.{below}
 use Rattle.sled_codec.specs.Snapshots.{SnapshotModel, model_of, stable_place}
@@ -59,7 +59,7 @@ returns-in-Ok-clause-step g c = λ k at.
           let why = subst (λ n. SaysWhy c.start.result.1 n new.failures) c.in-Ok.ensures.answers started.why in (
             l,
             open_step sum size old new k.history k.acknowledged k.floor s c.start.result.1 _ c.start.ensures.shows
-                (record { good = start_good sum size mid new s c.start.result.1 c.start.ensures.shows acts k.history k.acknowledged k.floor good; active = active }) why
+                (record { good = start_good sum size (let least = given.least in omega (arith, least)) mid new s c.start.result.1 c.start.ensures.shows acts k.history k.acknowledged k.floor good; active = active }) why
                 (λ i. record { device = new; history = l.history; acknowledged = l.acknowledged; floor = l.floor; log = log i }),
             started.at,
           );

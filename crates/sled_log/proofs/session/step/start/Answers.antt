@@ -18,7 +18,7 @@ pub returns-in-Ok-clause-acts : goal.returns-in-Ok-clause-acts
 returns-in-Ok-clause-acts g c = (
   c.in-Ok.ensures.answers.0,
   c.in-Ok.ensures.answers.1,
-  ap (λ l. g.D.Device.trace l.config.device) c.pin-guard.ensures.taken ∙ c.in-Ok.ensures.filled,
+  ap (λ l. g.D.Device.trace l.config.device) c.pin-guard.ensures.taken ∙ c.in-Ok.ensures.made,
   ap (λ l. g.D.Device.faults l.config.device) c.pin-guard.ensures.taken ∙ c.in-Ok.ensures.answers.2,
 )
 
@@ -40,8 +40,8 @@ returns-in-Ok-clause-starts g c = λ k at.
     let pages : length c.args.snapshot.pt.items ≡ length s.pages = simp length-map in
     let begun : c.len-begun.result ≡ length s.pages = search rules ∙ pages in
     let pinned : pins_of new ≡ 1 = ap pins_of taken ∙ ap (λ n. n + 1) begins.pins in
-    let filled : trace (device_of new) ≡ after_all (starting size old s) old = ap (λ l. trace l.config.device) taken ∙ c.in-Ok.ensures.filled in
-    let site : site_of new ≡ site_from size (length (state_of (trace (device_of new))).log.bytes) s = ap site_of taken ∙ begins.site ∙ sym (same_site size some s old (trace (device_of new)) filled) in
+    let started : trace (device_of new) ≡ after_all (starting size old s) old = ap (λ l. trace l.config.device) taken ∙ c.in-Ok.ensures.made in
+    let site : site_of new ≡ site_from size (length (state_of (trace (device_of new))).log.bytes) s = ap site_of taken ∙ begins.site ∙ sym (same_site size some s old (trace (device_of new)) started) in
     record {
       log = λ i. Some (record { site = site i; next = next i; stable = stable i; begun = begun i; fault = fault i; reserved = None });
       at = record {

@@ -1,0 +1,7 @@
+pub mod EndLemmas
+pub mod KnownEnds
+pub mod Noted
+pub mod OneEnd
+pub mod SlowEnd
+pub mod TakenIn
+pub mod Waiting
