@@ -5,6 +5,7 @@ pub mod PublicLaws
 pub mod Reached
 pub mod Read
 pub mod Reserve
+pub mod Sealed
 pub mod Stable
 pub mod Start
 pub mod Tail

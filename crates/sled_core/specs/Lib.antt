@@ -12,6 +12,7 @@ pub mod Ready
 pub mod Recoverable
 pub mod Running
 pub mod Scan
+pub mod SealedBuffers
 pub mod Stable
 pub mod StableEnds
 pub mod Starts

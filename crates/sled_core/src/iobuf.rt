@@ -51,6 +51,19 @@ pub(crate) struct Reserved {
     pub(crate) is_open: bool,
 }
 
+/// A buffer that was sealed: it begins where the one before it ends, and is written as a whole.
+#[derive(Debug, Clone, Copy)]
+pub(crate) struct Sealed {
+    /// Where it ends in the segment.
+    pub(crate) end: usize,
+    /// How many reservations it has.
+    pub(crate) count: usize,
+    /// How many of them are open.
+    pub(crate) open_count: usize,
+    /// It is on the device.
+    pub(crate) is_written: bool,
+}
+
 /// A segment's bytes from its beginning on. Those of a segment that a log goes on in are zeros as far as
 /// they were on the device before, since nothing looks at them.
 #[derive(Drop)]
