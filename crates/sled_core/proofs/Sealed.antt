@@ -1,2 +1,4 @@
+pub mod GapWritten
+pub mod HeadWritten
 pub mod LaidLemmas
 pub mod Runs

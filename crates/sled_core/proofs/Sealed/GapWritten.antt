@@ -1,0 +1,136 @@
+-- The write of a sealed buffer behind one that isn't written, where the current segment is all that is found: torn or whole, a reader finds what he found before.
+use Rattle.std.proofs.Common.{◌≡◌, ◌⊎◌, ◌≤◌, ◌<◌, ◌+◌, ◌*◌, ◌/◌, ◌%◌, ◌^◌, ℕ, pos, max, List, length, get_or, refl, sym, ap, ◌∙◌, subst, arith, inl, inr}
+use Rattle.std.specs.List.{Contains}
+use Rattle.std.proofs.Math.Nat.{mod-add-div'}
+use Rattle.std.proofs.lemmas.Bool.{cases_eq, cases_lt}
+use Rattle.sled_codec.specs.Record.{IsHeader}
+use Rattle.sled_codec.specs.History.{History}
+use Rattle.sled_codec.specs.Snapshots.{SnapshotModel}
+use Rattle.sled_store.specs.Device.{overwritten, LeavesLog}
+use Rattle.sled_store.specs.Foreign.{NoForeignLog}
+use Rattle.sled_core.specs.declared.iobuf.SegmentPosition.{SegmentPosition}
+use Rattle.sled_core.specs.declared.iterator.Segment.{Segment}
+use Rattle.sled_core.specs.declared.iterator.scan.ScanEnd.TheVariants.{Broken}
+use Rattle.sled_core.specs.Reached.{GoesOnIn, StandsAlone}
+use Rattle.sled_core.specs.Recoverable.{NoHeaderOfZeros}
+use Rattle.sled_core.specs.Scan.{IsFoundSegment, IsEnd, EndsThere, IsScan}
+use Rattle.sled_core.specs.Tail.{Scanned, IsScanned, least_place}
+use Rattle.sled_core.proofs.Flush.LogFileLemmas.{part_kept}
+use Rattle.sled_core.proofs.Read.PathLemmas.{zeros_empty}
+use Rattle.sled_core.proofs.Reached.Higher.{known_in}
+use Rattle.sled_core.proofs.Reached.LeftBeside.{IsSameBeside}
+use Rattle.sled_core.proofs.Reached.StandsTo.{StandsTo}
+use Rattle.sled_core.proofs.Reached.WrittenUnread.{torn_headless, torn_unread, written_headless, written_unread, zero_below}
+use Rattle.sled_core.proofs.Reached.WrittenWhole.{same_whole}
+use Rattle.sled_core.proofs.Tail.OneTail.{segment_there}
+use Rattle.sled_core.proofs.Torn.TornLemmas.{after_write}
+use Rattle.sled_core.proofs.Torn.WrittenBehind.{header_stood}
+use Rattle.sled_core.proofs.Torn.WrittenParts.{in_this_file, path_rises, path_whole, twenty}
+
+module _ (sum : List ℕ → ℕ) (none : NoHeaderOfZeros sum) (size : ℕ) (some : 256 ≤ size) (old : List ℕ) (site : SegmentPosition) (from at : ℕ) (asked : List ℕ) (inside : at + length asked ≤ size)
+    (slot_begins : site.slot % size ≡ 0) (has_room : from + 32 ≤ size) (gap : from + 5 ≤ at) (headed : from ≡ 0 → 20 ≤ at)
+    (clean : (i : ℕ) → site.slot + from ≤ i → i < site.slot + at → get_or old i 0 ≡ 0)
+    (H : History) (first : SnapshotModel) (alone : StandsAlone sum size old site from H first) where
+  abbrev new : List ℕ
+  new = overwritten old (site.slot + at) asked
+
+  abbrev reach : ℕ
+  reach = site.place + from
+
+  -- the number of its slot
+  abbrev slot : ℕ
+  slot = site.slot / size
+
+  its_slot : slot * size ≡ site.slot
+  its_slot = omega (arith, mod-add-div' site.slot size, slot_begins)
+
+  -- where nothing is written of the segment, its slot begins with zeros
+  begins_clean : from ≡ 0 → (i : ℕ) → slot * size ≤ i → i < slot * size + 20 → get_or old i 0 ≡ 0
+  begins_clean begins i above below = let far = headed begins in clean i (omega (arith, its_slot, above, begins)) (omega (arith, its_slot, below, far))
+
+  -- What a crash leaves of it.
+  pub torn_gap : (now left : List ℕ) → length now ≤ length asked → LeavesLog (after_write old (site.slot + at) asked now) left → {placed : List (ℕ × List ℕ)}
+      → NoForeignLog sum size (after_write old (site.slot + at) asked now) placed left → StandsTo sum size left H reach first reach
+  torn_gap now left no_more leaves {placed} only_own =
+      let leaves_there = subst (λ n. LeavesLog (after_write old (n + at) asked now) left) (sym its_slot) leaves in
+      let own_there = subst (λ n. NoForeignLog sum size (after_write old (n + at) asked now) placed left) (sym its_slot) only_own in
+      elim (cases_lt 0 from) [
+        | inl later ↦ (
+            let g = alone.going later has_room in
+            let ended = g.ended in
+            torn_unread sum size some old slot at asked inside H reach first reach alone.stands g.scan g.there (g.in_slot ∙ sym its_slot) (omega (arith, ended, gap)) g.broken now left no_more leaves_there own_there)
+        | inr first_one ↦ (
+            let begins : from ≡ 0 = omega (arith, first_one) in
+            torn_headless sum size some old slot at asked inside H reach first reach alone.stands none (headed begins) (begins_clean begins) now left no_more leaves_there own_there)
+      ]
+
+  -- All of it, where the file reaches up to the slot.
+  module _ (there : site.slot ≤ length old) where
+    there_too : slot * size ≤ length old
+    there_too = omega (arith, its_slot, there)
+
+    beside : IsSameBeside sum size old new site.slot
+    beside = subst (λ n. IsSameBeside sum size old (overwritten old (n + at) asked) n) its_slot (same_whole sum size some old slot at asked inside there_too)
+
+    only : (s : Segment) → IsFoundSegment sum size new (least_place size first) s → s.slot ≡ site.slot
+    only s found = elim (cases_eq s.slot site.slot) [ inl same ↦ same | inr other ↦ alone.only s (beside.found (least_place size first) s other found) ]
+
+    -- Nothing of the segment is written yet.
+    headless : from ≡ 0 → StandsAlone sum size new site from H first
+    headless begins =
+        let stands = subst (λ n. StandsTo sum size (overwritten old (n + at) asked) H reach first reach) its_slot
+            (written_headless sum size some old slot at asked inside H reach first reach alone.stands none (headed begins) (begins_clean begins) there_too) in
+        record { stands = stands; only = only; going = λ later room. absurd (omega (arith, begins, later)) }
+
+    -- The reading of it ends in front of the gap.
+    module _ (later : 0 < from) where
+      abbrev g : GoesOnIn alone.stands.scanned site.slot from site.place
+      g = alone.going later has_room
+
+      stands : StandsTo sum size new H reach first reach
+      stands =
+          let ended = g.ended in
+          subst (λ n. StandsTo sum size (overwritten old (n + at) asked) H reach first reach) its_slot
+          (written_unread sum size some old slot at asked inside H reach first reach alone.stands g.scan g.there (g.in_slot ∙ sym its_slot) (omega (arith, ended, gap)) g.broken there_too (omega (arith, ended, gap))
+          (clean (slot * size + g.scan.stop + 4) (omega (arith, its_slot, ended)) (omega (arith, its_slot, ended, gap))))
+
+      y_scan : IsScanned sum size new g.scan
+      unfolding IsScan EndsThere
+      y_scan =
+          let y : Scanned = g.scan in
+          let ended = g.ended in
+          let in_slot = g.in_slot in
+          let scan = (segment_there sum size old alone.stands.ordering alone.stands.scanned alone.stands.reads y g.there).1 in
+          let was : IsEnd sum size old y.segment.slot y.segment.place y.stop Broken = subst (λ w. IsEnd sum size old y.segment.slot y.segment.place y.stop w) g.broken scan.1 in
+          let here : IsEnd sum size new y.segment.slot y.segment.place y.stop Broken = (
+              was.0,
+              zeros_empty sum size new (y.segment.slot + y.stop) (y.segment.place / size)
+                  (zero_below old (site.slot + at) asked (y.segment.slot + y.stop + 4) (omega (arith, in_slot, ended, gap)) (clean (y.segment.slot + y.stop + 4) (omega (arith, in_slot, ended)) (omega (arith, in_slot, ended, gap)))),
+          ) in
+          (
+            path_whole sum size old (site.slot + at) asked y.segment.slot y.segment.place (ap (λ n. n % size) in_slot ∙ slot_begins) 20 y.met y.stop (inl (omega (arith, in_slot, ended, gap))) scan.0,
+            subst (λ w. IsEnd sum size new y.segment.slot y.segment.place y.stop w) (sym g.broken) here,
+          )
+
+      y_found : IsFoundSegment sum size new (least_place size first) g.scan.segment
+      unfolding IsScan
+      y_found =
+          let y : Scanned = g.scan in
+          let known = segment_there sum size old alone.stands.ordering alone.stands.scanned alone.stands.reads y g.there in
+          let found = (alone.stands.numbers.found y.segment).0 known.0 in
+          let rises = path_rises sum size old y.segment.slot y.segment.place 20 y.met y.stop known.1.0 in
+          let in_slot = g.in_slot in
+          let ended = g.ended in
+          let in_file = in_this_file sum size old old y.segment.slot 20 (omega arith) (twenty sum size old y.segment.slot (pos y.segment.place) y.segment.mark found.header) refl in
+          let same = part_kept sum size old (site.slot + at) asked y.segment.slot 20 in_file (inl (omega (arith, in_slot, rises, ended, gap))) in
+          record { slot = found.slot; header = subst (λ (l : List ℕ). IsHeader sum l (pos y.segment.place) y.segment.mark) (sym same) found.header; not_below = found.not_below }
+
+      behind : StandsAlone sum size new site from H first
+      behind = record {
+        stands = stands;
+        only = only;
+        going = λ more room. record { scan = g.scan; there = known_in sum size new H reach first reach stands g.scan y_found y_scan; in_slot = g.in_slot; at_place = g.at_place; ended = g.ended; broken = g.broken };
+      }
+
+    pub gap_written : StandsAlone sum size new site from H first
+    gap_written = elim (cases_lt 0 from) [ inl later ↦ behind later | inr first_one ↦ headless (omega (arith, first_one)) ]

@@ -1,0 +1,163 @@
+-- The write of the first sealed buffer, where the current segment is all that is found: what a crash leaves of it stands up to what was written before, and all of it up to where the reading of the segment ends. That may be behind later buffers, which were written before it.
+use Rattle.std.proofs.Common.{◌≡◌, ◌⊎◌, ◌≤◌, ◌<◌, ◌+◌, ◌*◌, ◌/◌, ◌%◌, ◌^◌, ◌-ℤ◌, ℕ, pos, max, List, [], ◌++◌, length, take, get_or, refl, sym, subst, arith, inl, inr}
+use Rattle.std.specs.List.{Contains}
+use Rattle.std.proofs.Math.Nat.{mod-add-div'}
+use Rattle.std.proofs.lemmas.Bool.{cases_eq, cases_lt}
+use Rattle.sled_codec.specs.Places.{part}
+use Rattle.sled_codec.specs.Record.{IsHeader, short_header}
+use Rattle.sled_codec.specs.History.{Batch, History}
+use Rattle.sled_codec.specs.Snapshots.{SnapshotModel}
+use Rattle.sled_store.specs.Device.{overwritten, LeavesLog}
+use Rattle.sled_store.specs.Foreign.{NoForeignLog}
+use Rattle.sled_store.proofs.Histories.Ascending.{Ascends}
+use Rattle.sled_core.specs.declared.iobuf.SegmentPosition.{SegmentPosition}
+use Rattle.sled_core.specs.declared.iterator.Segment.{Segment}
+use Rattle.sled_core.specs.declared.iterator.scan.ScannedRecord.{ScannedRecord}
+use Rattle.sled_core.specs.declared.iterator.scan.ScanEnd.{ScanEnd}
+use Rattle.sled_core.specs.declared.iterator.scan.ScanEnd.TheVariants.{Capped, Broken}
+use Rattle.sled_core.specs.LogFile.{HasHeader}
+use Rattle.sled_core.specs.Reached.{GoesOnIn, StandsAlone}
+use Rattle.sled_core.specs.Recoverable.{NoHeaderOfZeros, NoMessageBegins, NoBatchBegins, IsOfHistory}
+use Rattle.sled_core.specs.Scan.{IsFoundSegment, IsPath, IsEnd, IsScan}
+use Rattle.sled_core.specs.Tail.{Scanned, IsScanned, least_place}
+use Rattle.sled_core.proofs.Reached.BufferPath.{buffer_header, buffer_mark, buffer_mark_below}
+use Rattle.sled_core.proofs.Reached.Higher.{known_in}
+use Rattle.sled_core.proofs.Reached.LeftBeside.{IsSameBeside}
+use Rattle.sled_core.proofs.Reached.OneWrite.{BeginsSegment, torn_stands, written_stands}
+use Rattle.sled_core.proofs.Reached.StandsTo.{StandsTo}
+use Rattle.sled_core.proofs.Reached.WrittenWhole.{same_whole}
+use Rattle.sled_core.proofs.Tail.OneTail.{segment_there}
+use Rattle.sled_core.proofs.Torn.TornLemmas.{after_write}
+use Rattle.sled_core.proofs.Torn.WrittenBegun.{none_in_zeros}
+use Rattle.sled_core.proofs.Torn.WrittenParts.{path_rises, path_whole, paths_joined}
+use Rattle.sled_core.proofs.Torn.WrittenRecords.{AreClear}
+
+-- What was met of the current segment before, in a file that is the same up to what was written.
+pub met_before : (sum : List ℕ → ℕ) (size : ℕ) (old new : List ℕ) (site : SegmentPosition) (from : ℕ) (H : History) (first : SnapshotModel) (alone : StandsAlone sum size old site from H first) → from + 32 ≤ size
+    → ((met : List ScannedRecord) → IsPath sum size old site.slot site.place 20 met from → IsPath sum size new site.slot site.place 20 met from)
+    → (met : List ScannedRecord) × IsPath sum size new site.slot site.place 20 met (max 20 from)
+unfolding IsScan
+met_before sum size old new site from H first alone has_room stays = elim (cases_lt 0 from) [
+  | inl later ↦ (
+      let g = alone.going later has_room in
+      let scan = (segment_there sum size old alone.stands.ordering alone.stands.scanned alone.stands.reads g.scan g.there).1 in
+      let path : IsPath sum size old site.slot site.place 20 g.scan.met from =
+      subst (λ n. IsPath sum size old n site.place 20 g.scan.met from) g.in_slot
+      (subst (λ n. IsPath sum size old g.scan.segment.slot n 20 g.scan.met from) g.at_place (subst (λ n. IsPath sum size old g.scan.segment.slot g.scan.segment.place 20 g.scan.met n) g.ended scan.0)) in
+      let rises = path_rises sum size old site.slot site.place 20 g.scan.met from path in
+      let far : from ≡ max 20 from = omega (arith, rises) in
+      (g.scan.met, subst (λ n. IsPath sum size new site.slot site.place 20 g.scan.met n) far (stays g.scan.met path)))
+  | inr first_one ↦ ([], omega (arith, first_one))
+]
+
+module _ (sum : List ℕ → ℕ) (none : NoHeaderOfZeros sum) (size : ℕ) (some : 256 ≤ size) (old : List ℕ) (site : SegmentPosition) (from : ℕ) (asked : List ℕ)
+    (until : ℕ) (covers : from + length asked ≤ until) (reaches : until ≤ size) (headed : from ≡ 0 → 20 ≤ until) (has_room : from + 32 ≤ size)
+    (place_begins : site.place % size ≡ 0) (slot_begins : site.slot % size ≡ 0) (place_small : site.place + size < 2 ^ 63)
+    (header : from ≡ 0 → take 20 asked ≡ short_header sum (pos site.place) (pos site.place -ℤ pos 1))
+    (clean : (i : ℕ) → site.slot + from ≤ i → i < site.slot + until → get_or old i 0 ≡ 0)
+    (H : History) (first : SnapshotModel) (alone : StandsAlone sum size old site from H first)
+    (more : List ScannedRecord) (stop : ℕ) (why : ScanEnd) (clear : AreClear size until (max 20 from) more)
+    (path : IsPath sum size (overwritten old (site.slot + from) asked) site.slot site.place (max 20 from) more stop) (end : IsEnd sum size (overwritten old (site.slot + from) asked) site.slot site.place stop why)
+    (truth : (x : ScannedRecord) → Contains more x → IsOfHistory sum size (overwritten old (site.slot + from) asked) H x)
+    (caps : why ≡ Capped → NoMessageBegins H (site.place + stop) (site.place + size) × NoBatchBegins H (site.place + stop) (site.place + size)) where
+  abbrev new : List ℕ
+  new = overwritten old (site.slot + from) asked
+
+  abbrev reach : ℕ
+  reach = site.place + from
+
+  -- the number of its slot
+  abbrev slot : ℕ
+  slot = site.slot / size
+
+  its_slot : slot * size ≡ site.slot
+  its_slot = omega (arith, mod-add-div' site.slot size, slot_begins)
+
+  inside : from + length asked ≤ size
+  inside = omega (arith, covers, reaches)
+
+  -- The segment goes on where it was read to, or the buffer begins it, in a slot of zeros.
+  goes_on : GoesOnIn alone.stands.scanned (slot * size) from site.place ⊎ BeginsSegment sum size H alone.stands.ordering reach (slot * size) from asked site.place
+  goes_on = elim (cases_lt 0 from) [
+    | inl later ↦ inl (subst (λ n. GoesOnIn alone.stands.scanned n from site.place) (sym its_slot) (alone.going later has_room))
+    | inr first_one ↦ (
+        let begins : from ≡ 0 = omega (arith, first_one) in
+        let far = headed begins in
+        let at : reach ≡ site.place = omega (arith, begins) in
+        inr (record {
+          begins = begins;
+          mark = pos site.place -ℤ pos 1;
+          header = buffer_header sum asked 0 site.place refl (omega (arith, place_small)) (header begins);
+          whole = place_begins;
+          fits = place_small;
+          its_mark = buffer_mark H (slot * size) site.place (λ b there lower. (let peg = alone.stands.closed b there (omega (arith, at, lower)) in omega (arith, at, peg)));
+          mark_below = buffer_mark_below size H reach site.place (inl at);
+          alone = λ s there same.
+              let found = (alone.stands.numbers.found s).0 there in
+              none_in_zeros sum until none far old site.slot (λ i above below. clean i (omega (arith, above, begins)) below) (pos s.place) s.mark
+              (subst (λ n. IsHeader sum (part old n 20) (pos s.place) s.mark) (alone.only s found) found.header);
+        }))
+  ]
+
+  clean_there : (i : ℕ) → slot * size + from ≤ i → i < slot * size + until → get_or old i 0 ≡ 0
+  clean_there i above below = clean i (omega (arith, its_slot, above)) (omega (arith, its_slot, below))
+
+  path_there : IsPath sum size (overwritten old (slot * size + from) asked) (slot * size) site.place (max 20 from) more stop
+  path_there = subst (λ n. IsPath sum size (overwritten old (n + from) asked) n site.place (max 20 from) more stop) (sym its_slot) path
+
+  end_there : IsEnd sum size (overwritten old (slot * size + from) asked) (slot * size) site.place stop why
+  end_there = subst (λ n. IsEnd sum size (overwritten old (n + from) asked) n site.place stop why) (sym its_slot) end
+
+  truth_there : (x : ScannedRecord) → Contains more x → IsOfHistory sum size (overwritten old (slot * size + from) asked) H x
+  truth_there = subst (λ n. (x : ScannedRecord) → Contains more x → IsOfHistory sum size (overwritten old (n + from) asked) H x) (sym its_slot) truth
+
+  -- What a crash leaves of it.
+  pub torn_head : (now left : List ℕ) → length now ≤ length asked → LeavesLog (after_write old (site.slot + from) asked now) left → {placed : List (ℕ × List ℕ)}
+      → NoForeignLog sum size (after_write old (site.slot + from) asked now) placed left → StandsTo sum size left H reach first reach
+  torn_head now left no_more leaves {placed} only_own =
+      torn_stands sum none size some old slot from asked inside until covers clean_there H reach first reach alone.stands site.place goes_on more stop why clear path_there end_there truth_there caps now left no_more
+      (subst (λ n. LeavesLog (after_write old (n + from) asked now) left) (sym its_slot) leaves)
+      (subst (λ n. NoForeignLog sum size (after_write old (n + from) asked now) placed left) (sym its_slot) only_own)
+
+  -- All of it, where the file reaches up to the slot.
+  module _ (ordered : Ascends H.messages) (there : site.slot ≤ length old) (least_is : least_place size first ≡ site.place)
+      (ended : (b : Batch) → Contains H.batches b → b.low < site.place + stop → b.peg < site.place + stop) (has_header : HasHeader sum new site) where
+    rises : max 20 from ≤ stop
+    rises = path_rises sum size new site.slot site.place (max 20 from) more stop path
+
+    stands : StandsTo sum size new H (site.place + stop) first (site.place + stop)
+    stands =
+        subst (λ n. StandsTo sum size (overwritten old (n + from) asked) H (site.place + stop) first (site.place + stop)) its_slot
+        (written_stands sum none size some old slot from asked inside until covers clean_there H reach first reach alone.stands site.place goes_on more stop why clear path_there end_there truth_there caps
+        ordered (omega (arith, its_slot, there)) (omega (arith, least_is)) (site.place + stop) (omega arith) (omega (arith, rises)) (inr (inl (omega (arith, least_is))))
+        (λ m at_m. elim (cases_lt m.place reach) [ inl lower ↦ inl lower | inr above ↦ inr (omega (arith, above)) ]) ended)
+
+    -- Only this segment is found.
+
+    beside : IsSameBeside sum size old new site.slot
+    beside = subst (λ n. IsSameBeside sum size old (overwritten old (n + from) asked) n) its_slot (same_whole sum size some old slot from asked inside (omega (arith, its_slot, there)))
+
+    only : (s : Segment) → IsFoundSegment sum size new (least_place size first) s → s.slot ≡ site.slot
+    only s found = elim (cases_eq s.slot site.slot) [ inl same ↦ same | inr other ↦ alone.only s (beside.found (least_place size first) s other found) ]
+
+    -- It is read to where the path ends.
+
+    before : (met : List ScannedRecord) × IsPath sum size new site.slot site.place 20 met (max 20 from)
+    before = met_before sum size old new site from H first alone has_room (λ met is. path_whole sum size old (site.slot + from) asked site.slot site.place slot_begins 20 met from (inl (omega arith)) is)
+
+    abbrev y : Scanned
+    y = record { segment = record { place = site.place; slot = site.slot; mark = has_header.mark }; met = before.0 ++ more; stop = stop; why = why }
+
+    y_scan : IsScanned sum size new y
+    unfolding IsScan
+    y_scan = (paths_joined sum size new site.slot site.place 20 before.0 (max 20 from) more stop before.1 path, end)
+
+    y_found : IsFoundSegment sum size new (least_place size first) y.segment
+    y_found = record { slot = slot_begins; header = has_header.header; not_below = omega (arith, least_is) }
+
+    pub head_written : (stop + 32 ≤ size → why ≡ Broken) → StandsAlone sum size new site stop H first
+    head_written broken = record {
+      stands = stands;
+      only = only;
+      going = λ later room. record { scan = y; there = known_in sum size new H (site.place + stop) first (site.place + stop) stands y y_found y_scan; in_slot = refl; at_place = refl; ended = refl; broken = broken room };
+    }
