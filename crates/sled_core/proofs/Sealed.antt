@@ -1,3 +1,5 @@
+pub mod Clear
+pub mod Ended
 pub mod GapWritten
 pub mod HeadWritten
 pub mod LaidLemmas

@@ -1,5 +1,5 @@
 -- The buffers of a segment that were sealed and of which the first isn't on the device: which reservations they have, and what the log file has of them.
-use Rattle.std.specs.Prelude.{◌≡◌, ◌+◌, ◌≤◌, ◌<◌, ℕ, Bool, true, false, if◌then◌else◌, max, List, [], ◌∷◌, length, take, drop, get_or}
+use Rattle.std.specs.Prelude.{◌≡◌, ◌+◌, ◌-◌, nat_lt, ◌≤◌, ◌<◌, ℕ, Bool, true, false, if◌then◌else◌, max, List, [], ◌∷◌, length, take, drop, get_or}
 use Rattle.sled_core.specs.declared.iobuf.Reserved.{Reserved}
 use Rattle.sled_core.specs.declared.iobuf.Sealed.{Sealed}
 use Rattle.sled_core.specs.Buffers.{IsChain, open_in}
@@ -59,3 +59,16 @@ run_count (b ∷ bs) = if b.is_written then b.count + run_count bs else 0
 abbrev pub behind_run : List Sealed → List Sealed
 behind_run [] = []
 behind_run (b ∷ bs) = if b.is_written then behind_run bs else b ∷ bs
+
+-- One of them is written; one of the reservations of one of them has ended.
+
+abbrev pub now_written : Sealed → Sealed
+now_written b = record { end = b.end; count = b.count; open_count = b.open_count; is_written = true }
+
+abbrev pub one_fewer : Sealed → Sealed
+one_fewer b = record { end = b.end; count = b.count; open_count = b.open_count - 1; is_written = b.is_written }
+
+-- where the reservation is the one at an index of those that they have
+abbrev pub one_ended : ℕ → List Sealed → List Sealed
+one_ended i [] = []
+one_ended i (b ∷ bs) = if nat_lt i b.count then one_fewer b ∷ bs else b ∷ one_ended (i - b.count) bs

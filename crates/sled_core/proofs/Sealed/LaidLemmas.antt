@@ -1,7 +1,7 @@
 -- What the log file has of sealed buffers, once one of them is written, once bytes of one that isn't written change, and in another file that has the same there.
-use Rattle.std.proofs.Common.{◌≡◌, ◌≤◌, ◌<◌, ◌+◌, ◌-◌, ◌⊎◌, ℕ, Bool, true, false, List, [], ◌∷◌, ◌++◌, length, get_or, sym, ◌∙◌, ap, arith, refl, subst, inl, inr}
+use Rattle.std.proofs.Common.{◌≡◌, ◌≤◌, ◌<◌, ◌+◌, ◌-◌, ◌⊎◌, ℕ, Bool, true, false, nat_lt, if◌then◌else◌, List, [], ◌∷◌, ◌++◌, length, get_or, sym, ◌∙◌, ap, arith, refl, subst, inl, inr}
 use Rattle.sled_core.specs.declared.iobuf.Sealed.{Sealed}
-use Rattle.sled_core.specs.SealedBuffers.{sealed_end, AreZeros, HasBytes, LaidOne, Laid}
+use Rattle.sled_core.specs.SealedBuffers.{sealed_end, AreZeros, HasBytes, LaidOne, Laid, now_written, one_ended}
 
 -- one behind another, and no further than an offset
 abbrev pub EndsRise : ℕ → List Sealed → ℕ → Type 0
@@ -35,10 +35,6 @@ laid_same slot old new bytes from (b ∷ bs) to rise is laid =
     let below = ends_below b.end bs to rise.1 in
     (one_same slot old new bytes from b.end b.is_written is.grows (λ i above low. is.same i above (omega (arith, low, below.0, below.1))) laid.0,
     laid_same slot old new bytes b.end bs to rise.1 (record { grows = is.grows; same = λ i above low. is.same i (omega (arith, above, here)) low }) laid.1)
-
--- the buffer once it is written
-abbrev pub now_written : Sealed → Sealed
-now_written b = record { end = b.end; count = b.count; open_count = b.open_count; is_written = true }
 
 -- One of them is written: the file has its bytes, and is the same in front of it and behind it.
 pub laid_written : (slot : ℕ) (old new bytes : List ℕ) (from : ℕ) (front : List Sealed) (b : Sealed) (rest : List Sealed) (to : ℕ) → EndsRise from (front ++ b ∷ rest) to → length old ≤ length new
@@ -75,3 +71,12 @@ pub laid_sealed : (log : List ℕ) (slot : ℕ) (bytes : List ℕ) (from : ℕ) 
 laid_sealed log slot bytes from [] b to fresh inside rises laid =
     (subst (λ (o : Bool). LaidOne log slot bytes from o b.end) (sym fresh) (λ i above below. laid i above (omega (arith, below, inside))), λ i above below. laid i (omega (arith, above, rises)) below)
 laid_sealed log slot bytes from (x ∷ xs) b to fresh inside rises laid = (laid.0, laid_sealed log slot bytes x.end xs b to fresh inside rises laid.1)
+
+-- A reservation of one of them ends.
+pub laid_ended : (log : List ℕ) (slot : ℕ) (bytes : List ℕ) (from : ℕ) (i : ℕ) (bs : List Sealed) (to : ℕ) → Laid log slot bytes from bs to → Laid log slot bytes from (one_ended i bs) to
+laid_ended log slot bytes from i [] to laid = laid
+laid_ended log slot bytes from i (b ∷ bs) to laid = by_test (laid_ended log slot bytes b.end (i - b.count) bs to laid.1) (nat_lt i b.count) where
+  by_test : Laid log slot bytes b.end (one_ended (i - b.count) bs) to → (o : Bool)
+      → Laid log slot bytes from (if o then record { end = b.end; count = b.count; open_count = b.open_count - 1; is_written = b.is_written } ∷ bs else b ∷ one_ended (i - b.count) bs) to
+  by_test on true = laid
+  by_test on false = (laid.0, on)
