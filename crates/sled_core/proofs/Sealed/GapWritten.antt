@@ -28,8 +28,8 @@ use Rattle.sled_core.proofs.Torn.WrittenBehind.{header_stood}
 use Rattle.sled_core.proofs.Torn.WrittenParts.{in_this_file, path_rises, path_whole, twenty}
 
 module _ (sum : List ℕ → ℕ) (none : NoHeaderOfZeros sum) (size : ℕ) (some : 256 ≤ size) (old : List ℕ) (site : SegmentPosition) (from at : ℕ) (asked : List ℕ) (inside : at + length asked ≤ size)
-    (slot_begins : site.slot % size ≡ 0) (has_room : from + 32 ≤ size) (gap : from + 5 ≤ at) (headed : from ≡ 0 → 20 ≤ at)
-    (clean : (i : ℕ) → site.slot + from ≤ i → i < site.slot + at → get_or old i 0 ≡ 0)
+    (slot_begins : site.slot % size ≡ 0) (has_room : from + 32 ≤ size) (to : ℕ) (gap : from + 5 ≤ to) (before : to ≤ at) (headed : from ≡ 0 → 20 ≤ to)
+    (clean : (i : ℕ) → site.slot + from ≤ i → i < site.slot + to → get_or old i 0 ≡ 0)
     (H : History) (first : SnapshotModel) (alone : StandsAlone sum size old site from H first) where
   abbrev new : List ℕ
   new = overwritten old (site.slot + at) asked
@@ -46,7 +46,10 @@ module _ (sum : List ℕ → ℕ) (none : NoHeaderOfZeros sum) (size : ℕ) (som
 
   -- where nothing is written of the segment, its slot begins with zeros
   begins_clean : from ≡ 0 → (i : ℕ) → slot * size ≤ i → i < slot * size + 20 → get_or old i 0 ≡ 0
-  begins_clean begins i above below = let far = headed begins in clean i (omega (arith, its_slot, above, begins)) (omega (arith, its_slot, below, far))
+  begins_clean begins i above below = let h = headed begins in clean i (omega (arith, its_slot, above, begins)) (omega (arith, its_slot, below, h))
+
+  far : from ≡ 0 → 20 ≤ at
+  far begins = let h = headed begins in omega (arith, h, before)
 
   -- What a crash leaves of it.
   pub torn_gap : (now left : List ℕ) → length now ≤ length asked → LeavesLog (after_write old (site.slot + at) asked now) left → {placed : List (ℕ × List ℕ)}
@@ -58,10 +61,10 @@ module _ (sum : List ℕ → ℕ) (none : NoHeaderOfZeros sum) (size : ℕ) (som
         | inl later ↦ (
             let g = alone.going later has_room in
             let ended = g.ended in
-            torn_unread sum size some old slot at asked inside H reach first reach alone.stands g.scan g.there (g.in_slot ∙ sym its_slot) (omega (arith, ended, gap)) g.broken now left no_more leaves_there own_there)
+            torn_unread sum size some old slot at asked inside H reach first reach alone.stands g.scan g.there (g.in_slot ∙ sym its_slot) (omega (arith, ended, gap, before)) g.broken now left no_more leaves_there own_there)
         | inr first_one ↦ (
             let begins : from ≡ 0 = omega (arith, first_one) in
-            torn_headless sum size some old slot at asked inside H reach first reach alone.stands none (headed begins) (begins_clean begins) now left no_more leaves_there own_there)
+            torn_headless sum size some old slot at asked inside H reach first reach alone.stands none (far begins) (begins_clean begins) now left no_more leaves_there own_there)
       ]
 
   -- All of it, where the file reaches up to the slot.
@@ -79,7 +82,7 @@ module _ (sum : List ℕ → ℕ) (none : NoHeaderOfZeros sum) (size : ℕ) (som
     headless : from ≡ 0 → StandsAlone sum size new site from H first
     headless begins =
         let stands = subst (λ n. StandsTo sum size (overwritten old (n + at) asked) H reach first reach) its_slot
-            (written_headless sum size some old slot at asked inside H reach first reach alone.stands none (headed begins) (begins_clean begins) there_too) in
+            (written_headless sum size some old slot at asked inside H reach first reach alone.stands none (far begins) (begins_clean begins) there_too) in
         record { stands = stands; only = only; going = λ later room. absurd (omega (arith, begins, later)) }
 
     -- The reading of it ends in front of the gap.
@@ -91,7 +94,7 @@ module _ (sum : List ℕ → ℕ) (none : NoHeaderOfZeros sum) (size : ℕ) (som
       stands =
           let ended = g.ended in
           subst (λ n. StandsTo sum size (overwritten old (n + at) asked) H reach first reach) its_slot
-          (written_unread sum size some old slot at asked inside H reach first reach alone.stands g.scan g.there (g.in_slot ∙ sym its_slot) (omega (arith, ended, gap)) g.broken there_too (omega (arith, ended, gap))
+          (written_unread sum size some old slot at asked inside H reach first reach alone.stands g.scan g.there (g.in_slot ∙ sym its_slot) (omega (arith, ended, gap, before)) g.broken there_too (omega (arith, ended, gap, before))
           (clean (slot * size + g.scan.stop + 4) (omega (arith, its_slot, ended)) (omega (arith, its_slot, ended, gap))))
 
       y_scan : IsScanned sum size new g.scan
@@ -105,10 +108,10 @@ module _ (sum : List ℕ → ℕ) (none : NoHeaderOfZeros sum) (size : ℕ) (som
           let here : IsEnd sum size new y.segment.slot y.segment.place y.stop Broken = (
               was.0,
               zeros_empty sum size new (y.segment.slot + y.stop) (y.segment.place / size)
-                  (zero_below old (site.slot + at) asked (y.segment.slot + y.stop + 4) (omega (arith, in_slot, ended, gap)) (clean (y.segment.slot + y.stop + 4) (omega (arith, in_slot, ended)) (omega (arith, in_slot, ended, gap)))),
+                  (zero_below old (site.slot + at) asked (y.segment.slot + y.stop + 4) (omega (arith, in_slot, ended, gap, before)) (clean (y.segment.slot + y.stop + 4) (omega (arith, in_slot, ended)) (omega (arith, in_slot, ended, gap)))),
           ) in
           (
-            path_whole sum size old (site.slot + at) asked y.segment.slot y.segment.place (ap (λ n. n % size) in_slot ∙ slot_begins) 20 y.met y.stop (inl (omega (arith, in_slot, ended, gap))) scan.0,
+            path_whole sum size old (site.slot + at) asked y.segment.slot y.segment.place (ap (λ n. n % size) in_slot ∙ slot_begins) 20 y.met y.stop (inl (omega (arith, in_slot, ended, gap, before))) scan.0,
             subst (λ w. IsEnd sum size new y.segment.slot y.segment.place y.stop w) (sym g.broken) here,
           )
 
@@ -122,7 +125,7 @@ module _ (sum : List ℕ → ℕ) (none : NoHeaderOfZeros sum) (size : ℕ) (som
           let in_slot = g.in_slot in
           let ended = g.ended in
           let in_file = in_this_file sum size old old y.segment.slot 20 (omega arith) (twenty sum size old y.segment.slot (pos y.segment.place) y.segment.mark found.header) refl in
-          let same = part_kept sum size old (site.slot + at) asked y.segment.slot 20 in_file (inl (omega (arith, in_slot, rises, ended, gap))) in
+          let same = part_kept sum size old (site.slot + at) asked y.segment.slot 20 in_file (inl (omega (arith, in_slot, rises, ended, gap, before))) in
           record { slot = found.slot; header = subst (λ (l : List ℕ). IsHeader sum l (pos y.segment.place) y.segment.mark) (sym same) found.header; not_below = found.not_below }
 
       behind : StandsAlone sum size new site from H first
