@@ -3,4 +3,5 @@ pub mod Ended
 pub mod GapWritten
 pub mod HeadWritten
 pub mod LaidLemmas
+pub mod OneWritten
 pub mod Runs
