@@ -1,3 +1,4 @@
+pub mod BehindUnwritten
 pub mod Clear
 pub mod Ended
 pub mod GapWritten

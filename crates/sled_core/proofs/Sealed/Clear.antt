@@ -33,12 +33,13 @@ clear_on sum size log slot place until from (m ∷ ms) more path rest =
     ((λ room. inl (omega (arith, some, up))), clear_on sum size log slot place until (from + m.len) ms more path.3 rest)
 
 -- the first one of a beginning
-first_of : (n : ℕ) (xs : List Reserved) (r : Reserved) (more : List Reserved) → take n xs ≡ r ∷ more → All (λ x. 5 ≤ x.len) xs → 5 ≤ r.len
+pub first_of : (n : ℕ) (xs : List Reserved) (r : Reserved) (more : List Reserved) → take n xs ≡ r ∷ more → All (λ x. 5 ≤ x.len) xs → 5 ≤ r.len
 first_of zero xs r more is all = absurd (let never : ⊥ = cc in never)
 first_of (suc n) [] r more is all = absurd (let never : ⊥ = cc in never)
 first_of (suc n) (x ∷ xs) r more is all = let same : x ≡ r = cc in subst (λ (y : Reserved). 5 ≤ y.len) same (all 0 x (omega arith))
 
-own_long : (from : ℕ) (own : List Reserved) (end : ℕ) → 20 ≤ from → from < end → IsChain (max 20 from) own end → ((r : Reserved) (more : List Reserved) → own ≡ r ∷ more → 5 ≤ r.len) → from + 5 ≤ end
+-- a buffer behind the header has a record
+pub own_long : (from : ℕ) (own : List Reserved) (end : ℕ) → 20 ≤ from → from < end → IsChain (max 20 from) own end → ((r : Reserved) (more : List Reserved) → own ≡ r ∷ more → 5 ≤ r.len) → from + 5 ≤ end
 own_long from [] end begun rises chain long = absurd (omega (arith, chain, rises, begun))
 own_long from (r ∷ more) end begun rises chain long = let some = long r more refl in let up = chain_grows (max 20 from + r.len) end more chain.1 in omega (arith, some, up)
 

@@ -1,0 +1,82 @@
+-- A sealed buffer is written behind one that isn't: torn or whole, a reader finds what he found before.
+use Rattle.std.proofs.Common.{◌≡◌, ◌≤◌, ◌<◌, ◌+◌, ◌%◌, ◌⊎◌, ℕ, zero, suc, max, Bool, true, false, List, [], ◌∷◌, ◌++◌, length, take, drop, get_or, sym, refl, subst, arith, inl, inr}
+use Rattle.std.specs.List.{All}
+use Rattle.std.proofs.lemmas.Bool.{cases_lt}
+use Rattle.sled_codec.specs.History.{History}
+use Rattle.sled_codec.specs.Snapshots.{SnapshotModel}
+use Rattle.sled_store.specs.Device.{overwritten, LeavesLog}
+use Rattle.sled_store.specs.Foreign.{NoForeignLog}
+use Rattle.sled_core.specs.declared.iobuf.Reserved.{Reserved}
+use Rattle.sled_core.specs.declared.iobuf.Sealed.{Sealed}
+use Rattle.sled_core.specs.declared.iobuf.SegmentPosition.{SegmentPosition}
+use Rattle.sled_core.specs.Buffers.{IsChain}
+use Rattle.sled_core.specs.Reached.{StandsAlone}
+use Rattle.sled_core.specs.Recoverable.{NoHeaderOfZeros}
+use Rattle.sled_core.specs.SealedBuffers.{IsSealed, AreSealed, sealed_end, LaidOne, Laid}
+use Rattle.sled_core.proofs.Reached.StandsTo.{StandsTo}
+use Rattle.sled_core.proofs.Reserve.Ranges.{chain_grows}
+use Rattle.sled_core.proofs.Sealed.Clear.{first_of, own_long}
+use Rattle.sled_core.proofs.Sealed.GapWritten.{gap_written, torn_gap}
+use Rattle.sled_core.proofs.Sealed.LaidLemmas.{EndsRise}
+use Rattle.sled_core.proofs.Sealed.OneWritten.{bytes_between, long, rises_at}
+use Rattle.sled_core.proofs.Torn.TornLemmas.{after_write}
+
+-- the first buffer begins where a record has room
+first_room : (size from : ℕ) (own : List Reserved) (end : ℕ) → 20 ≤ from → from < end → IsChain (max 20 from) own end → ((r : Reserved) (more : List Reserved) → own ≡ r ∷ more → r.from + 32 ≤ size) → from + 32 ≤ size
+first_room size from [] end begun rises chain room = absurd (omega (arith, chain, rises, begun))
+first_room size from (r ∷ more) end begun rises chain room = let fits = room r more refl in omega (arith, fits, chain.0)
+
+first_fits : (size n : ℕ) (xs : List Reserved) (r : Reserved) (more : List Reserved) → take n xs ≡ r ∷ more → All (λ x. x.from + 32 ≤ size) xs → r.from + 32 ≤ size
+first_fits size zero xs r more is all = absurd (let never : ⊥ = cc in never)
+first_fits size (suc n) [] r more is all = absurd (let never : ⊥ = cc in never)
+first_fits size (suc n) (x ∷ xs) r more is all = let same : x ≡ r = cc in subst (λ (y : Reserved). y.from + 32 ≤ size) same (all 0 x (omega arith))
+
+-- Where a record has room behind what was written, if the first buffer isn't written.
+pub head_room : (size from : ℕ) → 256 ≤ size → (from ≡ 0) ⊎ (20 ≤ from) → (rs : List Reserved) (x : Sealed) (xs : List Sealed) → AreSealed from rs (x ∷ xs) → All (λ r. r.from + 32 ≤ size) rs → from + 32 ≤ size
+head_room size from some (inl none) rs x xs are room = omega (arith, none, some)
+head_room size from some (inr begun) rs x xs are room = first_room size from (take x.count rs) x.end begun are.0.rises are.0.chain (λ r more is. first_fits size x.count rs r more is room)
+
+-- and it is longer than the sum and the kind of a record
+pub head_long : (from : ℕ) → (from ≡ 0) ⊎ (20 ≤ from) → (rs : List Reserved) (x : Sealed) (xs : List Sealed) → AreSealed from rs (x ∷ xs) → All (λ r. 5 ≤ r.len) rs → from + 5 ≤ x.end
+head_long from (inl none) rs x xs are lens = let grows = chain_grows (max 20 from) x.end (take x.count rs) are.0.chain in omega (arith, grows, none)
+head_long from (inr begun) rs x xs are lens = own_long from (take x.count rs) x.end begun are.0.rises are.0.chain (λ r more is. first_of x.count rs r more is lens)
+
+-- or than a header
+pub head_headed : (from : ℕ) (rs : List Reserved) (x : Sealed) (xs : List Sealed) → AreSealed from rs (x ∷ xs) → from ≡ 0 → 20 ≤ x.end
+head_headed from rs x xs are none = let grows = chain_grows (max 20 from) x.end (take x.count rs) are.0.chain in omega (arith, grows)
+
+module _ (sum : List ℕ → ℕ) (none : NoHeaderOfZeros sum) (size : ℕ) (some : 256 ≤ size) (old : List ℕ) (site : SegmentPosition) (slot_begins : site.slot % size ≡ 0) (bytes : List ℕ) (from : ℕ) (begins : (from ≡ 0) ⊎ (20 ≤ from))
+    (rs : List Reserved) (x : Sealed) (xs : List Sealed) (b : Sealed) (rest : List Sealed) (fresh : x.is_written ≡ false) (are : AreSealed from rs (x ∷ xs ++ b ∷ rest)) (rise : EndsRise from (x ∷ xs ++ b ∷ rest) size) (inside : b.end ≤ length bytes)
+    (lens : All (λ r. 5 ≤ r.len) rs) (room : All (λ r. r.from + 32 ≤ size) rs) (H : History) (first : SnapshotModel) where
+  -- where it begins
+  abbrev at : ℕ
+  at = sealed_end x.end xs
+
+  abbrev asked : List ℕ
+  asked = bytes_between bytes at b.end
+
+  lies : (x.end ≤ at) × (at < b.end) × (b.end ≤ size)
+  lies = rises_at x.end xs b rest size rise.1
+
+  fits : at + length asked ≤ size
+  fits = let l = long old site.slot bytes from (x ∷ xs) b rest size rise inside in let up = lies.2 in omega (arith, l, up)
+
+  module _ (file : List ℕ) (laid : Laid file site.slot bytes from (x ∷ xs ++ b ∷ rest) size) where
+    clean : (i : ℕ) → site.slot + from ≤ i → i < site.slot + x.end → get_or file i 0 ≡ 0
+    clean = let zeros : LaidOne file site.slot bytes from false x.end = subst (λ (o : Bool). LaidOne file site.slot bytes from o x.end) fresh laid.0 in zeros
+
+    has_room : from + 32 ≤ size
+    has_room = head_room size from some begins rs x (xs ++ b ∷ rest) are room
+
+    gap : from + 5 ≤ x.end
+    gap = head_long from begins rs x (xs ++ b ∷ rest) are lens
+
+    -- What a crash leaves of it.
+    pub torn_behind_unwritten : StandsAlone sum size file site from H first → (now left : List ℕ) → length now ≤ length asked → LeavesLog (after_write file (site.slot + at) asked now) left → {placed : List (ℕ × List ℕ)}
+        → NoForeignLog sum size (after_write file (site.slot + at) asked now) placed left → StandsTo sum size left H (site.place + from) first (site.place + from)
+    torn_behind_unwritten alone now left no_more leaves {placed} only_own =
+        torn_gap sum none size some file site from at asked fits slot_begins has_room x.end gap lies.0 (head_headed from rs x (xs ++ b ∷ rest) are) clean H first alone now left no_more leaves {placed = placed} only_own
+
+    -- All of it, where the file reaches up to the slot.
+    pub written_behind_unwritten : StandsAlone sum size file site from H first → site.slot ≤ length file → StandsAlone sum size (overwritten file (site.slot + at) asked) site from H first
+    written_behind_unwritten alone there = gap_written sum none size some file site from at asked fits slot_begins has_room x.end gap lies.0 (head_headed from rs x (xs ++ b ∷ rest) are) clean H first alone there
