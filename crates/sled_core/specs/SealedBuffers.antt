@@ -32,13 +32,14 @@ abbrev pub AreZeros : List ℕ → ℕ → ℕ → Type 0
 AreZeros log from to = (i : ℕ) → from ≤ i → i < to → get_or log i 0 ≡ 0
 
 -- A file has these bytes in a slot, from one offset in it up to another.
-pub record HasBytes (log : List ℕ) (slot : ℕ) (bytes : List ℕ) (from to : ℕ) : Type 0 where
-  pub within : slot + to ≤ length log
+pub record Agrees (log : List ℕ) (slot : ℕ) (bytes : List ℕ) (from to : ℕ) : Type 0 where
   pub same : (i : ℕ) → from ≤ i → i < to → get_or log (slot + i) 0 ≡ get_or bytes i 0
+  pub in_file : slot + to ≤ length log
+  pub in_bytes : to ≤ length bytes
 
 -- what it has of one buffer: its bytes where that is written, and else zeros
 abbrev pub LaidOne : List ℕ → ℕ → List ℕ → ℕ → Bool → ℕ → Type 0
-LaidOne log slot bytes from true end = HasBytes log slot bytes from end
+LaidOne log slot bytes from true end = Agrees log slot bytes from end
 LaidOne log slot bytes from false end = AreZeros log (slot + from) (slot + end)
 
 -- what it has of all of them, with zeros behind them up to an offset

@@ -18,7 +18,8 @@ use Rattle.sled_core.specs.LogFile.{StandsHere, HasHeader, IsLogFile}
 use Rattle.sled_core.proofs.Flush.LogFileLemmas.{behind_write}
 use Rattle.sled_core.proofs.Flush.LogFileKept.{here_below, here_kept, elsewhere_kept, header_kept}
 use Rattle.sled_core.proofs.Reached.BufferPath.{buffer_header, buffer_mark}
-use Rattle.sled_core.proofs.Reached.BufferStands.{Agrees, StandsOwn, own_in, same_part, written_agrees}
+use Rattle.sled_core.specs.SealedBuffers.{Agrees}
+use Rattle.sled_core.proofs.Reached.BufferStands.{StandsOwn, own_in, same_part, written_agrees}
 use Rattle.sled_core.proofs.Tail.GreatestMark.{mark_below}
 
 module _ (sum : List ℕ → ℕ) (size : ℕ) (site : SegmentPosition) (old bytes : List ℕ) (from : ℕ) (rs : List Reserved) (earlier : List Message) (entries : ℕ → List Message) (file : IsLogFile sum size old site from earlier entries)

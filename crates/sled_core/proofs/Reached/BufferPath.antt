@@ -27,7 +27,8 @@ use Rattle.sled_core.proofs.Holds.OpenTickets.{by_first}
 use Rattle.sled_core.proofs.Read.PathLemmas.{zeros_empty}
 use Rattle.sled_core.proofs.Reserve.CompletesLemmas.{some_long}
 use Rattle.sled_core.proofs.Reserve.Ranges.{chain_grows, completed_between, own_cases, own_rest}
-use Rattle.sled_core.proofs.Reached.BufferStands.{Agrees, met_as, met_in, one_inline, path_in, written_agrees}
+use Rattle.sled_core.specs.SealedBuffers.{Agrees}
+use Rattle.sled_core.proofs.Reached.BufferStands.{met_as, met_in, one_inline, path_in, written_agrees}
 
 -- Of a history, these messages begin from one place up to another, and neither a batch nor another message.
 pub record HasOnly (H : History) (ms : List Message) (from to : ℕ) : Type 0 where

@@ -23,6 +23,7 @@ use Rattle.sled_core.specs.declared.iobuf.SegmentPosition.{SegmentPosition}
 use Rattle.sled_core.specs.declared.iterator.scan.ScannedRecord.{ScannedRecord}
 use Rattle.sled_core.specs.declared.iterator.scan.RecordContent.TheVariants.{Skipped}
 use Rattle.sled_core.specs.Buffers.{body_in, message_in, text_as, IsChain, completed_in, none_open, Stands}
+use Rattle.sled_core.specs.SealedBuffers.{Agrees}
 use Rattle.sled_core.specs.LogFile.{MessageStands, StandsHere}
 use Rattle.sled_core.specs.Reading.{StandsAt}
 use Rattle.sled_core.specs.Scan.{IsMet, IsPath}
@@ -45,13 +46,7 @@ met_in site bytes (r ∷ rs) = met_as r.state (message_in site bytes r) ∷ met_
 abbrev pub StandsOwn : (List ℕ → ℕ) → ℕ → List ℕ → SegmentPosition → ℕ → Message → Type 0
 StandsOwn sum size log site to m = (lid : ℕ) × (m.pointer ≡ ptr.Inline lid) × StandsHere sum size log site to lid m
 
--- From one offset of a segment up to another the file has the bytes of its buffer.
-pub record Agrees (log : List ℕ) (slot : ℕ) (bytes : List ℕ) (from to : ℕ) : Type 0 where
-  pub same : (i : ℕ) → from ≤ i → i < to → get_or log (slot + i) 0 ≡ get_or bytes i 0
-  pub in_file : slot + to ≤ length log
-  pub in_bytes : to ≤ length bytes
-
--- and so the parts of both are the same
+-- Where from one offset of a segment up to another the file has the bytes of its buffer, the parts of both are the same.
 pub same_part : (log : List ℕ) (slot : ℕ) (bytes : List ℕ) (from to : ℕ) → Agrees log slot bytes from to → (k n : ℕ) → from ≤ k → k + n ≤ to → part log (slot + k) n ≡ part bytes k n
 same_part log slot bytes from to agrees k n le within =
     let in_file = agrees.in_file in

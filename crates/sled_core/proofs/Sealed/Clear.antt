@@ -11,7 +11,7 @@ use Rattle.sled_core.specs.Buffers.{IsChain}
 use Rattle.sled_core.specs.Scan.{IsMet, IsPath, IsEnd, EndsThere}
 use Rattle.sled_core.specs.SealedBuffers.{AreSealed, LaidOne, Laid}
 use Rattle.sled_core.proofs.Read.PathLemmas.{zeros_empty}
-use Rattle.sled_core.proofs.Read.StandLemmas.{ending_at}
+use Rattle.sled_core.proofs.Reached.BufferPath.{ending_at}
 use Rattle.sled_core.proofs.Reserve.Ranges.{chain_grows}
 use Rattle.sled_core.proofs.Torn.TornRecords.{long_enough}
 use Rattle.sled_core.proofs.Torn.WrittenParts.{path_rises}

@@ -1,7 +1,7 @@
 -- What the log file has of sealed buffers, once one of them is written, once bytes of one that isn't written change, and in another file that has the same there.
 use Rattle.std.proofs.Common.{◌≡◌, ◌≤◌, ◌<◌, ◌+◌, ◌-◌, ◌⊎◌, ℕ, Bool, true, false, nat_lt, if◌then◌else◌, List, [], ◌∷◌, ◌++◌, length, get_or, sym, ◌∙◌, ap, arith, refl, subst, inl, inr}
 use Rattle.sled_core.specs.declared.iobuf.Sealed.{Sealed}
-use Rattle.sled_core.specs.SealedBuffers.{sealed_end, AreZeros, HasBytes, LaidOne, Laid, now_written, one_ended}
+use Rattle.sled_core.specs.SealedBuffers.{sealed_end, AreZeros, Agrees, LaidOne, Laid, now_written, one_ended}
 
 -- one behind another, and no further than an offset
 abbrev pub EndsRise : ℕ → List Sealed → ℕ → Type 0
@@ -25,7 +25,7 @@ zeros_same slot old new from to same zeros i above below =
 
 one_same : (slot : ℕ) (old new bytes : List ℕ) (from end : ℕ) (o : Bool) → length old ≤ length new → ((i : ℕ) → from ≤ i → i < end → get_or new (slot + i) 0 ≡ get_or old (slot + i) 0)
     → LaidOne old slot bytes from o end → LaidOne new slot bytes from o end
-one_same slot old new bytes from end true grows same laid = record { within = (let w = laid.within in omega (arith, w, grows)); same = λ i above below. same i above below ∙ laid.same i above below }
+one_same slot old new bytes from end true grows same laid = record { same = λ i above below. same i above below ∙ laid.same i above below; in_file = (let w = laid.in_file in omega (arith, w, grows)); in_bytes = laid.in_bytes }
 one_same slot old new bytes from end false grows same laid = zeros_same slot old new from end same laid
 
 pub laid_same : (slot : ℕ) (old new bytes : List ℕ) (from : ℕ) (bs : List Sealed) (to : ℕ) → EndsRise from bs to → IsSameFrom slot old new from to → Laid old slot bytes from bs to → Laid new slot bytes from bs to
@@ -38,7 +38,7 @@ laid_same slot old new bytes from (b ∷ bs) to rise is laid =
 
 -- One of them is written: the file has its bytes, and is the same in front of it and behind it.
 pub laid_written : (slot : ℕ) (old new bytes : List ℕ) (from : ℕ) (front : List Sealed) (b : Sealed) (rest : List Sealed) (to : ℕ) → EndsRise from (front ++ b ∷ rest) to → length old ≤ length new
-    → ((i : ℕ) → from ≤ i → (i < sealed_end from front) ⊎ (b.end ≤ i) → get_or new (slot + i) 0 ≡ get_or old (slot + i) 0) → HasBytes new slot bytes (sealed_end from front) b.end
+    → ((i : ℕ) → from ≤ i → (i < sealed_end from front) ⊎ (b.end ≤ i) → get_or new (slot + i) 0 ≡ get_or old (slot + i) 0) → Agrees new slot bytes (sealed_end from front) b.end
     → Laid old slot bytes from (front ++ b ∷ rest) to → Laid new slot bytes from (front ++ now_written b ∷ rest) to
 laid_written slot old new bytes from [] b rest to rise grows same there laid =
     let here = rise.0 in
@@ -58,11 +58,11 @@ abbrev pub SameWritten : List ℕ → List ℕ → ℕ → List Sealed → Type 
 SameWritten bytes other from [] = Unit {0}
 SameWritten bytes other from (b ∷ bs) = (b.is_written ≡ true → (i : ℕ) → from ≤ i → i < b.end → get_or other i 0 ≡ get_or bytes i 0) × SameWritten bytes other b.end bs
 
-pub laid_other : (log : List ℕ) (slot : ℕ) (bytes other : List ℕ) (from : ℕ) (bs : List Sealed) (to : ℕ) → SameWritten bytes other from bs → Laid log slot bytes from bs to → Laid log slot other from bs to
-laid_other log slot bytes other from [] to same laid = laid
-laid_other log slot bytes other from (b ∷ bs) to same laid = (by_test b.is_written same.0 laid.0, laid_other log slot bytes other b.end bs to same.1 laid.1) where
+pub laid_other : (log : List ℕ) (slot : ℕ) (bytes other : List ℕ) (from : ℕ) (bs : List Sealed) (to : ℕ) → length bytes ≤ length other → SameWritten bytes other from bs → Laid log slot bytes from bs to → Laid log slot other from bs to
+laid_other log slot bytes other from [] to grows same laid = laid
+laid_other log slot bytes other from (b ∷ bs) to grows same laid = (by_test b.is_written same.0 laid.0, laid_other log slot bytes other b.end bs to grows same.1 laid.1) where
   by_test : (o : Bool) → (o ≡ true → (i : ℕ) → from ≤ i → i < b.end → get_or other i 0 ≡ get_or bytes i 0) → LaidOne log slot bytes from o b.end → LaidOne log slot other from o b.end
-  by_test true is there = record { within = there.within; same = λ i above below. there.same i above below ∙ sym (is refl i above below) }
+  by_test true is there = record { same = λ i above below. there.same i above below ∙ sym (is refl i above below); in_file = there.in_file; in_bytes = (let w = there.in_bytes in omega (arith, w, grows)) }
   by_test false is there = there
 
 -- A buffer of zeros is sealed behind them.

@@ -7,7 +7,7 @@ use Rattle.sled_store.proofs.LogFile.LooseLemmas.{end_of-some}
 use Rattle.sled_store.proofs.LogFile.OverwrittenLemmas.{length-overwritten, overwritten-above, overwritten-below, overwritten-part}
 use Rattle.sled_core.specs.declared.iobuf.Reserved.{Reserved}
 use Rattle.sled_core.specs.declared.iobuf.Sealed.{Sealed}
-use Rattle.sled_core.specs.SealedBuffers.{IsSealed, AreSealed, sealed_end, sealed_count, HasBytes, Laid, now_written}
+use Rattle.sled_core.specs.SealedBuffers.{IsSealed, AreSealed, sealed_end, sealed_count, Agrees, Laid, now_written}
 use Rattle.sled_core.proofs.Reached.WrittenUnread.{zero_below}
 use Rattle.sled_core.proofs.Sealed.LaidLemmas.{EndsRise, ends_below, laid_written}
 
@@ -73,9 +73,8 @@ module _ (old : List ℕ) (slot : ℕ) (bytes : List ℕ) (from : ℕ) (front : 
   pub grown : length old ≤ length new
   grown = omega (arith, length-overwritten old (slot + at) asked)
 
-  pub has_written : HasBytes new slot bytes at b.end
+  pub has_written : Agrees new slot bytes at b.end
   has_written = record {
-    within = (let l = long in omega (arith, l, length-overwritten old (slot + at) asked, end_of-some (slot + at) (length asked) some));
     same = λ i above below. (
         let k : ℕ = i - at in
         let there : at + k ≡ i = omega (arith, above) in
@@ -83,6 +82,8 @@ module _ (old : List ℕ) (slot : ℕ) (bytes : List ℕ) (from : ℕ) (front : 
         let l = long in
         ap (λ n. get_or new n 0) (sym in_file) ∙ overwritten_inside old (slot + at) asked k (omega (arith, l, there, below))
         ∙ get_or-drop at (take b.end bytes) k 0 ∙ ap (λ n. get_or (take b.end bytes) n 0) there ∙ get_or-take b.end bytes i 0 below);
+    in_file = (let l = long in omega (arith, l, length-overwritten old (slot + at) asked, end_of-some (slot + at) (length asked) some));
+    in_bytes = inside;
   }
 
   pub laid_new : Laid old slot bytes from (front ++ b ∷ rest) to → Laid new slot bytes from (front ++ now_written b ∷ rest) to

@@ -5,8 +5,8 @@ use Rattle.std.proofs.lemmas.Bool.Decides.{nat_tests}
 use Rattle.std.proofs.lemmas.List.{drop-drop, take-append-drop}
 use Rattle.sled_core.specs.declared.iobuf.Reserved.{Reserved}
 use Rattle.sled_core.specs.declared.iobuf.Sealed.{Sealed}
-use Rattle.sled_core.specs.Buffers.{IsChain, none_open, open_in}
-use Rattle.sled_core.specs.SealedBuffers.{IsSealed, AreSealed, sealed_end, sealed_count, AreZeros, HasBytes, LaidOne, Laid, run_end, run_count, behind_run}
+use Rattle.sled_core.specs.Buffers.{IsChain, none_open, open_in, open_state}
+use Rattle.sled_core.specs.SealedBuffers.{IsSealed, AreSealed, sealed_end, sealed_count, AreZeros, Agrees, LaidOne, Laid, run_end, run_count, behind_run}
 use Rattle.sled_core.proofs.Reserve.OpenCounts.{ended_is}
 use Rattle.sled_core.proofs.Reserve.Ranges.{chain_grows}
 
@@ -18,7 +18,7 @@ chain_on from mid end (x ∷ xs) ys first rest = (first.0, chain_on (from + x.le
 -- where each of two parts is ended, all are
 none_on : (xs ys : List Reserved) → none_open xs ≡ true → none_open ys ≡ true → none_open (xs ++ ys) ≡ true
 none_on [] ys first rest = rest
-none_on (x ∷ xs) ys first rest = by_test (λ is. none_on xs ys is rest) x.is_open first where
+none_on (x ∷ xs) ys first rest = by_test (λ is. none_on xs ys is rest) (open_state x.state) first where
   by_test : (none_open xs ≡ true → none_open (xs ++ ys) ≡ true) → (o : Bool) → (if o then false else none_open xs) ≡ true → (if o then false else none_open (xs ++ ys)) ≡ true
   by_test more true is = cc
   by_test more false is = more is
@@ -90,21 +90,21 @@ run_of from rs (b ∷ bs) are = by_test (run_of b.end (drop b.count rs) bs are.1
 
 -- The file has the bytes of those that are written.
 pub run_there : (log : List ℕ) (slot : ℕ) (bytes : List ℕ) (from : ℕ) (rs : List Reserved) (bs : List Sealed) (to : ℕ) → AreSealed from rs bs → Laid log slot bytes from bs to → from < run_end from bs
-    → HasBytes log slot bytes from (run_end from bs)
+    → Agrees log slot bytes from (run_end from bs)
 run_there log slot bytes from rs [] to are laid some = absurd (omega (arith, some))
 run_there log slot bytes from rs (b ∷ bs) to are laid some = by_test (run_there log slot bytes b.end (drop b.count rs) bs to are.1 laid.1) b.is_written refl where
-  by_test : (b.end < run_end b.end bs → HasBytes log slot bytes b.end (run_end b.end bs)) → (o : Bool) → b.is_written ≡ o → HasBytes log slot bytes from (run_end from (b ∷ bs))
+  by_test : (b.end < run_end b.end bs → Agrees log slot bytes b.end (run_end b.end bs)) → (o : Bool) → b.is_written ≡ o → Agrees log slot bytes from (run_end from (b ∷ bs))
   by_test on false is = let at : run_end from (b ∷ bs) ≡ from = ap (λ (o : Bool). if o then run_end b.end bs else from) is in absurd (omega (arith, at, some))
   by_test on true is =
       let at : run_end from (b ∷ bs) ≡ run_end b.end bs = ap (λ (o : Bool). if o then run_end b.end bs else from) is in
-      let here : HasBytes log slot bytes from b.end = subst (λ (o : Bool). LaidOne log slot bytes from o b.end) is laid.0 in
+      let here : Agrees log slot bytes from b.end = subst (λ (o : Bool). LaidOne log slot bytes from o b.end) is laid.0 in
       let run = run_of b.end (drop b.count rs) bs are.1 in
       let up = run.rises in
-      subst (λ n. HasBytes log slot bytes from n) (sym at) (elim (cases_lt b.end (run_end b.end bs)) [
-        | inr none ↦ (let same : run_end b.end bs ≡ b.end = omega (arith, none, up) in subst (λ n. HasBytes log slot bytes from n) (sym same) here)
+      subst (λ n. Agrees log slot bytes from n) (sym at) (elim (cases_lt b.end (run_end b.end bs)) [
+        | inr none ↦ (let same : run_end b.end bs ≡ b.end = omega (arith, none, up) in subst (λ n. Agrees log slot bytes from n) (sym same) here)
         | inl more ↦ (
             let rest = on more in
-            record { within = rest.within; same = λ i above below. elim (cases_lt i b.end) [ inl low ↦ here.same i above low | inr high ↦ rest.same i high below ] })
+            record { same = λ i above below. elim (cases_lt i b.end) [ inl low ↦ here.same i above low | inr high ↦ rest.same i high below ]; in_file = rest.in_file; in_bytes = rest.in_bytes })
       ])
 
 -- and of the others what it had
