@@ -2,6 +2,7 @@ pub mod BehindUnwritten
 pub mod Clear
 pub mod Ended
 pub mod GapWritten
+pub mod HeadSealed
 pub mod HeadWritten
 pub mod LaidLemmas
 pub mod OneWritten

@@ -23,14 +23,15 @@ none_on (x ∷ xs) ys first rest = by_test (λ is. none_on xs ys is rest) (open_
   by_test more true is = cc
   by_test more false is = more is
 
-take_more : (n m : ℕ) (rs : List Reserved) → take (n + m) rs ≡ take n rs ++ take m (drop n rs)
+-- the first ones, in two parts
+pub take_more : (n m : ℕ) (rs : List Reserved) → take (n + m) rs ≡ take n rs ++ take m (drop n rs)
 take_more zero m rs = let same : 0 + m ≡ m = omega arith in ap (λ k. take k rs) same
 take_more (suc n) zero [] = let same : suc n + 0 ≡ suc n = omega arith in ap (λ k. take k []) same
 take_more (suc n) (suc m) [] = let same : suc n + suc m ≡ suc (n + suc m) = omega arith in ap (λ k. take k []) same
 take_more (suc n) m (r ∷ rs) = let same : suc n + m ≡ suc (n + m) = omega arith in ap (λ k. take k (r ∷ rs)) same ∙ ap (λ (l : List Reserved). r ∷ l) (take_more n m rs)
 
 -- a buffer that is written has no open reservation
-written_ended : (from : ℕ) (own : List Reserved) (b : Sealed) → IsSealed from own b → b.is_written ≡ true → none_open own ≡ true
+pub written_ended : (from : ℕ) (own : List Reserved) (b : Sealed) → IsSealed from own b → b.is_written ≡ true → none_open own ≡ true
 written_ended from own b is written = let none : open_in own ≡ 0 = sym is.still_open ∙ is.ended written in grind (arith, nat_tests, none, ended_is own)
 
 end_begun : (from : ℕ) (own : List Reserved) (b : Sealed) → IsSealed from own b → max 20 b.end ≡ b.end
