@@ -1,6 +1,7 @@
 pub mod Added
 pub mod BegunLemmas
 pub mod CallMoments
+pub mod CanceledLemmas
 pub mod CompletedLemmas
 pub mod HeldRecords
 pub mod HoldsLemmas

@@ -1,16 +1,25 @@
 -- The current buffer: which records and which placeholders stand in it, and which messages these are.
 use Rattle.std.specs.Prelude.{suc, ◌≡◌, ◌≢◌, ◌+◌, ◌-◌, ◌≤◌, ◌<◌, ◌^◌, ℕ, Bool, true, false, if◌then◌else◌, List, [], ◌∷◌, ◌++◌, length, drop, replicate, Some}
 use Rattle.sled_codec.specs.declared.result.DiskPtr.TheVariants.{Inline}
-use Rattle.sled_codec.specs.declared.serialization.message.MessageKind.TheVariants.{Corrupted}
+use Rattle.sled_codec.specs.declared.serialization.message.MessageKind.{MessageKind}
+use Rattle.sled_codec.specs.declared.serialization.message.MessageKind.TheVariants as kind
 use Rattle.sled_codec.specs.Kinds.{kind_written, code_of}
 use Rattle.sled_codec.specs.Sums.{flipped}
 use Rattle.sled_codec.specs.Spelling.{low_bytes, short_number, short_header_tail}
 use Rattle.sled_codec.specs.Places.{part}
 use Rattle.sled_codec.specs.Record.{record_sum, short_record}
 use Rattle.sled_codec.specs.History.{Message}
+use Rattle.sled_core.specs.declared.iobuf.ReservationState.{ReservationState}
+use Rattle.sled_core.specs.declared.iobuf.ReservationState.TheVariants.{Open, Completed, Canceled}
 use Rattle.sled_core.specs.declared.iobuf.Reserved.{Reserved}
 use Rattle.sled_core.specs.declared.iobuf.Purpose.{Purpose}
 use Rattle.sled_core.specs.declared.iobuf.SegmentPosition.{SegmentPosition}
+
+-- neither completed nor aborted
+abbrev pub open_state : ReservationState → Bool
+open_state Open = true
+open_state Completed = false
+open_state Canceled = false
 
 -- the bytes that a reservation has in its segment
 abbrev pub text_in : List ℕ → Reserved → List ℕ
@@ -32,16 +41,22 @@ placeholder_head head = replicate 5 0 ++ drop 5 head
 abbrev pub placeholder : List ℕ → List ℕ
 placeholder whole = replicate 5 0 ++ drop 5 whole
 
--- This text and this body in it are what a reservation is to hold: its record, or while it is open the placeholder of that.
+-- What a reservation of this page and kind is to hold, with this body: while it is open a placeholder, then its record, and once it was aborted one that is passed over.
+abbrev pub text_as : (List ℕ → ℕ) → MessageKind → ℕ → ℕ → List ℕ → ReservationState → List ℕ
+text_as sum k page number body Open = placeholder (short_record sum k page number body)
+text_as sum k page number body Completed = short_record sum k page number body
+text_as sum k page number body Canceled = short_record sum kind.Canceled page number body
+
+-- This text and this body in it are what a reservation is to hold.
 pub record StandsAs (sum : List ℕ → ℕ) (number : ℕ) (text body : List ℕ) (r : Reserved) : Type 0 where
   pub headed : 5 ≤ r.header_len
   pub long : r.header_len ≤ r.len
   pub known : kind_written r.log_kind r.page false ≡ Some r.kind
-  pub valid : r.kind ≢ Corrupted
+  pub valid : r.kind ≢ kind.Corrupted
   pub page : r.page < 2 ^ 64
   pub summed : flipped r.sum ≡ record_sum sum r.kind r.page number body
   pub counted : r.header_len ≡ 4 + length (short_header_tail r.kind (length body) number r.page)
-  pub is : text ≡ (if r.is_open then placeholder (short_record sum r.kind r.page number body) else short_record sum r.kind r.page number body)
+  pub is : text ≡ text_as sum r.kind r.page number body r.state
 
 -- what stands in a reservation
 abbrev pub Stands : (List ℕ → ℕ) → ℕ → List ℕ → Reserved → Type 0
@@ -49,35 +64,49 @@ Stands sum number bytes r = StandsAs sum number (text_in bytes r) (body_in bytes
 
 -- the reservation that is made at an offset for a message, with this sum
 abbrev pub reserved_for : Purpose → ℕ → ℕ → ℕ → ℕ → Reserved
-reserved_for kept at header_len item_len sum = record { from = at; header_len = header_len; len = header_len + item_len; log_kind = kept.log_kind; kind = kept.kind; page = kept.page; sum = sum; is_open = true }
+reserved_for kept at header_len item_len sum = record { from = at; header_len = header_len; len = header_len + item_len; log_kind = kept.log_kind; kind = kept.kind; page = kept.page; sum = sum; state = Open }
+
+-- a sum, flipped, and a kind, with which a record ends its reservation
+abbrev pub ending : ℕ → MessageKind → List ℕ
+ending sum k = low_bytes 4 (flipped sum) ++ code_of k ∷ []
 
 -- the sum and the kind that complete a reservation
 abbrev pub completing : Reserved → List ℕ
-completing r = low_bytes 4 (flipped r.sum) ++ code_of r.kind ∷ []
+completing r = ending r.sum r.kind
 
--- the reservation once it is completed
-abbrev pub closed : Reserved → Reserved
-closed r = record { from = r.from; header_len = r.header_len; len = r.len; log_kind = r.log_kind; kind = r.kind; page = r.page; sum = r.sum; is_open = false }
+-- those that make its record one that is passed over: the sum is over the body, and the header behind the sum with that kind
+abbrev pub canceling : (List ℕ → ℕ) → List ℕ → Reserved → List ℕ
+canceling sum bytes r = ending (sum (body_in bytes r ++ code_of kind.Canceled ∷ part bytes (r.from + 5) (r.header_len - 5))) kind.Canceled
+
+-- the reservation once it has ended so
+abbrev pub ended : ReservationState → Reserved → Reserved
+ended state r = record { from = r.from; header_len = r.header_len; len = r.len; log_kind = r.log_kind; kind = r.kind; page = r.page; sum = r.sum; state = state }
 
 -- reservations lie one behind another from an offset on, up to an end
 abbrev pub IsChain : ℕ → List Reserved → ℕ → Type 0
 IsChain from [] end = from ≡ end
 IsChain from (r ∷ rs) end = (r.from ≡ from) × IsChain (from + r.len) rs end
 
+-- the message of a reservation before these, if it was completed
+abbrev pub with_own : ReservationState → Message → List Message → List Message
+with_own Open m ms = ms
+with_own Completed m ms = m ∷ ms
+with_own Canceled m ms = ms
+
 -- the messages of the reservations that were completed, by place
 abbrev pub completed_in : SegmentPosition → List ℕ → List Reserved → List Message
 completed_in site bytes [] = []
-completed_in site bytes (r ∷ rs) = if r.is_open then completed_in site bytes rs else message_in site bytes r ∷ completed_in site bytes rs
+completed_in site bytes (r ∷ rs) = with_own r.state (message_in site bytes r) (completed_in site bytes rs)
 
 -- none of them is open
 abbrev pub none_open : List Reserved → Bool
 none_open [] = true
-none_open (r ∷ rs) = if r.is_open then false else none_open rs
+none_open (r ∷ rs) = if open_state r.state then false else none_open rs
 
 -- how many of them are open
 abbrev pub open_in : List Reserved → ℕ
 open_in [] = 0
-open_in (r ∷ rs) = if r.is_open then suc (open_in rs) else open_in rs
+open_in (r ∷ rs) = if open_state r.state then suc (open_in rs) else open_in rs
 
 -- the end of what was reserved: of all the bytes, where something was reserved since they were written
 abbrev pub end_reserved : ℕ → ℕ → List Reserved → ℕ

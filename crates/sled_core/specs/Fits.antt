@@ -10,6 +10,7 @@ use Rattle.sled_codec.specs.Snapshots.{SnapshotModel, stable_place}
 use Rattle.sled_codec.specs.PageTables.{IsTable}
 use Rattle.sled_store.specs.Device.{Event, Wrote, Synced, Trace, LogState, State, state_of, at_rest}
 use Rattle.sled_store.specs.SnapshotFiles.{BeginsFrom}
+use Rattle.sled_core.specs.declared.iobuf.ReservationState.TheVariants.{Open}
 use Rattle.sled_core.specs.declared.iobuf.Reserved.{Reserved}
 use Rattle.sled_core.specs.declared.iobuf.SegmentPosition.{SegmentPosition}
 use Rattle.sled_core.specs.declared.reservation.Reservation.{Reservation}
@@ -88,7 +89,7 @@ NoneOpen log = none_open log.buffer.reserved.items ≡ true
 
 -- no reservation of the log is open or abandoned, but for the one that the ticket is for
 abbrev pub IsOnlyOpen : {D C : Type 0} → Log D C → Reservation → Type 0
-IsOnlyOpen log ticket = (i : ℕ) (r : Reserved) → slice_get log.buffer.reserved.items i ≡ Some r → r.is_open ≡ true → i ≡ index_of ticket
+IsOnlyOpen log ticket = (i : ℕ) (r : Reserved) → slice_get log.buffer.reserved.items i ≡ Some r → r.state ≡ Open → i ≡ index_of ticket
 
 -- What a log has of its current segment over its device: the size of segments, where this one lies, what is on the device, the failure that the log keeps, the bytes, how many of them were written, and the reservations since.
 pub record LogParts : Type 0 where

@@ -1,4 +1,5 @@
 pub mod Buffers
+pub mod Canceled
 pub mod Causes
 pub mod FirstBuffer
 pub mod Fits

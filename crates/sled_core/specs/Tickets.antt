@@ -1,6 +1,7 @@
 -- What a ticket says.
-use Rattle.std.specs.Prelude.{◌≡◌, ◌+◌, ℕ, ℤ, pos, true}
+use Rattle.std.specs.Prelude.{◌≡◌, ◌+◌, ℕ, ℤ, pos}
 use Rattle.sled_codec.specs.declared.result.DiskPtr.TheVariants.{Inline}
+use Rattle.sled_core.specs.declared.iobuf.ReservationState.TheVariants.{Open}
 use Rattle.sled_core.specs.declared.iobuf.Reserved.{Reserved}
 use Rattle.sled_core.specs.declared.iobuf.SegmentPosition.{SegmentPosition}
 use Rattle.sled_codec.specs.declared.result.DiskPtr.{DiskPtr}
@@ -20,6 +21,6 @@ index_of ticket = ticket.index
 
 -- a ticket is for this reservation in the segment that lies there, and that is open
 pub record IsFor (site : SegmentPosition) (r : Reserved) (ticket : Reservation) : Type 0 where
-  pub open_yet : r.is_open ≡ true
+  pub open_yet : r.state ≡ Open
   pub place : place_of ticket ≡ pos (site.place + r.from)
   pub pointer : pointer_of ticket ≡ Inline (site.slot + r.from)

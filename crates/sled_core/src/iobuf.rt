@@ -1,15 +1,15 @@
 //! The bytes of the segment that is being filled. The current buffer is the part of them that was not
 //! written yet, and the reservations in it lie one behind another.
-ghost use Rattle.std.specs.Prelude.{true, ◌≡◌, ◌+◌, ◌-◌, ◌<◌, ◌≤◌, ◌^◌, ◌++◌, ◌∷◌, [], ℕ, List, length, take, drop, set, replicate, vec_len, vec_capacity, slice_get, OnOk, OnErr, IfOk, IsOkUnless, All, Some};
+ghost use Rattle.std.specs.Prelude.{◌≡◌, ◌+◌, ◌-◌, ◌<◌, ◌≤◌, ◌^◌, ◌++◌, ◌∷◌, [], ℕ, List, true, false, length, take, drop, set, replicate, vec_len, vec_capacity, slice_get, OnOk, OnErr, IfOk, IsOkUnless, All, Some};
 ghost use Rattle.sled_codec.specs.Written.{written};
 ghost use Rattle.sled_core.specs.declared.iobuf.Reserved.{Reserved};
-ghost use Rattle.sled_core.specs.Buffers.{completing, closed, open_in, placeholder_head, reserved_for};
+ghost use Rattle.sled_core.specs.Buffers.{canceling, completing, ended, ending, open_in, open_state, placeholder_head, reserved_for};
 
 pub mod intervals;
 pub(crate) mod record;
 pub(crate) mod start;
 
-use crate::iobuf::record::{Head, push_item, push_placeholder, sum_behind};
+use crate::iobuf::record::{Head, push_item, push_placeholder, sum_around, sum_behind};
 use sled_codec::result::{Error, LogOffset, PageId, Result};
 use sled_codec::serialization::{Checksum, LogKind, MessageKind, Serialize};
 use sled_store::segment::MAX_MSG_HEADER_LEN;
@@ -32,6 +32,28 @@ pub(crate) struct Purpose {
     pub(crate) page: PageId,
 }
 
+/// What became of a reservation.
+#[derive(Debug, Clone, Copy)]
+pub(crate) enum ReservationState {
+    /// It was neither completed nor aborted. It counts as open too where its ticket was abandoned.
+    Open,
+    /// Its message is in the history.
+    Completed,
+    /// It was aborted: its record is one that is passed over.
+    Canceled,
+}
+
+impl ReservationState {
+    pub(crate) fn is_open(self) -> bool
+        ensures { result ≡ open_state self }
+    {
+        match self {
+            ReservationState::Open => true,
+            ReservationState::Completed | ReservationState::Canceled => false,
+        }
+    }
+}
+
 /// A range of a segment that was reserved for a record.
 #[derive(Debug, Clone, Copy)]
 pub(crate) struct Reserved {
@@ -47,8 +69,7 @@ pub(crate) struct Reserved {
     pub(crate) kind: MessageKind,
     /// What the message does to its page.
     pub(crate) log_kind: LogKind,
-    /// It was neither completed nor aborted. It counts as open too where its ticket was abandoned.
-    pub(crate) is_open: bool,
+    pub(crate) state: ReservationState,
 }
 
 /// A segment's bytes from its beginning on. Those of a segment that a log goes on in are zeros as far as
@@ -162,7 +183,7 @@ impl IoBuf {
                 kind: message.kind,
                 page: message.page,
                 sum,
-                is_open: true,
+                state: ReservationState::Open,
             },
         );
         self.open_count += 1;
@@ -171,22 +192,64 @@ impl IoBuf {
     /// Completes a reservation: stores the flipped sum and the kind in its header.
     pub(crate) fn complete(&mut self, index: usize)
         requires within { index < vec_len self.old.reserved }
-        requires awaited { (r : Reserved) → slice_get self.old.reserved.items index ≡ Some r → r.is_open ≡ true }
+        requires awaited { (r : Reserved) → slice_get self.old.reserved.items index ≡ Some r → r.state ≡ ReservationState.Open }
         ensures bytes { (r : Reserved) → slice_get self.old.reserved.items index ≡ Some r
             → self.new.bytes.items ≡ written self.old.bytes.items r.from (completing r) }
         ensures reserved { (r : Reserved) → slice_get self.old.reserved.items index ≡ Some r
-            → self.new.reserved.items ≡ set self.old.reserved.items index (closed r) }
+            → self.new.reserved.items ≡ set self.old.reserved.items index (ended ReservationState.Completed r) }
         ensures from { self.new.written_len ≡ self.old.written_len }
         ensures len { length self.new.bytes.items ≡ length self.old.bytes.items }
     {
         let r = self.reserved[index];
-        let sum = (u32::MAX - r.sum).to_le_bytes();
+        self.end(index, r.sum, r.kind, ReservationState::Completed);
+    }
+
+    /// Aborts a reservation: makes its record one of kind `Canceled`, with a sum of its own.
+    pub(crate) fn abort<C: Checksum>(&mut self, checksum: &C, index: usize)
+        requires within { index < vec_len self.old.reserved }
+        requires awaited { (r : Reserved) → slice_get self.old.reserved.items index ≡ Some r → r.state ≡ ReservationState.Open }
+        ensures bytes { (r : Reserved) → slice_get self.old.reserved.items index ≡ Some r
+            → self.new.bytes.items ≡ written self.old.bytes.items r.from (canceling C.sum_of self.old.bytes.items r) }
+        ensures reserved { (r : Reserved) → slice_get self.old.reserved.items index ≡ Some r
+            → self.new.reserved.items ≡ set self.old.reserved.items index (ended ReservationState.Canceled r) }
+        ensures from { self.new.written_len ≡ self.old.written_len }
+        ensures len { length self.new.bytes.items ≡ length self.old.bytes.items }
+    {
+        let r = self.reserved[index];
+        put(
+            &mut self.bytes,
+            r.from + 4,
+            &[u8::from(MessageKind::Canceled)],
+        );
+        let sum = sum_around(checksum, &mut self.bytes, r.from, r.header_len, r.len);
+        self.end(
+            index,
+            sum,
+            MessageKind::Canceled,
+            ReservationState::Canceled,
+        );
+    }
+
+    /// Ends an open reservation: stores a sum, flipped, and a kind in its header.
+    fn end(&mut self, index: usize, sum: u32, kind: MessageKind, state: ReservationState)
+        requires within { index < vec_len self.old.reserved }
+        requires awaited { (r : Reserved) → slice_get self.old.reserved.items index ≡ Some r → r.state ≡ ReservationState.Open }
+        requires ends { open_state state ≡ false }
+        ensures bytes { (r : Reserved) → slice_get self.old.reserved.items index ≡ Some r
+            → self.new.bytes.items ≡ written self.old.bytes.items r.from (ending sum kind) }
+        ensures reserved { (r : Reserved) → slice_get self.old.reserved.items index ≡ Some r
+            → self.new.reserved.items ≡ set self.old.reserved.items index (ended state r) }
+        ensures from { self.new.written_len ≡ self.old.written_len }
+        ensures len { length self.new.bytes.items ≡ length self.old.bytes.items }
+    {
+        let r = self.reserved[index];
+        let sum = (u32::MAX - sum).to_le_bytes();
         put(
             &mut self.bytes,
             r.from,
-            &[sum[0], sum[1], sum[2], sum[3], u8::from(r.kind)],
+            &[sum[0], sum[1], sum[2], sum[3], u8::from(kind)],
         );
-        close(&mut self.reserved, index);
+        close(&mut self.reserved, index, state);
         self.open_count -= 1;
     }
 
@@ -211,13 +274,13 @@ fn put(buf: &mut Vec<u8>, at: usize, bytes: &[u8])
     buf[at..at + bytes.len()].copy_from_slice(bytes);
 }
 
-/// The reservation at an index is no longer open.
-fn close(reserved: &mut Vec<Reserved>, index: usize)
+/// The reservation at an index has ended so.
+fn close(reserved: &mut Vec<Reserved>, index: usize, state: ReservationState)
     requires { index < vec_len reserved.old }
-    ensures { (r : Reserved) → slice_get reserved.old.items index ≡ Some r → reserved.new.items ≡ set reserved.old.items index (closed r) }
+    ensures { (r : Reserved) → slice_get reserved.old.items index ≡ Some r → reserved.new.items ≡ set reserved.old.items index (ended state r) }
 {
     let r = &mut reserved[index];
-    r.is_open = false;
+    r.state = state;
 }
 
 /// Keeps a reservation, where there is room for it.

@@ -24,6 +24,7 @@ ghost use Rattle.sled_store.specs.Started.{started};
 ghost use Rattle.sled_core.specs.Recoverable.{LeavesRecoverable, RecoverableIfOwn};
 ghost use Rattle.sled_core.specs.Causes.{Answers, FaultAnswers, ReserveAnswers, ReadAnswers, failure_in};
 
+mod abort;
 pub mod read_at;
 pub mod read_message;
 mod stable;
@@ -414,7 +415,7 @@ fn is_for(site: &SegmentPosition, r: &Reserved, ticket: &Reservation) -> bool
         DiskPtr::Blob(_, _) => false,
     };
     let same_place = ticket.lsn() >= 0 && ticket.lsn() as u64 == site.place + r.from as u64;
-    r.is_open && same_place && same_pointer
+    r.state.is_open() && same_place && same_pointer
 }
 
 /// How long the record is of a message of this page in a segment of this number, whose item has so many

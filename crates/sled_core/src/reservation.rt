@@ -3,7 +3,7 @@
 
 use sled_codec::result::{DiskPtr, Lsn};
 
-/// A place in the log that is kept for a message. It is spent by `Log::complete` or by `abandon`.
+/// A place in the log that is kept for a message. It is spent by `Log::complete`, by `Log::abort` or by `abandon`.
 pub struct Reservation {
     // Where the record begins.
     lsn: Lsn,

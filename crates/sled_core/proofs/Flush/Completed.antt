@@ -1,19 +1,20 @@
 -- Where the messages lie of a log that holds a history: what was written one behind another, below what was completed since, which is in the buffer.
-use Rattle.std.proofs.Common.{◌≡◌, ◌⊎◌, ◌≤◌, ◌<◌, ◌+◌, ◌/◌, ℕ, max, true, false, if◌then◌else◌, List, [], ◌∷◌, ◌++◌, length, Option, sym, subst, arith, refl, inl, inr}
+use Rattle.std.proofs.Common.{◌≡◌, ◌⊎◌, ◌≤◌, ◌<◌, ◌+◌, ◌/◌, ℕ, max, List, [], ◌∷◌, ◌++◌, length, Option, sym, subst, arith, refl, inl, inr}
 use Rattle.std.specs.List.{All, Contains}
 use Rattle.std.specs.declared.io.Error.{Error as IoError}
-use Rattle.std.proofs.lemmas.List.Elements.{All-append, All-cons, All-contains, All-tail, Contains-append_cases, Contains-append_right}
+use Rattle.std.proofs.lemmas.List.Elements.{All-append, All-contains, All-tail, Contains-append_cases, Contains-append_right}
 use Rattle.sled_codec.specs.declared.result.DiskPtr.TheVariants.{Inline}
 use Rattle.sled_codec.specs.History.{Message, Batch, History}
 use Rattle.sled_codec.specs.WellFormed.{LieApart}
 use Rattle.sled_store.specs.Device.{State}
 use Rattle.sled_store.proofs.Histories.Ascending.{Ascends, apart_ascends}
+use Rattle.sled_core.specs.declared.iobuf.ReservationState.TheVariants.{Open, Completed, Canceled}
 use Rattle.sled_core.specs.declared.iobuf.Reserved.{Reserved}
 use Rattle.sled_core.specs.declared.iobuf.SegmentPosition.{SegmentPosition}
-use Rattle.sled_core.specs.Buffers.{IsChain, completed_in, message_in}
+use Rattle.sled_core.specs.Buffers.{IsChain, completed_in, message_in, with_own}
 use Rattle.sled_core.specs.Fits.{log_parts, HoldsIn, EndBelow, CloseBelow}
 use Rattle.sled_core.proofs.Reached.BufferPath.{HasOnly}
-use Rattle.sled_core.proofs.Reserve.Ranges.{chain_grows, completed_between}
+use Rattle.sled_core.proofs.Reserve.Ranges.{all_own, chain_grows, completed_between}
 use Rattle.sled_core.proofs.Reserve.CompletesLemmas.{some_long}
 use Rattle.sled_core.proofs.Flush.Settled.{InlineFrom}
 
@@ -34,8 +35,8 @@ completed_apart site bytes from end (r ∷ rs) is some =
     let later = completed_between site bytes (from + r.len) end rs is.1 (All-tail (λ x. 0 < x.len) r rs some) in
     let rest : LieApart (completed_in site bytes rs) = completed_apart site bytes (from + r.len) end rs is.1 (All-tail (λ x. 0 < x.len) r rs some) in
     let over : All (λ n. site.place + r.from + r.len ≤ n.place) (completed_in site bytes rs) = λ k d lt. let b = later k d lt in omega (arith, b.0, here) in
-    elim r.is_open as (λ o. LieApart (if o then completed_in site bytes rs else message_in site bytes r ∷ completed_in site bytes rs))
-    [ true ↦ rest | false ↦ (long, over, rest) ]
+    elim r.state as (λ s. LieApart (with_own s (message_in site bytes r) (completed_in site bytes rs)))
+    [ Open ↦ rest | Completed ↦ (long, over, rest) | Canceled ↦ rest ]
 
 -- and has its items in its records
 abbrev IsInline : Message → Type 0
@@ -45,8 +46,7 @@ completed_inline : (site : SegmentPosition) (bytes : List ℕ) (rs : List Reserv
 completed_inline site bytes [] = λ k d lt. absurd (omega arith)
 completed_inline site bytes (r ∷ rs) =
     let rest : All IsInline (completed_in site bytes rs) = completed_inline site bytes rs in
-    elim r.is_open as (λ o. All IsInline (if o then completed_in site bytes rs else message_in site bytes r ∷ completed_in site bytes rs))
-    [ true ↦ rest | false ↦ All-cons IsInline (message_in site bytes r) (completed_in site bytes rs) (site.slot + r.from, refl) rest ]
+    all_own IsInline r.state (message_in site bytes r) (completed_in site bytes rs) (λ own. (site.slot + r.from, refl)) rest
 
 module _ (sum : List ℕ → ℕ) (size : ℕ) (site : SegmentPosition) (device : State) (fault : Option IoError) (bytes : List ℕ) (from : ℕ) (rs : List Reserved) (H : History) (holds : HoldsIn sum (log_parts size site device fault bytes from rs) H) where
   abbrev pub done : List Message

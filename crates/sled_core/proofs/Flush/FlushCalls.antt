@@ -108,7 +108,7 @@ module _ (sum : List ℕ → ℕ) (size : ℕ) (site : SegmentPosition) (device 
 
   beyond_new : NoHeaderOfZeros sum → StandsAlone sum size (padded site.slot new) site (length bytes) H first
   beyond_new zeros =
-      let long : site.slot ≤ length new = omega (arith, written_within sum size site old bytes from more) in
+      let long : site.slot ≤ length new = omega (arith, written_within old bytes site.slot from more) in
       subst (λ (l : List ℕ). StandsAlone sum size l site (length bytes) H first) (sym (padded_none site.slot new long)) (alone_new zeros)
 
   blobs_new : BlobsFit sum device.blobs H (site.place + length bytes)

@@ -21,13 +21,12 @@ use Rattle.sled_core.specs.Recoverable.{NoHeaderOfZeros}
 use Rattle.sled_core.specs.Scan.{IsFoundSegment, IsPath, IsScan}
 use Rattle.sled_core.specs.Tail.{Scanned, IsScanned, least_place}
 use Rattle.sled_core.proofs.Flush.WrittenBuffer.{written_alone}
-use Rattle.sled_core.proofs.Reached.BufferPath.{HasOnly, buffer_path, buffer_end}
+use Rattle.sled_core.proofs.Reached.BufferPath.{HasOnly, ending_at, buffer_path, buffer_end}
+use Rattle.sled_core.proofs.Reached.BufferStands.{met_in}
 use Rattle.sled_core.proofs.Reached.Higher.{known_in}
 use Rattle.sled_core.proofs.Reached.LeftBeside.{IsSameBeside}
 use Rattle.sled_core.proofs.Reached.StandsTo.{StandsTo}
 use Rattle.sled_core.proofs.Reached.WrittenWhole.{same_whole}
-use Rattle.sled_core.proofs.Read.PathLemmas.{met_of}
-use Rattle.sled_core.proofs.Read.StandLemmas.{ending_at}
 use Rattle.sled_core.proofs.Tail.OneTail.{segment_there}
 use Rattle.sled_core.proofs.Torn.WrittenParts.{path_rises, path_whole, paths_joined}
 
@@ -89,12 +88,12 @@ module _ (sum : List ℕ → ℕ) (none : NoHeaderOfZeros sum) (size : ℕ) (som
   ]
 
   abbrev y : Scanned
-  y = record { segment = record { place = site.place; slot = site.slot; mark = headed.mark }; met = before.0 ++ map met_of (completed_in site bytes rs); stop = length bytes; why = ending_at size (length bytes) }
+  y = record { segment = record { place = site.place; slot = site.slot; mark = headed.mark }; met = before.0 ++ met_in site bytes rs; stop = length bytes; why = ending_at size (length bytes) }
 
   y_scan : IsScanned sum size new y
   unfolding IsScan
   y_scan = (
-    paths_joined sum size new site.slot site.place 20 before.0 (max 20 from) (map met_of (completed_in site bytes rs)) (length bytes) before.1
+    paths_joined sum size new site.slot site.place 20 before.0 (max 20 from) (met_in site bytes rs) (length bytes) before.1
         (buffer_path sum size site old bytes from rs behind short place_begins slot_begins place_small slot_small chain stand room closed),
     buffer_end sum size site old bytes from rs behind short place_begins slot_begins place_small slot_small chain stand room closed clean,
   )

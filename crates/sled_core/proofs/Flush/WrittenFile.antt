@@ -1,6 +1,7 @@
 -- A log file has all messages once the buffer is written: those that stood there, and those of the buffer behind them.
 use Rattle.std.proofs.Common.{◌≡◌, ◌≤◌, ◌<◌, ◌+◌, ◌/◌, ◌%◌, ◌^◌, ◌∙◌, ◌-ℤ◌, ℕ, pos, max, true, List, ◌++◌, length, take, drop, sym, ap, arith, subst, length-drop, inl, inr}
 use Rattle.std.specs.List.{All, Contains}
+use Rattle.std.proofs.Math.Nat.{div-le_self}
 use Rattle.std.proofs.lemmas.Bool.{cases_lt}
 use Rattle.std.proofs.lemmas.List.Elements.{All-contains, Contains-append_cases}
 use Rattle.sled_codec.specs.declared.result.DiskPtr.TheVariants.{Inline}
@@ -14,11 +15,10 @@ use Rattle.sled_core.specs.declared.iobuf.Reserved.{Reserved}
 use Rattle.sled_core.specs.declared.iobuf.SegmentPosition.{SegmentPosition}
 use Rattle.sled_core.specs.Buffers.{IsChain, completed_in, none_open, Stands}
 use Rattle.sled_core.specs.LogFile.{StandsHere, HasHeader, IsLogFile}
-use Rattle.sled_core.proofs.Read.StandIn.{StandIn}
 use Rattle.sled_core.proofs.Flush.LogFileLemmas.{behind_write}
-use Rattle.sled_core.proofs.Flush.LogFileKept.{here_below, each_here, here_kept, elsewhere_kept, header_kept}
+use Rattle.sled_core.proofs.Flush.LogFileKept.{here_below, here_kept, elsewhere_kept, header_kept}
 use Rattle.sled_core.proofs.Reached.BufferPath.{buffer_header, buffer_mark}
-use Rattle.sled_core.proofs.Reached.BufferStands.{written_part, written_stand}
+use Rattle.sled_core.proofs.Reached.BufferStands.{Agrees, StandsOwn, own_in, same_part, written_agrees}
 use Rattle.sled_core.proofs.Tail.GreatestMark.{mark_below}
 
 module _ (sum : List ℕ → ℕ) (size : ℕ) (site : SegmentPosition) (old bytes : List ℕ) (from : ℕ) (rs : List Reserved) (earlier : List Message) (entries : ℕ → List Message) (file : IsLogFile sum size old site from earlier entries)
@@ -34,21 +34,17 @@ module _ (sum : List ℕ → ℕ) (size : ℕ) (site : SegmentPosition) (old byt
   abbrev done : List Message
   done = completed_in site bytes rs
 
-  -- what was completed stands in what was written
-  completed_stand : StandIn sum size new site (max 20 from) done (length bytes)
-  completed_stand = written_stand sum size site old bytes from behind rs short slot_begins place_small slot_small chain stand room ended
+  -- what was written agrees with the buffer
+  agree : Agrees new site.slot bytes from (length bytes)
+  agree = written_agrees old bytes site.slot from behind
 
-  Here : Message → Type 0
-  Here m = (lid : ℕ) × (m.pointer ≡ Inline lid) × StandsHere sum size new site (length bytes) lid m
-
-  late_here : (m : Message) → Contains done m → Here m
-  unfolding Here
-  late_here m there = All-contains (λ x. (lid : ℕ) × (x.pointer ≡ Inline lid) × StandsHere sum size new site (length bytes) lid x) done m
-      (each_here sum size new site place_begins slot_begins (max 20 from) done (length bytes) (omega arith) completed_stand) there
+  -- what was completed stands in it
+  late_here : (m : Message) → Contains done m → StandsOwn sum size new site (length bytes) m
+  late_here m there = All-contains (StandsOwn sum size new site (length bytes)) done m
+      (own_in sum size site new bytes from (length bytes) agree short place_begins slot_begins slot_small (omega (arith, div-le_self site.place size, place_small)) (max 20 from) rs (omega arith) chain stand room) there
 
   -- a message stands at its own pointer
-  at_pointer : (m : Message) (lid : ℕ) → m.pointer ≡ Inline lid → Here m → StandsHere sum size new site (length bytes) lid m
-  unfolding Here
+  at_pointer : (m : Message) (lid : ℕ) → m.pointer ≡ Inline lid → StandsOwn sum size new site (length bytes) m → StandsHere sum size new site (length bytes) lid m
   at_pointer m lid is here =
       let same : here.0 ≡ lid = ap lid_of (sym here.1 ∙ is) in
       subst (λ n. StandsHere sum size new site (length bytes) n m) same here.2
@@ -61,7 +57,7 @@ module _ (sum : List ℕ → ℕ) (size : ℕ) (site : SegmentPosition) (old byt
         let first : from ≡ 0 = omega (arith, none) in
         let here : site.slot + 0 ≡ site.slot = omega arith in
         let at : part new site.slot 20 ≡ take 20 xs =
-        ap (λ i. part new i 20) (sym here) ∙ written_part sum size site old bytes from behind 0 20 (omega (arith, first)) (omega (arith, begun)) ∙ ap (λ n. take 20 (drop n bytes)) (sym first) in
+        ap (λ i. part new i 20) (sym here) ∙ same_part new site.slot bytes from (length bytes) agree 0 20 (omega (arith, first)) (omega (arith, begun)) ∙ ap (λ n. take 20 (drop n bytes)) (sym first) in
         let small : site.place < 2 ^ 63 = omega (arith, place_small) in
         let written = buffer_header sum bytes from site.place first small (header first) in
         let mark = buffer_mark no_history site.slot site.place (λ b there low. absurd (in_nothing b there)) in

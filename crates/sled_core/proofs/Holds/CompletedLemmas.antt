@@ -1,24 +1,31 @@
--- A reservation that is completed becomes a message of the history that a log holds, at its place, and no other one is touched.
-use Rattle.std.proofs.Common.{◌≡◌, ◌≤◌, ◌<◌, ◌+◌, ◌/◌, inl, inr, ℕ, suc, max, List, ◌∷◌, ◌++◌, length, take, drop, set, sym, ◌∙◌, ap, arith, refl, subst, append_assoc, true, Option, Some, get_or}
+-- A reservation that is completed becomes a message of the history that a log holds, at its place; one that is aborted leaves the history as it was. No other one is touched.
+use Rattle.std.proofs.Common.{◌≡◌, ◌≤◌, ◌<◌, ◌+◌, ◌/◌, inl, inr, ℕ, suc, max, List, ◌∷◌, ◌++◌, length, take, drop, set, sym, ◌∙◌, ap, arith, refl, subst, append_assoc, Option, None, Some, get_or, ◌-◌}
 use Rattle.std.specs.List.{All, Contains, slice_get}
 use Rattle.std.specs.declared.io.Error.{Error as IoError}
 use Rattle.std.proofs.lemmas.List.{set_split}
 use Rattle.std.proofs.lemmas.Option.{slice_get_within}
 use Rattle.std.proofs.lemmas.List.Elements.{Contains-append_cases, All-contains}
 use Rattle.sled_codec.specs.Written.{written}
-use Rattle.sled_codec.specs.History.{Message, History, AddsMessage}
+use Rattle.sled_codec.specs.declared.serialization.message.MessageKind.{MessageKind}
+use Rattle.sled_codec.specs.declared.serialization.message.MessageKind.TheVariants as kind
+use Rattle.sled_codec.specs.History.{Message, History, AddsMessage, table}
+use Rattle.sled_codec.specs.Kinds.{code_of}
+use Rattle.sled_codec.specs.Places.{part}
+use Rattle.sled_codec.specs.Snapshots.{stable_place}
 use Rattle.sled_store.specs.Device.{State}
+use Rattle.sled_core.specs.declared.iobuf.ReservationState.{ReservationState}
+use Rattle.sled_core.specs.declared.iobuf.ReservationState.TheVariants.{Open, Completed, Canceled}
 use Rattle.sled_core.specs.declared.iobuf.Reserved.{Reserved}
 use Rattle.sled_core.specs.declared.iobuf.SegmentPosition.{SegmentPosition}
-use Rattle.sled_core.specs.Buffers.{body_in, message_in, IsChain, completed_in, completing, closed, Stands}
-use Rattle.sled_core.specs.Fits.{log_parts, HoldsIn}
+use Rattle.sled_core.specs.Buffers.{body_in, message_in, IsChain, completed_in, with_own, ending, completing, canceling, ended, Stands}
+use Rattle.sled_core.specs.Fits.{log_parts, HoldsIn, CloseBelow, IsBegunFrom, IsOnDevice}
 use Rattle.sled_core.proofs.Reserve.Ranges.{part-written_before, length-written, completed-same, completed-append, completed_between, chain-split, chain-joined, chain_grows, chain_within, there_split, all_split, all_joined, at_there, there-set_other, chain_apart}
-use Rattle.sled_core.proofs.Reserve.CompletesLemmas.{changes_page, body_before, same_before, body_behind, same_behind, body_own, closed_stands, some_long}
+use Rattle.sled_core.proofs.Reserve.CompletesLemmas.{changes_page, body_before, same_before, body_behind, same_behind, body_own, completed_stands, canceled_stands, fits, some_long}
 use Rattle.sled_core.proofs.Holds.HoldsLemmas.{completed_open}
 use Rattle.sled_core.proofs.Holds.BegunLemmas.{begun-adds, device-adds}
 
 module _ (sum : List ℕ → ℕ) (size : ℕ) (site : SegmentPosition) (device : State) (fault : Option IoError) (bytes : List ℕ) (from : ℕ) (xs ys : List Reserved) (r : Reserved) (H : History)
-    (holds : HoldsIn sum (log_parts size site device fault bytes from (xs ++ r ∷ ys)) H) (is_open : r.is_open ≡ true) (behind : from ≤ length bytes) where
+    (holds : HoldsIn sum (log_parts size site device fault bytes from (xs ++ r ∷ ys)) H) (is_open : r.state ≡ Open) (behind : from ≤ length bytes) where
   abbrev number : ℕ
   number = site.place / size
 
@@ -40,17 +47,58 @@ module _ (sum : List ℕ → ℕ) (size : ℕ) (site : SegmentPosition) (device 
   ends : r.from + r.len ≤ length bytes
   ends = chain_grows (r.from + r.len) (length bytes) ys chains.1
 
-  abbrev new : List ℕ
-  new = written bytes r.from (completing r)
-
-  abbrev history : History
-  history = record { messages = (holds.earlier ++ completed_in site bytes xs) ++ message_in site bytes r ∷ completed_in site bytes ys; batches = H.batches }
-
-  old_messages : H.messages ≡ (holds.earlier ++ completed_in site bytes xs) ++ completed_in site bytes ys
+  old_messages : H.messages ≡ holds.earlier ++ (completed_in site bytes xs ++ completed_in site bytes ys)
   old_messages =
       holds.messages
       ∙ ap (λ (ms : List Message). holds.earlier ++ ms) (completed-append site bytes xs (r ∷ ys) ∙ ap (λ (ms : List Message). completed_in site bytes xs ++ ms) (completed_open site bytes r ys is_open))
-      ∙ sym (append_assoc holds.earlier (completed_in site bytes xs) (completed_in site bytes ys))
+
+  -- It has ended with a sum and a kind.
+  module _ (word : ℕ) (k : MessageKind) (state : ReservationState) (own : Stands sum number (written bytes r.from (ending word k)) (ended state r)) where
+    abbrev new : List ℕ
+    new = written bytes r.from (ending word k)
+
+    stand_new : All (Stands sum number new) (xs ++ ended state r ∷ ys)
+    stand_new = all_joined (Stands sum number new) xs ys (ended state r)
+        (λ j d lt. let b = in_front j d lt in same_before sum number bytes r ends stand_all.1 word k (get_or xs j d) b.1 (stand_all.0 j d lt))
+        own
+        (λ j d lt. let b = after_it j d lt in same_behind sum number bytes r ends stand_all.1 word k (get_or ys j d) b.0 (stand_all.2 j d lt))
+
+    -- the messages of the others are as they were
+    messages_new : completed_in site new (xs ++ ended state r ∷ ys) ≡ completed_in site bytes xs ++ with_own state (message_in site bytes r) (completed_in site bytes ys)
+    messages_new =
+        let front : completed_in site new xs ≡ completed_in site bytes xs = completed-same site bytes new xs (λ j d lt. let b = in_front j d lt in body_before sum number bytes r ends stand_all.1 word k (get_or xs j d) b.1 (stand_all.0 j d lt)) in
+        let back : completed_in site new ys ≡ completed_in site bytes ys = completed-same site bytes new ys (λ j d lt. let b = after_it j d lt in body_behind sum number bytes r ends stand_all.1 word k (get_or ys j d) b.0) in
+        let its : message_in site new (ended state r) ≡ message_in site bytes r = ap (λ (l : List ℕ). record (message_in site bytes r) { bytes = l }) (body_own sum number bytes r ends stand_all.1 word k) in
+        completed-append site new xs (ended state r ∷ ys) ∙ (λ i. front i ++ with_own state (its i) (back i))
+
+    -- A history is held that has them, and its own message where it was completed.
+    holds_new : (H' : History) → H'.messages ≡ holds.earlier ++ (completed_in site bytes xs ++ with_own state (message_in site bytes r) (completed_in site bytes ys)) → CloseBelow (site.place + from) H'.batches
+        → (begun : IsBegunFrom sum size device.snapshots.file site from H') → (fault ≡ None → IsOnDevice sum size device.log site from holds.earlier (table H' (stable_place begun.first.stable)))
+        → HoldsIn sum (log_parts size site device fault new from (xs ++ ended state r ∷ ys)) H'
+    holds_new H' messages batches begun on_device =
+        let fit = fits sum number bytes r ends stand_all.1 word k in
+        let long : length new ≡ length bytes = length-written bytes (ending word k) r.from fit in
+        let rooms = all_split (λ (x : Reserved). x.from + 32 ≤ size) xs ys r holds.room in
+        record {
+          earlier = holds.earlier;
+          messages = messages ∙ ap (λ (ms : List Message). holds.earlier ++ ms) (sym messages_new);
+          below = holds.below;
+          apart = holds.apart;
+          batches = batches;
+          place_begins = holds.place_begins;
+          slot_begins = holds.slot_begins;
+          header = λ first. part-written_before bytes (ending word k) r.from 0 20 (omega (arith, begins)) fit ∙ holds.header first;
+          chain = subst (λ n. IsChain (max 20 from) (xs ++ ended state r ∷ ys) n) (sym long) (chain-joined (max 20 from) (length bytes) xs ys (ended state r) chains.0 chains.1);
+          stand = stand_new;
+          room = all_joined (λ (x : Reserved). x.from + 32 ≤ size) xs ys (ended state r) rooms.0 rooms.1 rooms.2;
+          begun = begun;
+          written = on_device;
+        }
+
+  -- Completed, its message is added.
+
+  abbrev history : History
+  history = record { messages = (holds.earlier ++ completed_in site bytes xs) ++ message_in site bytes r ∷ completed_in site bytes ys; batches = H.batches }
 
   lower : (x : Message) → Contains (holds.earlier ++ completed_in site bytes xs) x → x.place < site.place + r.from
   lower x there = elim (Contains-append_cases holds.earlier (completed_in site bytes xs) x there) [
@@ -65,78 +113,76 @@ module _ (sum : List ℕ → ℕ) (size : ℕ) (site : SegmentPosition) (device 
       omega (arith, b.0, h, l)
 
   adds : AddsMessage H (message_in site bytes r) history
-  adds = record { changes = changes_page r.log_kind r.page r.kind stand_all.1.known; before = holds.earlier ++ completed_in site bytes xs; after = completed_in site bytes ys; old = old_messages; new = refl; lower = lower; higher = higher; batches = refl }
+  adds = record {
+    changes = changes_page r.log_kind r.page r.kind stand_all.1.known;
+    before = holds.earlier ++ completed_in site bytes xs;
+    after = completed_in site bytes ys;
+    old = old_messages ∙ sym (append_assoc holds.earlier (completed_in site bytes xs) (completed_in site bytes ys));
+    new = refl;
+    lower = lower;
+    higher = higher;
+    batches = refl;
+  }
 
   -- the message lies behind what was written
   above : site.place + from ≤ (message_in site bytes r).place
   above = omega (arith, begins)
 
-  stand_new : All (Stands sum number new) (xs ++ closed r ∷ ys)
-  stand_new = all_joined (Stands sum number new) xs ys (closed r)
-      (λ k d lt. let b = in_front k d lt in same_before sum number bytes r ends stand_all.1 is_open (get_or xs k d) b.1 (stand_all.0 k d lt))
-      (closed_stands sum number bytes r ends stand_all.1 is_open)
-      (λ k d lt. let b = after_it k d lt in same_behind sum number bytes r ends stand_all.1 is_open (get_or ys k d) b.0 (stand_all.2 k d lt))
+  holds_completed : HoldsIn sum (log_parts size site device fault (written bytes r.from (completing r)) from (xs ++ ended Completed r ∷ ys)) history
+  holds_completed = holds_new r.sum r.kind Completed (completed_stands sum number bytes r ends stand_all.1 is_open) history
+      (append_assoc holds.earlier (completed_in site bytes xs) (message_in site bytes r ∷ completed_in site bytes ys)) holds.batches
+      (begun-adds H history (message_in site bytes r) adds sum size device.snapshots.file site from above holds.begun)
+      (λ ok. device-adds H history (message_in site bytes r) adds sum size device site from above holds.begun holds.earlier (holds.written ok))
 
-  messages_new : completed_in site new (xs ++ closed r ∷ ys) ≡ completed_in site bytes xs ++ message_in site bytes r ∷ completed_in site bytes ys
-  messages_new =
-      let front : completed_in site new xs ≡ completed_in site bytes xs = completed-same site bytes new xs (λ k d lt. let b = in_front k d lt in body_before sum number bytes r ends stand_all.1 is_open (get_or xs k d) b.1 (stand_all.0 k d lt)) in
-      let back : completed_in site new ys ≡ completed_in site bytes ys = completed-same site bytes new ys (λ k d lt. let b = after_it k d lt in body_behind sum number bytes r ends stand_all.1 is_open (get_or ys k d) b.0) in
-      let own : message_in site new (closed r) ≡ message_in site bytes r = ap (λ (l : List ℕ). record (message_in site bytes r) { bytes = l }) (body_own sum number bytes r ends stand_all.1 is_open) in
-      completed-append site new xs (closed r ∷ ys)
-      ∙ ap (λ (ms : List Message). ms ++ completed_in site new (closed r ∷ ys)) front
-      ∙ ap (λ (m : Message). completed_in site bytes xs ++ m ∷ completed_in site new ys) own
-      ∙ ap (λ (ms : List Message). completed_in site bytes xs ++ message_in site bytes r ∷ ms) back
+  -- Aborted, nothing is.
 
-  holds_new : HoldsIn sum (log_parts size site device fault new from (xs ++ closed r ∷ ys)) history
-  holds_new =
-      let fit : r.from + length (completing r) ≤ length bytes = let at_r = stand_all.1 in let h = at_r.headed in let l = at_r.long in omega (arith, h, l, ends) in
-      let long : length new ≡ length bytes = length-written bytes (completing r) r.from fit in
-      let rooms = all_split (λ (x : Reserved). x.from + 32 ≤ size) xs ys r holds.room in
-      record {
-        earlier = holds.earlier;
-        messages = append_assoc holds.earlier (completed_in site bytes xs) (message_in site bytes r ∷ completed_in site bytes ys) ∙ ap (λ (ms : List Message). holds.earlier ++ ms) (sym messages_new);
-        below = holds.below;
-        apart = holds.apart;
-        batches = holds.batches;
-        place_begins = holds.place_begins;
-        slot_begins = holds.slot_begins;
-        header = λ first. part-written_before bytes (completing r) r.from 0 20 (omega (arith, begins)) fit ∙ holds.header first;
-        chain = subst (λ n. IsChain (max 20 from) (xs ++ closed r ∷ ys) n) (sym long) (chain-joined (max 20 from) (length bytes) xs ys (closed r) chains.0 chains.1);
-        stand = stand_new;
-        room = all_joined (λ (x : Reserved). x.from + 32 ≤ size) xs ys (closed r) rooms.0 rooms.1 rooms.2;
-        begun = begun-adds H history (message_in site bytes r) adds sum size device.snapshots.file site from above holds.begun;
-        written = λ ok. device-adds H history (message_in site bytes r) adds sum size device site from above holds.begun holds.earlier (holds.written ok);
-      }
+  canceled_there : Stands sum number (written bytes r.from (canceling sum bytes r)) (ended Canceled r)
+  canceled_there = canceled_stands sum number bytes r ends stand_all.1 is_open
+
+  holds_canceled : HoldsIn sum (log_parts size site device fault (written bytes r.from (canceling sum bytes r)) from (xs ++ ended Canceled r ∷ ys)) H
+  holds_canceled = holds_new (sum (body_in bytes r ++ code_of kind.Canceled ∷ part bytes (r.from + 5) (r.header_len - 5))) kind.Canceled Canceled canceled_there H old_messages holds.batches holds.begun holds.written
 
 -- The message of an open reservation is added at its place, and the log holds that.
 pub holds-complete : (sum : List ℕ → ℕ) (size : ℕ) (site : SegmentPosition) (device : State) (fault : Option IoError) (bytes : List ℕ) (from : ℕ) (rs : List Reserved) (i : ℕ) (r : Reserved) (H : History)
-    → HoldsIn sum (log_parts size site device fault bytes from rs) H → slice_get rs i ≡ Some r → r.is_open ≡ true → from ≤ length bytes
-    → (H' : History) × AddsMessage H (message_in site bytes r) H' × HoldsIn sum (log_parts size site device fault (written bytes r.from (completing r)) from (set rs i (closed r))) H'
+    → HoldsIn sum (log_parts size site device fault bytes from rs) H → slice_get rs i ≡ Some r → r.state ≡ Open → from ≤ length bytes
+    → (H' : History) × AddsMessage H (message_in site bytes r) H' × HoldsIn sum (log_parts size site device fault (written bytes r.from (completing r)) from (set rs i (ended Completed r))) H'
 holds-complete sum size site device fault bytes from rs i r H holds there is_open behind =
     let xs : List Reserved = take i rs in
     let ys : List Reserved = drop (suc i) rs in
     let around : rs ≡ xs ++ r ∷ ys = there_split rs i r there in
     let holds' : HoldsIn sum (log_parts size site device fault bytes from (xs ++ r ∷ ys)) H = subst (λ (l : List Reserved). HoldsIn sum (log_parts size site device fault bytes from l) H) around holds in
-    let set_is : set rs i (closed r) ≡ xs ++ closed r ∷ ys = set_split rs i (closed r) (slice_get_within rs i r there) in (
+    let set_is : set rs i (ended Completed r) ≡ xs ++ ended Completed r ∷ ys = set_split rs i (ended Completed r) (slice_get_within rs i r there) in (
       history sum size site device fault bytes from xs ys r H holds' is_open behind,
       adds sum size site device fault bytes from xs ys r H holds' is_open behind,
-      subst (λ (l : List Reserved). HoldsIn sum (log_parts size site device fault (written bytes r.from (completing r)) from l) (history sum size site device fault bytes from xs ys r H holds' is_open behind)) (sym set_is) (holds_new sum size site device fault bytes from xs ys r H holds' is_open behind),
+      subst (λ (l : List Reserved). HoldsIn sum (log_parts size site device fault (written bytes r.from (completing r)) from l) (history sum size site device fault bytes from xs ys r H holds' is_open behind)) (sym set_is) (holds_completed sum size site device fault bytes from xs ys r H holds' is_open behind),
     )
 
+-- An open reservation that is aborted leaves the history as it was, and the log holds that.
+pub holds-cancel : (sum : List ℕ → ℕ) (size : ℕ) (site : SegmentPosition) (device : State) (fault : Option IoError) (bytes : List ℕ) (from : ℕ) (rs : List Reserved) (i : ℕ) (r : Reserved) (H : History)
+    → HoldsIn sum (log_parts size site device fault bytes from rs) H → slice_get rs i ≡ Some r → r.state ≡ Open → from ≤ length bytes
+    → HoldsIn sum (log_parts size site device fault (written bytes r.from (canceling sum bytes r)) from (set rs i (ended Canceled r))) H
+holds-cancel sum size site device fault bytes from rs i r H holds there is_open behind =
+    let xs : List Reserved = take i rs in
+    let ys : List Reserved = drop (suc i) rs in
+    let around : rs ≡ xs ++ r ∷ ys = there_split rs i r there in
+    let holds' : HoldsIn sum (log_parts size site device fault bytes from (xs ++ r ∷ ys)) H = subst (λ (l : List Reserved). HoldsIn sum (log_parts size site device fault bytes from l) H) around holds in
+    let set_is : set rs i (ended Canceled r) ≡ xs ++ ended Canceled r ∷ ys = set_split rs i (ended Canceled r) (slice_get_within rs i r there) in
+    subst (λ (l : List Reserved). HoldsIn sum (log_parts size site device fault (written bytes r.from (canceling sum bytes r)) from l) H) (sym set_is) (holds_canceled sum size site device fault bytes from xs ys r H holds' is_open behind)
+
 -- Every other reservation stays where it is, for the same message.
-pub others_stay : (sum : List ℕ → ℕ) (size : ℕ) (site : SegmentPosition) (device : State) (fault : Option IoError) (bytes : List ℕ) (from : ℕ) (rs : List Reserved) (i j : ℕ) (r x : Reserved) (H : History)
-    → HoldsIn sum (log_parts size site device fault bytes from rs) H → slice_get rs i ≡ Some r → r.is_open ≡ true → slice_get rs j ≡ Some x → (x.from ≡ r.from → ⊥)
-    → (slice_get (set rs i (closed r)) j ≡ Some x) × (message_in site (written bytes r.from (completing r)) x ≡ message_in site bytes x)
-others_stay sum size site device fault bytes from rs i j r x H holds at_i is_open at_j apart =
+pub others_stay : (sum : List ℕ → ℕ) (size : ℕ) (site : SegmentPosition) (device : State) (fault : Option IoError) (bytes : List ℕ) (from : ℕ) (rs : List Reserved) (i j : ℕ) (r x : Reserved) (H : History) (word : ℕ) (k : MessageKind) (state : ReservationState)
+    → HoldsIn sum (log_parts size site device fault bytes from rs) H → slice_get rs i ≡ Some r → slice_get rs j ≡ Some x → (x.from ≡ r.from → ⊥)
+    → (slice_get (set rs i (ended state r)) j ≡ Some x) × (message_in site (written bytes r.from (ending word k)) x ≡ message_in site bytes x)
+others_stay sum size site device fault bytes from rs i j r x H word k state holds at_i at_j apart =
     let number : ℕ = site.place / size in
     let stands : Stands sum number bytes r = at_there (Stands sum number bytes) rs i r at_i holds.stand in
     let at_x : Stands sum number bytes x = at_there (Stands sum number bytes) rs j x at_j holds.stand in
     let inside = at_there (λ z. (max 20 from ≤ z.from) × (z.from + z.len ≤ length bytes)) rs i r at_i (chain_within (max 20 from) (length bytes) rs holds.chain) in
-    let body : body_in (written bytes r.from (completing r)) x ≡ body_in bytes x =
+    let body : body_in (written bytes r.from (ending word k)) x ≡ body_in bytes x =
     elim (chain_apart (max 20 from) (length bytes) rs i j r x holds.chain at_i at_j apart) [
-      | inl before ↦ body_before sum number bytes r inside.1 stands is_open x before at_x
-      | inr behind ↦ body_behind sum number bytes r inside.1 stands is_open x behind
+      | inl before ↦ body_before sum number bytes r inside.1 stands word k x before at_x
+      | inr behind ↦ body_behind sum number bytes r inside.1 stands word k x behind
     ] in (
-      there-set_other rs i j r x (closed r) at_i at_j (λ same. apart (sym (ap (λ (z : Reserved). z.from) same))),
+      there-set_other rs i j r x (ended state r) at_i at_j (λ same. apart (sym (ap (λ (z : Reserved). z.from) same))),
       ap (λ (l : List ℕ). record (message_in site bytes x) { bytes = l }) body,
     )

@@ -1,14 +1,16 @@
 -- How a log goes on holding a history when a place is reserved.
-use Rattle.std.proofs.Common.{◌≡◌, ◌≤◌, ◌+◌, ◌-◌, ◌/◌, ℕ, zero, suc, max, List, [], ◌∷◌, ◌++◌, length, sym, ◌∙◌, ap, arith, subst, length-append, true, Bool, if◌then◌else◌, Option, get_or}
+use Rattle.std.proofs.Common.{◌≡◌, ◌≤◌, ◌+◌, ◌-◌, ◌/◌, ℕ, zero, suc, max, List, [], ◌∷◌, ◌++◌, length, sym, ◌∙◌, ap, arith, subst, length-append, Option, get_or}
 use Rattle.std.specs.List.{All}
 use Rattle.std.specs.declared.io.Error.{Error as IoError}
 use Rattle.std.proofs.lemmas.List.{append-nil, take-append-le}
 use Rattle.std.proofs.lemmas.List.Elements.{All-append}
 use Rattle.sled_codec.specs.History.{Message, History}
 use Rattle.sled_store.specs.Device.{State}
+use Rattle.sled_core.specs.declared.iobuf.ReservationState.{ReservationState}
+use Rattle.sled_core.specs.declared.iobuf.ReservationState.TheVariants.{Open}
 use Rattle.sled_core.specs.declared.iobuf.Reserved.{Reserved}
 use Rattle.sled_core.specs.declared.iobuf.SegmentPosition.{SegmentPosition}
-use Rattle.sled_core.specs.Buffers.{text_in, body_in, message_in, IsChain, completed_in, StandsAs, Stands}
+use Rattle.sled_core.specs.Buffers.{text_in, body_in, message_in, IsChain, completed_in, with_own, StandsAs, Stands}
 use Rattle.sled_core.specs.Fits.{log_parts, HoldsIn}
 use Rattle.sled_core.proofs.Reserve.Ranges.{part-append, completed-same, completed-append, chain-append}
 
@@ -31,14 +33,14 @@ one P x here zero d lt = here
 one P x here (suc k) d lt = absurd (omega arith)
 
 -- an open reservation is no message yet
-pub completed_open : (site : SegmentPosition) (bytes : List ℕ) (r : Reserved) (rs : List Reserved) → r.is_open ≡ true → completed_in site bytes (r ∷ rs) ≡ completed_in site bytes rs
-completed_open site bytes r rs is = ap (λ (o : Bool). if o then completed_in site bytes rs else message_in site bytes r ∷ completed_in site bytes rs) is
+pub completed_open : (site : SegmentPosition) (bytes : List ℕ) (r : Reserved) (rs : List Reserved) → r.state ≡ Open → completed_in site bytes (r ∷ rs) ≡ completed_in site bytes rs
+completed_open site bytes r rs is = ap (λ (s : ReservationState). with_own s (message_in site bytes r) (completed_in site bytes rs)) is
 
 module _ (sum : List ℕ → ℕ) (size : ℕ) (site : SegmentPosition) (device : State) (fault : Option IoError) (bytes : List ℕ) (from : ℕ) (rs : List Reserved) (H : History)
     (holds : HoldsIn sum (log_parts size site device fault bytes from rs) H) where
   -- A place is reserved: its placeholder stands behind what is there.
   pub holds-append : (more : List ℕ) (r : Reserved) → 20 ≤ length bytes → All (λ x. x.from + x.len ≤ length bytes) rs
-      → r.from ≡ length bytes → r.len ≡ length more → r.is_open ≡ true → r.from + 32 ≤ size → Stands sum (site.place / size) (bytes ++ more) r
+      → r.from ≡ length bytes → r.len ≡ length more → r.state ≡ Open → r.from + 32 ≤ size → Stands sum (site.place / size) (bytes ++ more) r
       → HoldsIn sum (log_parts size site device fault (bytes ++ more) from (rs ++ r ∷ [])) H
   holds-append more r begun within at long is_open has_room stands =
       let number : ℕ = site.place / size in

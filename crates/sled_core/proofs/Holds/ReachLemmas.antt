@@ -1,8 +1,8 @@
 -- Where the messages of a log lie that fits its history: one behind another, below the next place; those behind the written end in the current segment, with inline pointers.
-use Rattle.std.proofs.Common.{◌^◌, ◌≡◌, ◌∙◌, ◌≤◌, ◌<◌, ◌+◌, ◌/◌, ◌%◌, ℕ, max, true, false, if◌then◌else◌, List, [], ◌∷◌, length, Option, refl, sym, ap, subst, arith, pos, inl, inr}
+use Rattle.std.proofs.Common.{◌^◌, ◌≡◌, ◌∙◌, ◌≤◌, ◌<◌, ◌+◌, ◌/◌, ◌%◌, ℕ, max, List, [], ◌∷◌, length, Option, refl, sym, ap, subst, arith, pos, inl, inr}
 use Rattle.std.specs.List.{All, Contains}
 use Rattle.std.specs.declared.io.Error.{Error as IoError}
-use Rattle.std.proofs.lemmas.List.Elements.{All-tail, All-cons, All-contains}
+use Rattle.std.proofs.lemmas.List.Elements.{All-tail, All-contains}
 use Rattle.sled_codec.specs.declared.result.DiskPtr.TheVariants.{Inline}
 use Rattle.sled_codec.specs.History.{Message, History}
 use Rattle.sled_codec.specs.Places.{MayBegin}
@@ -18,7 +18,7 @@ use Rattle.sled_core.specs.Fits.{Awaits, log_parts, next_place, synced_end, Hold
 use Rattle.sled_core.specs.Running.{Fits}
 use Rattle.sled_core.specs.Reading.{IsInline}
 use Rattle.sled_core.specs.Recoverable.{LiesInSegment}
-use Rattle.sled_core.proofs.Reserve.Ranges.{completed_between, chain_grows}
+use Rattle.sled_core.proofs.Reserve.Ranges.{all_own, completed_between, chain_grows}
 use Rattle.sled_core.proofs.Reserve.CompletesLemmas.{some_long}
 use Rattle.sled_core.proofs.Flush.Completed.{all_apart, all_below, which}
 use Rattle.sled_core.proofs.Read.ScanLemmas.{aligned_offset}
@@ -51,8 +51,7 @@ module _ (size : ℕ) (site : SegmentPosition) (place_begins : site.place % size
       let here : r.from ≡ from = chain.0 in
       let grows : from + r.len ≤ end = chain_grows (from + r.len) end rs chain.1 in
       let rest : All (LiesBehind size site) (completed_in site bytes rs) = completed_lie bytes (from + r.len) end rs (omega (arith, behind)) inside chain.1 (All-tail (λ x. x.from + 32 ≤ size) r rs room) in
-      elim r.is_open as (λ o. All (LiesBehind size site) (if o then completed_in site bytes rs else message_in site bytes r ∷ completed_in site bytes rs))
-      [ true ↦ rest | false ↦ All-cons (LiesBehind size site) (message_in site bytes r) (completed_in site bytes rs) (lies_behind bytes r (omega (arith, here, behind)) (room 0 r (omega arith)) (omega (arith, here, grows, inside))) rest ]
+      all_own (LiesBehind size site) r.state (message_in site bytes r) (completed_in site bytes rs) (λ own. lies_behind bytes r (omega (arith, here, behind)) (room 0 r (omega arith)) (omega (arith, here, grows, inside))) rest
 
 module _ (sum : List ℕ → ℕ) (size : ℕ) (site : SegmentPosition) (device : State) (fault : Option IoError) (bytes : List ℕ) (from : ℕ) (rs : List Reserved) (H : History) (holds : HoldsIn sum (log_parts size site device fault bytes from rs) H) where
   abbrev done : List Message

@@ -1,29 +1,33 @@
--- A buffer in whose reservations all was completed is a path of records of the history, and nothing comes behind it; where it begins a segment, the header is there, with a mark that no batch crosses.
-use Rattle.std.proofs.Common.{◌≡◌, ◌≢◌, ◌⊎◌, ◌≤◌, ◌<◌, ◌≤ℤ◌, ◌<ℤ◌, ◌+◌, ◌/◌, ◌%◌, ◌^◌, ◌∙◌, ◌-ℤ◌, ℕ, ℤ, zero, suc, pos, max, Bool, true, false, nat_lt, if◌then◌else◌, List, map, length, take, drop, get_or, sym, ap, arith, lt→ltb, le→leb, refl, subst, length-drop, inl, inr, FitsSigned}
+-- A buffer in which all reservations have ended is a path of records of the history, some of them passed over, and nothing comes behind it; where it begins a segment, the header is there, with a mark that no batch crosses.
+use Rattle.std.proofs.Common.{◌≡◌, ◌≢◌, ◌⊎◌, ◌≤◌, ◌<◌, ◌≤ℤ◌, ◌<ℤ◌, ◌+◌, ◌/◌, ◌%◌, ◌^◌, ◌∙◌, ◌-ℤ◌, ℕ, ℤ, zero, suc, pos, max, Bool, true, false, nat_lt, if◌then◌else◌, List, [], ◌∷◌, length, take, drop, get_or, sym, ap, arith, lt→ltb, le→leb, refl, subst, length-drop, inl, inr, FitsSigned}
 use Rattle.std.proofs.Math.IntN.{ -ℤ_one}
 use Rattle.std.specs.List.{All, Contains}
 use Rattle.std.specs.Int.{w64}
+use Rattle.std.proofs.Math.Nat.{div-le_self}
 use Rattle.std.proofs.lemmas.Bool.{cases_lt}
 use Rattle.std.proofs.lemmas.Bool.Decides.{nat_tests}
-use Rattle.std.proofs.lemmas.List.Elements.{All-map, All-contains}
+use Rattle.std.proofs.lemmas.List.Elements.{All-cons, All-contains, All-tail}
 use Rattle.sled_codec.specs.Coords.{raised}
 use Rattle.sled_codec.specs.Record.{IsHeader, short_header}
 use Rattle.sled_codec.specs.History.{Message, Batch, History}
 use Rattle.sled_store.specs.Device.{overwritten}
-use Rattle.sled_store.proofs.Segments.Elements.{all_from_in}
+use Rattle.sled_store.proofs.Segments.Elements.{in_first}
+use Rattle.sled_core.specs.declared.iobuf.ReservationState.{ReservationState}
+use Rattle.sled_core.specs.declared.iobuf.ReservationState.TheVariants.{Open, Completed, Canceled}
 use Rattle.sled_core.specs.declared.iobuf.Reserved.{Reserved}
 use Rattle.sled_core.specs.declared.iobuf.SegmentPosition.{SegmentPosition}
 use Rattle.sled_core.specs.declared.iterator.scan.ScannedRecord.{ScannedRecord}
+use Rattle.sled_core.specs.declared.iterator.scan.ScanEnd.{ScanEnd}
 use Rattle.sled_core.specs.declared.iterator.scan.ScanEnd.TheVariants.{Full, Capped, Broken}
-use Rattle.sled_core.specs.Buffers.{IsChain, completed_in, none_open, Stands}
-use Rattle.sled_core.proofs.Read.StandIn.{StandIn}
+use Rattle.sled_core.specs.Buffers.{IsChain, completed_in, message_in, none_open, with_own, Stands}
 use Rattle.sled_core.specs.Recoverable.{NoMessageBegins, NoBatchBegins, NoBatchEnds, StandsInline, IsOfHistory, IsMarkOf, IsMarkBelow}
 use Rattle.sled_core.specs.Scan.{IsPath, IsEnd, EndsThere}
-use Rattle.sled_core.proofs.Flush.LogFileLemmas.{stand_above, stand_below, stand_apart, behind_write}
-use Rattle.sled_core.proofs.Read.GivesLemmas.{StandsWhole, own_stands}
-use Rattle.sled_core.proofs.Read.PathLemmas.{met_of, zeros_empty, IsEmpty}
-use Rattle.sled_core.proofs.Read.StandLemmas.{ending_at, apart_of_two, path_of}
-use Rattle.sled_core.proofs.Reached.BufferStands.{written_stand}
+use Rattle.sled_core.proofs.Flush.LogFileLemmas.{behind_write}
+use Rattle.sled_core.proofs.Holds.OpenTickets.{by_first}
+use Rattle.sled_core.proofs.Read.PathLemmas.{zeros_empty}
+use Rattle.sled_core.proofs.Reserve.CompletesLemmas.{some_long}
+use Rattle.sled_core.proofs.Reserve.Ranges.{chain_grows, completed_between, own_cases, own_rest}
+use Rattle.sled_core.proofs.Reached.BufferStands.{Agrees, met_as, met_in, one_inline, path_in, written_agrees}
 
 -- Of a history, these messages begin from one place up to another, and neither a batch nor another message.
 pub record HasOnly (H : History) (ms : List Message) (from to : ℕ) : Type 0 where
@@ -31,85 +35,136 @@ pub record HasOnly (H : History) (ms : List Message) (from to : ℕ) : Type 0 wh
   pub only : (m : Message) → Contains H.messages m → Contains ms m ⊎ (m.place < from) ⊎ (to ≤ m.place)
   pub no_batch : NoBatchBegins H from to
 
--- Behind the last message of a buffer the reading ends for want of room, or of a record.
+-- why the reading ends behind the last record of a buffer: for want of room, or of a record
+abbrev pub ending_at : ℕ → ℕ → ScanEnd
+ending_at size stop = if nat_lt size (stop + 32) then Full else Broken
+
 pub never_capped : (size stop : ℕ) → ending_at size stop ≢ Capped
 never_capped size stop = by_test (nat_lt size (stop + 32)) where
   by_test : (b : Bool) → (if b then Full else Broken) ≢ Capped
   by_test false is = cc
   by_test true is = cc
 
+-- Of a buffer whose bytes a file has up to an end, up to which all has ended.
+module _ (sum : List ℕ → ℕ) (size : ℕ) (site : SegmentPosition) (log bytes : List ℕ) (from to : ℕ) (agrees : Agrees log site.slot bytes from to) (short : to ≤ size)
+    (place_begins : site.place % size ≡ 0) (slot_begins : site.slot % size ≡ 0) (place_small : site.place + size < 2 ^ 63) (slot_small : site.slot + size < 2 ^ 63) where
+  number_small : site.place / size < 2 ^ 63
+  number_small = omega (arith, div-le_self site.place size, place_small)
+
+  -- The records are met one behind another.
+  pub path_to : (rs : List Reserved) → IsChain (max 20 from) rs to → All (Stands sum (site.place / size) bytes) rs → All (λ r. r.from + 32 ≤ size) rs → none_open rs ≡ true
+      → IsPath sum size log site.slot site.place (max 20 from) (met_in site bytes rs) to
+  path_to rs chain stand room closed = path_in sum size site log bytes from to agrees short place_begins slot_begins slot_small number_small (max 20 from) rs (omega arith) chain stand room closed
+
+  -- And there the reading ends, where a zero is in place of the next kind.
+  pub end_at : (to + 32 ≤ size → get_or log (site.slot + to + 4) 0 ≡ 0) → IsEnd sum size log site.slot site.place to (ending_at size to)
+  unfolding EndsThere
+  end_at no_kind = by_test (nat_lt size (to + 32)) refl where
+    by_test : (b : Bool) → nat_lt size (to + 32) ≡ b → IsEnd sum size log site.slot site.place to (if b then Full else Broken)
+    by_test true is = grind (arith, nat_tests, is)
+    by_test false is = let more : to + 32 ≤ size = grind (arith, nat_tests, is) in (more, zeros_empty sum size log (site.slot + to) (site.place / size) (no_kind more))
+
+  -- Each record is of the history, where this has no others within the buffer.
+  module _ (H : History) where
+    module _ (at : ℕ) (r : Reserved) (rs : List Reserved) (behind : max 20 from ≤ at) (chain : IsChain at (r ∷ rs) to) (stand : All (Stands sum (site.place / size) bytes) (r ∷ rs))
+        (has : HasOnly H (completed_in site bytes (r ∷ rs)) (site.place + at) (site.place + to)) where
+      abbrev own : Message
+      own = message_in site bytes r
+
+      here : r.from ≡ at
+      here = chain.0
+
+      grows : at + r.len ≤ to
+      grows = chain_grows (at + r.len) to rs chain.1
+
+      some : 0 < r.len
+      some = let s = stand 0 r (omega arith) in let h = s.headed in let l = s.long in omega (arith, h, l)
+
+      -- a later one begins behind it
+      later_behind : (n : Message) → Contains (completed_in site bytes rs) n → own.place + own.size ≤ n.place
+      later_behind n later =
+          let long = some_long sum (site.place / size) bytes rs (All-tail (Stands sum (site.place / size) bytes) r rs stand) in
+          let between = All-contains (λ x. (site.place + (at + r.len) ≤ x.place) × (x.place < site.place + to) × (x.place + x.size ≤ site.place + to)) (completed_in site bytes rs) n (completed_between site bytes (at + r.len) to rs chain.1 long) later in
+          omega (arith, between.0, here)
+
+      -- a message of the history is its own, if it was completed, or lies before it or behind it
+      which : (n : Message) → Contains H.messages n → ((r.state ≡ Completed) × (own ≡ n)) ⊎ (n.place < own.place) ⊎ (own.place + own.size ≤ n.place)
+      which n there = elim (has.only n there) [
+        | inl among ↦ elim (own_cases r.state own (completed_in site bytes rs) n among) [ inl is ↦ inl is | inr later ↦ inr (inr (later_behind n later)) ]
+        | inr (inl before) ↦ inr (inl (omega (arith, before, here)))
+        | inr (inr after) ↦ inr (inr (omega (arith, after, here, grows)))
+      ]
+
+      no_batch_here : NoBatchBegins H own.place (own.place + own.size)
+      no_batch_here b there = elim (has.no_batch b there) [ inl before ↦ inl (omega (arith, before, here)) | inr after ↦ inr (omega (arith, after, here, grows)) ]
+
+      pub rest_only : HasOnly H (completed_in site bytes rs) (site.place + (at + r.len)) (site.place + to)
+      rest_only = record {
+        there = λ n later. has.there n (own_rest r.state own (completed_in site bytes rs) n later);
+        only = λ n there. elim (has.only n there) [
+          | inl among ↦ elim (own_cases r.state own (completed_in site bytes rs) n among) [
+            | inl is ↦ inr (inl (omega (arith, ap (λ (x : Message). x.place) is.1, here, some)))
+            | inr later ↦ inl later
+          ]
+          | inr (inl before) ↦ inr (inl (omega (arith, before)))
+          | inr (inr after) ↦ inr (inr after)
+        ];
+        no_batch = λ b there. elim (has.no_batch b there) [ inl before ↦ inl (omega (arith, before)) | inr after ↦ inr after ];
+      }
+
+      pub one_truth : (s : ReservationState) → r.state ≡ s → (s ≡ Open → ⊥) → r.from + 32 ≤ size → IsOfHistory sum size log H (met_as s own)
+      one_truth Open is not_open room = absurd (not_open refl)
+      one_truth Completed is not_open room =
+          let there : Contains (completed_in site bytes (r ∷ rs)) own = subst (λ (s : ReservationState). Contains (with_own s own (completed_in site bytes rs)) own) (sym is) (in_first own (completed_in site bytes rs)) in
+          inl (
+            own,
+            has.there own there,
+            record { place = refl; len = refl; what = inl refl },
+            one_inline sum size site log bytes from to agrees short place_begins slot_begins slot_small number_small r (stand 0 r (omega arith)) (omega (arith, here, behind)) (omega (arith, here, grows)) is room,
+            (λ n at_n. elim (which n at_n) [ inl same ↦ inl (omega (arith, ap (λ (x : Message). x.place) same.1)) | inr (inl before) ↦ inl (omega (arith, before)) | inr (inr after) ↦ inr after ]),
+            no_batch_here,
+          )
+      one_truth Canceled is not_open room = inr (inr (
+        refl,
+        (λ n at_n. elim (which n at_n) [ inl same ↦ absurd (let both : Canceled ≡ Completed = sym is ∙ same.0 in cc) | inr (inl before) ↦ inl before | inr (inr after) ↦ inr after ]),
+        no_batch_here,
+      ))
+
+    truth_from : (at : ℕ) (rs : List Reserved) → max 20 from ≤ at → IsChain at rs to → All (Stands sum (site.place / size) bytes) rs → All (λ r. r.from + 32 ≤ size) rs → none_open rs ≡ true
+        → HasOnly H (completed_in site bytes rs) (site.place + at) (site.place + to) → All (IsOfHistory sum size log H) (met_in site bytes rs)
+    truth_from at [] behind chain stand room closed has = λ k d lt. absurd (omega arith)
+    truth_from at (r ∷ rs) behind chain stand room closed has =
+        let ended = by_first r.state rs closed in
+        All-cons (IsOfHistory sum size log H) (met_as r.state (message_in site bytes r)) (met_in site bytes rs)
+        (one_truth at r rs behind chain stand has r.state refl ended.0 (room 0 r (omega arith)))
+        (truth_from (at + r.len) rs (omega (arith, behind)) chain.1 (All-tail (Stands sum (site.place / size) bytes) r rs stand) (All-tail (λ (x : Reserved). x.from + 32 ≤ size) r rs room) ended.1
+        (rest_only at r rs behind chain stand has))
+
+    pub truth_to : (rs : List Reserved) → IsChain (max 20 from) rs to → All (Stands sum (site.place / size) bytes) rs → All (λ r. r.from + 32 ≤ size) rs → none_open rs ≡ true
+        → HasOnly H (completed_in site bytes rs) (site.place + max 20 from) (site.place + to) → (x : ScannedRecord) → Contains (met_in site bytes rs) x → IsOfHistory sum size log H x
+    truth_to rs chain stand room closed has x there = All-contains (IsOfHistory sum size log H) (met_in site bytes rs) x (truth_from (max 20 from) rs (omega arith) chain stand room closed has) there
+
+-- The same of a file to which the buffer was written.
 module _ (sum : List ℕ → ℕ) (size : ℕ) (site : SegmentPosition) (old bytes : List ℕ) (from : ℕ) (rs : List Reserved) (behind : from < length bytes) (short : length bytes ≤ size)
     (place_begins : site.place % size ≡ 0) (slot_begins : site.slot % size ≡ 0) (place_small : site.place + size < 2 ^ 63) (slot_small : site.slot + size < 2 ^ 63)
     (chain : IsChain (max 20 from) rs (length bytes)) (stand : All (Stands sum (site.place / size) bytes) rs) (room : All (λ r. r.from + 32 ≤ size) rs) (closed : none_open rs ≡ true) where
   abbrev new : List ℕ
   new = overwritten old (site.slot + from) (drop from bytes)
 
-  abbrev completed : List Message
-  completed = completed_in site bytes rs
+  agree : Agrees new site.slot bytes from (length bytes)
+  agree = written_agrees old bytes site.slot from behind
 
-  standing : StandIn sum size new site (max 20 from) completed (length bytes)
-  standing = written_stand sum size site old bytes from behind rs short slot_begins place_small slot_small chain stand room closed
+  pub buffer_path : IsPath sum size new site.slot site.place (max 20 from) (met_in site bytes rs) (length bytes)
+  buffer_path = path_to sum size site new bytes from (length bytes) agree short place_begins slot_begins place_small slot_small rs chain stand room closed
 
-  -- They are met one behind another.
-  pub buffer_path : IsPath sum size new site.slot site.place (max 20 from) (map met_of completed) (length bytes)
-  buffer_path = path_of sum size new site (length bytes) (max 20 from) completed standing
-
-  -- And there the reading ends.
   pub buffer_end : ((i : ℕ) → site.slot + from ≤ i → i < site.slot + size → get_or old i 0 ≡ 0) → IsEnd sum size new site.slot site.place (length bytes) (ending_at size (length bytes))
-  unfolding EndsThere
-  buffer_end clean = by_test (nat_lt size (length bytes + 32)) refl where
-    empty : length bytes + 32 ≤ size → IsEmpty sum size new (site.slot + length bytes) (site.place / size)
-    empty more = zeros_empty sum size new (site.slot + length bytes) (site.place / size) (
-        behind_write sum size old (site.slot + from) (drop from bytes) (site.slot + length bytes + 4) (omega (arith, length-drop from bytes, behind)) (omega (arith, length-drop from bytes, behind))
-        ∙ clean (site.slot + length bytes + 4) (omega (arith, behind)) (omega (arith, more)))
+  buffer_end clean =
+      end_at sum size site new bytes from (length bytes) agree short place_begins slot_begins place_small slot_small (λ more.
+      behind_write sum size old (site.slot + from) (drop from bytes) (site.slot + length bytes + 4) (omega (arith, length-drop from bytes, behind)) (omega (arith, length-drop from bytes, behind))
+      ∙ clean (site.slot + length bytes + 4) (omega (arith, behind)) (omega (arith, more)))
 
-    by_test : (b : Bool) → nat_lt size (length bytes + 32) ≡ b → IsEnd sum size new site.slot site.place (length bytes) (if b then Full else Broken)
-    by_test true is = grind (arith, nat_tests, is)
-    by_test false is = let more : length bytes + 32 ≤ size = grind (arith, nat_tests, is) in (more, empty more)
-
-  -- Each record is that of a message of the history, where this has no others within the buffer.
-  module _ (H : History) (has : HasOnly H completed (site.place + max 20 from) (site.place + length bytes)) where
-    Between : Message → Type 0
-    Between m = (site.place + max 20 from ≤ m.place) × (m.place + m.size ≤ site.place + length bytes)
-
-    between : (m : Message) → Contains completed m → Between m
-    unfolding Between
-    between m there =
-        let above = All-contains (λ x. (site.place + max 20 from ≤ x.place) × (max 20 from + 32 ≤ size)) completed m (stand_above sum size new site (max 20 from) completed (length bytes) standing) there in
-        let below = All-contains (λ x. (x.place < site.place + length bytes) × (x.place + x.size ≤ site.place + length bytes)) completed m (stand_below sum size new site (max 20 from) completed (length bytes) standing) there in
-        (above.0, below.1)
-
-    none_within : (m : Message) → Contains completed m → NoMessageBegins H (m.place + 1) (m.place + m.size)
-    unfolding Between
-    none_within m there n also =
-        let lies = between m there in
-        let above = lies.0 in
-        let ends = lies.1 in
-        elim (has.only n also) [
-          | inl own ↦ apart_of_two completed (stand_apart sum size new site (max 20 from) completed (length bytes) standing) m n there own
-          | inr (inl before) ↦ inl (omega (arith, before, above))
-          | inr (inr after) ↦ inr (omega (arith, after, ends))
-        ]
-
-    no_batch_within : (m : Message) → Contains completed m → NoBatchBegins H m.place (m.place + m.size)
-    unfolding Between
-    no_batch_within m there b also =
-        let lies = between m there in
-        let above = lies.0 in
-        let ends = lies.1 in
-        elim (has.no_batch b also) [ inl before ↦ inl (omega (arith, before, above)) | inr after ↦ inr (omega (arith, after, ends)) ]
-
-    stands_inline : (m : Message) → Contains completed m → StandsInline sum size new m m.pointer
-    stands_inline m there =
-        let whole = All-contains (StandsWhole sum size new) completed m (own_stands sum size new site (max 20 from) completed (length bytes) place_begins standing) there in
-        subst (StandsInline sum size new m) (sym whole.1) whole.2
-
-    of_history : (m : Message) → Contains completed m → IsOfHistory sum size new H (met_of m)
-    of_history m there = inl (m, has.there m there, record { place = refl; len = refl; what = inl refl }, stands_inline m there, none_within m there, no_batch_within m there)
-
-    pub buffer_truth : (x : ScannedRecord) → Contains (map met_of completed) x → IsOfHistory sum size new H x
-    buffer_truth x there = All-contains (IsOfHistory sum size new H) (map met_of completed) x
-        (All-map (IsOfHistory sum size new H) met_of completed (all_from_in (λ m. IsOfHistory sum size new H (met_of m)) completed of_history)) there
+  pub buffer_truth : (H : History) → HasOnly H (completed_in site bytes rs) (site.place + max 20 from) (site.place + length bytes) → (x : ScannedRecord) → Contains (met_in site bytes rs) x → IsOfHistory sum size new H x
+  buffer_truth H has = truth_to sum size site new bytes from (length bytes) agree short place_begins slot_begins place_small slot_small H rs chain stand room closed has
 
 -- The place before a segment is its mark, or minus one where there is none.
 

@@ -1,112 +1,219 @@
--- Reservations that were completed stand in a file one behind another where their bytes are there, whatever else the file has.
-use Rattle.std.proofs.Common.{◌≡◌, ◌≤◌, ◌<◌, ◌+◌, ◌-◌, ◌/◌, ◌%◌, ◌^◌, ◌∙◌, ℕ, max, Bool, true, false, List, [], ◌∷◌, ◌++◌, length, take, drop, sym, ap, arith, refl, subst, length-take, length-drop, if◌then◌else◌}
+-- Reservations that have ended stand in a file one behind another where their bytes are there, whatever else the file has.
+use Rattle.std.proofs.Common.{◌≡◌, ◌≢◌, ◌⊎◌, ◌≤◌, ◌<◌, ◌+◌, ◌-◌, ◌/◌, ◌%◌, ◌^◌, ◌∙◌, ℕ, max, true, List, [], ◌∷◌, ◌++◌, length, take, drop, get_or, sym, ap, arith, refl, subst, inl, inr, length-take, length-drop}
 use Rattle.std.specs.List.{All}
-use Rattle.std.proofs.lemmas.List.{drop-drop}
-use Rattle.std.proofs.lemmas.List.Elements.{All-tail}
-use Rattle.std.proofs.Math.Nat.{div-le_self}
-use Rattle.sled_codec.specs.declared.result.DiskPtr.TheVariants.{Inline}
+use Rattle.std.proofs.lemmas.Grind.{same_number_lists}
+use Rattle.std.proofs.lemmas.List.{get_or-take, get_or-drop}
+use Rattle.std.proofs.lemmas.List.Elements.{All-cons, All-tail}
+use Rattle.sled_codec.specs.declared.result.DiskPtr.TheVariants as ptr
+use Rattle.sled_codec.specs.declared.serialization.message.MessageHeader.{MessageHeader}
+use Rattle.sled_codec.specs.declared.serialization.message.MessageKind.{MessageKind}
+use Rattle.sled_codec.specs.declared.serialization.message.MessageKind.TheVariants as kind
 use Rattle.sled_codec.specs.Sums.{flipped}
 use Rattle.sled_codec.specs.Places.{part}
-use Rattle.sled_codec.specs.Record.{short_record}
+use Rattle.sled_codec.specs.Record.{short_record, IsRecord}
 use Rattle.sled_codec.specs.History.{Message}
 use Rattle.sled_codec.proofs.Records.{short_is_record}
 use Rattle.sled_store.specs.Device.{overwritten}
+use Rattle.sled_store.proofs.LogFile.LooseLemmas.{end_of-some}
+use Rattle.sled_store.proofs.LogFile.OverwrittenLemmas.{length-overwritten, overwritten-part}
+use Rattle.sled_core.specs.declared.iobuf.ReservationState.{ReservationState}
+use Rattle.sled_core.specs.declared.iobuf.ReservationState.TheVariants.{Open, Completed, Canceled}
 use Rattle.sled_core.specs.declared.iobuf.Reserved.{Reserved}
 use Rattle.sled_core.specs.declared.iobuf.SegmentPosition.{SegmentPosition}
-use Rattle.sled_core.specs.Buffers.{body_in, message_in, placeholder, IsChain, completed_in, none_open, Stands}
-use Rattle.sled_core.specs.LogFile.{MessageStands}
-use Rattle.sled_core.proofs.Read.StandIn.{StandIn}
-use Rattle.sled_core.proofs.Reserve.Ranges.{chain_grows}
-use Rattle.sled_core.proofs.Read.ScanLemmas.{aligned_offset}
-use Rattle.sled_core.proofs.Flush.LogFileLemmas.{part_laid, laid_within}
+use Rattle.sled_core.specs.declared.iterator.scan.ScannedRecord.{ScannedRecord}
+use Rattle.sled_core.specs.declared.iterator.scan.RecordContent.TheVariants.{Skipped}
+use Rattle.sled_core.specs.Buffers.{body_in, message_in, text_as, IsChain, completed_in, none_open, Stands}
+use Rattle.sled_core.specs.LogFile.{MessageStands, StandsHere}
+use Rattle.sled_core.specs.Reading.{StandsAt}
+use Rattle.sled_core.specs.Scan.{IsMet, IsPath}
+use Rattle.sled_core.proofs.Holds.OpenTickets.{by_first}
+use Rattle.sled_core.proofs.Read.PathLemmas.{met_of, is_met}
+use Rattle.sled_core.proofs.Read.ScanLemmas.{aligned_number, aligned_offset}
+use Rattle.sled_core.proofs.Reserve.Ranges.{all_own, chain_grows}
 
--- the first is completed, and so are the others
-closed_split : (o b : Bool) → (if o then false else b) ≡ true → (o ≡ false) × (b ≡ true)
-closed_split true b is = cc
-closed_split false b is = (refl, is)
+-- what a reader meets of a reservation that has ended
+abbrev pub met_as : ReservationState → Message → ScannedRecord
+met_as Canceled m = record { place = m.place; len = m.size; what = Skipped }
+met_as _ m = met_of m
 
-module _ (sum : List ℕ → ℕ) (size : ℕ) (site : SegmentPosition) (log bytes : List ℕ) (from : ℕ)
-    (same : (k n : ℕ) → from ≤ k → k + n ≤ length bytes → part log (site.slot + k) n ≡ part bytes k n) (in_file : site.slot + length bytes ≤ length log)
-    (aligned : site.slot % size ≡ 0) (short : length bytes ≤ size) (slot_small : site.slot + size < 2 ^ 63) (number_small : site.place / size < 2 ^ 63) where
-  module _ (r : Reserved) (stands : Stands sum (site.place / size) bytes r) (is_closed : r.is_open ≡ false) (behind : from ≤ r.from) (within : r.from + r.len ≤ length bytes) where
-    abbrev number : ℕ
-    number = site.place / size
+-- and of some, by place
+abbrev pub met_in : SegmentPosition → List ℕ → List Reserved → List ScannedRecord
+met_in site bytes [] = []
+met_in site bytes (r ∷ rs) = met_as r.state (message_in site bytes r) ∷ met_in site bytes rs
 
+-- the message of a record that stands in the current segment below an offset, where its pointer says
+abbrev pub StandsOwn : (List ℕ → ℕ) → ℕ → List ℕ → SegmentPosition → ℕ → Message → Type 0
+StandsOwn sum size log site to m = (lid : ℕ) × (m.pointer ≡ ptr.Inline lid) × StandsHere sum size log site to lid m
+
+-- From one offset of a segment up to another the file has the bytes of its buffer.
+pub record Agrees (log : List ℕ) (slot : ℕ) (bytes : List ℕ) (from to : ℕ) : Type 0 where
+  pub same : (i : ℕ) → from ≤ i → i < to → get_or log (slot + i) 0 ≡ get_or bytes i 0
+  pub in_file : slot + to ≤ length log
+  pub in_bytes : to ≤ length bytes
+
+-- and so the parts of both are the same
+pub same_part : (log : List ℕ) (slot : ℕ) (bytes : List ℕ) (from to : ℕ) → Agrees log slot bytes from to → (k n : ℕ) → from ≤ k → k + n ≤ to → part log (slot + k) n ≡ part bytes k n
+same_part log slot bytes from to agrees k n le within =
+    let in_file = agrees.in_file in
+    let in_bytes = agrees.in_bytes in
+    let long : length (part log (slot + k) n) ≡ n = omega (arith, length-take n (drop (slot + k) log), length-drop (slot + k) log, within, in_file) in
+    let also : length (part bytes k n) ≡ n = omega (arith, length-take n (drop k bytes), length-drop k bytes, within, in_bytes) in
+    same_number_lists (part log (slot + k) n) (part bytes k n) (long ∙ sym also) (λ j below.
+    let lt : j < n = omega (arith, below, long) in
+    let at : slot + k + j ≡ slot + (k + j) = omega arith in
+    get_or-take n (drop (slot + k) log) j 0 lt ∙ get_or-drop (slot + k) log j 0
+    ∙ ap (λ i. get_or log i 0) at ∙ agrees.same (k + j) (omega (arith, le)) (omega (arith, lt, within))
+    ∙ sym (get_or-take n (drop k bytes) j 0 lt ∙ get_or-drop k bytes j 0))
+
+module _ (sum : List ℕ → ℕ) (size : ℕ) (site : SegmentPosition) (log bytes : List ℕ) (from to : ℕ) (agrees : Agrees log site.slot bytes from to) (short : to ≤ size)
+    (place_begins : site.place % size ≡ 0) (slot_begins : site.slot % size ≡ 0) (slot_small : site.slot + size < 2 ^ 63) (number_small : site.place / size < 2 ^ 63) where
+  abbrev number : ℕ
+  number = site.place / size
+
+  -- One that has ended.
+  module _ (r : Reserved) (stands : Stands sum number bytes r) (behind : from ≤ r.from) (within : r.from + r.len ≤ to) where
     abbrev body : List ℕ
     body = body_in bytes r
 
-    -- its bytes in the file are its record
-    text_there : part log (site.slot + r.from) r.len ≡ short_record sum r.kind r.page number body
-    text_there =
-        same r.from r.len behind within ∙ stands.is
-        ∙ ap (λ (o : Bool). if o then placeholder (short_record sum r.kind r.page number body) else short_record sum r.kind r.page number body) is_closed
+    text_there : part log (site.slot + r.from) r.len ≡ text_as sum r.kind r.page number body r.state
+    text_there = same_part log site.slot bytes from to agrees r.from r.len behind within ∙ stands.is
 
     offset : (site.slot + r.from) % size ≡ r.from
-    offset = aligned_offset site.slot r.from size aligned (let h = stands.headed in let l = stands.long in omega (arith, within, short, h, l))
+    offset = aligned_offset site.slot r.from size slot_begins (let h = stands.headed in let l = stands.long in omega (arith, within, short, h, l))
 
-    -- one of them
-    one_stands : MessageStands sum size log (site.slot + r.from) number (message_in site bytes r)
-    one_stands =
-        let long = stands.long in
-        let body_short : length body ≤ r.len = omega (arith, length-take (r.len - r.header_len) (drop (r.from + r.header_len) bytes)) in
-        let record_of = short_is_record sum r.kind r.page number body stands.valid stands.page (omega (arith, number_small)) (omega (arith, body_short, within, short, slot_small)) in
+    body_short : length body ≤ r.len
+    body_short = let long = stands.long in omega (arith, length-take (r.len - r.header_len) (drop (r.from + r.header_len) bytes))
+
+    -- it is a record of a kind
+    as_record : (k : MessageKind) → k ≢ kind.Corrupted → IsRecord sum (short_record sum k r.page number body) k r.page number body
+    as_record k valid = short_is_record sum k r.page number body valid stands.page (omega (arith, number_small)) (omega (arith, body_short, within, short, slot_small))
+
+    abbrev header_as : List ℕ → MessageKind → MessageHeader
+    header_as head k = record { crc32 = flipped (sum (body ++ drop 4 head)); kind = k; segment_number = record { 0 = number }; pid = r.page; len = length body }
+
+    -- that stands in the file
+    record_stands : (k : MessageKind) (valid : k ≢ kind.Corrupted) → part log (site.slot + r.from) r.len ≡ short_record sum k r.page number body
+        → StandsAt sum size log (site.slot + r.from) number (header_as (as_record k valid).header k) body r.len
+    record_stands k valid there =
+        let in_file = agrees.in_file in
+        let is = as_record k valid in
         record {
-          header = record { crc32 = flipped (sum (body ++ drop 4 record_of.header)); kind = r.kind; segment_number = record { 0 = number }; pid = r.page; len = length body };
-          stands = record {
-            header = record_of.header;
-            spelled = record_of.spelled;
-            is = text_there ∙ record_of.is;
-            counted = refl;
-            numbered = refl;
-            summed = refl;
-            valid = stands.valid;
-            in_file = omega (arith, within, in_file);
-            in_slot = omega (arith, offset, within, short);
-            small = omega (arith, within, short, slot_small);
-          };
+          header = is.header;
+          spelled = is.spelled;
+          is = there ∙ is.is;
+          counted = refl;
+          numbered = refl;
+          summed = refl;
+          valid = valid;
+          in_file = omega (arith, within, in_file);
+          in_slot = omega (arith, offset, within, short);
+          small = omega (arith, within, short, slot_small);
+        }
+
+    -- completed, it is that of its message
+    pub one_stands : r.state ≡ Completed → MessageStands sum size log (site.slot + r.from) number (message_in site bytes r)
+    one_stands is =
+        let there : part log (site.slot + r.from) r.len ≡ short_record sum r.kind r.page number body = text_there ∙ ap (text_as sum r.kind r.page number body) is in
+        record {
+          header = header_as (as_record r.kind stands.valid).header r.kind;
+          stands = record_stands r.kind stands.valid there;
           known = stands.known;
-          short = text_there;
+          short = there;
           page = refl;
         }
 
-  -- all of them
-  pub buffer_stands : (at : ℕ) (rs : List Reserved) → from ≤ at → IsChain at rs (length bytes) → All (Stands sum (site.place / size) bytes) rs → All (λ r. r.from + 32 ≤ size) rs → none_open rs ≡ true
-      → StandIn sum size log site at (completed_in site bytes rs) (length bytes)
-  buffer_stands at [] behind chain stand room closed = sym chain
-  buffer_stands at (r ∷ rs) behind chain stand room closed =
-      let split = closed_split r.is_open (none_open rs) closed in
-      let place : r.from ≡ at = chain.0 in
-      let grows : at + r.len ≤ length bytes = chain_grows (at + r.len) (length bytes) rs chain.1 in
+    -- in the segment of its place
+    pub one_inline : r.state ≡ Completed → r.from + 32 ≤ size → MessageStands sum size log (site.slot + r.from) ((site.place + r.from) / size) (message_in site bytes r)
+    one_inline is room =
+        let place : number ≡ (site.place + r.from) / size = sym (aligned_number site.place r.from size place_begins (omega (arith, room))) in
+        subst (λ n. MessageStands sum size log (site.slot + r.from) n (message_in site bytes r)) place (one_stands is)
+
+    -- and below the end, at its pointer
+    one_own : r.state ≡ Completed → 20 ≤ r.from → r.from + 32 ≤ size → StandsOwn sum size log site to (message_in site bytes r)
+    one_own is headed room = (
+      site.slot + r.from,
+      refl,
+      record {
+        at = r.from;
+        place = refl;
+        offset = refl;
+        begins = record { behind_header = omega (arith, offset, headed); before_end = omega (arith, offset, room) };
+        stands = one_inline is room;
+        inside = within;
+      },
+    )
+
+    -- aborted, it is passed over
+    one_skips : r.state ≡ Canceled → IsMet sum size log (site.slot + r.from) number (met_as Canceled (message_in site bytes r))
+    unfolding IsMet
+    one_skips is =
+        let valid : kind.Canceled ≢ kind.Corrupted = λ same. cc in
+        (header_as (as_record kind.Canceled valid).header kind.Canceled, body, record_stands kind.Canceled valid (text_there ∙ ap (text_as sum r.kind r.page number body) is), refl)
+
+    met_by : (s : ReservationState) → r.state ≡ s → (s ≡ Open → ⊥) → IsMet sum size log (site.slot + r.from) number (met_as s (message_in site bytes r))
+    met_by Open is not_open = absurd (not_open refl)
+    met_by Completed is not_open = is_met sum size log (site.slot + r.from) number (message_in site bytes r) (one_stands is) refl
+    met_by Canceled is not_open = one_skips is
+
+  -- They are met one behind another.
+  pub path_in : (at : ℕ) (rs : List Reserved) → from ≤ at → IsChain at rs to → All (Stands sum number bytes) rs → All (λ r. r.from + 32 ≤ size) rs → none_open rs ≡ true
+      → IsPath sum size log site.slot site.place at (met_in site bytes rs) to
+  path_in at [] behind chain stand room closed = sym chain
+  path_in at (r ∷ rs) behind chain stand room closed =
+      let ended = by_first r.state rs closed in
+      let here : r.from ≡ at = chain.0 in
+      let grows : at + r.len ≤ to = chain_grows (at + r.len) to rs chain.1 in
       let has_room : r.from + 32 ≤ size = room 0 r (omega arith) in
-      let here = one_stands r (stand 0 r (omega arith)) split.0 (omega (arith, place, behind)) (omega (arith, place, grows)) in
-      let rest = buffer_stands (at + r.len) rs (omega (arith, behind)) chain.1 (All-tail (Stands sum (site.place / size) bytes) r rs stand) (All-tail (λ (x : Reserved). x.from + 32 ≤ size) r rs room) split.1 in
-      let first : completed_in site bytes (r ∷ rs) ≡ message_in site bytes r ∷ completed_in site bytes rs =
-      ap (λ (o : Bool). if o then completed_in site bytes rs else message_in site bytes r ∷ completed_in site bytes rs) split.0 in
-      subst (λ (ms : List Message). StandIn sum size log site at ms (length bytes)) (sym first) (
-        omega (arith, place, has_room),
-        ap (λ n. site.place + n) place,
-        ap (λ n. Inline (site.slot + n)) place,
-        subst (λ n. MessageStands sum size log (site.slot + n) (site.place / size) (message_in site bytes r)) place here,
-        rest,
+      let met = met_by r (stand 0 r (omega arith)) (omega (arith, here, behind)) (omega (arith, here, grows)) r.state refl ended.0 in
+      let its_place : (met_as r.state (message_in site bytes r)).place ≡ site.place + r.from = met_place r.state (message_in site bytes r) in
+      let its_len : (met_as r.state (message_in site bytes r)).len ≡ r.len = met_len r.state (message_in site bytes r) in
+      let rest = path_in (at + r.len) rs (omega (arith, behind)) chain.1 (All-tail (Stands sum number bytes) r rs stand) (All-tail (λ (x : Reserved). x.from + 32 ≤ size) r rs room) ended.1 in (
+        omega (arith, here, has_room),
+        its_place ∙ ap (λ n. site.place + n) here,
+        subst (λ n. IsMet sum size log (site.slot + n) number (met_as r.state (message_in site bytes r))) here met,
+        subst (λ n. IsPath sum size log site.slot site.place (at + n) (met_in site bytes rs) to) (sym its_len) rest,
       )
+    where
+      met_place : (s : ReservationState) (m : Message) → (met_as s m).place ≡ m.place
+      met_place Open m = refl
+      met_place Completed m = refl
+      met_place Canceled m = refl
 
-module _ (sum : List ℕ → ℕ) (size : ℕ) (site : SegmentPosition) (old bytes : List ℕ) (from : ℕ) (behind : from < length bytes) where
-  -- the bytes that are written are there
-  pub written_part : (k n : ℕ) → from ≤ k → k + n ≤ length bytes → part (overwritten old (site.slot + from) (drop from bytes)) (site.slot + k) n ≡ part bytes k n
-  written_part k n le within =
-      let new : List ℕ = overwritten old (site.slot + from) (drop from bytes) in
-      let at : site.slot + from + (k - from) ≡ site.slot + k = omega (arith, le) in
-      let there : from + (k - from) ≡ k = omega (arith, le) in
-      ap (λ i. part new i n) (sym at) ∙ part_laid sum size old (site.slot + from) (drop from bytes) (k - from) n (omega (arith, length-drop from bytes, le, within))
-      ∙ ap (take n) (drop-drop (k - from) from bytes) ∙ ap (λ i. part bytes i n) there
+      met_len : (s : ReservationState) (m : Message) → (met_as s m).len ≡ m.size
+      met_len Open m = refl
+      met_len Completed m = refl
+      met_len Canceled m = refl
 
-  pub written_within : site.slot + length bytes ≤ length (overwritten old (site.slot + from) (drop from bytes))
-  written_within = let within = laid_within sum size old (site.slot + from) (drop from bytes) (omega (arith, length-drop from bytes, behind)) in omega (arith, within, length-drop from bytes, behind)
+  -- The messages of those that were completed stand at their pointers.
+  pub own_in : (at : ℕ) (rs : List Reserved) → max 20 from ≤ at → IsChain at rs to → All (Stands sum number bytes) rs → All (λ r. r.from + 32 ≤ size) rs → All (StandsOwn sum size log site to) (completed_in site bytes rs)
+  own_in at [] behind chain stand room = λ k d lt. absurd (omega arith)
+  own_in at (r ∷ rs) behind chain stand room =
+      let here : r.from ≡ at = chain.0 in
+      let grows : at + r.len ≤ to = chain_grows (at + r.len) to rs chain.1 in
+      let rest = own_in (at + r.len) rs (omega (arith, behind)) chain.1 (All-tail (Stands sum number bytes) r rs stand) (All-tail (λ (x : Reserved). x.from + 32 ≤ size) r rs room) in
+      all_own (StandsOwn sum size log site to) r.state (message_in site bytes r) (completed_in site bytes rs)
+      (λ own. one_own r (stand 0 r (omega arith)) (omega (arith, here, behind)) (omega (arith, here, grows)) own (omega (arith, here, behind)) (room 0 r (omega arith))) rest
 
-  -- What was completed stands in what is written.
-  pub written_stand : (rs : List Reserved) → length bytes ≤ size → site.slot % size ≡ 0 → site.place + size < 2 ^ 63 → site.slot + size < 2 ^ 63 → IsChain (max 20 from) rs (length bytes)
-      → All (Stands sum (site.place / size) bytes) rs → All (λ r. r.from + 32 ≤ size) rs → none_open rs ≡ true
-      → StandIn sum size (overwritten old (site.slot + from) (drop from bytes)) site (max 20 from) (completed_in site bytes rs) (length bytes)
-  written_stand rs short aligned place_small slot_small chain stand room closed =
-      buffer_stands sum size site (overwritten old (site.slot + from) (drop from bytes)) bytes from written_part written_within aligned short slot_small (omega (arith, div-le_self site.place size, place_small))
-      (max 20 from) rs (omega arith) chain stand room closed
+-- The bytes that are written are there.
+module _ (old bytes : List ℕ) (slot from : ℕ) (behind : from < length bytes) where
+  abbrev asked : List ℕ
+  asked = drop from bytes
+
+  abbrev new : List ℕ
+  new = overwritten old (slot + from) asked
+
+  pub written_within : slot + length bytes ≤ length new
+  written_within = omega (arith, length-overwritten old (slot + from) asked, end_of-some (slot + from) (length asked) (omega (arith, length-drop from bytes, behind)), length-drop from bytes, behind)
+
+  pub written_agrees : Agrees new slot bytes from (length bytes)
+  written_agrees = record {
+    same = λ i le below.
+        let k : ℕ = i - from in
+        let at : slot + i ≡ slot + from + k = omega (arith, le) in
+        let there : from + k ≡ i = omega (arith, le) in
+        ap (λ j. get_or new j 0) at ∙ sym (get_or-drop (slot + from) new k 0)
+        ∙ sym (get_or-take (length asked) (drop (slot + from) new) k 0 (omega (arith, length-drop from bytes, below, le)))
+        ∙ ap (λ (l : List ℕ). get_or l k 0) (overwritten-part old (slot + from) asked) ∙ get_or-drop from bytes k 0 ∙ ap (λ j. get_or bytes j 0) there;
+    in_file = written_within;
+    in_bytes = omega arith;
+  }

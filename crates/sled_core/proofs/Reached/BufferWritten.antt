@@ -16,8 +16,7 @@ use Rattle.sled_core.specs.Recoverable.{NoHeaderOfZeros, NoMessageBegins}
 use Rattle.sled_core.specs.Tail.{least_place}
 use Rattle.sled_core.proofs.Torn.TornLemmas.{after_write}
 use Rattle.sled_core.proofs.Torn.WrittenRecords.{all_clear}
-use Rattle.sled_core.proofs.Read.StandLemmas.{ending_at}
-use Rattle.sled_core.proofs.Reached.BufferPath.{HasOnly, BeginsBehind, never_capped, ended_there, buffer_path, buffer_end, buffer_truth, buffer_header, buffer_mark, buffer_mark_below}
+use Rattle.sled_core.proofs.Reached.BufferPath.{HasOnly, BeginsBehind, ending_at, never_capped, ended_there, buffer_path, buffer_end, buffer_truth, buffer_header, buffer_mark, buffer_mark_below}
 use Rattle.sled_core.proofs.Reached.Higher.{IsBegunOrLedTo}
 use Rattle.sled_core.proofs.Reached.OneWrite.{GoesOnIn, BeginsSegment, torn_stands, written_stands}
 use Rattle.sled_core.proofs.Reached.StandsTo.{StandsTo}

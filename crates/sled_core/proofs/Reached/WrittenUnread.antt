@@ -86,17 +86,18 @@ module _ (sum : List ℕ → ℕ) (size : ℕ) (some : 256 ≤ size) (old : List
         let comes = comes_along sum size left (slot * size) (mul-mod_left slot size) place 20 z.met z.stop path at_first in
         let room = ends_old.0 in
         stands_unread now left no_more leaves same (
-            room,
-            λ h body len s.
-            elim (record_where sum size old (slot * size + from) asked now left no_more leaves {placed = placed} own slot place z.segment.mark
-                (header_left sum size old slot from asked now left no_more leaves far (pos place) z.segment.mark its) z.stop comes (omega (arith, room)) h body len s) [
-              | inl stood ↦ (
-                  let eight = long_enough sum size left (slot * size + z.stop) (place / size) h body len s in
-                  let whole = all_there sum size left (slot * size + z.stop) (place / size) h body len s in
-                  let there = in_this_file sum size old left (slot * size + z.stop) len (omega (arith, eight)) whole stood in
-                  ends_old.1 h body len (record_moved sum size left old (slot * size + z.stop) (place / size) h body len stood there s))
-              | inr write ↦ (let begins = write.begins in absurd (omega (arith, begins, before)))
-            ])
+          room,
+          λ h body len s.
+              elim (record_where sum size old (slot * size + from) asked now left no_more leaves {placed = placed} own slot place z.segment.mark
+              (header_left sum size old slot from asked now left no_more leaves far (pos place) z.segment.mark its) z.stop comes (omega (arith, room)) h body len s) [
+                | inl stood ↦ (
+                    let eight = long_enough sum size left (slot * size + z.stop) (place / size) h body len s in
+                    let whole = all_there sum size left (slot * size + z.stop) (place / size) h body len s in
+                    let there = in_this_file sum size old left (slot * size + z.stop) len (omega (arith, eight)) whole stood in
+                    ends_old.1 h body len (record_moved sum size left old (slot * size + z.stop) (place / size) h body len stood there s))
+                | inr write ↦ (let begins = write.begins in absurd (omega (arith, begins, before)))
+              ],
+        )
 
     -- All of it, where the gap has zeros.
     pub written_unread : slot * size ≤ length old → z.stop + 5 ≤ from → get_or old (slot * size + z.stop + 4) 0 ≡ 0 → StandsTo sum size new H A first reach
@@ -118,9 +119,9 @@ module _ (sum : List ℕ → ℕ) (size : ℕ) (some : 256 ≤ size) (old : List
     torn_headless now left no_more leaves {placed} own =
         stands_without sum size some old slot from asked now left inside no_more leaves (same_beside sum size some old slot from asked now left inside no_more leaves {placed = placed} own) free H A first reach is
         (λ s found here. (
-            let header = subst (λ n. IsHeader sum (part left n 20) (pos s.place) s.mark) here found.header in
-            let stood = header_stood sum size old slot from asked now left no_more leaves far {placed = placed} own (pos s.place) s.mark header in
-            free (pos s.place) s.mark (subst (λ (l : List ℕ). IsHeader sum l (pos s.place) s.mark) (sym stood) header)))
+        let header = subst (λ n. IsHeader sum (part left n 20) (pos s.place) s.mark) here found.header in
+        let stood = header_stood sum size old slot from asked now left no_more leaves far {placed = placed} own (pos s.place) s.mark header in
+        free (pos s.place) s.mark (subst (λ (l : List ℕ). IsHeader sum l (pos s.place) s.mark) (sym stood) header)))
 
     -- All of it.
     pub written_headless : slot * size ≤ length old → StandsTo sum size new H A first reach

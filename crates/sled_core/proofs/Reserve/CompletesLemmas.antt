@@ -1,17 +1,23 @@
--- A reservation that is completed becomes a message of the history, at its place, and no other one is touched.
-use Rattle.std.proofs.Common.{◌≡◌, ◌≤◌, ◌<◌, ◌+◌, ◌-◌, inl, inr, ℕ, List, ◌++◌, length, drop, sym, ◌∙◌, ap, arith, refl, subst, true, false, Bool, if◌then◌else◌, Some}
+-- A reservation that ends has its record, or one that is passed over, at its place, and no other one is touched.
+use Rattle.std.proofs.Common.{◌≡◌, ◌≤◌, ◌<◌, ◌+◌, ◌-◌, inl, inr, ℕ, List, [], ◌∷◌, ◌++◌, length, take, drop, sym, ◌∙◌, ap, arith, refl, subst, false, Some}
 use Rattle.std.specs.List.{All}
+use Rattle.std.proofs.lemmas.List.{drop-drop, take-take, take_at}
 use Rattle.sled_codec.specs.Written.{written}
-use Rattle.sled_codec.specs.Spelling.{short_header_tail}
+use Rattle.sled_codec.specs.Places.{part}
+use Rattle.sled_codec.specs.Spelling.{short_number, short_header_tail}
 use Rattle.sled_codec.specs.Record.{record_sum, short_record}
 use Rattle.sled_codec.specs.Sums.{flipped}
 use Rattle.sled_codec.specs.declared.serialization.message.LogKind.{LogKind}
 use Rattle.sled_codec.specs.declared.serialization.message.LogKind.TheVariants.{Replace, Link, Free, Skip, Corrupted}
 use Rattle.sled_codec.specs.declared.serialization.message.MessageKind.{MessageKind}
-use Rattle.sled_codec.specs.Kinds.{kind_written}
+use Rattle.sled_codec.specs.declared.serialization.message.MessageKind.TheVariants as kind
+use Rattle.sled_codec.specs.Kinds.{kind_written, code_of}
 use Rattle.sled_codec.specs.History.{ChangesPage}
+use Rattle.sled_core.specs.declared.iobuf.ReservationState.{ReservationState}
+use Rattle.sled_core.specs.declared.iobuf.ReservationState.TheVariants.{Open, Completed, Canceled}
 use Rattle.sled_core.specs.declared.iobuf.Reserved.{Reserved}
-use Rattle.sled_core.specs.Buffers.{text_in, body_in, placeholder, completing, closed, StandsAs, Stands}
+use Rattle.sled_core.specs.Buffers.{text_in, body_in, text_as, placeholder, ending, completing, canceling, ended, StandsAs, Stands}
+use Rattle.sled_core.proofs.Reserve.Parts.{mid_is}
 use Rattle.sled_core.proofs.Reserve.Ranges.{part-written_before, part-written_behind, part-written_at}
 use Rattle.sled_core.proofs.Holds.HoldsLemmas.{stands-same}
 
@@ -23,66 +29,118 @@ changes_page Free page kind is = inr (inr refl)
 changes_page Skip page kind is = cc
 changes_page Corrupted page kind is = cc
 
--- the sum and the kind, in front of what else stands in a placeholder, make the record
-record_is : (sum : List ℕ → ℕ) (number : ℕ) (r : Reserved) (body : List ℕ) → flipped r.sum ≡ record_sum sum r.kind r.page number body
-    → completing r ++ drop 5 (placeholder (short_record sum r.kind r.page number body)) ≡ short_record sum r.kind r.page number body
+-- a sum and a kind, in front of what else stands in a placeholder, make the record of that kind
+record_is : (sum : List ℕ → ℕ) (number page word : ℕ) (own k : MessageKind) (body : List ℕ) → flipped word ≡ record_sum sum k page number body
+    → ending word k ++ drop 5 (placeholder (short_record sum own page number body)) ≡ short_record sum k page number body
 unfolding short_record short_header_tail
-record_is sum number r body is = rw is refl
+record_is sum number page word own k body is = rw is refl
 
-module _ (sum : List ℕ → ℕ) (number : ℕ) (bytes : List ℕ) (r : Reserved) (within : r.from + r.len ≤ length bytes) (stands : Stands sum number bytes r) (is_open : r.is_open ≡ true) where
-  abbrev completed : List ℕ
-  completed = written bytes r.from (completing r)
+-- what is summed of a record in which a kind stands: its body, and its header behind the sum
+pub summed_around : (bytes : List ℕ) (r : Reserved) (code : ℕ) → 5 ≤ r.header_len → r.header_len ≤ r.len → r.from + r.len ≤ length bytes
+    → part (written bytes (r.from + 4) (code ∷ [])) (r.from + r.header_len) (r.len - r.header_len) ++ part (written bytes (r.from + 4) (code ∷ [])) (r.from + 4) (r.header_len - 4)
+    ≡ body_in bytes r ++ code ∷ part bytes (r.from + 5) (r.header_len - 5)
+summed_around bytes r code headed long within =
+    let new : List ℕ = written bytes (r.from + 4) (code ∷ []) in
+    let behind : List ℕ = drop (r.from + 4) bytes in
+    let body : part new (r.from + r.header_len) (r.len - r.header_len) ≡ body_in bytes r =
+    part-written_behind bytes (code ∷ []) (r.from + 4) (r.from + r.header_len) (r.len - r.header_len) (omega arith) (omega arith) in
+    let tail : part new (r.from + 4) (r.header_len - 4) ≡ code ∷ part bytes (r.from + 5) (r.header_len - 5) =
+    part-written_at bytes (code ∷ []) (r.from + 4) (r.header_len - 4) (omega arith) (omega arith)
+    ∙ ap (λ (l : List ℕ). code ∷ l) (
+    sym (mid_is behind 1 (r.header_len - 4) (omega arith)) ∙ ap (take (r.header_len - 4 - 1)) (drop-drop 1 (r.from + 4) bytes)
+    ∙ ap (λ i. part bytes i (r.header_len - 4 - 1)) (let at : r.from + 4 + 1 ≡ r.from + 5 = omega arith in at) ∙ ap (part bytes (r.from + 5)) (let count : r.header_len - 4 - 1 ≡ r.header_len - 5 = omega arith in count)) in
+    λ i. body i ++ tail i
 
-  fits : r.from + length (completing r) ≤ length bytes
-  fits = let a = stands.headed in let b = stands.long in omega (arith, a, b, within)
+-- A sum and a kind are written over the beginning of what stands in a reservation.
+module _ (sum : List ℕ → ℕ) (number : ℕ) (bytes : List ℕ) (r : Reserved) (within : r.from + r.len ≤ length bytes) (stands : Stands sum number bytes r) where
+  abbrev body : List ℕ
+  body = body_in bytes r
 
-  -- one before it
-  pub body_before : (x : Reserved) → x.from + x.len ≤ r.from → Stands sum number bytes x → body_in completed x ≡ body_in bytes x
-  body_before x before at_x = let long = at_x.long in part-written_before bytes (completing r) r.from (x.from + x.header_len) (x.len - x.header_len) (omega arith) fits
+  module _ (word : ℕ) (k : MessageKind) where
+    abbrev new : List ℕ
+    new = written bytes r.from (ending word k)
 
-  pub same_before : (x : Reserved) → x.from + x.len ≤ r.from → Stands sum number bytes x → Stands sum number completed x
-  same_before x before at_x =
-      stands-same sum number bytes completed x (part-written_before bytes (completing r) r.from x.from x.len before fits) (body_before x before at_x) at_x
+    pub fits : r.from + length (ending word k) ≤ length bytes
+    fits = let a = stands.headed in let b = stands.long in omega (arith, a, b, within)
 
-  -- one behind it
-  pub body_behind : (x : Reserved) → r.from + r.len ≤ x.from → body_in completed x ≡ body_in bytes x
-  body_behind x behind =
-      let a = stands.headed in let b = stands.long in
-      part-written_behind bytes (completing r) r.from (x.from + x.header_len) (x.len - x.header_len) (omega (arith, a, b)) fits
+    -- one before it
+    pub body_before : (x : Reserved) → x.from + x.len ≤ r.from → Stands sum number bytes x → body_in new x ≡ body_in bytes x
+    body_before x before at_x = let long = at_x.long in part-written_before bytes (ending word k) r.from (x.from + x.header_len) (x.len - x.header_len) (omega arith) fits
 
-  pub same_behind : (x : Reserved) → r.from + r.len ≤ x.from → Stands sum number bytes x → Stands sum number completed x
-  same_behind x behind at_x =
-      let a = stands.headed in let b = stands.long in
-      stands-same sum number bytes completed x (part-written_behind bytes (completing r) r.from x.from x.len (omega (arith, a, b)) fits) (body_behind x behind) at_x
+    pub same_before : (x : Reserved) → x.from + x.len ≤ r.from → Stands sum number bytes x → Stands sum number new x
+    same_before x before at_x =
+        stands-same sum number bytes new x (part-written_before bytes (ending word k) r.from x.from x.len before fits) (body_before x before at_x) at_x
 
-  -- its own body
-  pub body_own : body_in completed r ≡ body_in bytes r
-  body_own = let a = stands.headed in part-written_behind bytes (completing r) r.from (r.from + r.header_len) (r.len - r.header_len) (omega (arith, a)) fits
+    -- one behind it
+    pub body_behind : (x : Reserved) → r.from + r.len ≤ x.from → body_in new x ≡ body_in bytes x
+    body_behind x behind =
+        let a = stands.headed in let b = stands.long in
+        part-written_behind bytes (ending word k) r.from (x.from + x.header_len) (x.len - x.header_len) (omega (arith, a, b)) fits
 
-  placeholder_is : text_in bytes r ≡ placeholder (short_record sum r.kind r.page number (body_in bytes r))
-  placeholder_is = stands.is ∙ ap (λ (o : Bool). if o then placeholder (short_record sum r.kind r.page number (body_in bytes r)) else short_record sum r.kind r.page number (body_in bytes r)) is_open
+    pub same_behind : (x : Reserved) → r.from + r.len ≤ x.from → Stands sum number bytes x → Stands sum number new x
+    same_behind x behind at_x =
+        let a = stands.headed in let b = stands.long in
+        stands-same sum number bytes new x (part-written_behind bytes (ending word k) r.from x.from x.len (omega (arith, a, b)) fits) (body_behind x behind) at_x
 
-  -- what stands in it now is its record
-  text_own : text_in completed r ≡ short_record sum r.kind r.page number (body_in bytes r)
-  text_own =
-      let a = stands.headed in let b = stands.long in
-      part-written_at bytes (completing r) r.from r.len (omega (arith, a, b)) within
-      ∙ ap (λ (l : List ℕ). completing r ++ drop 5 l) placeholder_is
-      ∙ record_is sum number r (body_in bytes r) stands.summed
+    -- its own body
+    pub body_own : body_in new r ≡ body
+    body_own = let a = stands.headed in part-written_behind bytes (ending word k) r.from (r.from + r.header_len) (r.len - r.header_len) (omega (arith, a)) fits
 
-  pub closed_stands : Stands sum number completed (closed r)
-  closed_stands =
-      let as_new : StandsAs sum number (text_in completed r) (body_in bytes r) (closed r) = record {
-        headed = stands.headed;
-        long = stands.long;
-        known = stands.known;
-        valid = stands.valid;
-        page = stands.page;
-        summed = stands.summed;
-        counted = stands.counted;
-        is = text_own;
-      } in
-      subst (λ (b : List ℕ). StandsAs sum number (text_in completed r) b (closed r)) (sym body_own) as_new
+  module _ (is_open : r.state ≡ Open) where
+    placeholder_is : text_in bytes r ≡ placeholder (short_record sum r.kind r.page number body)
+    placeholder_is = stands.is ∙ ap (text_as sum r.kind r.page number body) is_open
+
+    -- with the sum of a record of a kind, that record stands in it
+    text_own : (word : ℕ) (k : MessageKind) → flipped word ≡ record_sum sum k r.page number body → text_in (written bytes r.from (ending word k)) r ≡ short_record sum k r.page number body
+    text_own word k summed =
+        let a = stands.headed in let b = stands.long in
+        part-written_at bytes (ending word k) r.from r.len (omega (arith, a, b)) within
+        ∙ ap (λ (l : List ℕ). ending word k ++ drop 5 l) placeholder_is
+        ∙ record_is sum number r.page word r.kind k body summed
+
+    ended_stands : (word : ℕ) (k : MessageKind) (state : ReservationState) → text_in (written bytes r.from (ending word k)) r ≡ text_as sum r.kind r.page number body state
+        → Stands sum number (written bytes r.from (ending word k)) (ended state r)
+    ended_stands word k state text =
+        let completed : List ℕ = written bytes r.from (ending word k) in
+        let as_new : StandsAs sum number (text_in completed r) body (ended state r) = record {
+          headed = stands.headed;
+          long = stands.long;
+          known = stands.known;
+          valid = stands.valid;
+          page = stands.page;
+          summed = stands.summed;
+          counted = stands.counted;
+          is = text;
+        } in
+        subst (λ (b : List ℕ). StandsAs sum number (text_in completed r) b (ended state r)) (sym (body_own word k)) as_new
+
+    -- What stands in it once it is completed is its record.
+    pub completed_stands : Stands sum number (written bytes r.from (completing r)) (ended Completed r)
+    completed_stands = ended_stands r.sum r.kind Completed (text_own r.sum r.kind stands.summed)
+
+    -- between its kind and its body stands what the header has there, whatever its kind
+    tail_there : code_of kind.Canceled ∷ part bytes (r.from + 5) (r.header_len - 5) ≡ short_header_tail kind.Canceled (length body) number r.page
+    unfolding short_record short_header_tail
+    tail_there =
+        let rest : List ℕ = short_number (length body) ++ short_number number ++ short_number r.page in
+        let a = stands.headed in let b = stands.long in
+        let count : r.header_len - 5 ≡ length rest = let is = stands.counted in omega (arith, is) in
+        let behind : List ℕ = drop r.from bytes in
+        ap (λ (l : List ℕ). code_of kind.Canceled ∷ l) (
+        ap (take (r.header_len - 5)) (sym (drop-drop 5 r.from bytes))
+        ∙ sym (take-take (r.header_len - 5) (r.len - 5) (drop 5 behind) (omega (arith, b)))
+        ∙ ap (take (r.header_len - 5)) (mid_is behind 5 r.len (omega (arith, a, b)))
+        ∙ ap (λ (l : List ℕ). take (r.header_len - 5) (drop 5 l)) placeholder_is
+        ∙ ap (λ n. take n (rest ++ body)) count
+        ∙ take_at rest body (length rest) refl)
+
+    pub text_canceled : text_in (written bytes r.from (canceling sum bytes r)) r ≡ short_record sum kind.Canceled r.page number body
+    unfolding record_sum
+    text_canceled = text_own (sum (body ++ code_of kind.Canceled ∷ part bytes (r.from + 5) (r.header_len - 5))) kind.Canceled (ap (λ (l : List ℕ). flipped (sum (body ++ l))) tail_there)
+
+    -- And once it is aborted it is one that is passed over.
+    pub canceled_stands : Stands sum number (written bytes r.from (canceling sum bytes r)) (ended Canceled r)
+    canceled_stands = ended_stands (sum (body ++ code_of kind.Canceled ∷ part bytes (r.from + 5) (r.header_len - 5))) kind.Canceled Canceled text_canceled
 
 -- what stands in a reservation has a length
 pub some_long : (sum : List ℕ → ℕ) (number : ℕ) (bytes : List ℕ) (rs : List Reserved) → All (Stands sum number bytes) rs → All (λ x. 0 < x.len) rs

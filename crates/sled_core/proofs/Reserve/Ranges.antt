@@ -1,16 +1,19 @@
 -- Reservations that lie one behind another: what stands in them stays where bytes are put behind them, and where another one is completed.
-use Rattle.std.proofs.Common.{◌≡◌, ◌≤◌, ◌<◌, ◌+◌, ℕ, zero, suc, List, [], ◌∷◌, ◌++◌, length, take, drop, sym, ◌∙◌, ap, arith, refl, subst, length-append, length-take, length-drop, true, false, if◌then◌else◌, rules, Some, set, ◌⊎◌, inl, inr}
-use Rattle.std.specs.List.{All, slice_get}
+use Rattle.std.proofs.Common.{◌≡◌, ◌≤◌, ◌<◌, ◌+◌, ℕ, zero, suc, List, [], ◌∷◌, ◌++◌, length, take, drop, sym, ◌∙◌, ap, arith, refl, subst, length-append, length-take, length-drop, rules, Some, set, ◌⊎◌, inl, inr}
+use Rattle.std.specs.List.{All, Contains, slice_get}
 use Rattle.std.proofs.lemmas.List.{drop-append-le, take-append-le, same_lists, places}
 use Rattle.std.proofs.lemmas.Option.{slice_get_within}
 use Rattle.std.proofs.lemmas.List.Elements.{All-cons, All-tail}
 use Rattle.sled_codec.specs.Places.{part}
 use Rattle.sled_codec.specs.Written.{written}
 use Rattle.sled_codec.specs.History.{Message}
+use Rattle.sled_core.specs.declared.iobuf.ReservationState.{ReservationState}
+use Rattle.sled_core.specs.declared.iobuf.ReservationState.TheVariants.{Open, Completed, Canceled}
 use Rattle.sled_core.specs.declared.iobuf.Reserved.{Reserved}
 use Rattle.sled_core.specs.declared.iobuf.SegmentPosition.{SegmentPosition}
+use Rattle.sled_store.proofs.Segments.Elements.{in_cases, in_rest}
 use Rattle.sled_core.proofs.Reserve.Parts.{get_there}
-use Rattle.sled_core.specs.Buffers.{body_in, message_in, IsChain, completed_in}
+use Rattle.sled_core.specs.Buffers.{body_in, message_in, IsChain, completed_in, with_own}
 
 -- a part stays when bytes are put behind the text
 pub part-append : (xs ys : List ℕ) (at n : ℕ) → at + n ≤ length xs → part (xs ++ ys) at n ≡ part xs at n
@@ -33,6 +36,36 @@ pub part-written_at : (buf xs : List ℕ) (k n : ℕ) → length xs ≤ n → k 
 part-written_at buf xs k n within fits =
     same_lists _ _ (search (rules, places)) (λ j d h. grind (arith, places))
 
+-- what is written over again is as if it were written once
+pub written-over : (buf xs ys : List ℕ) (j k : ℕ) → k ≤ j → j + length xs ≤ k + length ys → k + length ys ≤ length buf → written (written buf j xs) k ys ≡ written buf k ys
+written-over buf xs ys j k begins ends fits =
+    same_lists _ _ (search (rules, places)) (λ i d h. grind (arith, places))
+
+-- The message of a reservation that was completed, before those of the others.
+
+own-append : (s : ReservationState) (m : Message) (xs ys : List Message) → with_own s m (xs ++ ys) ≡ with_own s m xs ++ ys
+own-append Open m xs ys = refl
+own-append Completed m xs ys = refl
+own-append Canceled m xs ys = refl
+
+-- what holds of it, if it was completed, and of the others holds of all
+pub all_own : (P : Message → Type 0) (s : ReservationState) (m : Message) (ms : List Message) → (s ≡ Completed → P m) → All P ms → All P (with_own s m ms)
+all_own P Open m ms own all = all
+all_own P Completed m ms own all = All-cons P m ms (own refl) all
+all_own P Canceled m ms own all = all
+
+-- one of all is it, and then it was completed, or one of the others
+pub own_cases : (s : ReservationState) (m : Message) (ms : List Message) (x : Message) → Contains (with_own s m ms) x → ((s ≡ Completed) × (m ≡ x)) ⊎ Contains ms x
+own_cases Open m ms x there = inr there
+own_cases Completed m ms x there = elim (in_cases m x ms there) [ inl is ↦ inl (refl, is) | inr later ↦ inr later ]
+own_cases Canceled m ms x there = inr there
+
+-- the others are among all
+pub own_rest : (s : ReservationState) (m : Message) (ms : List Message) (x : Message) → Contains ms x → Contains (with_own s m ms) x
+own_rest Open m ms x there = there
+own_rest Completed m ms x there = in_rest m x ms there
+own_rest Canceled m ms x there = there
+
 -- Messages that stand in the same bytes are the same.
 pub completed-same : (site : SegmentPosition) (old new : List ℕ) (rs : List Reserved) → All (λ r. body_in new r ≡ body_in old r) rs → completed_in site new rs ≡ completed_in site old rs
 completed-same site old new [] all = refl
@@ -40,13 +73,13 @@ completed-same site old new (r ∷ rs) all =
     let rest : completed_in site new rs ≡ completed_in site old rs = completed-same site old new rs (All-tail (λ x. body_in new x ≡ body_in old x) r rs all) in
     let here : body_in new r ≡ body_in old r = all 0 r (omega arith) in
     let message : message_in site new r ≡ message_in site old r = ap (λ (l : List ℕ). record (message_in site old r) { bytes = l }) here in
-    elim r.is_open as (λ o. (if o then completed_in site new rs else message_in site new r ∷ completed_in site new rs) ≡ (if o then completed_in site old rs else message_in site old r ∷ completed_in site old rs)) [ true ↦ rest | false ↦ (cc) ]
+    λ i. with_own r.state (message i) (rest i)
 
 pub completed-append : (site : SegmentPosition) (bytes : List ℕ) (xs ys : List Reserved) → completed_in site bytes (xs ++ ys) ≡ completed_in site bytes xs ++ completed_in site bytes ys
 completed-append site bytes [] ys = refl
 completed-append site bytes (x ∷ xs) ys =
     let rest : completed_in site bytes (xs ++ ys) ≡ completed_in site bytes xs ++ completed_in site bytes ys = completed-append site bytes xs ys in
-    elim x.is_open as (λ o. (if o then completed_in site bytes (xs ++ ys) else message_in site bytes x ∷ completed_in site bytes (xs ++ ys)) ≡ (if o then completed_in site bytes xs else message_in site bytes x ∷ completed_in site bytes xs) ++ completed_in site bytes ys) [ true ↦ rest | false ↦ ap (λ (l : List Message). message_in site bytes x ∷ l) rest ]
+    ap (with_own x.state (message_in site bytes x)) rest ∙ own-append x.state (message_in site bytes x) (completed_in site bytes xs) (completed_in site bytes ys)
 
 -- one reservation more
 pub chain-append : (from end : ℕ) (rs : List Reserved) (r : Reserved) → IsChain from rs end → r.from ≡ end → IsChain from (rs ++ r ∷ []) (end + r.len)
@@ -103,8 +136,7 @@ completed_between site bytes from end (r ∷ rs) is some =
     let Between : ℕ → Message → Type 0 = λ n m. (site.place + n ≤ m.place) × (m.place < site.place + end) × (m.place + m.size ≤ site.place + end) in
     let rest : All (Between (from + r.len)) (completed_in site bytes rs) = completed_between site bytes (from + r.len) end rs is.1 (All-tail (λ x. 0 < x.len) r rs some) in
     let later : All (Between from) (completed_in site bytes rs) = λ k d lt. let b = rest k d lt in (omega (arith, b.0), b.1, b.2) in
-    elim r.is_open as (λ o. All (Between from) (if o then completed_in site bytes rs else message_in site bytes r ∷ completed_in site bytes rs))
-    [ true ↦ later | false ↦ All-cons (Between from) (message_in site bytes r) (completed_in site bytes rs) (omega arith, omega arith, omega arith) later ]
+    all_own (Between from) r.state (message_in site bytes r) (completed_in site bytes rs) (λ own. (omega arith, omega arith, omega arith)) later
 
 -- what holds of each holds of those in front, of the one between and of those behind
 pub all_split : {X : Type 0} (P : X → Type 0) (xs ys : List X) (x : X) → All P (xs ++ x ∷ ys) → All P xs × P x × All P ys

@@ -1,6 +1,7 @@
 //! How a record is laid out at the end of a segment's bytes. Until it is completed it has zeros in place
 //! of its sum and its kind.
 ghost use Rattle.std.specs.Prelude.{◌≡◌, ◌+◌, ◌-◌, ◌≤◌, ◌<◌, ◌^◌, ◌++◌, ◌∷◌, [], length, take, drop, vec_capacity};
+ghost use Rattle.sled_codec.specs.Places.{part};
 ghost use Rattle.sled_codec.specs.Spelling.{low_bytes, short_header_tail};
 ghost use Rattle.sled_core.specs.Buffers.{placeholder_head};
 
@@ -100,5 +101,27 @@ pub(crate) fn sum_behind<C: Checksum>(
     push_bytes(bytes, tail);
     let sum = checksum.sum(&bytes[from..]);
     bytes.truncate(end);
+    sum
+}
+
+/// The sum of a record in a text: of its body, and of its header behind the sum. That is turned behind the
+/// body for it, so that no memory is taken, and back again.
+pub(crate) fn sum_around<C: Checksum>(
+    checksum: &C,
+    bytes: &mut Vec<u8>,
+    from: usize,
+    header_len: usize,
+    len: usize,
+) -> u32
+    requires headed { 4 ≤ header_len }
+    requires long { header_len ≤ len }
+    requires within { from + len ≤ length bytes.old.items }
+    ensures sum { result ≡ C.sum_of (part bytes.old.items (from + header_len) (len - header_len) ++ part bytes.old.items (from + 4) (header_len - 4)) }
+    ensures bytes { bytes.new.items ≡ bytes.old.items }
+{
+    let summed = &mut bytes[from + 4..from + len];
+    summed.rotate_left(header_len - 4);
+    let sum = checksum.sum(summed);
+    summed.rotate_right(header_len - 4);
     sum
 }

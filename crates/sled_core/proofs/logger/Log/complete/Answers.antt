@@ -4,8 +4,9 @@ use Rattle.std.proofs.lemmas.Option.{slice_get_within}
 use Rattle.std.specs.List.{slice_get}
 use Rattle.sled_codec.specs.History.{Message, AddsMessage, Step}
 use Rattle.sled_store.specs.Device.{state_of}
+use Rattle.sled_core.specs.declared.iobuf.ReservationState.TheVariants.{Completed}
 use Rattle.sled_core.specs.declared.iobuf.Reserved.{Reserved}
-use Rattle.sled_core.specs.Buffers.{message_in, none_open, closed}
+use Rattle.sled_core.specs.Buffers.{message_in, none_open, ended}
 use Rattle.sled_core.specs.Tickets.{index_of}
 use Rattle.sled_core.specs.Fits.{Holds}
 use Rattle.sled_core.specs.Running.{Fits}
@@ -38,7 +39,7 @@ returns-clause-others g c = λ H other m holds awaits apart.
     let x : Reserved = awaits.reserved in
     let there : slice_get old.reserved.items c.index-index.result ≡ Some r = ap (slice_get old.reserved.items) c.index-index.ensures ∙ own.there in
     let elsewhere : x.from ≡ r.from → ⊥ = λ same. apart (awaits.own.place ∙ ap (λ n. pos (c.args.self.now.site.place + n)) same ∙ sym own.own.place) in
-    let stay = others_stay g.C.Checksum.sum_of c.args.self.now.config.config.segment_size c.args.self.now.site (state_of (g.D.Device.trace c.args.self.now.config.device)) c.args.self.now.fault old.bytes.items old.written_len old.reserved.items c.index-index.result (index_of other) r x H holds there own.own.open_yet awaits.there elsewhere in
+    let stay = others_stay g.C.Checksum.sum_of c.args.self.now.config.config.segment_size c.args.self.now.site (state_of (g.D.Device.trace c.args.self.now.config.device)) c.args.self.now.fault old.bytes.items old.written_len old.reserved.items c.index-index.result (index_of other) r x H r.sum r.kind Completed holds there awaits.there elsewhere in
     record {
       reserved = x;
       there = ap (λ (l : List Reserved). slice_get l (index_of other)) (c.complete.ensures.reserved r there) ∙ stay.0;
@@ -69,7 +70,7 @@ returns-clause-ended g c = λ only.
     let own = c.requires.1 in
     let there : slice_get rs c.index-index.result ≡ Some own.reserved = ap (slice_get rs) c.index-index.ensures ∙ own.there in
     ap none_open (c.complete.ensures.reserved own.reserved there)
-    ∙ only_closed rs c.index-index.result (closed own.reserved) refl (λ j r at is. only j r at is ∙ sym c.index-index.ensures)
+    ∙ only_closed rs c.index-index.result (ended Completed own.reserved) (λ same. cc) (λ j r at is. only j r at is ∙ sym c.index-index.ensures)
 
 pub returns-clause-fits : goal.returns-clause-fits
 unfolding Fits Holds Step

@@ -1,0 +1,25 @@
+-- What an aborted message leaves: a record that every reader passes over.
+use Rattle.std.specs.Prelude.{◌≡◌, ◌+◌, ◌-◌, ◌/◌, ◌≤◌, ℕ, List, [], ◌∷◌, length}
+use Rattle.sled_codec.specs.declared.result.DiskPtr.TheVariants.{Inline}
+use Rattle.sled_codec.specs.declared.serialization.message.MessageKind.TheVariants as kind
+use Rattle.sled_codec.specs.History.{Message}
+use Rattle.sled_codec.specs.Places.{part}
+use Rattle.sled_codec.specs.Record.{short_record}
+use Rattle.sled_store.specs.Device.{Wrote, Synced}
+use Rattle.sled_core.specs.declared.logger.Log.{Log}
+use Rattle.sled_core.specs.Fits.{flushing, segment_size_of}
+
+-- the record that stands for a message that was given up
+abbrev pub canceled_record : (List ℕ → ℕ) → ℕ → Message → List ℕ
+canceled_record sum size m = short_record sum kind.Canceled m.page (m.place / size) m.bytes
+
+-- The next flush writes that record where the message was to lie, as long as the message's own.
+pub record WritesCanceled {D C : Type 0} (sum : List ℕ → ℕ) (log : Log D C) (m : Message) : Type 0 where
+  pub at : ℕ
+  pub bytes : List ℕ
+  pub flush : flushing log ≡ Wrote at bytes bytes ∷ Synced ∷ []
+  pub lid : ℕ
+  pub pointer : m.pointer ≡ Inline lid
+  pub behind : at ≤ lid
+  pub whole : part bytes (lid - at) m.size ≡ canceled_record sum (segment_size_of log) m
+  pub long : length (canceled_record sum (segment_size_of log) m) ≡ m.size
