@@ -1,5 +1,5 @@
 -- The current buffer: which records and which placeholders stand in it, and which messages these are.
-use Rattle.std.specs.Prelude.{suc, ◌≡◌, ◌≢◌, ◌+◌, ◌-◌, ◌≤◌, ◌<◌, ◌^◌, ℕ, Bool, true, false, if◌then◌else◌, List, [], ◌∷◌, ◌++◌, length, drop, replicate, Some}
+use Rattle.std.specs.Prelude.{suc, ◌≡◌, ◌≢◌, ◌+◌, ◌-◌, ◌≤◌, ◌<◌, ◌^◌, ℕ, Bool, true, false, if◌then◌else◌, List, [], ◌∷◌, ◌++◌, length, drop, replicate, Option, None, Some}
 use Rattle.sled_codec.specs.declared.result.DiskPtr.TheVariants.{Inline}
 use Rattle.sled_codec.specs.declared.serialization.message.MessageKind.{MessageKind}
 use Rattle.sled_codec.specs.declared.serialization.message.MessageKind.TheVariants as kind
@@ -107,6 +107,15 @@ none_open (r ∷ rs) = if open_state r.state then false else none_open rs
 abbrev pub open_in : List Reserved → ℕ
 open_in [] = 0
 open_in (r ∷ rs) = if open_state r.state then suc (open_in rs) else open_in rs
+
+-- where the first one that is open begins in its segment
+abbrev pub first_open_in : List Reserved → Option ℕ
+first_open_in [] = None
+first_open_in (r ∷ rs) = if open_state r.state then Some r.from else first_open_in rs
+
+-- how many reservations of a buffer may be open
+abbrev pub most_open : ℕ
+most_open = 127
 
 -- the end of what was reserved: of all the bytes, where something was reserved since they were written
 abbrev pub end_reserved : ℕ → ℕ → List Reserved → ℕ

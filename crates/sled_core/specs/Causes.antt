@@ -1,11 +1,12 @@
 -- Why a call of a log failed.
-use Rattle.std.specs.Prelude.{◌≡◌, ◌⊎◌, [], ◌+◌, ◌%◌, ◌^◌, ℕ, ℤ, List, Option, None, Some, Result, Ok, Err, IsTrue, IsSome}
+use Rattle.std.specs.Prelude.{◌≡◌, ◌⊎◌, [], ◌+◌, ◌<◌, ◌%◌, ◌^◌, ℕ, ℤ, List, Option, None, Some, Result, Ok, Err, IsTrue, IsSome}
 use Rattle.std.specs.declared.io.Error.{Error as IoError}
 use Rattle.sled_codec.specs.declared.result.Error.{Error}
 use Rattle.std.specs.String.{string_bytes}
-use Rattle.sled_codec.specs.declared.result.Error.TheVariants.{Io, OutOfMemory, Unsupported, Corruption}
+use Rattle.sled_codec.specs.declared.result.Error.TheVariants.{Io, OutOfMemory, Unsupported, Held, Corruption}
 use Rattle.sled_codec.specs.declared.serialization.message.MessageKind.{MessageKind}
 use Rattle.sled_store.specs.Answers.{is_fault}
+use Rattle.sled_core.specs.Buffers.{most_open}
 use Rattle.sled_store.specs.Blobs.{NamesDamage}
 
 -- The log kept this failure of the device from an earlier call, or the device failed in this call, and the log keeps that.
@@ -26,13 +27,14 @@ FaultAnswers (Ok _) fault = fault ≡ None
 FaultAnswers (Err (Io e)) fault = fault ≡ Some e
 FaultAnswers (Err _) fault = ⊥
 
--- A reservation: the failure that the log keeps comes first, then a kind that the page has no messages of, with an empty text, and then want of memory.
-abbrev pub ReserveAnswers : {T : Type 0} → Result T Error → Option IoError → Option MessageKind → Type 0
-ReserveAnswers (Ok _) fault kind = (fault ≡ None) × IsSome kind
-ReserveAnswers (Err (Io e)) fault kind = fault ≡ Some e
-ReserveAnswers (Err (Unsupported text)) fault kind = (fault ≡ None) × (kind ≡ None) × (string_bytes text ≡ [])
-ReserveAnswers (Err OutOfMemory) fault kind = (fault ≡ None) × IsSome kind
-ReserveAnswers (Err _) fault kind = ⊥
+-- A reservation, where so many are open: the failure that the log keeps comes first, then a kind that the page has no messages of, with an empty text, then that no further one may be open, with the least place of those that are, and then want of memory.
+abbrev pub ReserveAnswers : {T : Type 0} → Result T Error → Option IoError → Option MessageKind → ℕ → (ℤ → Type 0) → Type 0
+ReserveAnswers (Ok _) fault kind open_count least = (fault ≡ None) × IsSome kind × (open_count < most_open)
+ReserveAnswers (Err (Io e)) fault kind open_count least = fault ≡ Some e
+ReserveAnswers (Err (Unsupported text)) fault kind open_count least = (fault ≡ None) × (kind ≡ None) × (string_bytes text ≡ [])
+ReserveAnswers (Err (Held at)) fault kind open_count least = (fault ≡ None) × IsSome kind × (open_count ≡ most_open) × least at
+ReserveAnswers (Err OutOfMemory) fault kind open_count least = (fault ≡ None) × IsSome kind × (open_count < most_open)
+ReserveAnswers (Err _) fault kind open_count least = ⊥
 
 -- A call that reads bytes: it wants no memory, a failure of the device is counted and answered, and damage comes only where this is so.
 abbrev pub ReaderAnswers : {T : Type 0} → Result T Error → Type 0 → ℕ → ℕ → Type 0

@@ -16,7 +16,7 @@ use Rattle.sled_core.specs.declared.iobuf.SegmentPosition.{SegmentPosition}
 use Rattle.sled_core.specs.declared.reservation.Reservation.{Reservation}
 use Rattle.sled_core.specs.declared.logger.Log.{Log}
 use Rattle.sled_store.specs.declared.config.RunningConfig.{RunningConfig}
-use Rattle.sled_core.specs.Buffers.{Stands, IsChain, completed_in, message_in, none_open, end_reserved, record_size}
+use Rattle.sled_core.specs.Buffers.{Stands, IsChain, completed_in, message_in, none_open, open_in, first_open_in, end_reserved, record_size}
 use Rattle.sled_core.specs.LogFile.{IsLogFile}
 use Rattle.sled_core.specs.Tickets.{index_of, IsFor}
 
@@ -25,6 +25,14 @@ use Rattle.sled_core.specs.Tickets.{index_of, IsFor}
 -- the failure of the device that it keeps
 abbrev pub fault_of : {D C : Type 0} → Log D C → Option IoError
 fault_of log = log.fault
+
+-- how many reservations of the current buffer are open or abandoned
+abbrev pub open_of : {D C : Type 0} → Log D C → ℕ
+open_of log = open_in log.buffer.reserved.items
+
+-- this is the least place of these
+abbrev pub IsLeastOpen : {D C : Type 0} → Log D C → ℤ → Type 0
+IsLeastOpen log place = (from : ℕ) × (first_open_in log.buffer.reserved.items ≡ Some from) × (place ≡ pos (log.site.place + from))
 
 -- where the current segment lies
 abbrev pub site_of : {D C : Type 0} → Log D C → SegmentPosition

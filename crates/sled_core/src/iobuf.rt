@@ -1,19 +1,22 @@
 //! The bytes of the segment that is being filled. The current buffer is the part of them that was not
 //! written yet, and the reservations in it lie one behind another.
-ghost use Rattle.std.specs.Prelude.{◌≡◌, ◌+◌, ◌-◌, ◌<◌, ◌≤◌, ◌^◌, ◌++◌, ◌∷◌, [], ℕ, List, true, false, length, take, drop, set, replicate, vec_len, vec_capacity, slice_get, OnOk, OnErr, IfOk, IsOkUnless, All, Some};
+ghost use Rattle.std.specs.Prelude.{◌≡◌, ◌+◌, ◌-◌, ◌<◌, ◌≤◌, ◌^◌, ◌++◌, ◌∷◌, [], ℕ, List, true, false, length, take, drop, set, replicate, vec_len, vec_capacity, slice_get, OnOk, OnErr, IfOk, IsOkUnless, IsTrue, ◌↔◌, pos, All, Some};
 ghost use Rattle.sled_codec.specs.Written.{written};
 ghost use Rattle.sled_core.specs.declared.iobuf.Reserved.{Reserved};
-ghost use Rattle.sled_core.specs.Buffers.{canceling, completing, ended, ending, open_in, open_state, placeholder_head, reserved_for};
+ghost use Rattle.sled_core.specs.Buffers.{canceling, completing, ended, ending, first_open_in, most_open, open_in, open_state, placeholder_head, reserved_for};
 
 pub mod intervals;
 pub(crate) mod record;
 pub(crate) mod start;
 
 use crate::iobuf::record::{Head, push_item, push_placeholder, sum_around, sum_behind};
-use sled_codec::result::{Error, LogOffset, PageId, Result};
+use sled_codec::result::{Error, LogOffset, Lsn, PageId, Result};
 use sled_codec::serialization::{Checksum, LogKind, MessageKind, Serialize};
 use sled_store::segment::MAX_MSG_HEADER_LEN;
 use std::alloc::Global;
+
+/// How many reservations of a buffer may be open.
+pub(crate) const MAX_WRITERS: usize = 127;
 
 /// Where a segment lies.
 #[derive(Debug, Clone, Copy)]
@@ -101,6 +104,7 @@ pub(crate) struct IoBuf {
     ghost within: { All (λ r. r.from + r.len ≤ length bytes.items) reserved.items },
     ghost headed: { All (λ r. (5 ≤ r.header_len) × (r.header_len ≤ r.len)) reserved.items },
     ghost counted: { open_count ≡ open_in reserved.items },
+    ghost few: { open_count ≤ most_open },
 }
 
 impl IoBuf {
@@ -147,6 +151,25 @@ impl IoBuf {
         self.open_count == 0
     }
 
+    /// No further reservation may be open.
+    pub(crate) fn is_full_of_open(&self) -> bool
+        ensures { IsTrue result ↔ (open_in self.now.reserved.items ≡ most_open) }
+    {
+        self.open_count == MAX_WRITERS
+    }
+
+    /// The least place of an open reservation, of which there is one, in a segment that lies there.
+    pub(crate) fn least_open(&self, site: &SegmentPosition) -> Lsn
+        requires some { 0 < open_in self.now.reserved.items }
+        requires place { site.now.place + length self.now.bytes.items < 2 ^ 63 }
+        ensures { (from : ℕ) → first_open_in self.now.reserved.items ≡ Some from → result ≡ pos (site.now.place + from) }
+    {
+        match first_open(&self.reserved) {
+            Some(from) => (site.place + from as u64) as i64,
+            None => site.place as i64,
+        }
+    }
+
     /// Makes room for a record of this length, for what is summed behind it, and for its reservation.
     pub(crate) fn make_room(&mut self, len: usize) -> Result<()>
         requires { len < 2 ^ 32 }
@@ -175,6 +198,7 @@ impl IoBuf {
         requires len { item_len ≡ length (T.short (T.meaning item.now)) }
         requires room { length self.old.bytes.items + head.now.len + item_len + 32 ≤ vec_capacity self.old.bytes }
         requires place { vec_len self.old.reserved < vec_capacity self.old.reserved }
+        requires few { open_in self.old.reserved.items < most_open }
         ensures bytes { self.new.bytes.items ≡ self.old.bytes.items ++ placeholder_head (take head.now.len head.now.bytes) ++ T.short (T.meaning item.now) }
         ensures len { length self.new.bytes.items ≡ length self.old.bytes.items + head.now.len + item_len }
         ensures reserved { self.new.reserved.items ≡ self.old.reserved.items
@@ -294,6 +318,21 @@ fn close(reserved: &mut Vec<Reserved>, index: usize, state: ReservationState)
 {
     let r = &mut reserved[index];
     r.state = state;
+}
+
+/// Where the first open one of these begins.
+fn first_open(reserved: &[Reserved]) -> Option<usize>
+    ensures { result ≡ first_open_in reserved.now }
+{
+    let mut i = 0;
+    while i < reserved.len() {
+        let r = reserved[i];
+        if r.state.is_open() {
+            return Some(r.from);
+        }
+        i += 1;
+    }
+    None
 }
 
 /// Keeps a reservation, where there is room for it.

@@ -57,7 +57,7 @@ pub struct Log<D, C> {
 }
 
 impl<D: Device, C: Checksum> Log<D, C> {
-    ghost use Rattle.sled_core.specs.Fits.{Holds, NoneOpen, Awaits, IsOpen, IsOnlyOpen, HasRoom, IsUnchanged, fault_of, next_place, synced_end, reserved_end, pins_of, config_of, device_of, IsWritten, HasRecordOf, flushing, manifest_page, segment_size_of, size_for, message_for, KeepsAll};
+    ghost use Rattle.sled_core.specs.Fits.{Holds, NoneOpen, Awaits, IsOpen, IsOnlyOpen, HasRoom, IsUnchanged, fault_of, open_of, IsLeastOpen, next_place, synced_end, reserved_end, pins_of, config_of, device_of, IsWritten, HasRecordOf, flushing, manifest_page, segment_size_of, size_for, message_for, KeepsAll};
     ghost use Rattle.sled_core.specs.Keeps.{ConfigKept, GoesOn, Preserves, SamePosition};
     ghost use Rattle.sled_core.specs.Ready.{IsReady};
     ghost use Rattle.sled_core.specs.Running.{Fits, Ready};
@@ -160,7 +160,7 @@ impl<D: Device, C: Checksum> Log<D, C> {
     /// # Errors
     ///
     /// `Io` where the log keeps a failure of its device, `Unsupported` where the page has no messages of this kind,
-    /// and `OutOfMemory`. After each of them the log is as it was.
+    /// `Held` with the least place of an open reservation where 127 are open, and `OutOfMemory`. After each of them the log is as it was.
     pub fn reserve<T: Serialize>(
         &mut self,
         kind: LogKind,
@@ -175,7 +175,7 @@ impl<D: Device, C: Checksum> Log<D, C> {
         ensures next { OnOk result (next_place self.new ≡ next_place self.old + size_for self.old pid (length (T.short (T.meaning item.now)))) }
         ensures others { (ticket : Reservation) (m : Message) → Awaits self.old ticket m → Awaits self.new ticket m }
         ensures open { NoneOpen self.old → IfOk result (IsOnlyOpen self.new) }
-        ensures answers { ReserveAnswers result (fault_of self.old) (kind_written kind pid false) }
+        ensures answers { ReserveAnswers result (fault_of self.old) (kind_written kind pid false) (open_of self.old) (IsLeastOpen self.old) }
         ensures keeps { Preserves D.trace C.sum_of self.old self.new }
         ensures same { KeepsAll self.old self.new }
         ensures err { OnErr result (IsUnchanged self.old self.new) }
@@ -186,6 +186,9 @@ impl<D: Device, C: Checksum> Log<D, C> {
         let Some(message_kind) = message_kind(kind, pid, false) else {
             return Err(Error::Unsupported(String::new(self.config.alloc())));
         };
+        if self.buffer.is_full_of_open() {
+            return Err(Error::Held(self.buffer.least_open(&self.site)));
+        }
         let item_len = item.serialized_size() as usize;
         let number = SegmentNumber(self.site.place / self.config.config.segment_size);
         let head = head_of(message_kind, number, pid, item_len as u64);

@@ -1,11 +1,13 @@
--- How many reservations are open: none where all ended, one more behind a new one, and one fewer once one has ended.
-use Rattle.std.proofs.Common.{◌≡◌, ◌≤◌, ◌+◌, ℕ, zero, suc, Bool, true, false, if◌then◌else◌, List, [], ◌∷◌, ◌++◌, length, set, refl, ap, sym, ◌∙◌, arith, nat_eq, Some}
+-- How many reservations are open: none where all ended, one more behind a new one, and one fewer once one has ended; and which is the first.
+use Rattle.std.proofs.Common.{◌≡◌, ◌≤◌, ◌<◌, ◌+◌, ℕ, zero, suc, Bool, true, false, if◌then◌else◌, List, [], ◌∷◌, ◌++◌, length, drop, set, refl, ap, sym, ◌∙◌, arith, nat_eq, None, Some}
 use Rattle.std.proofs.lemmas.Bool.Decides.{nat_tests}
-use Rattle.std.specs.List.{slice_get}
+use Rattle.std.specs.List.{All, slice_get}
+use Rattle.std.proofs.lemmas.List.Elements.{All-tail}
+use Rattle.std.proofs.lemmas.Option.{slice_get_within}
 use Rattle.sled_core.specs.declared.iobuf.ReservationState.{ReservationState}
 use Rattle.sled_core.specs.declared.iobuf.ReservationState.TheVariants.{Open}
 use Rattle.sled_core.specs.declared.iobuf.Reserved.{Reserved}
-use Rattle.sled_core.specs.Buffers.{none_open, open_in, open_state}
+use Rattle.sled_core.specs.Buffers.{first_open_in, none_open, open_in, open_state}
 
 ended_step : (b : Bool) (n : ℕ) (ended : Bool) → nat_eq n 0 ≡ ended → nat_eq (if b then suc n else n) 0 ≡ (if b then false else ended)
 ended_step true n ended is = grind (arith, nat_tests)
@@ -42,3 +44,30 @@ within_step false n m le = omega (arith, le)
 pub open_within : (rs : List Reserved) → open_in rs ≤ length rs
 open_within [] = omega arith
 open_within (r ∷ rs) = within_step (open_state r.state) (open_in rs) (length rs) (open_within rs)
+
+-- Where some are open there is a first one, which lies among them.
+
+pub first_there : (rs : List Reserved) → 0 < open_in rs → (from : ℕ) × (first_open_in rs ≡ Some from)
+first_there [] some = absurd (omega (arith, some))
+first_there (r ∷ rs) some = by_test (first_there rs) (open_state r.state) some where
+  by_test : (0 < open_in rs → (from : ℕ) × (first_open_in rs ≡ Some from)) → (o : Bool) → 0 < (if o then suc (open_in rs) else open_in rs) → (from : ℕ) × ((if o then Some r.from else first_open_in rs) ≡ Some from)
+  by_test on true some = (r.from, refl)
+  by_test on false some = on some
+
+pub first_within : (n : ℕ) (rs : List Reserved) (from : ℕ) → All (λ r. r.from + r.len ≤ n) rs → first_open_in rs ≡ Some from → from ≤ n
+first_within n [] from all is = absurd (let never : ⊥ = cc in never)
+first_within n (r ∷ rs) from all is = by_test (first_within n rs from (All-tail (λ (x : Reserved). x.from + x.len ≤ n) r rs all)) (open_state r.state) is where
+  by_test : (first_open_in rs ≡ Some from → from ≤ n) → (o : Bool) → (if o then Some r.from else first_open_in rs) ≡ Some from → from ≤ n
+  by_test on true is = let same : r.from ≡ from = cc in let here : r.from + r.len ≤ n = all 0 r (omega arith) in omega (arith, same, here)
+  by_test on false is = on is
+
+-- behind those that were looked at
+pub first_drop : (rs : List Reserved) (i : ℕ) (r : Reserved) → slice_get rs i ≡ Some r → first_open_in (drop i rs) ≡ (if open_state r.state then Some r.from else first_open_in (drop (i + 1) rs))
+first_drop [] i r there = absurd (let within = slice_get_within [] i r there in omega (arith, within))
+first_drop (x ∷ rs) zero r there =
+    let same : x ≡ r = cc in
+    let one : 0 + 1 ≡ suc zero = omega arith in
+    ap (λ (y : Reserved). if open_state y.state then Some y.from else first_open_in rs) same ∙ ap (λ n. if open_state r.state then Some r.from else first_open_in (drop n (x ∷ rs))) (sym one)
+first_drop (x ∷ rs) (suc i) r there =
+    let next : suc i + 1 ≡ suc (i + 1) = omega arith in
+    first_drop rs i r there ∙ ap (λ n. if open_state r.state then Some r.from else first_open_in (drop n (x ∷ rs))) (sym next)

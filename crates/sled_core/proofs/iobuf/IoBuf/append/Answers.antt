@@ -42,4 +42,5 @@ invariant_of-self g c =
       headed = subst (λ (rs : List Reserved). All (λ r. (5 ≤ r.header_len) × (r.header_len ≤ r.len)) rs) (sym c.keep.ensures)
           (all_joined (λ (r : Reserved). (5 ≤ r.header_len) × (r.header_len ≤ r.len)) old [] _ c.args.self.now.headed (five, omega arith) (λ i d lt. absurd (omega (arith, lt))));
       counted = ap (λ n. n + 1) c.args.self.now.counted ∙ sym (ap open_in c.keep.ensures ∙ open_more old _ refl);
+      few = (let less = c.requires.few in let count = c.args.self.now.counted in omega (arith, less, count));
     }

@@ -52,4 +52,5 @@ invariant_of-self c =
           (subst (λ (n : ℕ). All (λ x. x.from + x.len ≤ n) old) len c.args.self.now.within);
       headed = still (λ x. (5 ≤ x.header_len) × (x.header_len ≤ x.len)) old _ c.args.index r c.args.state lt c.index-r.ensures new (λ x h. h) c.args.self.now.headed;
       counted = omega (arith, fewer c);
+      few = (let most = c.args.self.now.few in omega (arith, most));
     }

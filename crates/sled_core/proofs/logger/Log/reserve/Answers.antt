@@ -1,4 +1,4 @@
-use Rattle.std.proofs.Common.{◌≡◌, ◌∙◌, ◌≤◌, ◌+◌, ◌/◌, ap, sym, refl, List, ℕ, [], ◌∷◌, ◌++◌, length, take, drop, append_assoc, length-append, arith, rules, Some, pos, false}
+use Rattle.std.proofs.Common.{◌≡◌, ◌∙◌, ◌≤◌, ◌+◌, ◌/◌, ap, sym, refl, List, ℕ, [], ◌∷◌, ◌++◌, length, take, drop, append_assoc, length-append, arith, rules, subst, w64, Some, pos, false}
 use Rattle.std.specs.List.{slice_get}
 use Rattle.sled_codec.specs.declared.result.DiskPtr.TheVariants.{Inline}
 use Rattle.sled_codec.specs.Kinds.{kind_written}
@@ -6,7 +6,7 @@ use Rattle.sled_codec.specs.Spelling.{short_number, short_header_tail}
 use Rattle.sled_store.specs.Device.{state_of}
 use Rattle.sled_core.specs.declared.iobuf.Reserved.{Reserved}
 use Rattle.sled_core.specs.declared.iobuf.Purpose.{Purpose}
-use Rattle.sled_core.specs.Buffers.{placeholder_head, reserved_for, message_in}
+use Rattle.sled_core.specs.Buffers.{placeholder_head, reserved_for, message_in, open_in}
 use Rattle.sled_core.specs.Tickets.{place_of, index_of}
 use Rattle.sled_codec.specs.History.{History}
 use Rattle.sled_core.specs.Fits.{Holds, HoldsIn, log_parts}
@@ -16,6 +16,9 @@ use Rattle.sled_core.proofs.Holds.KeptCalls.{kept_still, goes_on_quietly}
 use Rattle.sled_core.proofs.Holds.OpenTickets.{only_new}
 use Rattle.sled_core.proofs.Holds.HoldsLemmas.{holds-same, holds-append, body-append}
 use Rattle.sled_core.proofs.Reserve.ReserveLemmas.{there_last, there_append, stands, message_is, more_long, head_whole}
+use Rattle.sled_core.proofs.Reserve.OpenCounts.{first_there}
+use Rattle.std.proofs.lemmas.Int.{to_z-of_z}
+use Rattle.std.specs.Option.{IsSome}
 use Rattle.sled_core.proofs.Reserve.Heads.{length-short_header_tail}
 use Rattle.sled_core.proofs.Reserve.Ranges.{at_there}
 use Rattle.sled_core.proofs.logger.Log.reserve.Given as given
@@ -137,7 +140,30 @@ pub returns-in-Some-clause-keeps : goal.returns-in-Some-clause-keeps
 returns-in-Some-clause-keeps g c = kept_still g.D.Device.trace g.C.Checksum.sum_of c.args.self.now
 
 pub returns-in_default-message_kind-clause-keeps : goal.returns-in_default-message_kind-clause-keeps
-returns-in_default-message_kind-clause-keeps g c = kept_still g.D.Device.trace g.C.Checksum.sum_of c.args.self.now
+unfolding Fits Holds
+returns-in_default-message_kind-clause-keeps g c = record {
+  goes_on = goes_on_quietly g.D.Device.trace g.C.Checksum.sum_of c.args.self.now _ (record { config = refl; checksum = refl }) refl (omega arith);
+  history = λ H holds. holds;
+  fits = λ H A f U fits. fits;
+}
+
+-- As many are open as may be, of which there is a first one.
+
+pub returns-then-is_full_of_open-clause-answers : goal.returns-then-is_full_of_open-clause-answers
+returns-then-is_full_of_open-clause-answers g c =
+    let rs : List Reserved = c.args.self.now.buffer.reserved.items in
+    let full : open_in rs ≡ 127 = c.if-is_full_of_open.ensures.0 refl in
+    let least = first_there rs (omega (arith, full)) in
+    let known : kind_written c.args.kind c.args.pid false ≡ Some c.in-Some-message_kind.message_kind = sym c.message_kind.ensures ∙ c.in-Some-message_kind.is in
+    (c.in_default.is, subst IsSome (sym known) tt, full, (least.0, least.1, to_z-of_z w64 c.least_open.result c.least_open.type_inv ∙ c.least_open.ensures least.0 least.1))
+
+pub returns-then-is_full_of_open-clause-keeps : goal.returns-then-is_full_of_open-clause-keeps
+unfolding Fits Holds
+returns-then-is_full_of_open-clause-keeps g c = record {
+  goes_on = goes_on_quietly g.D.Device.trace g.C.Checksum.sum_of c.args.self.now _ (record { config = refl; checksum = refl }) refl (omega arith);
+  history = λ H holds. holds;
+  fits = λ H A f U fits. fits;
+}
 
 pub returns-in_err-make_room-clause-keeps : goal.returns-in_err-make_room-clause-keeps
 unfolding Fits Holds
