@@ -3,5 +3,3 @@ pub mod GivesLemmas
 pub mod PathLemmas
 pub mod ReadingLemmas
 pub mod ScanLemmas
-pub mod StandIn
-pub mod StandLemmas

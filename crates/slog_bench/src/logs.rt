@@ -1,5 +1,6 @@
 //! A log that is open, with its pins and tickets, and the calls of it.
-ghost use Rattle.std.specs.Prelude.{◌<◌, vec_len, vec_capacity};
+ghost use Rattle.std.specs.Prelude.{◌<◌, IfSome, vec_len, vec_capacity};
+ghost use Rattle.sled_core.specs.Fits.{IsOpen};
 
 use crate::answer::Answer;
 use crate::lines::{Words, bytes};
@@ -44,6 +45,7 @@ impl Opened {
             }
             "has_room" => self.item(alloc, None, words, out),
             "complete" => self.complete(words.number(), out),
+            "abort" => self.abort(words.number(), out),
             "abandon" => self.abandon(words.number(), out),
             _ => self.call_of_log(name, words, out),
         }
@@ -174,17 +176,31 @@ impl Opened {
         self.tickets.get_mut(number as usize)?.take()
     }
 
+    // The ticket of this number, if its reservation is open.
+    fn take_open(&mut self, number: u64) -> Option<Reservation>
+        ensures { IfSome result (λ ticket. IsOpen self.new.log ticket) }
+    {
+        let ticket = self.take(number)?;
+        if !self.log.is_open(&ticket) {
+            ticket.abandon();
+            return None;
+        }
+        Some(ticket)
+    }
+
     // Completes the message of a ticket.
     fn complete(&mut self, number: u64, out: &mut Answer) {
-        let Some(ticket) = self.take(number) else {
-            out.refused();
-            return;
-        };
-        if self.log.is_open(&ticket) {
-            out.placed(self.log.complete(ticket));
-        } else {
-            ticket.abandon();
-            out.refused();
+        match self.take_open(number) {
+            Some(ticket) => out.placed(self.log.complete(ticket)),
+            None => out.refused(),
+        }
+    }
+
+    // Gives the message of a ticket up.
+    fn abort(&mut self, number: u64, out: &mut Answer) {
+        match self.take_open(number) {
+            Some(ticket) => out.placed(self.log.abort(ticket)),
+            None => out.refused(),
         }
     }
 
@@ -229,7 +245,7 @@ impl Opened {
             out.refused();
             return;
         };
-        if !self.log.none_open() || place > self.log.stable_offset() {
+        if place > self.log.stable_offset() {
             out.refused();
             return;
         }

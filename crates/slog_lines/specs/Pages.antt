@@ -2,7 +2,7 @@
 use Rattle.std.specs.Prelude.{◌-◌, ℤ, length, slice_get, unwrap_or, Option, Some, None}
 use Rattle.sled_codec.specs.declared.result.DiskPtr.{DiskPtr}
 use Rattle.sled_codec.specs.Snapshots.{Entry, Page, Present, Free, Uninitialized}
-use Rattle.slog_lines.specs.declared.driver.Page.{Page as KnownPage}
+use Rattle.slog_lines.specs.declared.driver.pages.Page.{Page as KnownPage}
 
 -- where an entry lies: its place and its pointer
 abbrev pub spot_of : Entry → ℤ × DiskPtr

@@ -7,16 +7,19 @@
 
 ghost use Rattle.std.specs.Prelude.{◌≡◌, ◌-◌, ◌<◌, ◌^◌, map, Some, None, IsSome, IfOk, IfSome, OnOk, MatchOption, vec_len, vec_capacity};
 ghost use Rattle.sled_codec.specs.Snapshots.{page_of};
-ghost use Rattle.sled_core.specs.Fits.{config_of, pins_of};
+ghost use Rattle.sled_core.specs.Fits.{IsOpen, config_of, pins_of};
 ghost use Rattle.slog_lines.specs.Pages.{last_of, last_of_page};
 
+mod pages;
+
+use crate::driver::pages::{Page, Spot, pages_of};
 use crate::line::{Command, LogCommand};
 use sled_log::config::{Config, RunningConfig};
 use sled_log::device::{MemDevice, PlaceSum};
 use sled_log::logger::{Log, LogKind, LogRead};
 use sled_log::reservation::{Guard, Reservation};
 use sled_log::result::{DiskPtr, Error, LogOffset, Lsn, PageId};
-use sled_log::snapshot::{PageState, Snapshot, read_snapshot_or_default};
+use sled_log::snapshot::{Snapshot, read_snapshot_or_default};
 use std::alloc::{AllocError, AllocFailed, Global};
 use std::io;
 
@@ -64,7 +67,7 @@ pub enum Reply {
         /// Where it lies on the disk.
         pointer: DiskPtr,
     },
-    /// A message was completed, at this place.
+    /// A message was completed or given up, at this place.
     Done(Lsn, DiskPtr),
     /// The stable end grew by so many bytes.
     Flushed(usize),
@@ -148,6 +151,7 @@ impl Driver {
         match command {
             LogCommand::Replace(page, item) => opened.replace(page, &item),
             LogCommand::Complete(ticket) => Ok(opened.complete(ticket)),
+            LogCommand::Abort(ticket) => Ok(opened.abort(ticket)),
             LogCommand::Flush => Ok(opened.flush()),
             LogCommand::Read(page) => Ok(opened.read(page)),
         }
@@ -268,23 +272,11 @@ impl Driver {
     }
 }
 
-// Where a completed message lies.
-type Spot = (Lsn, DiskPtr);
-
-// What is known of a page.
-#[derive(Drop)]
-struct Page {
-    // Its last completed message; none before the first one.
-    last: Option<Spot>,
-    // Whether it has an open ticket.
-    is_busy: bool,
-}
-
 // A log that is open, with a pin out.
 struct Opened {
     log: Log<MemDevice, PlaceSum>,
     guard: Guard,
-    // By number, and so by place. One that was completed is gone.
+    // By number, and so by place. One that was spent is gone.
     tickets: Vec<Option<Ticket>>,
     // By number: those that are begun, and the next one where a place was kept for it.
     pages: Vec<Page>,
@@ -350,13 +342,9 @@ impl Opened {
 
     // Completes the message of a ticket.
     fn complete(&mut self, number: u64) -> Reply {
-        let Some(Ticket { page, reservation }) = self.take(number) else {
+        let Some(Ticket { page, reservation }) = self.take_open(number) else {
             return Reply::Refused(Refusal::Ticket);
         };
-        if !self.log.is_open(&reservation) {
-            reservation.abandon();
-            return Reply::Refused(Refusal::Ticket);
-        }
         match self.log.complete(reservation) {
             Ok((place, pointer)) => {
                 self.end(page, Some((place, pointer)));
@@ -369,9 +357,29 @@ impl Opened {
         }
     }
 
-    // The ticket of this number, if it is there yet.
-    fn take(&mut self, number: u64) -> Option<Ticket> {
-        self.tickets.get_mut(number as usize)?.take()
+    // Gives the message of a ticket up.
+    fn abort(&mut self, number: u64) -> Reply {
+        let Some(Ticket { page, reservation }) = self.take_open(number) else {
+            return Reply::Refused(Refusal::Ticket);
+        };
+        let answer = self.log.abort(reservation);
+        self.end(page, None);
+        match answer {
+            Ok((place, pointer)) => Reply::Done(place, pointer),
+            Err(e) => Reply::Failed(e),
+        }
+    }
+
+    // The ticket of this number, if its reservation is open.
+    fn take_open(&mut self, number: u64) -> Option<Ticket>
+        ensures { IfSome result (λ ticket. IsOpen self.new.log ticket.reservation) }
+    {
+        let ticket = self.tickets.get_mut(number as usize)?.take()?;
+        if !self.log.is_open(&ticket.reservation) {
+            ticket.abandon();
+            return None;
+        }
+        Some(ticket)
     }
 
     // Notes that a page has no open ticket any more, and where it lies if its message was completed.
@@ -394,7 +402,7 @@ impl Opened {
     }
 
     // Replies that the first open ticket holds a call up. A reservation is open without a ticket only where
-    // its completion failed; the device of this program does not fail.
+    // its ticket was spent by a call that failed; the device of this program does not fail.
     fn held_up(&self) -> Reply {
         for ticket in &self.tickets {
             if let Some(ticket) = ticket {
@@ -451,16 +459,6 @@ impl Opened {
     }
 }
 
-impl Page {
-    // A page that a place is about to be kept for, for the first time.
-    fn reserved() -> Page {
-        Page {
-            last: None,
-            is_busy: false,
-        }
-    }
-}
-
 impl Ticket {
     // Gives up what is held.
     fn abandon(self) {
@@ -469,32 +467,5 @@ impl Ticket {
             reservation,
         } = self;
         reservation.abandon();
-    }
-}
-
-// What is known of the pages of a snapshot.
-fn pages_of(alloc: Global, snapshot: &Snapshot) -> Result<Vec<Page>, AllocError>
-    ensures { IfOk result (λ pages. map last_of_page pages.items ≡ map last_of (map page_of snapshot.now.pt.items)) }
-{
-    let mut pages = Vec::new(alloc);
-    for state in &snapshot.pt {
-        pages.push(Page {
-            last: last_of(state),
-            is_busy: false,
-        })?;
-    }
-    Ok(pages)
-}
-
-// Where the last message of a page lies, if it has one.
-fn last_of(state: &PageState) -> Option<Spot>
-    ensures { result ≡ last_of (page_of state.now) }
-{
-    match state {
-        PageState::Present { base, frags } => {
-            let last = frags.last().unwrap_or(base);
-            Some((last.0, last.1))
-        }
-        PageState::Free(_, _) | PageState::Uninitialized => None,
     }
 }

@@ -31,6 +31,8 @@ pub enum LogCommand {
     Replace(PageId, Vec<u8>),
     /// Complete the message of this ticket.
     Complete(u64),
+    /// Give the message of this ticket up.
+    Abort(u64),
     /// Write what was completed, and sync it.
     Flush,
     /// Read what a page is.
@@ -66,6 +68,7 @@ fn with_number(word: &str, operand: &str) -> Option<Command> {
     match word {
         "size" => Some(Command::Size(n)),
         "complete" => Some(Command::OfLog(LogCommand::Complete(n))),
+        "abort" => Some(Command::OfLog(LogCommand::Abort(n))),
         "read" => Some(Command::OfLog(LogCommand::Read(n))),
         _ => None,
     }

@@ -1,13 +1,10 @@
 -- What stands in a log file stays where it is when the rest of the current segment is written.
-use Rattle.std.proofs.Common.{◌≡◌, ◌⊎◌, ◌≤◌, ◌<◌, ◌+◌, ◌-◌, ◌/◌, ℕ, zero, suc, pos, List, [], ◌∷◌, length, take, drop, sym, ◌∙◌, ap, arith, subst, length-take, length-drop, inl, get_or}
-use Rattle.std.specs.List.{All}
+use Rattle.std.proofs.Common.{◌≡◌, ◌⊎◌, ◌≤◌, ◌<◌, ◌+◌, ◌-◌, ℕ, pos, List, length, take, drop, sym, ◌∙◌, ap, arith, subst, length-take, length-drop, inl, get_or}
 use Rattle.std.proofs.lemmas.List.{drop-drop, drop-take, take-take}
-use Rattle.std.proofs.lemmas.List.Elements.{All-cons}
 use Rattle.sled_codec.specs.declared.serialization.message.MessageHeader.{MessageHeader}
 use Rattle.sled_codec.specs.Places.{part}
 use Rattle.sled_codec.specs.Record.{IsHeader}
 use Rattle.sled_codec.specs.History.{Message}
-use Rattle.sled_codec.specs.WellFormed.{LieApart}
 use Rattle.sled_codec.proofs.Segments.{length-short_header}
 use Rattle.sled_store.specs.Device.{overwritten}
 use Rattle.sled_store.proofs.LogFile.OverwrittenLemmas.{length-overwritten, overwritten-part, overwritten-above}
@@ -16,7 +13,6 @@ use Rattle.sled_store.proofs.LogFile.LooseLemmas.{end_of-some}
 use Rattle.sled_core.specs.declared.iobuf.SegmentPosition.{SegmentPosition}
 use Rattle.sled_core.specs.Reading.{StandsAt}
 use Rattle.sled_core.specs.LogFile.{MessageStands, HasHeader}
-use Rattle.sled_core.proofs.Read.StandIn.{StandIn}
 use Rattle.sled_core.proofs.Read.ReadingLemmas.{header_some, laid_of}
 
 -- a record that stands somewhere is not shorter than a header
@@ -24,39 +20,6 @@ pub stands_some : (sum : List ℕ → ℕ) (size : ℕ) (log : List ℕ) (lid nu
 stands_some sum size log lid number m s =
     let some = header_some s.stands.header s.header s.stands.spelled in
     omega (arith, some, (laid_of sum size log lid number s.header m.bytes m.size s.stands).1)
-
--- records don't go back
-pub stand_grows : (sum : List ℕ → ℕ) (size : ℕ) (log : List ℕ) (site : SegmentPosition) (at : ℕ) (ms : List Message) (end : ℕ) → StandIn sum size log site at ms end → at ≤ end
-stand_grows sum size log site at [] end stand = omega (arith, stand)
-stand_grows sum size log site at (m ∷ ms) end stand = let rest = stand_grows sum size log site (at + m.size) ms end stand.4 in omega (arith, rest)
-
--- records from an offset on lie there or behind it, where there is room
-pub stand_above : (sum : List ℕ → ℕ) (size : ℕ) (log : List ℕ) (site : SegmentPosition) (at : ℕ) (ms : List Message) (end : ℕ) → StandIn sum size log site at ms end → All (λ m. (site.place + at ≤ m.place) × (at + 32 ≤ size)) ms
-stand_above sum size log site at [] end stand k d lt = absurd (omega (arith, lt))
-stand_above sum size log site at (m ∷ ms) end stand zero d lt = (omega (arith, stand.1), stand.0)
-stand_above sum size log site at (m ∷ ms) end stand (suc k) d lt =
-    let rest = stand_above sum size log site (at + m.size) ms end stand.4 k d (omega (arith, lt)) in
-    (let above = rest.0 in omega (arith, above), stand.0)
-
--- and below where they end
-pub stand_below : (sum : List ℕ → ℕ) (size : ℕ) (log : List ℕ) (site : SegmentPosition) (at : ℕ) (ms : List Message) (end : ℕ) → StandIn sum size log site at ms end
-    → All (λ m. (m.place < site.place + end) × (m.place + m.size ≤ site.place + end)) ms
-stand_below sum size log site at [] end stand = λ k d lt. absurd (omega arith)
-stand_below sum size log site at (m ∷ ms) end stand =
-    let Below : Message → Type 0 = λ x. (x.place < site.place + end) × (x.place + x.size ≤ site.place + end) in
-    let rest = stand_grows sum size log site (at + m.size) ms end stand.4 in
-    let some = stands_some sum size log (site.slot + at) (site.place / size) m stand.3 in
-    let place : m.place ≡ site.place + at = stand.1 in
-    All-cons Below m ms (omega (arith, rest, some, place), omega (arith, rest, place)) (stand_below sum size log site (at + m.size) ms end stand.4)
-
--- so that their messages lie apart
-pub stand_apart : (sum : List ℕ → ℕ) (size : ℕ) (log : List ℕ) (site : SegmentPosition) (at : ℕ) (ms : List Message) (end : ℕ) → StandIn sum size log site at ms end → LieApart ms
-stand_apart sum size log site at [] end stand = tt
-stand_apart sum size log site at (m ∷ ms) end stand =
-    let place : m.place ≡ site.place + at = stand.1 in
-    let some = stands_some sum size log (site.slot + at) (site.place / size) m stand.3 in
-    let rest = stand_above sum size log site (at + m.size) ms end stand.4 in
-    (omega (arith, some), (λ k d lt. let b = rest k d lt in omega (arith, b.0, place)), stand_apart sum size log site (at + m.size) ms end stand.4)
 
 -- the header of a segment lies in the file
 pub header_there : (sum : List ℕ → ℕ) (log : List ℕ) (site : SegmentPosition) → HasHeader sum log site → site.slot + 20 ≤ length log

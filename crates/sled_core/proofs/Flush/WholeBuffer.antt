@@ -1,5 +1,5 @@
 -- Behind the write of a buffer the current segment is again all that is found, and a reader reads it to the end of the buffer.
-use Rattle.std.proofs.Common.{◌≡◌, ◌≤◌, ◌<◌, ◌+◌, ◌*◌, ◌/◌, ◌%◌, ◌^◌, ◌-ℤ◌, ℕ, pos, max, Bool, true, false, nat_lt, if◌then◌else◌, List, [], ◌++◌, map, length, take, drop, get_or, refl, ap, subst, arith, inl, inr, length-drop}
+use Rattle.std.proofs.Common.{◌≡◌, ◌≤◌, ◌<◌, ◌+◌, ◌*◌, ◌/◌, ◌%◌, ◌^◌, ◌-ℤ◌, ℕ, pos, max, Bool, true, false, nat_lt, if◌then◌else◌, List, [], ◌++◌, length, take, drop, get_or, refl, ap, subst, arith, inl, inr, length-drop}
 use Rattle.std.specs.List.{All, Contains}
 use Rattle.std.proofs.Math.Nat.{mod-add-div'}
 use Rattle.std.proofs.lemmas.Bool.{cases_eq, cases_lt}

@@ -1,8 +1,5 @@
 -- Where the record of a message stands, what is read is that message.
-use Rattle.std.proofs.Common.{◌≡◌, ◌<◌, ◌+◌, ◌/◌, ◌%◌, ℕ, ℤ, Option, List, [], ◌∷◌, length, sym, ◌∙◌, ap, arith, refl, subst, true, false, Bool, if◌then◌else◌, ◌==◌, Some}
-use Rattle.std.specs.List.{All}
-use Rattle.std.proofs.lemmas.List.Elements.{All-cons}
-use Rattle.sled_codec.specs.declared.result.DiskPtr.TheVariants as ptr
+use Rattle.std.proofs.Common.{◌≡◌, ℕ, ℤ, Option, List, length, sym, ◌∙◌, ap, arith, refl, true, false, Bool, if◌then◌else◌, ◌==◌, Some}
 use Rattle.sled_codec.specs.declared.serialization.message.LogKind.{LogKind}
 use Rattle.sled_codec.specs.declared.serialization.message.LogKind.TheVariants as does
 use Rattle.sled_codec.specs.declared.serialization.message.MessageKind.{MessageKind}
@@ -10,18 +7,10 @@ use Rattle.sled_codec.specs.declared.serialization.message.MessageKind.TheVarian
 use Rattle.sled_codec.specs.declared.serialization.message.MessageHeader.{MessageHeader}
 use Rattle.sled_codec.specs.Kinds.{kind_written}
 use Rattle.sled_codec.specs.History.{Message}
-use Rattle.sled_core.specs.declared.iobuf.SegmentPosition.{SegmentPosition}
-use Rattle.sled_core.specs.LogFile.{MessageStands}
-use Rattle.sled_core.proofs.Read.StandIn.{StandIn}
 use Rattle.sled_core.proofs.Read.ReadingLemmas.{laid_of, one_head, one_laid, one_text}
-use Rattle.sled_core.proofs.Read.ScanLemmas.{aligned_number}
 use Rattle.sled_core.specs.declared.logger.read_message.LogRead.{LogRead}
 use Rattle.sled_core.specs.declared.logger.read_message.LogRead.TheVariants.{Inline, Blob, Canceled, Cap, Corrupted, DanglingBlob, BatchManifest}
 use Rattle.sled_core.specs.Reading.{StandsAt, IsReading, GivesMessage, is_inline, is_blob}
-
--- the record of a message stands at its pointer, in the segment of its place
-abbrev pub StandsWhole : (List ℕ → ℕ) → ℕ → List ℕ → Message → Type 0
-StandsWhole sum size log m = (lid : ℕ) × (m.pointer ≡ ptr.Inline lid) × MessageStands sum size log lid (m.place / size) m
 
 -- At one offset one record stands.
 
@@ -88,11 +77,3 @@ gives sum size log blobs lid number m h (BatchManifest peg n) stands known page 
     let same = one_header sum size log lid number h reads.0 m.bytes reads.1 m.size n stands reads.2 in
     let inline : is_inline reads.0.kind ≡ true = ap (λ (x : MessageHeader). is_inline x.kind) (sym same) ∙ kind_inline m.kind m.page h.kind known in
     let not_so : is_inline kind.BatchManifest ≡ true = ap is_inline (sym reads.3) ∙ inline in cc
-
--- the messages of a segment stand at their pointers
-pub own_stands : (sum : List ℕ → ℕ) (size : ℕ) (log : List ℕ) (site : SegmentPosition) (at : ℕ) (ms : List Message) (end : ℕ) → site.place % size ≡ 0 → StandIn sum size log site at ms end → All (StandsWhole sum size log) ms
-own_stands sum size log site at [] end aligned stand = λ k d lt. absurd (omega arith)
-own_stands sum size log site at (m ∷ ms) end aligned stand =
-    let below : at < size = omega (arith, stand.0) in
-    let number : site.place / size ≡ m.place / size = sym (ap (λ n. n / size) stand.1 ∙ aligned_number site.place at size aligned below) in
-    All-cons (StandsWhole sum size log) m ms (site.slot + at, stand.2, subst (λ n. MessageStands sum size log (site.slot + at) n m) number stand.3) (own_stands sum size log site (at + m.size) ms end aligned stand.4)

@@ -12,7 +12,7 @@ use Rattle.sled_store.proofs.Segments.Elements.{in_cases, in_nothing}
 use Rattle.sled_core.specs.declared.iterator.scan.ScannedRecord.{ScannedRecord}
 use Rattle.sled_core.specs.declared.iterator.scan.ScanEnd.{ScanEnd}
 use Rattle.sled_core.specs.declared.iterator.scan.ScanEnd.TheVariants.{Full, Capped, Broken}
-use Rattle.sled_core.proofs.Read.StandIn.{IsEmpty}
+use Rattle.sled_core.proofs.Read.PathLemmas.{IsEmpty}
 use Rattle.sled_core.specs.Reading.{StandsAt}
 use Rattle.sled_core.specs.Scan.{IsMet, IsPath, IsEnd, EndsThere}
 use Rattle.sled_core.proofs.Flush.LogFileLemmas.{part_kept, record_moved}

@@ -11,7 +11,7 @@ use Rattle.sled_store.specs.Foreign.{at_first, NoForeignLog}
 use Rattle.sled_core.specs.declared.iterator.scan.ScannedRecord.{ScannedRecord}
 use Rattle.sled_core.specs.declared.iterator.scan.ScanEnd.{ScanEnd}
 use Rattle.sled_core.specs.declared.iterator.scan.ScanEnd.TheVariants.{Full, Capped, Broken}
-use Rattle.sled_core.proofs.Read.StandIn.{IsEmpty}
+use Rattle.sled_core.proofs.Read.PathLemmas.{IsEmpty}
 use Rattle.sled_core.specs.Reading.{StandsAt}
 use Rattle.sled_core.specs.Scan.{IsMet, IsPath, IsEnd, EndsThere, IsScan}
 use Rattle.sled_core.proofs.Flush.LogFileLemmas.{record_moved}

@@ -1,5 +1,5 @@
 -- The record has the sum of one that is passed over.
-use Rattle.std.proofs.Common.{◌≡◌, ◌∙◌, ◌+◌, ◌-◌, ◌≤◌, ℕ, List, [], ◌∷◌, ◌++◌, length, ap, sym, arith, subst}
+use Rattle.std.proofs.Common.{◌≡◌, ◌∙◌, ◌+◌, ◌-◌, ◌≤◌, ℕ, List, [], ◌∷◌, ◌++◌, length, ap, arith}
 use Rattle.sled_codec.specs.declared.serialization.message.MessageKind.TheVariants as kind
 use Rattle.sled_codec.specs.Places.{part}
 use Rattle.sled_codec.specs.Written.{written}

@@ -2,7 +2,7 @@
 use Rattle.std.proofs.Common.{◌≡◌, ◌++◌, map, drop}
 use Rattle.sled_codec.specs.Snapshots.{page_of}
 use Rattle.slog_lines.specs.Pages.{last_of, last_of_page}
-use Rattle.slog_lines.proofs.driver.pages_of.Given as goal
+use Rattle.slog_lines.proofs.driver.pages.pages_of.Given as goal
 
 abbrev pub invariant-loop-state : goal.invariant-loop-state
 invariant-loop-state l =
