@@ -45,6 +45,10 @@ pub open_within : (rs : List Reserved) → open_in rs ≤ length rs
 open_within [] = omega arith
 open_within (r ∷ rs) = within_step (open_state r.state) (open_in rs) (length rs) (open_within rs)
 
+-- none is open where all have ended
+pub none_open_count : (rs : List Reserved) → none_open rs ≡ true → open_in rs ≡ 0
+none_open_count rs ended = let is = ended_is rs ∙ ended in grind (arith, nat_tests, is)
+
 -- Where some are open there is a first one, which lies among them.
 
 pub first_there : (rs : List Reserved) → 0 < open_in rs → (from : ℕ) × (first_open_in rs ≡ Some from)

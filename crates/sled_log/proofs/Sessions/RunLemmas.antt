@@ -258,13 +258,14 @@ replace_kind page none = by (page == 1) (page == 0) none
     by false true is = cc
     by false false is = cc
 
--- So a reservation for one fails for the failure that the log keeps, or for want of memory.
-pub replace_failed : (size : ℕ) (a : RunState) (l : LogView) (page : ℕ) (bytes : List ℕ) (T : Type 0) (e : Error) (new : DeviceView) (b : RunState)
-    → ReserveAnswers {T = T} (Err e) l.fault (kind_written Replace page false) → b ≡ a → ReplaceStep size a l page bytes (reply.Failed e) new b
-replace_failed size a l page bytes T (error.Io x) new b answers leads = (answers, leads)
-replace_failed size a l page bytes T error.OutOfMemory new b answers leads = (answers.0, leads)
-replace_failed size a l page bytes T (error.Unsupported text) new b answers leads = absurd (replace_kind page answers.1)
-replace_failed size a l page bytes T _ new b answers leads = absurd answers
+-- So a reservation for one, where none is open, fails for the failure that the log keeps, or for want of memory.
+pub replace_failed : (size : ℕ) (a : RunState) (l : LogView) (page : ℕ) (bytes : List ℕ) (T : Type 0) (e : Error) (new : DeviceView) (b : RunState) (open_count : ℕ) (least : ℤ → Type 0) → open_count ≡ 0
+    → ReserveAnswers {T = T} (Err e) l.fault (kind_written Replace page false) open_count least → b ≡ a → ReplaceStep size a l page bytes (reply.Failed e) new b
+replace_failed size a l page bytes T (error.Io x) new b n least none answers leads = (answers, leads)
+replace_failed size a l page bytes T error.OutOfMemory new b n least none answers leads = (answers.0, leads)
+replace_failed size a l page bytes T (error.Unsupported text) new b n least none answers leads = absurd (replace_kind page answers.1)
+replace_failed size a l page bytes T (error.Held at) new b n least none answers leads = let full = answers.2.0 in absurd (omega (arith, none, full))
+replace_failed size a l page bytes T _ new b n least none answers leads = absurd answers
 
 -- One command that is carried out, and then what runs on from the phase that it leads to.
 pub carried_next : {D C : Type 0} (view : D → DeviceView) (sum : List ℕ → ℕ) (size : ℕ) (phase : Phase D C) (c : Command) (result : Phase D C × Reply) → size_of phase ≡ size → CarriesOut view sum phase c result

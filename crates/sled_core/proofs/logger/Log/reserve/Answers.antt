@@ -1,4 +1,4 @@
-use Rattle.std.proofs.Common.{◌≡◌, ◌∙◌, ◌≤◌, ◌+◌, ◌/◌, ap, sym, refl, List, ℕ, [], ◌∷◌, ◌++◌, length, take, drop, append_assoc, length-append, arith, rules, subst, w64, Some, pos, false}
+use Rattle.std.proofs.Common.{◌≡◌, ◌∙◌, ◌≤◌, ◌+◌, ◌/◌, ap, sym, refl, List, ℕ, [], ◌∷◌, ◌++◌, length, take, drop, append_assoc, length-append, arith, rules, subst, w64, SFits, Some, pos, false}
 use Rattle.std.specs.List.{slice_get}
 use Rattle.sled_codec.specs.declared.result.DiskPtr.TheVariants.{Inline}
 use Rattle.sled_codec.specs.Kinds.{kind_written}
@@ -154,8 +154,9 @@ returns-then-is_full_of_open-clause-answers g c =
     let rs : List Reserved = c.args.self.now.buffer.reserved.items in
     let full : open_in rs ≡ 127 = c.if-is_full_of_open.ensures.0 refl in
     let least = first_there rs (omega (arith, full)) in
+    let fits : SFits w64 c.least_open.result = search rules in
     let known : kind_written c.args.kind c.args.pid false ≡ Some c.in-Some-message_kind.message_kind = sym c.message_kind.ensures ∙ c.in-Some-message_kind.is in
-    (c.in_default.is, subst IsSome (sym known) tt, full, (least.0, least.1, to_z-of_z w64 c.least_open.result c.least_open.type_inv ∙ c.least_open.ensures least.0 least.1))
+    (c.in_default.is, subst IsSome (sym known) refl, full, (least.0, least.1, to_z-of_z w64 c.least_open.result fits ∙ c.least_open.ensures least.0 least.1))
 
 pub returns-then-is_full_of_open-clause-keeps : goal.returns-then-is_full_of_open-clause-keeps
 unfolding Fits Holds

@@ -5,7 +5,8 @@ use Rattle.sled_codec.specs.declared.serialization.message.LogKind.TheVariants.{
 use Rattle.sled_codec.specs.Spelling.{short_bytes}
 use Rattle.sled_codec.specs.History.{Message}
 use Rattle.sled_core.specs.declared.reservation.Reservation.{Reservation}
-use Rattle.sled_core.specs.Fits.{Awaits, message_for, next_place, fault_of, segment_size_of}
+use Rattle.sled_core.specs.Fits.{Awaits, IsLeastOpen, message_for, next_place, fault_of, open_of, segment_size_of}
+use Rattle.sled_core.proofs.Reserve.OpenCounts.{none_open_count}
 use Rattle.sled_core.proofs.Holds.ReachLemmas.{fits_reach, awaited, next_small}
 use Rattle.sled_log.specs.RunStates.{replace_at}
 use Rattle.sled_log.specs.declared.session.step.Phase.TheVariants as phase
@@ -106,7 +107,7 @@ returns-in-Err-clause-step g c = λ k at.
       acts = device;
       step = λ own. (
         k,
-        replace_failed (segment_size_of old) (stands view (phase.Open c.args.opened) k) (seen c.args.opened None) page bytes Reservation c.in-Err.e (view new.config.device) _ c.in-Err.ensures.answers (λ i. record {
+        replace_failed (segment_size_of old) (stands view (phase.Open c.args.opened) k) (seen c.args.opened None) page bytes Reservation c.in-Err.e (view new.config.device) _ (open_of old) (IsLeastOpen old) (none_open_count old.buffer.reserved.items c.requires) c.in-Err.ensures.answers (λ i. record {
           device = device i;
           history = k.history;
           acknowledged = k.acknowledged;
