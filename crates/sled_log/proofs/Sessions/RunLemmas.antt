@@ -1,5 +1,5 @@
 -- What holds at the joints of a run: one trace behind another, what a crash leaves, and how a phase leads to the next one.
-use Rattle.std.proofs.Common.{rules, reverse, ◌≤◌, ◌≡◌, ◌∙◌, ◌<◌, ◌^◌, ℕ, ℤ, pos, Bool, true, false, if◌then◌else◌, IsTrue, List, [], ◌∷◌, ◌++◌, Option, None, Some, refl, sym, ap, subst, append_assoc, inl, inr}
+use Rattle.std.proofs.Common.{rules, reverse, ◌≤◌, ◌≡◌, ◌∙◌, ◌<◌, ◌^◌, ℕ, ℤ, pos, Bool, true, false, if◌then◌else◌, IsTrue, List, [], ◌∷◌, ◌++◌, Option, None, Some, refl, sym, ap, subst, arith, append_assoc, inl, inr}
 use Rattle.std.specs.Prelude.{FitsSigned, Err, ◌==◌}
 use Rattle.std.specs.declared.io.Error.{Error as IoError}
 use Rattle.std.specs.Int.{w64, cast_signed, cast_unsigned}
@@ -264,7 +264,7 @@ pub replace_failed : (size : ℕ) (a : RunState) (l : LogView) (page : ℕ) (byt
 replace_failed size a l page bytes T (error.Io x) new b n least none answers leads = (answers, leads)
 replace_failed size a l page bytes T error.OutOfMemory new b n least none answers leads = (answers.0, leads)
 replace_failed size a l page bytes T (error.Unsupported text) new b n least none answers leads = absurd (replace_kind page answers.1)
-replace_failed size a l page bytes T (error.Held at) new b n least none answers leads = let full = answers.2.0 in absurd (omega (arith, none, full))
+replace_failed size a l page bytes T (error.Held at) new b n least none answers leads = let full = answers.2 in absurd (omega (arith, none, full))
 replace_failed size a l page bytes T _ new b n least none answers leads = absurd answers
 
 -- One command that is carried out, and then what runs on from the phase that it leads to.

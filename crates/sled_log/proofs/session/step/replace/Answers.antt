@@ -107,7 +107,7 @@ returns-in-Err-clause-step g c = λ k at.
       acts = device;
       step = λ own. (
         k,
-        replace_failed (segment_size_of old) (stands view (phase.Open c.args.opened) k) (seen c.args.opened None) page bytes Reservation c.in-Err.e (view new.config.device) _ (open_of old) (IsLeastOpen old) (none_open_count old.buffer.reserved.items c.requires) c.in-Err.ensures.answers (λ i. record {
+        replace_failed (segment_size_of old) (stands view (phase.Open c.args.opened) k) (seen c.args.opened None) page bytes Reservation c.in-Err.e (view new.config.device) _ (open_of old) (IsLeastOpen old) (none_open_count old.buffer.reserved.items c.requires.no_open_batch) c.in-Err.ensures.answers (λ i. record {
           device = device i;
           history = k.history;
           acknowledged = k.acknowledged;
