@@ -1,6 +1,6 @@
 -- A reservation of a segment ends: the buffer that has it waits for one fewer, and isn't written.
-use Rattle.std.proofs.Common.{◌≡◌, ◌≢◌, ◌⊎◌, ◌≤◌, ◌<◌, ◌+◌, ◌-◌, ℕ, zero, suc, max, Bool, true, false, nat_lt, if◌then◌else◌, List, [], ◌∷◌, ◌++◌, length, take, drop, set, get_or, sym, ◌∙◌, ap, arith, refl, subst, inl, inr, length-take, length-drop, Some}
-use Rattle.std.specs.List.{All, slice_get}
+use Rattle.std.proofs.Common.{◌≡◌, ◌⊎◌, ◌≤◌, ◌<◌, ◌+◌, ◌-◌, ℕ, zero, suc, max, Bool, true, false, nat_lt, if◌then◌else◌, List, [], ◌∷◌, ◌++◌, length, take, drop, set, get_or, sym, ◌∙◌, ap, arith, refl, subst, inl, inr, length-take, Some}
+use Rattle.std.specs.List.{slice_get}
 use Rattle.std.proofs.lemmas.Bool.Decides.{nat_tests}
 use Rattle.std.proofs.lemmas.List.{drop-append-le, drop-drop, drop-set-add, drop-set-lt, length-set, take-append-le, take-set-le}
 use Rattle.std.proofs.lemmas.Option.{slice_get_within}
@@ -9,7 +9,7 @@ use Rattle.sled_core.specs.declared.iobuf.Reserved.{Reserved}
 use Rattle.sled_core.specs.declared.iobuf.Sealed.{Sealed}
 use Rattle.sled_core.specs.Buffers.{IsChain, open_in}
 use Rattle.sled_core.specs.SealedBuffers.{IsSealed, AreSealed, sealed_end, sealed_count, one_ended, one_fewer}
-use Rattle.sled_core.proofs.Reserve.Ranges.{chain_grows, chain_within}
+use Rattle.sled_core.proofs.Reserve.Ranges.{chain_grows}
 use Rattle.sled_core.proofs.Sealed.LaidLemmas.{EndsRise, SameWritten}
 
 -- an element of the first ones, and of the others
@@ -85,15 +85,13 @@ module _ (r s : Reserved) (same_from : s.from ≡ r.from) (same_len : s.len ≡ 
     by_test : (b.count ≤ i → AreSealed b.end (set (drop b.count rs) (i - b.count) s) (one_ended (i - b.count) bs)) → (o : Bool) → nat_lt i b.count ≡ o
         → AreSealed from (set rs i s) (if o then record { end = b.end; count = b.count; open_count = b.open_count - 1; is_written = b.is_written } ∷ bs else b ∷ one_ended (i - b.count) bs)
     by_test on true is =
-        let below : i < b.count = grind (arith, nat_tests, is) in
-        (
+        let below : i < b.count = grind (arith, nat_tests, is) in (
           subst (λ (l : List Reserved). IsSealed from l (one_fewer b)) (sym (take-set-lt b.count rs i s)) (own_ended from (take b.count rs) b i (get_front rs b.count i r below there) are.0),
           subst (λ (l : List Reserved). AreSealed b.end l bs) (sym (drop-set-lt b.count rs i s below)) are.1,
         )
     by_test on false is =
         let above : b.count ≤ i = grind (arith, nat_tests, is) in
-        let at : b.count + (i - b.count) ≡ i = omega (arith, above) in
-        (
+        let at : b.count + (i - b.count) ≡ i = omega (arith, above) in (
           subst (λ (l : List Reserved). IsSealed from l b) (sym (take-set-le b.count rs i s above)) are.0,
           subst (λ (l : List Reserved). AreSealed b.end l (one_ended (i - b.count) bs)) (sym (drop-set-add b.count rs (i - b.count) s) ∙ ap (λ k. drop b.count (set rs k s)) at) (on above),
         )
@@ -131,8 +129,7 @@ pub sealed_more : (from : ℕ) (rs : List Reserved) (bs : List Sealed) (more : L
 sealed_more from rs [] more are = tt
 sealed_more from rs (b ∷ bs) more are =
     let count = are.0.counted in
-    let within : b.count ≤ length rs = omega (arith, count, length-take b.count rs) in
-    (
+    let within : b.count ≤ length rs = omega (arith, count, length-take b.count rs) in (
       subst (λ (l : List Reserved). IsSealed from l b) (sym (take-append-le b.count rs more within)) are.0,
       subst (λ (l : List Reserved). AreSealed b.end l bs) (sym (drop-append-le b.count rs more within)) (sealed_more b.end (drop b.count rs) bs more are.1),
     )

@@ -1,6 +1,5 @@
 -- The write of a sealed buffer behind one that isn't written, where the current segment is all that is found: torn or whole, a reader finds what he found before.
-use Rattle.std.proofs.Common.{◌≡◌, ◌⊎◌, ◌≤◌, ◌<◌, ◌+◌, ◌*◌, ◌/◌, ◌%◌, ◌^◌, ℕ, pos, max, List, length, get_or, refl, sym, ap, ◌∙◌, subst, arith, inl, inr}
-use Rattle.std.specs.List.{Contains}
+use Rattle.std.proofs.Common.{◌≡◌, ◌≤◌, ◌<◌, ◌+◌, ◌*◌, ◌/◌, ◌%◌, ℕ, pos, List, length, get_or, refl, sym, ap, ◌∙◌, subst, arith, inl, inr}
 use Rattle.std.proofs.Math.Nat.{mod-add-div'}
 use Rattle.std.proofs.lemmas.Bool.{cases_eq, cases_lt}
 use Rattle.sled_codec.specs.Record.{IsHeader}
@@ -24,7 +23,6 @@ use Rattle.sled_core.proofs.Reached.WrittenUnread.{torn_headless, torn_unread, w
 use Rattle.sled_core.proofs.Reached.WrittenWhole.{same_whole}
 use Rattle.sled_core.proofs.Tail.OneTail.{segment_there}
 use Rattle.sled_core.proofs.Torn.TornLemmas.{after_write}
-use Rattle.sled_core.proofs.Torn.WrittenBehind.{header_stood}
 use Rattle.sled_core.proofs.Torn.WrittenParts.{in_this_file, path_rises, path_whole, twenty}
 
 module _ (sum : List ℕ → ℕ) (none : NoHeaderOfZeros sum) (size : ℕ) (some : 256 ≤ size) (old : List ℕ) (site : SegmentPosition) (from at : ℕ) (asked : List ℕ) (inside : at + length asked ≤ size)
@@ -82,7 +80,7 @@ module _ (sum : List ℕ → ℕ) (none : NoHeaderOfZeros sum) (size : ℕ) (som
     headless : from ≡ 0 → StandsAlone sum size new site from H first
     headless begins =
         let stands = subst (λ n. StandsTo sum size (overwritten old (n + at) asked) H reach first reach) its_slot
-            (written_headless sum size some old slot at asked inside H reach first reach alone.stands none (far begins) (begins_clean begins) there_too) in
+        (written_headless sum size some old slot at asked inside H reach first reach alone.stands none (far begins) (begins_clean begins) there_too) in
         record { stands = stands; only = only; going = λ later room. absurd (omega (arith, begins, later)) }
 
     -- The reading of it ends in front of the gap.
@@ -106,11 +104,10 @@ module _ (sum : List ℕ → ℕ) (none : NoHeaderOfZeros sum) (size : ℕ) (som
           let scan = (segment_there sum size old alone.stands.ordering alone.stands.scanned alone.stands.reads y g.there).1 in
           let was : IsEnd sum size old y.segment.slot y.segment.place y.stop Broken = subst (λ w. IsEnd sum size old y.segment.slot y.segment.place y.stop w) g.broken scan.1 in
           let here : IsEnd sum size new y.segment.slot y.segment.place y.stop Broken = (
-              was.0,
-              zeros_empty sum size new (y.segment.slot + y.stop) (y.segment.place / size)
-                  (zero_below old (site.slot + at) asked (y.segment.slot + y.stop + 4) (omega (arith, in_slot, ended, gap, before)) (clean (y.segment.slot + y.stop + 4) (omega (arith, in_slot, ended)) (omega (arith, in_slot, ended, gap)))),
-          ) in
-          (
+            was.0,
+            zeros_empty sum size new (y.segment.slot + y.stop) (y.segment.place / size)
+                (zero_below old (site.slot + at) asked (y.segment.slot + y.stop + 4) (omega (arith, in_slot, ended, gap, before)) (clean (y.segment.slot + y.stop + 4) (omega (arith, in_slot, ended)) (omega (arith, in_slot, ended, gap)))),
+          ) in (
             path_whole sum size old (site.slot + at) asked y.segment.slot y.segment.place (ap (λ n. n % size) in_slot ∙ slot_begins) 20 y.met y.stop (inl (omega (arith, in_slot, ended, gap, before))) scan.0,
             subst (λ w. IsEnd sum size new y.segment.slot y.segment.place y.stop w) (sym g.broken) here,
           )

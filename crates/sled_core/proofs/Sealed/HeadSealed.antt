@@ -1,12 +1,10 @@
 -- The first sealed buffer is written, behind what was written of its segment or at the beginning of it: what a crash leaves of it stands as before, and all of it up to the end of those behind it that were written before it.
-use Rattle.std.proofs.Common.{◌≡◌, ◌≤◌, ◌<◌, ◌+◌, ◌/◌, ◌%◌, ◌^◌, ◌-ℤ◌, ◌⊎◌, ◌∙◌, ℕ, ℤ, zero, suc, pos, max, Bool, true, false, nat_lt, if◌then◌else◌, List, [], ◌∷◌, ◌++◌, length, take, drop, get_or, sym, ap, refl, subst, arith, inl, inr}
+use Rattle.std.proofs.Common.{◌≡◌, ◌≤◌, ◌<◌, ◌+◌, ◌/◌, ◌%◌, ◌^◌, ◌-ℤ◌, ◌⊎◌, ◌∙◌, ℕ, pos, max, Bool, true, false, nat_lt, if◌then◌else◌, List, [], ◌∷◌, ◌++◌, length, take, drop, get_or, sym, ap, refl, subst, arith}
 use Rattle.std.specs.List.{All, Contains}
-use Rattle.std.proofs.lemmas.Bool.{cases_lt}
 use Rattle.std.proofs.lemmas.Bool.Decides.{nat_tests}
 use Rattle.std.proofs.lemmas.List.{take-take}
 use Rattle.std.proofs.lemmas.List.Elements.{All-drop, All-take}
-use Rattle.sled_codec.specs.Places.{part}
-use Rattle.sled_codec.specs.Record.{IsHeader, short_header}
+use Rattle.sled_codec.specs.Record.{short_header}
 use Rattle.sled_codec.specs.History.{Batch, History}
 use Rattle.sled_codec.specs.Snapshots.{SnapshotModel}
 use Rattle.sled_store.specs.Device.{overwritten, LeavesLog}
@@ -16,7 +14,7 @@ use Rattle.sled_core.specs.declared.iobuf.Reserved.{Reserved}
 use Rattle.sled_core.specs.declared.iobuf.Sealed.{Sealed}
 use Rattle.sled_core.specs.declared.iobuf.SegmentPosition.{SegmentPosition}
 use Rattle.sled_core.specs.declared.iterator.scan.ScannedRecord.{ScannedRecord}
-use Rattle.sled_core.specs.declared.iterator.scan.ScanEnd.TheVariants.{Capped, Full, Broken}
+use Rattle.sled_core.specs.declared.iterator.scan.ScanEnd.TheVariants.{Full, Broken}
 use Rattle.sled_core.specs.Buffers.{IsChain, completed_in, message_in, none_open, Stands}
 use Rattle.sled_core.specs.LogFile.{HasHeader}
 use Rattle.sled_core.specs.Reached.{StandsAlone}
@@ -32,7 +30,7 @@ use Rattle.sled_core.proofs.Sealed.BehindUnwritten.{head_headed, head_room}
 use Rattle.sled_core.proofs.Sealed.Clear.{clear_behind, clear_on, run_ends}
 use Rattle.sled_core.proofs.Sealed.HeadWritten.{head_written, torn_head}
 use Rattle.sled_core.proofs.Sealed.LaidLemmas.{EndsRise, ends_below}
-use Rattle.sled_core.proofs.Sealed.OneWritten.{bytes_between, has_written, laid_new, long, rises_at, sealed_written}
+use Rattle.sled_core.proofs.Sealed.OneWritten.{bytes_between, laid_new, long, sealed_written}
 use Rattle.sled_core.proofs.Sealed.Runs.{IsRun, run_laid, run_of, run_stops, run_there, take_more, written_ended}
 use Rattle.sled_core.proofs.Torn.TornLemmas.{after_write}
 use Rattle.sled_core.proofs.Torn.WrittenRecords.{AreClear}
@@ -136,10 +134,10 @@ module _ (sum : List ℕ → ℕ) (none : NoHeaderOfZeros sum) (size : ℕ) (som
       let here : Agrees new site.slot bytes from b.end = record { same = λ i above below. agrees.same i above (omega (arith, below, far)); in_file = omega (arith, in_file, far); in_bytes = inside } in
       let behind : Agrees new site.slot bytes b.end stop = record { same = λ i above below. agrees.same i (omega (arith, above, up)) below; in_file = in_file; in_bytes = in_bytes } in
       let path_own = path_to sum size site new bytes from b.end here (omega (arith, far, low)) place_begins slot_begins place_small slot_small own are.0.chain
-          (All-take (Stands sum (site.place / size) bytes) b.count rs stand) (All-take (λ (r : Reserved). r.from + 32 ≤ size) b.count rs room) own_closed in
+      (All-take (Stands sum (site.place / size) bytes) b.count rs stand) (All-take (λ (r : Reserved). r.from + 32 ≤ size) b.count rs room) own_closed in
       let path_more = path_to sum size site new bytes b.end stop behind low place_begins slot_begins place_small slot_small more (subst (λ n. IsChain (max 20 b.end) more n) also rest_run.chain)
-          (All-take (Stands sum (site.place / size) bytes) (run_count rest) (drop b.count rs) (All-drop (Stands sum (site.place / size) bytes) b.count rs stand))
-          (All-take (λ (r : Reserved). r.from + 32 ≤ size) (run_count rest) (drop b.count rs) (All-drop (λ (r : Reserved). r.from + 32 ≤ size) b.count rs room)) rest_run.ended in
+      (All-take (Stands sum (site.place / size) bytes) (run_count rest) (drop b.count rs) (All-drop (Stands sum (site.place / size) bytes) b.count rs stand))
+      (All-take (λ (r : Reserved). r.from + 32 ≤ size) (run_count rest) (drop b.count rs) (All-drop (λ (r : Reserved). r.from + 32 ≤ size) b.count rs room)) rest_run.ended in
       let path_on = subst (λ n. IsPath sum size new site.slot site.place n (met_in site bytes more) stop) same path_more in
       subst (λ (ms : List ScannedRecord). AreClear size b.end (max 20 from) ms) (sym (ap (met_in site bytes) two ∙ met_on site bytes own more))
       (clear_on sum size new site.slot site.place b.end (max 20 from) (met_in site bytes own) (met_in site bytes more) path_own

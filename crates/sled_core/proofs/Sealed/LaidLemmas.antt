@@ -32,9 +32,10 @@ pub laid_same : (slot : ℕ) (old new bytes : List ℕ) (from : ℕ) (bs : List 
 laid_same slot old new bytes from [] to rise is laid = zeros_same slot old new from to is.same laid
 laid_same slot old new bytes from (b ∷ bs) to rise is laid =
     let here = rise.0 in
-    let below = ends_below b.end bs to rise.1 in
-    (one_same slot old new bytes from b.end b.is_written is.grows (λ i above low. is.same i above (omega (arith, low, below.0, below.1))) laid.0,
-    laid_same slot old new bytes b.end bs to rise.1 (record { grows = is.grows; same = λ i above low. is.same i (omega (arith, above, here)) low }) laid.1)
+    let below = ends_below b.end bs to rise.1 in (
+      one_same slot old new bytes from b.end b.is_written is.grows (λ i above low. is.same i above (omega (arith, low, below.0, below.1))) laid.0,
+      laid_same slot old new bytes b.end bs to rise.1 (record { grows = is.grows; same = λ i above low. is.same i (omega (arith, above, here)) low }) laid.1,
+    )
 
 -- One of them is written: the file has its bytes, and is the same in front of it and behind it.
 pub laid_written : (slot : ℕ) (old new bytes : List ℕ) (from : ℕ) (front : List Sealed) (b : Sealed) (rest : List Sealed) (to : ℕ) → EndsRise from (front ++ b ∷ rest) to → length old ≤ length new
@@ -45,9 +46,10 @@ laid_written slot old new bytes from [] b rest to rise grows same there laid =
     (there, laid_same slot old new bytes b.end rest to rise.1 (record { grows = grows; same = λ i above low. same i (omega (arith, above, here)) (inr above) }) laid.1)
 laid_written slot old new bytes from (x ∷ xs) b rest to rise grows same there laid =
     let here = rise.0 in
-    let below = front_end x.end xs b rest to rise.1 in
-    (one_same slot old new bytes from x.end x.is_written grows (λ i above low. same i above (inl (omega (arith, low, below)))) laid.0,
-    laid_written slot old new bytes x.end xs b rest to rise.1 grows (λ i above how. same i (omega (arith, above, here)) how) there laid.1)
+    let below = front_end x.end xs b rest to rise.1 in (
+      one_same slot old new bytes from x.end x.is_written grows (λ i above low. same i above (inl (omega (arith, low, below)))) laid.0,
+      laid_written slot old new bytes x.end xs b rest to rise.1 grows (λ i above how. same i (omega (arith, above, here)) how) there laid.1,
+    )
   where
     front_end : (from : ℕ) (xs : List Sealed) (b : Sealed) (rest : List Sealed) (to : ℕ) → EndsRise from (xs ++ b ∷ rest) to → from ≤ sealed_end from xs
     front_end from [] b rest to rise = omega arith

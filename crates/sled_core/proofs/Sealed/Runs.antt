@@ -1,12 +1,12 @@
 -- The buffers at the front that are written: their reservations are one chain, none of which is open, and the file has their bytes. What is behind them is as it was.
-use Rattle.std.proofs.Common.{◌≡◌, ◌≢◌, ◌≤◌, ◌<◌, ◌+◌, ℕ, zero, suc, max, Bool, true, false, if◌then◌else◌, List, [], ◌∷◌, ◌++◌, length, take, drop, get_or, sym, ◌∙◌, ap, arith, refl, subst, inl, inr, length-take}
+use Rattle.std.proofs.Common.{◌≡◌, ◌≤◌, ◌<◌, ◌+◌, ℕ, zero, suc, max, Bool, true, false, if◌then◌else◌, List, [], ◌∷◌, ◌++◌, take, drop, sym, ◌∙◌, ap, arith, refl, subst, inl, inr}
 use Rattle.std.proofs.lemmas.Bool.{cases_lt}
 use Rattle.std.proofs.lemmas.Bool.Decides.{nat_tests}
-use Rattle.std.proofs.lemmas.List.{drop-drop, take-append-drop}
+use Rattle.std.proofs.lemmas.List.{drop-drop}
 use Rattle.sled_core.specs.declared.iobuf.Reserved.{Reserved}
 use Rattle.sled_core.specs.declared.iobuf.Sealed.{Sealed}
 use Rattle.sled_core.specs.Buffers.{IsChain, none_open, open_in, open_state}
-use Rattle.sled_core.specs.SealedBuffers.{IsSealed, AreSealed, sealed_end, sealed_count, AreZeros, Agrees, LaidOne, Laid, run_end, run_count, behind_run}
+use Rattle.sled_core.specs.SealedBuffers.{IsSealed, AreSealed, Agrees, LaidOne, Laid, run_end, run_count, behind_run}
 use Rattle.sled_core.proofs.Reserve.OpenCounts.{ended_is}
 use Rattle.sled_core.proofs.Reserve.Ranges.{chain_grows}
 

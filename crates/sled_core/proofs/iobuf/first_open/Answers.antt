@@ -1,11 +1,9 @@
-use Rattle.std.proofs.Common.{◌≡◌, ◌≤◌, ◌<◌, ◌+◌, ◌∙◌, ap, sym, refl, arith, rules, ℕ, List, [], Some, None, Bool, true, false, if◌then◌else◌, length, drop, get_or}
-use Rattle.std.specs.List.{slice_get}
+use Rattle.std.proofs.Common.{◌≡◌, ◌<◌, ◌+◌, ◌∙◌, ap, sym, refl, arith, ℕ, List, Some, Bool, true, false, if◌then◌else◌, length, drop, get_or}
 use Rattle.std.proofs.lemmas.List.{drop_all}
 use Rattle.std.proofs.lemmas.Option.{slice_get-get_or}
 use Rattle.sled_core.specs.declared.iobuf.Reserved.{Reserved}
 use Rattle.sled_core.specs.Buffers.{first_open_in, open_state}
 use Rattle.sled_core.proofs.Reserve.OpenCounts.{first_drop}
-use Rattle.sled_core.proofs.Reserve.Parts.{there_is}
 use Rattle.sled_core.proofs.iobuf.first_open.Goals as goal
 
 pub loop-i-init : goal.loop-i-init

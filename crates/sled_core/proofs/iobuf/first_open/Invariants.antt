@@ -1,4 +1,4 @@
-use Rattle.std.proofs.Common.{length, ◌-◌, ◌≡◌, ◌≤◌, ℕ, List, drop}
+use Rattle.std.proofs.Common.{length, ◌-◌, ◌≡◌, ◌≤◌, drop}
 use Rattle.sled_core.specs.Buffers.{first_open_in}
 use Rattle.sled_core.proofs.iobuf.first_open.Given as goal
 

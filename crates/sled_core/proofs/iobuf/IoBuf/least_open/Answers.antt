@@ -1,6 +1,5 @@
-use Rattle.std.proofs.Common.{◌≡◌, ◌≤◌, ◌<◌, ◌+◌, ◌∙◌, ap, sym, refl, arith, rules, ℕ, List, Some, None, length, pos, w64}
+use Rattle.std.proofs.Common.{◌≡◌, ◌+◌, ◌∙◌, ap, sym, arith, Some, None, length, pos, w64}
 use Rattle.std.proofs.lemmas.Int.{to_z_pos}
-use Rattle.sled_core.specs.declared.iobuf.Reserved.{Reserved}
 use Rattle.sled_core.specs.Buffers.{first_open_in}
 use Rattle.sled_core.proofs.Reserve.OpenCounts.{first_within}
 use Rattle.sled_core.proofs.iobuf.IoBuf.least_open.Goals as goal
