@@ -7,3 +7,4 @@ pub mod HeadWritten
 pub mod LaidLemmas
 pub mod OneWritten
 pub mod Runs
+pub mod WriteMoments
