@@ -7,4 +7,5 @@ pub mod HeadWritten
 pub mod LaidLemmas
 pub mod OneWritten
 pub mod Runs
+pub mod SealedCalls
 pub mod WriteMoments

@@ -16,12 +16,16 @@ padded_long to log = omega (arith, length-padded to log)
 pub padded_none : (to : ℕ) (log : List ℕ) → to ≤ length log → padded to log ≡ log
 padded_none to log long = let none : to - length log ≡ 0 = omega (arith, long) in ap (λ n. log ++ replicate n 0) none ∙ append-nil log
 
+-- from there on it reads the same
+pub padded_same : (to : ℕ) (log : List ℕ) (i : ℕ) → to ≤ i → get_or (padded to log) i 0 ≡ get_or log i 0
+padded_same to log i above = elim (cases_lt (length log) to) [
+  | inl short ↦ get_or_past (padded to log) i 0 (omega (arith, length-padded to log, short, above)) ∙ sym (get_or_past log i 0 (omega (arith, short, above)))
+  | inr long ↦ ap (λ (l : List ℕ). get_or l i 0) (padded_none to log long)
+]
+
 -- Zeros from there on stay zeros.
 pub padded_clean : (to : ℕ) (log : List ℕ) (i : ℕ) → to ≤ i → get_or log i 0 ≡ 0 → get_or (padded to log) i 0 ≡ 0
-padded_clean to log i above clean = elim (cases_lt (length log) to) [
-  | inl short ↦ get_or_past (padded to log) i 0 (omega (arith, length-padded to log, short, above))
-  | inr long ↦ ap (λ (l : List ℕ). get_or l i 0) (padded_none to log long) ∙ clean
-]
+padded_clean to log i above clean = padded_same to log i above ∙ clean
 
 -- zeros behind zeros
 zeros_joined : (log : List ℕ) (k j n : ℕ) → k + j ≡ n → (log ++ replicate k 0) ++ replicate j 0 ≡ log ++ replicate n 0

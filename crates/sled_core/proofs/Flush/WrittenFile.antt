@@ -1,5 +1,5 @@
 -- A log file has all messages once the buffer is written: those that stood there, and those of the buffer behind them.
-use Rattle.std.proofs.Common.{◌≡◌, ◌≤◌, ◌<◌, ◌+◌, ◌/◌, ◌%◌, ◌^◌, ◌∙◌, ◌-ℤ◌, ℕ, pos, max, true, List, ◌++◌, length, take, drop, sym, ap, arith, subst, length-drop, inl, inr}
+use Rattle.std.proofs.Common.{◌≡◌, ◌≤◌, ◌<◌, ◌+◌, ◌/◌, ◌%◌, ◌^◌, ◌∙◌, ◌-ℤ◌, ℕ, pos, max, true, List, ◌++◌, length, take, drop, sym, refl, ap, arith, subst, length-drop, inl, inr}
 use Rattle.std.specs.List.{All, Contains}
 use Rattle.std.proofs.Math.Nat.{div-le_self}
 use Rattle.std.proofs.lemmas.Bool.{cases_lt}
@@ -21,6 +21,20 @@ use Rattle.sled_core.proofs.Reached.BufferPath.{buffer_header, buffer_mark}
 use Rattle.sled_core.specs.SealedBuffers.{Agrees}
 use Rattle.sled_core.proofs.Reached.BufferStands.{StandsOwn, own_in, same_part, written_agrees}
 use Rattle.sled_core.proofs.Tail.GreatestMark.{mark_below}
+
+-- The header of a segment stands where its first bytes were written.
+pub header_written : (sum : List ℕ → ℕ) (new bytes : List ℕ) (site : SegmentPosition) (to : ℕ) → site.place < 2 ^ 63 → 20 ≤ to → Agrees new site.slot bytes 0 to
+    → take 20 bytes ≡ short_header sum (pos site.place) (pos site.place -ℤ pos 1) → HasHeader sum new site
+header_written sum new bytes site to small begun agree header =
+    let here : site.slot + 0 ≡ site.slot = omega arith in
+    let at : part new site.slot 20 ≡ take 20 bytes = ap (λ i. part new i 20) (sym here) ∙ same_part new site.slot bytes 0 to agree 0 20 (omega arith) (omega (arith, begun)) in
+    let written = buffer_header sum bytes 0 site.place refl small header in
+    let mark = buffer_mark no_history site.slot site.place (λ b there low. absurd (in_nothing b there)) in
+    record {
+      mark = pos site.place -ℤ pos 1;
+      header = subst (λ (l : List ℕ). IsHeader sum l (pos site.place) (pos site.place -ℤ pos 1)) (sym at) written;
+      below = λ n is. mark_below (pos site.place -ℤ pos 1) n site.place is mark.below;
+    }
 
 module _ (sum : List ℕ → ℕ) (size : ℕ) (site : SegmentPosition) (old bytes : List ℕ) (from : ℕ) (rs : List Reserved) (earlier : List Message) (entries : ℕ → List Message) (file : IsLogFile sum size old site from earlier entries)
     (begun : 20 ≤ length bytes) (behind : from < length bytes) (short : length bytes ≤ size) (place_begins : site.place % size ≡ 0) (slot_begins : site.slot % size ≡ 0)
@@ -56,17 +70,7 @@ module _ (sum : List ℕ → ℕ) (size : ℕ) (site : SegmentPosition) (old byt
     | inl some ↦ header_kept sum size old (site.slot + from) xs site (let long = file.begun some in omega (arith, long)) (file.header some)
     | inr none ↦ (
         let first : from ≡ 0 = omega (arith, none) in
-        let here : site.slot + 0 ≡ site.slot = omega arith in
-        let at : part new site.slot 20 ≡ take 20 xs =
-        ap (λ i. part new i 20) (sym here) ∙ same_part new site.slot bytes from (length bytes) agree 0 20 (omega (arith, first)) (omega (arith, begun)) ∙ ap (λ n. take 20 (drop n bytes)) (sym first) in
-        let small : site.place < 2 ^ 63 = omega (arith, place_small) in
-        let written = buffer_header sum bytes from site.place first small (header first) in
-        let mark = buffer_mark no_history site.slot site.place (λ b there low. absurd (in_nothing b there)) in
-        record {
-          mark = pos site.place -ℤ pos 1;
-          header = subst (λ (l : List ℕ). IsHeader sum l (pos site.place) (pos site.place -ℤ pos 1)) (sym at) written;
-          below = λ n is. mark_below (pos site.place -ℤ pos 1) n site.place is mark.below;
-        })
+        header_written sum new bytes site (length bytes) (omega (arith, place_small)) begun (subst (λ n. Agrees new site.slot bytes n (length bytes)) first agree) (header first))
   ]
 
   -- The log file.

@@ -1,5 +1,5 @@
 -- At each moment of the write of one buffer, and of the sync behind it, a crash leaves what can be recovered, where what a crash leaves of the write stands as before, and all of it up to a place no lower.
-use Rattle.std.proofs.Common.{◌≡◌, ◌≤◌, ◌+◌, ℕ, List, [], ◌∷◌, length, ap, sym, refl, subst, arith}
+use Rattle.std.proofs.Common.{◌≡◌, ◌≤◌, ◌+◌, ℕ, List, [], ◌∷◌, length, sym, refl, subst, arith}
 use Rattle.sled_codec.specs.History.{History}
 use Rattle.sled_codec.specs.Snapshots.{SnapshotModel}
 use Rattle.sled_store.specs.Device.{Event, LogState, State, Wrote, Synced, LeavesLog, at_rest, log_step, overwritten, step}
@@ -18,7 +18,7 @@ module _ (sum : List ℕ → ℕ) (size : ℕ) (some : 256 ≤ size) (device : S
     (ordered : Ascends H.messages) (inline : InlineFrom H (site.place + from)) (names : NamesFit sum size device.snapshots H f first) (blobs : BlobsFit sum device.blobs H (site.place + from))
     (before : LeavesRecoverable sum size H (site.place + from) f device) (at : ℕ) (asked : List ℕ)
     (torn : NoHeaderOfZeros sum → (now left : List ℕ) → length now ≤ length asked → LeavesLog (after_write device.log.bytes at asked now) left → (placed : List (ℕ × List ℕ))
-        → NoForeignLog sum size (after_write device.log.bytes at asked now) placed left → StandsTo sum size left H (site.place + from) first (site.place + from))
+    → NoForeignLog sum size (after_write device.log.bytes at asked now) placed left → StandsTo sum size left H (site.place + from) first (site.place + from))
     (whole : NoHeaderOfZeros sum → StandsAlone sum size (overwritten device.log.bytes at asked) site to H first) where
   -- the state once so much of the write was done
   abbrev while_written : List ℕ → State
@@ -31,7 +31,7 @@ module _ (sum : List ℕ → ℕ) (size : ℕ) (some : 256 ≤ size) (device : S
   write_leaves : (now : List ℕ) → length now ≤ length asked → LeavesRecoverable sum size H (site.place + from) f (while_written now)
   write_leaves now no_more = λ left leaves only_own.
       let stands = torn only_own.zeros now left.log no_more (subst (λ (s : LogState). LeavesLog (log_step (Wrote at asked now) s) left.log) rest leaves.log)
-          ((at, asked) ∷ device.placed) (subst (λ (s : LogState). NoForeignLog sum size (log_step (Wrote at asked now) s) ((at, asked) ∷ device.placed) left.log) rest only_own.log) in
+      ((at, asked) ∷ device.placed) (subst (λ (s : LogState). NoForeignLog sum size (log_step (Wrote at asked now) s) ((at, asked) ∷ device.placed) left.log) rest only_own.log) in
       stands_recoverable sum size some left H (site.place + from) f first (site.place + from) ordered inline (names left.snapshots leaves.snapshots only_own.snapshots) (blobs left.blobs leaves.blobs only_own.blobs) stands
 
   -- what stands up to the place needs no more blobs

@@ -1,0 +1,95 @@
+-- One of the sealed buffers of the current segment is written, the first one or another: what a crash leaves of it stands as before, and behind it the log file stands up to where the run at the front ends, with what the buffers have laid in it.
+use Rattle.std.proofs.Common.{◌≡◌, ◌≤◌, ◌<◌, ◌+◌, ◌/◌, ◌%◌, ◌^◌, ◌-ℤ◌, ◌⊎◌, ℕ, pos, max, false, List, [], ◌∷◌, ◌++◌, length, take, sym, subst, arith, inl, inr}
+use Rattle.std.specs.List.{All, Contains}
+use Rattle.std.proofs.lemmas.Bool.{cases_lt}
+use Rattle.sled_codec.specs.Record.{short_header}
+use Rattle.sled_codec.specs.History.{Batch, History}
+use Rattle.sled_codec.specs.Snapshots.{SnapshotModel}
+use Rattle.sled_store.specs.Device.{overwritten}
+use Rattle.sled_store.proofs.Histories.Ascending.{Ascends}
+use Rattle.sled_core.specs.declared.iobuf.Reserved.{Reserved}
+use Rattle.sled_core.specs.declared.iobuf.Sealed.{Sealed}
+use Rattle.sled_core.specs.declared.iobuf.SegmentPosition.{SegmentPosition}
+use Rattle.sled_core.specs.Buffers.{completed_in, Stands}
+use Rattle.sled_core.specs.LogFile.{HasHeader, padded}
+use Rattle.sled_core.specs.Reached.{StandsAlone}
+use Rattle.sled_core.specs.Recoverable.{NoHeaderOfZeros}
+use Rattle.sled_core.specs.SealedBuffers.{Agrees, AreSealed, Laid, run_count, run_end, sealed_end}
+use Rattle.sled_core.specs.Tail.{least_place}
+use Rattle.sled_core.proofs.Flush.LogFileLemmas.{header_kept}
+use Rattle.sled_core.proofs.Flush.Padded.{length-padded, overwritten-padded, padded_long, padded_same}
+use Rattle.sled_core.proofs.Flush.WrittenFile.{header_written}
+use Rattle.sled_core.proofs.Reached.BufferPath.{HasOnly}
+use Rattle.sled_core.proofs.Sealed.BehindUnwritten.{head_headed, written_behind_unwritten}
+use Rattle.sled_core.proofs.Sealed.HeadSealed.{head_sealed_written}
+use Rattle.sled_core.proofs.Sealed.LaidLemmas.{EndsRise, laid_same}
+use Rattle.sled_core.proofs.Sealed.OneWritten.{bytes_between, has_written, long, rises_at}
+
+module _ (sum : List ℕ → ℕ) (size : ℕ) (some : 256 ≤ size) (old : List ℕ) (site : SegmentPosition)
+    (place_begins : site.place % size ≡ 0) (slot_begins : site.slot % size ≡ 0) (place_small : site.place + size < 2 ^ 63) (slot_small : site.slot + size < 2 ^ 63)
+    (bytes : List ℕ) (from : ℕ) (begins : (from ≡ 0) ⊎ (20 ≤ from)) (rs : List Reserved) where
+  -- the file with the gap in front of the slot filled
+  abbrev filled : List ℕ
+  filled = padded site.slot old
+
+  -- The first buffer.
+  module _ (b : Sealed) (rest : List Sealed) (fresh : b.is_written ≡ false) (closed : b.open_count ≡ 0) (are : AreSealed from rs (b ∷ rest)) (rise : EndsRise from (b ∷ rest) size) (inside : b.end ≤ length bytes)
+      (stand : All (Stands sum (site.place / size) bytes) rs) (room : All (λ r. r.from + 32 ≤ size) rs) (header : from ≡ 0 → take 20 bytes ≡ short_header sum (pos site.place) (pos site.place -ℤ pos 1))
+      (old_header : 0 < from → HasHeader sum old site) (laid : Laid old site.slot bytes from (b ∷ rest) size) where
+    abbrev asked : List ℕ
+    asked = bytes_between bytes from b.end
+
+    abbrev new : List ℕ
+    new = overwritten old (site.slot + from) asked
+
+    up : from < b.end
+    up = rise.0
+
+    length_asked : from + length asked ≡ b.end
+    length_asked = long old site.slot bytes from [] b rest size rise inside
+
+    same_file : overwritten filled (site.slot + from) asked ≡ new
+    same_file = let l = length_asked in overwritten-padded site.slot old (site.slot + from) asked (omega arith) (omega (arith, l, up))
+
+    laid_filled : Laid filled site.slot bytes from (b ∷ rest) size
+    laid_filled = laid_same site.slot old filled bytes from (b ∷ rest) size rise (record { grows = omega (arith, length-padded site.slot old); same = λ i above below. padded_same site.slot old (site.slot + i) (omega arith) }) laid
+
+    -- The header of its segment is there.
+    pub first_header : HasHeader sum new site
+    first_header = elim (cases_lt 0 from) [
+      | inl later ↦ header_kept sum size old (site.slot + from) asked site (elim begins [ inl none ↦ absurd (omega (arith, none, later)) | inr far ↦ omega (arith, far) ]) (old_header later)
+      | inr first_one ↦ (
+          let none : from ≡ 0 = omega (arith, first_one) in
+          let agrees = has_written old site.slot bytes from [] b rest size rise inside in
+          header_written sum new bytes site b.end (omega (arith, place_small)) (head_headed from rs b rest are none) (subst (λ n. Agrees new site.slot bytes n b.end) none agrees) (header none))
+    ]
+
+    -- A reader reads up to the end of those that are written now.
+    pub first_alone : NoHeaderOfZeros sum → (H : History) (first : SnapshotModel) → StandsAlone sum size filled site from H first → HasOnly H (completed_in site bytes (take (b.count + run_count rest) rs)) (site.place + max 20 from) (site.place + run_end b.end rest)
+        → Ascends H.messages → least_place size first ≡ site.place → ((c : Batch) → Contains H.batches c → c.low < site.place + run_end b.end rest → c.peg < site.place + run_end b.end rest) → StandsAlone sum size new site (run_end b.end rest) H first
+    first_alone zeros H first alone has ordered least_is ended = subst (λ (l : List ℕ). StandsAlone sum size l site (run_end b.end rest) H first) same_file
+        (head_sealed_written sum zeros size some filled site place_begins slot_begins place_small slot_small bytes from begins rs b rest fresh closed are rise inside stand room header laid_filled H first alone has
+        ordered (padded_long site.slot old) least_is ended (subst (λ (l : List ℕ). HasHeader sum l site) (sym same_file) first_header))
+
+  -- Another one, behind a first one that isn't written.
+  module _ (x : Sealed) (xs : List Sealed) (b : Sealed) (rest : List Sealed) (fresh : x.is_written ≡ false) (are : AreSealed from rs (x ∷ xs ++ b ∷ rest)) (rise : EndsRise from (x ∷ xs ++ b ∷ rest) size) (inside : b.end ≤ length bytes)
+      (lens : All (λ r. 5 ≤ r.len) rs) (room : All (λ r. r.from + 32 ≤ size) rs) (laid : Laid old site.slot bytes from (x ∷ xs ++ b ∷ rest) size) where
+    abbrev at : ℕ
+    at = sealed_end x.end xs
+
+    abbrev asked_later : List ℕ
+    asked_later = bytes_between bytes at b.end
+
+    length_later : at + length asked_later ≡ b.end
+    length_later = long old site.slot bytes from (x ∷ xs) b rest size rise inside
+
+    same_later : overwritten filled (site.slot + at) asked_later ≡ overwritten old (site.slot + at) asked_later
+    same_later = let l = length_later in let lies = rises_at x.end xs b rest size rise.1 in let up = lies.1 in overwritten-padded site.slot old (site.slot + at) asked_later (omega arith) (omega (arith, l, up))
+
+    laid_later : Laid filled site.slot bytes from (x ∷ xs ++ b ∷ rest) size
+    laid_later = laid_same site.slot old filled bytes from (x ∷ xs ++ b ∷ rest) size rise (record { grows = omega (arith, length-padded site.slot old); same = λ i above below. padded_same site.slot old (site.slot + i) (omega arith) }) laid
+
+    -- A reader reads no further than before.
+    pub later_alone : NoHeaderOfZeros sum → (H : History) (first : SnapshotModel) → StandsAlone sum size filled site from H first → StandsAlone sum size (overwritten old (site.slot + at) asked_later) site from H first
+    later_alone zeros H first alone = subst (λ (l : List ℕ). StandsAlone sum size l site from H first) same_later
+        (written_behind_unwritten sum zeros size some old site slot_begins bytes from begins rs x xs b rest fresh are rise inside lens room H first filled laid_later alone (padded_long site.slot old))
