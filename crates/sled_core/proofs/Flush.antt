@@ -6,6 +6,9 @@ pub mod LogFileKept
 pub mod LogFileLemmas
 pub mod Padded
 pub mod SameFits
+pub mod SealedFile
+pub mod SealedFits
+pub mod SealedWrites
 pub mod Settled
 pub mod WholeBuffer
 pub mod WrittenBuffer

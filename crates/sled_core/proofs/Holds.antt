@@ -1,12 +1,16 @@
 pub mod Added
 pub mod BegunLemmas
+pub mod BufferEnds
 pub mod CallMoments
 pub mod CanceledLemmas
 pub mod CompletedLemmas
 pub mod HeldRecords
 pub mod HoldsLemmas
 pub mod KeptCalls
+pub mod KeptTickets
 pub mod OpenTickets
 pub mod ReachLemmas
 pub mod RunningLemmas
+pub mod SealedCalls
 pub mod StandsAdds
+pub mod Writes

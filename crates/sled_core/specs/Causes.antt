@@ -1,5 +1,5 @@
 -- Why a call of a log failed.
-use Rattle.std.specs.Prelude.{◌≡◌, ◌⊎◌, [], ◌+◌, ◌<◌, ◌%◌, ◌^◌, ℕ, ℤ, List, Option, None, Some, Result, Ok, Err, IsTrue, IsSome}
+use Rattle.std.specs.Prelude.{◌≡◌, ◌⊎◌, [], ◌+◌, ◌<◌, ◌%◌, ◌^◌, ℕ, ℤ, pos, List, Option, None, Some, Result, Ok, Err, IsTrue, IsSome}
 use Rattle.std.specs.declared.io.Error.{Error as IoError}
 use Rattle.sled_codec.specs.declared.result.Error.{Error}
 use Rattle.std.specs.String.{string_bytes}
@@ -20,6 +20,36 @@ Answers (Ok _) old new before after = (old ≡ None) × (new ≡ None) × (after
 Answers (Err (Io e)) old new before after = IsFault e old new before after
 Answers (Err OutOfMemory) old new before after = (old ≡ None) × (new ≡ None) × (after ≡ before)
 Answers (Err _) old new before after = ⊥
+
+-- A call that writes buffers up to one that has an open reservation: as each that may touch the device. Held it is exactly where there is one, and that begins there in a segment of this place.
+abbrev pub HeldAnswers : {T : Type 0} → Result T Error → ℕ → Option ℕ → Option IoError → Option IoError → ℕ → ℕ → Type 0
+HeldAnswers (Err (Held at)) place held old new before after = ((from : ℕ) × (held ≡ Some from) × (at ≡ pos (place + from))) × (old ≡ None) × (new ≡ None) × (after ≡ before)
+HeldAnswers (Ok n) place held old new before after = (held ≡ None) × (old ≡ None) × (new ≡ None) × (after ≡ before)
+HeldAnswers result place held old new before after = Answers result old new before after
+
+-- the call was held by an open reservation
+abbrev pub IsHeld : {T : Type 0} → Result T Error → Type 0
+IsHeld (Err (Held at)) = Unit {0}
+IsHeld _ = ⊥
+
+-- it did what it had to do: it succeeded, or was held
+abbrev pub OnDone : {T : Type 0} → Result T Error → Type 0 → Type 0
+OnDone (Ok _) P = P
+OnDone (Err (Held at)) P = P
+OnDone _ P = Unit {0}
+
+-- a call was held by an open reservation, with its place, or memory was refused
+abbrev pub HeldOrMemory : Error → (ℤ → Type 0) → Type 0
+HeldOrMemory (Held at) least = least at
+HeldOrMemory OutOfMemory least = Unit {0}
+HeldOrMemory _ least = ⊥
+
+-- A call that touches no device: it answers the failure that the log keeps, and succeeds, or wants memory, only where it keeps none.
+abbrev pub FaultOrMemory : {T : Type 0} → Result T Error → Option IoError → Type 0
+FaultOrMemory (Ok _) fault = fault ≡ None
+FaultOrMemory (Err (Io e)) fault = fault ≡ Some e
+FaultOrMemory (Err OutOfMemory) fault = fault ≡ None
+FaultOrMemory (Err _) fault = ⊥
 
 -- A call that touches no device and wants no memory: it fails exactly where the log keeps a failure, and answers that.
 abbrev pub FaultAnswers : {T : Type 0} → Result T Error → Option IoError → Type 0

@@ -1,5 +1,5 @@
 -- What a log has to do with the history of what was completed, and with its device. It has one current segment, whose buffer has all of what is not written.
-use Rattle.std.specs.Prelude.{◌≡◌, ◌⊎◌, ◌+◌, ◌-◌, ◌*◌, ◌/◌, ◌%◌, ◌^◌, ◌≤◌, ◌<◌, ◌-ℤ◌, ℕ, ℤ, pos, max, true, List, [], ◌++◌, ◌∷◌, length, take, drop, All, Option, None, Some, slice_get, Contains}
+use Rattle.std.specs.Prelude.{nat_lt, if◌then◌else◌, Bool, false, ◌≡◌, ◌⊎◌, ◌+◌, ◌-◌, ◌*◌, ◌/◌, ◌%◌, ◌^◌, ◌≤◌, ◌<◌, ◌-ℤ◌, ℕ, ℤ, pos, max, true, List, [], ◌++◌, ◌∷◌, length, take, drop, All, Option, None, Some, slice_get, Contains}
 use Rattle.std.specs.declared.io.Error.{Error as IoError}
 use Rattle.sled_codec.specs.declared.result.DiskPtr.TheVariants.{Inline}
 use Rattle.sled_codec.specs.declared.serialization.message.LogKind.{LogKind}
@@ -8,16 +8,19 @@ use Rattle.sled_codec.specs.History.{Message, Batch, History, CutFits, table}
 use Rattle.sled_codec.specs.WellFormed.{LieApart}
 use Rattle.sled_codec.specs.Snapshots.{SnapshotModel, stable_place}
 use Rattle.sled_codec.specs.PageTables.{IsTable}
-use Rattle.sled_store.specs.Device.{Event, Wrote, Synced, Trace, LogState, State, state_of, at_rest}
+use Rattle.sled_store.specs.Device.{Event, Trace, LogState, State, state_of, at_rest}
 use Rattle.sled_store.specs.SnapshotFiles.{BeginsFrom}
+use Rattle.sled_core.specs.declared.iobuf.IoBuf.{IoBuf}
 use Rattle.sled_core.specs.declared.iobuf.ReservationState.TheVariants.{Open}
 use Rattle.sled_core.specs.declared.iobuf.Reserved.{Reserved}
+use Rattle.sled_core.specs.declared.iobuf.Sealed.{Sealed}
 use Rattle.sled_core.specs.declared.iobuf.SegmentPosition.{SegmentPosition}
 use Rattle.sled_core.specs.declared.reservation.Reservation.{Reservation}
 use Rattle.sled_core.specs.declared.logger.Log.{Log}
 use Rattle.sled_store.specs.declared.config.RunningConfig.{RunningConfig}
 use Rattle.sled_core.specs.Buffers.{Stands, IsChain, completed_in, message_in, none_open, open_in, first_open_in, end_reserved, record_size}
 use Rattle.sled_core.specs.LogFile.{IsLogFile}
+use Rattle.sled_core.specs.SealedBuffers.{AreZeros, Laid, behind_run, buffer_writes, bytes_between, current_buffer, first_ready, ready_count, ready_marked, ready_write, ready_writes, reserved_below, run_count, run_end, seal_at, sealed_count, sealed_end, writing, written_at}
 use Rattle.sled_core.specs.Tickets.{index_of, IsFor}
 
 -- What a caller sees of a log.
@@ -26,13 +29,25 @@ use Rattle.sled_core.specs.Tickets.{index_of, IsFor}
 abbrev pub fault_of : {D C : Type 0} → Log D C → Option IoError
 fault_of log = log.fault
 
--- how many reservations of the current buffer are open or abandoned
-abbrev pub open_of : {D C : Type 0} → Log D C → ℕ
-open_of log = open_in log.buffer.reserved.items
+-- the reservations of the current buffer
+abbrev pub current_reserved : {D C : Type 0} → Log D C → List Reserved
+current_reserved log = drop (sealed_count log.buffer.sealed.items) log.buffer.reserved.items
 
--- this is the least place of these
+-- how many of them are open or abandoned
+abbrev pub open_of : {D C : Type 0} → Log D C → ℕ
+open_of log = open_in (current_reserved log)
+
+-- this is the least place of an open one of these
+abbrev pub IsLeastOpenOf : {D C : Type 0} → Log D C → List Reserved → ℤ → Type 0
+IsLeastOpenOf log rs place = (from : ℕ) × (first_open_in rs ≡ Some from) × (place ≡ pos (log.site.place + from))
+
+-- this is the least place of an open reservation of the current buffer
 abbrev pub IsLeastOpen : {D C : Type 0} → Log D C → ℤ → Type 0
-IsLeastOpen log place = (from : ℕ) × (first_open_in log.buffer.reserved.items ≡ Some from) × (place ≡ pos (log.site.place + from))
+IsLeastOpen log = IsLeastOpenOf log (current_reserved log)
+
+-- no buffer is sealed that isn't written
+abbrev pub NoneSealed : {D C : Type 0} → Log D C → Type 0
+NoneSealed log = log.buffer.sealed.items ≡ []
 
 -- where the current segment lies
 abbrev pub site_of : {D C : Type 0} → Log D C → SegmentPosition
@@ -83,7 +98,8 @@ pub record HasRoom {D C : Type 0} (log : Log D C) (page n : ℕ) : Type 0 where
 -- A ticket is for an open reservation of the log, which keeps the place of this message.
 pub record Awaits {D C : Type 0} (log : Log D C) (ticket : Reservation) (m : Message) : Type 0 where
   pub reserved : Reserved
-  pub there : slice_get log.buffer.reserved.items (index_of ticket) ≡ Some reserved
+  pub numbered : log.buffer.gone ≤ index_of ticket
+  pub there : slice_get log.buffer.reserved.items (index_of ticket - log.buffer.gone) ≡ Some reserved
   pub own : IsFor log.site reserved ticket
   pub message : m ≡ message_in log.site log.buffer.bytes.items reserved
 
@@ -97,9 +113,9 @@ NoneOpen log = none_open log.buffer.reserved.items ≡ true
 
 -- no reservation of the log is open or abandoned, but for the one that the ticket is for
 abbrev pub IsOnlyOpen : {D C : Type 0} → Log D C → Reservation → Type 0
-IsOnlyOpen log ticket = (i : ℕ) (r : Reserved) → slice_get log.buffer.reserved.items i ≡ Some r → r.state ≡ Open → i ≡ index_of ticket
+IsOnlyOpen log ticket = (i : ℕ) (r : Reserved) → slice_get log.buffer.reserved.items i ≡ Some r → r.state ≡ Open → log.buffer.gone + i ≡ index_of ticket
 
--- What a log has of its current segment over its device: the size of segments, where this one lies, what is on the device, the failure that the log keeps, the bytes, how many of them were written, and the reservations since.
+-- What a log has of its current segment over its device: the size of segments, where this one lies, what is on the device, the failure that the log keeps, the bytes, how many of them were written, the buffers that were sealed since, and the reservations since.
 pub record LogParts : Type 0 where
   pub size : ℕ
   pub site : SegmentPosition
@@ -107,15 +123,25 @@ pub record LogParts : Type 0 where
   pub fault : Option IoError
   pub bytes : List ℕ
   pub written_len : ℕ
+  pub sealed : List Sealed
   pub reserved : List Reserved
 
 -- the view with these parts
-abbrev pub log_parts : ℕ → SegmentPosition → State → Option IoError → List ℕ → ℕ → List Reserved → LogParts
-log_parts size site device fault bytes written_len reserved = record { size = size; site = site; device = device; fault = fault; bytes = bytes; written_len = written_len; reserved = reserved }
+abbrev pub log_parts : ℕ → SegmentPosition → State → Option IoError → List ℕ → ℕ → List Sealed → List Reserved → LogParts
+log_parts size site device fault bytes written_len sealed reserved = record {
+  size = size;
+  site = site;
+  device = device;
+  fault = fault;
+  bytes = bytes;
+  written_len = written_len;
+  sealed = sealed;
+  reserved = reserved;
+}
 
 -- what a log has, where its device has this trace
 abbrev pub parts_of : {D C : Type 0} → (D → Trace) → Log D C → LogParts
-parts_of trace log = log_parts log.config.config.segment_size log.site (state_of (trace log.config.device)) log.fault log.buffer.bytes.items log.buffer.written_len log.buffer.reserved.items
+parts_of trace log = log_parts log.config.config.segment_size log.site (state_of (trace log.config.device)) log.fault log.buffer.bytes.items log.buffer.written_len log.buffer.sealed.items log.buffer.reserved.items
 
 -- The log file has these messages and entries, and all of it is settled, so that a crash leaves just that.
 pub record IsOnDevice (sum : List ℕ → ℕ) (size : ℕ) (device : LogState) (site : SegmentPosition) (from : ℕ) (messages : List Message) (entries : ℕ → List Message) : Type 0 where
@@ -156,6 +182,8 @@ pub record HoldsIn (sum : List ℕ → ℕ) (parts : LogParts) (H : History) : T
   pub room : All (λ r. r.from + 32 ≤ parts.size) parts.reserved
   pub begun : IsBegunFrom sum parts.size parts.device.snapshots.file parts.site parts.written_len H
   pub written : parts.fault ≡ None → IsOnDevice sum parts.size parts.device.log parts.site parts.written_len earlier (table H (stable_place begun.first.stable))
+  -- what the log file has of the sealed buffers, and zeros behind them
+  pub laid : parts.fault ≡ None → Laid parts.device.log.bytes parts.site.slot parts.bytes parts.written_len parts.sealed parts.size
 
 -- The log holds this history.
 unfoldable pub Holds : {D C : Type 0} → (D → Trace) → (List ℕ → ℕ) → Log D C → History → Type 0
@@ -176,24 +204,122 @@ pub record IsKept (sum : List ℕ → ℕ) (size : ℕ) (site : SegmentPosition)
   pub inside : from ≤ size
   pub begun : IsBegunFrom sum size device.snapshots.file site from H
   pub on_device : IsOnDevice sum size device.log site from H.messages (table H (stable_place begun.first.stable))
+  -- the rest of the segment has zeros
+  pub clean : AreZeros device.log.bytes (site.slot + from) (site.slot + size)
 
 -- all that a log holds is on its device, and settled
 abbrev pub IsWritten : {D C : Type 0} → (D → Trace) → (List ℕ → ℕ) → Log D C → History → Type 0
 IsWritten trace sum log H = IsKept sum log.config.config.segment_size log.site log.buffer.written_len (state_of (trace log.config.device)) H
 
--- the calls that write what is not written yet and settle it; where nothing was reserved there are none
-abbrev pub flushing_of : ℕ → List ℕ → List Reserved → List Event
-flushing_of at bytes [] = []
-flushing_of at bytes (r ∷ rs) = Wrote at bytes bytes ∷ Synced ∷ []
+-- the buffers of a segment behind what was written, with the current one where it has a reservation
+abbrev pub buffers_of : List ℕ → List Sealed → List Reserved → List Sealed
+buffers_of bytes bs rs = bs ++ current_buffer (length bytes) (drop (sealed_count bs) rs)
 
+-- The calls that write what is not written yet of the buffers that begin below an offset of the segment, and settle it, buffer by buffer, up to the first that has an open reservation; where nothing was reserved there are none.
+abbrev pub writing_below : {D C : Type 0} → Log D C → ℕ → List Event
+writing_below log to = ready_writes log.site.slot log.buffer.bytes.items to log.buffer.written_len (buffers_of log.buffer.bytes.items log.buffer.sealed.items log.buffer.reserved.items)
+
+-- the writes of the buffers that aren't written, the current one among them
+abbrev pub writes_of : {D C : Type 0} → Log D C → List Event
+writes_of log = buffer_writes log.site.slot log.buffer.bytes.items log.buffer.written_len (buffers_of log.buffer.bytes.items log.buffer.sealed.items log.buffer.reserved.items)
+
+-- how much of the segment was written without a gap
+abbrev pub synced_len : {D C : Type 0} → Log D C → ℕ
+synced_len log = log.buffer.written_len
+
+-- its sealed buffers, the first of which isn't written, by place
+abbrev pub sealed_of : {D C : Type 0} → Log D C → List Sealed
+sealed_of log = log.buffer.sealed.items
+
+-- these, with the current buffer once it is sealed, where it holds anything
+abbrev pub sealed_with_current : {D C : Type 0} → Log D C → List Sealed
+sealed_with_current log =
+    if nat_lt (sealed_end log.buffer.written_len log.buffer.sealed.items) (length log.buffer.bytes.items)
+    then log.buffer.sealed.items ++ seal_at (length log.buffer.bytes.items) (current_reserved log) ∷ []
+    else log.buffer.sealed.items
+
+-- the calls that write the sealed buffer at an index and settle it
+abbrev pub writing_buffer : {D C : Type 0} → Log D C → ℕ → List Event
+writing_buffer log k =
+    let from = sealed_end log.buffer.written_len (take k log.buffer.sealed.items) in
+    writing (log.site.slot + from) (bytes_between log.buffer.bytes.items from (sealed_end log.buffer.written_len (take (k + 1) log.buffer.sealed.items))) []
+
+-- those that write all that isn't written, as one buffer, and settle it
+abbrev pub writing_current : {D C : Type 0} → Log D C → List Event
+writing_current log = writing (log.site.slot + log.buffer.written_len) (drop log.buffer.written_len log.buffer.bytes.items) []
+
+-- the first sealed buffer begins below an offset of the segment, and can be written
+abbrev pub ready_below : {D C : Type 0} → Log D C → ℕ → Bool
+ready_below log to = if nat_lt log.buffer.written_len to then first_ready log.buffer.sealed.items else false
+
+-- a buffer has the bytes and reservations that it had, and so much of it is written
+pub record KeepsReserved (old new : IoBuf) : Type 0 where
+  pub from : new.written_len ≡ old.written_len
+  pub reserved : new.reserved.items ≡ old.reserved.items
+  pub gone : new.gone ≡ old.gone
+  pub bytes : new.bytes.items ≡ old.bytes.items
+
+-- a buffer has what it had
+pub record SameBuffer (old new : IoBuf) : Type 0 where
+  pub sealed : new.sealed.items ≡ old.sealed.items
+  pub from : new.written_len ≡ old.written_len
+  pub reserved : new.reserved.items ≡ old.reserved.items
+  pub gone : new.gone ≡ old.gone
+  pub bytes : new.bytes.items ≡ old.bytes.items
+
+-- One of the sealed buffers is written: those at the front that are have gone, with their reservations.
+pub record IsWrittenAt (k : ℕ) (old new : IoBuf) : Type 0 where
+  pub sealed : new.sealed.items ≡ behind_run (written_at k old.sealed.items)
+  pub from : new.written_len ≡ run_end old.written_len (written_at k old.sealed.items)
+  pub reserved : new.reserved.items ≡ drop (run_count (written_at k old.sealed.items)) old.reserved.items
+  pub gone : new.gone ≡ old.gone + run_count (written_at k old.sealed.items)
+  pub bytes : new.bytes.items ≡ old.bytes.items
+
+-- how much of the segment was reserved; before the first reservation that is what was written
+abbrev pub reserved_len : {D C : Type 0} → Log D C → ℕ
+reserved_len log = end_reserved log.buffer.written_len (length log.buffer.bytes.items) log.buffer.reserved.items
+
+-- the same for all that was reserved
 abbrev pub flushing : {D C : Type 0} → Log D C → List Event
-flushing log = flushing_of (log.site.slot + log.buffer.written_len) (drop log.buffer.written_len log.buffer.bytes.items) log.buffer.reserved.items
+flushing log = writing_below log (reserved_len log)
+
+-- where the first open reservation begins of the buffers that begin below an offset of the segment
+abbrev pub held_below : {D C : Type 0} → Log D C → ℕ → Option ℕ
+held_below log to = first_open_in (reserved_below to log.buffer.written_len log.buffer.sealed.items log.buffer.reserved.items)
+
+-- how many sealed buffers can be written
+abbrev pub pending_of : {D C : Type 0} → Log D C → ℕ
+pending_of log = ready_count log.buffer.sealed.items
+
+-- the calls that write the i-th of these and settle it
+abbrev pub writing_pending : {D C : Type 0} → Log D C → ℕ → List Event
+writing_pending log i = ready_write log.site.slot log.buffer.bytes.items log.buffer.written_len i log.buffer.sealed.items
+
+-- how much of the segment is in buffers that are written or sealed
+abbrev pub sealed_len : {D C : Type 0} → Log D C → ℕ
+sealed_len log = sealed_end log.buffer.written_len log.buffer.sealed.items
+
+-- The i-th of them is written: the stable end lies behind those at the front that are written now, and these have gone.
+pub record HasWrittenPending {D C : Type 0} (i : ℕ) (old new : Log D C) : Type 0 where
+  pub stable : synced_len new ≡ run_end (synced_len old) (ready_marked i (sealed_of old))
+  pub left : sealed_of new ≡ behind_run (ready_marked i (sealed_of old))
+
+-- how many bytes the current buffer has; the header of its segment counts
+abbrev pub held_len : {D C : Type 0} → Log D C → ℕ
+held_len log = length log.buffer.bytes.items - sealed_len log
+
+-- tickets are for what they were for, and where no reservation was open none is
+pub record KeepsTickets {D C : Type 0} (old new : Log D C) : Type 0 where
+  pub awaits : (ticket : Reservation) (m : Message) → Awaits old ticket m → Awaits new ticket m
+  pub ended : NoneOpen old → NoneOpen new
 
 -- nothing that a caller sees of the log is another
 pub record IsUnchanged {D C : Type 0} (old new : Log D C) : Type 0 where
   pub bytes : new.buffer.bytes.items ≡ old.buffer.bytes.items
   pub from : new.buffer.written_len ≡ old.buffer.written_len
   pub reserved : new.buffer.reserved.items ≡ old.buffer.reserved.items
+  pub gone : new.buffer.gone ≡ old.buffer.gone
+  pub sealed : new.buffer.sealed.items ≡ old.buffer.sealed.items
   pub fault : new.fault ≡ old.fault
   pub pins : new.pins ≡ old.pins
   pub site : new.site ≡ old.site

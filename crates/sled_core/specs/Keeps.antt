@@ -1,11 +1,13 @@
 -- What a call keeps of a log, and of what it runs on, said once for all of them.
-use Rattle.std.specs.Prelude.{◌≡◌, ◌≤◌, ℕ, List}
+use Rattle.std.specs.Prelude.{◌≡◌, ◌≤◌, ℕ, List, Result, OnErr}
+use Rattle.sled_codec.specs.declared.result.Error.{Error}
+use Rattle.sled_core.specs.Causes.{IsHeld}
 use Rattle.sled_codec.specs.History.{Message, History}
 use Rattle.sled_store.specs.declared.config.RunningConfig.{RunningConfig}
 use Rattle.sled_store.specs.Device.{Trace}
 use Rattle.sled_store.specs.Moments.{IsLater, LeavesOnly}
 use Rattle.sled_core.specs.declared.logger.Log.{Log}
-use Rattle.sled_core.specs.Fits.{Holds, config_of, device_of, next_place, pins_of, segment_size_of, site_of, synced_end}
+use Rattle.sled_core.specs.Fits.{Holds, NoneOpen, NoneSealed, config_of, device_of, next_place, pins_of, sealed_len, segment_size_of, site_of, synced_end}
 use Rattle.sled_core.specs.Recoverable.{RecoverableIfOwn}
 use Rattle.sled_core.specs.Running.{Fits}
 
@@ -33,6 +35,12 @@ pub record Preserves {D C : Type 0} (trace : D → Trace) (sum : List ℕ → �
   pub goes_on : GoesOn trace sum old new
   pub history : (H : History) → Holds trace sum old H → Holds trace sum new H
   pub fits : (H : History) (A f : ℕ) (U : List Message) → Fits trace sum old H A f U → Fits trace sum new H A f U
+
+-- What a call that writes up to an offset of the segment seals: what begins below it, where it is held, and nothing where no reservation is open. Where no buffer was sealed, nothing is written by one that fails.
+pub record SealsBelow {T D C : Type 0} (result : Result T Error) (to : ℕ) (old new : Log D C) : Type 0 where
+  pub held : IsHeld result → to ≤ sealed_len new
+  pub none : NoneSealed old → NoneOpen old → NoneSealed new
+  pub err : NoneSealed old → OnErr result (synced_end new ≡ synced_end old)
 
 -- The next record begins where it would have begun, in the same segment, and as many pins are out.
 pub record SamePosition {D C : Type 0} (old new : Log D C) : Type 0 where

@@ -14,6 +14,7 @@ pub mod Recoverable
 pub mod Running
 pub mod Scan
 pub mod SealedBuffers
+pub mod SealedProps
 pub mod Stable
 pub mod StableEnds
 pub mod Starts

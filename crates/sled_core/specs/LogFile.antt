@@ -1,5 +1,5 @@
 -- What stands in a log file of the messages that were written: those of the segment that is being filled, and those of earlier ones that are still needed.
-use Rattle.std.specs.Prelude.{◌≡◌, ◌⊎◌, ◌+◌, ◌-◌, ◌/◌, ◌≤◌, ◌<◌, ℕ, ℤ, pos, false, replicate, length, List, ◌++◌, Some, get_or, Contains}
+use Rattle.std.specs.Prelude.{◌≡◌, ◌⊎◌, ◌+◌, ◌-◌, ◌/◌, ◌≤◌, ◌<◌, ℕ, ℤ, pos, false, replicate, length, List, ◌++◌, Some, Contains}
 use Rattle.sled_codec.specs.declared.result.DiskPtr.TheVariants.{Inline}
 use Rattle.sled_codec.specs.declared.serialization.message.MessageHeader.{MessageHeader}
 use Rattle.sled_codec.specs.Kinds.{kind_written}
@@ -39,13 +39,12 @@ pub record HasHeader (sum : List ℕ → ℕ) (log : List ℕ) (site : SegmentPo
   pub header : IsHeader sum (part log site.slot 20) (pos site.place) mark
   pub below : (n : ℕ) → mark ≡ pos n → n < site.place
 
--- What stands in the log file: behind the header of the current segment, up to an offset, those of its messages that have no blob, with nothing but zeros behind that; in other slots the entries of earlier segments that have none.
+-- What stands in the log file: behind the header of the current segment, up to an offset, those of its messages that have no blob; in other slots the entries of earlier segments that have none.
 pub record IsLogFile (sum : List ℕ → ℕ) (size : ℕ) (log : List ℕ) (site : SegmentPosition) (from : ℕ) (messages : List Message) (entries : ℕ → List Message) : Type 0 where
   pub own : (m : Message) → Contains messages m → site.place ≤ m.place → (lid : ℕ) → m.pointer ≡ Inline lid → StandsHere sum size log site from lid m
   pub elsewhere : (page : ℕ) (m : Message) → Contains (entries page) m → m.place < site.place → (lid : ℕ) → m.pointer ≡ Inline lid → StandsElsewhere sum size log site lid m
   pub begun : 0 < from → 20 ≤ from
   pub header : 0 < from → HasHeader sum log site
-  pub clean : (i : ℕ) → site.slot + from ≤ i → i < site.slot + size → get_or log i 0 ≡ 0
 
 -- a log file with zeros behind its end, up to an offset
 abbrev pub padded : ℕ → List ℕ → List ℕ

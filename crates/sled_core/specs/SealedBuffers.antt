@@ -1,5 +1,7 @@
 -- The buffers of a segment that were sealed and of which the first isn't on the device: which reservations they have, and what the log file has of them.
-use Rattle.std.specs.Prelude.{◌≡◌, ◌+◌, ◌-◌, nat_lt, ◌≤◌, ◌<◌, ℕ, Bool, true, false, if◌then◌else◌, max, List, [], ◌∷◌, length, take, drop, get_or}
+use Rattle.std.specs.Prelude.{◌≡◌, ◌==◌, ◌+◌, ◌-◌, nat_lt, ◌≤◌, ◌<◌, ℕ, zero, suc, Bool, true, false, if◌then◌else◌, max, List, [], ◌∷◌, ◌++◌, length, take, drop, get_or, slice_get, Some}
+use Rattle.sled_store.specs.Device.{Event, Wrote, Synced}
+use Rattle.sled_core.specs.declared.iobuf.ReservationState.TheVariants.{Open}
 use Rattle.sled_core.specs.declared.iobuf.Reserved.{Reserved}
 use Rattle.sled_core.specs.declared.iobuf.Sealed.{Sealed}
 use Rattle.sled_core.specs.Buffers.{IsChain, open_in}
@@ -73,3 +75,87 @@ one_fewer b = record { end = b.end; count = b.count; open_count = b.open_count -
 abbrev pub one_ended : ℕ → List Sealed → List Sealed
 one_ended i [] = []
 one_ended i (b ∷ bs) = if nat_lt i b.count then one_fewer b ∷ bs else b ∷ one_ended (i - b.count) bs
+
+-- the same list, once the one at an index is written
+abbrev pub written_at : ℕ → List Sealed → List Sealed
+written_at k [] = []
+written_at zero (b ∷ bs) = now_written b ∷ bs
+written_at (suc k) (b ∷ bs) = b ∷ written_at k bs
+
+-- The first one isn't written.
+abbrev pub FirstUnwritten : List Sealed → Type 0
+FirstUnwritten [] = Unit {0}
+FirstUnwritten (b ∷ bs) = b.is_written ≡ false
+
+-- the buffer that is sealed there with these reservations
+abbrev pub seal_at : ℕ → List Reserved → Sealed
+seal_at end rs = record { end = end; count = length rs; open_count = open_in rs; is_written = false }
+
+-- the current buffer as it would be sealed, where it ends there and has these reservations; none where it has no reservation
+abbrev pub current_buffer : ℕ → List Reserved → List Sealed
+current_buffer end [] = []
+current_buffer end (r ∷ rs) = seal_at end (r ∷ rs) ∷ []
+
+-- the bytes of a segment from one offset up to another
+abbrev pub bytes_between : List ℕ → ℕ → ℕ → List ℕ
+bytes_between bytes from to = drop from (take to bytes)
+
+-- the calls that write a buffer of these bytes at an offset and settle it, in front of others
+abbrev pub writing : ℕ → List ℕ → List Event → List Event
+writing at bytes rest = Wrote at bytes bytes ∷ Synced ∷ rest
+
+-- The calls that write those that aren't written and begin below an offset, one behind another, up to the first that has an open reservation.
+abbrev pub ready_writes : ℕ → List ℕ → ℕ → ℕ → List Sealed → List Event
+ready_writes slot bytes to from [] = []
+ready_writes slot bytes to from (b ∷ bs) =
+    if b.is_written then ready_writes slot bytes to b.end bs
+    else if nat_lt from to then (if b.open_count == 0 then writing (slot + from) (bytes_between bytes from b.end) (ready_writes slot bytes to b.end bs) else [])
+    else []
+
+-- the reservations of those that begin below an offset, and of the current buffer, if it does
+abbrev pub reserved_below : ℕ → ℕ → List Sealed → List Reserved → List Reserved
+reserved_below to from [] rs = if nat_lt from to then rs else []
+reserved_below to from (b ∷ bs) rs = if nat_lt from to then take b.count rs ++ reserved_below to b.end bs (drop b.count rs) else []
+
+-- the writes of those that aren't written, each of which is one write of a whole buffer, whenever it is made
+abbrev pub buffer_writes : ℕ → List ℕ → ℕ → List Sealed → List Event
+buffer_writes slot bytes from [] = []
+buffer_writes slot bytes from (b ∷ bs) =
+    if b.is_written then buffer_writes slot bytes b.end bs
+    else Wrote (slot + from) (bytes_between bytes from b.end) (bytes_between bytes from b.end) ∷ buffer_writes slot bytes b.end bs
+
+-- it has no open reservation and isn't written
+abbrev pub is_ready : Sealed → Bool
+is_ready b = if b.is_written then false else b.open_count == 0
+
+-- the first one is so
+abbrev pub first_ready : List Sealed → Bool
+first_ready [] = false
+first_ready (b ∷ bs) = is_ready b
+
+-- the calls that write the i-th of those that are so and settle it
+abbrev pub ready_write : ℕ → List ℕ → ℕ → ℕ → List Sealed → List Event
+ready_write slot bytes from i [] = []
+ready_write slot bytes from i (b ∷ bs) =
+    if is_ready b then (if i == 0 then writing (slot + from) (bytes_between bytes from b.end) [] else ready_write slot bytes b.end (i - 1) bs)
+    else ready_write slot bytes b.end i bs
+
+-- the same list, once the i-th of those that are so is written
+abbrev pub ready_marked : ℕ → List Sealed → List Sealed
+ready_marked i [] = []
+ready_marked i (b ∷ bs) = if is_ready b then (if i == 0 then now_written b ∷ bs else b ∷ ready_marked (i - 1) bs) else b ∷ ready_marked i bs
+
+-- how many of them are so
+abbrev pub ready_count : List Sealed → ℕ
+ready_count [] = 0
+ready_count (b ∷ bs) = if is_ready b then suc (ready_count bs) else ready_count bs
+
+-- One of their reservations, which begins there, is open.
+pub record HasOpenAt (at : ℕ) (rs : List Reserved) (index from : ℕ) (bs : List Sealed) : Type 0 where
+  pub reserved : Reserved
+  pub are : AreSealed at rs bs
+  pub theirs : index < sealed_count bs
+  pub there : slice_get rs index ≡ Some reserved
+  pub begins : reserved.from ≡ from
+  pub some : 0 < reserved.len
+  pub open_yet : reserved.state ≡ Open

@@ -7,7 +7,7 @@ use Rattle.sled_core.specs.declared.iobuf.SegmentPosition.{SegmentPosition}
 use Rattle.sled_core.specs.declared.logger.Log.{Log}
 use Rattle.sled_store.specs.Begin.{beginning_of, offset_at, place_at}
 use Rattle.sled_store.specs.Causes.{StartRefuses}
-use Rattle.sled_core.specs.Fits.{NoneOpen, config_of, fault_of, next_place, pins_of, segment_size_of, site_of, synced_end}
+use Rattle.sled_core.specs.Fits.{NoneOpen, NoneSealed, config_of, fault_of, next_place, pins_of, segment_size_of, site_of, synced_end}
 
 -- what the log that was started runs on, or what came back where none was
 abbrev pub config_left : {D C : Type 0} → Result (Log D C) (Error × RunningConfig D C) → RunningConfig D C
@@ -25,6 +25,7 @@ pub record BeginsBehind {D C : Type 0} (size len : ℕ) (s : SnapshotModel) (log
   -- behind the header of its segment at least
   pub next : next_place log ≡ place_at size (stable_place s.stable) s.active + max 20 (offset_at size (stable_place s.stable) s.active)
   pub ended : NoneOpen log
+  pub unsealed : NoneSealed log
   pub pins : pins_of log ≡ 0
   pub fault : fault_of log ≡ None
   pub sized : segment_size_of log ≡ size

@@ -1,9 +1,13 @@
 //! The bytes of the segment that is being filled. The current buffer is the part of them that was not
 //! written yet, and the reservations in it lie one behind another.
-ghost use Rattle.std.specs.Prelude.{◌≡◌, ◌+◌, ◌-◌, ◌<◌, ◌≤◌, ◌^◌, ◌++◌, ◌∷◌, [], ℕ, List, true, false, length, take, drop, set, replicate, vec_len, vec_capacity, slice_get, OnOk, OnErr, IfOk, IsOkUnless, IsTrue, ◌↔◌, pos, All, Some};
+ghost use Rattle.std.specs.Prelude.{◌≡◌, ◌+◌, ◌-◌, ◌<◌, ◌≤◌, ◌^◌, ◌++◌, ◌∷◌, [], ℕ, List, true, false, length, max, take, drop, set, replicate, vec_capacity, slice_get, OnOk, OnErr, IfOk, IsOkUnless, IsTrue, ◌↔◌, pos, All, Some};
+ghost use Rattle.std.specs.List.Sorted.{IsNonDecreasingBy, IsPartitionPoint};
+ghost use Rattle.std.specs.VecDeque.{deque_len, deque_capacity};
 ghost use Rattle.sled_codec.specs.Written.{written};
 ghost use Rattle.sled_core.specs.declared.iobuf.Reserved.{Reserved};
-ghost use Rattle.sled_core.specs.Buffers.{canceling, completing, ended, ending, first_open_in, most_open, open_in, open_state, placeholder_head, reserved_for};
+ghost use Rattle.sled_core.specs.Buffers.{IsChain, canceling, completing, ended, ending, first_open_in, most_open, open_in, open_state, placeholder_head, reserved_for};
+ghost use Rattle.sled_core.specs.SealedBuffers.{AreSealed, FirstUnwritten, HasOpenAt, behind_run, is_ready, one_ended, ready_count, run_count, run_end, seal_at, sealed_count, sealed_end, written_at};
+ghost use Rattle.sled_core.specs.SealedProps.{IsChain-prop, AreSealed-prop, FirstUnwritten-prop};
 
 pub mod intervals;
 pub(crate) mod record;
@@ -14,6 +18,7 @@ use sled_codec::result::{Error, LogOffset, Lsn, PageId, Result};
 use sled_codec::serialization::{Checksum, LogKind, MessageKind, Serialize};
 use sled_store::segment::MAX_MSG_HEADER_LEN;
 use std::alloc::Global;
+use std::collections::VecDeque;
 
 /// How many reservations of a buffer may be open.
 pub(crate) const MAX_WRITERS: usize = 127;
@@ -89,21 +94,37 @@ pub(crate) struct Sealed {
 }
 
 /// A segment's bytes from its beginning on. Those of a segment that a log goes on in are zeros as far as
-/// they were on the device before, since nothing looks at them.
+/// they were on the device before, since nothing looks at them. Its buffers lie one behind another: those at the front
+/// that are on the device, the sealed ones, and the current one.
 #[derive(Drop)]
 pub(crate) struct IoBuf {
     pub(crate) bytes: Vec<u8>,
-    /// Where the current buffer begins: all before it is on the device.
+    /// Where the first sealed buffer begins: all before it is on the device.
     pub(crate) written_len: usize,
-    /// The reservations of the current buffer, by place.
-    pub(crate) reserved: Vec<Reserved>,
-    /// How many of them are open.
+    /// The reservations behind that, by place.
+    pub(crate) reserved: VecDeque<Reserved>,
+    /// How many there were before them: a ticket's number counts those too.
+    pub(crate) gone: usize,
+    /// The sealed buffers, by place. The first one isn't on the device.
+    pub(crate) sealed: VecDeque<Sealed>,
+    /// Where the current buffer begins.
+    pub(crate) begin: usize,
+    /// How many of the reservations are of sealed buffers.
+    pub(crate) first: usize,
+    /// How many reservations of the current buffer are open.
     pub(crate) open_count: usize,
     ghost begun: { 20 ≤ length bytes.items },
-    ghost behind: { written_len ≤ length bytes.items },
+    ghost behind: { begin ≤ length bytes.items },
     ghost within: { All (λ r. r.from + r.len ≤ length bytes.items) reserved.items },
     ghost headed: { All (λ r. (5 ≤ r.header_len) × (r.header_len ≤ r.len)) reserved.items },
-    ghost counted: { open_count ≡ open_in reserved.items },
+    ghost numbered: { gone + length reserved.items ≤ length bytes.items },
+    ghost head: { FirstUnwritten sealed.items } by { FirstUnwritten-prop sealed.items },
+    ghost are: { AreSealed written_len reserved.items sealed.items } by { AreSealed-prop written_len reserved.items sealed.items },
+    ghost begins: { begin ≡ sealed_end written_len sealed.items },
+    ghost before: { first ≡ sealed_count sealed.items },
+    ghost parted: { first ≤ length reserved.items },
+    ghost chain: { IsChain (max 20 begin) (drop first reserved.items) (length bytes.items) } by { IsChain-prop (max 20 begin) (drop first reserved.items) (length bytes.items) },
+    ghost counted: { open_count ≡ open_in (drop first reserved.items) },
     ghost few: { open_count ≤ most_open },
 }
 
@@ -115,6 +136,7 @@ impl IoBuf {
         ensures bytes { IfOk result (λ b. b.bytes.items ≡ header.now) }
         ensures from { IfOk result (λ b. b.written_len ≡ 0) }
         ensures reserved { IfOk result (λ b. b.reserved.items ≡ []) }
+        ensures sealed { IfOk result (λ b. b.sealed.items ≡ []) }
         ensures err { IsOkUnless result Error.OutOfMemory }
     {
         let mut bytes = Vec::with_capacity(alloc, room)?;
@@ -122,7 +144,11 @@ impl IoBuf {
         Ok(IoBuf {
             bytes,
             written_len: 0,
-            reserved: Vec::new(alloc),
+            reserved: VecDeque::new(alloc),
+            gone: 0,
+            sealed: VecDeque::new(alloc),
+            begin: 0,
+            first: 0,
             open_count: 0,
         })
     }
@@ -134,12 +160,17 @@ impl IoBuf {
         ensures len { IfOk result (λ b. length b.bytes.items ≡ from) }
         ensures from { IfOk result (λ b. b.written_len ≡ from) }
         ensures reserved { IfOk result (λ b. b.reserved.items ≡ []) }
+        ensures sealed { IfOk result (λ b. b.sealed.items ≡ []) }
         ensures err { IsOkUnless result Error.OutOfMemory }
     {
         Ok(IoBuf {
             bytes: vec![in alloc; 0; from]?,
             written_len: from,
-            reserved: Vec::new(alloc),
+            reserved: VecDeque::new(alloc),
+            gone: 0,
+            sealed: VecDeque::new(alloc),
+            begin: from,
+            first: 0,
             open_count: 0,
         })
     }
@@ -148,24 +179,24 @@ impl IoBuf {
     pub(crate) fn none_open(&self) -> bool
         ensures { result ≡ none_open self.now.reserved.items }
     {
-        self.open_count == 0
+        self.open_count == 0 && all_ended(&self.sealed)
     }
 
-    /// No further reservation may be open.
+    /// No further reservation of the current buffer may be open.
     pub(crate) fn is_full_of_open(&self) -> bool
-        ensures { IsTrue result ↔ (open_in self.now.reserved.items ≡ most_open) }
+        ensures { IsTrue result ↔ (open_in (drop (sealed_count self.now.sealed.items) self.now.reserved.items) ≡ most_open) }
     {
         self.open_count == MAX_WRITERS
     }
 
-    /// The least place of an open reservation, of which there is one, in a segment that lies there.
-    pub(crate) fn least_open(&self, site: &SegmentPosition) -> Lsn
-        requires some { 0 < open_in self.now.reserved.items }
+    /// The least place of an open reservation, from one of them on, in a segment that lies there.
+    pub(crate) fn least_open(&self, from: usize, site: &SegmentPosition) -> Lsn
+        requires some { 0 < open_in (drop from self.now.reserved.items) }
         requires place { site.now.place + length self.now.bytes.items < 2 ^ 63 }
-        ensures { (from : ℕ) → first_open_in self.now.reserved.items ≡ Some from → result ≡ pos (site.now.place + from) }
+        ensures { (at : ℕ) → first_open_in (drop from self.now.reserved.items) ≡ Some at → result ≡ pos (site.now.place + at) }
     {
-        match first_open(&self.reserved) {
-            Some(from) => (site.place + from as u64) as i64,
+        match first_open(&self.reserved, from) {
+            Some(at) => (site.place + at as u64) as i64,
             None => site.place as i64,
         }
     }
@@ -176,8 +207,10 @@ impl IoBuf {
         ensures bytes { self.new.bytes.items ≡ self.old.bytes.items }
         ensures from { self.new.written_len ≡ self.old.written_len }
         ensures reserved { self.new.reserved.items ≡ self.old.reserved.items }
+        ensures gone { self.new.gone ≡ self.old.gone }
+        ensures sealed { self.new.sealed.items ≡ self.old.sealed.items }
         ensures room { OnOk result (length self.old.bytes.items + len + 32 ≤ vec_capacity self.new.bytes) }
-        ensures place { OnOk result (vec_len self.new.reserved < vec_capacity self.new.reserved) }
+        ensures place { OnOk result (deque_len self.new.reserved < deque_capacity self.new.reserved) }
         ensures err { IsOkUnless result Error.OutOfMemory }
     {
         self.bytes.reserve(len + MAX_MSG_HEADER_LEN)?;
@@ -197,44 +230,45 @@ impl IoBuf {
         requires fits { T.fits (T.meaning item.now) }
         requires len { item_len ≡ length (T.short (T.meaning item.now)) }
         requires room { length self.old.bytes.items + head.now.len + item_len + 32 ≤ vec_capacity self.old.bytes }
-        requires place { vec_len self.old.reserved < vec_capacity self.old.reserved }
-        requires few { open_in self.old.reserved.items < most_open }
+        requires place { deque_len self.old.reserved < deque_capacity self.old.reserved }
+        requires few { open_in (drop (sealed_count self.old.sealed.items) self.old.reserved.items) < most_open }
         ensures bytes { self.new.bytes.items ≡ self.old.bytes.items ++ placeholder_head (take head.now.len head.now.bytes) ++ T.short (T.meaning item.now) }
         ensures len { length self.new.bytes.items ≡ length self.old.bytes.items + head.now.len + item_len }
         ensures reserved { self.new.reserved.items ≡ self.old.reserved.items
             ++ reserved_for message.now (length self.old.bytes.items) head.now.len item_len (C.sum_of (T.short (T.meaning item.now)
             ++ drop 4 (take head.now.len head.now.bytes))) ∷ [] }
         ensures from { self.new.written_len ≡ self.old.written_len }
+        ensures gone { self.new.gone ≡ self.old.gone }
+        ensures sealed { self.new.sealed.items ≡ self.old.sealed.items }
     {
         let from = self.bytes.len();
         push_placeholder(&mut self.bytes, head);
         push_item(&mut self.bytes, item, item_len);
         let sum = sum_behind(checksum, &mut self.bytes, from + head.len, head.tail());
-        keep(
-            &mut self.reserved,
-            Reserved {
-                from,
-                header_len: head.len,
-                len: head.len + item_len,
-                log_kind: message.log_kind,
-                kind: message.kind,
-                page: message.page,
-                sum,
-                state: ReservationState::Open,
-            },
-        );
+        self.reserved.push_back_reserved(Reserved {
+            from,
+            header_len: head.len,
+            len: head.len + item_len,
+            log_kind: message.log_kind,
+            kind: message.kind,
+            page: message.page,
+            sum,
+            state: ReservationState::Open,
+        });
         self.open_count += 1;
     }
 
     /// Completes a reservation: stores the flipped sum and the kind in its header.
     pub(crate) fn complete(&mut self, index: usize)
-        requires within { index < vec_len self.old.reserved }
+        requires within { index < deque_len self.old.reserved }
         requires awaited { (r : Reserved) → slice_get self.old.reserved.items index ≡ Some r → r.state ≡ ReservationState.Open }
         ensures bytes { (r : Reserved) → slice_get self.old.reserved.items index ≡ Some r
             → self.new.bytes.items ≡ written self.old.bytes.items r.from (completing r) }
         ensures reserved { (r : Reserved) → slice_get self.old.reserved.items index ≡ Some r
             → self.new.reserved.items ≡ set self.old.reserved.items index (ended ReservationState.Completed r) }
+        ensures sealed { self.new.sealed.items ≡ one_ended index self.old.sealed.items }
         ensures from { self.new.written_len ≡ self.old.written_len }
+        ensures gone { self.new.gone ≡ self.old.gone }
         ensures len { length self.new.bytes.items ≡ length self.old.bytes.items }
     {
         let r = self.reserved[index];
@@ -243,13 +277,15 @@ impl IoBuf {
 
     /// Aborts a reservation: makes its record one of kind `Canceled`, with a sum of its own.
     pub(crate) fn abort<C: Checksum>(&mut self, checksum: &C, index: usize)
-        requires within { index < vec_len self.old.reserved }
+        requires within { index < deque_len self.old.reserved }
         requires awaited { (r : Reserved) → slice_get self.old.reserved.items index ≡ Some r → r.state ≡ ReservationState.Open }
         ensures bytes { (r : Reserved) → slice_get self.old.reserved.items index ≡ Some r
             → self.new.bytes.items ≡ written self.old.bytes.items r.from (canceling C.sum_of self.old.bytes.items r) }
         ensures reserved { (r : Reserved) → slice_get self.old.reserved.items index ≡ Some r
             → self.new.reserved.items ≡ set self.old.reserved.items index (ended ReservationState.Canceled r) }
+        ensures sealed { self.new.sealed.items ≡ one_ended index self.old.sealed.items }
         ensures from { self.new.written_len ≡ self.old.written_len }
+        ensures gone { self.new.gone ≡ self.old.gone }
         ensures len { length self.new.bytes.items ≡ length self.old.bytes.items }
     {
         let r = self.reserved[index];
@@ -269,36 +305,216 @@ impl IoBuf {
 
     /// Ends an open reservation: stores a sum, flipped, and a kind in its header.
     fn end(&mut self, index: usize, sum: u32, kind: MessageKind, state: ReservationState)
-        requires within { index < vec_len self.old.reserved }
+        requires within { index < deque_len self.old.reserved }
         requires awaited { (r : Reserved) → slice_get self.old.reserved.items index ≡ Some r → r.state ≡ ReservationState.Open }
         requires ends { open_state state ≡ false }
         ensures bytes { (r : Reserved) → slice_get self.old.reserved.items index ≡ Some r
             → self.new.bytes.items ≡ written self.old.bytes.items r.from (ending sum kind) }
         ensures reserved { (r : Reserved) → slice_get self.old.reserved.items index ≡ Some r
             → self.new.reserved.items ≡ set self.old.reserved.items index (ended state r) }
+        ensures sealed { self.new.sealed.items ≡ one_ended index self.old.sealed.items }
         ensures from { self.new.written_len ≡ self.old.written_len }
+        ensures gone { self.new.gone ≡ self.old.gone }
         ensures len { length self.new.bytes.items ≡ length self.old.bytes.items }
     {
         let r = self.reserved[index];
-        let sum = (u32::MAX - sum).to_le_bytes();
-        put(
-            &mut self.bytes,
-            r.from,
-            &[sum[0], sum[1], sum[2], sum[3], u8::from(kind)],
-        );
+        put_ending(&mut self.bytes, r.from, sum, kind);
         close(&mut self.reserved, index, state);
-        self.open_count -= 1;
+        if index < self.first {
+            end_sealed(&mut self.sealed, r.from);
+        } else {
+            self.open_count -= 1;
+        }
     }
 
-    /// All bytes are on the device now.
+    /// Seals the current buffer, which has something in it.
+    pub(crate) fn seal(&mut self) -> Result<()>
+        requires some { sealed_end self.old.written_len self.old.sealed.items < length self.old.bytes.items }
+        ensures sealed { OnOk result (self.new.sealed.items ≡ self.old.sealed.items
+            ++ seal_at (length self.old.bytes.items) (drop (sealed_count self.old.sealed.items) self.old.reserved.items) ∷ []) }
+        ensures unsealed { OnErr result (self.new.sealed.items ≡ self.old.sealed.items) }
+        ensures bytes { self.new.bytes.items ≡ self.old.bytes.items }
+        ensures from { self.new.written_len ≡ self.old.written_len }
+        ensures reserved { self.new.reserved.items ≡ self.old.reserved.items }
+        ensures gone { self.new.gone ≡ self.old.gone }
+        ensures err { IsOkUnless result Error.OutOfMemory }
+    {
+        self.sealed.reserve(1)?;
+        self.sealed.push_back_reserved(Sealed {
+            end: self.bytes.len(),
+            count: self.reserved.len() - self.first,
+            open_count: self.open_count,
+            is_written: false,
+        });
+        self.begin = self.bytes.len();
+        self.first = self.reserved.len();
+        self.open_count = 0;
+        Ok(())
+    }
+
+    /// One of the sealed buffers is on the device now. Those at the front that are go.
+    pub(crate) fn mark_written(&mut self, k: usize)
+        requires within { k < deque_len self.old.sealed }
+        requires ready { (b : Sealed) → slice_get self.old.sealed.items k ≡ Some b → is_ready b ≡ true }
+        ensures sealed { self.new.sealed.items ≡ behind_run (written_at k self.old.sealed.items) }
+        ensures from { self.new.written_len ≡ run_end self.old.written_len (written_at k self.old.sealed.items) }
+        ensures reserved { self.new.reserved.items ≡ drop (run_count (written_at k self.old.sealed.items)) self.old.reserved.items }
+        ensures gone { self.new.gone ≡ self.old.gone + run_count (written_at k self.old.sealed.items) }
+        ensures bytes { self.new.bytes.items ≡ self.old.bytes.items }
+    {
+        note_written(&mut self.sealed, k);
+        let (end, count) = take_run(&mut self.sealed, self.written_len);
+        drop_first(&mut self.reserved, count);
+        self.written_len = end;
+        self.gone += count;
+        self.first -= count;
+    }
+
+    /// All bytes are on the device now, where no buffer was sealed.
     pub(crate) fn advance(&mut self)
+        requires none_sealed { self.old.sealed.items ≡ [] }
+        requires ended { none_open self.old.reserved.items ≡ true }
         ensures bytes { self.new.bytes.items ≡ self.old.bytes.items }
         ensures from { self.new.written_len ≡ length self.old.bytes.items }
         ensures reserved { self.new.reserved.items ≡ [] }
+        ensures sealed { self.new.sealed.items ≡ [] }
     {
         self.written_len = self.bytes.len();
+        self.begin = self.bytes.len();
+        self.gone += self.reserved.len();
         self.reserved.clear();
         self.open_count = 0;
+    }
+
+    /// How much of the segment is on the device, without a gap.
+    pub(crate) fn synced_len(&self) -> usize
+        ensures is { result ≡ self.now.written_len }
+        ensures inside { result ≤ length self.now.bytes.items }
+    {
+        self.written_len
+    }
+
+    /// Where a sealed buffer begins and ends.
+    pub(crate) fn span(&self, k: usize) -> (usize, usize)
+        requires { k < length self.now.sealed.items }
+        ensures from { result.0 ≡ sealed_end self.now.written_len (take k self.now.sealed.items) }
+        ensures to { result.1 ≡ sealed_end self.now.written_len (take (k + 1) self.now.sealed.items) }
+        ensures rises { result.0 ≤ result.1 }
+        ensures inside { result.1 ≤ length self.now.bytes.items }
+    {
+        let to = self.sealed[k].end;
+        if k == 0 {
+            return (self.written_len, to);
+        }
+        (self.sealed[k - 1].end, to)
+    }
+
+    /// How many sealed buffers can be written: they have no open reservation, and aren't on the device.
+    pub(crate) fn pending(&self) -> usize
+        ensures { result ≡ ready_count self.now.sealed.items }
+    {
+        let mut count = 0;
+        let mut k = 0;
+        while k < self.sealed.len() {
+            if self.sealed[k].is_ready() {
+                count += 1;
+            }
+            k += 1;
+        }
+        count
+    }
+
+    /// The index of the i-th of these.
+    pub(crate) fn ready_at(&self, i: usize) -> usize
+        requires { i < ready_count self.now.sealed.items }
+        ensures within { result < deque_len self.now.sealed }
+        ensures ready { (b : Sealed) → slice_get self.now.sealed.items result ≡ Some b → is_ready b ≡ true }
+        ensures place { ready_count (take result self.now.sealed.items) ≡ i }
+    {
+        let mut left = i;
+        let mut k = 0;
+        while k < self.sealed.len() {
+            if self.sealed[k].is_ready() {
+                if left == 0 {
+                    return k;
+                }
+                left -= 1;
+            }
+            k += 1;
+        }
+        k
+    }
+}
+
+impl Sealed {
+    /// It has no open reservation, and isn't on the device.
+    pub(crate) fn is_ready(&self) -> bool
+        ensures { result ≡ is_ready self.now }
+    {
+        !self.is_written && self.open_count == 0
+    }
+}
+
+/// None of the buffers has an open reservation.
+fn all_ended(sealed: &VecDeque<Sealed>) -> bool
+    ensures { IsTrue result ↔ All (λ b. b.open_count ≡ 0) sealed.now.items }
+{
+    sealed.iter().all(|b| b.open_count == 0)
+}
+
+/// The buffer that has the place, of which there is one with an open reservation, waits for one fewer.
+fn end_sealed(sealed: &mut VecDeque<Sealed>, from: usize)
+    requires some { (at index : ℕ) × (rs : List Reserved) × HasOpenAt at rs index from sealed.old.items }
+    ensures { (at index : ℕ) (rs : List Reserved) → HasOpenAt at rs index from sealed.old.items → sealed.new.items ≡ one_ended index sealed.old.items }
+{
+    let k = ended_before(sealed, from);
+    sealed[k].open_count -= 1;
+}
+
+/// How many of them end no further than an offset.
+fn ended_before(sealed: &VecDeque<Sealed>, from: usize) -> usize
+    ensures { IsNonDecreasingBy (λ b. b.end) sealed.now.items → IsPartitionPoint (λ b. b.end ≤ from) (λ b. from < b.end) sealed.now.items result }
+{
+    sealed.partition_point(|b| b.end <= from)
+}
+
+/// The buffer at an index is on the device now.
+fn note_written(sealed: &mut VecDeque<Sealed>, k: usize)
+    requires { k < deque_len sealed.old }
+    ensures items { sealed.new.items ≡ written_at k sealed.old.items }
+{
+    let b = &mut sealed[k];
+    b.is_written = true;
+}
+
+/// Takes out those at the front that are on the device. Returns where they end, and how many reservations they have.
+fn take_run(sealed: &mut VecDeque<Sealed>, from: usize) -> (usize, usize)
+    requires { sealed_count sealed.old.items < 2 ^ 64 }
+    ensures left { sealed.new.items ≡ behind_run sealed.old.items }
+    ensures end { result.0 ≡ run_end from sealed.old.items }
+    ensures count { result.1 ≡ run_count sealed.old.items }
+{
+    let mut end = from;
+    let mut count = 0;
+    while let Some(b) = sealed.front() {
+        if !b.is_written {
+            break;
+        }
+        end = b.end;
+        count += b.count;
+        let _ = sealed.pop_front();
+    }
+    (end, count)
+}
+
+/// Takes out so many at the front.
+fn drop_first(reserved: &mut VecDeque<Reserved>, count: usize)
+    ensures { reserved.new.items ≡ drop count reserved.old.items }
+{
+    let mut left = count;
+    while left > 0 {
+        let _ = reserved.pop_front();
+        left -= 1;
     }
 }
 
@@ -311,20 +527,30 @@ fn put(buf: &mut Vec<u8>, at: usize, bytes: &[u8])
     buf[at..at + bytes.len()].copy_from_slice(bytes);
 }
 
+/// Writes a sum, flipped, and a kind over the beginning of a record's header.
+fn put_ending(buf: &mut Vec<u8>, at: usize, sum: u32, kind: MessageKind)
+    requires { at + 5 ≤ length buf.old.items }
+    ensures bytes { buf.new.items ≡ written buf.old.items at (ending sum kind) }
+    ensures len { length buf.new.items ≡ length buf.old.items }
+{
+    let sum = (u32::MAX - sum).to_le_bytes();
+    put(buf, at, &[sum[0], sum[1], sum[2], sum[3], u8::from(kind)]);
+}
+
 /// The reservation at an index has ended so.
-fn close(reserved: &mut Vec<Reserved>, index: usize, state: ReservationState)
-    requires { index < vec_len reserved.old }
+fn close(reserved: &mut VecDeque<Reserved>, index: usize, state: ReservationState)
+    requires { index < deque_len reserved.old }
     ensures { (r : Reserved) → slice_get reserved.old.items index ≡ Some r → reserved.new.items ≡ set reserved.old.items index (ended state r) }
 {
     let r = &mut reserved[index];
     r.state = state;
 }
 
-/// Where the first open one of these begins.
-fn first_open(reserved: &[Reserved]) -> Option<usize>
-    ensures { result ≡ first_open_in reserved.now }
+/// Where the first open one of these begins, from one of them on.
+fn first_open(reserved: &VecDeque<Reserved>, from: usize) -> Option<usize>
+    ensures { result ≡ first_open_in (drop from reserved.now.items) }
 {
-    let mut i = 0;
+    let mut i = from;
     while i < reserved.len() {
         let r = reserved[i];
         if r.state.is_open() {
@@ -333,12 +559,4 @@ fn first_open(reserved: &[Reserved]) -> Option<usize>
         i += 1;
     }
     None
-}
-
-/// Keeps a reservation, where there is room for it.
-fn keep(reserved: &mut Vec<Reserved>, r: Reserved)
-    requires { vec_len reserved.old < vec_capacity reserved.old }
-    ensures { reserved.new.items ≡ reserved.old.items ++ r ∷ [] }
-{
-    let _ = reserved.push(r);
 }

@@ -29,6 +29,7 @@ pub mod read_at;
 pub mod read_message;
 mod stable;
 pub(crate) mod unverified_record;
+mod writing;
 
 use crate::iobuf::record::head_of;
 use crate::iobuf::start::begin;
@@ -57,7 +58,7 @@ pub struct Log<D, C> {
 }
 
 impl<D: Device, C: Checksum> Log<D, C> {
-    ghost use Rattle.sled_core.specs.Fits.{Holds, NoneOpen, Awaits, IsOpen, IsOnlyOpen, HasRoom, IsUnchanged, fault_of, open_of, IsLeastOpen, next_place, synced_end, reserved_end, pins_of, config_of, device_of, IsWritten, HasRecordOf, flushing, manifest_page, segment_size_of, size_for, message_for, KeepsAll};
+    ghost use Rattle.sled_core.specs.Fits.{Holds, NoneOpen, NoneSealed, Awaits, IsOpen, IsOnlyOpen, HasRoom, IsUnchanged, fault_of, open_of, IsLeastOpen, next_place, synced_end, reserved_end, pins_of, config_of, device_of, IsWritten, HasRecordOf, flushing, manifest_page, segment_size_of, size_for, message_for, KeepsAll};
     ghost use Rattle.sled_core.specs.Keeps.{ConfigKept, GoesOn, Preserves, SamePosition};
     ghost use Rattle.sled_core.specs.Ready.{IsReady};
     ghost use Rattle.sled_core.specs.Running.{Fits, Ready};
@@ -145,10 +146,11 @@ impl<D: Device, C: Checksum> Log<D, C> {
     /// Returns the last place (log sequence number) of which all up to it is durable; -1 before the first one.
     pub fn stable_offset(&self) -> Lsn
         ensures place { result ≡ pos (synced_end self.now) -ℤ pos 1 }
+        ensures reserved { synced_end self.now ≤ reserved_end self.now }
         ensures acknowledges { (H : History) (A f : ℕ) (U : List Message) → Fits D.trace C.sum_of self.now H A f U
             → Fits D.trace C.sum_of self.now H (synced_end self.now) f U }
     {
-        (self.site.place + self.buffer.written_len as u64) as i64 - 1
+        (self.site.place + self.buffer.synced_len() as u64) as i64 - 1
     }
 
     /// Keeps a place for a message of this page, at the end of what was reserved, and returns the ticket for it.
@@ -178,6 +180,7 @@ impl<D: Device, C: Checksum> Log<D, C> {
         ensures answers { ReserveAnswers result (fault_of self.old) (kind_written kind pid false) (open_of self.old) (IsLeastOpen self.old) }
         ensures keeps { Preserves D.trace C.sum_of self.old self.new }
         ensures same { KeepsAll self.old self.new }
+        ensures unsealed { NoneSealed self.old → NoneSealed self.new }
         ensures err { OnErr result (IsUnchanged self.old self.new) }
     {
         if let Some(e) = self.fault {
@@ -187,14 +190,15 @@ impl<D: Device, C: Checksum> Log<D, C> {
             return Err(Error::Unsupported(String::new(self.config.alloc())));
         };
         if self.buffer.is_full_of_open() {
-            return Err(Error::Held(self.buffer.least_open(&self.site)));
+            let first = self.buffer.first;
+            return Err(Error::Held(self.buffer.least_open(first, &self.site)));
         }
         let item_len = item.serialized_size() as usize;
         let number = SegmentNumber(self.site.place / self.config.config.segment_size);
         let head = head_of(message_kind, number, pid, item_len as u64);
         self.buffer.make_room(head.len + item_len)?;
         let at = self.buffer.bytes.len() as u64;
-        let index = self.buffer.reserved.len();
+        let index = self.buffer.gone + self.buffer.reserved.len();
         let kept = Purpose {
             log_kind: kind,
             kind: message_kind,
@@ -227,6 +231,7 @@ impl<D: Device, C: Checksum> Log<D, C> {
             → OnOk result ((H' : History) × Step H (Completed m) H' × Fits D.trace C.sum_of self.new H' A f (m ∷ U)) }
         ensures goes_on { GoesOn D.trace C.sum_of self.old self.new }
         ensures same { KeepsAll self.old self.new }
+        ensures unsealed { NoneSealed self.old → NoneSealed self.new }
         ensures next { next_place self.new ≡ next_place self.old }
         ensures err { OnErr result (self.new ≡ self.old) }
     {
@@ -237,45 +242,9 @@ impl<D: Device, C: Checksum> Log<D, C> {
         if let Some(e) = self.fault {
             return Err(Error::Io(e));
         }
-        self.buffer.complete(index);
+        let gone = self.buffer.gone;
+        self.buffer.complete(index - gone);
         Ok((place, pointer))
-    }
-
-    /// Writes what was completed and syncs it, and returns by how many bytes the stable end grew. Where nothing
-    /// was reserved since the last write it does nothing. What a crash leaves at any moment of it can be recovered.
-    ///
-    /// # Errors
-    ///
-    /// `Io` where the log keeps a failure of its device, or where the device failed in this call: the log keeps that.
-    /// `OutOfMemory`: the flush can be tried again. After each of them the stable end is where it was.
-    pub fn flush(&mut self) -> Result<usize>
-        requires { NoneOpen self.old }
-        ensures answer { IfOk result (λ n. synced_end self.new ≡ synced_end self.old + n) }
-        ensures whole { OnOk result (synced_end self.new ≡ reserved_end self.old) }
-        ensures records { (H : History) → Holds D.trace C.sum_of self.old H → OnOk result (IsWritten D.trace C.sum_of self.new H) }
-        ensures calls { OnOk result (D.trace (device_of self.new) ≡ after_all (flushing self.old) (D.trace (device_of self.old))) }
-        ensures at_most { Performs (flushing self.old) (D.trace (device_of self.old)) (D.trace (device_of self.new)) }
-        ensures keeps { Preserves D.trace C.sum_of self.old self.new }
-        ensures acknowledges { (H : History) (A f : ℕ) (U : List Message) → Fits D.trace C.sum_of self.old H A f U
-            → OnOk result (Fits D.trace C.sum_of self.new H (synced_end self.new) f U) }
-        ensures ended { NoneOpen self.new }
-        ensures position { SamePosition self.old self.new }
-        ensures answers { Answers result (fault_of self.old) (fault_of self.new) (D.faults (device_of self.old)) (D.faults (device_of self.new)) }
-        ensures faulty { (e : IoError) → fault_of self.old ≡ Some e → self.new ≡ self.old }
-        ensures err { OnErr result (synced_end self.new ≡ synced_end self.old) }
-    {
-        if let Some(kept) = self.fault {
-            return Err(Error::Io(kept));
-        }
-        if self.buffer.reserved.is_empty() {
-            return Ok(0);
-        }
-        let grown = self.buffer.bytes.len() - self.buffer.written_len;
-        if let Err(e) = write_out(&mut self.config.device, self.site.slot, &self.buffer) {
-            return Err(keep_fault(&mut self.fault, e));
-        }
-        self.buffer.advance();
-        Ok(grown)
     }
 
     /// Reads the message of this page and place that lies there, from the device. Where its place is not
@@ -333,8 +302,11 @@ impl<D: Device, C: Checksum> Log<D, C> {
         ensures position { SamePosition self.old self.new }
         ensures answers { Answers result (fault_of self.old) (fault_of self.new) (D.faults (device_of self.old)) (D.faults (device_of self.new)) }
     {
-        if place >= self.site.place + self.buffer.written_len as u64 {
-            self.flush()?;
+        if place >= self.site.place + self.buffer.synced_len() as u64 {
+            return match self.flush() {
+                Ok(_) => Ok(()),
+                Err(e) => Err(e),
+            };
         }
         Ok(())
     }
@@ -377,7 +349,10 @@ impl<D: Device, C: Checksum> Log<D, C> {
     pub fn is_open(&self, ticket: &Reservation) -> bool
         ensures { IsTrue result ↔ IsOpen self.now ticket.now }
     {
-        match self.buffer.reserved.get(ticket.index()) {
+        let Some(index) = ticket.index().checked_sub(self.buffer.gone) else {
+            return false;
+        };
+        match self.buffer.reserved.get(index) {
             Some(r) => is_for(&self.site, r, ticket),
             None => false,
         }
@@ -430,25 +405,6 @@ fn record_size(number: u64, pid: PageId, item_len: u64) -> u64
     5 + item_len.serialized_size() + number.serialized_size() + pid.serialized_size() + item_len
 }
 
-/// Writes what was not written yet of the segment in a slot, and syncs it.
-fn write_out<D: Device>(device: &mut D, slot: LogOffset, buffer: &IoBuf) -> io::Result<()>
-    requires { slot + length buffer.now.bytes.items < 2 ^ 63 }
-    ensures done { let at = slot + buffer.now.written_len in let bytes = drop buffer.now.written_len buffer.now.bytes.items in
-        OnOk result (D.trace device.new ≡ Synced ∷ Wrote at bytes bytes ∷ D.trace device.old) }
-    ensures refused { IfErr result (λ e. error_kind e ≡ OutOfMemory → D.trace device.new ≡ D.trace device.old) }
-    ensures faults { Counts result (D.faults device.old) (D.faults device.new) }
-    ensures error { FailsOr OutOfMemory result }
-    ensures names { (state_of (D.trace device.new)).snapshots ≡ (state_of (D.trace device.old)).snapshots }
-    ensures calls { let at = slot + buffer.now.written_len in let bytes = drop buffer.now.written_len buffer.now.bytes.items in
-        Performs (Wrote at bytes bytes ∷ Synced ∷ []) (D.trace device.old) (D.trace device.new) }
-{
-    device.write_at(
-        slot + buffer.written_len as u64,
-        &buffer.bytes[buffer.written_len..],
-    )?;
-    device.sync()
-}
-
 /// The failure of the device that an answer tells of.
 fn failure_of(answer: &Result<LogRead>) -> Option<io::Error>
     ensures { result ≡ failure_in answer.now }
@@ -457,17 +413,4 @@ fn failure_of(answer: &Result<LogRead>) -> Option<io::Error>
         Err(Error::Io(e)) => Some(*e),
         _ => None,
     }
-}
-
-/// Keeps a failure of the device, and says which error it is. Running out of memory is none.
-fn keep_fault(fault: &mut Option<io::Error>, e: io::Error) -> Error
-    requires { fault.old ≡ None }
-    ensures error { IsErrorOf e result }
-    ensures memory { error_kind e ≡ OutOfMemory → fault.new ≡ None }
-    ensures kept { error_kind e ≢ OutOfMemory → fault.new ≡ Some e }
-{
-    if e.kind() != io::ErrorKind::OutOfMemory {
-        *fault = Some(e);
-    }
-    Error::from(e)
 }

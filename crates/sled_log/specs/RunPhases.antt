@@ -8,7 +8,7 @@ use Rattle.sled_codec.specs.Snapshots.{SnapshotModel, model_of, stable_place}
 use Rattle.sled_store.specs.Device.{Trace, state_of}
 use Rattle.sled_store.specs.Moments.{IsLater}
 use Rattle.sled_store.specs.declared.config.RunningConfig.{RunningConfig}
-use Rattle.sled_core.specs.Fits.{NoneOpen, Awaits, IsOnlyOpen, IsOpen, config_of, fault_of, next_place, pins_of, site_of, synced_end}
+use Rattle.sled_core.specs.Fits.{NoneOpen, NoneSealed, Awaits, IsOnlyOpen, IsOpen, config_of, fault_of, next_place, pins_of, site_of, synced_end}
 use Rattle.sled_core.specs.Keeps.{ConfigKept}
 use Rattle.sled_core.specs.Recoverable.{LeavesRecoverable}
 use Rattle.sled_core.specs.Running.{Fits, Ready}
@@ -124,9 +124,9 @@ IsAt trace sum (Closed config) k = IsClosedAt sum config.config.segment_size (tr
 IsAt trace sum (Open opened) k = IsOpenAt trace sum opened k
 IsAt trace sum (Waiting opened ticket) k = IsOpenAt trace sum opened k × IsWaitingFor opened ticket k
 
--- no reservation of the log is open
+-- no reservation of the log is open, and no buffer is sealed
 abbrev pub HasNoneOpen : {D C : Type 0} → Opened D C → Type 0
-HasNoneOpen opened = NoneOpen opened.log
+HasNoneOpen opened = NoneOpen opened.log × NoneSealed opened.log
 
 -- the ticket is for the one reservation of the log that is open, and the log keeps no failure
 pub record HasOneOpen {D C : Type 0} (opened : Opened D C) (ticket : Ticket) : Type 0 where
@@ -134,6 +134,7 @@ pub record HasOneOpen {D C : Type 0} (opened : Opened D C) (ticket : Ticket) : T
   pub only : IsOnlyOpen opened.log ticket.reservation
   pub page : ticket.page < 2 ^ 64 - 1
   pub fault : fault_of opened.log ≡ None
+  pub unsealed : NoneSealed opened.log
 
 -- whatever happened, the phase is one in which calls can be made
 abbrev pub CanGoOn : {D C : Type 0} → Phase D C → Type 0

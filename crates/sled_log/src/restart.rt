@@ -37,7 +37,8 @@ pub fn restart<D: Device, C: Checksum>(log: Log<D, C>) -> (RunningConfig<D, C>, 
     ensures past { (H : History) (A f : ℕ) (U : List Message) → CanRestart D.trace C.sum_of log H A f U
         → IfOk result.1 (λ s. All (λ m. m.place + m.size ≤ stable_place s.stable_lsn) H.messages) }
     ensures ready { (H : History) (A f : ℕ) (U : List Message) → CanRestart D.trace C.sum_of log H A f U
-        → IfOk result.1 (λ s. Ready C.sum_of (segment_size_of log) (state_of (D.trace result.0.device)) (model_of s) H (reserved_end log) (stable_place s.stable_lsn)) }
+        → IfOk result.1 (λ s. Ready C.sum_of (segment_size_of log) (state_of (D.trace result.0.device)) (model_of s) H (reserved_end log)
+        (stable_place s.stable_lsn)) }
     ensures did { let old = device_of log in let new = result.0.device in
         Restarts C.sum_of (segment_size_of log) (flushing log) (fault_of log) result.1 (D.trace old) (D.trace new) (D.faults old) (D.faults new) }
     ensures crash { (H : History) (A f : ℕ) (U : List Message) → CanRestart D.trace C.sum_of log H A f U

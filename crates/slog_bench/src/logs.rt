@@ -57,6 +57,9 @@ impl Opened {
             "is_open" => self.is_open(words.number(), out),
             "flush" => self.flush(out),
             "make_stable" => self.make_stable(words.signed(), out),
+            "pending" => out.text.number(self.log.pending() as u64),
+            "write" => self.write(words.number(), out),
+            "roll" => push_growth(self.log.roll_iobuf(), out),
             "read" => self.read(words.number(), words.signed(), words.pointer(), out),
             "pins" => out.text.number(self.log.pins()),
             "stable" => out.text.signed(self.log.stable_offset()),
@@ -217,24 +220,22 @@ impl Opened {
 
     // Writes what was completed, and syncs it.
     fn flush(&mut self, out: &mut Answer) {
-        if !self.log.none_open() {
-            out.refused();
-            return;
-        }
-        match self.log.flush() {
-            Ok(grown) => out.text.number(grown as u64),
-            Err(e) => out.error(&e),
-        }
+        push_growth(self.log.flush(), out);
     }
 
     // Makes what was reserved durable up to a place.
     fn make_stable(&mut self, place: i64, out: &mut Answer) {
-        if !self.log.none_open() {
+        push_growth(self.log.make_stable(place), out);
+    }
+
+    // Writes the i-th of the sealed buffers that can be written, where there are so many.
+    fn write(&mut self, i: u64, out: &mut Answer) {
+        if i >= self.log.pending() as u64 {
             out.refused();
             return;
         }
-        match self.log.make_stable(place) {
-            Ok(grown) => out.text.number(grown as u64),
+        match self.log.write_to_log(i as usize) {
+            Ok(()) => out.ok(),
             Err(e) => out.error(&e),
         }
     }
@@ -267,14 +268,9 @@ impl Opened {
         (config, Some(answer))
     }
 
-    /// Gives pins and tickets up, and closes the log where no reservation is open.
-    pub fn close(self) -> (Running, Option<Result<usize>>) {
-        let log = self.into_log();
-        if !log.none_open() {
-            return (log.halt(), None);
-        }
-        let (config, answer) = log.close();
-        (config, Some(answer))
+    /// Gives pins and tickets up, and closes the log.
+    pub fn close(self) -> (Running, Result<usize>) {
+        self.into_log().close()
     }
 
     // Gives pins and tickets up.
@@ -295,6 +291,14 @@ impl Opened {
         }
         tickets.destroy_empty();
         log
+    }
+}
+
+// Adds by how much something grew.
+fn push_growth(answer: Result<usize>, out: &mut Answer) {
+    match answer {
+        Ok(grown) => out.text.number(grown as u64),
+        Err(e) => out.error(&e),
     }
 }
 

@@ -169,9 +169,8 @@ impl World {
         let (config, answer) = opened.close();
         self.config = Some(config);
         match answer {
-            Some(Ok(grown)) => out.text.number(grown as u64),
-            Some(Err(e)) => out.error(&e),
-            None => out.refused(),
+            Ok(grown) => out.text.number(grown as u64),
+            Err(e) => out.error(&e),
         }
     }
 

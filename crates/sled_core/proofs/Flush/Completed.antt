@@ -10,6 +10,7 @@ use Rattle.sled_store.specs.Device.{State}
 use Rattle.sled_store.proofs.Histories.Ascending.{Ascends, apart_ascends}
 use Rattle.sled_core.specs.declared.iobuf.ReservationState.TheVariants.{Open, Completed, Canceled}
 use Rattle.sled_core.specs.declared.iobuf.Reserved.{Reserved}
+use Rattle.sled_core.specs.declared.iobuf.Sealed.{Sealed}
 use Rattle.sled_core.specs.declared.iobuf.SegmentPosition.{SegmentPosition}
 use Rattle.sled_core.specs.Buffers.{IsChain, completed_in, message_in, with_own}
 use Rattle.sled_core.specs.Fits.{log_parts, HoldsIn, EndBelow, CloseBelow}
@@ -48,7 +49,7 @@ completed_inline site bytes (r ∷ rs) =
     let rest : All IsInline (completed_in site bytes rs) = completed_inline site bytes rs in
     all_own IsInline r.state (message_in site bytes r) (completed_in site bytes rs) (λ own. (site.slot + r.from, refl)) rest
 
-module _ (sum : List ℕ → ℕ) (size : ℕ) (site : SegmentPosition) (device : State) (fault : Option IoError) (bytes : List ℕ) (from : ℕ) (rs : List Reserved) (H : History) (holds : HoldsIn sum (log_parts size site device fault bytes from rs) H) where
+module _ (sum : List ℕ → ℕ) (size : ℕ) (site : SegmentPosition) (device : State) (fault : Option IoError) (bytes : List ℕ) (from : ℕ) (bs : List Sealed) (rs : List Reserved) (H : History) (holds : HoldsIn sum (log_parts size site device fault bytes from bs rs) H) where
   abbrev pub done : List Message
   done = completed_in site bytes rs
 

@@ -1,5 +1,5 @@
 -- At each moment of the calls of a flush a crash leaves what can be recovered, and behind them the log fits, with all that was written for what was acknowledged.
-use Rattle.std.proofs.Common.{◌≡◌, ◌≤◌, ◌<◌, ◌+◌, ◌^◌, ℕ, true, List, [], ◌∷◌, length, drop, Option, None, ap, sym, refl, subst, arith, length-drop}
+use Rattle.std.proofs.Common.{◌≡◌, ◌≤◌, ◌<◌, ◌+◌, ◌^◌, ℕ, true, List, [], ◌∷◌, length, drop, get_or, Option, None, ap, sym, refl, subst, arith, length-drop}
 use Rattle.std.specs.declared.io.Error.{Error as IoError}
 use Rattle.sled_codec.specs.History.{Message, History, table}
 use Rattle.sled_codec.specs.Snapshots.{SnapshotModel, stable_place}
@@ -26,7 +26,7 @@ use Rattle.sled_core.proofs.Reached.BufferStands.{written_within}
 
 -- The calls of a flush, on a log with something to write.
 module _ (sum : List ℕ → ℕ) (size : ℕ) (site : SegmentPosition) (device : State) (fault : Option IoError) (bytes : List ℕ) (from : ℕ) (rs : List Reserved) (pins : ℕ) (H : History) (A f : ℕ) (U : List Message)
-    (fits : FitsIn sum (log_parts size site device fault bytes from rs) pins H A f U)
+    (fits : FitsIn sum (log_parts size site device fault bytes from [] rs) pins H A f U)
     (begun : 20 ≤ length bytes) (behind : from ≤ length bytes) (short : length bytes ≤ size) (big : 256 ≤ size) (place_small : site.place + size < 2 ^ 63) (slot_small : site.slot + size < 2 ^ 63)
     (ended : none_open rs ≡ true) (some : 0 < length rs) (whole : fault ≡ None) where
   abbrev asked : List ℕ
@@ -46,7 +46,7 @@ module _ (sum : List ℕ → ℕ) (size : ℕ) (site : SegmentPosition) (device 
   abbrev new : List ℕ
   new = overwritten old (site.slot + from) asked
 
-  holds : HoldsIn sum (log_parts size site device fault bytes from rs) H
+  holds : HoldsIn sum (log_parts size site device fault bytes from [] rs) H
   holds = fits.holds
 
   abbrev first : SnapshotModel
@@ -66,23 +66,27 @@ module _ (sum : List ℕ → ℕ) (size : ℕ) (site : SegmentPosition) (device 
   file : IsLogFile sum size old site from fits.holds.earlier entries
   file = subst (λ (l : List ℕ). IsLogFile sum size l site from fits.holds.earlier entries) (sym (ap (λ (s : LogState). s.bytes) on_device.settled)) on_device.file
 
+  -- behind what was written the slot has zeros
+  clean : (i : ℕ) → site.slot + from ≤ i → i < site.slot + size → get_or old i 0 ≡ 0
+  clean = fits.holds.laid whole
+
   more : from < length bytes
-  more = grown sum size site device fault bytes from rs H holds some
+  more = grown sum size site device fault bytes from [] rs H holds some
 
   room : from + 32 ≤ size
-  room = has_room sum size site device fault bytes from rs H holds some
+  room = has_room sum size site device fault bytes from [] rs H holds some
 
   ordered : Ascends H.messages
-  ordered = all_ascend sum size site device fault bytes from rs H holds
+  ordered = all_ascend sum size site device fault bytes from [] rs H holds
 
   inline : InlineFrom H (site.place + from)
-  inline = inline_from sum size site device fault bytes from rs H holds
+  inline = inline_from sum size site device fault bytes from [] rs H holds
 
   -- Within the write.
   write_leaves : (now : List ℕ) → length now ≤ length asked → LeavesRecoverable sum size H (site.place + from) f (after_write now)
   write_leaves now no_more = λ left leaves only_own.
-      let stands = torn_alone sum only_own.zeros size big old site from bytes rs more short room fits.holds.place_begins fits.holds.slot_begins place_small slot_small fits.holds.header file.clean
-      fits.holds.chain fits.holds.stand fits.holds.room ended H (has_only sum size site device fault bytes from rs H holds) first (fits.alone whole only_own.zeros) now left.log no_more
+      let stands = torn_alone sum only_own.zeros size big old site from bytes rs more short room fits.holds.place_begins fits.holds.slot_begins place_small slot_small fits.holds.header clean
+      fits.holds.chain fits.holds.stand fits.holds.room ended H (has_only sum size site device fault bytes from [] rs H holds) first (fits.alone whole only_own.zeros) now left.log no_more
       (subst (λ (s : LogState). LeavesLog (log_step (Wrote (site.slot + from) asked now) s) left.log) rest leaves.log)
       (subst (λ (s : LogState). NoForeignLog sum size (log_step (Wrote (site.slot + from) asked now) s) ((site.slot + from, asked) ∷ device.placed) left.log) rest only_own.log) in
       stands_recoverable sum size big left H (site.place + from) f first (site.place + from) ordered inline (fits.names left.snapshots leaves.snapshots only_own.snapshots) (fits.blobs left.blobs leaves.blobs only_own.blobs) stands
@@ -101,9 +105,9 @@ module _ (sum : List ℕ → ℕ) (size : ℕ) (site : SegmentPosition) (device 
       let filled : List ℕ = padded site.slot old in
       subst (λ (l : List ℕ). StandsAlone sum size l site (length bytes) H first) same_file
       (alone_behind sum zeros size big filled site from bytes rs more short room fits.holds.place_begins fits.holds.slot_begins place_small slot_small fits.holds.header
-      (λ i above below. padded_clean site.slot old i (omega (arith, above)) (file.clean i above below))
-      fits.holds.chain fits.holds.stand fits.holds.room ended H (has_only sum size site device fault bytes from rs H holds) first (fits.beyond whole zeros)
-      ordered (padded_long site.slot old) fits.holds.begun.least (none_crosses sum size site device fault bytes from rs H holds (site.place + length bytes) (omega (arith, behind)))
+      (λ i above below. padded_clean site.slot old i (omega (arith, above)) (clean i above below))
+      fits.holds.chain fits.holds.stand fits.holds.room ended H (has_only sum size site device fault bytes from [] rs H holds) first (fits.beyond whole zeros)
+      ordered (padded_long site.slot old) fits.holds.begun.least (none_crosses sum size site device fault bytes from [] rs H holds (site.place + length bytes) (omega (arith, behind)))
       (subst (λ (l : List ℕ). HasHeader sum l site) (sym same_file) header_new))
 
   beyond_new : NoHeaderOfZeros sum → StandsAlone sum size (padded site.slot new) site (length bytes) H first
@@ -118,7 +122,7 @@ module _ (sum : List ℕ → ℕ) (size : ℕ) (site : SegmentPosition) (device 
   left_new = settled_recoverable sum size big after_sync H (site.place + length bytes) f first (site.place + length bytes) ordered (λ m there above. inline m there (omega (arith, behind, above))) refl
       fits.names blobs_new (λ zeros. (alone_new zeros).stands)
 
-  fits_kept : (A' : ℕ) → A' ≤ site.place + length bytes → FitsIn sum (log_parts size site after_sync fault bytes (length bytes) []) pins H A' f U
+  fits_kept : (A' : ℕ) → A' ≤ site.place + length bytes → FitsIn sum (log_parts size site after_sync fault bytes (length bytes) [] []) pins H A' f U
   unfolding holds-flush
   fits_kept A' passes = record {
     holds = holds-flush sum size site device fault bytes from rs H fits.holds begun behind short place_small slot_small ended some whole after_sync refl refl;
@@ -132,8 +136,8 @@ module _ (sum : List ℕ → ℕ) (size : ℕ) (site : SegmentPosition) (device 
   }
 
   -- The log fits with all that was written for what was acknowledged.
-  pub fits_flushed : (A' : ℕ) → A' ≤ site.place + length bytes → FitsIn sum (log_parts size site after_sync None bytes (length bytes) []) pins H A' f U
-  fits_flushed A' passes = subst (λ (o : Option IoError). FitsIn sum (log_parts size site after_sync o bytes (length bytes) []) pins H A' f U) whole (fits_kept A' passes)
+  pub fits_flushed : (A' : ℕ) → A' ≤ site.place + length bytes → FitsIn sum (log_parts size site after_sync None bytes (length bytes) [] []) pins H A' f U
+  fits_flushed A' passes = subst (λ (o : Option IoError). FitsIn sum (log_parts size site after_sync o bytes (length bytes) [] []) pins H A' f U) whole (fits_kept A' passes)
 
   -- each content that a crash leaves on the way can be recovered
   pub flush_along : Along (LeavesRecoverable sum size H (site.place + from) f) (Wrote (site.slot + from) asked asked ∷ Synced ∷ []) device

@@ -8,17 +8,19 @@ use Rattle.sled_store.specs.Script.{Performs, Along, after_all}
 use Rattle.sled_store.proofs.Traces.MomentLemmas.{at_last, weaker}
 use Rattle.sled_store.proofs.Traces.ScriptLemmas.{performs_throughout}
 use Rattle.sled_core.specs.declared.iobuf.Reserved.{Reserved}
+use Rattle.sled_core.specs.declared.iobuf.Sealed.{Sealed}
 use Rattle.sled_core.specs.declared.logger.Log.{Log}
-use Rattle.sled_core.specs.Fits.{NoneOpen, fault_of, device_of, segment_size_of, log_parts}
+use Rattle.sled_core.specs.Fits.{NoneOpen, NoneSealed, fault_of, device_of, segment_size_of, log_parts}
 use Rattle.sled_core.specs.Recoverable.{LeavesRecoverable}
 use Rattle.sled_core.specs.Running.{FitsIn, Fits}
 use Rattle.sled_core.proofs.Flush.Settled.{leaves_less}
+use Rattle.sled_core.proofs.Holds.BufferEnds.{written_behind}
 use Rattle.sled_core.proofs.Flush.FlushCalls.{flush_along, fits_flushed}
 pub use Rattle.sled_core.proofs.Flush.SameFits.{fits_answered, fits_faulty, fits_same_buffer, fits_same_device}
 
 -- A log whose device has not failed, with something to write.
 module _ {D C : Type 0} (trace : D → Trace) (sum : List ℕ → ℕ) (log : Log D C) (H : History) (A f : ℕ) (U : List Message) (fits : Fits trace sum log H A f U)
-    (ended : NoneOpen log) (some : 0 < length log.buffer.reserved.items) (whole : fault_of log ≡ None) where
+    (none_sealed : NoneSealed log) (ended : NoneOpen log) (some : 0 < length log.buffer.reserved.items) (whole : fault_of log ≡ None) where
   abbrev before : Trace
   before = trace (device_of log)
 
@@ -38,30 +40,33 @@ module _ {D C : Type 0} (trace : D → Trace) (sum : List ℕ → ℕ) (log : Lo
   abbrev calls : List Event
   calls = Wrote (log.site.slot + from) (drop from bytes) (drop from bytes) ∷ Synced ∷ []
 
-  parts_fit : FitsIn sum (log_parts size log.site (state_of before) log.fault bytes from rs) log.pins H A f U
+  behind : from ≤ length bytes
+  behind = written_behind log.buffer
+
+  parts_fit : FitsIn sum (log_parts size log.site (state_of before) log.fault bytes from [] rs) log.pins H A f U
   unfolding Fits
-  parts_fit = fits
+  parts_fit = subst (λ (bs : List Sealed). FitsIn sum (log_parts size log.site (state_of before) log.fault bytes from bs rs) log.pins H A f U) none_sealed fits
 
   -- at each moment of the calls, with all that was written before counted as acknowledged
   pub flush_left : (new : Trace) → Performs calls before new → Throughout (LeavesRecoverable sum size H (log.site.place + from) f) before new
   flush_left new came =
       performs_throughout (LeavesRecoverable sum size H (log.site.place + from) f) calls before new came
-      (flush_along sum size log.site (state_of before) log.fault bytes from rs log.pins H A f U parts_fit log.buffer.begun log.buffer.behind log.in_segment log.config.config.least log.place_in_reach log.slot_in_reach ended some whole)
+      (flush_along sum size log.site (state_of before) log.fault bytes from rs log.pins H A f U parts_fit log.buffer.begun behind log.in_segment log.config.config.least log.place_in_reach log.slot_in_reach ended some whole)
 
   pub flush_crash : (new : Trace) → Performs calls before new → Throughout (LeavesRecoverable sum size H A f) before new
   flush_crash new came =
       weaker (LeavesRecoverable sum size H (log.site.place + from) f) (LeavesRecoverable sum size H A f) (λ s. leaves_less sum size H A (log.site.place + from) f s parts_fit.passes) before new (flush_left new came)
 
   -- behind both, with all that was written for what was acknowledged
-  pub fits_written : (new : Trace) → new ≡ after_all calls before → (bytes' : List ℕ) (from' : ℕ) (rs' : List Reserved) → bytes' ≡ bytes → from' ≡ length bytes → rs' ≡ [] → (A' : ℕ) → A' ≤ log.site.place + from'
-      → FitsIn sum (log_parts size log.site (state_of new) log.fault bytes' from' rs') log.pins H A' f U
-  fits_written new came bytes' from' rs' is_bytes is_from is_rs A' passes =
-      let after : FitsIn sum (log_parts size log.site (state_of (after_all calls before)) None bytes (length bytes) []) log.pins H A' f U =
-      fits_flushed sum size log.site (state_of before) log.fault bytes from rs log.pins H A f U parts_fit log.buffer.begun log.buffer.behind log.in_segment log.config.config.least log.place_in_reach log.slot_in_reach ended some whole A'
+  pub fits_written : (new : Trace) → new ≡ after_all calls before → (bytes' : List ℕ) (from' : ℕ) (bs' : List Sealed) (rs' : List Reserved) → bytes' ≡ bytes → from' ≡ length bytes → bs' ≡ [] → rs' ≡ [] → (A' : ℕ) → A' ≤ log.site.place + from'
+      → FitsIn sum (log_parts size log.site (state_of new) log.fault bytes' from' bs' rs') log.pins H A' f U
+  fits_written new came bytes' from' bs' rs' is_bytes is_from is_bs is_rs A' passes =
+      let after : FitsIn sum (log_parts size log.site (state_of (after_all calls before)) None bytes (length bytes) [] []) log.pins H A' f U =
+      fits_flushed sum size log.site (state_of before) log.fault bytes from rs log.pins H A f U parts_fit log.buffer.begun behind log.in_segment log.config.config.least log.place_in_reach log.slot_in_reach ended some whole A'
       (omega (arith, passes, is_from)) in
-      fits_same_buffer sum size log.site (state_of new) log.fault bytes bytes' (length bytes) from' [] rs' log.pins H A' f U is_bytes is_from is_rs
-      (subst (λ (o : Option IoError). FitsIn sum (log_parts size log.site (state_of new) o bytes (length bytes) []) log.pins H A' f U) (sym whole)
-      (subst (λ (t : Trace). FitsIn sum (log_parts size log.site (state_of t) None bytes (length bytes) []) log.pins H A' f U) (sym came) after))
+      fits_same_buffer sum size log.site (state_of new) log.fault bytes bytes' (length bytes) from' [] bs' [] rs' log.pins H A' f U is_bytes is_from is_bs is_rs
+      (subst (λ (o : Option IoError). FitsIn sum (log_parts size log.site (state_of new) o bytes (length bytes) [] []) log.pins H A' f U) (sym whole)
+      (subst (λ (t : Trace). FitsIn sum (log_parts size log.site (state_of t) None bytes (length bytes) [] []) log.pins H A' f U) (sym came) after))
 
 -- A write and a sync of the log file leave blobs and snapshots as they were.
 pub flush_names : (at : ℕ) (xs : List ℕ) (old new : Trace) → Performs (Wrote at xs xs ∷ Synced ∷ []) old new → ((state_of new).blobs ≡ (state_of old).blobs) × ((state_of new).snapshots ≡ (state_of old).snapshots)

@@ -14,13 +14,16 @@ use Rattle.sled_store.specs.Answers.{is_fault, is_fault_kind}
 use Rattle.sled_store.specs.Device.{LogState, State, at_rest, overwritten}
 use Rattle.sled_store.specs.SnapshotFiles.{BeginsFrom}
 use Rattle.sled_core.specs.declared.iobuf.Reserved.{Reserved}
+use Rattle.sled_core.specs.declared.iobuf.Sealed.{Sealed}
 use Rattle.sled_core.specs.declared.iobuf.SegmentPosition.{SegmentPosition}
 use Rattle.sled_core.specs.Buffers.{IsChain, completed_in, none_open, Stands}
 use Rattle.sled_core.specs.Fits.{log_parts, HoldsIn, IsOnDevice, IsBegunFrom, IsKept, EndBelow}
 use Rattle.sled_core.specs.LogFile.{IsLogFile}
 use Rattle.sled_core.proofs.Reserve.Ranges.{chain_grows}
 use Rattle.sled_core.proofs.Flush.Completed.{all_below, all_apart, batches_to}
-use Rattle.sled_core.proofs.Flush.WrittenFile.{file_written}
+use Rattle.sled_core.specs.SealedBuffers.{AreSealed, AreZeros, FirstUnwritten}
+use Rattle.sled_core.proofs.Flush.WrittenFile.{behind_zeros, file_written}
+use Rattle.sled_core.proofs.Sealed.Zeros.{rest_zeros}
 
 -- The snapshot is the same, and more of the log is settled.
 abbrev pub begun-more : (sum : List ℕ → ℕ) (size : ℕ) (snapshots snapshots' : ℤ → Option (List ℕ)) (site : SegmentPosition) (from from' : ℕ) (H : History) → snapshots' ≡ snapshots → from ≤ from'
@@ -53,8 +56,8 @@ chain_room : (size from end : ℕ) (rs : List Reserved) → 0 < length rs → Al
 chain_room size from end [] some room chain = absurd (omega (arith, some))
 chain_room size from end (r ∷ rs) some room chain = let fits : r.from + 32 ≤ size = room 0 r (omega arith) in omega (arith, fits, chain.0)
 
-module _ (sum : List ℕ → ℕ) (size : ℕ) (site : SegmentPosition) (device : State) (fault : Option IoError) (bytes : List ℕ) (from : ℕ) (rs : List Reserved) (H : History)
-    (holds : HoldsIn sum (log_parts size site device fault bytes from rs) H) where
+module _ (sum : List ℕ → ℕ) (size : ℕ) (site : SegmentPosition) (device : State) (fault : Option IoError) (bytes : List ℕ) (from : ℕ) (bs : List Sealed) (rs : List Reserved) (H : History)
+    (holds : HoldsIn sum (log_parts size site device fault bytes from bs rs) H) where
   -- Something was reserved, so there is something to write, and room where it begins.
 
   pub grown : 0 < length rs → from < length bytes
@@ -63,42 +66,8 @@ module _ (sum : List ℕ → ℕ) (size : ℕ) (site : SegmentPosition) (device 
   pub has_room : 0 < length rs → from + 32 ≤ size
   has_room some = chain_room size from (length bytes) rs some holds.room holds.chain
 
-  module _ (begun : 20 ≤ length bytes) (behind : from ≤ length bytes) (short : length bytes ≤ size) (place_small : site.place + size < 2 ^ 63) (slot_small : site.slot + size < 2 ^ 63)
-      (ended : none_open rs ≡ true) (some : 0 < length rs) (whole : fault ≡ None) where
-    pub settled_bytes : device.log.bytes ≡ (holds.written whole).log
-    settled_bytes = ap (λ (s : LogState). s.bytes) (holds.written whole).settled
-
-    -- All that the log holds is on the device when its buffer was written and settled there.
-    pub flushed : (now : LogState) → now ≡ at_rest (overwritten device.log.bytes (site.slot + from) (drop from bytes)) → IsOnDevice sum size now site (length bytes) H.messages (table H (stable_place holds.begun.first.stable))
-    flushed now is = record {
-      log = overwritten (holds.written whole).log (site.slot + from) (drop from bytes);
-      settled = is ∙ ap (λ (l : List ℕ). at_rest (overwritten l (site.slot + from) (drop from bytes))) settled_bytes;
-      file = subst (λ (ms : List Message). IsLogFile sum size (overwritten (holds.written whole).log (site.slot + from) (drop from bytes)) site (length bytes) ms (table H (stable_place holds.begun.first.stable))) (sym holds.messages)
-          (file_written sum size site (holds.written whole).log bytes from rs holds.earlier (table H (stable_place holds.begun.first.stable)) (holds.written whole).file
-          begun (grown some) short holds.place_begins holds.slot_begins place_small slot_small holds.header holds.chain holds.stand holds.room ended);
-    }
-
-    -- Once they are written and settled, the log holds the same.
-    unfoldable pub holds-flush : (new : State) → new.log ≡ at_rest (overwritten device.log.bytes (site.slot + from) (drop from bytes)) → new.snapshots.file ≡ device.snapshots.file
-        → HoldsIn sum (log_parts size site new fault bytes (length bytes) []) H
-    holds-flush new is names = record {
-      earlier = H.messages;
-      messages = sym (append-nil H.messages);
-      below = all_below sum size site device fault bytes from rs H holds;
-      apart = all_apart sum size site device fault bytes from rs H holds;
-      batches = batches_to sum size site device fault bytes from rs H holds (site.place + length bytes) (omega (arith, behind));
-      place_begins = holds.place_begins;
-      slot_begins = holds.slot_begins;
-      header = λ none. absurd (omega (arith, begun, none));
-      chain = omega (arith, begun);
-      stand = λ k d lt. absurd (omega arith);
-      room = λ k d lt. absurd (omega arith);
-      begun = begun-more sum size device.snapshots.file new.snapshots.file site from (length bytes) H names behind holds.begun;
-      written = λ none. flushed new.log is;
-    }
-
   -- A log that keeps a failure of its device holds what it held, whatever the log file is now.
-  unfoldable pub holds-faulty : (new : State) (e : IoError) (now : Option IoError) → now ≡ Some e → new.snapshots.file ≡ device.snapshots.file → HoldsIn sum (log_parts size site new now bytes from rs) H
+  unfoldable pub holds-faulty : (new : State) (e : IoError) (now : Option IoError) → now ≡ Some e → new.snapshots.file ≡ device.snapshots.file → HoldsIn sum (log_parts size site new now bytes from bs rs) H
   holds-faulty new e now is names = record {
     earlier = holds.earlier;
     messages = holds.messages;
@@ -113,11 +82,12 @@ module _ (sum : List ℕ → ℕ) (size : ℕ) (site : SegmentPosition) (device 
     room = holds.room;
     begun = begun-more sum size device.snapshots.file new.snapshots.file site from from H names (omega arith) holds.begun;
     written = λ none. cc;
+    laid = λ none. cc;
   }
 
   -- Where nothing was reserved since the last write, all is on the device.
-  pub all_kept : rs ≡ [] → fault ≡ None → site.place + size < 2 ^ 63 → from ≤ size → IsKept sum size site from device H
-  all_kept none whole in_reach inside =
+  pub all_kept : rs ≡ [] → fault ≡ None → site.place + size < 2 ^ 63 → from ≤ size → FirstUnwritten bs → AreSealed from rs bs → IsKept sum size site from device H
+  all_kept none whole in_reach inside fresh are =
       let all : H.messages ≡ holds.earlier = holds.messages ∙ ap (λ (l : List Reserved). holds.earlier ++ completed_in site bytes l) none ∙ append-nil holds.earlier in
       record {
         below = subst (λ (ms : List Message). EndBelow (site.place + from) ms) (sym all) holds.below;
@@ -129,20 +99,59 @@ module _ (sum : List ℕ → ℕ) (size : ℕ) (site : SegmentPosition) (device 
         inside = inside;
         begun = holds.begun;
         on_device = subst (λ (ms : List Message). IsOnDevice sum size device.log site from ms (table H (stable_place holds.begun.first.stable))) (sym all) (holds.written whole);
+        clean = rest_zeros device.log.bytes site.slot bytes from bs size fresh (subst (λ (l : List Reserved). AreSealed from l bs) none are) (holds.laid whole);
       }
 
   -- The same device and the same failure hold the same.
-  pub holds-moved : (after : State) (now : Option IoError) → after ≡ device → now ≡ fault → HoldsIn sum (log_parts size site after now bytes from rs) H
-  holds-moved after now d f = subst (λ (s : State). HoldsIn sum (log_parts size site s now bytes from rs) H) (sym d) (subst (λ (o : Option IoError). HoldsIn sum (log_parts size site device o bytes from rs) H) (sym f) holds)
+  pub holds-moved : (after : State) (now : Option IoError) → after ≡ device → now ≡ fault → HoldsIn sum (log_parts size site after now bytes from bs rs) H
+  holds-moved after now d f = subst (λ (s : State). HoldsIn sum (log_parts size site s now bytes from bs rs) H) (sym d) (subst (λ (o : Option IoError). HoldsIn sum (log_parts size site device o bytes from bs rs) H) (sym f) holds)
 
   -- A call that changed nothing of the device holds the same, whether or not the device failed in it.
-  pub holds-answered : (size' : ℕ) (after : State) (now : Option IoError) → size' ≡ size → after ≡ device → fault ≡ None → HoldsIn sum (log_parts size' site after now bytes from rs) H
+  pub holds-answered : (size' : ℕ) (after : State) (now : Option IoError) → size' ≡ size → after ≡ device → fault ≡ None → HoldsIn sum (log_parts size' site after now bytes from bs rs) H
   holds-answered size' after now sizes same none =
-      let here : HoldsIn sum (log_parts size site after now bytes from rs) H = elim (fault_or_none now) [
+      let here : HoldsIn sum (log_parts size site after now bytes from bs rs) H = elim (fault_or_none now) [
         | inl is ↦ holds-moved after now same (is ∙ sym none)
         | inr is ↦ holds-faulty after is.0 now is.1 (ap (λ (s : State). s.snapshots.file) same)
       ] in
-      subst (λ n. HoldsIn sum (log_parts n site after now bytes from rs) H) (sym sizes) here
+      subst (λ n. HoldsIn sum (log_parts n site after now bytes from bs rs) H) (sym sizes) here
+
+-- Where no buffer is sealed, all that was reserved can be written at once.
+module _ (sum : List ℕ → ℕ) (size : ℕ) (site : SegmentPosition) (device : State) (fault : Option IoError) (bytes : List ℕ) (from : ℕ) (rs : List Reserved) (H : History)
+    (holds : HoldsIn sum (log_parts size site device fault bytes from [] rs) H)
+    (begun : 20 ≤ length bytes) (behind : from ≤ length bytes) (short : length bytes ≤ size) (place_small : site.place + size < 2 ^ 63) (slot_small : site.slot + size < 2 ^ 63)
+    (ended : none_open rs ≡ true) (some : 0 < length rs) (whole : fault ≡ None) where
+  pub settled_bytes : device.log.bytes ≡ (holds.written whole).log
+  settled_bytes = ap (λ (s : LogState). s.bytes) (holds.written whole).settled
+
+  -- All that the log holds is on the device when its buffer was written and settled there.
+  pub flushed : (now : LogState) → now ≡ at_rest (overwritten device.log.bytes (site.slot + from) (drop from bytes)) → IsOnDevice sum size now site (length bytes) H.messages (table H (stable_place holds.begun.first.stable))
+  flushed now is = record {
+    log = overwritten (holds.written whole).log (site.slot + from) (drop from bytes);
+    settled = is ∙ ap (λ (l : List ℕ). at_rest (overwritten l (site.slot + from) (drop from bytes))) settled_bytes;
+    file = subst (λ (ms : List Message). IsLogFile sum size (overwritten (holds.written whole).log (site.slot + from) (drop from bytes)) site (length bytes) ms (table H (stable_place holds.begun.first.stable))) (sym holds.messages)
+        (file_written sum size site (holds.written whole).log bytes from rs holds.earlier (table H (stable_place holds.begun.first.stable)) (holds.written whole).file
+        begun (grown sum size site device fault bytes from [] rs H holds some) short holds.place_begins holds.slot_begins place_small slot_small holds.header holds.chain holds.stand holds.room ended);
+  }
+
+  -- Once they are written and settled, the log holds the same.
+  unfoldable pub holds-flush : (new : State) → new.log ≡ at_rest (overwritten device.log.bytes (site.slot + from) (drop from bytes)) → new.snapshots.file ≡ device.snapshots.file
+      → HoldsIn sum (log_parts size site new fault bytes (length bytes) [] []) H
+  holds-flush new is names = record {
+    earlier = H.messages;
+    messages = sym (append-nil H.messages);
+    below = all_below sum size site device fault bytes from [] rs H holds;
+    apart = all_apart sum size site device fault bytes from [] rs H holds;
+    batches = batches_to sum size site device fault bytes from [] rs H holds (site.place + length bytes) (omega (arith, behind));
+    place_begins = holds.place_begins;
+    slot_begins = holds.slot_begins;
+    header = λ none. absurd (omega (arith, begun, none));
+    chain = omega (arith, begun);
+    stand = λ k d lt. absurd (omega arith);
+    room = λ k d lt. absurd (omega arith);
+    begun = begun-more sum size device.snapshots.file new.snapshots.file site from (length bytes) H names behind holds.begun;
+    written = λ none. flushed new.log is;
+    laid = λ none. subst (λ (l : LogState). AreZeros l.bytes (site.slot + length bytes) (site.slot + size)) (sym is) (behind_zeros sum size site device.log.bytes bytes from (grown sum size site device fault bytes from [] rs H holds some) (holds.laid whole));
+  }
 
 kind_apart : (kind : ErrorKind) → is_fault_kind kind ≡ true → kind ≡ OutOfMemory → ⊥
 kind_apart kind fault is = let not_one : false ≡ true = sym (ap is_fault_kind is) ∙ fault in cc

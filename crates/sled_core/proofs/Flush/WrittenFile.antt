@@ -1,6 +1,6 @@
 -- A log file has all messages once the buffer is written: those that stood there, and those of the buffer behind them.
 use Rattle.std.proofs.Common.{◌≡◌, ◌≤◌, ◌<◌, ◌+◌, ◌/◌, ◌%◌, ◌^◌, ◌∙◌, ◌-ℤ◌, ℕ, pos, max, true, List, ◌++◌, length, take, drop, sym, refl, ap, arith, subst, length-drop, inl, inr}
-use Rattle.std.specs.List.{All, Contains}
+use Rattle.std.specs.List.{All}
 use Rattle.std.proofs.Math.Nat.{div-le_self}
 use Rattle.std.proofs.lemmas.Bool.{cases_lt}
 use Rattle.std.proofs.lemmas.List.Elements.{All-contains, Contains-append_cases}
@@ -18,7 +18,7 @@ use Rattle.sled_core.specs.LogFile.{StandsHere, HasHeader, IsLogFile}
 use Rattle.sled_core.proofs.Flush.LogFileLemmas.{behind_write}
 use Rattle.sled_core.proofs.Flush.LogFileKept.{here_below, here_kept, elsewhere_kept, header_kept}
 use Rattle.sled_core.proofs.Reached.BufferPath.{buffer_header, buffer_mark}
-use Rattle.sled_core.specs.SealedBuffers.{Agrees}
+use Rattle.sled_core.specs.SealedBuffers.{AreZeros, Agrees}
 use Rattle.sled_core.proofs.Reached.BufferStands.{StandsOwn, own_in, same_part, written_agrees}
 use Rattle.sled_core.proofs.Tail.GreatestMark.{mark_below}
 
@@ -35,6 +35,26 @@ header_written sum new bytes site to small begun agree header =
       header = subst (λ (l : List ℕ). IsHeader sum l (pos site.place) (pos site.place -ℤ pos 1)) (sym at) written;
       below = λ n is. mark_below (pos site.place -ℤ pos 1) n site.place is mark.below;
     }
+
+-- a message that stands at its pointer stands where that says
+at_pointer : (sum : List ℕ → ℕ) (size : ℕ) (log : List ℕ) (site : SegmentPosition) (to : ℕ) (m : Message) (lid : ℕ) → m.pointer ≡ Inline lid → StandsOwn sum size log site to m → StandsHere sum size log site to lid m
+at_pointer sum size log site to m lid is here =
+    let same : here.0 ≡ lid = ap lid_of (sym here.1 ∙ is) in
+    subst (λ n. StandsHere sum size log site to n m) same here.2
+
+-- A write behind what was written keeps all that stood in the log file. What else stands up to a place no lower is there too.
+pub file_more : (sum : List ℕ → ℕ) (size : ℕ) (site : SegmentPosition) (old : List ℕ) (at : ℕ) (xs : List ℕ) (from to : ℕ) (earlier late : List Message) (entries : ℕ → List Message) → IsLogFile sum size old site from earlier entries
+    → from ≤ at → at + length xs ≤ size → from ≤ to → (0 < to → 20 ≤ to) → (0 < to → HasHeader sum (overwritten old (site.slot + at) xs) site) → All (StandsOwn sum size (overwritten old (site.slot + at) xs) site to) late
+    → IsLogFile sum size (overwritten old (site.slot + at) xs) site to (earlier ++ late) entries
+file_more sum size site old at xs from to earlier late entries file behind inside up begun header there = record {
+  own = λ m among above lid is. elim (Contains-append_cases earlier late m among) [
+    | inl early ↦ here_below sum size (overwritten old (site.slot + at) xs) site from to lid m up (here_kept sum size old (site.slot + at) xs site from lid m (omega (arith, behind)) (file.own m early above lid is))
+    | inr after ↦ at_pointer sum size (overwritten old (site.slot + at) xs) site to m lid is (All-contains (StandsOwn sum size (overwritten old (site.slot + at) xs) site to) late m there after)
+  ];
+  elsewhere = λ page m among low lid is. elsewhere_kept sum size old (site.slot + at) xs site lid m (omega arith) (omega (arith, inside)) (file.elsewhere page m among low lid is);
+  begun = begun;
+  header = header;
+}
 
 module _ (sum : List ℕ → ℕ) (size : ℕ) (site : SegmentPosition) (old bytes : List ℕ) (from : ℕ) (rs : List Reserved) (earlier : List Message) (entries : ℕ → List Message) (file : IsLogFile sum size old site from earlier entries)
     (begun : 20 ≤ length bytes) (behind : from < length bytes) (short : length bytes ≤ size) (place_begins : site.place % size ≡ 0) (slot_begins : site.slot % size ≡ 0)
@@ -54,15 +74,8 @@ module _ (sum : List ℕ → ℕ) (size : ℕ) (site : SegmentPosition) (old byt
   agree = written_agrees old bytes site.slot from behind
 
   -- what was completed stands in it
-  late_here : (m : Message) → Contains done m → StandsOwn sum size new site (length bytes) m
-  late_here m there = All-contains (StandsOwn sum size new site (length bytes)) done m
-      (own_in sum size site new bytes from (length bytes) agree short place_begins slot_begins slot_small (omega (arith, div-le_self site.place size, place_small)) (max 20 from) rs (omega arith) chain stand room) there
-
-  -- a message stands at its own pointer
-  at_pointer : (m : Message) (lid : ℕ) → m.pointer ≡ Inline lid → StandsOwn sum size new site (length bytes) m → StandsHere sum size new site (length bytes) lid m
-  at_pointer m lid is here =
-      let same : here.0 ≡ lid = ap lid_of (sym here.1 ∙ is) in
-      subst (λ n. StandsHere sum size new site (length bytes) n m) same here.2
+  late_here : All (StandsOwn sum size new site (length bytes)) done
+  late_here = own_in sum size site new bytes from (length bytes) agree short place_begins slot_begins slot_small (omega (arith, div-le_self site.place size, place_small)) (max 20 from) rs (omega arith) chain stand room
 
   -- The header is there, or is written.
   pub header_stands : HasHeader sum new site
@@ -75,13 +88,10 @@ module _ (sum : List ℕ → ℕ) (size : ℕ) (site : SegmentPosition) (old byt
 
   -- The log file.
   pub file_written : IsLogFile sum size new site (length bytes) (earlier ++ done) entries
-  file_written = record {
-    own = λ m there above lid is. elim (Contains-append_cases earlier done m there) [
-      | inl early ↦ here_below sum size new site from (length bytes) lid m (omega (arith, behind)) (here_kept sum size old (site.slot + from) xs site from lid m (omega arith) (file.own m early above lid is))
-      | inr late ↦ at_pointer m lid is (late_here m late)
-    ];
-    elsewhere = λ page m there low lid is. elsewhere_kept sum size old (site.slot + from) xs site lid m (omega arith) (omega (arith, length-drop from bytes, behind, short)) (file.elsewhere page m there low lid is);
-    begun = λ some. begun;
-    header = λ some. header_stands;
-    clean = λ i above below. behind_write sum size old (site.slot + from) xs i (omega (arith, length-drop from bytes, behind)) (omega (arith, length-drop from bytes, behind, above)) ∙ file.clean i (omega (arith, behind, above)) below;
-  }
+  file_written = file_more sum size site old from xs from (length bytes) earlier done entries file (omega arith) (omega (arith, length-drop from bytes, behind, short)) (omega (arith, behind)) (λ some. begun) (λ some. header_stands) late_here
+
+-- Behind what is written the slot has zeros as before.
+pub behind_zeros : (sum : List ℕ → ℕ) (size : ℕ) (site : SegmentPosition) (old bytes : List ℕ) (from : ℕ) → from < length bytes → AreZeros old (site.slot + from) (site.slot + size)
+    → AreZeros (overwritten old (site.slot + from) (drop from bytes)) (site.slot + length bytes) (site.slot + size)
+behind_zeros sum size site old bytes from some clean i above below =
+    behind_write sum size old (site.slot + from) (drop from bytes) i (omega (arith, length-drop from bytes, some)) (omega (arith, length-drop from bytes, some, above)) ∙ clean i (omega (arith, some, above)) below

@@ -81,7 +81,6 @@ module _ (H H' : History) (m : Message) (adds : AddsMessage H m H') where
           elsewhere = λ page x there. on.file.elsewhere page x (entry_stays (stable_place begun.first.stable) page (omega (arith, above, reached)) x there);
           begun = on.file.begun;
           header = on.file.header;
-          clean = on.file.clean;
         };
       }
 

@@ -1,8 +1,7 @@
--- What a flush writes of a reservation that was aborted.
-use Rattle.std.proofs.Common.{◌≡◌, ◌∙◌, ◌≤◌, ◌<◌, ◌+◌, ◌-◌, ◌/◌, ◌%◌, ℕ, List, [], ◌∷◌, length, take, drop, set, Option, Some, refl, sym, ap, arith, length-take, length-drop}
+-- What is written of a reservation that was aborted, and what a log holds then.
+use Rattle.std.proofs.Common.{◌≡◌, ◌∙◌, ◌≤◌, ◌+◌, ◌-◌, ◌/◌, ◌%◌, ℕ, List, length, drop, set, Option, Some, refl, sym, ap, arith, length-take, length-drop}
 use Rattle.std.specs.List.{slice_get}
 use Rattle.std.specs.declared.io.Error.{Error as IoError}
-use Rattle.std.proofs.lemmas.List.{drop-drop}
 use Rattle.sled_codec.specs.declared.serialization.message.MessageKind.{MessageKind}
 use Rattle.sled_codec.specs.declared.serialization.message.MessageKind.TheVariants as kind
 use Rattle.sled_codec.specs.History.{History}
@@ -11,28 +10,26 @@ use Rattle.sled_codec.specs.Record.{short_record}
 use Rattle.sled_codec.specs.Spelling.{short_header_tail}
 use Rattle.sled_codec.specs.Written.{written}
 use Rattle.sled_codec.proofs.Records.{length-short_record}
-use Rattle.sled_store.specs.Device.{State, Wrote, Synced}
+use Rattle.sled_store.specs.Device.{State}
 use Rattle.sled_core.specs.declared.iobuf.ReservationState.TheVariants.{Open, Canceled}
 use Rattle.sled_core.specs.declared.iobuf.Reserved.{Reserved}
+use Rattle.sled_core.specs.declared.iobuf.Sealed.{Sealed}
 use Rattle.sled_core.specs.declared.iobuf.SegmentPosition.{SegmentPosition}
 use Rattle.sled_core.specs.Buffers.{body_in, canceling, ended, Stands}
-use Rattle.sled_core.specs.Fits.{flushing_of, log_parts, HoldsIn}
+use Rattle.sled_core.specs.Fits.{log_parts, HoldsIn}
+use Rattle.sled_core.specs.SealedBuffers.{AreSealed, bytes_between, one_ended}
 use Rattle.sled_core.proofs.Holds.CompletedLemmas.{holds-cancel}
 use Rattle.sled_core.proofs.Holds.HoldsLemmas.{holds-same}
 use Rattle.sled_core.proofs.Read.ScanLemmas.{aligned_number}
 use Rattle.sled_core.proofs.Reserve.CompletesLemmas.{text_canceled}
-
--- where something was reserved, a flush writes
-pub flushes : (at : ℕ) (bytes : List ℕ) (rs : List Reserved) → 0 < length rs → flushing_of at bytes rs ≡ Wrote at bytes bytes ∷ Synced ∷ []
-flushes at bytes [] some = absurd (omega arith)
-flushes at bytes (r ∷ rs) some = refl
+use Rattle.sled_core.proofs.Sealed.Covering.{part-between}
 
 -- the header of a record is as long whatever its kind
 tail_long : (k l : MessageKind) (len number page : ℕ) → length (short_header_tail k len number page) ≡ length (short_header_tail l len number page)
 unfolding short_header_tail
 tail_long k l len number page = refl
 
-module _ (sum : List ℕ → ℕ) (size place : ℕ) (bytes : List ℕ) (from : ℕ) (r : Reserved) (aligned : place % size ≡ 0) (room : r.from + 32 ≤ size) (behind : from ≤ r.from) (within : r.from + r.len ≤ length bytes)
+module _ (sum : List ℕ → ℕ) (size place : ℕ) (bytes : List ℕ) (r : Reserved) (aligned : place % size ≡ 0) (room : r.from + 32 ≤ size) (within : r.from + r.len ≤ length bytes)
     (stands : Stands sum (place / size) bytes r) where
   abbrev new : List ℕ
   new = written bytes r.from (canceling sum bytes r)
@@ -43,14 +40,12 @@ module _ (sum : List ℕ → ℕ) (size place : ℕ) (bytes : List ℕ) (from : 
   abbrev canceled : List ℕ
   canceled = short_record sum kind.Canceled r.page ((place + r.from) / size) (body_in bytes r)
 
-  -- in what is written behind what was, its record stands at its place
-  pub canceled_there : r.state ≡ Open → (slot : ℕ) → part (drop from new) (slot + r.from - (slot + from)) r.len ≡ canceled
-  canceled_there is_open slot =
-      let count : slot + r.from - (slot + from) ≡ r.from - from = omega arith in
-      let at : from + (r.from - from) ≡ r.from = omega arith in
-      ap (λ n. part (drop from new) n r.len) count
-      ∙ ap (take r.len) (drop-drop (r.from - from) from new)
-      ∙ ap (λ n. part new n r.len) at
+  -- in the bytes of a buffer that has it, its record stands at its place
+  pub canceled_there : r.state ≡ Open → (slot at end : ℕ) → at ≤ r.from → r.from + r.len ≤ end → part (bytes_between new at end) (slot + r.from - (slot + at)) r.len ≡ canceled
+  canceled_there is_open slot at end begins ends =
+      let count : slot + r.from - (slot + at) ≡ r.from - at = omega arith in
+      ap (λ n. part (bytes_between new at end) n r.len) count
+      ∙ part-between new at end r.from r.len begins ends
       ∙ text_canceled sum (place / size) bytes r within stands is_open
       ∙ ap (λ n. short_record sum kind.Canceled r.page n (body_in bytes r)) number
 
@@ -64,9 +59,9 @@ module _ (sum : List ℕ → ℕ) (size place : ℕ) (bytes : List ℕ) (from : 
       ∙ omega (arith, length-short_record sum kind.Canceled r.page (place / size) (body_in bytes r), tail_long kind.Canceled r.kind (length (body_in bytes r)) (place / size) r.page, counted, body, long)
 
 -- A log whose bytes and reservations are those once one was aborted holds what it held.
-pub holds-aborted : (sum : List ℕ → ℕ) (size : ℕ) (site : SegmentPosition) (device : State) (fault : Option IoError) (bytes bytes' : List ℕ) (from from' : ℕ) (rs rs' : List Reserved) (i : ℕ) (r : Reserved) (H : History)
-    → bytes' ≡ written bytes r.from (canceling sum bytes r) → from' ≡ from → rs' ≡ set rs i (ended Canceled r) → HoldsIn sum (log_parts size site device fault bytes from rs) H → slice_get rs i ≡ Some r → r.state ≡ Open → from ≤ length bytes
-    → HoldsIn sum (log_parts size site device fault bytes' from' rs') H
-holds-aborted sum size site device fault bytes bytes' from from' rs rs' i r H is_bytes is_from is_rs holds there is_open behind =
-    holds-same sum size site device fault (written bytes r.from (canceling sum bytes r)) bytes' from from' (set rs i (ended Canceled r)) rs' H is_bytes is_from is_rs
-    (holds-cancel sum size site device fault bytes from rs i r H holds there is_open behind)
+pub holds-aborted : (sum : List ℕ → ℕ) (size : ℕ) (site : SegmentPosition) (device : State) (fault : Option IoError) (bytes bytes' : List ℕ) (from from' : ℕ) (bs bs' : List Sealed) (rs rs' : List Reserved) (i : ℕ) (r : Reserved) (H : History)
+    → bytes' ≡ written bytes r.from (canceling sum bytes r) → from' ≡ from → bs' ≡ one_ended i bs → rs' ≡ set rs i (ended Canceled r) → HoldsIn sum (log_parts size site device fault bytes from bs rs) H → slice_get rs i ≡ Some r → r.state ≡ Open → from ≤ length bytes → AreSealed from rs bs
+    → HoldsIn sum (log_parts size site device fault bytes' from' bs' rs') H
+holds-aborted sum size site device fault bytes bytes' from from' bs bs' rs rs' i r H is_bytes is_from is_bs is_rs holds there is_open behind are =
+    holds-same sum size site device fault (written bytes r.from (canceling sum bytes r)) bytes' from from' (one_ended i bs) bs' (set rs i (ended Canceled r)) rs' H is_bytes is_from is_bs is_rs
+    (holds-cancel sum size site device fault bytes from bs rs i r H holds there is_open behind are)

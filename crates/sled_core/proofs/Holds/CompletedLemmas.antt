@@ -1,5 +1,5 @@
 -- A reservation that is completed becomes a message of the history that a log holds, at its place; one that is aborted leaves the history as it was. No other one is touched.
-use Rattle.std.proofs.Common.{◌≡◌, ◌≤◌, ◌<◌, ◌+◌, ◌/◌, inl, inr, ℕ, suc, max, List, ◌∷◌, ◌++◌, length, take, drop, set, sym, ◌∙◌, ap, arith, refl, subst, append_assoc, Option, None, Some, get_or, ◌-◌}
+use Rattle.std.proofs.Common.{◌≡◌, ◌≤◌, ◌<◌, ◌+◌, ◌/◌, inl, inr, ℕ, suc, max, List, ◌∷◌, ◌++◌, length, take, drop, set, sym, ◌∙◌, ap, arith, refl, subst, false, append_assoc, Option, None, Some, get_or, ◌-◌}
 use Rattle.std.specs.List.{All, Contains, slice_get}
 use Rattle.std.specs.declared.io.Error.{Error as IoError}
 use Rattle.std.proofs.lemmas.List.{set_split}
@@ -16,16 +16,19 @@ use Rattle.sled_store.specs.Device.{State}
 use Rattle.sled_core.specs.declared.iobuf.ReservationState.{ReservationState}
 use Rattle.sled_core.specs.declared.iobuf.ReservationState.TheVariants.{Open, Completed, Canceled}
 use Rattle.sled_core.specs.declared.iobuf.Reserved.{Reserved}
+use Rattle.sled_core.specs.declared.iobuf.Sealed.{Sealed}
 use Rattle.sled_core.specs.declared.iobuf.SegmentPosition.{SegmentPosition}
-use Rattle.sled_core.specs.Buffers.{body_in, message_in, IsChain, completed_in, with_own, ending, completing, canceling, ended, Stands}
+use Rattle.sled_core.specs.Buffers.{body_in, message_in, IsChain, completed_in, with_own, ending, completing, canceling, ended, open_state, Stands}
 use Rattle.sled_core.specs.Fits.{log_parts, HoldsIn, CloseBelow, IsBegunFrom, IsOnDevice}
 use Rattle.sled_core.proofs.Reserve.Ranges.{part-written_before, length-written, completed-same, completed-append, completed_between, chain-split, chain-joined, chain_grows, chain_within, there_split, all_split, all_joined, at_there, there-set_other, chain_apart}
 use Rattle.sled_core.proofs.Reserve.CompletesLemmas.{changes_page, body_before, same_before, body_behind, same_behind, body_own, completed_stands, canceled_stands, fits, some_long}
 use Rattle.sled_core.proofs.Holds.HoldsLemmas.{completed_open}
+use Rattle.sled_core.specs.SealedBuffers.{AreSealed, Laid, one_ended}
+use Rattle.sled_core.proofs.Sealed.LaidCalls.{laid_over}
 use Rattle.sled_core.proofs.Holds.BegunLemmas.{begun-adds, device-adds}
 
-module _ (sum : List ℕ → ℕ) (size : ℕ) (site : SegmentPosition) (device : State) (fault : Option IoError) (bytes : List ℕ) (from : ℕ) (xs ys : List Reserved) (r : Reserved) (H : History)
-    (holds : HoldsIn sum (log_parts size site device fault bytes from (xs ++ r ∷ ys)) H) (is_open : r.state ≡ Open) (behind : from ≤ length bytes) where
+module _ (sum : List ℕ → ℕ) (size : ℕ) (site : SegmentPosition) (device : State) (fault : Option IoError) (bytes : List ℕ) (from : ℕ) (bs : List Sealed) (xs ys : List Reserved) (r : Reserved) (H : History)
+    (holds : HoldsIn sum (log_parts size site device fault bytes from bs (xs ++ r ∷ ys)) H) (is_open : r.state ≡ Open) (behind : from ≤ length bytes) where
   abbrev number : ℕ
   number = site.place / size
 
@@ -72,10 +75,10 @@ module _ (sum : List ℕ → ℕ) (size : ℕ) (site : SegmentPosition) (device 
         completed-append site new xs (ended state r ∷ ys) ∙ (λ i. front i ++ with_own state (its i) (back i))
 
     -- A history is held that has them, and its own message where it was completed.
-    holds_new : (H' : History) → H'.messages ≡ holds.earlier ++ (completed_in site bytes xs ++ with_own state (message_in site bytes r) (completed_in site bytes ys)) → CloseBelow (site.place + from) H'.batches
+    holds_new : (bs' : List Sealed) (H' : History) → H'.messages ≡ holds.earlier ++ (completed_in site bytes xs ++ with_own state (message_in site bytes r) (completed_in site bytes ys)) → CloseBelow (site.place + from) H'.batches
         → (begun : IsBegunFrom sum size device.snapshots.file site from H') → (fault ≡ None → IsOnDevice sum size device.log site from holds.earlier (table H' (stable_place begun.first.stable)))
-        → HoldsIn sum (log_parts size site device fault new from (xs ++ ended state r ∷ ys)) H'
-    holds_new H' messages batches begun on_device =
+        → (fault ≡ None → Laid device.log.bytes site.slot new from bs' size) → HoldsIn sum (log_parts size site device fault new from bs' (xs ++ ended state r ∷ ys)) H'
+    holds_new bs' H' messages batches begun on_device laid =
         let fit = fits sum number bytes r ends stand_all.1 word k in
         let long : length new ≡ length bytes = length-written bytes (ending word k) r.from fit in
         let rooms = all_split (λ (x : Reserved). x.from + 32 ≤ size) xs ys r holds.room in
@@ -93,6 +96,7 @@ module _ (sum : List ℕ → ℕ) (size : ℕ) (site : SegmentPosition) (device 
           room = all_joined (λ (x : Reserved). x.from + 32 ≤ size) xs ys (ended state r) rooms.0 rooms.1 rooms.2;
           begun = begun;
           written = on_device;
+          laid = laid;
         }
 
   -- Completed, its message is added.
@@ -128,52 +132,66 @@ module _ (sum : List ℕ → ℕ) (size : ℕ) (site : SegmentPosition) (device 
   above : site.place + from ≤ (message_in site bytes r).place
   above = omega (arith, begins)
 
-  holds_completed : HoldsIn sum (log_parts size site device fault (written bytes r.from (completing r)) from (xs ++ ended Completed r ∷ ys)) history
-  holds_completed = holds_new r.sum r.kind Completed (completed_stands sum number bytes r ends stand_all.1 is_open) history
+  holds_completed : (bs' : List Sealed) → (fault ≡ None → Laid device.log.bytes site.slot (written bytes r.from (completing r)) from bs' size)
+      → HoldsIn sum (log_parts size site device fault (written bytes r.from (completing r)) from bs' (xs ++ ended Completed r ∷ ys)) history
+  holds_completed bs' laid = holds_new r.sum r.kind Completed (completed_stands sum number bytes r ends stand_all.1 is_open) bs' history
       (append_assoc holds.earlier (completed_in site bytes xs) (message_in site bytes r ∷ completed_in site bytes ys)) holds.batches
       (begun-adds H history (message_in site bytes r) adds sum size device.snapshots.file site from above holds.begun)
-      (λ ok. device-adds H history (message_in site bytes r) adds sum size device site from above holds.begun holds.earlier (holds.written ok))
+      (λ ok. device-adds H history (message_in site bytes r) adds sum size device site from above holds.begun holds.earlier (holds.written ok)) laid
 
   -- Aborted, nothing is.
 
   canceled_there : Stands sum number (written bytes r.from (canceling sum bytes r)) (ended Canceled r)
   canceled_there = canceled_stands sum number bytes r ends stand_all.1 is_open
 
-  holds_canceled : HoldsIn sum (log_parts size site device fault (written bytes r.from (canceling sum bytes r)) from (xs ++ ended Canceled r ∷ ys)) H
-  holds_canceled = holds_new (sum (body_in bytes r ++ code_of kind.Canceled ∷ part bytes (r.from + 5) (r.header_len - 5))) kind.Canceled Canceled canceled_there H old_messages holds.batches holds.begun holds.written
+  holds_canceled : (bs' : List Sealed) → (fault ≡ None → Laid device.log.bytes site.slot (written bytes r.from (canceling sum bytes r)) from bs' size)
+      → HoldsIn sum (log_parts size site device fault (written bytes r.from (canceling sum bytes r)) from bs' (xs ++ ended Canceled r ∷ ys)) H
+  holds_canceled bs' laid = holds_new (sum (body_in bytes r ++ code_of kind.Canceled ∷ part bytes (r.from + 5) (r.header_len - 5))) kind.Canceled Canceled canceled_there bs' H old_messages holds.batches holds.begun holds.written laid
+
+-- Once an open reservation has ended, the log file has of the sealed buffers what it had.
+laid_ends : (sum : List ℕ → ℕ) (size : ℕ) (site : SegmentPosition) (device : State) (fault : Option IoError) (bytes : List ℕ) (from : ℕ) (bs : List Sealed) (rs : List Reserved) (i : ℕ) (r : Reserved) (H : History)
+    → HoldsIn sum (log_parts size site device fault bytes from bs rs) H → slice_get rs i ≡ Some r → r.state ≡ Open → AreSealed from rs bs → (word : ℕ) (k : MessageKind) (state : ReservationState) → open_state state ≡ false
+    → Laid device.log.bytes site.slot bytes from bs size → Laid device.log.bytes site.slot (written bytes r.from (ending word k)) from (one_ended i bs) size
+laid_ends sum size site device fault bytes from bs rs i r H holds there is_open are word k state closed laid =
+    let stands : Stands sum (site.place / size) bytes r = at_there (Stands sum (site.place / size) bytes) rs i r there holds.stand in
+    let inside = at_there (λ z. (max 20 from ≤ z.from) × (z.from + z.len ≤ length bytes)) rs i r there (chain_within (max 20 from) (length bytes) rs holds.chain) in
+    let headed = stands.headed in let long = stands.long in
+    laid_over device.log.bytes site.slot bytes from bs size rs i r word k state closed there is_open (omega (arith, headed, long)) inside.1 holds.chain are laid
 
 -- The message of an open reservation is added at its place, and the log holds that.
-pub holds-complete : (sum : List ℕ → ℕ) (size : ℕ) (site : SegmentPosition) (device : State) (fault : Option IoError) (bytes : List ℕ) (from : ℕ) (rs : List Reserved) (i : ℕ) (r : Reserved) (H : History)
-    → HoldsIn sum (log_parts size site device fault bytes from rs) H → slice_get rs i ≡ Some r → r.state ≡ Open → from ≤ length bytes
-    → (H' : History) × AddsMessage H (message_in site bytes r) H' × HoldsIn sum (log_parts size site device fault (written bytes r.from (completing r)) from (set rs i (ended Completed r))) H'
-holds-complete sum size site device fault bytes from rs i r H holds there is_open behind =
+pub holds-complete : (sum : List ℕ → ℕ) (size : ℕ) (site : SegmentPosition) (device : State) (fault : Option IoError) (bytes : List ℕ) (from : ℕ) (bs : List Sealed) (rs : List Reserved) (i : ℕ) (r : Reserved) (H : History)
+    → HoldsIn sum (log_parts size site device fault bytes from bs rs) H → slice_get rs i ≡ Some r → r.state ≡ Open → from ≤ length bytes → AreSealed from rs bs
+    → (H' : History) × AddsMessage H (message_in site bytes r) H' × HoldsIn sum (log_parts size site device fault (written bytes r.from (completing r)) from (one_ended i bs) (set rs i (ended Completed r))) H'
+holds-complete sum size site device fault bytes from bs rs i r H holds there is_open behind are =
     let xs : List Reserved = take i rs in
     let ys : List Reserved = drop (suc i) rs in
     let around : rs ≡ xs ++ r ∷ ys = there_split rs i r there in
-    let holds' : HoldsIn sum (log_parts size site device fault bytes from (xs ++ r ∷ ys)) H = subst (λ (l : List Reserved). HoldsIn sum (log_parts size site device fault bytes from l) H) around holds in
+    let holds' : HoldsIn sum (log_parts size site device fault bytes from bs (xs ++ r ∷ ys)) H = subst (λ (l : List Reserved). HoldsIn sum (log_parts size site device fault bytes from bs l) H) around holds in
     let set_is : set rs i (ended Completed r) ≡ xs ++ ended Completed r ∷ ys = set_split rs i (ended Completed r) (slice_get_within rs i r there) in (
-      history sum size site device fault bytes from xs ys r H holds' is_open behind,
-      adds sum size site device fault bytes from xs ys r H holds' is_open behind,
-      subst (λ (l : List Reserved). HoldsIn sum (log_parts size site device fault (written bytes r.from (completing r)) from l) (history sum size site device fault bytes from xs ys r H holds' is_open behind)) (sym set_is) (holds_completed sum size site device fault bytes from xs ys r H holds' is_open behind),
+      history sum size site device fault bytes from bs xs ys r H holds' is_open behind,
+      adds sum size site device fault bytes from bs xs ys r H holds' is_open behind,
+      subst (λ (l : List Reserved). HoldsIn sum (log_parts size site device fault (written bytes r.from (completing r)) from (one_ended i bs) l) (history sum size site device fault bytes from bs xs ys r H holds' is_open behind)) (sym set_is) (holds_completed sum size site device fault bytes from bs xs ys r H holds' is_open behind (one_ended i bs)
+          (λ ok. laid_ends sum size site device fault bytes from bs rs i r H holds there is_open are r.sum r.kind Completed refl (holds.laid ok))),
     )
 
 -- An open reservation that is aborted leaves the history as it was, and the log holds that.
-pub holds-cancel : (sum : List ℕ → ℕ) (size : ℕ) (site : SegmentPosition) (device : State) (fault : Option IoError) (bytes : List ℕ) (from : ℕ) (rs : List Reserved) (i : ℕ) (r : Reserved) (H : History)
-    → HoldsIn sum (log_parts size site device fault bytes from rs) H → slice_get rs i ≡ Some r → r.state ≡ Open → from ≤ length bytes
-    → HoldsIn sum (log_parts size site device fault (written bytes r.from (canceling sum bytes r)) from (set rs i (ended Canceled r))) H
-holds-cancel sum size site device fault bytes from rs i r H holds there is_open behind =
+pub holds-cancel : (sum : List ℕ → ℕ) (size : ℕ) (site : SegmentPosition) (device : State) (fault : Option IoError) (bytes : List ℕ) (from : ℕ) (bs : List Sealed) (rs : List Reserved) (i : ℕ) (r : Reserved) (H : History)
+    → HoldsIn sum (log_parts size site device fault bytes from bs rs) H → slice_get rs i ≡ Some r → r.state ≡ Open → from ≤ length bytes → AreSealed from rs bs
+    → HoldsIn sum (log_parts size site device fault (written bytes r.from (canceling sum bytes r)) from (one_ended i bs) (set rs i (ended Canceled r))) H
+holds-cancel sum size site device fault bytes from bs rs i r H holds there is_open behind are =
     let xs : List Reserved = take i rs in
     let ys : List Reserved = drop (suc i) rs in
     let around : rs ≡ xs ++ r ∷ ys = there_split rs i r there in
-    let holds' : HoldsIn sum (log_parts size site device fault bytes from (xs ++ r ∷ ys)) H = subst (λ (l : List Reserved). HoldsIn sum (log_parts size site device fault bytes from l) H) around holds in
+    let holds' : HoldsIn sum (log_parts size site device fault bytes from bs (xs ++ r ∷ ys)) H = subst (λ (l : List Reserved). HoldsIn sum (log_parts size site device fault bytes from bs l) H) around holds in
     let set_is : set rs i (ended Canceled r) ≡ xs ++ ended Canceled r ∷ ys = set_split rs i (ended Canceled r) (slice_get_within rs i r there) in
-    subst (λ (l : List Reserved). HoldsIn sum (log_parts size site device fault (written bytes r.from (canceling sum bytes r)) from l) H) (sym set_is) (holds_canceled sum size site device fault bytes from xs ys r H holds' is_open behind)
+    subst (λ (l : List Reserved). HoldsIn sum (log_parts size site device fault (written bytes r.from (canceling sum bytes r)) from (one_ended i bs) l) H) (sym set_is) (holds_canceled sum size site device fault bytes from bs xs ys r H holds' is_open behind (one_ended i bs)
+    (λ ok. laid_ends sum size site device fault bytes from bs rs i r H holds there is_open are (sum (body_in bytes r ++ code_of kind.Canceled ∷ part bytes (r.from + 5) (r.header_len - 5))) kind.Canceled Canceled refl (holds.laid ok)))
 
 -- Every other reservation stays where it is, for the same message.
-pub others_stay : (sum : List ℕ → ℕ) (size : ℕ) (site : SegmentPosition) (device : State) (fault : Option IoError) (bytes : List ℕ) (from : ℕ) (rs : List Reserved) (i j : ℕ) (r x : Reserved) (H : History) (word : ℕ) (k : MessageKind) (state : ReservationState)
-    → HoldsIn sum (log_parts size site device fault bytes from rs) H → slice_get rs i ≡ Some r → slice_get rs j ≡ Some x → (x.from ≡ r.from → ⊥)
+pub others_stay : (sum : List ℕ → ℕ) (size : ℕ) (site : SegmentPosition) (device : State) (fault : Option IoError) (bytes : List ℕ) (from : ℕ) (bs : List Sealed) (rs : List Reserved) (i j : ℕ) (r x : Reserved) (H : History) (word : ℕ) (k : MessageKind) (state : ReservationState)
+    → HoldsIn sum (log_parts size site device fault bytes from bs rs) H → slice_get rs i ≡ Some r → slice_get rs j ≡ Some x → (x.from ≡ r.from → ⊥)
     → (slice_get (set rs i (ended state r)) j ≡ Some x) × (message_in site (written bytes r.from (ending word k)) x ≡ message_in site bytes x)
-others_stay sum size site device fault bytes from rs i j r x H word k state holds at_i at_j apart =
+others_stay sum size site device fault bytes from bs rs i j r x H word k state holds at_i at_j apart =
     let number : ℕ = site.place / size in
     let stands : Stands sum number bytes r = at_there (Stands sum number bytes) rs i r at_i holds.stand in
     let at_x : Stands sum number bytes x = at_there (Stands sum number bytes) rs j x at_j holds.stand in

@@ -12,6 +12,7 @@ use Rattle.sled_codec.specs.Snapshots.{stable_place}
 use Rattle.sled_store.specs.Device.{LogState, State, Trace, state_of}
 use Rattle.sled_store.proofs.Histories.EarlierEntries.{entry_earlier}
 use Rattle.sled_core.specs.declared.iobuf.Reserved.{Reserved}
+use Rattle.sled_core.specs.declared.iobuf.Sealed.{Sealed}
 use Rattle.sled_core.specs.declared.iobuf.SegmentPosition.{SegmentPosition}
 use Rattle.sled_core.specs.declared.logger.Log.{Log}
 use Rattle.sled_core.specs.Fits.{HasRecordOf, HoldsIn, fault_of, log_parts, segment_size_of}
@@ -32,7 +33,7 @@ pub record IsHeldAt (sum : List ℕ → ℕ) (size : ℕ) (log : List ℕ) (lid 
   pub begins : MayBegin size lid
   pub stands : MessageStands sum size log lid (m.place / size) m
 
-module _ (sum : List ℕ → ℕ) (size : ℕ) (site : SegmentPosition) (device : State) (bytes : List ℕ) (from : ℕ) (rs : List Reserved) (H : History) (holds : HoldsIn sum (log_parts size site device None bytes from rs) H) where
+module _ (sum : List ℕ → ℕ) (size : ℕ) (site : SegmentPosition) (device : State) (bytes : List ℕ) (from : ℕ) (bs : List Sealed) (rs : List Reserved) (H : History) (holds : HoldsIn sum (log_parts size site device None bytes from bs rs) H) where
   abbrev stable : ℕ
   stable = stable_place holds.begun.first.stable
 
@@ -42,7 +43,7 @@ module _ (sum : List ℕ → ℕ) (size : ℕ) (site : SegmentPosition) (device 
   held_record m there written has lid pointer =
       let on = holds.written refl in
       let same : on.log ≡ device.log.bytes = sym (ap (λ (s : LogState). s.bytes) on.settled) in
-      let early : Contains holds.earlier m = written_before sum size site device None bytes from rs H holds m there written in
+      let early : Contains holds.earlier m = written_before sum size site device None bytes from bs rs H holds m there written in
       let here : site.place ≤ m.place → IsHeldAt sum size on.log lid m = λ above. let s = on.file.own m early above lid pointer in record { begins = s.begins; stands = s.stands } in
       subst (λ (l : List ℕ). IsHeldAt sum size l lid m) same (elim (cases_lt m.place site.place) [
         | inl lower ↦ elim has [
@@ -50,7 +51,7 @@ module _ (sum : List ℕ → ℕ) (size : ℕ) (site : SegmentPosition) (device 
           | inr (cut, far, entry) ↦ (
               let least = holds.begun.least in
               let under : site.place ≤ stable = (let parts = put_down size stable in omega (arith, parts.0, least)) in
-              let low : Contains (table H stable m.page) m = entry_earlier H (all_ascend sum size site device None bytes from rs H holds) stable cut m.page far m (omega (arith, lower, under)) entry in
+              let low : Contains (table H stable m.page) m = entry_earlier H (all_ascend sum size site device None bytes from bs rs H holds) stable cut m.page far m (omega (arith, lower, under)) entry in
               let s = on.file.elsewhere m.page m low lower lid pointer in
               record { begins = s.begins; stands = s.stands })
         ]
@@ -65,13 +66,13 @@ fits_begins trace sum log H A f U fits none m there has lid pointer =
     let size : ℕ = log.config.config.segment_size in
     let device : State = state_of (trace log.config.device) in
     let bytes : List ℕ = log.buffer.bytes.items in
-    let holds : HoldsIn sum (log_parts size log.site device None bytes log.buffer.written_len log.buffer.reserved.items) H =
-    subst (λ (o : Option IoError). HoldsIn sum (log_parts size log.site device o bytes log.buffer.written_len log.buffer.reserved.items) H) none fits.holds in
+    let holds : HoldsIn sum (log_parts size log.site device None bytes log.buffer.written_len log.buffer.sealed.items log.buffer.reserved.items) H =
+    subst (λ (o : Option IoError). HoldsIn sum (log_parts size log.site device o bytes log.buffer.written_len log.buffer.sealed.items log.buffer.reserved.items) H) none fits.holds in
     let reached = holds.begun.reached in
     elim (cases_lt m.place (log.site.place + log.buffer.written_len)) [
-      | inl written ↦ (held_record sum size log.site device bytes log.buffer.written_len log.buffer.reserved.items H holds m there written (elim has [ inl above ↦ inl above | inr (cut, far, entry) ↦ inr (cut, omega (arith, reached, far), entry) ]) lid pointer).begins
+      | inl written ↦ (held_record sum size log.site device bytes log.buffer.written_len log.buffer.sealed.items log.buffer.reserved.items H holds m there written (elim has [ inl above ↦ inl above | inr (cut, far, entry) ↦ inr (cut, omega (arith, reached, far), entry) ]) lid pointer).begins
       | inr later ↦ (
-          let lies = completed_behind sum size log.site device None bytes log.buffer.written_len log.buffer.reserved.items H holds log.in_segment m there later in
+          let lies = completed_behind sum size log.site device None bytes log.buffer.written_len log.buffer.sealed.items log.buffer.reserved.items H holds log.in_segment m there later in
           let same : Inline lies.lid ≡ Inline lid = sym lies.pointer ∙ pointer in
           subst (MayBegin size) (ap lid_of same) lies.begins)
     ]

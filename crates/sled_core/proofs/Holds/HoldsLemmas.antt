@@ -9,9 +9,12 @@ use Rattle.sled_store.specs.Device.{State}
 use Rattle.sled_core.specs.declared.iobuf.ReservationState.{ReservationState}
 use Rattle.sled_core.specs.declared.iobuf.ReservationState.TheVariants.{Open}
 use Rattle.sled_core.specs.declared.iobuf.Reserved.{Reserved}
+use Rattle.sled_core.specs.declared.iobuf.Sealed.{Sealed}
 use Rattle.sled_core.specs.declared.iobuf.SegmentPosition.{SegmentPosition}
 use Rattle.sled_core.specs.Buffers.{text_in, body_in, message_in, IsChain, completed_in, with_own, StandsAs, Stands}
 use Rattle.sled_core.specs.Fits.{log_parts, HoldsIn}
+use Rattle.sled_core.proofs.Sealed.LaidCalls.{laid_append}
+use Rattle.sled_core.proofs.Sealed.LaidLemmas.{EndsRise}
 use Rattle.sled_core.proofs.Reserve.Ranges.{part-append, completed-same, completed-append, chain-append}
 
 -- Where a text and a body are the same, what stands there is.
@@ -36,13 +39,13 @@ one P x here (suc k) d lt = absurd (omega arith)
 pub completed_open : (site : SegmentPosition) (bytes : List ℕ) (r : Reserved) (rs : List Reserved) → r.state ≡ Open → completed_in site bytes (r ∷ rs) ≡ completed_in site bytes rs
 completed_open site bytes r rs is = ap (λ (s : ReservationState). with_own s (message_in site bytes r) (completed_in site bytes rs)) is
 
-module _ (sum : List ℕ → ℕ) (size : ℕ) (site : SegmentPosition) (device : State) (fault : Option IoError) (bytes : List ℕ) (from : ℕ) (rs : List Reserved) (H : History)
-    (holds : HoldsIn sum (log_parts size site device fault bytes from rs) H) where
+module _ (sum : List ℕ → ℕ) (size : ℕ) (site : SegmentPosition) (device : State) (fault : Option IoError) (bytes : List ℕ) (from : ℕ) (bs : List Sealed) (rs : List Reserved) (H : History)
+    (holds : HoldsIn sum (log_parts size site device fault bytes from bs rs) H) where
   -- A place is reserved: its placeholder stands behind what is there.
   pub holds-append : (more : List ℕ) (r : Reserved) → 20 ≤ length bytes → All (λ x. x.from + x.len ≤ length bytes) rs
-      → r.from ≡ length bytes → r.len ≡ length more → r.state ≡ Open → r.from + 32 ≤ size → Stands sum (site.place / size) (bytes ++ more) r
-      → HoldsIn sum (log_parts size site device fault (bytes ++ more) from (rs ++ r ∷ [])) H
-  holds-append more r begun within at long is_open has_room stands =
+      → r.from ≡ length bytes → r.len ≡ length more → r.state ≡ Open → r.from + 32 ≤ size → EndsRise from bs (length bytes) → Stands sum (site.place / size) (bytes ++ more) r
+      → HoldsIn sum (log_parts size site device fault (bytes ++ more) from bs (rs ++ r ∷ [])) H
+  holds-append more r begun within at long is_open has_room rise stands =
       let number : ℕ = site.place / size in
       let new : List ℕ = bytes ++ more in
       let bodies : All (λ x. body_in new x ≡ body_in bytes x) rs = λ k d lt. body-append bytes more (get_or rs k d) (within k d lt) (holds.stand k d lt).long in
@@ -63,12 +66,14 @@ module _ (sum : List ℕ → ℕ) (size : ℕ) (site : SegmentPosition) (device 
         room = All-append (λ (x : Reserved). x.from + 32 ≤ size) rs (r ∷ []) holds.room (one (λ (x : Reserved). x.from + 32 ≤ size) r has_room);
         begun = holds.begun;
         written = holds.written;
+        laid = λ ok. laid_append device.log.bytes site.slot bytes more from bs size rise (holds.laid ok);
       }
 
 -- The same bytes, from the same offset, and the same reservations hold the same.
-pub holds-same : (sum : List ℕ → ℕ) (size : ℕ) (site : SegmentPosition) (device : State) (fault : Option IoError) (bytes bytes' : List ℕ) (from from' : ℕ) (rs rs' : List Reserved) (H : History)
-    → bytes' ≡ bytes → from' ≡ from → rs' ≡ rs → HoldsIn sum (log_parts size site device fault bytes from rs) H → HoldsIn sum (log_parts size site device fault bytes' from' rs') H
-holds-same sum size site device fault bytes bytes' from from' rs rs' H b f r holds =
-    subst (λ (l : List ℕ). HoldsIn sum (log_parts size site device fault l from' rs') H) (sym b)
-    (subst (λ n. HoldsIn sum (log_parts size site device fault bytes n rs') H) (sym f)
-    (subst (λ (l : List Reserved). HoldsIn sum (log_parts size site device fault bytes from l) H) (sym r) holds))
+pub holds-same : (sum : List ℕ → ℕ) (size : ℕ) (site : SegmentPosition) (device : State) (fault : Option IoError) (bytes bytes' : List ℕ) (from from' : ℕ) (bs bs' : List Sealed) (rs rs' : List Reserved) (H : History)
+    → bytes' ≡ bytes → from' ≡ from → bs' ≡ bs → rs' ≡ rs → HoldsIn sum (log_parts size site device fault bytes from bs rs) H → HoldsIn sum (log_parts size site device fault bytes' from' bs' rs') H
+holds-same sum size site device fault bytes bytes' from from' bs bs' rs rs' H b f e r holds =
+    subst (λ (l : List ℕ). HoldsIn sum (log_parts size site device fault l from' bs' rs') H) (sym b)
+    (subst (λ n. HoldsIn sum (log_parts size site device fault bytes n bs' rs') H) (sym f)
+    (subst (λ (l : List Sealed). HoldsIn sum (log_parts size site device fault bytes from l rs') H) (sym e)
+    (subst (λ (l : List Reserved). HoldsIn sum (log_parts size site device fault bytes from bs l) H) (sym r) holds)))

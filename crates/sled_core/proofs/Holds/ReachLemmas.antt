@@ -9,6 +9,7 @@ use Rattle.sled_codec.specs.Places.{MayBegin}
 use Rattle.sled_codec.specs.WellFormed.{LieApart}
 use Rattle.sled_store.specs.Device.{Trace, State}
 use Rattle.sled_core.specs.declared.iobuf.Reserved.{Reserved}
+use Rattle.sled_core.specs.declared.iobuf.Sealed.{Sealed}
 use Rattle.sled_core.specs.declared.iobuf.SegmentPosition.{SegmentPosition}
 use Rattle.sled_core.specs.declared.logger.Log.{Log}
 use Rattle.sled_core.specs.declared.reservation.Reservation.{Reservation}
@@ -53,7 +54,7 @@ module _ (size : ℕ) (site : SegmentPosition) (place_begins : site.place % size
       let rest : All (LiesBehind size site) (completed_in site bytes rs) = completed_lie bytes (from + r.len) end rs (omega (arith, behind)) inside chain.1 (All-tail (λ x. x.from + 32 ≤ size) r rs room) in
       all_own (LiesBehind size site) r.state (message_in site bytes r) (completed_in site bytes rs) (λ own. lies_behind bytes r (omega (arith, here, behind)) (room 0 r (omega arith)) (omega (arith, here, grows, inside))) rest
 
-module _ (sum : List ℕ → ℕ) (size : ℕ) (site : SegmentPosition) (device : State) (fault : Option IoError) (bytes : List ℕ) (from : ℕ) (rs : List Reserved) (H : History) (holds : HoldsIn sum (log_parts size site device fault bytes from rs) H) where
+module _ (sum : List ℕ → ℕ) (size : ℕ) (site : SegmentPosition) (device : State) (fault : Option IoError) (bytes : List ℕ) (from : ℕ) (bs : List Sealed) (rs : List Reserved) (H : History) (holds : HoldsIn sum (log_parts size site device fault bytes from bs rs) H) where
   abbrev done : List Message
   done = completed_in site bytes rs
 
@@ -65,14 +66,14 @@ module _ (sum : List ℕ → ℕ) (size : ℕ) (site : SegmentPosition) (device 
 
   -- one that begins below the written end was written
   pub written_before : (m : Message) → Contains H.messages m → m.place < site.place + from → Contains holds.earlier m
-  written_before m there written = elim (which sum size site device fault bytes from rs H holds m there) [
+  written_before m there written = elim (which sum size site device fault bytes from bs rs H holds m there) [
     | inl first ↦ first
     | inr later ↦ (let b = All-contains (λ x. (site.place + max 20 from ≤ x.place) × (x.place < site.place + length bytes) × (x.place + x.size ≤ site.place + length bytes)) done m between later in absurd (omega (arith, b.0, written)))
   ]
 
   -- one that doesn't lies in the buffer
   pub completed_behind : length bytes ≤ size → (m : Message) → Contains H.messages m → site.place + from ≤ m.place → LiesBehind size site m
-  completed_behind inside m there above = elim (which sum size site device fault bytes from rs H holds m there) [
+  completed_behind inside m there above = elim (which sum size site device fault bytes from bs rs H holds m there) [
     | inl early ↦ (let b = All-contains (λ x. (x.place < site.place + from) × (x.place + x.size ≤ site.place + from)) holds.earlier m holds.below early in absurd (omega (arith, b.0, above)))
     | inr later ↦ All-contains (LiesBehind size site) done m (completed_lie size site holds.place_begins holds.slot_begins bytes (max 20 from) (length bytes) rs (omega arith) inside holds.chain holds.room) later
   ]
@@ -86,18 +87,18 @@ kept_past sum size site from device H kept = λ k d lt. (kept.below k d lt).1
 -- each message begins below the next place
 pub fits_reach : {D C : Type 0} (trace : D → Trace) (sum : List ℕ → ℕ) (log : Log D C) (H : History) (A f : ℕ) (U : List Message) → Fits trace sum log H A f U → All (λ m. m.place < next_place log) H.messages
 unfolding Fits
-fits_reach trace sum log H A f U fits = λ k d lt. (all_below sum log.config.config.segment_size log.site _ log.fault log.buffer.bytes.items log.buffer.written_len log.buffer.reserved.items H fits.holds k d lt).0
+fits_reach trace sum log H A f U fits = λ k d lt. (all_below sum log.config.config.segment_size log.site _ log.fault log.buffer.bytes.items log.buffer.written_len log.buffer.sealed.items log.buffer.reserved.items H fits.holds k d lt).0
 
 -- the messages lie one behind another
 pub fits_apart : {D C : Type 0} (trace : D → Trace) (sum : List ℕ → ℕ) (log : Log D C) (H : History) (A f : ℕ) (U : List Message) → Fits trace sum log H A f U → LieApart H.messages
 unfolding Fits
-fits_apart trace sum log H A f U fits = all_apart sum log.config.config.segment_size log.site _ log.fault log.buffer.bytes.items log.buffer.written_len log.buffer.reserved.items H fits.holds
+fits_apart trace sum log H A f U fits = all_apart sum log.config.config.segment_size log.site _ log.fault log.buffer.bytes.items log.buffer.written_len log.buffer.sealed.items log.buffer.reserved.items H fits.holds
 
 -- one that is not written yet has an inline pointer
 pub fits_inline : {D C : Type 0} (trace : D → Trace) (sum : List ℕ → ℕ) (log : Log D C) (H : History) (A f : ℕ) (U : List Message) → Fits trace sum log H A f U → (m : Message) → Contains H.messages m → synced_end log ≤ m.place → IsInline m.pointer
 unfolding Fits
 fits_inline trace sum log H A f U fits m there above =
-    let lies = completed_behind sum log.config.config.segment_size log.site _ log.fault log.buffer.bytes.items log.buffer.written_len log.buffer.reserved.items H fits.holds log.in_segment m there above in
+    let lies = completed_behind sum log.config.config.segment_size log.site _ log.fault log.buffer.bytes.items log.buffer.written_len log.buffer.sealed.items log.buffer.reserved.items H fits.holds log.in_segment m there above in
     subst IsInline (sym lies.pointer) tt
 
 -- it holds the history

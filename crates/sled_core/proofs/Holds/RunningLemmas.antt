@@ -1,11 +1,12 @@
 -- How a running log goes on fitting its history at the calls that write nothing.
-use Rattle.std.proofs.Common.{◌≡◌, ◌≢◌, ◌≤◌, ◌<◌, ◌+◌, ◌∙◌, ℕ, List, [], ◌∷◌, length, get_or, Option, None, sym, ap, arith, subst}
+use Rattle.std.proofs.Common.{◌≡◌, ◌≢◌, ◌≤◌, ◌<◌, ◌+◌, ℕ, List, [], ◌∷◌, length, Option, None, sym, arith, subst}
 use Rattle.std.specs.declared.io.Error.{Error as IoError}
 use Rattle.sled_codec.specs.History.{Message, History, AddsMessage}
 use Rattle.sled_codec.specs.Snapshots.{SnapshotModel}
-use Rattle.sled_store.specs.Device.{LogState, State, Trace, state_of}
+use Rattle.sled_store.specs.Device.{State, Trace, state_of}
 use Rattle.sled_store.proofs.Names.OneBegin.{one_begin}
 use Rattle.sled_core.specs.declared.iobuf.Reserved.{Reserved}
+use Rattle.sled_core.specs.declared.iobuf.Sealed.{Sealed}
 use Rattle.sled_core.specs.declared.iobuf.SegmentPosition.{SegmentPosition}
 use Rattle.sled_core.specs.declared.logger.Log.{Log}
 use Rattle.sled_core.specs.Fits.{HoldsIn, device_of, log_parts, segment_size_of}
@@ -13,6 +14,7 @@ use Rattle.sled_core.specs.LogFile.{padded}
 use Rattle.sled_core.specs.Running.{BlobsFit, NamesFit, Fits, FitsIn}
 use Rattle.sled_core.specs.Reached.{StandsAlone}
 use Rattle.sled_core.specs.Recoverable.{LeavesRecoverable, NoHeaderOfZeros}
+use Rattle.sled_core.specs.SealedBuffers.{AreSealed, AreZeros, FirstUnwritten}
 use Rattle.sled_core.proofs.Holds.Added.{added_there}
 use Rattle.sled_core.proofs.Holds.BegunLemmas.{names-adds, blobs-adds}
 use Rattle.sled_core.proofs.Flush.Padded.{padded_clean}
@@ -20,20 +22,21 @@ use Rattle.sled_core.proofs.Holds.ReachLemmas.{LiesBehind, completed_behind}
 use Rattle.sled_core.proofs.Flush.Completed.{all_ascend}
 use Rattle.sled_core.proofs.Flush.Settled.{InlineFrom, leaves_less, rests, settled_recoverable}
 use Rattle.sled_core.proofs.Holds.StandsAdds.{alone-adds}
+use Rattle.sled_core.proofs.Sealed.Zeros.{begin_zeros}
 
-module _ (sum : List ℕ → ℕ) (size : ℕ) (site : SegmentPosition) (device : State) (fault : Option IoError) (bytes : List ℕ) (from : ℕ) (rs : List Reserved) (pins : ℕ) (H : History) (A f : ℕ) (U : List Message)
-    (fits : FitsIn sum (log_parts size site device fault bytes from rs) pins H A f U) where
+module _ (sum : List ℕ → ℕ) (size : ℕ) (site : SegmentPosition) (device : State) (fault : Option IoError) (bytes : List ℕ) (from : ℕ) (bs : List Sealed) (rs : List Reserved) (pins : ℕ) (H : History) (A f : ℕ) (U : List Message)
+    (fits : FitsIn sum (log_parts size site device fault bytes from bs rs) pins H A f U) where
   abbrev first : SnapshotModel
   first = fits.holds.begun.first
 
   -- Whatever else is held over this device, it was begun from the same snapshot.
-  first_same : (bytes' : List ℕ) (from' : ℕ) (rs' : List Reserved) (H' : History) (holds : HoldsIn sum (log_parts size site device fault bytes' from' rs') H') → first ≡ holds.begun.first
-  first_same bytes' from' rs' H' holds = one_begin sum device.snapshots.file first holds.begun.first fits.holds.begun.begins holds.begun.begins
+  first_same : (bytes' : List ℕ) (from' : ℕ) (bs' : List Sealed) (rs' : List Reserved) (H' : History) (holds : HoldsIn sum (log_parts size site device fault bytes' from' bs' rs') H') → first ≡ holds.begun.first
+  first_same bytes' from' bs' rs' H' holds = one_begin sum device.snapshots.file first holds.begun.first fits.holds.begun.begins holds.begun.begins
 
   -- Other bytes and reservations behind what was written fit the history, where they hold it.
-  pub fits-moved : (bytes' : List ℕ) (from' : ℕ) (rs' : List Reserved) → from' ≡ from → HoldsIn sum (log_parts size site device fault bytes' from' rs') H → FitsIn sum (log_parts size site device fault bytes' from' rs') pins H A f U
-  fits-moved bytes' from' rs' is holds =
-      let same : first ≡ holds.begun.first = first_same bytes' from' rs' H holds in
+  pub fits-moved : (bytes' : List ℕ) (from' : ℕ) (bs' : List Sealed) (rs' : List Reserved) → from' ≡ from → HoldsIn sum (log_parts size site device fault bytes' from' bs' rs') H → FitsIn sum (log_parts size site device fault bytes' from' bs' rs') pins H A f U
+  fits-moved bytes' from' bs' rs' is holds =
+      let same : first ≡ holds.begun.first = first_same bytes' from' bs' rs' H holds in
       record {
         holds = holds;
         alone = λ ok none. subst (λ (s : SnapshotModel). StandsAlone sum size device.log.bytes site from' H s) same (subst (λ n. StandsAlone sum size device.log.bytes site n H first) (sym is) (fits.alone ok none));
@@ -50,7 +53,7 @@ module _ (sum : List ℕ → ℕ) (size : ℕ) (site : SegmentPosition) (device 
   fits-leaves = leaves_less sum size H A (site.place + from) f device fits.passes fits.left
 
   -- All that is written may count as acknowledged.
-  pub fits-synced : (end : ℕ) → end ≡ site.place + from → FitsIn sum (log_parts size site device fault bytes from rs) pins H end f U
+  pub fits-synced : (end : ℕ) → end ≡ site.place + from → FitsIn sum (log_parts size site device fault bytes from bs rs) pins H end f U
   fits-synced end is = record {
     holds = fits.holds;
     alone = fits.alone;
@@ -63,7 +66,7 @@ module _ (sum : List ℕ → ℕ) (size : ℕ) (site : SegmentPosition) (device 
   }
 
   -- Another count of pins fits, where one is out while a completed message is not marked.
-  pub fits-pinned : (pins' : ℕ) → (U ≢ [] → 0 < pins') → FitsIn sum (log_parts size site device fault bytes from rs) pins' H A f U
+  pub fits-pinned : (pins' : ℕ) → (U ≢ [] → 0 < pins') → FitsIn sum (log_parts size site device fault bytes from bs rs) pins' H A f U
   fits-pinned pins' pinned = record {
     holds = fits.holds;
     alone = fits.alone;
@@ -76,19 +79,17 @@ module _ (sum : List ℕ → ℕ) (size : ℕ) (site : SegmentPosition) (device 
   }
 
   -- With one more message, which lies behind what was written, it fits the history that has that message.
-  module _ (bytes' : List ℕ) (from' : ℕ) (rs' : List Reserved) (H' : History) (m : Message) (is : from' ≡ from) (least : 256 ≤ size) (in_segment : length bytes' ≤ size) (ok : fault ≡ None)
-      (holds : HoldsIn sum (log_parts size site device fault bytes' from' rs') H') (adds : AddsMessage H m H') (above : site.place + from ≤ m.place) where
+  module _ (bytes' : List ℕ) (from' : ℕ) (bs' : List Sealed) (rs' : List Reserved) (H' : History) (m : Message) (is : from' ≡ from) (least : 256 ≤ size) (in_segment : length bytes' ≤ size) (ok : fault ≡ None)
+      (holds : HoldsIn sum (log_parts size site device fault bytes' from' bs' rs') H') (adds : AddsMessage H m H') (above : site.place + from ≤ m.place) (fresh : FirstUnwritten bs) (are : AreSealed from rs bs) where
     abbrev reach : ℕ
     reach = site.place + from
 
     lies : LiesBehind size site m
-    lies = completed_behind sum size site device fault bytes' from' rs' H' holds in_segment m (added_there H H' m adds) (omega (arith, is, above))
+    lies = completed_behind sum size site device fault bytes' from' bs' rs' H' holds in_segment m (added_there H H' m adds) (omega (arith, is, above))
 
-    -- behind what was written the slot has zeros
-    clean : (i : ℕ) → site.slot + from ≤ i → i < site.slot + size → get_or device.log.bytes i 0 ≡ 0
-    clean i low high =
-        let on = fits.holds.written ok in
-        ap (λ (s : LogState). get_or s.bytes i 0) on.settled ∙ on.file.clean i low high
+    -- where nothing was written of the segment, the beginning of its slot has zeros
+    clean : from ≡ 0 → AreZeros device.log.bytes site.slot (site.slot + 20)
+    clean none = begin_zeros device.log.bytes site.slot bytes from bs rs size fresh are (omega (arith, least)) (fits.holds.laid ok) none
 
     room : from + 32 ≤ size
     room = let inside = lies.room in omega (arith, inside, above)
@@ -97,7 +98,7 @@ module _ (sum : List ℕ → ℕ) (size : ℕ) (site : SegmentPosition) (device 
     alone_new none = alone-adds sum size device.log.bytes site from H H' first least none clean m adds above room lies.lies (fits.alone ok none)
 
     beyond_new : NoHeaderOfZeros sum → StandsAlone sum size (padded site.slot device.log.bytes) site from H' first
-    beyond_new none = alone-adds sum size (padded site.slot device.log.bytes) site from H H' first least none (λ i low high. padded_clean site.slot device.log.bytes i (omega (arith, low)) (clean i low high)) m adds above room lies.lies (fits.beyond ok none)
+    beyond_new none = alone-adds sum size (padded site.slot device.log.bytes) site from H H' first least none (λ first_one i low high. padded_clean site.slot device.log.bytes i low (clean first_one i low high)) m adds above room lies.lies (fits.beyond ok none)
 
     names_new : NamesFit sum size device.snapshots H' f first
     names_new = let reached = fits.holds.begun.reached in names-adds H H' m adds sum size device.snapshots f first (omega (arith, reached, above)) fits.names
@@ -107,17 +108,17 @@ module _ (sum : List ℕ → ℕ) (size : ℕ) (site : SegmentPosition) (device 
 
     inline_behind : InlineFrom H' reach
     inline_behind x there behind =
-        let its : LiesBehind size site x = completed_behind sum size site device fault bytes' from' rs' H' holds in_segment x there (omega (arith, is, behind)) in
+        let its : LiesBehind size site x = completed_behind sum size site device fault bytes' from' bs' rs' H' holds in_segment x there (omega (arith, is, behind)) in
         (its.lid, its.pointer)
 
     left_new : LeavesRecoverable sum size H' reach f device
     left_new =
         let on = fits.holds.written ok in
-        settled_recoverable sum size least device H' reach f first reach (all_ascend sum size site device fault bytes' from' rs' H' holds) inline_behind (rests device.log on.log on.settled) names_new blobs_new (λ none. (alone_new none).stands)
+        settled_recoverable sum size least device H' reach f first reach (all_ascend sum size site device fault bytes' from' bs' rs' H' holds) inline_behind (rests device.log on.log on.settled) names_new blobs_new (λ none. (alone_new none).stands)
 
-    pub fits-completed : 0 < pins → FitsIn sum (log_parts size site device fault bytes' from' rs') pins H' A f (m ∷ U)
+    pub fits-completed : 0 < pins → FitsIn sum (log_parts size site device fault bytes' from' bs' rs') pins H' A f (m ∷ U)
     fits-completed out =
-        let same : first ≡ holds.begun.first = first_same bytes' from' rs' H' holds in
+        let same : first ≡ holds.begun.first = first_same bytes' from' bs' rs' H' holds in
         record {
           holds = holds;
           alone = λ fine none. subst (λ (s : SnapshotModel). StandsAlone sum size device.log.bytes site from' H' s) same (subst (λ n. StandsAlone sum size device.log.bytes site n H' first) (sym is) (alone_new none));
@@ -132,4 +133,4 @@ module _ (sum : List ℕ → ℕ) (size : ℕ) (site : SegmentPosition) (device 
 -- What a crash leaves of the device of a log can be recovered.
 pub fits_leaves : {D C : Type 0} (trace : D → Trace) (sum : List ℕ → ℕ) (log : Log D C) (H : History) (A f : ℕ) (U : List Message) → Fits trace sum log H A f U → LeavesRecoverable sum (segment_size_of log) H A f (state_of (trace (device_of log)))
 unfolding Fits
-fits_leaves trace sum log H A f U fits = fits-leaves sum log.config.config.segment_size log.site _ log.fault log.buffer.bytes.items log.buffer.written_len log.buffer.reserved.items log.pins H A f U fits
+fits_leaves trace sum log H A f U fits = fits-leaves sum log.config.config.segment_size log.site _ log.fault log.buffer.bytes.items log.buffer.written_len log.buffer.sealed.items log.buffer.reserved.items log.pins H A f U fits

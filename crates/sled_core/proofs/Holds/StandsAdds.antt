@@ -1,5 +1,5 @@
 -- Where the current segment is all that is found of a log file, it stands so for the history with one more message, which is to lie behind its written end.
-use Rattle.std.proofs.Common.{⊎_elim, ◌≡◌, ◌∙◌, ◌+◌, ◌<◌, ◌≤◌, ℕ, pos, List, get_or, sym, ap, subst, arith, inl, inr}
+use Rattle.std.proofs.Common.{⊎_elim, ◌≡◌, ◌∙◌, ◌+◌, ◌≤◌, ℕ, pos, List, sym, ap, subst, arith, inl, inr}
 use Rattle.std.specs.List.{Contains}
 use Rattle.std.proofs.lemmas.Bool.{cases_lt}
 use Rattle.sled_codec.specs.History.{Message, Batch, History, AddsMessage, table}
@@ -15,6 +15,7 @@ use Rattle.sled_core.specs.declared.iterator.scan.ScanEnd.TheVariants.{Capped, B
 use Rattle.sled_core.specs.Reached.{StandsTo, StandsAlone, GoesOnIn}
 use Rattle.sled_core.specs.Recoverable.{NoHeaderOfZeros, NoMessageBegins, NoBatchBegins, StandsInline, IsOfHistory, IsSegmentOf, LiesInSegment}
 use Rattle.sled_core.specs.Scan.{IsFoundSegment, IsScan}
+use Rattle.sled_core.specs.SealedBuffers.{AreZeros}
 use Rattle.sled_core.specs.Tail.{Scanned, IsScanned, least_place}
 use Rattle.sled_core.proofs.Read.FoundLemmas.{pos_injective}
 use Rattle.sled_core.proofs.Reached.Recoverable.{less_than}
@@ -37,7 +38,7 @@ pub record EndsAt (x : Scanned) (reach : ℕ) : Type 0 where
 
 -- Where the current segment is all that is found, and has room or nothing in it, it is read up to its written end.
 pub alone_ends : (sum : List ℕ → ℕ) (size : ℕ) (log : List ℕ) (site : SegmentPosition) (from : ℕ) (H : History) (first : SnapshotModel) → 256 ≤ size → NoHeaderOfZeros sum
-    → ((i : ℕ) → site.slot + from ≤ i → i < site.slot + size → get_or log i 0 ≡ 0) → (alone : StandsAlone sum size log site from H first) → from + 32 ≤ size → (t : Scanned) → Contains alone.stands.scanned t → EndsAt t (site.place + from)
+    → (from ≡ 0 → AreZeros log site.slot (site.slot + 20)) → (alone : StandsAlone sum size log site from H first) → from + 32 ≤ size → (t : Scanned) → Contains alone.stands.scanned t → EndsAt t (site.place + from)
 alone_ends sum size log site from H first some none clean alone room t there =
     let is = alone.stands in
     let least : ℕ = least_place size first in
@@ -52,7 +53,7 @@ alone_ends sum size log site from H first some none clean alone room t there =
           let place = going.at_place in
           let stop = going.ended in
           record { ends = omega (arith, places, place, stop, ap (λ (y : Scanned). y.stop) one); broken = ap (λ (y : Scanned). y.why) one ∙ going.broken })
-      | inr begins ↦ absurd (none_in_zeros sum size none (omega (arith, some)) log site.slot (λ i above below. clean i (omega (arith, above, begins)) below) (pos t.segment.place) t.segment.mark
+      | inr begins ↦ absurd (none_in_zeros sum 20 none (omega arith) log site.slot (clean (omega (arith, begins))) (pos t.segment.place) t.segment.mark
           (subst (λ n. IsHeader sum (part log n 20) (pos t.segment.place) t.segment.mark) (alone.only t.segment found) found.header))
     ]
 
@@ -129,7 +130,7 @@ module _ (sum : List ℕ → ℕ) (size : ℕ) (log : List ℕ) (some : 256 ≤ 
 
 -- And the current segment is still all that is found, and read to its written end.
 pub alone-adds : (sum : List ℕ → ℕ) (size : ℕ) (log : List ℕ) (site : SegmentPosition) (from : ℕ) (H H' : History) (first : SnapshotModel) → 256 ≤ size → NoHeaderOfZeros sum
-    → ((i : ℕ) → site.slot + from ≤ i → i < site.slot + size → get_or log i 0 ≡ 0) → (m : Message) → AddsMessage H m H' → site.place + from ≤ m.place → from + 32 ≤ size → LiesInSegment size m
+    → (from ≡ 0 → AreZeros log site.slot (site.slot + 20)) → (m : Message) → AddsMessage H m H' → site.place + from ≤ m.place → from + 32 ≤ size → LiesInSegment size m
     → StandsAlone sum size log site from H first → StandsAlone sum size log site from H' first
 unfolding stands-adds
 alone-adds sum size log site from H H' first some none clean m adds above room lies alone =

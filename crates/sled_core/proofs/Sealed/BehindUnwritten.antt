@@ -11,13 +11,13 @@ use Rattle.sled_core.specs.declared.iobuf.SegmentPosition.{SegmentPosition}
 use Rattle.sled_core.specs.Buffers.{IsChain}
 use Rattle.sled_core.specs.Reached.{StandsAlone}
 use Rattle.sled_core.specs.Recoverable.{NoHeaderOfZeros}
-use Rattle.sled_core.specs.SealedBuffers.{AreSealed, sealed_end, LaidOne, Laid}
+use Rattle.sled_core.specs.SealedBuffers.{AreSealed, sealed_end, LaidOne, Laid, bytes_between}
 use Rattle.sled_core.proofs.Reached.StandsTo.{StandsTo}
 use Rattle.sled_core.proofs.Reserve.Ranges.{chain_grows}
 use Rattle.sled_core.proofs.Sealed.Clear.{first_of, own_long}
 use Rattle.sled_core.proofs.Sealed.GapWritten.{gap_written, torn_gap}
 use Rattle.sled_core.proofs.Sealed.LaidLemmas.{EndsRise}
-use Rattle.sled_core.proofs.Sealed.OneWritten.{bytes_between, long, rises_at}
+use Rattle.sled_core.proofs.Sealed.OneWritten.{long, rises_at}
 use Rattle.sled_core.proofs.Torn.TornLemmas.{after_write}
 
 -- the first buffer begins where a record has room

@@ -36,13 +36,15 @@ lies_in from end (x ∷ xs) zero r chain there =
     subst (λ (y : Reserved). (from ≤ y.from) × (y.from + y.len ≤ end)) same (omega (arith, place), omega (arith, place, grows))
 lies_in from end (x ∷ xs) (suc i) r chain there = let rest = lies_in (from + x.len) end xs i r chain.1 there in let above = rest.0 in (omega (arith, above), rest.1)
 
+-- no buffer ends below where the first one begins
+pub ends_up : (from : ℕ) (rs : List Reserved) (bs : List Sealed) → AreSealed from rs bs → from ≤ sealed_end from bs
+ends_up from rs [] are = omega arith
+ends_up from rs (x ∷ xs) are = let here = are.0.rises in let rest = ends_up x.end (drop x.count rs) xs are.1 in omega (arith, here, rest)
+
 -- the buffers of a chain
 pub ends_rise : (from : ℕ) (rs : List Reserved) (bs : List Sealed) (to : ℕ) → AreSealed from rs bs → from ≤ to → sealed_end from bs ≤ to → EndsRise from bs to
 ends_rise from rs [] to are low high = low
-ends_rise from rs (b ∷ bs) to are low high = (are.0.rises, ends_rise b.end (drop b.count rs) bs to are.1 (let up = ends_up b.end (drop b.count rs) bs are.1 in omega (arith, up, high)) high) where
-  ends_up : (from : ℕ) (rs : List Reserved) (bs : List Sealed) → AreSealed from rs bs → from ≤ sealed_end from bs
-  ends_up from rs [] are = omega arith
-  ends_up from rs (x ∷ xs) are = let here = are.0.rises in let rest = ends_up x.end (drop x.count rs) xs are.1 in omega (arith, here, rest)
+ends_rise from rs (b ∷ bs) to are low high = (are.0.rises, ends_rise b.end (drop b.count rs) bs to are.1 (let up = ends_up b.end (drop b.count rs) bs are.1 in omega (arith, up, high)) high)
 
 -- the reservations behind those of the first buffer are a chain from its end on
 pub chain_rest : (from end : ℕ) (rs : List Reserved) (n mid : ℕ) → IsChain from rs end → IsChain from (take n rs) mid → IsChain mid (drop n rs) end

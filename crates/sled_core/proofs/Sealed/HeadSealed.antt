@@ -20,7 +20,7 @@ use Rattle.sled_core.specs.LogFile.{HasHeader}
 use Rattle.sled_core.specs.Reached.{StandsAlone}
 use Rattle.sled_core.specs.Recoverable.{NoHeaderOfZeros, IsOfHistory}
 use Rattle.sled_core.specs.Scan.{IsPath, IsEnd}
-use Rattle.sled_core.specs.SealedBuffers.{Agrees, AreSealed, sealed_end, LaidOne, Laid, now_written, run_end, run_count, behind_run}
+use Rattle.sled_core.specs.SealedBuffers.{Agrees, AreSealed, sealed_end, LaidOne, Laid, now_written, run_end, run_count, behind_run, bytes_between}
 use Rattle.sled_core.specs.Tail.{least_place}
 use Rattle.sled_core.proofs.Reached.BufferPath.{HasOnly, ending_at, never_capped, path_to, truth_to}
 use Rattle.sled_core.proofs.Reached.BufferStands.{met_as, met_in}
@@ -30,7 +30,7 @@ use Rattle.sled_core.proofs.Sealed.BehindUnwritten.{head_headed, head_room}
 use Rattle.sled_core.proofs.Sealed.Clear.{clear_behind, clear_on, run_ends}
 use Rattle.sled_core.proofs.Sealed.HeadWritten.{head_written, torn_head}
 use Rattle.sled_core.proofs.Sealed.LaidLemmas.{EndsRise, ends_below}
-use Rattle.sled_core.proofs.Sealed.OneWritten.{bytes_between, laid_new, long, sealed_written}
+use Rattle.sled_core.proofs.Sealed.OneWritten.{laid_new, long, sealed_written}
 use Rattle.sled_core.proofs.Sealed.Runs.{IsRun, run_laid, run_of, run_stops, run_there, take_more, written_ended}
 use Rattle.sled_core.proofs.Torn.TornLemmas.{after_write}
 use Rattle.sled_core.proofs.Torn.WrittenRecords.{AreClear}
@@ -41,7 +41,7 @@ met_on site bytes [] ys = refl
 met_on site bytes (x ∷ xs) ys = ap (λ (ms : List ScannedRecord). met_as x.state (message_in site bytes x) ∷ ms) (met_on site bytes xs ys)
 
 -- those at the front end below where all do
-run_below : (at : ℕ) (cs : List Sealed) (to : ℕ) → EndsRise at cs to → run_end at cs ≤ to
+pub run_below : (at : ℕ) (cs : List Sealed) (to : ℕ) → EndsRise at cs to → run_end at cs ≤ to
 run_below at [] to up = up
 run_below at (c ∷ cs) to up = by_test (run_below c.end cs to up.1) (ends_below c.end cs to up.1) c.is_written where
   by_test : run_end c.end cs ≤ to → (c.end ≤ sealed_end c.end cs) × (sealed_end c.end cs ≤ to) → (o : Bool) → (if o then run_end c.end cs else at) ≤ to

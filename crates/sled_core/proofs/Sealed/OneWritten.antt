@@ -7,7 +7,7 @@ use Rattle.sled_store.proofs.LogFile.LooseLemmas.{end_of-some}
 use Rattle.sled_store.proofs.LogFile.OverwrittenLemmas.{length-overwritten, overwritten-above, overwritten-below, overwritten-part}
 use Rattle.sled_core.specs.declared.iobuf.Reserved.{Reserved}
 use Rattle.sled_core.specs.declared.iobuf.Sealed.{Sealed}
-use Rattle.sled_core.specs.SealedBuffers.{IsSealed, AreSealed, sealed_end, sealed_count, Agrees, Laid, now_written}
+use Rattle.sled_core.specs.SealedBuffers.{IsSealed, AreSealed, sealed_end, sealed_count, Agrees, Laid, now_written, bytes_between}
 use Rattle.sled_core.proofs.Reached.WrittenUnread.{zero_below}
 use Rattle.sled_core.proofs.Sealed.LaidLemmas.{EndsRise, ends_below, laid_written}
 
@@ -26,10 +26,7 @@ overwritten_inside old at xs k below =
     ∙ sym (get_or-take (length xs) (drop at (overwritten old at xs)) k 0 below)
     ∙ ap (λ (l : List ℕ). get_or l k 0) (overwritten-part old at xs)
 
--- the bytes of a buffer
-abbrev pub bytes_between : List ℕ → ℕ → ℕ → List ℕ
-bytes_between bytes from to = drop from (take to bytes)
-
+-- the bytes of a buffer are as many as lie between its ends
 pub length-between : (bytes : List ℕ) (from to : ℕ) → to ≤ length bytes → length (bytes_between bytes from to) ≡ to - from
 length-between bytes from to inside = length-drop from (take to bytes) ∙ ap (λ n. n - from) (let long : length (take to bytes) ≡ to = omega (arith, length-take to bytes, inside) in long)
 

@@ -14,7 +14,7 @@ use Rattle.sled_core.specs.Buffers.{completed_in, Stands}
 use Rattle.sled_core.specs.LogFile.{HasHeader, padded}
 use Rattle.sled_core.specs.Reached.{StandsAlone}
 use Rattle.sled_core.specs.Recoverable.{NoHeaderOfZeros}
-use Rattle.sled_core.specs.SealedBuffers.{Agrees, AreSealed, Laid, run_count, run_end, sealed_end}
+use Rattle.sled_core.specs.SealedBuffers.{Agrees, AreSealed, Laid, run_count, run_end, sealed_end, bytes_between}
 use Rattle.sled_core.specs.Tail.{least_place}
 use Rattle.sled_core.proofs.Flush.LogFileLemmas.{header_kept}
 use Rattle.sled_core.proofs.Flush.Padded.{length-padded, overwritten-padded, padded_long, padded_same}
@@ -23,7 +23,7 @@ use Rattle.sled_core.proofs.Reached.BufferPath.{HasOnly}
 use Rattle.sled_core.proofs.Sealed.BehindUnwritten.{head_headed, written_behind_unwritten}
 use Rattle.sled_core.proofs.Sealed.HeadSealed.{head_sealed_written}
 use Rattle.sled_core.proofs.Sealed.LaidLemmas.{EndsRise, laid_same}
-use Rattle.sled_core.proofs.Sealed.OneWritten.{bytes_between, has_written, long, rises_at}
+use Rattle.sled_core.proofs.Sealed.OneWritten.{has_written, long, rises_at}
 
 module _ (sum : List ℕ → ℕ) (size : ℕ) (some : 256 ≤ size) (old : List ℕ) (site : SegmentPosition)
     (place_begins : site.place % size ≡ 0) (slot_begins : site.slot % size ≡ 0) (place_small : site.place + size < 2 ^ 63) (slot_small : site.slot + size < 2 ^ 63)

@@ -19,9 +19,10 @@ use Rattle.sled_core.specs.declared.iobuf.SegmentPosition.{SegmentPosition}
 use Rattle.sled_store.specs.Begin.{slots_of, slot_of, segment_number_of, entries_of, unused, first_or, beginning_at, beginning_of, MayBeActive, IsStartable}
 use Rattle.sled_core.specs.Fits.{log_parts, EndBelow, CloseBelow, IsBegunFrom, HoldsIn}
 use Rattle.sled_core.specs.LogFile.{IsLogFile}
+use Rattle.sled_core.specs.SealedBuffers.{AreZeros}
 use Rattle.sled_core.specs.Ready.{HasActive, HasNoActive, HasFile, IsReady, active_site}
 use Rattle.sled_store.proofs.Segments.StartedFile.{started_file}
-use Rattle.sled_core.proofs.Start.UsedLemmas.{active_file, new_file}
+use Rattle.sled_core.proofs.Start.UsedLemmas.{active_clean, active_file, new_file, new_clean}
 
 -- a place that is a multiple of a size is not raised
 pub raised_same : (size place : ℕ) → 0 < size → place % size ≡ 0 → raised size place ≡ place
@@ -66,13 +67,13 @@ module _ (sum : List ℕ → ℕ) (size : ℕ) (device now : State) (s : Snapsho
 
   -- it holds the history, and begins from that snapshot
   abbrev pub HoldsFrom : SegmentPosition → ℕ → Type 0
-  HoldsFrom site from = (holds : HoldsIn sum (log_parts size site now None bytes from []) H) × (holds.begun.first ≡ ready.first)
+  HoldsFrom site from = (holds : HoldsIn sum (log_parts size site now None bytes from [] []) H) × (holds.begun.first ≡ ready.first)
 
   -- The log holds the history at a site where the file has its messages.
   holds_at : (site : SegmentPosition) (from : ℕ) → site.place % size ≡ 0 → site.slot % size ≡ 0 → site.place + from ≡ stable → stable / size * size ≡ site.place → (0 < from → 20 ≤ from)
       → (from ≡ 0 → bytes ≡ short_header sum (pos site.place) (pos site.place -ℤ pos 1)) → (0 < from → length bytes ≡ from)
-      → IsLogFile sum size now_log site from H.messages (table H stable) → HoldsFrom site from
-  holds_at site from place_begins slot_begins end least behind first more file = (
+      → IsLogFile sum size now_log site from H.messages (table H stable) → AreZeros now_log (site.slot + from) (site.slot + size) → HoldsFrom site from
+  holds_at site from place_begins slot_begins end least behind first more file clean = (
     record {
       earlier = H.messages;
       messages = sym (append-nil H.messages);
@@ -90,6 +91,7 @@ module _ (sum : List ℕ → ℕ) (size : ℕ) (device now : State) (s : Snapsho
       room = λ k d lt. absurd (omega (arith, lt));
       begun = begun_at site from end least;
       written = λ none. record { log = now_log; settled = started_now; file = subst (λ n. IsLogFile sum size now_log site from H.messages (table H n)) (sym same_stable) file };
+      laid = λ none. subst (λ (l : LogState). AreZeros l.bytes (site.slot + from) (site.slot + size)) (sym started_now) clean;
     },
     refl,
   )
@@ -108,6 +110,8 @@ module _ (sum : List ℕ → ℕ) (size : ℕ) (device now : State) (s : Snapsho
       holds_at (active_site size stable a) (stable % size) (mul-mod_left (stable / size) size) may.aligned (omega (arith, mod-add-div' stable size)) refl (λ some. has.inside) first more
       (active_file sum size long log s H a active may.aligned ready.table
       (λ e there. (All-contains (λ (x : Entry). (slot_of size x ≡ a / size) ↔ (segment_number_of size x ≡ stable / size)) (entries_of s.pages) e of_active there).0) has)
+      (active_clean sum size long log s H a active may.aligned ready.table
+      (λ e there. (All-contains (λ (x : Entry). (slot_of size x ≡ a / size) ↔ (segment_number_of size x ≡ stable / size)) (entries_of s.pages) e of_active there).0) has)
 
   -- It begins a segment.
   holds_new : HasNoActive sum size log s H → (site : SegmentPosition) → site ≡ record { place = raised size stable; slot = first_or (slots_of size (length log)) (unused size (slots_of size (length log)) s) * size }
@@ -120,7 +124,7 @@ module _ (sum : List ℕ → ℕ) (size : ℕ) (device now : State) (s : Snapsho
       subst (λ (x : SegmentPosition). bytes ≡ short_header sum (pos x.place) (pos x.place -ℤ pos 1) → HoldsFrom x 0) (sym moved) (λ header.
       holds_at (record { place = stable; slot = lowest * size }) 0 begins (mul-mod_left lowest size) (omega arith) (omega (arith, mod-add-div' stable size, begins)) (λ some. absurd (omega (arith, some)))
       (λ _. header) (λ some. absurd (omega (arith, some)))
-      (new_file sum size long log s H ready.below has)) header
+      (new_file sum size long log s H ready.below has) (new_clean sum size long log s H ready.below has)) header
 
   -- A log that begins on what a recovery left holds the history, and begins from its newest snapshot.
   pub begins_from : (b : Beginning) → b ≡ beginning_of size (length device.log.bytes) s → (b.offset ≡ 0 → bytes ≡ short_header sum (pos b.place) (pos b.place -ℤ pos 1)) → (0 < b.offset → length bytes ≡ b.offset)
@@ -136,5 +140,5 @@ module _ (sum : List ℕ → ℕ) (size : ℕ) (device now : State) (s : Snapsho
       by (Some a) active has may of_active first more = holds_active a active may of_active has first more
 
   pub begins_ready : (b : Beginning) → b ≡ beginning_of size (length device.log.bytes) s → (b.offset ≡ 0 → bytes ≡ short_header sum (pos b.place) (pos b.place -ℤ pos 1)) → (0 < b.offset → length bytes ≡ b.offset)
-      → HoldsIn sum (log_parts size (record { place = b.place; slot = b.slot }) now None bytes b.offset []) H
+      → HoldsIn sum (log_parts size (record { place = b.place; slot = b.slot }) now None bytes b.offset [] []) H
   begins_ready b is first more = (begins_from b is first more).0

@@ -8,6 +8,7 @@ use Rattle.sled_codec.specs.Snapshots.{SnapshotModel, stable_place}
 use Rattle.sled_store.specs.Device.{LogState, NamesState, State, at_rest}
 use Rattle.sled_store.specs.declared.segment.start.Beginning.{Beginning}
 use Rattle.sled_core.specs.declared.iobuf.Reserved.{Reserved}
+use Rattle.sled_core.specs.declared.iobuf.Sealed.{Sealed}
 use Rattle.sled_core.specs.declared.iobuf.SegmentPosition.{SegmentPosition}
 use Rattle.sled_store.specs.Begin.{slots_of, unused, first_or, beginning_at, beginning_of, MayBeActive, IsStartable}
 use Rattle.sled_store.proofs.Segments.FilledLemmas.{begins_in}
@@ -64,7 +65,7 @@ module _ (sum : List ℕ → ℕ) (size : ℕ) (device now : State) (s : Snapsho
   -- Where it begins at a site.
   module _ (site : SegmentPosition) (from : ℕ) (end : site.place + from ≡ stable) (own : (slot : ℕ) → s.active ≡ Some slot → slot ≡ site.slot)
       (behind : 0 < from → (s.active ≡ Some site.slot) × (from ≡ stable % size) × (site.place ≡ stable / size * size)) (beyond : NoHeaderOfZeros sum → StandsActive sum size (padded site.slot new) s H) where
-    fits_at : (bytes : List ℕ) (holds : HoldsIn sum (log_parts size site now None bytes from []) H) → holds.begun.first ≡ ready.ready.first → FitsIn sum (log_parts size site now None bytes from []) 0 H A f []
+    fits_at : (bytes : List ℕ) (holds : HoldsIn sum (log_parts size site now None bytes from [] []) H) → holds.begun.first ≡ ready.ready.first → FitsIn sum (log_parts size site now None bytes from [] []) 0 H A f []
     fits_at bytes holds first =
         let same : stable_place holds.begun.first.stable ≡ stable = ap (λ (x : SnapshotModel). stable_place x.stable) first ∙ same_stable in
         record {
@@ -80,8 +81,8 @@ module _ (sum : List ℕ → ℕ) (size : ℕ) (device now : State) (s : Snapsho
 
   -- It fits where it begins.
   FitsAt : List ℕ → Beginning → Type 0
-  FitsAt bytes b = (holds : HoldsIn sum (log_parts size (record { place = b.place; slot = b.slot }) now None bytes b.offset []) H) → holds.begun.first ≡ ready.ready.first
-      → FitsIn sum (log_parts size (record { place = b.place; slot = b.slot }) now None bytes b.offset []) 0 H A f []
+  FitsAt bytes b = (holds : HoldsIn sum (log_parts size (record { place = b.place; slot = b.slot }) now None bytes b.offset [] []) H) → holds.begun.first ≡ ready.ready.first
+      → FitsIn sum (log_parts size (record { place = b.place; slot = b.slot }) now None bytes b.offset [] []) 0 H A f []
 
   fits_from : (bytes : List ℕ) → FitsAt bytes (beginning_of size (length log) s)
   unfolding FitsAt
@@ -104,11 +105,12 @@ module _ (sum : List ℕ → ℕ) (size : ℕ) (device now : State) (s : Snapsho
           (λ zeros. padded_active sum size long zeros log s H ready.ready.table ready.alone none (active_now zeros)) bytes
 
   -- The log fits the history that it holds.
-  pub start_fits : (b : Beginning) → b ≡ beginning_of size (length log) s → (bytes : List ℕ) (from : ℕ) (reserved : List Reserved) → (b.offset ≡ 0 → bytes ≡ short_header sum (pos b.place) (pos b.place -ℤ pos 1)) → (0 < b.offset → length bytes ≡ b.offset)
-      → from ≡ b.offset → reserved ≡ [] → FitsIn sum (log_parts size (record { place = b.place; slot = b.slot }) now None bytes from reserved) 0 H A f []
+  pub start_fits : (b : Beginning) → b ≡ beginning_of size (length log) s → (bytes : List ℕ) (from : ℕ) (sealed : List Sealed) (reserved : List Reserved) → (b.offset ≡ 0 → bytes ≡ short_header sum (pos b.place) (pos b.place -ℤ pos 1)) → (0 < b.offset → length bytes ≡ b.offset)
+      → from ≡ b.offset → sealed ≡ [] → reserved ≡ [] → FitsIn sum (log_parts size (record { place = b.place; slot = b.slot }) now None bytes from sealed reserved) 0 H A f []
   unfolding FitsAt
-  start_fits b is bytes from reserved header more offset none =
+  start_fits b is bytes from sealed reserved header more offset none_sealed none =
       let begun = begins_from sum size device now s H bytes long ready.ready startable log_is (ap (λ (n : NamesState). n.file) same_names) b is header more in
       let fits : FitsAt bytes b = subst (FitsAt bytes) (sym is) (fits_from bytes) in
-      subst (λ n. FitsIn sum (log_parts size (record { place = b.place; slot = b.slot }) now None bytes n reserved) 0 H A f []) (sym offset)
-      (subst (λ (r : List Reserved). FitsIn sum (log_parts size (record { place = b.place; slot = b.slot }) now None bytes b.offset r) 0 H A f []) (sym none) (fits begun.0 begun.1))
+      subst (λ n. FitsIn sum (log_parts size (record { place = b.place; slot = b.slot }) now None bytes n sealed reserved) 0 H A f []) (sym offset)
+      (subst (λ (l : List Sealed). FitsIn sum (log_parts size (record { place = b.place; slot = b.slot }) now None bytes b.offset l reserved) 0 H A f []) (sym none_sealed)
+      (subst (λ (r : List Reserved). FitsIn sum (log_parts size (record { place = b.place; slot = b.slot }) now None bytes b.offset [] r) 0 H A f []) (sym none) (fits begun.0 begun.1)))

@@ -16,6 +16,7 @@ use Rattle.sled_core.specs.declared.iobuf.SegmentPosition.{SegmentPosition}
 use Rattle.sled_store.specs.Begin.{slots_of, slot_of, segment_number_of, entries_of, is_used, unused, first_or}
 use Rattle.sled_core.specs.LogFile.{MessageStands, StandsHere, StandsElsewhere, HasHeader, IsLogFile}
 use Rattle.sled_core.specs.Fits.{EndBelow}
+use Rattle.sled_core.specs.SealedBuffers.{AreZeros}
 use Rattle.sled_core.specs.Ready.{HasActive, HasNoActive, active_site}
 use Rattle.sled_store.proofs.Segments.FilledLemmas.{slot_before, slot_inside, free_below, first_there}
 use Rattle.sled_store.proofs.Segments.StartedFile.{started_file, started_there, started_part, started_byte, started_zero, started_past, left_within}
@@ -131,10 +132,13 @@ module _ (sum : List ℕ → ℕ) (size : ℕ) (long : 256 ≤ size) (log : List
       elsewhere = elsewhere_used;
       begun = λ more. has.inside;
       header = λ more. header_used has.header;
-      clean = λ i above below.
-          let there : a + 20 ≤ length log = header_inside sum log a (pos site.place) has.header.mark has.header.header in
-          started_byte size some log s (a / size) (active_used size s a active) (in_slots a 20 (omega arith) there) i (omega (arith, whole, above)) (omega (arith, whole, below)) ∙ has.clean i above below;
     }
+
+    -- and the rest of its slot has zeros
+    pub active_clean : AreZeros new (a + stable % size) (a + size)
+    active_clean i above below =
+        let there : a + 20 ≤ length log = header_inside sum log a (pos site.place) has.header.mark has.header.header in
+        started_byte size some log s (a / size) (active_used size s a active) (in_slots a 20 (omega arith) there) i (omega (arith, whole, above)) (omega (arith, whole, below)) ∙ has.clean i above below
 
   -- A new segment begins in the lowest slot that is not used, or behind the file.
 
@@ -178,5 +182,8 @@ module _ (sum : List ℕ → ℕ) (size : ℕ) (long : 256 ≤ size) (log : List
       elsewhere = elsewhere_new;
       begun = λ more. absurd (omega (arith, more));
       header = λ more. absurd (omega (arith, more));
-      clean = λ i above under. lowest_zero i (omega (arith, above)) under;
     }
+
+    -- and its slot has zeros
+    pub new_clean : AreZeros new (lowest * size + 0) (lowest * size + size)
+    new_clean i above under = lowest_zero i (omega (arith, above)) under

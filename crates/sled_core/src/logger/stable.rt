@@ -1,17 +1,18 @@
 //! Making what was reserved durable up to a place, and closing a log.
 //!
-//! Both write what `Log::flush` writes, so they add no write of their own (`specs/Stable.antt`).
+//! Both write buffers as `Log::flush` does (`specs/Stable.antt`).
 ghost use Rattle.std.specs.Prelude.{List, ℕ, ◌≡◌, ◌+◌, ◌^◌, ◌<◌, ◌<ℤ◌, pos, IfOk, OnOk, OnErr, Some};
 ghost use Rattle.std.specs.declared.io.Error.{Error as IoError};
 ghost use Rattle.sled_codec.specs.History.{History, Message};
 ghost use Rattle.sled_store.specs.Device.{state_of};
 ghost use Rattle.sled_store.specs.Moments.{LeavesOnly};
 ghost use Rattle.sled_store.specs.Script.{after_all, Performs};
-ghost use Rattle.sled_core.specs.Fits.{NoneOpen, config_of, device_of, fault_of, flushing, reserved_end, segment_size_of, synced_end};
-ghost use Rattle.sled_core.specs.Keeps.{ConfigKept, Preserves, SamePosition};
+ghost use Rattle.sled_core.specs.Causes.{OnDone};
+ghost use Rattle.sled_core.specs.Fits.{KeepsTickets, config_of, device_of, fault_of, flushing, held_below, reserved_end, reserved_len, segment_size_of, site_of, synced_end};
+ghost use Rattle.sled_core.specs.Keeps.{ConfigKept, Preserves, SamePosition, SealsBelow};
 ghost use Rattle.sled_core.specs.Recoverable.{LeavesRecoverable, RecoverableIfOwn};
 ghost use Rattle.sled_core.specs.Running.{Fits};
-ghost use Rattle.sled_core.specs.Stable.{stabilizing, IsNotReserved, StableAnswers, CloseAnswers};
+ghost use Rattle.sled_core.specs.Stable.{held_for, length_to, stabilizing, IsNotReserved, StableAnswers, CloseAnswers};
 
 use crate::logger::Log;
 use sled_codec::result::{Error, Lsn, Result};
@@ -20,28 +21,29 @@ use sled_store::{Device, RunningConfig};
 
 impl<D: Device, C: Checksum> Log<D, C> {
     /// Makes the message at this place durable, and all before it. Returns by how many bytes the stable end grew: 0
-    /// where the place is stable already, and then nothing is written. No reservation may be open.
+    /// where the place is stable already, and then nothing is written. The buffers that begin at or below the place are written,
+    /// one by one.
     ///
     /// # Errors
     ///
-    /// `Io` and `OutOfMemory` as of `flush`; `NotReserved` exactly where the place lies above both the stable end and
+    /// `Held` where one of these has an open reservation, with the least place of its open ones; `Io` and `OutOfMemory` as
+    /// of `flush`; `NotReserved` exactly where the place lies above both the stable end and
     /// the greatest reserved place, and the log keeps no failure of its device: the log is as it was.
     pub fn make_stable(&mut self, lsn: Lsn) -> Result<usize>
-        requires { NoneOpen self.old }
         ensures answer { IfOk result (λ n. synced_end self.new ≡ synced_end self.old + n) }
         ensures target { OnOk result (lsn <ℤ pos (synced_end self.new)) }
-        ensures made { OnOk result (D.trace (device_of self.new) ≡ after_all (stabilizing self.old lsn) (D.trace (device_of self.old))) }
+        ensures made { OnDone result (D.trace (device_of self.new) ≡ after_all (stabilizing self.old lsn) (D.trace (device_of self.old))) }
         ensures at_most { Performs (stabilizing self.old lsn) (D.trace (device_of self.old)) (D.trace (device_of self.new)) }
         ensures keeps { Preserves D.trace C.sum_of self.old self.new }
         ensures acknowledges { (H : History) (A f : ℕ) (U : List Message) → Fits D.trace C.sum_of self.old H A f U
             → OnOk result (Fits D.trace C.sum_of self.new H (synced_end self.new) f U) }
-        ensures ended { NoneOpen self.new }
+        ensures tickets { KeepsTickets self.old self.new }
         ensures position { SamePosition self.old self.new }
-        ensures answers { StableAnswers result lsn (reserved_end self.old) (fault_of self.old) (fault_of self.new)
-            (D.faults (device_of self.old)) (D.faults (device_of self.new)) }
+        ensures answers { StableAnswers result lsn (reserved_end self.old) (site_of self.old).place (held_for self.old lsn)
+            (fault_of self.old) (fault_of self.new) (D.faults (device_of self.old)) (D.faults (device_of self.new)) }
         ensures faulty { (e : IoError) → fault_of self.old ≡ Some e → self.new ≡ self.old }
         ensures refused { IsNotReserved result → self.new ≡ self.old }
-        ensures err { OnErr result (synced_end self.new ≡ synced_end self.old) }
+        ensures buffers { SealsBelow result (length_to self.old lsn) self.old self.new }
     {
         if let Some(e) = self.fault {
             return Err(Error::Io(e));
@@ -52,7 +54,12 @@ impl<D: Device, C: Checksum> Log<D, C> {
         if lsn >= self.reserved_end() as Lsn {
             return Err(Error::NotReserved(lsn));
         }
-        self.flush()
+        let before = self.buffer.written_len;
+        let to = (lsn as u64 - self.site.place) as usize + 1;
+        match self.write_below(to) {
+            Ok(()) => Ok(self.buffer.written_len - before),
+            Err(e) => Err(e),
+        }
     }
 
     /// The place behind the greatest reserved one.
@@ -60,30 +67,25 @@ impl<D: Device, C: Checksum> Log<D, C> {
         ensures end { result ≡ reserved_end self.now }
         ensures in_reach { result < 2 ^ 63 }
     {
-        let end = if self.buffer.reserved.is_empty() {
-            self.buffer.written_len
-        } else {
-            self.buffer.bytes.len()
-        };
-        self.site.place + end as u64
+        self.site.place + self.reserved_len() as u64
     }
 
     /// Writes what was completed and syncs it, gives the log up, and returns what it ran on, with by how many bytes the
-    /// stable end grew. No reservation may be open.
+    /// stable end grew.
     ///
     /// # Errors
     ///
     /// Those of `flush`. The configuration comes back with each of them.
     pub fn close(self) -> (RunningConfig<D, C>, Result<usize>)
-        requires { NoneOpen self }
         ensures answer { IfOk result.1 (λ n. reserved_end self ≡ synced_end self + n) }
-        ensures made { OnOk result.1 (D.trace result.0.device ≡ after_all (flushing self) (D.trace (device_of self))) }
+        ensures made { OnDone result.1 (D.trace result.0.device ≡ after_all (flushing self) (D.trace (device_of self))) }
         ensures at_most { Performs (flushing self) (D.trace (device_of self)) (D.trace result.0.device) }
         ensures acknowledges { (H : History) (A f : ℕ) (U : List Message) → Fits D.trace C.sum_of self H A f U
             → OnOk result.1 (LeavesRecoverable C.sum_of (segment_size_of self) H (reserved_end self) f (state_of (D.trace result.0.device))) }
         ensures crash { (H : History) (A f : ℕ) (U : List Message) → Fits D.trace C.sum_of self H A f U
             → LeavesOnly (RecoverableIfOwn C.sum_of (segment_size_of self) H A f) (D.trace (device_of self)) (D.trace result.0.device) }
-        ensures answers { CloseAnswers result.1 (fault_of self) (D.faults (device_of self)) (D.faults result.0.device) }
+        ensures answers { CloseAnswers result.1 (site_of self).place (held_below self (reserved_len self)) (fault_of self)
+            (D.faults (device_of self)) (D.faults result.0.device) }
         ensures config { ConfigKept (config_of self) result.0 }
     {
         let mut log = self;

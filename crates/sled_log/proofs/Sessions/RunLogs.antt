@@ -9,7 +9,7 @@ use Rattle.sled_codec.specs.declared.result.DiskPtr.TheVariants.{Inline}
 use Rattle.sled_codec.specs.declared.serialization.message.LogKind.TheVariants as does
 use Rattle.sled_codec.specs.History.{Message, History}
 use Rattle.sled_codec.specs.Snapshots.{SnapshotModel, model_of}
-use Rattle.sled_store.specs.Begin.{slots_of, place_at, offset_at}
+use Rattle.sled_store.specs.Begin.{place_at, offset_at}
 use Rattle.sled_store.specs.Device.{Trace, Wrote, Synced, state_of, content_of}
 use Rattle.sled_store.specs.Script.{Performs}
 use Rattle.sled_store.proofs.Traces.ScriptLemmas.{performs_whole}
@@ -17,16 +17,17 @@ use Rattle.sled_core.specs.declared.iobuf.Reserved.{Reserved}
 use Rattle.sled_core.specs.declared.iobuf.SegmentPosition.{SegmentPosition}
 use Rattle.sled_core.specs.declared.logger.Log.{Log}
 use Rattle.sled_core.specs.Buffers.{IsChain, Stands, end_reserved as end_in}
-use Rattle.sled_core.specs.Fits.{HasRoom, IsWritten, IsKept, device_of, flushing, flushing_of, message_for, reserved_end, segment_size_of, site_of, synced_end}
+use Rattle.sled_core.specs.Fits.{HasRoom, IsWritten, IsKept, NoneOpen, NoneSealed, device_of, flushing, message_for, reserved_end, segment_size_of, site_of, synced_end}
 use Rattle.sled_core.specs.Good.{IsGood}
 use Rattle.sled_core.specs.Running.{Fits}
+use Rattle.sled_core.proofs.Holds.Writes.{flushing_alone, flushing_of}
 use Rattle.sled_core.proofs.Reserve.CompletesLemmas.{some_long}
 use Rattle.sled_core.proofs.Reserve.Ranges.{chain_grows}
 use Rattle.sled_core.proofs.Start.GoodStarted.{good_started}
 use Rattle.sled_log.specs.declared.session.command.Reply.{Reply}
 use Rattle.sled_log.specs.declared.session.command.Reply.TheVariants as reply
 use Rattle.sled_log.specs.declared.session.step.Opened.{Opened}
-use Rattle.sled_log.specs.RunStates.{DeviceView, LogView, ShowsActive, length_of, next_behind, end_reserved, replace_at, offset_in, HasRoomAt}
+use Rattle.sled_log.specs.RunStates.{DeviceView, LogView, ShowsActive, next_behind, end_reserved, replace_at, offset_in, HasRoomAt}
 use Rattle.sled_log.specs.RunPhases.{Shows, seen}
 use Rattle.sled_log.specs.Runs.{StartActs, starting, flush_calls}
 
@@ -125,16 +126,16 @@ module _ {D C : Type 0} (opened : Opened D C) where
         ∙ ap (λ (b : Bool). if b then place + end else place + from) (pending_at place from end)
 
     -- What a flush asks of the device is one write of what is pending, and a sync.
-    pub fits_flushing : (bytes : List ℕ) × (length bytes ≡ l.next - l.stable) × (flushing log ≡ flush_calls l bytes)
+    pub fits_flushing : NoneSealed log → NoneOpen log → (bytes : List ℕ) × (length bytes ≡ l.next - l.stable) × (flushing log ≡ flush_calls l bytes)
     unfolding Fits
-    fits_flushing =
+    fits_flushing none ended =
         let place : ℕ = log.site.place in
         let from : ℕ = log.buffer.written_len in
         let end : ℕ = length log.buffer.bytes.items in
         let bytes : List ℕ = drop from log.buffer.bytes.items in (
           bytes,
           length-drop from log.buffer.bytes.items ∙ omega arith,
-          chain_flushing sum (place / segment_size_of log) bytes log.buffer.bytes.items (log.site.slot + from) from end log.buffer.reserved.items fits.holds.chain fits.holds.stand
+          flushing_alone log none ended ∙ chain_flushing sum (place / segment_size_of log) bytes log.buffer.bytes.items (log.site.slot + from) from end log.buffer.reserved.items fits.holds.chain fits.holds.stand
               ∙ (λ i. if pending_at place from end i then Wrote (log.site.slot + sym stable_is i) bytes bytes ∷ Synced ∷ [] else []),
         )
 

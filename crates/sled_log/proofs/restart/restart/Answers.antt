@@ -1,5 +1,5 @@
 use Rattle.std.proofs.Common.{◌≡◌, ◌∙◌, ◌≤◌, ◌+◌, ℕ, sym, ap, subst, inl, inr, arith}
-use Rattle.std.specs.Prelude.{Err, IfOk}
+use Rattle.std.specs.Prelude.{Ok, Err, IfOk}
 use Rattle.std.specs.List.{All}
 use Rattle.sled_codec.specs.declared.serialization.snapshot.Snapshot.{Snapshot}
 use Rattle.sled_codec.specs.History.{Message}
@@ -11,7 +11,8 @@ use Rattle.sled_store.specs.Device.{Trace, state_of, content_of}
 use Rattle.sled_store.specs.Moments.{LeavesOnly}
 use Rattle.sled_store.specs.Script.{Performs, after_all}
 use Rattle.sled_store.proofs.Traces.MomentLemmas.{joined}
-use Rattle.sled_core.specs.Fits.{IsKept, device_of, fault_of, flushing, segment_size_of, synced_end}
+use Rattle.sled_core.specs.Fits.{IsKept, device_of, fault_of, flushing, held_below, reserved_len, segment_size_of, synced_end}
+use Rattle.sled_core.proofs.Holds.Writes.{none_held, not_held}
 use Rattle.sled_core.specs.Recoverable.{LeavesRecoverable, NoForeign, RecoverableIfOwn}
 use Rattle.sled_core.specs.Running.{Ready}
 use Rattle.sled_core.proofs.Holds.ReachLemmas.{fits_holds}
@@ -72,9 +73,10 @@ returns-in-Ok-clause-did g c =
     let is = c.halt-config.ensures.config in
     let sizes : config.config.segment_size ≡ segment_size_of c.args.log = ap (λ (x : RunningConfig _ _). x.config.segment_size) is ∙ c.flush-flushed.ensures.position.size in
     let came : trace config.device ≡ after_all (flushing c.args.log) (trace (device_of c.args.log)) = ap (λ (x : RunningConfig _ _). trace x.device) is ∙ c.in-Ok.ensures.calls in
-    let counted : g.D.Device.faults config.device ≡ g.D.Device.faults (device_of c.args.log) = ap (λ (x : RunningConfig _ _). g.D.Device.faults x.device) is ∙ c.in-Ok.ensures.answers.2 in
+    let answers = not_held c.args.log.site.place (held_below c.args.log (reserved_len c.args.log)) (Ok c.in-Ok.field-0) (fault_of c.args.log) (fault_of c.flush-flushed.new.self) _ _ (none_held c.args.log (reserved_len c.args.log) c.requires.ended) c.in-Ok.ensures.answers in
+    let counted : g.D.Device.faults config.device ≡ g.D.Device.faults (device_of c.args.log) = ap (λ (x : RunningConfig _ _). g.D.Device.faults x.device) is ∙ answers.2 in
     inr (
-      c.in-Ok.ensures.answers.0,
+      answers.0,
       subst (λ n. RecoveryCalls sum n (after_all (flushing c.args.log) (trace (device_of c.args.log))) (trace new.device)) sizes
           (subst (λ (t : Trace). RecoveryCalls sum config.config.segment_size t (trace new.device)) came c.read_snapshot_or_default-snapshot.ensures.calls),
       subst (λ n. ItemAnswers sum (state_of (after_all (flushing c.args.log) (trace (device_of c.args.log)))).blobs.file c.read_snapshot_or_default-snapshot.result n (g.D.Device.faults new.device)) counted
@@ -126,7 +128,8 @@ returns-in-Err-clause-did g c =
       subst (λ (t : Trace). Performs (flushing log) (trace (device_of log)) t) (sym same) c.flush-flushed.ensures.at_most,
       λ some. let kept = some_of (fault_of log) some in same ∙ ap (λ l. trace l.config.device) (c.flush-flushed.ensures.faulty kept.0 kept.1),
       subst (λ n. FlushFails {T = Snapshot} (Err c.in-Err.e) (fault_of log) (g.D.Device.faults (device_of log)) n) (sym counted)
-          (flush_fails ℕ Snapshot c.in-Err.e (fault_of log) (fault_of c.flush-flushed.new.self) _ _ c.in-Err.ensures.answers),
+          (flush_fails ℕ Snapshot c.in-Err.e (fault_of log) (fault_of c.flush-flushed.new.self) _ _
+          (not_held {T = ℕ} log.site.place (held_below log (reserved_len log)) (Err c.in-Err.e) (fault_of log) (fault_of c.flush-flushed.new.self) _ _ (none_held log (reserved_len log) c.requires.ended) c.in-Err.ensures.answers)),
     )
 
 pub returns-in-Err-clause-crash : goal.returns-in-Err-clause-crash

@@ -1,23 +1,18 @@
 -- The new reservation is counted.
-use Rattle.std.proofs.Common.{rules, refl, sym, ap, arith, ◌∙◌, ◌≡◌, ◌<◌, ◌+◌, ◌≤◌, ◌^◌, length, vec_len, List, [], ℕ, subst}
+use Rattle.std.proofs.Common.{rules, refl, sym, ap, arith, ◌∙◌, ◌≡◌, ◌+◌, ◌≤◌, ◌++◌, ◌∷◌, length, max, drop, vec_len, List, [], ℕ, subst, length-append}
 use Rattle.std.specs.List.{All}
+use Rattle.std.proofs.lemmas.List.{drop-append-le}
 use Rattle.sled_core.specs.declared.iobuf.Reserved.{Reserved}
-use Rattle.sled_core.specs.Buffers.{open_in}
-use Rattle.sled_core.proofs.Reserve.OpenCounts.{open_more, open_within}
-use Rattle.sled_core.proofs.Reserve.Ranges.{all_joined}
+use Rattle.sled_core.specs.Buffers.{IsChain, open_in}
+use Rattle.sled_core.specs.SealedBuffers.{AreSealed}
+use Rattle.sled_core.proofs.Reserve.OpenCounts.{open_more}
+use Rattle.sled_core.proofs.Reserve.Ranges.{all_joined, chain-append}
+use Rattle.sled_core.proofs.Sealed.Ended.{sealed_more}
 use Rattle.sled_core.proofs.iobuf.IoBuf.append.Given as given
 use Rattle.sled_core.proofs.iobuf.IoBuf.append.Goals as goal
 
-pub overflow_add-self : goal.overflow_add-self
-overflow_add-self g c =
-    let reserved = c.args.self.now.reserved in
-    let long : length reserved.items ≡ vec_len reserved = search rules in
-    let small : vec_len reserved < 2 ^ 63 = search rules in
-    let place = c.requires.place in
-    omega (arith, long, small, c.args.self.now.counted, open_within reserved.items)
-
 -- how long the bytes are then
-long : (g : given.Over) (c : goal.After-keep g) → length c.sum_behind-sum.new.bytes.items ≡ c.len-from.result + c.args.head.now.len + c.args.item_len
+long : (g : given.Over) (c : goal.After-push_back_reserved g) → length c.sum_behind-sum.new.bytes.items ≡ c.len-from.result + c.args.head.now.len + c.args.item_len
 long g c =
     let from = c.len-from.ensures in
     let bytes : length c.args.self.now.bytes.items ≡ vec_len c.args.self.now.bytes = search rules in
@@ -29,18 +24,30 @@ long g c =
 pub invariant_of-self : goal.invariant_of-self
 invariant_of-self g c =
     let old : List Reserved = c.args.self.now.reserved.items in
+    let first : ℕ = c.args.self.now.first in
     let bytes : List ℕ = c.sum_behind-sum.new.bytes.items in
     let from = c.len-from.ensures in
     let before : length c.args.self.now.bytes.items ≡ vec_len c.args.self.now.bytes = search rules in
     let len = long g c in
     let five = c.args.head.now.long in
+    let new = c.push_back_reserved.ensures.items in
+    let apart : drop first c.push_back_reserved.new.self.items ≡ drop first old ++ _ ∷ [] = ap (drop first) new ∙ drop-append-le first old _ c.args.self.now.parted in
     record {
       begun = search rules;
-      behind = search rules;
-      within = subst (λ (rs : List Reserved). All (λ r. r.from + r.len ≤ length bytes) rs) (sym c.keep.ensures)
+      behind = (let le = c.args.self.now.behind in omega (arith, le, before, from, len));
+      within = subst (λ (rs : List Reserved). All (λ r. r.from + r.len ≤ length bytes) rs) (sym new)
           (all_joined (λ (r : Reserved). r.from + r.len ≤ length bytes) old [] _ (λ i d lt. let le = c.args.self.now.within i d lt in omega (arith, le, from, before, len)) (omega (arith, len)) (λ i d lt. absurd (omega (arith, lt))));
-      headed = subst (λ (rs : List Reserved). All (λ r. (5 ≤ r.header_len) × (r.header_len ≤ r.len)) rs) (sym c.keep.ensures)
+      headed = subst (λ (rs : List Reserved). All (λ r. (5 ≤ r.header_len) × (r.header_len ≤ r.len)) rs) (sym new)
           (all_joined (λ (r : Reserved). (5 ≤ r.header_len) × (r.header_len ≤ r.len)) old [] _ c.args.self.now.headed (five, omega arith) (λ i d lt. absurd (omega (arith, lt))));
-      counted = ap (λ n. n + 1) c.args.self.now.counted ∙ sym (ap open_in c.keep.ensures ∙ open_more old _ refl);
-      few = (let less = c.requires.few in let count = c.args.self.now.counted in omega (arith, less, count));
+      numbered = (let le = c.args.self.now.numbered in let count = ap length new ∙ length-append old (_ ∷ []) in omega (arith, le, count, len, from, before, five));
+      head = c.args.self.now.head;
+      are = subst (λ (rs : List Reserved). AreSealed c.args.self.now.written_len rs c.args.self.now.sealed.items) (sym new) (sealed_more c.args.self.now.written_len old c.args.self.now.sealed.items (_ ∷ []) c.args.self.now.are);
+      begins = c.args.self.now.begins;
+      before = c.args.self.now.before;
+      parted = (let le = c.args.self.now.parted in let count = ap length new ∙ length-append old (_ ∷ []) in omega (arith, le, count));
+      chain = subst (λ n. IsChain (max 20 c.args.self.now.begin) (drop first c.push_back_reserved.new.self.items) n) (let at : length c.args.self.now.bytes.items + (c.args.head.now.len + c.args.item_len) ≡ length bytes = omega (arith, len, from, before) in at)
+          (subst (λ (rs : List Reserved). IsChain (max 20 c.args.self.now.begin) rs (length c.args.self.now.bytes.items + (c.args.head.now.len + c.args.item_len))) (sym apart)
+          (chain-append (max 20 c.args.self.now.begin) (length c.args.self.now.bytes.items) (drop first old) _ c.args.self.now.chain (from ∙ sym before)));
+      counted = ap (λ n. n + 1) c.args.self.now.counted ∙ sym (ap open_in apart ∙ open_more (drop first old) _ refl);
+      few = (let less = c.requires.few in let count = c.args.self.now.counted in let same = c.args.self.now.before in let is = ap (λ n. open_in (drop n old)) same in omega (arith, less, count, is));
     }

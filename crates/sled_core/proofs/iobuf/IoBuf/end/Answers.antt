@@ -1,56 +1,173 @@
-use Rattle.std.proofs.Common.{◌≡◌, ◌∙◌, ◌+◌, ◌≤◌, ◌<◌, ap, List, ℕ, [], ◌∷◌, rules, refl, get_or, set, sym, length, arith, Some, subst}
+-- The reservation has ended, and the buffer that has it waits for one fewer: a sealed one, or the current one.
+use Rattle.std.proofs.Common.{◌≡◌, ◌∙◌, ◌+◌, ◌-◌, ◌≤◌, ◌<◌, ap, List, ℕ, max, rules, refl, drop, get_or, set, sym, length, arith, Some, subst, false}
 use Rattle.std.specs.List.{slice_get, All}
+use Rattle.std.proofs.lemmas.List.{drop-set-add, drop-set-lt, length-set}
 use Rattle.std.proofs.lemmas.List.Elements.{All-set}
 use Rattle.sled_codec.specs.Written.{written}
 use Rattle.sled_core.specs.declared.iobuf.ReservationState.{ReservationState}
+use Rattle.sled_core.specs.declared.iobuf.ReservationState.TheVariants.{Open}
 use Rattle.sled_core.specs.declared.iobuf.Reserved.{Reserved}
-use Rattle.sled_core.specs.Buffers.{ended, ending, open_in}
+use Rattle.sled_core.specs.declared.iobuf.Sealed.{Sealed}
+use Rattle.sled_core.specs.Buffers.{IsChain, ended, ending, open_in, open_state}
+use Rattle.sled_core.specs.SealedBuffers.{AreSealed, FirstUnwritten, HasOpenAt, one_ended, sealed_count, sealed_end}
 use Rattle.sled_core.proofs.Reserve.OpenCounts.{open_fewer}
 use Rattle.sled_core.proofs.Reserve.Parts.{get_there, there_is}
+use Rattle.sled_core.proofs.Reserve.Ranges.{at_there}
+use Rattle.sled_core.proofs.Sealed.Ended.{chain_set, get_behind, sealed_ended}
+use Rattle.sled_core.proofs.Sealed.InBuffer.{count_ended, end_ended, first_ended, none_ended}
 use Rattle.sled_core.proofs.iobuf.IoBuf.end.Goals as goal
 
-pub returns-clause-bytes : goal.returns-clause-bytes
-returns-clause-bytes c = λ r there.
-    let same : r ≡ c.index-r.result.now = sym (get_there c.args.self.now.reserved.items c.args.index r c.index-r.result.now there) ∙ sym c.index-r.ensures in
-    let sum : List ℕ = c.to_le_bytes-sum.result in
-    let five : (get_or sum 0 0 ∷ get_or sum 1 0 ∷ get_or sum 2 0 ∷ get_or sum 3 0 ∷ c.from.result ∷ []) ≡ ending c.args.sum c.args.kind = rw (c.to_le_bytes-sum.ensures, c.from.ensures) refl in
-    c.put.ensures.bytes
-    ∙ ap (written c.args.self.now.bytes.items c.index-r.result.now.from) five
-    ∙ ap (λ (x : Reserved). written c.args.self.now.bytes.items x.from (ending c.args.sum c.args.kind)) (sym same)
-
 -- what holds of the reservations, and of the one that has ended, holds of them after it
-still : (P : Reserved → Type 0) (old new : List Reserved) (i : ℕ) (r : Reserved) (state : ReservationState) → i < length old → r ≡ get_or old i r → new ≡ set old i (ended state r)
+still : (P : Reserved → Type 0) (old new : List Reserved) (i : ℕ) (r : Reserved) (state : ReservationState) → slice_get old i ≡ Some r → new ≡ set old i (ended state r)
     → ((x : Reserved) → P x → P (ended state x)) → All P old → All P new
-still P old new i r state lt is set_is ends all =
-    let here : P r = subst P (sym is) (all i r lt) in
-    subst (λ (rs : List Reserved). All P rs) (sym set_is) (All-set P old i (ended state r) (ends r here) all)
+still P old new i r state there set_is ends all = subst (λ (rs : List Reserved). All P rs) (sym set_is) (All-set P old i (ended state r) (ends r (at_there P old i r there all)) all)
 
--- one fewer is open than before
-fewer : (c : goal.After-close) → c.args.self.now.open_count ≡ open_in c.close.new.reserved.items + 1
-fewer c =
-    let old : List Reserved = c.args.self.now.reserved.items in
+module _ (from : ℕ) (rs : List Reserved) (bs : List Sealed) (i : ℕ) (r : Reserved) (there : slice_get rs i ≡ Some r) (open_yet : r.state ≡ Open) where
+  has_open : AreSealed from rs bs → i < sealed_count bs → All (λ x. (5 ≤ x.header_len) × (x.header_len ≤ x.len)) rs → HasOpenAt from rs i r.from bs
+  has_open are theirs headed = record {
+    reserved = r;
+    are = are;
+    theirs = theirs;
+    there = there;
+    begins = refl;
+    some = (let long = at_there (λ x. (5 ≤ x.header_len) × (x.header_len ≤ x.len)) rs i r there headed in let a = long.0 in let b = long.1 in omega (arith, a, b));
+    open_yet = open_yet;
+  }
+
+  module _ (state : ReservationState) (ends : open_state state ≡ false) where
+    fewer : (xs : List Reserved) (j : ℕ) → slice_get xs j ≡ Some r → open_in xs ≡ open_in (set xs j (ended state r)) + 1
+    fewer xs j at = open_fewer xs j r (ended state r) at open_yet ends
+
+    are_ended : AreSealed from rs bs → AreSealed from (set rs i (ended state r)) (one_ended i bs)
+    are_ended are = sealed_ended r (ended state r) refl refl fewer from rs bs i there are
+
+    -- It is one of those behind the first ones.
+    module _ (first : ℕ) (behind : first ≤ i) where
+      set_behind : drop first (set rs i (ended state r)) ≡ set (drop first rs) (i - first) (ended state r)
+      set_behind = let at : first + (i - first) ≡ i = omega (arith, behind) in ap (λ k. drop first (set rs k (ended state r))) (sym at) ∙ drop-set-add first rs (i - first) (ended state r)
+
+      there_behind : slice_get (drop first rs) (i - first) ≡ Some r
+      there_behind = get_behind rs first i r behind there
+
+      chain_behind : (begin end : ℕ) → IsChain begin (drop first rs) end → IsChain begin (drop first (set rs i (ended state r))) end
+      chain_behind begin end chain =
+          subst (λ (l : List Reserved). IsChain begin l end) (sym set_behind) (chain_set r (ended state r) refl refl fewer begin end (drop first rs) (i - first) there_behind chain)
+
+      fewer_behind : open_in (drop first rs) ≡ open_in (drop first (set rs i (ended state r))) + 1
+      fewer_behind = fewer (drop first rs) (i - first) there_behind ∙ ap (λ (l : List Reserved). open_in l + 1) (sym set_behind)
+
+pub end_sealed-requires : goal.end_sealed-requires
+end_sealed-requires c =
+    let rs : List Reserved = c.args.self.now.reserved.items in
+    let bs : List Sealed = c.args.self.now.sealed.items in
     let r : Reserved = c.index-r.result.now in
-    let lt : c.args.index < length old = search rules in
-    let there : slice_get old c.args.index ≡ Some r = there_is old c.args.index r lt c.index-r.ensures in
-    c.args.self.now.counted ∙ open_fewer old c.args.index r (ended c.args.state r) there (c.requires.awaited r there) c.requires.ends ∙ ap (λ (l : List Reserved). open_in l + 1) (sym (c.close.ensures r there))
+    let there : slice_get rs c.args.index ≡ Some r = there_is rs c.args.index r (search rules) c.index-r.ensures in
+    let theirs = c.if-index-self.true in
+    let before = c.args.self.now.before in
+    record { some = (c.args.self.now.written_len, c.args.index, rs, has_open c.args.self.now.written_len rs bs c.args.index r there (c.requires.awaited r there) c.args.self.now.are (omega (arith, theirs, before)) c.args.self.now.headed) }
 
 pub overflow_sub-self : goal.overflow_sub-self
-overflow_sub-self c = omega (arith, fewer c)
+overflow_sub-self c =
+    let rs : List Reserved = c.args.self.now.reserved.items in
+    let r : Reserved = c.index-r.result.now in
+    let there : slice_get rs c.args.index ≡ Some r = there_is rs c.args.index r (search rules) c.index-r.ensures in
+    let count = fewer_behind c.args.self.now.written_len rs c.args.self.now.sealed.items c.args.index r there (c.requires.awaited r there) c.args.state c.requires.ends c.args.self.now.first c.if-index-self.false in
+    let counted = c.args.self.now.counted in
+    omega (arith, count, counted)
 
 pub invariant_of-self : goal.invariant_of-self
 invariant_of-self c =
-    let old : List Reserved = c.args.self.now.reserved.items in
+    let rs : List Reserved = c.args.self.now.reserved.items in
+    let bs : List Sealed = c.args.self.now.sealed.items in
+    let from : ℕ = c.args.self.now.written_len in
+    let first : ℕ = c.args.self.now.first in
+    let i : ℕ = c.args.index in
     let r : Reserved = c.index-r.result.now in
-    let lt : c.args.index < length old = search rules in
-    let there : slice_get old c.args.index ≡ Some r = there_is old c.args.index r lt c.index-r.ensures in
-    let new : c.close.new.reserved.items ≡ set old c.args.index (ended c.args.state r) = c.close.ensures r there in
-    let len : length c.args.self.now.bytes.items ≡ length c.put.new.buf.items = sym c.put.ensures.len in
+    let s : Reserved = ended c.args.state r in
+    let there : slice_get rs i ≡ Some r = there_is rs i r (search rules) c.index-r.ensures in
+    let open_yet = c.requires.awaited r there in
+    let new : c.close.new.reserved.items ≡ set rs i s = c.close.ensures r there in
+    let len : length c.args.self.now.bytes.items ≡ length c.put_ending.new.buf.items = sym c.put_ending.ensures.len in
+    let before = c.args.self.now.before in
+    let theirs : i < first = c.if-index-self.true in
+    let left : c.end_sealed.new.sealed.items ≡ one_ended i bs = c.end_sealed.ensures from i rs (has_open from rs bs i r there open_yet c.args.self.now.are (omega (arith, theirs, before)) c.args.self.now.headed) in
+    let same : drop first c.close.new.reserved.items ≡ drop first rs = ap (drop first) new ∙ drop-set-lt first rs i s theirs in
+    let count : length c.close.new.reserved.items ≡ length rs = ap length new ∙ length-set rs i s in
     record {
       begun = omega (arith, len);
-      behind = omega (arith, len);
-      within = still (λ x. x.from + x.len ≤ length c.put.new.buf.items) old _ c.args.index r c.args.state lt c.index-r.ensures new (λ x h. h)
-          (subst (λ (n : ℕ). All (λ x. x.from + x.len ≤ n) old) len c.args.self.now.within);
-      headed = still (λ x. (5 ≤ x.header_len) × (x.header_len ≤ x.len)) old _ c.args.index r c.args.state lt c.index-r.ensures new (λ x h. h) c.args.self.now.headed;
-      counted = omega (arith, fewer c);
+      behind = (let le = c.args.self.now.behind in omega (arith, le, len));
+      within = still (λ x. x.from + x.len ≤ length c.put_ending.new.buf.items) rs _ i r c.args.state there new (λ x h. h) (subst (λ (n : ℕ). All (λ x. x.from + x.len ≤ n) rs) len c.args.self.now.within);
+      headed = still (λ x. (5 ≤ x.header_len) × (x.header_len ≤ x.len)) rs _ i r c.args.state there new (λ x h. h) c.args.self.now.headed;
+      numbered = (let le = c.args.self.now.numbered in omega (arith, le, count, len));
+      head = subst (λ (l : List Sealed). FirstUnwritten l) (sym left) (first_ended i bs c.args.self.now.head);
+      are = subst (λ (l : List Sealed). AreSealed from c.close.new.reserved.items l) (sym left)
+          (subst (λ (l : List Reserved). AreSealed from l (one_ended i bs)) (sym new) (are_ended from rs bs i r there open_yet c.args.state c.requires.ends c.args.self.now.are));
+      begins = c.args.self.now.begins ∙ sym (ap (sealed_end from) left ∙ end_ended from i bs);
+      before = before ∙ sym (ap sealed_count left ∙ count_ended i bs);
+      parted = (let le = c.args.self.now.parted in omega (arith, le, count));
+      chain = subst (λ n. IsChain (max 20 c.args.self.now.begin) (drop first c.close.new.reserved.items) n) len (subst (λ (l : List Reserved). IsChain (max 20 c.args.self.now.begin) l (length c.args.self.now.bytes.items)) (sym same) c.args.self.now.chain);
+      counted = c.args.self.now.counted ∙ sym (ap open_in same);
+      few = c.args.self.now.few;
+    }
+
+pub invariant_of-self-else-index-self : goal.invariant_of-self-else-index-self
+invariant_of-self-else-index-self c =
+    let rs : List Reserved = c.args.self.now.reserved.items in
+    let bs : List Sealed = c.args.self.now.sealed.items in
+    let from : ℕ = c.args.self.now.written_len in
+    let first : ℕ = c.args.self.now.first in
+    let i : ℕ = c.args.index in
+    let r : Reserved = c.index-r.result.now in
+    let s : Reserved = ended c.args.state r in
+    let there : slice_get rs i ≡ Some r = there_is rs i r (search rules) c.index-r.ensures in
+    let open_yet = c.requires.awaited r there in
+    let new : c.close.new.reserved.items ≡ set rs i s = c.close.ensures r there in
+    let len : length c.args.self.now.bytes.items ≡ length c.put_ending.new.buf.items = sym c.put_ending.ensures.len in
+    let before = c.args.self.now.before in
+    let behind : first ≤ i = c.if-index-self.false in
+    let none : one_ended i bs ≡ bs = none_ended i bs (omega (arith, behind, before)) in
+    let count : length c.close.new.reserved.items ≡ length rs = ap length new ∙ length-set rs i s in
+    record {
+      begun = omega (arith, len);
+      behind = (let le = c.args.self.now.behind in omega (arith, le, len));
+      within = still (λ x. x.from + x.len ≤ length c.put_ending.new.buf.items) rs _ i r c.args.state there new (λ x h. h) (subst (λ (n : ℕ). All (λ x. x.from + x.len ≤ n) rs) len c.args.self.now.within);
+      headed = still (λ x. (5 ≤ x.header_len) × (x.header_len ≤ x.len)) rs _ i r c.args.state there new (λ x h. h) c.args.self.now.headed;
+      numbered = (let le = c.args.self.now.numbered in omega (arith, le, count, len));
+      head = c.args.self.now.head;
+      are = subst (λ (l : List Sealed). AreSealed from c.close.new.reserved.items l) none
+          (subst (λ (l : List Reserved). AreSealed from l (one_ended i bs)) (sym new) (are_ended from rs bs i r there open_yet c.args.state c.requires.ends c.args.self.now.are));
+      begins = c.args.self.now.begins;
+      before = before;
+      parted = (let le = c.args.self.now.parted in omega (arith, le, count));
+      chain = subst (λ n. IsChain (max 20 c.args.self.now.begin) (drop first c.close.new.reserved.items) n) len
+          (subst (λ (l : List Reserved). IsChain (max 20 c.args.self.now.begin) (drop first l) (length c.args.self.now.bytes.items)) (sym new)
+          (chain_behind from rs bs i r there open_yet c.args.state c.requires.ends first behind (max 20 c.args.self.now.begin) (length c.args.self.now.bytes.items) c.args.self.now.chain));
+      counted = (let counted = c.args.self.now.counted in let less = fewer_behind from rs bs i r there open_yet c.args.state c.requires.ends first behind in let is = ap (λ (l : List Reserved). open_in (drop first l)) new in omega (arith, counted, less, is));
       few = (let most = c.args.self.now.few in omega (arith, most));
     }
+
+-- what is written stands where the reservation begins
+text_at : (buf new : List ℕ) (its r : Reserved) (rs : List Reserved) (i : ℕ) (whole : List ℕ) → its ≡ get_or rs i its → slice_get rs i ≡ Some r → new ≡ written buf its.from whole → new ≡ written buf r.from whole
+text_at buf new its r rs i whole is there put = put ∙ ap (λ (x : Reserved). written buf x.from whole) (is ∙ get_there rs i r its there)
+
+pub returns-then-index-self-clause-bytes : goal.returns-then-index-self-clause-bytes
+returns-then-index-self-clause-bytes c r there =
+    text_at c.args.self.now.bytes.items c.put_ending.new.buf.items c.index-r.result.now r c.args.self.now.reserved.items c.args.index (ending c.args.sum c.args.kind) c.index-r.ensures there c.put_ending.ensures.bytes
+
+pub returns-then-index-self-clause-sealed : goal.returns-then-index-self-clause-sealed
+returns-then-index-self-clause-sealed c =
+    let rs : List Reserved = c.args.self.now.reserved.items in
+    let bs : List Sealed = c.args.self.now.sealed.items in
+    let from : ℕ = c.args.self.now.written_len in
+    let r : Reserved = c.index-r.result.now in
+    let there : slice_get rs c.args.index ≡ Some r = there_is rs c.args.index r (search rules) c.index-r.ensures in
+    let theirs = c.if-index-self.true in
+    let before = c.args.self.now.before in
+    c.end_sealed.ensures from c.args.index rs (has_open from rs bs c.args.index r there (c.requires.awaited r there) c.args.self.now.are (omega (arith, theirs, before)) c.args.self.now.headed)
+
+pub returns-else-index-self-clause-bytes : goal.returns-else-index-self-clause-bytes
+returns-else-index-self-clause-bytes c r there =
+    text_at c.args.self.now.bytes.items c.put_ending.new.buf.items c.index-r.result.now r c.args.self.now.reserved.items c.args.index (ending c.args.sum c.args.kind) c.index-r.ensures there c.put_ending.ensures.bytes
+
+pub returns-else-index-self-clause-sealed : goal.returns-else-index-self-clause-sealed
+returns-else-index-self-clause-sealed c = let behind = c.if-index-self.false in let before = c.args.self.now.before in sym (none_ended c.args.index c.args.self.now.sealed.items (omega (arith, behind, before)))

@@ -1,7 +1,20 @@
--- None is open where none is counted.
-use Rattle.std.proofs.Common.{◌∙◌, ap, nat_eq}
-use Rattle.sled_core.proofs.Reserve.OpenCounts.{ended_is}
+-- None is open where none of the current buffer is counted, and no sealed one waits.
+use Rattle.std.proofs.Common.{◌≡◌, ◌∙◌, sym, ap, arith, drop, false, nat_eq}
+use Rattle.std.proofs.lemmas.Bool.Decides.{nat_tests}
+use Rattle.sled_core.specs.Buffers.{open_in}
+use Rattle.sled_core.specs.SealedBuffers.{sealed_count}
+use Rattle.sled_core.proofs.Sealed.SealedCounts.{none_open_is, some_open_is}
 use Rattle.sled_core.proofs.iobuf.IoBuf.none_open.Goals as goal
 
-pub returns : goal.returns
-returns c = ap (λ n. nat_eq n 0) c.args.self.now.counted ∙ ended_is c.args.self.now.reserved.items
+pub returns-then-self-eq0 : goal.returns-then-self-eq0
+returns-then-self-eq0 c =
+    let rs = c.args.self.now.reserved.items in
+    let bs = c.args.self.now.sealed.items in
+    let behind : open_in (drop (sealed_count bs) rs) ≡ 0 = ap (λ n. open_in (drop n rs)) (sym c.args.self.now.before) ∙ sym c.args.self.now.counted ∙ c.if-self-eq0.true in
+    none_open_is c.args.self.now.written_len rs bs c.all_ended.result c.args.self.now.are behind c.all_ended.ensures.0 c.all_ended.ensures.1
+
+pub returns-else-self-eq0 : goal.returns-else-self-eq0
+returns-else-self-eq0 c =
+    let some = c.if-self-eq0.false in
+    let counted : nat_eq c.args.self.now.open_count 0 ≡ false = grind (arith, nat_tests, some) in
+    counted ∙ some_open_is c.args.self.now.first c.args.self.now.reserved.items (λ none. some (c.args.self.now.counted ∙ none))

@@ -56,7 +56,7 @@ held_there g c H m holds there has at pointer =
     let device : State = state_of (g.D.Device.trace log.config.device) in
     let size : ℕ = log.config.config.segment_size in
     let place : c.unsigned_abs-place.result ≡ m.place = place_is g c ∙ ap unsigned_abs (sym at) in
-    let after = subst (λ (o : Option IoError). HoldsIn g.C.Checksum.sum_of (log_parts size log.site device o log.buffer.bytes.items log.buffer.written_len log.buffer.reserved.items) H) c.in_ok-settle.ensures.answers.1 (c.in_ok-settle.ensures.keeps.history H holds) in
+    let after = subst (λ (o : Option IoError). HoldsIn g.C.Checksum.sum_of (log_parts size log.site device o log.buffer.bytes.items log.buffer.written_len log.buffer.sealed.items log.buffer.reserved.items) H) c.in_ok-settle.ensures.answers.1 (c.in_ok-settle.ensures.keeps.history H holds) in
     let written : m.place < log.site.place + log.buffer.written_len = omega (arith, c.in_ok-settle.ensures.written, place) in
     let here : log.site.place ≡ old.site.place = ap (λ (x : SegmentPosition). x.place) c.in_ok-settle.ensures.position.site in
     let still : (log.site.place ≤ m.place) ⊎ ((cut : ℕ) × (stable_place after.begun.first.stable ≤ cut) × Contains (table H cut m.page) m) = elim (cases_lt m.place old.site.place) [
@@ -72,7 +72,7 @@ held_there g c H m holds there has at pointer =
       ]
     ] in
     let inline : m.pointer ≡ Inline (lid_of c.args.ptr) = pointer ∙ inline_is c.args.ptr c.requires.inline in
-    let found = held_record g.C.Checksum.sum_of size log.site device log.buffer.bytes.items log.buffer.written_len log.buffer.reserved.items H after m there written still (lid_of c.args.ptr) inline in
+    let found = held_record g.C.Checksum.sum_of size log.site device log.buffer.bytes.items log.buffer.written_len log.buffer.sealed.items log.buffer.reserved.items H after m there written still (lid_of c.args.ptr) inline in
     let number : c.unsigned_abs-place.result / c.args.self.now.config.config.segment_size ≡ m.place / size =
     ap (λ n. n / c.args.self.now.config.config.segment_size) place ∙ ap (λ n. m.place / n) (sym c.in_ok-settle.ensures.position.size) in
     subst (λ n. MessageStands g.C.Checksum.sum_of size device.log.bytes n (c.unsigned_abs-place.result / c.args.self.now.config.config.segment_size) m) (sym c.lid-lid.ensures)

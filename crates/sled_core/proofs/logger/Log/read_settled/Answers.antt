@@ -16,7 +16,7 @@ returns-clause-keeps g c =
     let size = ap (λ (x : Config). x.segment_size) answer.config in
     record {
       goes_on = goes_on_quietly g.D.Device.trace g.C.Checksum.sum_of old _ (record { config = answer.config; checksum = answer.checksum }) answer.trace (omega arith);
-      history = λ H holds. holds-answered g.C.Checksum.sum_of old.config.config.segment_size old.site (state_of (g.D.Device.trace old.config.device)) old.fault old.buffer.bytes.items old.buffer.written_len old.buffer.reserved.items H holds _ _ _
+      history = λ H holds. holds-answered g.C.Checksum.sum_of old.config.config.segment_size old.site (state_of (g.D.Device.trace old.config.device)) old.fault old.buffer.bytes.items old.buffer.written_len old.buffer.sealed.items old.buffer.reserved.items H holds _ _ _
           size (ap state_of answer.trace) c.requires.fault;
-      fits = λ H A f U fits. fits_answered g.C.Checksum.sum_of _ _ _ _ _ _ _ _ H A f U fits _ _ _ size (ap state_of answer.trace) c.requires.fault;
+      fits = λ H A f U fits. fits_answered g.C.Checksum.sum_of _ _ _ _ _ _ _ _ _ H A f U fits _ _ _ size (ap state_of answer.trace) c.requires.fault;
     }

@@ -1,8 +1,12 @@
 use Rattle.std.proofs.Common.{refl}
 use Rattle.sled_core.specs.Running.{Fits}
 use Rattle.sled_core.proofs.Holds.RunningLemmas.{fits-synced}
+use Rattle.sled_core.proofs.Holds.Writes.{reserved_past}
 use Rattle.sled_core.proofs.logger.Log.stable_offset.Goals as goal
 
 pub returns-clause-acknowledges : goal.returns-clause-acknowledges
 unfolding Fits
-returns-clause-acknowledges g c = λ H A f U fits. fits-synced _ _ _ _ _ _ _ _ _ H A f U fits _ refl
+returns-clause-acknowledges g c = λ H A f U fits. fits-synced _ _ _ _ _ _ _ _ _ _ H A f U fits _ refl
+
+pub returns-clause-reserved : goal.returns-clause-reserved
+returns-clause-reserved g c = reserved_past c.args.self.now

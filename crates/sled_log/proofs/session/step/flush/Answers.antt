@@ -1,8 +1,9 @@
 -- All that was reserved is written and synced, and all completed messages are acknowledged, unless memory is refused, the device fails, or the log keeps a failure.
-use Rattle.std.proofs.Common.{◌≡◌, ◌<◌, ◌+◌, ◌∙◌, ℕ, List, arith, subst, sym, ap, None, Some}
+use Rattle.std.proofs.Common.{◌≡◌, ◌<◌, ◌+◌, ◌∙◌, ℕ, List, arith, subst, sym, ap, None, Some, Ok, Err}
 use Rattle.sled_store.specs.Device.{Event, state_of}
 use Rattle.sled_store.specs.Script.{Performs, after_all}
-use Rattle.sled_core.specs.Fits.{IsKept, synced_end, fault_of, segment_size_of, device_of}
+use Rattle.sled_core.specs.Fits.{IsKept, held_below, reserved_len, synced_end, fault_of, segment_size_of, device_of}
+use Rattle.sled_core.proofs.Holds.Writes.{none_held, not_held}
 use Rattle.sled_core.proofs.Holds.ReachLemmas.{kept_past, fits_holds, fits_acknowledged}
 use Rattle.sled_log.specs.RunStates.{LogView, end_reserved, offset_in}
 use Rattle.sled_log.specs.declared.session.step.Phase.TheVariants as phase
@@ -27,8 +28,8 @@ returns-in-Ok-clause-step g c = λ k at.
     let ends : synced_end new ≡ end = c.in-Ok.ensures.whole ∙ fits_end c.args.opened trace sum H k.acknowledged k.floor at.unmarked at.fits in
     let fits = c.in-Ok.ensures.acknowledges H k.acknowledged k.floor at.unmarked at.fits in
     let kept = written_kept trace sum new H l.site end c.flush.ensures.position.site ends (c.in-Ok.ensures.records H holds) in
-    let asked = fits_flushing c.args.opened trace sum H k.acknowledged k.floor at.unmarked at.fits in
-    let answers = c.in-Ok.ensures.answers in
+    let asked = fits_flushing c.args.opened trace sum H k.acknowledged k.floor at.unmarked at.fits c.requires.no_open_batch.1 c.requires.no_open_batch.0 in
+    let answers = not_held old.site.place (held_below old (reserved_len old)) (Ok c.in-Ok.grown) (fault_of old) (fault_of new) _ _ (none_held old (reserved_len old) c.requires.no_open_batch.0) c.in-Ok.ensures.answers in
     let m : Unstored = record { history = H; acknowledged = synced_end new; floor = k.floor; reserved = None } in
     let growth : synced_end old + c.in-Ok.grown ≡ end = sym c.in-Ok.ensures.answer ∙ ends in
     record {
@@ -63,13 +64,13 @@ returns-in-Ok-clause-step g c = λ k at.
 pub returns-in-Ok-clause-on : goal.returns-in-Ok-clause-on
 returns-in-Ok-clause-on g c = record {
   runs_on = record { later = c.flush.ensures.keeps.goes_on.later; kept = c.flush.ensures.keeps.goes_on.config };
-  can_go_on = c.flush.ensures.ended;
+  can_go_on = (c.flush.ensures.tickets.ended c.requires.no_open_batch.0, c.flush.ensures.buffers.none c.requires.no_open_batch.1 c.requires.no_open_batch.0);
 }
 
 pub returns-in-Err-clause-on : goal.returns-in-Err-clause-on
 returns-in-Err-clause-on g c = record {
   runs_on = record { later = c.flush.ensures.keeps.goes_on.later; kept = c.flush.ensures.keeps.goes_on.config };
-  can_go_on = c.flush.ensures.ended;
+  can_go_on = (c.flush.ensures.tickets.ended c.requires.no_open_batch.0, c.flush.ensures.buffers.none c.requires.no_open_batch.1 c.requires.no_open_batch.0);
 }
 
 -- a flush that failed changes nothing of the history
@@ -81,7 +82,7 @@ returns-in-Err-clause-step g c = λ k at.
     let old = c.args.opened.log in
     let new = c.flush.new.self in
     let l : LogView = seen c.args.opened None in
-    let asked = fits_flushing c.args.opened trace sum k.history k.acknowledged k.floor at.unmarked at.fits in
+    let asked = fits_flushing c.args.opened trace sum k.history k.acknowledged k.floor at.unmarked at.fits c.requires.no_open_batch.1 c.requires.no_open_batch.0 in
     let position = c.flush.ensures.position in
     record {
       turn = λ out. cc;
@@ -93,12 +94,12 @@ returns-in-Err-clause-step g c = λ k at.
       );
       step = λ own. (
         k,
-        flush_failed sum (segment_size_of old) (stands view (phase.Open c.args.opened) k) l ℕ c.in-Err.e (fault_of new) (view new.config.device) _ c.in-Err.ensures.answers (λ i. record {
+        flush_failed sum (segment_size_of old) (stands view (phase.Open c.args.opened) k) l ℕ c.in-Err.e (fault_of new) (view new.config.device) _ (not_held {T = ℕ} old.site.place (held_below old (reserved_len old)) (Err c.in-Err.e) (fault_of old) (fault_of new) _ _ (none_held old (reserved_len old) c.requires.no_open_batch.0) c.in-Err.ensures.answers) (λ i. record {
           device = view new.config.device;
           history = k.history;
           acknowledged = k.acknowledged;
           floor = k.floor;
-          log = Some (record { site = position.site i; next = position.next i; stable = c.in-Err.ensures.err i; begun = c.args.opened.begun; fault = fault_of new; reserved = None });
+          log = Some (record { site = position.site i; next = position.next i; stable = c.in-Err.ensures.buffers.err c.requires.no_open_batch.1 i; begun = c.args.opened.begun; fault = fault_of new; reserved = None });
         }),
         record {
           formed = at.formed;

@@ -1,11 +1,14 @@
 -- A place is kept for a message, behind one of each lower page, unless the command is out of its turn, memory is refused or the log keeps a failure.
-use Rattle.std.proofs.Common.{rules, ◌≡◌, ◌≤◌, ◌<◌, ◌+◌, ◌-◌, ◌∙◌, ◌^◌, ℕ, pos, length, refl, sym, ap, subst, arith, None, Some, inl, inr}
+use Rattle.std.proofs.Common.{rules, ◌≡◌, ◌≤◌, ◌<◌, ◌+◌, ◌-◌, ◌∙◌, ◌^◌, ℕ, pos, List, drop, length, refl, sym, ap, subst, arith, None, Some, inl, inr}
 use Rattle.std.proofs.lemmas.List.Elements.{All-contains}
 use Rattle.sled_codec.specs.declared.serialization.message.LogKind.TheVariants.{Replace}
 use Rattle.sled_codec.specs.Spelling.{short_bytes}
 use Rattle.sled_codec.specs.History.{Message}
 use Rattle.sled_core.specs.declared.reservation.Reservation.{Reservation}
 use Rattle.sled_core.specs.Fits.{Awaits, IsLeastOpen, message_for, next_place, fault_of, open_of, segment_size_of}
+use Rattle.sled_core.specs.declared.iobuf.Sealed.{Sealed}
+use Rattle.sled_core.specs.Buffers.{open_in}
+use Rattle.sled_core.specs.SealedBuffers.{sealed_count}
 use Rattle.sled_core.proofs.Reserve.OpenCounts.{none_open_count}
 use Rattle.sled_core.proofs.Holds.ReachLemmas.{fits_reach, awaited, next_small}
 use Rattle.sled_log.specs.RunStates.{replace_at}
@@ -107,7 +110,7 @@ returns-in-Err-clause-step g c = λ k at.
       acts = device;
       step = λ own. (
         k,
-        replace_failed (segment_size_of old) (stands view (phase.Open c.args.opened) k) (seen c.args.opened None) page bytes Reservation c.in-Err.e (view new.config.device) _ (open_of old) (IsLeastOpen old) (none_open_count old.buffer.reserved.items c.requires.no_open_batch) c.in-Err.ensures.answers (λ i. record {
+        replace_failed (segment_size_of old) (stands view (phase.Open c.args.opened) k) (seen c.args.opened None) page bytes Reservation c.in-Err.e (view new.config.device) _ (open_of old) (IsLeastOpen old) (ap (λ (l : List Sealed). open_in (drop (sealed_count l) old.buffer.reserved.items)) c.requires.no_open_batch.1 ∙ none_open_count old.buffer.reserved.items c.requires.no_open_batch.0) c.in-Err.ensures.answers (λ i. record {
           device = device i;
           history = k.history;
           acknowledged = k.acknowledged;

@@ -5,7 +5,7 @@ use Rattle.sled_codec.specs.Snapshots.{SnapshotModel, model_of, stable_place}
 use Rattle.sled_store.specs.Device.{Trace, state_of}
 use Rattle.sled_store.specs.Script.{after_all}
 use Rattle.sled_store.proofs.Traces.MomentLemmas.{at_last}
-use Rattle.sled_core.specs.Fits.{NoneOpen, next_place, site_of, synced_end, pins_of, fault_of, device_of}
+use Rattle.sled_core.specs.Fits.{NoneOpen, NoneSealed, next_place, site_of, synced_end, pins_of, fault_of, device_of}
 use Rattle.sled_core.specs.Recoverable.{LeavesRecoverable}
 use Rattle.sled_core.specs.Starts.{site_from}
 use Rattle.sled_core.proofs.Start.StartedSite.{same_site}
@@ -63,7 +63,7 @@ returns-in-Ok-clause-on g c =
         later = later_both (trace c.args.config.device) (trace c.in-Ok.log.config.device) (trace c.pin-guard.new.self.config.device) c.in-Ok.ensures.later (later_is _ _ (ap (λ l. trace l.config.device) taken));
         kept = record { config = ap (λ l. l.config.config) taken ∙ c.in-Ok.ensures.config.config; checksum = ap (λ l. l.config.checksum) taken ∙ c.in-Ok.ensures.config.checksum };
       };
-      can_go_on = subst (λ l. NoneOpen l) (sym taken) c.in-Ok.ensures.begins.ended;
+      can_go_on = subst (λ l. NoneOpen l × NoneSealed l) (sym taken) (c.in-Ok.ensures.begins.ended, c.in-Ok.ensures.begins.unsealed);
     }
 
 -- a start that was refused left what can be recovered

@@ -1,0 +1,461 @@
+-- One of the sealed buffers of a log is written at its place, and synced: at each moment a crash leaves what can be recovered, and behind it the log fits the same history. The buffers at the front that are written leave the list.
+use Rattle.std.proofs.Common.{◌≡◌, ◌==◌, ◌⊎◌, ◌≤◌, ◌<◌, ◌+◌, ◌/◌, ◌^◌, ◌∙◌, ℕ, zero, suc, max, Bool, true, false, if◌then◌else◌, List, [], ◌∷◌, ◌++◌, length, take, drop, sym, ap, arith, refl, subst, inl, inr, Option, None, Some, append_assoc}
+use Rattle.std.specs.List.{All, Contains, slice_get}
+use Rattle.std.specs.declared.io.Error.{Error as IoError}
+use Rattle.std.proofs.lemmas.Bool.{cases_lt}
+use Rattle.std.proofs.lemmas.Bool.Decides.{nat_tests}
+use Rattle.std.proofs.lemmas.List.{take-append-drop}
+use Rattle.std.proofs.lemmas.List.Elements.{All-append, All-contains, All-drop, All-take, Contains-append_cases, Contains-append_left}
+use Rattle.sled_codec.specs.History.{Message, History, table}
+use Rattle.sled_codec.specs.Snapshots.{SnapshotModel, stable_place}
+use Rattle.sled_codec.specs.WellFormed.{LieApart}
+use Rattle.sled_store.specs.Device.{LogState, State, Wrote, Synced, LeavesLog, at_rest, overwritten, step}
+use Rattle.sled_store.specs.Foreign.{NoForeignLog}
+use Rattle.sled_store.specs.Script.{Along}
+use Rattle.sled_store.proofs.Histories.Ascending.{Ascends}
+use Rattle.sled_store.proofs.Segments.FitLemmas.{all_front}
+use Rattle.sled_core.specs.declared.iobuf.Reserved.{Reserved}
+use Rattle.sled_core.specs.declared.iobuf.Sealed.{Sealed}
+use Rattle.sled_core.specs.declared.iobuf.SegmentPosition.{SegmentPosition}
+use Rattle.sled_core.specs.Buffers.{IsChain, completed_in, Stands}
+use Rattle.sled_core.specs.Fits.{log_parts, HoldsIn, IsOnDevice, EndBelow}
+use Rattle.sled_core.specs.LogFile.{IsLogFile, padded}
+use Rattle.sled_core.specs.Reached.{StandsAlone}
+use Rattle.sled_core.specs.Recoverable.{LeavesRecoverable, NoHeaderOfZeros}
+use Rattle.sled_core.specs.Running.{FitsIn, NamesFit}
+use Rattle.sled_core.specs.SealedBuffers.{AreSealed, FirstUnwritten, Laid, sealed_end, now_written, written_at, run_end, run_count, behind_run, bytes_between, is_ready}
+use Rattle.sled_core.proofs.Reserve.CompletesLemmas.{some_long}
+use Rattle.sled_core.proofs.Reserve.Ranges.{chain_grows, completed-append, completed_between, there_split}
+use Rattle.sled_core.proofs.Flush.Completed.{all_apart, all_ascend, batches_to, has_only, inline_from, none_crosses}
+use Rattle.sled_core.proofs.Flush.FlushLemmas.{begun-more}
+use Rattle.sled_core.proofs.Flush.Padded.{padded_none}
+use Rattle.sled_core.proofs.Flush.Settled.{InlineFrom, rests}
+use Rattle.sled_core.proofs.Flush.SealedFile.{chain_done, file_beside, first_file, stop_up}
+use Rattle.sled_core.proofs.Reached.BufferPath.{HasOnly}
+use Rattle.sled_core.proofs.Reached.StandsTo.{StandsTo}
+use Rattle.sled_core.proofs.Sealed.BehindUnwritten.{torn_behind_unwritten}
+use Rattle.sled_core.proofs.Sealed.Ended.{chain_rest, ends_rise}
+use Rattle.sled_core.proofs.Sealed.HeadSealed.{torn_head_sealed}
+use Rattle.sled_core.proofs.Sealed.LaidLemmas.{EndsRise, ends_below}
+use Rattle.sled_core.proofs.Sealed.OneWritten.{has_written, laid_new, long, rises_at}
+use Rattle.sled_core.proofs.Sealed.Runs.{run_laid}
+use Rattle.sled_core.proofs.Sealed.SealedCalls.{first_alone, later_alone}
+use Rattle.sled_core.proofs.Sealed.WriteMoments as moments
+use Rattle.sled_core.proofs.Torn.TornLemmas.{after_write}
+
+-- the first ones of messages that lie apart do
+apart_front : (xs ys : List Message) → LieApart (xs ++ ys) → LieApart xs
+apart_front [] ys apart = tt
+apart_front (x ∷ xs) ys apart = (apart.0, all_front (λ n. x.place + x.size ≤ n.place) xs ys apart.1, apart_front xs ys apart.2)
+
+-- What is on a device stands in the log file that is read of it.
+on_file : (sum : List ℕ → ℕ) (size : ℕ) (device : LogState) (site : SegmentPosition) (from : ℕ) (messages : List Message) (entries : ℕ → List Message) → IsOnDevice sum size device site from messages entries
+    → IsLogFile sum size device.bytes site from messages entries
+on_file sum size device site from messages entries is = subst (λ (l : List ℕ). IsLogFile sum size l site from messages entries) (sym (ap (λ (s : LogState). s.bytes) is.settled)) is.file
+
+-- nothing was written of a segment, or its header was
+none_or_begun : (sum : List ℕ → ℕ) (size : ℕ) (log : List ℕ) (site : SegmentPosition) (from : ℕ) (messages : List Message) (entries : ℕ → List Message) → IsLogFile sum size log site from messages entries → (from ≡ 0) ⊎ (20 ≤ from)
+none_or_begun sum size log site from messages entries file = elim (cases_lt 0 from) [ inl some ↦ inr (file.begun some) | inr none ↦ inl (omega (arith, none)) ]
+
+-- buffers that end in a text end in a segment that is as long or longer
+rise_in : (from : ℕ) (rs : List Reserved) (bs : List Sealed) (to more : ℕ) → AreSealed from rs bs → EndsRise from bs to → to ≤ more → EndsRise from bs more
+rise_in from rs bs to more are rise up = let below = ends_below from bs to rise in ends_rise from rs bs more are (omega (arith, below.0, below.1, up)) (omega (arith, below.1, up))
+
+-- Where the first buffer isn't written there is no run at the front.
+no_run : (P : ℕ → List Sealed → List Reserved → Type 0) (from : ℕ) (x : Sealed) (xs : List Sealed) (rs : List Reserved) → x.is_written ≡ false → P from (x ∷ xs) rs
+    → P (run_end from (x ∷ xs)) (behind_run (x ∷ xs)) (drop (run_count (x ∷ xs)) rs)
+no_run P from x xs rs fresh all =
+    subst (λ (o : Bool). P (if o then run_end x.end xs else from) (if o then behind_run xs else x ∷ xs) (drop (if o then x.count + run_count xs else 0) rs)) (sym fresh) all
+
+-- A write to a log that fits, and the sync behind it, where what a crash leaves of the write stands as before, and all of it up to a place no lower.
+module _ (sum : List ℕ → ℕ) (size : ℕ) (site : SegmentPosition) (device : State) (fault : Option IoError) (bytes : List ℕ) (from : ℕ) (bs : List Sealed) (rs : List Reserved) (pins : ℕ) (H : History) (A f : ℕ) (U : List Message)
+    (fits : FitsIn sum (log_parts size site device fault bytes from bs rs) pins H A f U) (big : 256 ≤ size) (whole : fault ≡ None) (to : ℕ) (up : from ≤ to) (at : ℕ) (asked : List ℕ)
+    (torn : NoHeaderOfZeros sum → StandsAlone sum size device.log.bytes site from H fits.holds.begun.first → (now left : List ℕ) → length now ≤ length asked → LeavesLog (after_write device.log.bytes at asked now) left
+    → (placed : List (ℕ × List ℕ)) → NoForeignLog sum size (after_write device.log.bytes at asked now) placed left → StandsTo sum size left H (site.place + from) fits.holds.begun.first (site.place + from))
+    (alone : NoHeaderOfZeros sum → StandsAlone sum size (padded site.slot device.log.bytes) site from H fits.holds.begun.first → StandsAlone sum size (overwritten device.log.bytes at asked) site to H fits.holds.begun.first) where
+  abbrev after_sync : State
+  after_sync = step Synced (step (Wrote at asked asked) device)
+
+  -- the log file is at rest
+  rest_now : device.log ≡ at_rest device.log.bytes
+  rest_now = let on_device = fits.holds.written whole in rests device.log on_device.log on_device.settled
+
+  ordered : Ascends H.messages
+  ordered = all_ascend sum size site device fault bytes from bs rs H fits.holds
+
+  inline : InlineFrom H (site.place + from)
+  inline = inline_from sum size site device fault bytes from bs rs H fits.holds
+
+  torn_now : NoHeaderOfZeros sum → (now left : List ℕ) → length now ≤ length asked → LeavesLog (after_write device.log.bytes at asked now) left → (placed : List (ℕ × List ℕ))
+      → NoForeignLog sum size (after_write device.log.bytes at asked now) placed left → StandsTo sum size left H (site.place + from) fits.holds.begun.first (site.place + from)
+  torn_now zeros = torn zeros (fits.alone whole zeros)
+
+  alone_now : NoHeaderOfZeros sum → StandsAlone sum size (overwritten device.log.bytes at asked) site to H fits.holds.begun.first
+  alone_now zeros = alone zeros (fits.beyond whole zeros)
+
+  along_behind : Along (LeavesRecoverable sum size H (site.place + from) f) (Wrote at asked asked ∷ Synced ∷ []) device
+  along_behind = moments.write_along sum size big device rest_now site from to up H f fits.holds.begun.first ordered inline fits.names fits.blobs fits.left at asked torn_now alone_now
+
+  fits_behind : site.slot ≤ length (overwritten device.log.bytes at asked) → (cs : List Sealed) (others : List Reserved) (holds : HoldsIn sum (log_parts size site after_sync fault bytes to cs others) H)
+      → holds.begun.first ≡ fits.holds.begun.first → (A' : ℕ) → A' ≤ site.place + to → FitsIn sum (log_parts size site after_sync fault bytes to cs others) pins H A' f U
+  fits_behind reaches cs others holds same A' passes =
+      let new : List ℕ = overwritten device.log.bytes at asked in
+      let stands : NoHeaderOfZeros sum → StandsAlone sum size new site to H holds.begun.first = λ zeros. subst (λ (s : SnapshotModel). StandsAlone sum size new site to H s) (sym same) (alone_now zeros) in
+      record {
+        holds = holds;
+        alone = λ none zeros. stands zeros;
+        beyond = λ none zeros. subst (λ (l : List ℕ). StandsAlone sum size l site to H holds.begun.first) (sym (padded_none site.slot new reaches)) (stands zeros);
+        blobs = moments.blobs_up sum size big device rest_now site from to up H f fits.holds.begun.first ordered inline fits.names fits.blobs fits.left at asked torn_now alone_now;
+        names = subst (λ (s : SnapshotModel). NamesFit sum size device.snapshots H f s) (sym same) fits.names;
+        passes = passes;
+        pinned = fits.pinned;
+        left = moments.synced_leaves sum size big device rest_now site from to up H f fits.holds.begun.first ordered inline fits.names fits.blobs fits.left at asked torn_now alone_now;
+      }
+
+-- The first buffer is written.
+module _ (sum : List ℕ → ℕ) (size : ℕ) (site : SegmentPosition) (device : State) (fault : Option IoError) (bytes : List ℕ) (from : ℕ) (b : Sealed) (rest : List Sealed) (rs : List Reserved) (H : History)
+    (holds : HoldsIn sum (log_parts size site device fault bytes from (b ∷ rest) rs) H)
+    (short : length bytes ≤ size) (big : 256 ≤ size) (place_small : site.place + size < 2 ^ 63) (slot_small : site.slot + size < 2 ^ 63)
+    (are : AreSealed from rs (b ∷ rest)) (fresh : b.is_written ≡ false) (closed : b.open_count ≡ 0) (rise : EndsRise from (b ∷ rest) (length bytes)) (whole : fault ≡ None) where
+  -- where those end that are written now, and how many reservations they have
+  abbrev stop : ℕ
+  stop = run_end b.end rest
+
+  abbrev count : ℕ
+  count = b.count + run_count rest
+
+  abbrev done : List Reserved
+  done = take count rs
+
+  abbrev others : List Reserved
+  others = drop count rs
+
+  abbrev asked : List ℕ
+  asked = bytes_between bytes from b.end
+
+  abbrev old : List ℕ
+  old = device.log.bytes
+
+  abbrev new_log : List ℕ
+  new_log = overwritten old (site.slot + from) asked
+
+  abbrev entries : ℕ → List Message
+  entries = table H (stable_place holds.begun.first.stable)
+
+  -- the messages that are written then
+  abbrev earlier_now : List Message
+  earlier_now = holds.earlier ++ completed_in site bytes done
+
+  inside : b.end ≤ length bytes
+  inside = let below = ends_below b.end rest (length bytes) rise.1 in omega (arith, below.0, below.1)
+
+  rise_size : EndsRise from (b ∷ rest) size
+  rise_size = rise_in from rs (b ∷ rest) (length bytes) size are rise short
+
+  up : (from ≤ stop) × (20 ≤ stop) × (b.end ≤ stop)
+  up = stop_up from rs b rest closed are
+
+  chain_others : IsChain stop others (length bytes)
+  chain_others = chain_rest (max 20 from) (length bytes) rs count stop holds.chain (chain_done from rs b rest closed are)
+
+  messages_now : H.messages ≡ earlier_now ++ completed_in site bytes others
+  messages_now = holds.messages ∙ ap (λ (l : List Reserved). holds.earlier ++ completed_in site bytes l) (sym (take-append-drop count rs))
+      ∙ ap (λ (ms : List Message). holds.earlier ++ ms) (completed-append site bytes done others) ∙ sym (append_assoc holds.earlier (completed_in site bytes done) (completed_in site bytes others))
+
+  stand_done : All (Stands sum (site.place / size) bytes) done
+  stand_done = All-take (Stands sum (site.place / size) bytes) count rs holds.stand
+
+  below_now : EndBelow (site.place + stop) earlier_now
+  below_now =
+      let above = up.0 in
+      let late = completed_between site bytes (max 20 from) stop done (chain_done from rs b rest closed are) (some_long sum (site.place / size) bytes done stand_done) in
+      All-append (λ (m : Message). (m.place < site.place + stop) × (m.place + m.size ≤ site.place + stop)) holds.earlier (completed_in site bytes done)
+      (λ k d lt. let low = holds.below k d lt in (omega (arith, low.0, above), omega (arith, low.1, above)))
+      (λ k d lt. let low = late k d lt in (low.1, low.2))
+
+  file_old : IsLogFile sum size old site from holds.earlier entries
+  file_old = on_file sum size device.log site from holds.earlier entries (holds.written whole)
+
+  first_begins : (from ≡ 0) ⊎ (20 ≤ from)
+  first_begins = none_or_begun sum size old site from holds.earlier entries file_old
+
+  -- Once it is synced the log holds the same.
+  holds_first : (new : State) → new.log ≡ at_rest new_log → new.snapshots.file ≡ device.snapshots.file → HoldsIn sum (log_parts size site new fault bytes stop (behind_run rest) others) H
+  holds_first new is names = record {
+    earlier = earlier_now;
+    messages = messages_now;
+    below = below_now;
+    apart = apart_front earlier_now (completed_in site bytes others) (subst LieApart messages_now (all_apart sum size site device fault bytes from (b ∷ rest) rs H holds));
+    batches = batches_to sum size site device fault bytes from (b ∷ rest) rs H holds (site.place + stop) (let above = up.0 in omega (arith, above));
+    place_begins = holds.place_begins;
+    slot_begins = holds.slot_begins;
+    header = λ none. absurd (let some = up.1 in omega (arith, none, some));
+    chain = let some = up.1 in let same : stop ≡ max 20 stop = omega (arith, some) in subst (λ n. IsChain n others (length bytes)) same chain_others;
+    stand = All-drop (Stands sum (site.place / size) bytes) count rs holds.stand;
+    room = All-drop (λ (r : Reserved). r.from + 32 ≤ size) count rs holds.room;
+    begun = begun-more sum size device.snapshots.file new.snapshots.file site from stop H names up.0 holds.begun;
+    written = λ none. record {
+      log = new_log;
+      settled = is;
+      file = first_file sum size big old site holds.place_begins holds.slot_begins place_small slot_small bytes from first_begins rs b rest fresh closed are rise_size inside holds.stand holds.room holds.header (holds.laid whole)
+          holds.earlier entries file_old;
+    };
+    laid = λ none. subst (λ (s : LogState). Laid s.bytes site.slot bytes stop (behind_run rest) size) (sym is)
+        (run_laid new_log site.slot bytes from (now_written b ∷ rest) size (laid_new old site.slot bytes from [] b rest size rise_size inside (holds.laid whole)));
+  }
+
+  -- and it began from the same snapshot
+  first_same : (new : State) (is : new.log ≡ at_rest new_log) (names : new.snapshots.file ≡ device.snapshots.file) → (holds_first new is names).begun.first ≡ holds.begun.first
+  unfolding holds_first
+  first_same new is names = refl
+
+  -- Of the history those are all that begins in what is written then.
+  has_first : HasOnly H (completed_in site bytes done) (site.place + max 20 from) (site.place + stop)
+  has_first =
+      let all = has_only sum size site device fault bytes from (b ∷ rest) rs H holds in
+      let far = chain_grows stop (length bytes) others chain_others in
+      let parts : completed_in site bytes rs ≡ completed_in site bytes done ++ completed_in site bytes others =
+      ap (λ (l : List Reserved). completed_in site bytes l) (sym (take-append-drop count rs)) ∙ completed-append site bytes done others in
+      let behind = completed_between site bytes stop (length bytes) others chain_others (some_long sum (site.place / size) bytes others (All-drop (Stands sum (site.place / size) bytes) count rs holds.stand)) in
+      record {
+        there = λ m among. all.there m (subst (λ (ms : List Message). Contains ms m) (sym parts) (Contains-append_left (completed_in site bytes done) (completed_in site bytes others) m among));
+        only = λ m among. elim (all.only m among) [
+          | inl one ↦ elim (Contains-append_cases (completed_in site bytes done) (completed_in site bytes others) m (subst (λ (ms : List Message). Contains ms m) parts one)) [
+            | inl here ↦ inl here
+            | inr later ↦ (let among_others = All-contains (λ (y : Message). (site.place + stop ≤ y.place) × (y.place < site.place + length bytes) × (y.place + y.size ≤ site.place + length bytes)) (completed_in site bytes others) m behind later in inr (inr among_others.0))
+          ]
+          | inr (inl before) ↦ inr (inl before)
+          | inr (inr after) ↦ inr (inr (omega (arith, after, far)))
+        ];
+        no_batch = λ c among. elim (all.no_batch c among) [ inl before ↦ inl before | inr after ↦ inr (omega (arith, after, far)) ];
+      }
+
+  -- What a crash leaves of the write.
+  torn_first : NoHeaderOfZeros sum → StandsAlone sum size old site from H holds.begun.first → (now left : List ℕ) → length now ≤ length asked → LeavesLog (after_write old (site.slot + from) asked now) left → (placed : List (ℕ × List ℕ))
+      → NoForeignLog sum size (after_write old (site.slot + from) asked now) placed left → StandsTo sum size left H (site.place + from) holds.begun.first (site.place + from)
+  torn_first zeros alone now left no_more leaves placed only_own =
+      torn_head_sealed sum zeros size big old site holds.place_begins holds.slot_begins place_small slot_small bytes from first_begins rs b rest fresh closed are rise_size inside holds.stand holds.room holds.header (holds.laid whole)
+      H holds.begun.first alone has_first now left no_more leaves {placed = placed} only_own
+
+  -- All of it.
+  alone_first : NoHeaderOfZeros sum → StandsAlone sum size (padded site.slot old) site from H holds.begun.first → StandsAlone sum size new_log site stop H holds.begun.first
+  alone_first zeros beyond =
+      first_alone sum size big old site holds.place_begins holds.slot_begins place_small slot_small bytes from first_begins rs b rest fresh closed are rise_size inside holds.stand holds.room holds.header file_old.header (holds.laid whole)
+      zeros H holds.begun.first beyond has_first (all_ascend sum size site device fault bytes from (b ∷ rest) rs H holds) holds.begun.least
+      (none_crosses sum size site device fault bytes from (b ∷ rest) rs H holds (site.place + stop) (let above = up.0 in omega (arith, above)))
+
+  -- so the file reaches its slot
+  reaches_first : site.slot ≤ length new_log
+  reaches_first = let agrees = has_written old site.slot bytes from [] b rest size rise_size inside in let in_file = agrees.in_file in omega (arith, in_file)
+
+-- Another one is written, behind a first one that isn't.
+module _ (sum : List ℕ → ℕ) (size : ℕ) (site : SegmentPosition) (device : State) (fault : Option IoError) (bytes : List ℕ) (from : ℕ) (x : Sealed) (xs : List Sealed) (b : Sealed) (rest : List Sealed) (rs : List Reserved) (H : History)
+    (holds : HoldsIn sum (log_parts size site device fault bytes from (x ∷ xs ++ b ∷ rest) rs) H)
+    (short : length bytes ≤ size) (big : 256 ≤ size) (place_small : site.place + size < 2 ^ 63) (slot_small : site.slot + size < 2 ^ 63)
+    (are : AreSealed from rs (x ∷ xs ++ b ∷ rest)) (rise : EndsRise from (x ∷ xs ++ b ∷ rest) (length bytes)) (whole : fault ≡ None) where
+  -- where it begins
+  abbrev at : ℕ
+  at = sealed_end x.end xs
+
+  abbrev asked_later : List ℕ
+  asked_later = bytes_between bytes at b.end
+
+  abbrev old_later : List ℕ
+  old_later = device.log.bytes
+
+  abbrev new_later : List ℕ
+  new_later = overwritten old_later (site.slot + at) asked_later
+
+  abbrev entries_later : ℕ → List Message
+  entries_later = table H (stable_place holds.begun.first.stable)
+
+  lies : (from ≤ at) × (at < b.end) × (b.end ≤ length bytes)
+  lies = rises_at from (x ∷ xs) b rest (length bytes) rise
+
+  rise_later : EndsRise from (x ∷ xs ++ b ∷ rest) size
+  rise_later = rise_in from rs (x ∷ xs ++ b ∷ rest) (length bytes) size are rise short
+
+  covers : at + length asked_later ≤ size
+  covers = let l = long old_later site.slot bytes from (x ∷ xs) b rest size rise_later lies.2 in let in_text = lies.2 in omega (arith, l, in_text, short)
+
+  file_later : IsLogFile sum size old_later site from holds.earlier entries_later
+  file_later = on_file sum size device.log site from holds.earlier entries_later (holds.written whole)
+
+  later_begins : (from ≡ 0) ⊎ (20 ≤ from)
+  later_begins = none_or_begun sum size old_later site from holds.earlier entries_later file_later
+
+  -- Once it is synced the log holds the same.
+  holds_later : (new : State) → new.log ≡ at_rest new_later → new.snapshots.file ≡ device.snapshots.file → HoldsIn sum (log_parts size site new fault bytes from (x ∷ xs ++ now_written b ∷ rest) rs) H
+  holds_later new is names = record {
+    earlier = holds.earlier;
+    messages = holds.messages;
+    below = holds.below;
+    apart = holds.apart;
+    batches = holds.batches;
+    place_begins = holds.place_begins;
+    slot_begins = holds.slot_begins;
+    header = holds.header;
+    chain = holds.chain;
+    stand = holds.stand;
+    room = holds.room;
+    begun = begun-more sum size device.snapshots.file new.snapshots.file site from from H names (omega arith) holds.begun;
+    written = λ none. record { log = new_later; settled = is; file = file_beside sum size site old_later at asked_later from holds.earlier entries_later file_later lies.0 covers };
+    laid = λ none. subst (λ (s : LogState). Laid s.bytes site.slot bytes from (x ∷ xs ++ now_written b ∷ rest) size) (sym is)
+        (laid_new old_later site.slot bytes from (x ∷ xs) b rest size rise_later lies.2 (holds.laid whole));
+  }
+
+  -- and it began from the same snapshot
+  later_same : (new : State) (is : new.log ≡ at_rest new_later) (names : new.snapshots.file ≡ device.snapshots.file) → (holds_later new is names).begun.first ≡ holds.begun.first
+  unfolding holds_later
+  later_same new is names = refl
+
+  -- a record is longer than its sum and its kind
+  long_records : All (λ r. 5 ≤ r.len) rs
+  long_records k d lt = let s = holds.stand k d lt in let h = s.headed in let l = s.long in omega (arith, h, l)
+
+  -- What a crash leaves of the write.
+  torn_later : x.is_written ≡ false → NoHeaderOfZeros sum → StandsAlone sum size old_later site from H holds.begun.first → (now left : List ℕ) → length now ≤ length asked_later
+      → LeavesLog (after_write old_later (site.slot + at) asked_later now) left → (placed : List (ℕ × List ℕ)) → NoForeignLog sum size (after_write old_later (site.slot + at) asked_later now) placed left
+      → StandsTo sum size left H (site.place + from) holds.begun.first (site.place + from)
+  torn_later fresh zeros alone now left no_more leaves placed only_own =
+      torn_behind_unwritten sum zeros size big old_later site holds.slot_begins bytes from later_begins rs x xs b rest fresh are rise_later lies.2 long_records holds.room H holds.begun.first old_later (holds.laid whole)
+      alone now left no_more leaves {placed = placed} only_own
+
+  -- All of it.
+  alone_later : x.is_written ≡ false → NoHeaderOfZeros sum → StandsAlone sum size (padded site.slot old_later) site from H holds.begun.first → StandsAlone sum size new_later site from H holds.begun.first
+  alone_later fresh zeros beyond = later_alone sum size big old_later site holds.place_begins holds.slot_begins place_small slot_small bytes from later_begins rs x xs b rest fresh are rise_later lies.2 long_records holds.room (holds.laid whole)
+      zeros H holds.begun.first beyond
+
+  -- so the file reaches its slot
+  reaches_later : site.slot ≤ length new_later
+  reaches_later = let agrees = has_written old_later site.slot bytes from (x ∷ xs) b rest size rise_later lies.2 in let in_file = agrees.in_file in omega (arith, in_file)
+
+-- One of them is written, whichever it is.
+holds_around : (sum : List ℕ → ℕ) (size : ℕ) (site : SegmentPosition) (device : State) (fault : Option IoError) (bytes : List ℕ) (from : ℕ) (front : List Sealed) (b : Sealed) (rest : List Sealed) (rs : List Reserved) (H : History)
+    → HoldsIn sum (log_parts size site device fault bytes from (front ++ b ∷ rest) rs) H
+    → length bytes ≤ size → 256 ≤ size → site.place + size < 2 ^ 63 → site.slot + size < 2 ^ 63 → AreSealed from rs (front ++ b ∷ rest) → FirstUnwritten (front ++ b ∷ rest) → b.open_count ≡ 0 → EndsRise from (front ++ b ∷ rest) (length bytes) → fault ≡ None
+    → (new : State) → new.log ≡ at_rest (overwritten device.log.bytes (site.slot + sealed_end from front) (bytes_between bytes (sealed_end from front) b.end)) → new.snapshots.file ≡ device.snapshots.file
+    → HoldsIn sum (log_parts size site new fault bytes (run_end from (front ++ now_written b ∷ rest)) (behind_run (front ++ now_written b ∷ rest)) (drop (run_count (front ++ now_written b ∷ rest)) rs)) H
+holds_around sum size site device fault bytes from [] b rest rs H holds short big place_small slot_small are fresh closed rise whole new is names =
+    holds_first sum size site device fault bytes from b rest rs H holds short big place_small slot_small are fresh closed rise whole new is names
+holds_around sum size site device fault bytes from (x ∷ xs) b rest rs H holds short big place_small slot_small are fresh closed rise whole new is names =
+    no_run (λ n cs l. HoldsIn sum (log_parts size site new fault bytes n cs l) H) from x (xs ++ now_written b ∷ rest) rs fresh (holds_later sum size site device fault bytes from x xs b rest rs H holds short big place_small slot_small are rise whole new is names)
+
+module _ (sum : List ℕ → ℕ) (size : ℕ) (site : SegmentPosition) (device : State) (fault : Option IoError) (bytes : List ℕ) (from : ℕ) (b : Sealed) (rest : List Sealed) (rs : List Reserved) (pins : ℕ) (H : History) (A f : ℕ) (U : List Message)
+    (short : length bytes ≤ size) (big : 256 ≤ size) (place_small : site.place + size < 2 ^ 63) (slot_small : site.slot + size < 2 ^ 63) (closed : b.open_count ≡ 0) (whole : fault ≡ None) where
+  -- its bytes, behind others
+  abbrev asked_behind : List Sealed → List ℕ
+  asked_behind front = bytes_between bytes (sealed_end from front) b.end
+
+  -- At each moment of the two calls a crash leaves what can be recovered.
+  along_around : (front : List Sealed) → FitsIn sum (log_parts size site device fault bytes from (front ++ b ∷ rest) rs) pins H A f U → AreSealed from rs (front ++ b ∷ rest) → FirstUnwritten (front ++ b ∷ rest) → EndsRise from (front ++ b ∷ rest) (length bytes)
+      → Along (LeavesRecoverable sum size H (site.place + from) f) (Wrote (site.slot + sealed_end from front) (asked_behind front) (asked_behind front) ∷ Synced ∷ []) device
+  along_around [] fits are fresh rise =
+      along_behind sum size site device fault bytes from (b ∷ rest) rs pins H A f U fits big whole (run_end b.end rest) (stop_up from rs b rest closed are).0
+      (site.slot + from) (asked_behind []) (torn_first sum size site device fault bytes from b rest rs H fits.holds short big place_small slot_small are fresh closed rise whole)
+      (alone_first sum size site device fault bytes from b rest rs H fits.holds short big place_small slot_small are fresh closed rise whole)
+  along_around (x ∷ xs) fits are fresh rise =
+      along_behind sum size site device fault bytes from (x ∷ xs ++ b ∷ rest) rs pins H A f U fits big whole from (omega arith)
+      (site.slot + sealed_end x.end xs) (asked_behind (x ∷ xs)) (torn_later sum size site device fault bytes from x xs b rest rs H fits.holds short big place_small slot_small are rise whole fresh)
+      (alone_later sum size site device fault bytes from x xs b rest rs H fits.holds short big place_small slot_small are rise whole fresh)
+
+  abbrev after_behind : List Sealed → State
+  after_behind front = step Synced (step (Wrote (site.slot + sealed_end from front) (asked_behind front) (asked_behind front)) device)
+
+  -- Behind them the log fits.
+  fits_around : (front : List Sealed) → FitsIn sum (log_parts size site device fault bytes from (front ++ b ∷ rest) rs) pins H A f U → AreSealed from rs (front ++ b ∷ rest) → FirstUnwritten (front ++ b ∷ rest) → EndsRise from (front ++ b ∷ rest) (length bytes)
+      → (A' : ℕ) → A' ≤ site.place + run_end from (front ++ now_written b ∷ rest)
+      → FitsIn sum (log_parts size site (after_behind front) fault bytes (run_end from (front ++ now_written b ∷ rest)) (behind_run (front ++ now_written b ∷ rest)) (drop (run_count (front ++ now_written b ∷ rest)) rs)) pins H A' f U
+  fits_around [] fits are fresh rise A' =
+      fits_behind sum size site device fault bytes from (b ∷ rest) rs pins H A f U fits big whole (run_end b.end rest) (stop_up from rs b rest closed are).0
+      (site.slot + from) (asked_behind []) (torn_first sum size site device fault bytes from b rest rs H fits.holds short big place_small slot_small are fresh closed rise whole)
+      (alone_first sum size site device fault bytes from b rest rs H fits.holds short big place_small slot_small are fresh closed rise whole)
+      (reaches_first sum size site device fault bytes from b rest rs H fits.holds short big place_small slot_small are fresh closed rise whole) (behind_run rest) (drop (b.count + run_count rest) rs)
+      (holds_first sum size site device fault bytes from b rest rs H fits.holds short big place_small slot_small are fresh closed rise whole (after_behind []) refl refl)
+      (first_same sum size site device fault bytes from b rest rs H fits.holds short big place_small slot_small are fresh closed rise whole (after_behind []) refl refl) A'
+  fits_around (x ∷ xs) fits are fresh rise A' =
+      no_run (λ n cs others. A' ≤ site.place + n → FitsIn sum (log_parts size site (after_behind (x ∷ xs)) fault bytes n cs others) pins H A' f U) from x (xs ++ now_written b ∷ rest) rs fresh
+      (fits_behind sum size site device fault bytes from (x ∷ xs ++ b ∷ rest) rs pins H A f U fits big whole from (omega arith)
+      (site.slot + sealed_end x.end xs) (asked_behind (x ∷ xs)) (torn_later sum size site device fault bytes from x xs b rest rs H fits.holds short big place_small slot_small are rise whole fresh)
+      (alone_later sum size site device fault bytes from x xs b rest rs H fits.holds short big place_small slot_small are rise whole fresh)
+      (reaches_later sum size site device fault bytes from x xs b rest rs H fits.holds short big place_small slot_small are rise whole) (x ∷ xs ++ now_written b ∷ rest) rs
+      (holds_later sum size site device fault bytes from x xs b rest rs H fits.holds short big place_small slot_small are rise whole (after_behind (x ∷ xs)) refl refl)
+      (later_same sum size site device fault bytes from x xs b rest rs H fits.holds short big place_small slot_small are rise whole (after_behind (x ∷ xs)) refl refl) A')
+
+-- a list once the one at an index is written, and around it
+written_split : (k : ℕ) (bs : List Sealed) (b : Sealed) → slice_get bs k ≡ Some b → written_at k bs ≡ take k bs ++ now_written b ∷ drop (suc k) bs
+written_split zero [] b there = cc
+written_split (suc k) [] b there = cc
+written_split zero (x ∷ xs) b there = let same : x ≡ b = cc in ap (λ y. now_written y ∷ xs) same
+written_split (suc k) (x ∷ xs) b there = ap (λ (l : List Sealed). x ∷ l) (written_split k xs b there)
+
+-- one that is ready has no open reservation
+ready_closed : (b : Sealed) → is_ready b ≡ true → b.open_count ≡ 0
+ready_closed b ready = by_test b.is_written ready where
+  by_test : (o : Bool) → (if o then false else b.open_count == 0) ≡ true → b.open_count ≡ 0
+  by_test true is = absurd (let never : ⊥ = cc in never)
+  by_test false is = grind (arith, nat_tests, is)
+
+module _ (sum : List ℕ → ℕ) (size : ℕ) (site : SegmentPosition) (device : State) (fault : Option IoError) (bytes : List ℕ) (from : ℕ) (bs : List Sealed) (rs : List Reserved) (H : History)
+    (holds : HoldsIn sum (log_parts size site device fault bytes from bs rs) H)
+    (short : length bytes ≤ size) (big : 256 ≤ size) (place_small : site.place + size < 2 ^ 63) (slot_small : site.slot + size < 2 ^ 63)
+    (are : AreSealed from rs bs) (fresh : FirstUnwritten bs) (rise : EndsRise from bs (length bytes)) (whole : fault ≡ None) (k : ℕ) (b : Sealed) (there : slice_get bs k ≡ Some b) (ready : is_ready b ≡ true) where
+  -- where it begins
+  abbrev begins_at : ℕ
+  begins_at = sealed_end from (take k bs)
+
+  abbrev its_bytes : List ℕ
+  its_bytes = bytes_between bytes begins_at b.end
+
+  abbrev now : List Sealed
+  now = written_at k bs
+
+  split : bs ≡ take k bs ++ b ∷ drop (suc k) bs
+  split = there_split bs k b there
+
+  -- Once one that is ready is written and synced, the log holds the same.
+  pub holds_written_one : (new : State) → new.log ≡ at_rest (overwritten device.log.bytes (site.slot + begins_at) its_bytes) → new.snapshots.file ≡ device.snapshots.file
+      → HoldsIn sum (log_parts size site new fault bytes (run_end from now) (behind_run now) (drop (run_count now) rs)) H
+  holds_written_one new is names =
+      subst (λ (cs : List Sealed). HoldsIn sum (log_parts size site new fault bytes (run_end from cs) (behind_run cs) (drop (run_count cs) rs)) H) (sym (written_split k bs b there))
+      (holds_around sum size site device fault bytes from (take k bs) b (drop (suc k) bs) rs H (subst (λ (cs : List Sealed). HoldsIn sum (log_parts size site device fault bytes from cs rs) H) split holds) short big place_small slot_small
+      (subst (λ (cs : List Sealed). AreSealed from rs cs) split are) (subst FirstUnwritten split fresh) (ready_closed b ready) (subst (λ (cs : List Sealed). EndsRise from cs (length bytes)) split rise) whole new is names)
+
+module _ (sum : List ℕ → ℕ) (size : ℕ) (site : SegmentPosition) (device : State) (fault : Option IoError) (bytes : List ℕ) (from : ℕ) (bs : List Sealed) (rs : List Reserved) (pins : ℕ) (H : History) (A f : ℕ) (U : List Message)
+    (fits : FitsIn sum (log_parts size site device fault bytes from bs rs) pins H A f U)
+    (short : length bytes ≤ size) (big : 256 ≤ size) (place_small : site.place + size < 2 ^ 63) (slot_small : site.slot + size < 2 ^ 63)
+    (are : AreSealed from rs bs) (fresh : FirstUnwritten bs) (rise : EndsRise from bs (length bytes)) (whole : fault ≡ None) (k : ℕ) (b : Sealed) (there : slice_get bs k ≡ Some b) (ready : is_ready b ≡ true) where
+  abbrev at_one : ℕ
+  at_one = sealed_end from (take k bs)
+
+  abbrev asked_one : List ℕ
+  asked_one = bytes_between bytes at_one b.end
+
+  abbrev now_one : List Sealed
+  now_one = written_at k bs
+
+  abbrev synced_one : State
+  synced_one = step Synced (step (Wrote (site.slot + at_one) asked_one asked_one) device)
+
+  split_one : bs ≡ take k bs ++ b ∷ drop (suc k) bs
+  split_one = there_split bs k b there
+
+  fits_split : FitsIn sum (log_parts size site device fault bytes from (take k bs ++ b ∷ drop (suc k) bs) rs) pins H A f U
+  fits_split = subst (λ (cs : List Sealed). FitsIn sum (log_parts size site device fault bytes from cs rs) pins H A f U) split_one fits
+
+  are_split : AreSealed from rs (take k bs ++ b ∷ drop (suc k) bs)
+  are_split = subst (λ (cs : List Sealed). AreSealed from rs cs) split_one are
+
+  rise_split : EndsRise from (take k bs ++ b ∷ drop (suc k) bs) (length bytes)
+  rise_split = subst (λ (cs : List Sealed). EndsRise from cs (length bytes)) split_one rise
+
+  -- At each moment of the write of one that is ready, and of the sync, a crash leaves what can be recovered.
+  pub write_along : Along (LeavesRecoverable sum size H (site.place + from) f) (Wrote (site.slot + at_one) asked_one asked_one ∷ Synced ∷ []) device
+  write_along = along_around sum size site device fault bytes from b (drop (suc k) bs) rs pins H A f U short big place_small slot_small (ready_closed b ready) whole (take k bs) fits_split are_split (subst FirstUnwritten split_one fresh) rise_split
+
+  -- Behind them the log fits, with all that is written up to the end of the run for what was acknowledged.
+  pub fits_written_one : (A' : ℕ) → A' ≤ site.place + run_end from now_one → FitsIn sum (log_parts size site synced_one None bytes (run_end from now_one) (behind_run now_one) (drop (run_count now_one) rs)) pins H A' f U
+  fits_written_one A' =
+      subst (λ (o : Option IoError). A' ≤ site.place + run_end from now_one → FitsIn sum (log_parts size site synced_one o bytes (run_end from now_one) (behind_run now_one) (drop (run_count now_one) rs)) pins H A' f U) whole
+      (subst (λ (cs : List Sealed). A' ≤ site.place + run_end from cs → FitsIn sum (log_parts size site synced_one fault bytes (run_end from cs) (behind_run cs) (drop (run_count cs) rs)) pins H A' f U) (sym (written_split k bs b there))
+      (fits_around sum size site device fault bytes from b (drop (suc k) bs) rs pins H A f U short big place_small slot_small (ready_closed b ready) whole (take k bs) fits_split are_split (subst FirstUnwritten split_one fresh) rise_split A'))

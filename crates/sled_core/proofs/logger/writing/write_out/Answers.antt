@@ -1,0 +1,19 @@
+use Rattle.std.proofs.Common.{[], ◌∷◌}
+use Rattle.std.specs.declared.io.Error.{Error}
+use Rattle.std.specs.Prelude.{Result, Ok, Err}
+use Rattle.sled_store.specs.Answers.{Does}
+use Rattle.sled_store.specs.Device.{Event, Trace, Wrote, Synced}
+use Rattle.sled_store.specs.Script.{Performs}
+use Rattle.sled_store.proofs.Traces.ScriptLemmas.{performs_all, stop_call, performs_none}
+use Rattle.sled_core.proofs.logger.writing.write_out.Goals as goal
+
+-- one call, whatever it answered
+one_call : {T : Type 0} (e : Event) (r : Result T Error) (old new : Trace) → Does e r old new → Performs (e ∷ []) old new
+one_call e (Ok x) old new does = performs_all e [] old new new does (performs_none new)
+one_call e (Err x) old new does = stop_call e [] old new does
+
+pub returns-in_err-write_at-clause-calls : goal.returns-in_err-write_at-clause-calls
+returns-in_err-write_at-clause-calls g c = stop_call (Wrote c.args.at c.args.bytes.now c.args.bytes.now) (Synced ∷ []) _ _ c.in_err-write_at.ensures.trace
+
+pub returns-clause-calls : goal.returns-clause-calls
+returns-clause-calls g c = performs_all (Wrote c.args.at c.args.bytes.now c.args.bytes.now) (Synced ∷ []) _ _ _ c.in_ok-write_at.ensures.trace (one_call Synced c.sync.result _ _ c.sync.ensures.trace)
