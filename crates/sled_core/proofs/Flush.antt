@@ -10,6 +10,4 @@ pub mod SealedFile
 pub mod SealedFits
 pub mod SealedWrites
 pub mod Settled
-pub mod WholeBuffer
-pub mod WrittenBuffer
 pub mod WrittenFile

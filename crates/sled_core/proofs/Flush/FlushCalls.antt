@@ -1,148 +1,84 @@
--- At each moment of the calls of a flush a crash leaves what can be recovered, and behind them the log fits, with all that was written for what was acknowledged.
-use Rattle.std.proofs.Common.{◌≡◌, ◌≤◌, ◌<◌, ◌+◌, ◌^◌, ℕ, true, List, [], ◌∷◌, length, drop, get_or, Option, None, ap, sym, refl, subst, arith, length-drop}
+-- Where no buffer is sealed, all that was reserved is written as the one buffer that it would be once it is sealed: at each moment of the calls a crash leaves what can be recovered, and behind them the log holds and fits what it did, with all that was written for what was acknowledged.
+use Rattle.std.proofs.Common.{◌≡◌, ◌==◌, ◌≤◌, ◌<◌, ◌+◌, ◌^◌, true, List, [], ◌∷◌, ℕ, length, take, drop, Option, None, ap, sym, refl, subst, arith}
+use Rattle.std.proofs.lemmas.List.{take_all, drop_all}
 use Rattle.std.specs.declared.io.Error.{Error as IoError}
-use Rattle.sled_codec.specs.History.{Message, History, table}
-use Rattle.sled_codec.specs.Snapshots.{SnapshotModel, stable_place}
-use Rattle.sled_store.specs.Device.{Event, LogState, State, Wrote, Synced, LeavesLog, at_rest, log_step, overwritten, step}
-use Rattle.sled_store.specs.Foreign.{NoForeignLog}
+use Rattle.sled_codec.specs.History.{Message, History}
+use Rattle.sled_store.specs.Device.{State, Wrote, Synced, at_rest, overwritten, step}
 use Rattle.sled_store.specs.Script.{Along}
-use Rattle.sled_store.proofs.Histories.Ascending.{Ascends}
 use Rattle.sled_core.specs.declared.iobuf.Reserved.{Reserved}
+use Rattle.sled_core.specs.declared.iobuf.Sealed.{Sealed}
 use Rattle.sled_core.specs.declared.iobuf.SegmentPosition.{SegmentPosition}
 use Rattle.sled_core.specs.Buffers.{none_open}
-use Rattle.sled_core.specs.Fits.{log_parts, HoldsIn, IsOnDevice}
-use Rattle.sled_core.specs.LogFile.{HasHeader, IsLogFile, padded}
-use Rattle.sled_core.specs.Recoverable.{LeavesRecoverable, NoHeaderOfZeros}
-use Rattle.sled_core.specs.Running.{BlobsFit, FitsIn}
-use Rattle.sled_core.specs.Reached.{StandsAlone}
-use Rattle.sled_core.proofs.Flush.Completed.{all_ascend, has_only, inline_from, none_crosses}
-use Rattle.sled_core.proofs.Flush.FlushLemmas.{grown, has_room, holds-flush}
-use Rattle.sled_core.proofs.Flush.Padded.{overwritten-padded, padded_clean, padded_long, padded_none}
-use Rattle.sled_core.proofs.Flush.Settled.{InlineFrom, blobs_higher, leaves_less, rests, settled_recoverable, stands_recoverable}
-use Rattle.sled_core.proofs.Flush.WholeBuffer.{alone_behind}
-use Rattle.sled_core.proofs.Flush.WrittenBuffer.{torn_alone}
-use Rattle.sled_core.proofs.Flush.WrittenFile.{header_stands}
-use Rattle.sled_core.proofs.Reached.BufferStands.{written_within}
+use Rattle.sled_core.specs.Fits.{log_parts, HoldsIn}
+use Rattle.sled_core.specs.Recoverable.{LeavesRecoverable}
+use Rattle.sled_core.specs.Running.{FitsIn}
+use Rattle.sled_core.specs.SealedBuffers.{AreSealed, is_ready, seal_at}
+use Rattle.sled_core.proofs.Flush.FlushLemmas.{grown}
+use Rattle.sled_core.proofs.Flush.SealedFits.{fits_written_one, holds_written_one, write_along}
+use Rattle.sled_core.proofs.Holds.RunningLemmas.{fits-moved}
+use Rattle.sled_core.proofs.Holds.SealedCalls.{holds-sealed}
+use Rattle.sled_core.proofs.Reserve.OpenCounts.{none_open_count}
+use Rattle.sled_core.proofs.Sealed.Appended.{seal_are}
+use Rattle.sled_core.proofs.Sealed.LaidLemmas.{EndsRise}
 
--- The calls of a flush, on a log with something to write.
-module _ (sum : List ℕ → ℕ) (size : ℕ) (site : SegmentPosition) (device : State) (fault : Option IoError) (bytes : List ℕ) (from : ℕ) (rs : List Reserved) (pins : ℕ) (H : History) (A f : ℕ) (U : List Message)
-    (fits : FitsIn sum (log_parts size site device fault bytes from [] rs) pins H A f U)
-    (begun : 20 ≤ length bytes) (behind : from ≤ length bytes) (short : length bytes ≤ size) (big : 256 ≤ size) (place_small : site.place + size < 2 ^ 63) (slot_small : site.slot + size < 2 ^ 63)
+module _ (sum : List ℕ → ℕ) (size : ℕ) (site : SegmentPosition) (device : State) (fault : Option IoError) (bytes : List ℕ) (from : ℕ) (rs : List Reserved) (H : History)
+    (holds : HoldsIn sum (log_parts size site device fault bytes from [] rs) H)
+    (behind : from ≤ length bytes) (short : length bytes ≤ size) (big : 256 ≤ size) (place_small : site.place + size < 2 ^ 63) (slot_small : site.slot + size < 2 ^ 63)
     (ended : none_open rs ≡ true) (some : 0 < length rs) (whole : fault ≡ None) where
-  abbrev asked : List ℕ
-  asked = drop from bytes
-
-  -- the state once so much of the write was done
-  abbrev after_write : List ℕ → State
-  after_write now = step (Wrote (site.slot + from) asked now) device
-
-  -- and once it is synced
-  abbrev after_sync : State
-  after_sync = step Synced (after_write asked)
-
-  abbrev old : List ℕ
-  old = device.log.bytes
-
-  abbrev new : List ℕ
-  new = overwritten old (site.slot + from) asked
-
-  holds : HoldsIn sum (log_parts size site device fault bytes from [] rs) H
-  holds = fits.holds
-
-  abbrev first : SnapshotModel
-  first = fits.holds.begun.first
-
-  abbrev entries : ℕ → List Message
-  entries = table H (stable_place fits.holds.begun.first.stable)
-
-  -- What the log holds.
-
-  on_device : IsOnDevice sum size device.log site from fits.holds.earlier entries
-  on_device = fits.holds.written whole
-
-  rest : device.log ≡ at_rest old
-  rest = rests device.log on_device.log on_device.settled
-
-  file : IsLogFile sum size old site from fits.holds.earlier entries
-  file = subst (λ (l : List ℕ). IsLogFile sum size l site from fits.holds.earlier entries) (sym (ap (λ (s : LogState). s.bytes) on_device.settled)) on_device.file
-
-  -- behind what was written the slot has zeros
-  clean : (i : ℕ) → site.slot + from ≤ i → i < site.slot + size → get_or old i 0 ≡ 0
-  clean = fits.holds.laid whole
+  -- the buffer of all that was reserved
+  abbrev one : Sealed
+  one = seal_at (length bytes) rs
 
   more : from < length bytes
   more = grown sum size site device fault bytes from [] rs H holds some
 
-  room : from + 32 ≤ size
-  room = has_room sum size site device fault bytes from [] rs H holds some
+  sealed : HoldsIn sum (log_parts size site device fault bytes from (one ∷ []) rs) H
+  sealed = holds-sealed sum size site device fault bytes from [] rs rs H short behind holds
 
-  ordered : Ascends H.messages
-  ordered = all_ascend sum size site device fault bytes from [] rs H holds
+  are : AreSealed from rs (one ∷ [])
+  are = seal_are from rs [] from 0 (length bytes) tt refl refl more holds.chain
 
-  inline : InlineFrom H (site.place + from)
-  inline = inline_from sum size site device fault bytes from [] rs H holds
+  rise : EndsRise from (one ∷ []) (length bytes)
+  rise = (more, omega arith)
 
-  -- Within the write.
-  write_leaves : (now : List ℕ) → length now ≤ length asked → LeavesRecoverable sum size H (site.place + from) f (after_write now)
-  write_leaves now no_more = λ left leaves only_own.
-      let stands = torn_alone sum only_own.zeros size big old site from bytes rs more short room fits.holds.place_begins fits.holds.slot_begins place_small slot_small fits.holds.header clean
-      fits.holds.chain fits.holds.stand fits.holds.room ended H (has_only sum size site device fault bytes from [] rs H holds) first (fits.alone whole only_own.zeros) now left.log no_more
-      (subst (λ (s : LogState). LeavesLog (log_step (Wrote (site.slot + from) asked now) s) left.log) rest leaves.log)
-      (subst (λ (s : LogState). NoForeignLog sum size (log_step (Wrote (site.slot + from) asked now) s) ((site.slot + from, asked) ∷ device.placed) left.log) rest only_own.log) in
-      stands_recoverable sum size big left H (site.place + from) f first (site.place + from) ordered inline (fits.names left.snapshots leaves.snapshots only_own.snapshots) (fits.blobs left.blobs leaves.blobs only_own.blobs) stands
+  ready : is_ready one ≡ true
+  ready = ap (λ n. n == 0) (none_open_count rs ended)
 
-  -- Behind it, and synced.
+  abbrev asked : List ℕ
+  asked = drop from bytes
 
-  same_file : overwritten (padded site.slot old) (site.slot + from) asked ≡ new
-  same_file = overwritten-padded site.slot old (site.slot + from) asked (omega arith) (omega (arith, length-drop from bytes, more))
+  -- its bytes are all that isn't written
+  all_of : drop from (take (length bytes) bytes) ≡ asked
+  all_of = ap (drop from) (take_all (length bytes) bytes (omega arith))
 
-  header_new : HasHeader sum new site
-  header_new = header_stands sum size site old bytes from rs fits.holds.earlier entries file begun more short fits.holds.place_begins fits.holds.slot_begins place_small slot_small fits.holds.header
-      fits.holds.chain fits.holds.stand fits.holds.room ended
+  none_left : drop (length rs + 0) rs ≡ []
+  none_left = drop_all (length rs + 0) rs (omega arith)
 
-  alone_new : NoHeaderOfZeros sum → StandsAlone sum size new site (length bytes) H first
-  alone_new zeros =
-      let filled : List ℕ = padded site.slot old in
-      subst (λ (l : List ℕ). StandsAlone sum size l site (length bytes) H first) same_file
-      (alone_behind sum zeros size big filled site from bytes rs more short room fits.holds.place_begins fits.holds.slot_begins place_small slot_small fits.holds.header
-      (λ i above below. padded_clean site.slot old i (omega (arith, above)) (clean i above below))
-      fits.holds.chain fits.holds.stand fits.holds.room ended H (has_only sum size site device fault bytes from [] rs H holds) first (fits.beyond whole zeros)
-      ordered (padded_long site.slot old) fits.holds.begun.least (none_crosses sum size site device fault bytes from [] rs H holds (site.place + length bytes) (omega (arith, behind)))
-      (subst (λ (l : List ℕ). HasHeader sum l site) (sym same_file) header_new))
+  -- Once it is written and settled, the log holds the same.
+  pub holds-flush : (new : State) → new.log ≡ at_rest (overwritten device.log.bytes (site.slot + from) asked) → new.snapshots.file ≡ device.snapshots.file
+      → HoldsIn sum (log_parts size site new fault bytes (length bytes) [] []) H
+  holds-flush new is names =
+      subst (λ (l : List Reserved). HoldsIn sum (log_parts size site new fault bytes (length bytes) [] l) H) none_left
+      (holds_written_one sum size site device fault bytes from (one ∷ []) rs H sealed short big place_small slot_small are refl rise whole 0 one refl ready new
+      (subst (λ (xs : List ℕ). new.log ≡ at_rest (overwritten device.log.bytes (site.slot + from) xs)) (sym all_of) is) names)
 
-  beyond_new : NoHeaderOfZeros sum → StandsAlone sum size (padded site.slot new) site (length bytes) H first
-  beyond_new zeros =
-      let long : site.slot ≤ length new = omega (arith, written_within old bytes site.slot from more) in
-      subst (λ (l : List ℕ). StandsAlone sum size l site (length bytes) H first) (sym (padded_none site.slot new long)) (alone_new zeros)
+  module _ (pins A f : ℕ) (U : List Message) (fits : FitsIn sum (log_parts size site device fault bytes from [] rs) pins H A f U) where
+    -- the state once it is written and synced
+    abbrev after_sync : List ℕ → State
+    after_sync xs = step Synced (step (Wrote (site.slot + from) xs xs) device)
 
-  blobs_new : BlobsFit sum device.blobs H (site.place + length bytes)
-  blobs_new = blobs_higher sum device.blobs H (site.place + from) (site.place + length bytes) ordered (omega (arith, behind)) inline fits.blobs
+    fits_sealed : FitsIn sum (log_parts size site device fault bytes from (one ∷ []) rs) pins H A f U
+    fits_sealed = fits-moved sum size site device fault bytes from [] rs pins H A f U fits bytes from (one ∷ []) rs refl sealed
 
-  left_new : LeavesRecoverable sum size H (site.place + length bytes) f after_sync
-  left_new = settled_recoverable sum size big after_sync H (site.place + length bytes) f first (site.place + length bytes) ordered (λ m there above. inline m there (omega (arith, behind, above))) refl
-      fits.names blobs_new (λ zeros. (alone_new zeros).stands)
+    -- each content that a crash leaves on the way can be recovered
+    pub flush_along : Along (LeavesRecoverable sum size H (site.place + from) f) (Wrote (site.slot + from) asked asked ∷ Synced ∷ []) device
+    flush_along =
+        subst (λ (xs : List ℕ). Along (LeavesRecoverable sum size H (site.place + from) f) (Wrote (site.slot + from) xs xs ∷ Synced ∷ []) device) all_of
+        (write_along sum size site device fault bytes from (one ∷ []) rs pins H A f U fits_sealed short big place_small slot_small are refl rise whole 0 one refl ready)
 
-  fits_kept : (A' : ℕ) → A' ≤ site.place + length bytes → FitsIn sum (log_parts size site after_sync fault bytes (length bytes) [] []) pins H A' f U
-  unfolding holds-flush
-  fits_kept A' passes = record {
-    holds = holds-flush sum size site device fault bytes from rs H fits.holds begun behind short place_small slot_small ended some whole after_sync refl refl;
-    alone = λ none zeros. alone_new zeros;
-    beyond = λ none zeros. beyond_new zeros;
-    blobs = blobs_new;
-    names = fits.names;
-    passes = passes;
-    pinned = fits.pinned;
-    left = left_new;
-  }
-
-  -- The log fits with all that was written for what was acknowledged.
-  pub fits_flushed : (A' : ℕ) → A' ≤ site.place + length bytes → FitsIn sum (log_parts size site after_sync None bytes (length bytes) [] []) pins H A' f U
-  fits_flushed A' passes = subst (λ (o : Option IoError). FitsIn sum (log_parts size site after_sync o bytes (length bytes) [] []) pins H A' f U) whole (fits_kept A' passes)
-
-  -- each content that a crash leaves on the way can be recovered
-  pub flush_along : Along (LeavesRecoverable sum size H (site.place + from) f) (Wrote (site.slot + from) asked asked ∷ Synced ∷ []) device
-  flush_along = (
-    fits.left,
-    λ torn tears. subst (λ (e : Event). LeavesRecoverable sum size H (site.place + from) f (step e device)) (sym tears.2) (write_leaves tears.0 tears.1),
-    (write_leaves asked (omega arith), λ torn tears. absurd tears, leaves_less sum size H (site.place + from) (site.place + length bytes) f after_sync (omega (arith, behind)) left_new),
-  )
+    -- The log fits with all that was written for what was acknowledged.
+    pub fits_flushed : (A' : ℕ) → A' ≤ site.place + length bytes → FitsIn sum (log_parts size site (after_sync asked) None bytes (length bytes) [] []) pins H A' f U
+    fits_flushed A' passes =
+        subst (λ (xs : List ℕ). FitsIn sum (log_parts size site (after_sync xs) None bytes (length bytes) [] []) pins H A' f U) all_of
+        (subst (λ (l : List Reserved). FitsIn sum (log_parts size site (after_sync (drop from (take (length bytes) bytes))) None bytes (length bytes) [] l) pins H A' f U) none_left
+        (fits_written_one sum size site device fault bytes from (one ∷ []) rs pins H A f U fits_sealed short big place_small slot_small are refl rise whole 0 one refl ready A' passes))

@@ -51,7 +51,7 @@ module _ {D C : Type 0} (trace : D → Trace) (sum : List ℕ → ℕ) (log : Lo
   pub flush_left : (new : Trace) → Performs calls before new → Throughout (LeavesRecoverable sum size H (log.site.place + from) f) before new
   flush_left new came =
       performs_throughout (LeavesRecoverable sum size H (log.site.place + from) f) calls before new came
-      (flush_along sum size log.site (state_of before) log.fault bytes from rs log.pins H A f U parts_fit log.buffer.begun behind log.in_segment log.config.config.least log.place_in_reach log.slot_in_reach ended some whole)
+      (flush_along sum size log.site (state_of before) log.fault bytes from rs H parts_fit.holds behind log.in_segment log.config.config.least log.place_in_reach log.slot_in_reach ended some whole log.pins A f U parts_fit)
 
   pub flush_crash : (new : Trace) → Performs calls before new → Throughout (LeavesRecoverable sum size H A f) before new
   flush_crash new came =
@@ -62,7 +62,7 @@ module _ {D C : Type 0} (trace : D → Trace) (sum : List ℕ → ℕ) (log : Lo
       → FitsIn sum (log_parts size log.site (state_of new) log.fault bytes' from' bs' rs') log.pins H A' f U
   fits_written new came bytes' from' bs' rs' is_bytes is_from is_bs is_rs A' passes =
       let after : FitsIn sum (log_parts size log.site (state_of (after_all calls before)) None bytes (length bytes) [] []) log.pins H A' f U =
-      fits_flushed sum size log.site (state_of before) log.fault bytes from rs log.pins H A f U parts_fit log.buffer.begun behind log.in_segment log.config.config.least log.place_in_reach log.slot_in_reach ended some whole A'
+      fits_flushed sum size log.site (state_of before) log.fault bytes from rs H parts_fit.holds behind log.in_segment log.config.config.least log.place_in_reach log.slot_in_reach ended some whole log.pins A f U parts_fit A'
       (omega (arith, passes, is_from)) in
       fits_same_buffer sum size log.site (state_of new) log.fault bytes bytes' (length bytes) from' [] bs' [] rs' log.pins H A' f U is_bytes is_from is_bs is_rs
       (subst (λ (o : Option IoError). FitsIn sum (log_parts size log.site (state_of new) o bytes (length bytes) [] []) log.pins H A' f U) (sym whole)

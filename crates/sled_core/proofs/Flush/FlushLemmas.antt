@@ -1,5 +1,5 @@
 -- What is written of a log: the records that were completed, behind those that stand on the device. A log that keeps a failure holds what it held.
-use Rattle.std.proofs.Common.{◌≡◌, ◌≢◌, ◌⊎◌, ◌≤◌, ◌<◌, ◌+◌, ◌/◌, ◌^◌, ◌∙◌, ℕ, ℤ, max, Bool, true, false, List, [], ◌∷◌, ◌++◌, length, drop, sym, ap, arith, refl, subst, inl, inr, Option, None, Some}
+use Rattle.std.proofs.Common.{◌≡◌, ◌≢◌, ◌⊎◌, ◌≤◌, ◌<◌, ◌+◌, ◌/◌, ◌^◌, ◌∙◌, ℕ, ℤ, max, Bool, true, false, List, [], ◌∷◌, ◌++◌, length, sym, ap, arith, refl, subst, inl, inr, Option, None, Some}
 use Rattle.std.specs.List.{All}
 use Rattle.std.specs.Bool.{MatchBool}
 use Rattle.std.specs.IoError.{error_kind}
@@ -11,18 +11,15 @@ use Rattle.sled_codec.specs.History.{Message, History, table}
 use Rattle.sled_codec.specs.Snapshots.{stable_place}
 use Rattle.sled_codec.specs.WellFormed.{LieApart}
 use Rattle.sled_store.specs.Answers.{is_fault, is_fault_kind}
-use Rattle.sled_store.specs.Device.{LogState, State, at_rest, overwritten}
+use Rattle.sled_store.specs.Device.{State}
 use Rattle.sled_store.specs.SnapshotFiles.{BeginsFrom}
 use Rattle.sled_core.specs.declared.iobuf.Reserved.{Reserved}
 use Rattle.sled_core.specs.declared.iobuf.Sealed.{Sealed}
 use Rattle.sled_core.specs.declared.iobuf.SegmentPosition.{SegmentPosition}
-use Rattle.sled_core.specs.Buffers.{IsChain, completed_in, none_open, Stands}
+use Rattle.sled_core.specs.Buffers.{IsChain, completed_in, Stands}
 use Rattle.sled_core.specs.Fits.{log_parts, HoldsIn, IsOnDevice, IsBegunFrom, IsKept, EndBelow}
-use Rattle.sled_core.specs.LogFile.{IsLogFile}
 use Rattle.sled_core.proofs.Reserve.Ranges.{chain_grows}
-use Rattle.sled_core.proofs.Flush.Completed.{all_below, all_apart, batches_to}
-use Rattle.sled_core.specs.SealedBuffers.{AreSealed, AreZeros, FirstUnwritten}
-use Rattle.sled_core.proofs.Flush.WrittenFile.{behind_zeros, file_written}
+use Rattle.sled_core.specs.SealedBuffers.{AreSealed, FirstUnwritten}
 use Rattle.sled_core.proofs.Sealed.Zeros.{rest_zeros}
 
 -- The snapshot is the same, and more of the log is settled.
@@ -114,44 +111,6 @@ module _ (sum : List ℕ → ℕ) (size : ℕ) (site : SegmentPosition) (device 
         | inr is ↦ holds-faulty after is.0 now is.1 (ap (λ (s : State). s.snapshots.file) same)
       ] in
       subst (λ n. HoldsIn sum (log_parts n site after now bytes from bs rs) H) (sym sizes) here
-
--- Where no buffer is sealed, all that was reserved can be written at once.
-module _ (sum : List ℕ → ℕ) (size : ℕ) (site : SegmentPosition) (device : State) (fault : Option IoError) (bytes : List ℕ) (from : ℕ) (rs : List Reserved) (H : History)
-    (holds : HoldsIn sum (log_parts size site device fault bytes from [] rs) H)
-    (begun : 20 ≤ length bytes) (behind : from ≤ length bytes) (short : length bytes ≤ size) (place_small : site.place + size < 2 ^ 63) (slot_small : site.slot + size < 2 ^ 63)
-    (ended : none_open rs ≡ true) (some : 0 < length rs) (whole : fault ≡ None) where
-  pub settled_bytes : device.log.bytes ≡ (holds.written whole).log
-  settled_bytes = ap (λ (s : LogState). s.bytes) (holds.written whole).settled
-
-  -- All that the log holds is on the device when its buffer was written and settled there.
-  pub flushed : (now : LogState) → now ≡ at_rest (overwritten device.log.bytes (site.slot + from) (drop from bytes)) → IsOnDevice sum size now site (length bytes) H.messages (table H (stable_place holds.begun.first.stable))
-  flushed now is = record {
-    log = overwritten (holds.written whole).log (site.slot + from) (drop from bytes);
-    settled = is ∙ ap (λ (l : List ℕ). at_rest (overwritten l (site.slot + from) (drop from bytes))) settled_bytes;
-    file = subst (λ (ms : List Message). IsLogFile sum size (overwritten (holds.written whole).log (site.slot + from) (drop from bytes)) site (length bytes) ms (table H (stable_place holds.begun.first.stable))) (sym holds.messages)
-        (file_written sum size site (holds.written whole).log bytes from rs holds.earlier (table H (stable_place holds.begun.first.stable)) (holds.written whole).file
-        begun (grown sum size site device fault bytes from [] rs H holds some) short holds.place_begins holds.slot_begins place_small slot_small holds.header holds.chain holds.stand holds.room ended);
-  }
-
-  -- Once they are written and settled, the log holds the same.
-  unfoldable pub holds-flush : (new : State) → new.log ≡ at_rest (overwritten device.log.bytes (site.slot + from) (drop from bytes)) → new.snapshots.file ≡ device.snapshots.file
-      → HoldsIn sum (log_parts size site new fault bytes (length bytes) [] []) H
-  holds-flush new is names = record {
-    earlier = H.messages;
-    messages = sym (append-nil H.messages);
-    below = all_below sum size site device fault bytes from [] rs H holds;
-    apart = all_apart sum size site device fault bytes from [] rs H holds;
-    batches = batches_to sum size site device fault bytes from [] rs H holds (site.place + length bytes) (omega (arith, behind));
-    place_begins = holds.place_begins;
-    slot_begins = holds.slot_begins;
-    header = λ none. absurd (omega (arith, begun, none));
-    chain = omega (arith, begun);
-    stand = λ k d lt. absurd (omega arith);
-    room = λ k d lt. absurd (omega arith);
-    begun = begun-more sum size device.snapshots.file new.snapshots.file site from (length bytes) H names behind holds.begun;
-    written = λ none. flushed new.log is;
-    laid = λ none. subst (λ (l : LogState). AreZeros l.bytes (site.slot + length bytes) (site.slot + size)) (sym is) (behind_zeros sum size site device.log.bytes bytes from (grown sum size site device fault bytes from [] rs H holds some) (holds.laid whole));
-  }
 
 kind_apart : (kind : ErrorKind) → is_fault_kind kind ≡ true → kind ≡ OutOfMemory → ⊥
 kind_apart kind fault is = let not_one : false ≡ true = sym (ap is_fault_kind is) ∙ fault in cc

@@ -1,8 +1,6 @@
 -- A log file has all messages once the buffer is written: those that stood there, and those of the buffer behind them.
-use Rattle.std.proofs.Common.{◌≡◌, ◌≤◌, ◌<◌, ◌+◌, ◌/◌, ◌%◌, ◌^◌, ◌∙◌, ◌-ℤ◌, ℕ, pos, max, true, List, ◌++◌, length, take, drop, sym, refl, ap, arith, subst, length-drop, inl, inr}
+use Rattle.std.proofs.Common.{◌≡◌, ◌≤◌, ◌<◌, ◌+◌, ◌^◌, ◌∙◌, ◌-ℤ◌, ℕ, pos, List, ◌++◌, length, take, sym, refl, ap, arith, subst, inl, inr}
 use Rattle.std.specs.List.{All}
-use Rattle.std.proofs.Math.Nat.{div-le_self}
-use Rattle.std.proofs.lemmas.Bool.{cases_lt}
 use Rattle.std.proofs.lemmas.List.Elements.{All-contains, Contains-append_cases}
 use Rattle.sled_codec.specs.declared.result.DiskPtr.TheVariants.{Inline}
 use Rattle.sled_codec.specs.Places.{part}
@@ -11,15 +9,12 @@ use Rattle.sled_codec.specs.Record.{IsHeader, short_header}
 use Rattle.sled_codec.specs.History.{Message, no_history}
 use Rattle.sled_store.specs.Device.{overwritten}
 use Rattle.sled_store.proofs.Segments.Elements.{in_nothing}
-use Rattle.sled_core.specs.declared.iobuf.Reserved.{Reserved}
 use Rattle.sled_core.specs.declared.iobuf.SegmentPosition.{SegmentPosition}
-use Rattle.sled_core.specs.Buffers.{IsChain, completed_in, none_open, Stands}
 use Rattle.sled_core.specs.LogFile.{StandsHere, HasHeader, IsLogFile}
-use Rattle.sled_core.proofs.Flush.LogFileLemmas.{behind_write}
-use Rattle.sled_core.proofs.Flush.LogFileKept.{here_below, here_kept, elsewhere_kept, header_kept}
+use Rattle.sled_core.proofs.Flush.LogFileKept.{here_below, here_kept, elsewhere_kept}
 use Rattle.sled_core.proofs.Reached.BufferPath.{buffer_header, buffer_mark}
-use Rattle.sled_core.specs.SealedBuffers.{AreZeros, Agrees}
-use Rattle.sled_core.proofs.Reached.BufferStands.{StandsOwn, own_in, same_part, written_agrees}
+use Rattle.sled_core.specs.SealedBuffers.{Agrees}
+use Rattle.sled_core.proofs.Reached.BufferStands.{StandsOwn, same_part}
 use Rattle.sled_core.proofs.Tail.GreatestMark.{mark_below}
 
 -- The header of a segment stands where its first bytes were written.
@@ -55,43 +50,3 @@ file_more sum size site old at xs from to earlier late entries file behind insid
   begun = begun;
   header = header;
 }
-
-module _ (sum : List ℕ → ℕ) (size : ℕ) (site : SegmentPosition) (old bytes : List ℕ) (from : ℕ) (rs : List Reserved) (earlier : List Message) (entries : ℕ → List Message) (file : IsLogFile sum size old site from earlier entries)
-    (begun : 20 ≤ length bytes) (behind : from < length bytes) (short : length bytes ≤ size) (place_begins : site.place % size ≡ 0) (slot_begins : site.slot % size ≡ 0)
-    (place_small : site.place + size < 2 ^ 63) (slot_small : site.slot + size < 2 ^ 63) (header : from ≡ 0 → take 20 bytes ≡ short_header sum (pos site.place) (pos site.place -ℤ pos 1))
-    (chain : IsChain (max 20 from) rs (length bytes)) (stand : All (Stands sum (site.place / size) bytes) rs) (room : All (λ r. r.from + 32 ≤ size) rs) (ended : none_open rs ≡ true) where
-  abbrev xs : List ℕ
-  xs = drop from bytes
-
-  abbrev new : List ℕ
-  new = overwritten old (site.slot + from) xs
-
-  abbrev done : List Message
-  done = completed_in site bytes rs
-
-  -- what was written agrees with the buffer
-  agree : Agrees new site.slot bytes from (length bytes)
-  agree = written_agrees old bytes site.slot from behind
-
-  -- what was completed stands in it
-  late_here : All (StandsOwn sum size new site (length bytes)) done
-  late_here = own_in sum size site new bytes from (length bytes) agree short place_begins slot_begins slot_small (omega (arith, div-le_self site.place size, place_small)) (max 20 from) rs (omega arith) chain stand room
-
-  -- The header is there, or is written.
-  pub header_stands : HasHeader sum new site
-  header_stands = elim (cases_lt 0 from) [
-    | inl some ↦ header_kept sum size old (site.slot + from) xs site (let long = file.begun some in omega (arith, long)) (file.header some)
-    | inr none ↦ (
-        let first : from ≡ 0 = omega (arith, none) in
-        header_written sum new bytes site (length bytes) (omega (arith, place_small)) begun (subst (λ n. Agrees new site.slot bytes n (length bytes)) first agree) (header first))
-  ]
-
-  -- The log file.
-  pub file_written : IsLogFile sum size new site (length bytes) (earlier ++ done) entries
-  file_written = file_more sum size site old from xs from (length bytes) earlier done entries file (omega arith) (omega (arith, length-drop from bytes, behind, short)) (omega (arith, behind)) (λ some. begun) (λ some. header_stands) late_here
-
--- Behind what is written the slot has zeros as before.
-pub behind_zeros : (sum : List ℕ → ℕ) (size : ℕ) (site : SegmentPosition) (old bytes : List ℕ) (from : ℕ) → from < length bytes → AreZeros old (site.slot + from) (site.slot + size)
-    → AreZeros (overwritten old (site.slot + from) (drop from bytes)) (site.slot + length bytes) (site.slot + size)
-behind_zeros sum size site old bytes from some clean i above below =
-    behind_write sum size old (site.slot + from) (drop from bytes) i (omega (arith, length-drop from bytes, some)) (omega (arith, length-drop from bytes, some, above)) ∙ clean i (omega (arith, some, above)) below
