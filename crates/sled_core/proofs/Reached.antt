@@ -1,6 +1,5 @@
 pub mod BufferPath
 pub mod BufferStands
-pub mod BufferWritten
 pub mod Higher
 pub mod KeptStands
 pub mod LeftBeside

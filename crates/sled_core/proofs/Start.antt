@@ -6,7 +6,6 @@ pub mod KeptActive
 pub mod OpenLemmas
 pub mod PaddedActive
 pub mod PlacedEntries
-pub mod ReadyFor
 pub mod ReadyLemmas
 pub mod ReadyStarts
 pub mod Recoverable

@@ -3,7 +3,6 @@ pub mod CutAlong
 pub mod CutSlots
 pub mod FilledAlong
 pub mod FilledBehind
-pub mod FilledReads
 pub mod FilledSlots
 pub mod KeptSlots
 pub mod StartedSlots
@@ -14,6 +13,5 @@ pub mod WrittenBehind
 pub mod WrittenBeside
 pub mod WrittenParts
 pub mod WrittenRecords
-pub mod WrittenTruth
 pub mod ZeroedScans
 pub mod ZeroedSlots

@@ -1,5 +1,6 @@
 -- What a reader finds of a settled log file, up to a place that the log has reached.
-use Rattle.std.specs.Prelude.{◌≡◌, ◌≢◌, ◌⊎◌, ◌+◌, ◌*◌, ◌/◌, ◌%◌, ◌≤◌, ◌<◌, ℕ, List, Some, Contains}
+use Rattle.std.specs.Prelude.{◌≡◌, ◌≢◌, ◌⊎◌, ◌+◌, ◌*◌, ◌/◌, ◌%◌, ◌≤◌, ◌<◌, ◌<ℤ◌, ℕ, pos, List, Some, Contains}
+use Rattle.sled_codec.specs.Coords.{raised}
 use Rattle.sled_codec.specs.History.{Message, Batch, History, table}
 use Rattle.sled_codec.specs.Snapshots.{SnapshotModel, stable_place}
 use Rattle.sled_core.specs.declared.iobuf.SegmentPosition.{SegmentPosition}
@@ -7,8 +8,8 @@ use Rattle.sled_core.specs.declared.iterator.Segment.{Segment}
 use Rattle.sled_core.specs.declared.iterator.scan.ScannedRecord.{ScannedRecord}
 use Rattle.sled_core.specs.declared.iterator.scan.ScanEnd.TheVariants.{Capped, Broken}
 use Rattle.sled_core.specs.Scan.{IsFoundSegment}
-use Rattle.sled_core.specs.Tail.{IsOrdering, Scanned, AreScanned, least_place}
-use Rattle.sled_core.specs.Recoverable.{NoMessageBegins, NoBatchBegins, StandsInline, IsOfHistory, IsSegmentOf, IsMarkOf, IsMarkBelow, LiesInSegment, IsPlacedBatch}
+use Rattle.sled_core.specs.Tail.{IsOrdering, IsScanned, Scanned, AreScanned, least_place}
+use Rattle.sled_core.specs.Recoverable.{NoMessageBegins, NoBatchBegins, NoBatchEnds, StandsInline, IsOfHistory, IsSegmentOf, IsMarkOf, IsMarkBelow, LiesInSegment, IsPlacedBatch}
 
 -- The segments that are found from that of the snapshot on are of the history, and up to a place that the log has reached they are read without a gap. What is found beyond is of the history too, however much of it there is.
 pub record StandsTo (sum : List ℕ → ℕ) (size : ℕ) (log : List ℕ) (H : History) (A : ℕ) (first : SnapshotModel) (reach : ℕ) : Type 0 where
@@ -40,10 +41,39 @@ pub record GoesOnIn (scanned : List Scanned) (slot from place : ℕ) : Type 0 wh
   pub ended : scan.stop ≡ from
   pub broken : scan.why ≡ Broken
 
--- The current segment is all that a reader finds of the log file from the snapshot's segment on, and he reads it to its written end.
-pub record StandsAlone (sum : List ℕ → ℕ) (size : ℕ) (log : List ℕ) (site : SegmentPosition) (from : ℕ) (H : History) (first : SnapshotModel) : Type 0 where
-  pub stands : StandsTo sum size log H (site.place + from) first (site.place + from)
-  pub only : (s : Segment) → IsFoundSegment sum size log (least_place size first) s → s.slot ≡ site.slot
+-- The segment before one at this place is found, begins below what was reached, and leads on.
+pub record LeadsTo (sum : List ℕ → ℕ) (size : ℕ) (log : List ℕ) (least reach place : ℕ) : Type 0 where
+  pub scan : Scanned
+  pub found : IsFoundSegment sum size log least scan.segment
+  pub read : IsScanned sum size log scan
+  pub next : scan.segment.place + size ≡ place
+  pub goes : scan.why ≢ Broken
+  pub below : scan.segment.place < reach
+
+-- A reader is led to a segment at this place: it begins below what was reached, or where the segments begin, or behind one that leads on.
+abbrev pub IsLed : (List ℕ → ℕ) → ℕ → List ℕ → ℕ → ℕ → ℕ → Type 0
+IsLed sum size log least reach place = (place < reach) ⊎ (place ≤ least) ⊎ LeadsTo sum size log least reach place
+
+-- A segment begins behind what was reached, and no further than the next one can. Nothing of the history begins between the two, and no batch ends.
+pub record BeginsNext (size : ℕ) (H : History) (reach place : ℕ) : Type 0 where
+  pub above : reach ≤ place
+  pub next : place ≤ raised size reach
+  pub no_message : NoMessageBegins H reach place
+  pub no_batch : NoBatchBegins H reach place
+  pub no_end : NoBatchEnds H reach place
+
+-- What was reached ends where so much of a segment is written; where nothing of it is, there where it begins, or before that, with nothing of the history between.
+abbrev pub ReachesIn : ℕ → History → ℕ → ℕ → ℕ → Type 0
+ReachesIn size H place from reach = (reach ≡ place + from) ⊎ ((from ≡ 0) × BeginsNext size H reach place)
+
+-- A reader reads the log file without a gap up to a place, where a write of the current segment goes on. The segment that is found in its slot has its number, no other one has, and no mark lies behind what is written.
+pub record StandsAlone (sum : List ℕ → ℕ) (size : ℕ) (log : List ℕ) (site : SegmentPosition) (from reach : ℕ) (H : History) (first : SnapshotModel) : Type 0 where
+  pub stands : StandsTo sum size log H reach first reach
+  pub reached : ReachesIn size H site.place from reach
+  pub led : IsLed sum size log (least_place size first) reach site.place
+  pub only : (s : Segment) → IsFoundSegment sum size log (least_place size first) s → s.place ≡ site.place → s.slot ≡ site.slot
+  pub own : (s : Segment) → IsFoundSegment sum size log (least_place size first) s → s.slot ≡ site.slot → s.place ≡ site.place
+  pub below : (s : Segment) → IsFoundSegment sum size log (least_place size first) s → s.mark <ℤ pos (site.place + from)
   pub going : 0 < from → from + 32 ≤ size → GoesOnIn stands.scanned site.slot from site.place
 
 -- The same where a log goes on from a snapshot: the active segment is all that is found, up to the stable place; where none is active nothing is found.

@@ -1,5 +1,4 @@
 pub mod ForgetLemmas
 pub mod RecoveryLater
 pub mod RestartCauses
-pub mod UsedSlot
 pub mod WriteLemmas

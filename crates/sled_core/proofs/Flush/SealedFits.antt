@@ -70,9 +70,9 @@ no_run P from x xs rs fresh all =
 -- A write to a log that fits, and the sync behind it, where what a crash leaves of the write stands as before, and all of it up to a place no lower.
 module _ (sum : List ℕ → ℕ) (size : ℕ) (site : SegmentPosition) (device : State) (fault : Option IoError) (bytes : List ℕ) (from : ℕ) (bs : List Sealed) (rs : List Reserved) (pins : ℕ) (H : History) (A f : ℕ) (U : List Message)
     (fits : FitsIn sum (log_parts size site device fault bytes from bs rs) pins H A f U) (big : 256 ≤ size) (whole : fault ≡ None) (to : ℕ) (up : from ≤ to) (at : ℕ) (asked : List ℕ)
-    (torn : NoHeaderOfZeros sum → StandsAlone sum size device.log.bytes site from H fits.holds.begun.first → (now left : List ℕ) → length now ≤ length asked → LeavesLog (after_write device.log.bytes at asked now) left
+    (torn : NoHeaderOfZeros sum → StandsAlone sum size device.log.bytes site from (site.place + from) H fits.holds.begun.first → (now left : List ℕ) → length now ≤ length asked → LeavesLog (after_write device.log.bytes at asked now) left
     → (placed : List (ℕ × List ℕ)) → NoForeignLog sum size (after_write device.log.bytes at asked now) placed left → StandsTo sum size left H (site.place + from) fits.holds.begun.first (site.place + from))
-    (alone : NoHeaderOfZeros sum → StandsAlone sum size (padded site.slot device.log.bytes) site from H fits.holds.begun.first → StandsAlone sum size (overwritten device.log.bytes at asked) site to H fits.holds.begun.first) where
+    (alone : NoHeaderOfZeros sum → StandsAlone sum size (padded site.slot device.log.bytes) site from (site.place + from) H fits.holds.begun.first → StandsAlone sum size (overwritten device.log.bytes at asked) site to (site.place + to) H fits.holds.begun.first) where
   abbrev after_sync : State
   after_sync = step Synced (step (Wrote at asked asked) device)
 
@@ -90,7 +90,7 @@ module _ (sum : List ℕ → ℕ) (size : ℕ) (site : SegmentPosition) (device 
       → NoForeignLog sum size (after_write device.log.bytes at asked now) placed left → StandsTo sum size left H (site.place + from) fits.holds.begun.first (site.place + from)
   torn_now zeros = torn zeros (fits.alone whole zeros)
 
-  alone_now : NoHeaderOfZeros sum → StandsAlone sum size (overwritten device.log.bytes at asked) site to H fits.holds.begun.first
+  alone_now : NoHeaderOfZeros sum → StandsAlone sum size (overwritten device.log.bytes at asked) site to (site.place + to) H fits.holds.begun.first
   alone_now zeros = alone zeros (fits.beyond whole zeros)
 
   along_behind : Along (LeavesRecoverable sum size H (site.place + from) f) (Wrote at asked asked ∷ Synced ∷ []) device
@@ -100,11 +100,11 @@ module _ (sum : List ℕ → ℕ) (size : ℕ) (site : SegmentPosition) (device 
       → holds.begun.first ≡ fits.holds.begun.first → (A' : ℕ) → A' ≤ site.place + to → FitsIn sum (log_parts size site after_sync fault bytes to cs others) pins H A' f U
   fits_behind reaches cs others holds same A' passes =
       let new : List ℕ = overwritten device.log.bytes at asked in
-      let stands : NoHeaderOfZeros sum → StandsAlone sum size new site to H holds.begun.first = λ zeros. subst (λ (s : SnapshotModel). StandsAlone sum size new site to H s) (sym same) (alone_now zeros) in
+      let stands : NoHeaderOfZeros sum → StandsAlone sum size new site to (site.place + to) H holds.begun.first = λ zeros. subst (λ (s : SnapshotModel). StandsAlone sum size new site to (site.place + to) H s) (sym same) (alone_now zeros) in
       record {
         holds = holds;
         alone = λ none zeros. stands zeros;
-        beyond = λ none zeros. subst (λ (l : List ℕ). StandsAlone sum size l site to H holds.begun.first) (sym (padded_none site.slot new reaches)) (stands zeros);
+        beyond = λ none zeros. subst (λ (l : List ℕ). StandsAlone sum size l site to (site.place + to) H holds.begun.first) (sym (padded_none site.slot new reaches)) (stands zeros);
         blobs = moments.blobs_up sum size big device rest_now site from to up H f fits.holds.begun.first ordered inline fits.names fits.blobs fits.left at asked torn_now alone_now;
         names = subst (λ (s : SnapshotModel). NamesFit sum size device.snapshots H f s) (sym same) fits.names;
         passes = passes;
@@ -231,17 +231,17 @@ module _ (sum : List ℕ → ℕ) (size : ℕ) (site : SegmentPosition) (device 
       }
 
   -- What a crash leaves of the write.
-  torn_first : NoHeaderOfZeros sum → StandsAlone sum size old site from H holds.begun.first → (now left : List ℕ) → length now ≤ length asked → LeavesLog (after_write old (site.slot + from) asked now) left → (placed : List (ℕ × List ℕ))
+  torn_first : NoHeaderOfZeros sum → StandsAlone sum size old site from (site.place + from) H holds.begun.first → (now left : List ℕ) → length now ≤ length asked → LeavesLog (after_write old (site.slot + from) asked now) left → (placed : List (ℕ × List ℕ))
       → NoForeignLog sum size (after_write old (site.slot + from) asked now) placed left → StandsTo sum size left H (site.place + from) holds.begun.first (site.place + from)
   torn_first zeros alone now left no_more leaves placed only_own =
       torn_head_sealed sum zeros size big old site holds.place_begins holds.slot_begins place_small slot_small bytes from first_begins rs b rest fresh closed are rise_size inside holds.stand holds.room holds.header (holds.laid whole)
-      H holds.begun.first alone has_first now left no_more leaves {placed = placed} only_own
+      (site.place + from) H holds.begun.first alone has_first now left no_more leaves {placed = placed} only_own
 
   -- All of it.
-  alone_first : NoHeaderOfZeros sum → StandsAlone sum size (padded site.slot old) site from H holds.begun.first → StandsAlone sum size new_log site stop H holds.begun.first
+  alone_first : NoHeaderOfZeros sum → StandsAlone sum size (padded site.slot old) site from (site.place + from) H holds.begun.first → StandsAlone sum size new_log site stop (site.place + stop) H holds.begun.first
   alone_first zeros beyond =
       first_alone sum size big old site holds.place_begins holds.slot_begins place_small slot_small bytes from first_begins rs b rest fresh closed are rise_size inside holds.stand holds.room holds.header file_old.header (holds.laid whole)
-      zeros H holds.begun.first beyond has_first (all_ascend sum size site device fault bytes from (b ∷ rest) rs H holds) holds.begun.least
+      zeros (site.place + from) H holds.begun.first beyond has_first (all_ascend sum size site device fault bytes from (b ∷ rest) rs H holds) (let least = holds.begun.least in omega (arith, least))
       (none_crosses sum size site device fault bytes from (b ∷ rest) rs H holds (site.place + stop) (let above = up.0 in omega (arith, above)))
 
   -- so the file reaches its slot
@@ -314,17 +314,17 @@ module _ (sum : List ℕ → ℕ) (size : ℕ) (site : SegmentPosition) (device 
   long_records k d lt = let s = holds.stand k d lt in let h = s.headed in let l = s.long in omega (arith, h, l)
 
   -- What a crash leaves of the write.
-  torn_later : x.is_written ≡ false → NoHeaderOfZeros sum → StandsAlone sum size old_later site from H holds.begun.first → (now left : List ℕ) → length now ≤ length asked_later
+  torn_later : x.is_written ≡ false → NoHeaderOfZeros sum → StandsAlone sum size old_later site from (site.place + from) H holds.begun.first → (now left : List ℕ) → length now ≤ length asked_later
       → LeavesLog (after_write old_later (site.slot + at) asked_later now) left → (placed : List (ℕ × List ℕ)) → NoForeignLog sum size (after_write old_later (site.slot + at) asked_later now) placed left
       → StandsTo sum size left H (site.place + from) holds.begun.first (site.place + from)
   torn_later fresh zeros alone now left no_more leaves placed only_own =
-      torn_behind_unwritten sum zeros size big old_later site holds.slot_begins bytes from later_begins rs x xs b rest fresh are rise_later lies.2 long_records holds.room H holds.begun.first old_later (holds.laid whole)
+      torn_behind_unwritten sum zeros size big old_later site holds.slot_begins bytes from later_begins rs x xs b rest fresh are rise_later lies.2 long_records holds.room (site.place + from) H holds.begun.first old_later (holds.laid whole)
       alone now left no_more leaves {placed = placed} only_own
 
   -- All of it.
-  alone_later : x.is_written ≡ false → NoHeaderOfZeros sum → StandsAlone sum size (padded site.slot old_later) site from H holds.begun.first → StandsAlone sum size new_later site from H holds.begun.first
+  alone_later : x.is_written ≡ false → NoHeaderOfZeros sum → StandsAlone sum size (padded site.slot old_later) site from (site.place + from) H holds.begun.first → StandsAlone sum size new_later site from (site.place + from) H holds.begun.first
   alone_later fresh zeros beyond = later_alone sum size big old_later site holds.place_begins holds.slot_begins place_small slot_small bytes from later_begins rs x xs b rest fresh are rise_later lies.2 long_records holds.room (holds.laid whole)
-      zeros H holds.begun.first beyond
+      zeros (site.place + from) H holds.begun.first beyond
 
   -- so the file reaches its slot
   reaches_later : site.slot ≤ length new_later

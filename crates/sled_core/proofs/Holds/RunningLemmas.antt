@@ -39,8 +39,8 @@ module _ (sum : List ℕ → ℕ) (size : ℕ) (site : SegmentPosition) (device 
       let same : first ≡ holds.begun.first = first_same bytes' from' bs' rs' H holds in
       record {
         holds = holds;
-        alone = λ ok none. subst (λ (s : SnapshotModel). StandsAlone sum size device.log.bytes site from' H s) same (subst (λ n. StandsAlone sum size device.log.bytes site n H first) (sym is) (fits.alone ok none));
-        beyond = λ ok none. subst (λ (s : SnapshotModel). StandsAlone sum size (padded site.slot device.log.bytes) site from' H s) same (subst (λ n. StandsAlone sum size (padded site.slot device.log.bytes) site n H first) (sym is) (fits.beyond ok none));
+        alone = λ ok none. subst (λ (s : SnapshotModel). StandsAlone sum size device.log.bytes site from' (site.place + from') H s) same (subst (λ n. StandsAlone sum size device.log.bytes site n (site.place + n) H first) (sym is) (fits.alone ok none));
+        beyond = λ ok none. subst (λ (s : SnapshotModel). StandsAlone sum size (padded site.slot device.log.bytes) site from' (site.place + from') H s) same (subst (λ n. StandsAlone sum size (padded site.slot device.log.bytes) site n (site.place + n) H first) (sym is) (fits.beyond ok none));
         blobs = subst (λ n. BlobsFit sum device.blobs H (site.place + n)) (sym is) fits.blobs;
         names = subst (λ (s : SnapshotModel). NamesFit sum size device.snapshots H f s) same fits.names;
         passes = let le = fits.passes in omega (arith, le, is);
@@ -94,11 +94,14 @@ module _ (sum : List ℕ → ℕ) (size : ℕ) (site : SegmentPosition) (device 
     room : from + 32 ≤ size
     room = let inside = lies.room in omega (arith, inside, above)
 
-    alone_new : NoHeaderOfZeros sum → StandsAlone sum size device.log.bytes site from H' first
-    alone_new none = alone-adds sum size device.log.bytes site from H H' first least none clean m adds above room lies.lies (fits.alone ok none)
+    inside_segment : m.place < site.place + size
+    inside_segment = let inside = lies.room in omega (arith, inside)
 
-    beyond_new : NoHeaderOfZeros sum → StandsAlone sum size (padded site.slot device.log.bytes) site from H' first
-    beyond_new none = alone-adds sum size (padded site.slot device.log.bytes) site from H H' first least none (λ first_one i low high. padded_clean site.slot device.log.bytes i low (clean first_one i low high)) m adds above room lies.lies (fits.beyond ok none)
+    alone_new : NoHeaderOfZeros sum → StandsAlone sum size device.log.bytes site from reach H' first
+    alone_new none = alone-adds sum size device.log.bytes site from reach H H' first least none holds.place_begins clean m adds above inside_segment room lies.lies (fits.alone ok none)
+
+    beyond_new : NoHeaderOfZeros sum → StandsAlone sum size (padded site.slot device.log.bytes) site from reach H' first
+    beyond_new none = alone-adds sum size (padded site.slot device.log.bytes) site from reach H H' first least none holds.place_begins (λ first_one i low high. padded_clean site.slot device.log.bytes i low (clean first_one i low high)) m adds above inside_segment room lies.lies (fits.beyond ok none)
 
     names_new : NamesFit sum size device.snapshots H' f first
     names_new = let reached = fits.holds.begun.reached in names-adds H H' m adds sum size device.snapshots f first (omega (arith, reached, above)) fits.names
@@ -121,8 +124,8 @@ module _ (sum : List ℕ → ℕ) (size : ℕ) (site : SegmentPosition) (device 
         let same : first ≡ holds.begun.first = first_same bytes' from' bs' rs' H' holds in
         record {
           holds = holds;
-          alone = λ fine none. subst (λ (s : SnapshotModel). StandsAlone sum size device.log.bytes site from' H' s) same (subst (λ n. StandsAlone sum size device.log.bytes site n H' first) (sym is) (alone_new none));
-          beyond = λ fine none. subst (λ (s : SnapshotModel). StandsAlone sum size (padded site.slot device.log.bytes) site from' H' s) same (subst (λ n. StandsAlone sum size (padded site.slot device.log.bytes) site n H' first) (sym is) (beyond_new none));
+          alone = λ fine none. subst (λ (s : SnapshotModel). StandsAlone sum size device.log.bytes site from' (site.place + from') H' s) same (subst (λ n. StandsAlone sum size device.log.bytes site n (site.place + n) H' first) (sym is) (alone_new none));
+          beyond = λ fine none. subst (λ (s : SnapshotModel). StandsAlone sum size (padded site.slot device.log.bytes) site from' (site.place + from') H' s) same (subst (λ n. StandsAlone sum size (padded site.slot device.log.bytes) site n (site.place + n) H' first) (sym is) (beyond_new none));
           blobs = subst (λ n. BlobsFit sum device.blobs H' (site.place + n)) (sym is) blobs_new;
           names = subst (λ (s : SnapshotModel). NamesFit sum size device.snapshots H' f s) same names_new;
           passes = let le = fits.passes in omega (arith, le, is);

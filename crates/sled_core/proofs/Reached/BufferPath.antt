@@ -1,5 +1,5 @@
 -- A buffer in which all reservations have ended is a path of records of the history, some of them passed over, and nothing comes behind it; where it begins a segment, the header is there, with a mark that no batch crosses.
-use Rattle.std.proofs.Common.{◌≡◌, ◌≢◌, ◌⊎◌, ◌≤◌, ◌<◌, ◌≤ℤ◌, ◌<ℤ◌, ◌+◌, ◌/◌, ◌%◌, ◌^◌, ◌∙◌, ◌-ℤ◌, ℕ, ℤ, zero, suc, pos, max, Bool, true, false, nat_lt, if◌then◌else◌, List, [], ◌∷◌, length, take, drop, get_or, sym, ap, arith, lt→ltb, le→leb, refl, subst, length-drop, inl, inr, FitsSigned}
+use Rattle.std.proofs.Common.{◌≡◌, ◌≢◌, ◌⊎◌, ◌≤◌, ◌<◌, ◌≤ℤ◌, ◌<ℤ◌, ◌+◌, ◌/◌, ◌%◌, ◌^◌, ◌∙◌, ◌-ℤ◌, ℕ, ℤ, zero, suc, pos, max, Bool, true, false, nat_lt, if◌then◌else◌, List, [], ◌∷◌, take, drop, get_or, sym, ap, arith, lt→ltb, le→leb, refl, subst, inl, inr, FitsSigned}
 use Rattle.std.proofs.Math.IntN.{ -ℤ_one}
 use Rattle.std.specs.List.{All, Contains}
 use Rattle.std.specs.Int.{w64}
@@ -7,10 +7,8 @@ use Rattle.std.proofs.Math.Nat.{div-le_self}
 use Rattle.std.proofs.lemmas.Bool.{cases_lt}
 use Rattle.std.proofs.lemmas.Bool.Decides.{nat_tests}
 use Rattle.std.proofs.lemmas.List.Elements.{All-cons, All-contains, All-tail}
-use Rattle.sled_codec.specs.Coords.{raised}
 use Rattle.sled_codec.specs.Record.{IsHeader, short_header}
 use Rattle.sled_codec.specs.History.{Message, Batch, History}
-use Rattle.sled_store.specs.Device.{overwritten}
 use Rattle.sled_store.proofs.Segments.Elements.{in_first}
 use Rattle.sled_core.specs.declared.iobuf.ReservationState.{ReservationState}
 use Rattle.sled_core.specs.declared.iobuf.ReservationState.TheVariants.{Open, Completed, Canceled}
@@ -20,15 +18,15 @@ use Rattle.sled_core.specs.declared.iterator.scan.ScannedRecord.{ScannedRecord}
 use Rattle.sled_core.specs.declared.iterator.scan.ScanEnd.{ScanEnd}
 use Rattle.sled_core.specs.declared.iterator.scan.ScanEnd.TheVariants.{Full, Capped, Broken}
 use Rattle.sled_core.specs.Buffers.{IsChain, completed_in, message_in, none_open, with_own, Stands}
+use Rattle.sled_core.specs.Reached.{BeginsNext}
 use Rattle.sled_core.specs.Recoverable.{NoMessageBegins, NoBatchBegins, NoBatchEnds, IsOfHistory, IsMarkOf, IsMarkBelow}
 use Rattle.sled_core.specs.Scan.{IsPath, IsEnd, EndsThere}
-use Rattle.sled_core.proofs.Flush.LogFileLemmas.{behind_write}
 use Rattle.sled_core.proofs.Holds.OpenTickets.{by_first}
 use Rattle.sled_core.proofs.Read.PathLemmas.{zeros_empty}
 use Rattle.sled_core.proofs.Reserve.CompletesLemmas.{some_long}
 use Rattle.sled_core.proofs.Reserve.Ranges.{chain_grows, completed_between, own_cases, own_rest}
 use Rattle.sled_core.specs.SealedBuffers.{Agrees}
-use Rattle.sled_core.proofs.Reached.BufferStands.{met_as, met_in, one_inline, path_in, written_agrees}
+use Rattle.sled_core.proofs.Reached.BufferStands.{met_as, met_in, one_inline, path_in}
 
 -- Of a history, these messages begin from one place up to another, and neither a batch nor another message.
 pub record HasOnly (H : History) (ms : List Message) (from to : ℕ) : Type 0 where
@@ -145,28 +143,6 @@ module _ (sum : List ℕ → ℕ) (size : ℕ) (site : SegmentPosition) (log byt
         → HasOnly H (completed_in site bytes rs) (site.place + max 20 from) (site.place + to) → (x : ScannedRecord) → Contains (met_in site bytes rs) x → IsOfHistory sum size log H x
     truth_to rs chain stand room closed has x there = All-contains (IsOfHistory sum size log H) (met_in site bytes rs) x (truth_from (max 20 from) rs (omega arith) chain stand room closed has) there
 
--- The same of a file to which the buffer was written.
-module _ (sum : List ℕ → ℕ) (size : ℕ) (site : SegmentPosition) (old bytes : List ℕ) (from : ℕ) (rs : List Reserved) (behind : from < length bytes) (short : length bytes ≤ size)
-    (place_begins : site.place % size ≡ 0) (slot_begins : site.slot % size ≡ 0) (place_small : site.place + size < 2 ^ 63) (slot_small : site.slot + size < 2 ^ 63)
-    (chain : IsChain (max 20 from) rs (length bytes)) (stand : All (Stands sum (site.place / size) bytes) rs) (room : All (λ r. r.from + 32 ≤ size) rs) (closed : none_open rs ≡ true) where
-  abbrev new : List ℕ
-  new = overwritten old (site.slot + from) (drop from bytes)
-
-  agree : Agrees new site.slot bytes from (length bytes)
-  agree = written_agrees old bytes site.slot from behind
-
-  pub buffer_path : IsPath sum size new site.slot site.place (max 20 from) (met_in site bytes rs) (length bytes)
-  buffer_path = path_to sum size site new bytes from (length bytes) agree short place_begins slot_begins place_small slot_small rs chain stand room closed
-
-  pub buffer_end : ((i : ℕ) → site.slot + from ≤ i → i < site.slot + size → get_or old i 0 ≡ 0) → IsEnd sum size new site.slot site.place (length bytes) (ending_at size (length bytes))
-  buffer_end clean =
-      end_at sum size site new bytes from (length bytes) agree short place_begins slot_begins place_small slot_small (λ more.
-      behind_write sum size old (site.slot + from) (drop from bytes) (site.slot + length bytes + 4) (omega (arith, length-drop from bytes, behind)) (omega (arith, length-drop from bytes, behind))
-      ∙ clean (site.slot + length bytes + 4) (omega (arith, behind)) (omega (arith, more)))
-
-  pub buffer_truth : (H : History) → HasOnly H (completed_in site bytes rs) (site.place + max 20 from) (site.place + length bytes) → (x : ScannedRecord) → Contains (met_in site bytes rs) x → IsOfHistory sum size new H x
-  buffer_truth H has = truth_to sum size site new bytes from (length bytes) agree short place_begins slot_begins place_small slot_small H rs chain stand room closed has
-
 -- The place before a segment is its mark, or minus one where there is none.
 
 mark_is : (m : ℕ) → pos m ≡ pos (suc m) -ℤ pos 1
@@ -201,16 +177,8 @@ buffer_mark H slot place ended = record {
   apart = λ b there. elim (cases_lt b.low place) [ inl lower ↦ inr (mark_higher place b.peg (ended b there lower)) | inr higher ↦ inl (mark_lower place b.low (omega (arith, higher))) ];
 }
 
--- A segment begins behind what was reached, and no further than the next one can. Nothing of the history begins between the two, and no batch ends.
-pub record BeginsBehind (size : ℕ) (H : History) (reach place : ℕ) : Type 0 where
-  pub above : reach ≤ place
-  pub next : place ≤ raised size reach
-  pub no_message : NoMessageBegins H reach place
-  pub no_batch : NoBatchBegins H reach place
-  pub no_end : NoBatchEnds H reach place
-
 -- Where no batch is open at what was reached, none is at the segment.
-pub ended_there : (size : ℕ) (H : History) (reach place : ℕ) → (reach ≡ place) ⊎ BeginsBehind size H reach place → ((b : Batch) → Contains H.batches b → b.low < reach → b.peg < reach)
+pub ended_there : (size : ℕ) (H : History) (reach place : ℕ) → (reach ≡ place) ⊎ BeginsNext size H reach place → ((b : Batch) → Contains H.batches b → b.low < reach → b.peg < reach)
     → (b : Batch) → Contains H.batches b → b.low < place → b.peg < place
 ended_there size H reach place (inl at) ended b there lower = let peg = ended b there (omega (arith, at, lower)) in omega (arith, at, peg)
 ended_there size H reach place (inr g) ended b there lower =
@@ -218,7 +186,7 @@ ended_there size H reach place (inr g) ended b there lower =
     elim (g.no_batch b there) [ inl low ↦ (let peg = ended b there low in omega (arith, peg, above)) | inr high ↦ absurd (omega (arith, high, lower)) ]
 
 -- And its mark lies below what was reached, or just behind it.
-pub buffer_mark_below : (size : ℕ) (H : History) (reach place : ℕ) → (reach ≡ place) ⊎ BeginsBehind size H reach place → IsMarkBelow size H reach (pos place -ℤ pos 1)
+pub buffer_mark_below : (size : ℕ) (H : History) (reach place : ℕ) → (reach ≡ place) ⊎ BeginsNext size H reach place → IsMarkBelow size H reach (pos place -ℤ pos 1)
 buffer_mark_below size H reach place (inl at) = inl (mark_lower place reach (omega (arith, at)))
 buffer_mark_below size H reach zero (inr g) = inl (mark_lower 0 reach (omega arith))
 buffer_mark_below size H reach (suc m) (inr g) =

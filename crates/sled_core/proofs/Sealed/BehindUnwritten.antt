@@ -46,7 +46,7 @@ head_headed from rs x xs are none = let grows = chain_grows (max 20 from) x.end 
 
 module _ (sum : List ℕ → ℕ) (none : NoHeaderOfZeros sum) (size : ℕ) (some : 256 ≤ size) (old : List ℕ) (site : SegmentPosition) (slot_begins : site.slot % size ≡ 0) (bytes : List ℕ) (from : ℕ) (begins : (from ≡ 0) ⊎ (20 ≤ from))
     (rs : List Reserved) (x : Sealed) (xs : List Sealed) (b : Sealed) (rest : List Sealed) (fresh : x.is_written ≡ false) (are : AreSealed from rs (x ∷ xs ++ b ∷ rest)) (rise : EndsRise from (x ∷ xs ++ b ∷ rest) size) (inside : b.end ≤ length bytes)
-    (lens : All (λ r. 5 ≤ r.len) rs) (room : All (λ r. r.from + 32 ≤ size) rs) (H : History) (first : SnapshotModel) where
+    (lens : All (λ r. 5 ≤ r.len) rs) (room : All (λ r. r.from + 32 ≤ size) rs) (reach : ℕ) (H : History) (first : SnapshotModel) where
   -- where it begins
   abbrev at : ℕ
   at = sealed_end x.end xs
@@ -71,11 +71,11 @@ module _ (sum : List ℕ → ℕ) (none : NoHeaderOfZeros sum) (size : ℕ) (som
     gap = head_long from begins rs x (xs ++ b ∷ rest) are lens
 
     -- What a crash leaves of it.
-    pub torn_behind_unwritten : StandsAlone sum size file site from H first → (now left : List ℕ) → length now ≤ length asked → LeavesLog (after_write file (site.slot + at) asked now) left → {placed : List (ℕ × List ℕ)}
-        → NoForeignLog sum size (after_write file (site.slot + at) asked now) placed left → StandsTo sum size left H (site.place + from) first (site.place + from)
+    pub torn_behind_unwritten : StandsAlone sum size file site from reach H first → (now left : List ℕ) → length now ≤ length asked → LeavesLog (after_write file (site.slot + at) asked now) left → {placed : List (ℕ × List ℕ)}
+        → NoForeignLog sum size (after_write file (site.slot + at) asked now) placed left → StandsTo sum size left H reach first reach
     torn_behind_unwritten alone now left no_more leaves {placed} only_own =
-        torn_gap sum none size some file site from at asked fits slot_begins has_room x.end gap lies.0 (head_headed from rs x (xs ++ b ∷ rest) are) clean H first alone now left no_more leaves {placed = placed} only_own
+        torn_gap sum none size some file site from at asked fits slot_begins has_room x.end gap lies.0 (head_headed from rs x (xs ++ b ∷ rest) are) clean reach H first alone now left no_more leaves {placed = placed} only_own
 
     -- All of it, where the file reaches up to the slot.
-    pub written_behind_unwritten : StandsAlone sum size file site from H first → site.slot ≤ length file → StandsAlone sum size (overwritten file (site.slot + at) asked) site from H first
-    written_behind_unwritten alone there = gap_written sum none size some file site from at asked fits slot_begins has_room x.end gap lies.0 (head_headed from rs x (xs ++ b ∷ rest) are) clean H first alone there
+    pub written_behind_unwritten : StandsAlone sum size file site from reach H first → site.slot ≤ length file → StandsAlone sum size (overwritten file (site.slot + at) asked) site from reach H first
+    written_behind_unwritten alone there = gap_written sum none size some file site from at asked fits slot_begins has_room x.end gap lies.0 (head_headed from rs x (xs ++ b ∷ rest) are) clean reach H first alone there

@@ -1,5 +1,5 @@
--- The write of a sealed buffer behind one that isn't written, where the current segment is all that is found: torn or whole, a reader finds what he found before.
-use Rattle.std.proofs.Common.{◌≡◌, ◌≤◌, ◌<◌, ◌+◌, ◌*◌, ◌/◌, ◌%◌, ℕ, pos, List, length, get_or, refl, sym, ap, ◌∙◌, subst, arith, inl, inr}
+-- The write of a sealed buffer behind one that isn't written, where no other segment that is found has the number of the current one: torn or whole, a reader finds what he found before.
+use Rattle.std.proofs.Common.{◌≡◌, ◌≢◌, ◌≤◌, ◌<◌, ◌<ℤ◌, ◌+◌, ◌*◌, ◌/◌, ◌%◌, ℕ, pos, List, length, get_or, refl, sym, ap, ◌∙◌, subst, arith, inl, inr}
 use Rattle.std.proofs.Math.Nat.{mod-add-div'}
 use Rattle.std.proofs.lemmas.Bool.{cases_eq, cases_lt}
 use Rattle.sled_codec.specs.Record.{IsHeader}
@@ -10,17 +10,21 @@ use Rattle.sled_store.specs.Foreign.{NoForeignLog}
 use Rattle.sled_core.specs.declared.iobuf.SegmentPosition.{SegmentPosition}
 use Rattle.sled_core.specs.declared.iterator.Segment.{Segment}
 use Rattle.sled_core.specs.declared.iterator.scan.ScanEnd.TheVariants.{Broken}
-use Rattle.sled_core.specs.Reached.{GoesOnIn, StandsAlone}
+use Rattle.sled_core.specs.Reached.{GoesOnIn, IsLed, StandsAlone}
 use Rattle.sled_core.specs.Recoverable.{NoHeaderOfZeros}
 use Rattle.sled_core.specs.Scan.{IsFoundSegment, IsEnd, EndsThere, IsScan}
 use Rattle.sled_core.specs.Tail.{Scanned, IsScanned, least_place}
 use Rattle.sled_core.proofs.Flush.LogFileLemmas.{part_kept}
 use Rattle.sled_core.proofs.Read.PathLemmas.{zeros_empty}
+use Rattle.sled_codec.specs.Places.{part}
+use Rattle.sled_codec.proofs.Segments.{one_header}
+use Rattle.sled_core.proofs.Read.FoundLemmas.{pos_injective}
+use Rattle.sled_core.proofs.Torn.WrittenBegun.{none_in_zeros}
 use Rattle.sled_core.proofs.Reached.Higher.{known_in}
-use Rattle.sled_core.proofs.Reached.LeftBeside.{IsSameBeside}
+use Rattle.sled_core.proofs.Reached.LeftBeside.{IsSameBeside, found_beside}
 use Rattle.sled_core.proofs.Reached.StandsTo.{StandsTo}
 use Rattle.sled_core.proofs.Reached.WrittenUnread.{torn_headless, torn_unread, written_headless, written_unread, zero_below}
-use Rattle.sled_core.proofs.Reached.WrittenWhole.{same_whole}
+use Rattle.sled_core.proofs.Reached.WrittenWhole.{all_done, leaves_new, same_whole}
 use Rattle.sled_core.proofs.Tail.OneTail.{segment_there}
 use Rattle.sled_core.proofs.Torn.TornLemmas.{after_write}
 use Rattle.sled_core.proofs.Torn.WrittenParts.{in_this_file, path_rises, path_whole, twenty}
@@ -28,12 +32,9 @@ use Rattle.sled_core.proofs.Torn.WrittenParts.{in_this_file, path_rises, path_wh
 module _ (sum : List ℕ → ℕ) (none : NoHeaderOfZeros sum) (size : ℕ) (some : 256 ≤ size) (old : List ℕ) (site : SegmentPosition) (from at : ℕ) (asked : List ℕ) (inside : at + length asked ≤ size)
     (slot_begins : site.slot % size ≡ 0) (has_room : from + 32 ≤ size) (to : ℕ) (gap : from + 5 ≤ to) (before : to ≤ at) (headed : from ≡ 0 → 20 ≤ to)
     (clean : (i : ℕ) → site.slot + from ≤ i → i < site.slot + to → get_or old i 0 ≡ 0)
-    (H : History) (first : SnapshotModel) (alone : StandsAlone sum size old site from H first) where
+    (reach : ℕ) (H : History) (first : SnapshotModel) (alone : StandsAlone sum size old site from reach H first) where
   abbrev new : List ℕ
   new = overwritten old (site.slot + at) asked
-
-  abbrev reach : ℕ
-  reach = site.place + from
 
   -- the number of its slot
   abbrev slot : ℕ
@@ -73,15 +74,53 @@ module _ (sum : List ℕ → ℕ) (none : NoHeaderOfZeros sum) (size : ℕ) (som
     beside : IsSameBeside sum size old new site.slot
     beside = subst (λ n. IsSameBeside sum size old (overwritten old (n + at) asked) n) its_slot (same_whole sum size some old slot at asked inside there_too)
 
-    only : (s : Segment) → IsFoundSegment sum size new (least_place size first) s → s.slot ≡ site.slot
-    only s found = elim (cases_eq s.slot site.slot) [ inl same ↦ same | inr other ↦ alone.only s (beside.found (least_place size first) s other found) ]
+    only : (s : Segment) → IsFoundSegment sum size new (least_place size first) s → s.place ≡ site.place → s.slot ≡ site.slot
+    only s found same = elim (cases_eq s.slot site.slot) [ inl here ↦ here | inr other ↦ alone.only s (beside.found (least_place size first) s other found) same ]
+
+    -- The one that leads to it is found and read as before.
+    led_on : IsLed sum size new (least_place size first) reach site.place
+    led_on = elim alone.led [
+      | inl below ↦ inl below
+      | inr (inl low) ↦ inr (inl low)
+      | inr (inr l) ↦ (
+          let next = l.next in
+          let other : l.scan.segment.slot ≢ site.slot = λ here. (let same = alone.own l.scan.segment l.found here in omega (arith, same, next, some)) in
+          inr (inr (record {
+            scan = l.scan;
+            found = subst (λ n. IsFoundSegment sum size (overwritten old (n + at) asked) (least_place size first) l.scan.segment) its_slot
+                (found_beside sum size some old slot at asked asked (overwritten old (slot * size + at) asked) inside (all_done sum size some old slot at asked inside there_too) (leaves_new sum size some old slot at asked inside there_too)
+                (least_place size first) l.scan.segment (λ here. other (here ∙ its_slot)) l.found);
+            read = beside.scans (least_place size first) l.scan l.found other l.read;
+            next = next;
+            goes = l.goes;
+            below = l.below;
+          })))
+    ]
+
+    -- No mark lies behind what is written, where that of the segment doesn't.
+    below_by : ((s : Segment) → IsFoundSegment sum size new (least_place size first) s → s.slot ≡ site.slot → s.mark <ℤ pos (site.place + from))
+        → (s : Segment) → IsFoundSegment sum size new (least_place size first) s → s.mark <ℤ pos (site.place + from)
+    below_by own s found = elim (cases_eq s.slot site.slot) [ inl here ↦ own s found here | inr other ↦ alone.below s (beside.found (least_place size first) s other found) ]
 
     -- Nothing of the segment is written yet.
-    headless : from ≡ 0 → StandsAlone sum size new site from H first
+    headless : from ≡ 0 → StandsAlone sum size new site from reach H first
     headless begins =
-        let stands = subst (λ n. StandsTo sum size (overwritten old (n + at) asked) H reach first reach) its_slot
-        (written_headless sum size some old slot at asked inside H reach first reach alone.stands none (far begins) (begins_clean begins) there_too) in
-        record { stands = stands; only = only; going = λ later room. absurd (omega (arith, begins, later)) }
+        let below_slot : slot * size + 20 ≤ slot * size + at = (let h = far begins in omega (arith, h)) in
+        let written = written_headless sum size some old slot at asked inside H reach first reach alone.stands none (far begins) (begins_clean begins) there_too in
+        let zeros : (i : ℕ) → site.slot ≤ i → i < site.slot + 20 → get_or new i 0 ≡ 0 =
+        λ i above under. zero_below old (site.slot + at) asked i (omega (arith, below_slot, under)) (begins_clean begins i (omega (arith, its_slot, above)) (omega (arith, its_slot, under))) in
+        let stands = subst (λ n. StandsTo sum size (overwritten old (n + at) asked) H reach first reach) its_slot written in
+        let none_here : (s : Segment) → IsFoundSegment sum size new (least_place size first) s → s.slot ≡ site.slot → ⊥ =
+        λ s found here. none_in_zeros sum 20 none (omega arith) new site.slot zeros (pos s.place) s.mark (subst (λ n. IsHeader sum (part new n 20) (pos s.place) s.mark) here found.header) in
+        record {
+          stands = stands;
+          reached = alone.reached;
+          led = led_on;
+          only = only;
+          own = λ s found here. absurd (none_here s found here);
+          below = below_by (λ s found here. absurd (none_here s found here));
+          going = λ later room. absurd (omega (arith, begins, later));
+        }
 
     -- The reading of it ends in front of the gap.
     module _ (later : 0 < from) where
@@ -125,12 +164,24 @@ module _ (sum : List ℕ → ℕ) (none : NoHeaderOfZeros sum) (size : ℕ) (som
           let same = part_kept sum size old (site.slot + at) asked y.segment.slot 20 in_file (inl (omega (arith, in_slot, rises, ended, gap, before))) in
           record { slot = found.slot; header = subst (λ (l : List ℕ). IsHeader sum l (pos y.segment.place) y.segment.mark) (sym same) found.header; not_below = found.not_below }
 
-      behind : StandsAlone sum size new site from H first
+      -- its header is as it was
+      its_header : (s : Segment) → IsFoundSegment sum size new (least_place size first) s → s.slot ≡ site.slot → (pos s.place ≡ pos g.scan.segment.place) × (s.mark ≡ g.scan.segment.mark)
+      its_header s found here =
+          one_header sum (part new g.scan.segment.slot 20) (pos s.place) s.mark (pos g.scan.segment.place) g.scan.segment.mark (subst (λ n. IsHeader sum (part new n 20) (pos s.place) s.mark) (here ∙ sym g.in_slot) found.header) y_found.header
+
+      was_found : IsFoundSegment sum size old (least_place size first) g.scan.segment
+      was_found = (alone.stands.numbers.found g.scan.segment).0 (segment_there sum size old alone.stands.ordering alone.stands.scanned alone.stands.reads g.scan g.there).0
+
+      behind : StandsAlone sum size new site from reach H first
       behind = record {
         stands = stands;
+        reached = alone.reached;
+        led = led_on;
         only = only;
+        own = λ s found here. pos_injective s.place g.scan.segment.place (its_header s found here).0 ∙ g.at_place;
+        below = below_by (λ s found here. subst (λ z. z <ℤ pos (site.place + from)) (sym (its_header s found here).1) (alone.below g.scan.segment was_found));
         going = λ more room. record { scan = g.scan; there = known_in sum size new H reach first reach stands g.scan y_found y_scan; in_slot = g.in_slot; at_place = g.at_place; ended = g.ended; broken = g.broken };
       }
 
-    pub gap_written : StandsAlone sum size new site from H first
+    pub gap_written : StandsAlone sum size new site from reach H first
     gap_written = elim (cases_lt 0 from) [ inl later ↦ behind later | inr first_one ↦ headless (omega (arith, first_one)) ]

@@ -54,7 +54,7 @@ module _ (sum : List ℕ → ℕ) (none : NoHeaderOfZeros sum) (size : ℕ) (som
     (fresh : b.is_written ≡ false) (closed : b.open_count ≡ 0) (are : AreSealed from rs (b ∷ rest)) (rise : EndsRise from (b ∷ rest) size) (inside : b.end ≤ length bytes)
     (stand : All (Stands sum (site.place / size) bytes) rs) (room : All (λ r. r.from + 32 ≤ size) rs)
     (header : from ≡ 0 → take 20 bytes ≡ short_header sum (pos site.place) (pos site.place -ℤ pos 1))
-    (laid : Laid file site.slot bytes from (b ∷ rest) size) (H : History) (first : SnapshotModel) (alone : StandsAlone sum size file site from H first) where
+    (laid : Laid file site.slot bytes from (b ∷ rest) size) (reach : ℕ) (H : History) (first : SnapshotModel) (alone : StandsAlone sum size file site from reach H first) where
   abbrev asked : List ℕ
   asked = bytes_between bytes from b.end
 
@@ -158,15 +158,15 @@ module _ (sum : List ℕ → ℕ) (none : NoHeaderOfZeros sum) (size : ℕ) (som
 
     -- What a crash leaves of it.
     pub torn_head_sealed : (now left : List ℕ) → length now ≤ length asked → LeavesLog (after_write file (site.slot + from) asked now) left → {placed : List (ℕ × List ℕ)}
-        → NoForeignLog sum size (after_write file (site.slot + from) asked now) placed left → StandsTo sum size left H (site.place + from) first (site.place + from)
+        → NoForeignLog sum size (after_write file (site.slot + from) asked now) placed left → StandsTo sum size left H reach first reach
     torn_head_sealed now left no_more leaves {placed} only_own =
         torn_head sum none size some file site from asked b.end covers (omega (arith, far, low)) (head_headed from rs b rest are) (head_room size from some begins rs b rest are room) place_begins slot_begins place_small headed clean
-        H first alone (met_in site bytes done) stop (ending_at size stop) clear path ends truth (λ capped. absurd (never_capped size stop capped)) now left no_more leaves {placed = placed} only_own
+        reach H first alone (met_in site bytes done) stop (ending_at size stop) clear path ends truth (λ capped. absurd (never_capped size stop capped)) now left no_more leaves {placed = placed} only_own
 
     -- All of it, where the file reaches up to the slot.
-    pub head_sealed_written : Ascends H.messages → site.slot ≤ length file → least_place size first ≡ site.place → ((c : Batch) → Contains H.batches c → c.low < site.place + stop → c.peg < site.place + stop) → HasHeader sum new site
-        → StandsAlone sum size new site stop H first
-    head_sealed_written ordered there least_is ended has_header =
+    pub head_sealed_written : Ascends H.messages → site.slot ≤ length file → least_place size first ≤ site.place → ((c : Batch) → Contains H.batches c → c.low < site.place + stop → c.peg < site.place + stop) → HasHeader sum new site
+        → StandsAlone sum size new site stop (site.place + stop) H first
+    head_sealed_written ordered there low_enough ended has_header =
         head_written sum none size some file site from asked b.end covers (omega (arith, far, low)) (head_headed from rs b rest are) (head_room size from some begins rs b rest are room) place_begins slot_begins place_small headed clean
-        H first alone (met_in site bytes done) stop (ending_at size stop) clear path ends truth (λ capped. absurd (never_capped size stop capped)) ordered there least_is ended has_header
+        reach H first alone (met_in site bytes done) stop (ending_at size stop) clear path ends truth (λ capped. absurd (never_capped size stop capped)) ordered there low_enough ended has_header
         (λ more. let test : nat_lt size (stop + 32) ≡ false = grind (arith, nat_tests, more) in ap (λ (o : Bool). if o then Full else Broken) test)

@@ -1,5 +1,5 @@
--- The write of the first sealed buffer, where the current segment is all that is found: what a crash leaves of it stands up to what was written before, and all of it up to where the reading of the segment ends. That may be behind later buffers, which were written before it.
-use Rattle.std.proofs.Common.{◌≡◌, ◌⊎◌, ◌≤◌, ◌<◌, ◌+◌, ◌*◌, ◌/◌, ◌%◌, ◌^◌, ◌-ℤ◌, ℕ, pos, max, List, [], ◌++◌, length, take, get_or, refl, sym, subst, arith, inl, inr}
+-- The write of the first sealed buffer, where no other segment that is found has the number of the current one: what a crash leaves of it stands up to what was written before, and all of it up to where the reading of the segment ends. That may be behind later buffers, which were written before it.
+use Rattle.std.proofs.Common.{◌≡◌, ◌⊎◌, ◌≤◌, ◌<◌, ◌<ℤ◌, ◌+◌, ◌*◌, ◌/◌, ◌%◌, ◌^◌, ◌-ℤ◌, ℕ, ℤ, pos, negsuc, lt→ltb, max, List, [], ◌++◌, length, take, get_or, refl, sym, subst, arith, inl, inr}
 use Rattle.std.specs.List.{Contains}
 use Rattle.std.proofs.Math.Nat.{mod-add-div'}
 use Rattle.std.proofs.lemmas.Bool.{cases_eq, cases_lt}
@@ -16,14 +16,17 @@ use Rattle.sled_core.specs.declared.iterator.scan.ScannedRecord.{ScannedRecord}
 use Rattle.sled_core.specs.declared.iterator.scan.ScanEnd.{ScanEnd}
 use Rattle.sled_core.specs.declared.iterator.scan.ScanEnd.TheVariants.{Capped, Broken}
 use Rattle.sled_core.specs.LogFile.{HasHeader}
-use Rattle.sled_core.specs.Reached.{GoesOnIn, StandsAlone}
+use Rattle.sled_core.specs.Reached.{BeginsNext, GoesOnIn, ReachesIn, StandsAlone}
 use Rattle.sled_core.specs.Recoverable.{NoHeaderOfZeros, NoMessageBegins, NoBatchBegins, IsOfHistory}
 use Rattle.sled_core.specs.Scan.{IsFoundSegment, IsPath, IsEnd, IsScan}
 use Rattle.sled_core.specs.Tail.{Scanned, IsScanned, least_place}
-use Rattle.sled_core.proofs.Reached.BufferPath.{buffer_header, buffer_mark, buffer_mark_below}
-use Rattle.sled_core.proofs.Reached.Higher.{known_in}
+use Rattle.sled_core.proofs.Read.FoundLemmas.{pos_injective}
+use Rattle.sled_core.proofs.Reached.BufferPath.{buffer_header, buffer_mark, buffer_mark_below, ended_there}
+use Rattle.sled_core.proofs.Reached.Higher.{IsBegunOrLedTo, known_in}
 use Rattle.sled_core.proofs.Reached.LeftBeside.{IsSameBeside}
 use Rattle.sled_core.proofs.Reached.OneWrite.{BeginsSegment, torn_stands, written_stands}
+use Rattle.sled_codec.proofs.Segments.{one_header}
+use Rattle.sled_core.proofs.Reached.Recoverable.{less_than}
 use Rattle.sled_core.proofs.Reached.StandsTo.{StandsTo}
 use Rattle.sled_core.proofs.Reached.WrittenWhole.{same_whole}
 use Rattle.sled_core.proofs.Tail.OneTail.{segment_there}
@@ -32,12 +35,21 @@ use Rattle.sled_core.proofs.Torn.WrittenBegun.{none_in_zeros}
 use Rattle.sled_core.proofs.Torn.WrittenParts.{path_rises, path_whole, paths_joined}
 use Rattle.sled_core.proofs.Torn.WrittenRecords.{AreClear}
 
+-- a reader is led to the current segment
+pub led_in : (sum : List ℕ → ℕ) (size : ℕ) (log : List ℕ) (site : SegmentPosition) (from reach : ℕ) (H : History) (first : SnapshotModel) (alone : StandsAlone sum size log site from reach H first)
+    → IsBegunOrLedTo size alone.stands.scanned (least_place size first) reach site.place
+led_in sum size log site from reach H first alone = elim alone.led [
+  | inl below ↦ inl below
+  | inr (inl low) ↦ inr (inl low)
+  | inr (inr l) ↦ inr (inr (record { scan = l.scan; there = known_in sum size log H reach first reach alone.stands l.scan l.found l.read; next = l.next; goes = l.goes; below = l.below }))
+]
+
 -- What was met of the current segment before, in a file that is the same up to what was written.
-pub met_before : (sum : List ℕ → ℕ) (size : ℕ) (old new : List ℕ) (site : SegmentPosition) (from : ℕ) (H : History) (first : SnapshotModel) (alone : StandsAlone sum size old site from H first) → from + 32 ≤ size
+pub met_before : (sum : List ℕ → ℕ) (size : ℕ) (old new : List ℕ) (site : SegmentPosition) (from reach : ℕ) (H : History) (first : SnapshotModel) (alone : StandsAlone sum size old site from reach H first) → from + 32 ≤ size
     → ((met : List ScannedRecord) → IsPath sum size old site.slot site.place 20 met from → IsPath sum size new site.slot site.place 20 met from)
     → (met : List ScannedRecord) × IsPath sum size new site.slot site.place 20 met (max 20 from)
 unfolding IsScan
-met_before sum size old new site from H first alone has_room stays = elim (cases_lt 0 from) [
+met_before sum size old new site from reach H first alone has_room stays = elim (cases_lt 0 from) [
   | inl later ↦ (
       let g = alone.going later has_room in
       let scan = (segment_there sum size old alone.stands.ordering alone.stands.scanned alone.stands.reads g.scan g.there).1 in
@@ -50,21 +62,33 @@ met_before sum size old new site from H first alone has_room stays = elim (cases
   | inr first_one ↦ ([], omega (arith, first_one))
 ]
 
+-- Where nothing of a segment is written, what was reached ends there where it begins, or before.
+pub reached_first : (size : ℕ) (H : History) (place from reach : ℕ) → from ≡ 0 → ReachesIn size H place from reach → (reach ≡ place) ⊎ BeginsNext size H reach place
+reached_first size H place from reach begins (inl at) = inl (omega (arith, at, begins))
+reached_first size H place from reach begins (inr next) = inr next.1
+
+-- and it never lies behind what is written
+pub reached_near : (size : ℕ) (H : History) (place from reach : ℕ) → ReachesIn size H place from reach → reach ≤ place + from
+reached_near size H place from reach (inl at) = omega (arith, at)
+reached_near size H place from reach (inr next) = let above = next.1.above in omega (arith, above)
+
+-- a mark that lies below a place lies below a higher one
+pub mark_under : (mark : ℤ) (low high : ℕ) → low ≤ high → ((n : ℕ) → mark ≡ pos n → n < low) → mark <ℤ pos high
+mark_under (pos n) low high le below = let under = below n refl in omega (arith, lt→ltb, le, under)
+mark_under (negsuc n) low high le below = omega arith
+
 module _ (sum : List ℕ → ℕ) (none : NoHeaderOfZeros sum) (size : ℕ) (some : 256 ≤ size) (old : List ℕ) (site : SegmentPosition) (from : ℕ) (asked : List ℕ)
     (until : ℕ) (covers : from + length asked ≤ until) (reaches : until ≤ size) (headed : from ≡ 0 → 20 ≤ until) (has_room : from + 32 ≤ size)
     (place_begins : site.place % size ≡ 0) (slot_begins : site.slot % size ≡ 0) (place_small : site.place + size < 2 ^ 63)
     (header : from ≡ 0 → take 20 asked ≡ short_header sum (pos site.place) (pos site.place -ℤ pos 1))
     (clean : (i : ℕ) → site.slot + from ≤ i → i < site.slot + until → get_or old i 0 ≡ 0)
-    (H : History) (first : SnapshotModel) (alone : StandsAlone sum size old site from H first)
+    (reach : ℕ) (H : History) (first : SnapshotModel) (alone : StandsAlone sum size old site from reach H first)
     (more : List ScannedRecord) (stop : ℕ) (why : ScanEnd) (clear : AreClear size until (max 20 from) more)
     (path : IsPath sum size (overwritten old (site.slot + from) asked) site.slot site.place (max 20 from) more stop) (end : IsEnd sum size (overwritten old (site.slot + from) asked) site.slot site.place stop why)
     (truth : (x : ScannedRecord) → Contains more x → IsOfHistory sum size (overwritten old (site.slot + from) asked) H x)
     (caps : why ≡ Capped → NoMessageBegins H (site.place + stop) (site.place + size) × NoBatchBegins H (site.place + stop) (site.place + size)) where
   abbrev new : List ℕ
   new = overwritten old (site.slot + from) asked
-
-  abbrev reach : ℕ
-  reach = site.place + from
 
   -- the number of its slot
   abbrev slot : ℕ
@@ -83,19 +107,19 @@ module _ (sum : List ℕ → ℕ) (none : NoHeaderOfZeros sum) (size : ℕ) (som
     | inr first_one ↦ (
         let begins : from ≡ 0 = omega (arith, first_one) in
         let far = headed begins in
-        let at : reach ≡ site.place = omega (arith, begins) in
+        let at : (reach ≡ site.place) ⊎ BeginsNext size H reach site.place = reached_first size H site.place from reach begins alone.reached in
         inr (record {
           begins = begins;
           mark = pos site.place -ℤ pos 1;
           header = buffer_header sum asked 0 site.place refl (omega (arith, place_small)) (header begins);
           whole = place_begins;
           fits = place_small;
-          its_mark = buffer_mark H (slot * size) site.place (λ b there lower. (let peg = alone.stands.closed b there (omega (arith, at, lower)) in omega (arith, at, peg)));
-          mark_below = buffer_mark_below size H reach site.place (inl at);
+          its_mark = buffer_mark H (slot * size) site.place (ended_there size H reach site.place at alone.stands.closed);
+          mark_below = buffer_mark_below size H reach site.place at;
           alone = λ s there same.
               let found = (alone.stands.numbers.found s).0 there in
               none_in_zeros sum until none far old site.slot (λ i above below. clean i (omega (arith, above, begins)) below) (pos s.place) s.mark
-              (subst (λ n. IsHeader sum (part old n 20) (pos s.place) s.mark) (alone.only s found) found.header);
+              (subst (λ n. IsHeader sum (part old n 20) (pos s.place) s.mark) (alone.only s found same) found.header);
         }))
   ]
 
@@ -120,30 +144,53 @@ module _ (sum : List ℕ → ℕ) (none : NoHeaderOfZeros sum) (size : ℕ) (som
       (subst (λ n. NoForeignLog sum size (after_write old (n + from) asked now) placed left) (sym its_slot) only_own)
 
   -- All of it, where the file reaches up to the slot.
-  module _ (ordered : Ascends H.messages) (there : site.slot ≤ length old) (least_is : least_place size first ≡ site.place)
+  module _ (ordered : Ascends H.messages) (there : site.slot ≤ length old) (low : least_place size first ≤ site.place)
       (ended : (b : Batch) → Contains H.batches b → b.low < site.place + stop → b.peg < site.place + stop) (has_header : HasHeader sum new site) where
     rises : max 20 from ≤ stop
     rises = path_rises sum size new site.slot site.place (max 20 from) more stop path
+
+    near : reach ≤ site.place + from
+    near = reached_near size H site.place from reach alone.reached
+
+    -- Nothing begins between what was reached and the segment.
+    between : NoMessageBegins H reach site.place
+    between = elim alone.reached [
+      | inl at ↦ λ m at_m. elim (cases_lt m.place reach) [ inl lower ↦ inl lower | inr above ↦ inr (omega (arith, above, at)) ]
+      | inr next ↦ next.1.no_message
+    ]
 
     stands : StandsTo sum size new H (site.place + stop) first (site.place + stop)
     stands =
         subst (λ n. StandsTo sum size (overwritten old (n + from) asked) H (site.place + stop) first (site.place + stop)) its_slot
         (written_stands sum none size some old slot from asked inside until covers clean_there H reach first reach alone.stands site.place goes_on more stop why clear path_there end_there truth_there caps
-        ordered (omega (arith, its_slot, there)) (omega (arith, least_is)) (site.place + stop) (omega arith) (omega (arith, rises)) (inr (inl (omega (arith, least_is))))
-        (λ m at_m. elim (cases_lt m.place reach) [ inl lower ↦ inl lower | inr above ↦ inr (omega (arith, above)) ]) ended)
+        ordered (omega (arith, its_slot, there)) low (site.place + stop) (omega arith) (omega (arith, rises, near)) (led_in sum size old site from reach H first alone) between ended)
 
-    -- Only this segment is found.
+    -- No other one that is found has its number.
 
     beside : IsSameBeside sum size old new site.slot
     beside = subst (λ n. IsSameBeside sum size old (overwritten old (n + from) asked) n) its_slot (same_whole sum size some old slot from asked inside (omega (arith, its_slot, there)))
 
-    only : (s : Segment) → IsFoundSegment sum size new (least_place size first) s → s.slot ≡ site.slot
-    only s found = elim (cases_eq s.slot site.slot) [ inl same ↦ same | inr other ↦ alone.only s (beside.found (least_place size first) s other found) ]
+    its_header : (s : Segment) → IsFoundSegment sum size new (least_place size first) s → s.slot ≡ site.slot → (pos s.place ≡ pos site.place) × (s.mark ≡ has_header.mark)
+    its_header s found here = one_header sum (part new site.slot 20) (pos s.place) s.mark (pos site.place) has_header.mark (subst (λ n. IsHeader sum (part new n 20) (pos s.place) s.mark) here found.header) has_header.header
+
+    only : (s : Segment) → IsFoundSegment sum size new (least_place size first) s → s.place ≡ site.place → s.slot ≡ site.slot
+    only s found same = elim (cases_eq s.slot site.slot) [ inl here ↦ here | inr other ↦ alone.only s (beside.found (least_place size first) s other found) same ]
+
+    own : (s : Segment) → IsFoundSegment sum size new (least_place size first) s → s.slot ≡ site.slot → s.place ≡ site.place
+    own s found here = pos_injective s.place site.place (its_header s found here).0
+
+    -- And no mark lies behind what is written now.
+    below : (s : Segment) → IsFoundSegment sum size new (least_place size first) s → s.mark <ℤ pos (site.place + stop)
+    below s found = elim (cases_eq s.slot site.slot) [
+      | inl here ↦
+          subst (λ z. z <ℤ pos (site.place + stop)) (sym (its_header s found here).1) (mark_under has_header.mark site.place (site.place + stop) (omega arith) has_header.below)
+      | inr other ↦ less_than s.mark (site.place + from) (site.place + stop) (omega (arith, rises)) (alone.below s (beside.found (least_place size first) s other found))
+    ]
 
     -- It is read to where the path ends.
 
     before : (met : List ScannedRecord) × IsPath sum size new site.slot site.place 20 met (max 20 from)
-    before = met_before sum size old new site from H first alone has_room (λ met is. path_whole sum size old (site.slot + from) asked site.slot site.place slot_begins 20 met from (inl (omega arith)) is)
+    before = met_before sum size old new site from reach H first alone has_room (λ met is. path_whole sum size old (site.slot + from) asked site.slot site.place slot_begins 20 met from (inl (omega arith)) is)
 
     abbrev y : Scanned
     y = record { segment = record { place = site.place; slot = site.slot; mark = has_header.mark }; met = before.0 ++ more; stop = stop; why = why }
@@ -153,11 +200,15 @@ module _ (sum : List ℕ → ℕ) (none : NoHeaderOfZeros sum) (size : ℕ) (som
     y_scan = (paths_joined sum size new site.slot site.place 20 before.0 (max 20 from) more stop before.1 path, end)
 
     y_found : IsFoundSegment sum size new (least_place size first) y.segment
-    y_found = record { slot = slot_begins; header = has_header.header; not_below = omega (arith, least_is) }
+    y_found = record { slot = slot_begins; header = has_header.header; not_below = low }
 
-    pub head_written : (stop + 32 ≤ size → why ≡ Broken) → StandsAlone sum size new site stop H first
+    pub head_written : (stop + 32 ≤ size → why ≡ Broken) → StandsAlone sum size new site stop (site.place + stop) H first
     head_written broken = record {
       stands = stands;
+      reached = inl refl;
+      led = inl (omega (arith, rises));
       only = only;
+      own = own;
+      below = below;
       going = λ later room. record { scan = y; there = known_in sum size new H (site.place + stop) first (site.place + stop) stands y y_found y_scan; in_slot = refl; at_place = refl; ended = refl; broken = broken room };
     }

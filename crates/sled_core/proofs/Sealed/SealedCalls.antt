@@ -65,11 +65,11 @@ module _ (sum : List ℕ → ℕ) (size : ℕ) (some : 256 ≤ size) (old : List
     ]
 
     -- A reader reads up to the end of those that are written now.
-    pub first_alone : NoHeaderOfZeros sum → (H : History) (first : SnapshotModel) → StandsAlone sum size filled site from H first → HasOnly H (completed_in site bytes (take (b.count + run_count rest) rs)) (site.place + max 20 from) (site.place + run_end b.end rest)
-        → Ascends H.messages → least_place size first ≡ site.place → ((c : Batch) → Contains H.batches c → c.low < site.place + run_end b.end rest → c.peg < site.place + run_end b.end rest) → StandsAlone sum size new site (run_end b.end rest) H first
-    first_alone zeros H first alone has ordered least_is ended = subst (λ (l : List ℕ). StandsAlone sum size l site (run_end b.end rest) H first) same_file
-        (head_sealed_written sum zeros size some filled site place_begins slot_begins place_small slot_small bytes from begins rs b rest fresh closed are rise inside stand room header laid_filled H first alone has
-        ordered (padded_long site.slot old) least_is ended (subst (λ (l : List ℕ). HasHeader sum l site) (sym same_file) first_header))
+    pub first_alone : NoHeaderOfZeros sum → (reach : ℕ) (H : History) (first : SnapshotModel) → StandsAlone sum size filled site from reach H first → HasOnly H (completed_in site bytes (take (b.count + run_count rest) rs)) (site.place + max 20 from) (site.place + run_end b.end rest)
+        → Ascends H.messages → least_place size first ≤ site.place → ((c : Batch) → Contains H.batches c → c.low < site.place + run_end b.end rest → c.peg < site.place + run_end b.end rest) → StandsAlone sum size new site (run_end b.end rest) (site.place + run_end b.end rest) H first
+    first_alone zeros reach H first alone has ordered low ended = subst (λ (l : List ℕ). StandsAlone sum size l site (run_end b.end rest) (site.place + run_end b.end rest) H first) same_file
+        (head_sealed_written sum zeros size some filled site place_begins slot_begins place_small slot_small bytes from begins rs b rest fresh closed are rise inside stand room header laid_filled reach H first alone has
+        ordered (padded_long site.slot old) low ended (subst (λ (l : List ℕ). HasHeader sum l site) (sym same_file) first_header))
 
   -- Another one, behind a first one that isn't written.
   module _ (x : Sealed) (xs : List Sealed) (b : Sealed) (rest : List Sealed) (fresh : x.is_written ≡ false) (are : AreSealed from rs (x ∷ xs ++ b ∷ rest)) (rise : EndsRise from (x ∷ xs ++ b ∷ rest) size) (inside : b.end ≤ length bytes)
@@ -90,6 +90,6 @@ module _ (sum : List ℕ → ℕ) (size : ℕ) (some : 256 ≤ size) (old : List
     laid_later = laid_same site.slot old filled bytes from (x ∷ xs ++ b ∷ rest) size rise (record { grows = omega (arith, length-padded site.slot old); same = λ i above below. padded_same site.slot old (site.slot + i) (omega arith) }) laid
 
     -- A reader reads no further than before.
-    pub later_alone : NoHeaderOfZeros sum → (H : History) (first : SnapshotModel) → StandsAlone sum size filled site from H first → StandsAlone sum size (overwritten old (site.slot + at) asked_later) site from H first
-    later_alone zeros H first alone = subst (λ (l : List ℕ). StandsAlone sum size l site from H first) same_later
-        (written_behind_unwritten sum zeros size some old site slot_begins bytes from begins rs x xs b rest fresh are rise inside lens room H first filled laid_later alone (padded_long site.slot old))
+    pub later_alone : NoHeaderOfZeros sum → (reach : ℕ) (H : History) (first : SnapshotModel) → StandsAlone sum size filled site from reach H first → StandsAlone sum size (overwritten old (site.slot + at) asked_later) site from reach H first
+    later_alone zeros reach H first alone = subst (λ (l : List ℕ). StandsAlone sum size l site from reach H first) same_later
+        (written_behind_unwritten sum zeros size some old site slot_begins bytes from begins rs x xs b rest fresh are rise inside lens room reach H first filled laid_later alone (padded_long site.slot old))

@@ -19,7 +19,7 @@ module _ (sum : List ℕ → ℕ) (size : ℕ) (some : 256 ≤ size) (device : S
     (before : LeavesRecoverable sum size H (site.place + from) f device) (at : ℕ) (asked : List ℕ)
     (torn : NoHeaderOfZeros sum → (now left : List ℕ) → length now ≤ length asked → LeavesLog (after_write device.log.bytes at asked now) left → (placed : List (ℕ × List ℕ))
     → NoForeignLog sum size (after_write device.log.bytes at asked now) placed left → StandsTo sum size left H (site.place + from) first (site.place + from))
-    (whole : NoHeaderOfZeros sum → StandsAlone sum size (overwritten device.log.bytes at asked) site to H first) where
+    (whole : NoHeaderOfZeros sum → StandsAlone sum size (overwritten device.log.bytes at asked) site to (site.place + to) H first) where
   -- the state once so much of the write was done
   abbrev while_written : List ℕ → State
   while_written now = step (Wrote at asked now) device

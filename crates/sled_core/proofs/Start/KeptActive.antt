@@ -1,5 +1,5 @@
 -- A log that goes on from a snapshot stands in each file that keeps the slots which the snapshot uses.
-use Rattle.std.proofs.Common.{◌≡◌, ◌+◌, ◌*◌, ◌/◌, ◌%◌, ◌≤◌, ◌<◌, ℕ, true, List, length, Some, sym, subst, arith}
+use Rattle.std.proofs.Common.{◌≡◌, ◌∙◌, ◌+◌, ◌*◌, ◌/◌, ◌%◌, ◌≤◌, ◌<◌, ℕ, true, List, length, Some, ap, refl, sym, subst, arith, inl, inr}
 use Rattle.std.specs.List.{Contains}
 use Rattle.sled_codec.specs.History.{Message, History, table}
 use Rattle.sled_codec.specs.PageTables.{IsTable}
@@ -14,7 +14,9 @@ use Rattle.sled_core.proofs.Start.Entries.{message_used, active_used}
 use Rattle.sled_core.proofs.Start.Recoverable.{same_place}
 use Rattle.sled_core.proofs.Reached.KeptStands.{SameInUsed, found_kept, scan_kept, kept_stands}
 use Rattle.sled_core.proofs.Reached.StartedStands.{found_inside, slot_needed}
+use Rattle.sled_core.proofs.Reached.Recoverable.{less_than}
 use Rattle.sled_core.proofs.Tail.OneTail.{segment_there, reading_there}
+use Rattle.sled_core.proofs.Tail.Moved.{one_in_slot}
 use Rattle.sled_core.proofs.Torn.KeptSlots.{KeepsSlots}
 use Rattle.sled_core.proofs.Torn.StartedSlots.{UsedIn}
 
@@ -70,17 +72,29 @@ module _ (sum : List ℕ → ℕ) (size : ℕ) (long : 20 ≤ size) (log : List 
 
 -- So a log that begins where the snapshot ends stands alone, with the newest snapshot in place of this one.
 pub begins_alone : (sum : List ℕ → ℕ) (size : ℕ) (log : List ℕ) (s first : SnapshotModel) (H : History) (site : SegmentPosition) (from : ℕ) → stable_place first.stable ≡ stable_place s.stable → site.place + from ≡ stable_place s.stable
-    → ((slot : ℕ) → s.active ≡ Some slot → slot ≡ site.slot)
-    → (0 < from → (s.active ≡ Some site.slot) × (from ≡ stable_place s.stable % size) × (site.place ≡ stable_place s.stable / size * size))
-    → StandsActive sum size log s H → StandsAlone sum size log site from H first
-begins_alone sum size log s first H site from same end own behind alone =
+    → site.place ≡ stable_place s.stable / size * size → ((slot : ℕ) → s.active ≡ Some slot → slot ≡ site.slot) → (0 < from → (s.active ≡ Some site.slot) × (from ≡ stable_place s.stable % size))
+    → StandsActive sum size log s H → StandsAlone sum size log site from (site.place + from) H first
+begins_alone sum size log s first H site from same end begins own behind alone =
+    let stable : ℕ = stable_place s.stable in
     let reach : ℕ = site.place + from in
-    let on = same_place sum size log H (stable_place s.stable) reach s first (stable_place s.stable) reach same end (omega arith) alone.stands in
+    let on = same_place sum size log H stable reach s first stable reach same end (omega arith) alone.stands in
+    let least : least_place size first ≡ least_place size s = ap (λ n. n / size * size) same in
+    let was : (x : Segment) → IsFoundSegment sum size log (least_place size first) x → IsFoundSegment sum size log (least_place size s) x = λ x found. subst (λ n. IsFoundSegment sum size log n x) least found in
+    let here : (x : Segment) → IsFoundSegment sum size log (least_place size s) x → x.place ≡ site.place = λ x found.
+    (let z = alone.going x.slot (alone.only x found) in
+    let known = segment_there sum size log alone.stands.ordering alone.stands.scanned alone.stands.reads z.scan z.there in
+    one_in_slot sum size log (least_place size s) (least_place size s) x z.scan.segment found ((alone.stands.numbers.found z.scan.segment).0 known.0) (sym z.in_slot) ∙ z.at_place ∙ sym begins) in
     record {
       stands = on.0;
-      only = λ x found. own x.slot (alone.only x (subst (λ n. IsFoundSegment sum size log (n / size * size) x) same found));
+      reached = inl refl;
+      led = inr (inl (omega (arith, begins, least)));
+      only = λ x found at. own x.slot (alone.only x (was x found));
+      own = λ x found at. here x (was x found);
+      below = λ x found. (
+          let known = (alone.stands.numbers.found x).1 (was x found) in
+          less_than x.mark x.place reach (omega (arith, here x (was x found))) (alone.stands.marks x known).below);
       going = λ some room.
           let at = behind some in
           subst (λ (ss : List Scanned). GoesOnIn ss site.slot from site.place) (sym on.1)
-          (subst (λ n. GoesOnIn alone.stands.scanned site.slot n site.place) (sym at.1) (subst (λ n. GoesOnIn alone.stands.scanned site.slot (stable_place s.stable % size) n) (sym at.2) (alone.going site.slot at.0)));
+          (subst (λ n. GoesOnIn alone.stands.scanned site.slot n site.place) (sym at.1) (subst (λ n. GoesOnIn alone.stands.scanned site.slot (stable % size) n) (sym begins) (alone.going site.slot at.0)));
     }

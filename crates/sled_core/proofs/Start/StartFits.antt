@@ -63,15 +63,15 @@ module _ (sum : List ℕ → ℕ) (size : ℕ) (device now : State) (s : Snapsho
       (subst (λ (n : NamesState). NamesFit sum size n H f ready.ready.first) (sym same_names) ready.names) (subst (λ (n : NamesState). BlobsFit sum n H stable) (sym same_blobs) ready.blobs)
 
   -- Where it begins at a site.
-  module _ (site : SegmentPosition) (from : ℕ) (end : site.place + from ≡ stable) (own : (slot : ℕ) → s.active ≡ Some slot → slot ≡ site.slot)
-      (behind : 0 < from → (s.active ≡ Some site.slot) × (from ≡ stable % size) × (site.place ≡ stable / size * size)) (beyond : NoHeaderOfZeros sum → StandsActive sum size (padded site.slot new) s H) where
+  module _ (site : SegmentPosition) (from : ℕ) (end : site.place + from ≡ stable) (begins : site.place ≡ stable / size * size) (own : (slot : ℕ) → s.active ≡ Some slot → slot ≡ site.slot)
+      (behind : 0 < from → (s.active ≡ Some site.slot) × (from ≡ stable % size)) (beyond : NoHeaderOfZeros sum → StandsActive sum size (padded site.slot new) s H) where
     fits_at : (bytes : List ℕ) (holds : HoldsIn sum (log_parts size site now None bytes from [] []) H) → holds.begun.first ≡ ready.ready.first → FitsIn sum (log_parts size site now None bytes from [] []) 0 H A f []
     fits_at bytes holds first =
         let same : stable_place holds.begun.first.stable ≡ stable = ap (λ (x : SnapshotModel). stable_place x.stable) first ∙ same_stable in
         record {
           holds = holds;
-          alone = λ none zeros. subst (λ (l : List ℕ). StandsAlone sum size l site from H holds.begun.first) (sym bytes_now) (begins_alone sum size new s holds.begun.first H site from same end own behind (active_now zeros));
-          beyond = λ none zeros. subst (λ (l : List ℕ). StandsAlone sum size (padded site.slot l) site from H holds.begun.first) (sym bytes_now) (begins_alone sum size (padded site.slot new) s holds.begun.first H site from same end own behind (beyond zeros));
+          alone = λ none zeros. subst (λ (l : List ℕ). StandsAlone sum size l site from (site.place + from) H holds.begun.first) (sym bytes_now) (begins_alone sum size new s holds.begun.first H site from same end begins own behind (active_now zeros));
+          beyond = λ none zeros. subst (λ (l : List ℕ). StandsAlone sum size (padded site.slot l) site from (site.place + from) H holds.begun.first) (sym bytes_now) (begins_alone sum size (padded site.slot new) s holds.begun.first H site from same end begins own behind (beyond zeros));
           blobs = subst (λ (n : NamesState). BlobsFit sum n H (site.place + from)) (sym same_blobs) (subst (BlobsFit sum device.blobs H) (sym end) ready.blobs);
           names = subst (λ (n : NamesState). NamesFit sum size n H f holds.begun.first) (sym same_names) (subst (NamesFit sum size device.snapshots H f) (sym first) ready.names);
           passes = let passes = ready.passes in omega (arith, passes, end);
@@ -94,13 +94,13 @@ module _ (sum : List ℕ → ℕ) (size : ℕ) (device now : State) (s : Snapsho
           let aligned = may.aligned in
           let inside : a ≤ length new =
           (let there = started_there size (omega (arith, long)) log s (a / size) (active_used size s a active) may.slot (a / size * size) 0 (omega arith) (omega (arith, begins)) in omega (arith, there, mod-add-div' a size, aligned)) in
-          fits_at (record { place = stable / size * size; slot = a }) (stable % size) (omega (arith, mod-add-div' stable size))
-          (λ slot is. some_is slot a (sym is ∙ active)) (λ some. (active, refl, refl))
+          fits_at (record { place = stable / size * size; slot = a }) (stable % size) (omega (arith, mod-add-div' stable size)) refl
+          (λ slot is. some_is slot a (sym is ∙ active)) (λ some. (active, refl))
           (λ zeros. subst (λ (l : List ℕ). StandsActive sum size l s H) (sym (padded_same a new inside)) (active_now zeros)) bytes
       by None none has may =
           let begins = has.begins in
           let place : raised size stable ≡ stable = raised_same size stable (omega (arith, long)) begins in
-          fits_at (record { place = raised size stable; slot = first_or slots free * size }) 0 (omega (arith, place))
+          fits_at (record { place = raised size stable; slot = first_or slots free * size }) 0 (omega (arith, place)) (place ∙ sym (omega (arith, begins, mod-add-div' stable size)))
           (λ slot is. absurd (let both : None ≡ Some slot = sym none ∙ is in cc)) (λ some. absurd (omega (arith, some)))
           (λ zeros. padded_active sum size long zeros log s H ready.ready.table ready.alone none (active_now zeros)) bytes
 
