@@ -66,13 +66,14 @@ pub record BeginsNext (size : ℕ) (H : History) (reach place : ℕ) : Type 0 wh
 abbrev pub ReachesIn : ℕ → History → ℕ → ℕ → ℕ → Type 0
 ReachesIn size H place from reach = (reach ≡ place + from) ⊎ ((from ≡ 0) × BeginsNext size H reach place)
 
--- A reader reads the log file without a gap up to a place, where a write of the current segment goes on. The segment that is found in its slot has its number, no other one has, and no mark lies behind what is written.
+-- A reader reads the log file without a gap up to a place, where a write of the current segment goes on. The segment that is found in its slot has its number, no other one has, none lies behind it, and no mark behind what is written.
 pub record StandsAlone (sum : List ℕ → ℕ) (size : ℕ) (log : List ℕ) (site : SegmentPosition) (from reach : ℕ) (H : History) (first : SnapshotModel) : Type 0 where
   pub stands : StandsTo sum size log H reach first reach
   pub reached : ReachesIn size H site.place from reach
   pub led : IsLed sum size log (least_place size first) reach site.place
   pub only : (s : Segment) → IsFoundSegment sum size log (least_place size first) s → s.place ≡ site.place → s.slot ≡ site.slot
   pub own : (s : Segment) → IsFoundSegment sum size log (least_place size first) s → s.slot ≡ site.slot → s.place ≡ site.place
+  pub last : (s : Segment) → IsFoundSegment sum size log (least_place size first) s → s.place ≤ site.place
   pub below : (s : Segment) → IsFoundSegment sum size log (least_place size first) s → s.mark <ℤ pos (site.place + from)
   pub going : 0 < from → from + 32 ≤ size → GoesOnIn stands.scanned site.slot from site.place
 

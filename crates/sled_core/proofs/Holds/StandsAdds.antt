@@ -163,6 +163,7 @@ alone-adds sum size log site from reach H H' first some none place_begins clean 
       led = alone.led;
       only = alone.only;
       own = alone.own;
+      last = alone.last;
       below = alone.below;
       going = alone.going;
     }

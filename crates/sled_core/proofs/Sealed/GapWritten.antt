@@ -97,6 +97,11 @@ module _ (sum : List ℕ → ℕ) (none : NoHeaderOfZeros sum) (size : ℕ) (som
           })))
     ]
 
+    -- None lies behind it, where the one in its slot doesn't.
+    last_by : ((s : Segment) → IsFoundSegment sum size new (least_place size first) s → s.slot ≡ site.slot → s.place ≡ site.place)
+        → (s : Segment) → IsFoundSegment sum size new (least_place size first) s → s.place ≤ site.place
+    last_by own s found = elim (cases_eq s.slot site.slot) [ inl here ↦ omega (arith, own s found here) | inr other ↦ alone.last s (beside.found (least_place size first) s other found) ]
+
     -- No mark lies behind what is written, where that of the segment doesn't.
     below_by : ((s : Segment) → IsFoundSegment sum size new (least_place size first) s → s.slot ≡ site.slot → s.mark <ℤ pos (site.place + from))
         → (s : Segment) → IsFoundSegment sum size new (least_place size first) s → s.mark <ℤ pos (site.place + from)
@@ -118,6 +123,7 @@ module _ (sum : List ℕ → ℕ) (none : NoHeaderOfZeros sum) (size : ℕ) (som
           led = led_on;
           only = only;
           own = λ s found here. absurd (none_here s found here);
+          last = last_by (λ s found here. absurd (none_here s found here));
           below = below_by (λ s found here. absurd (none_here s found here));
           going = λ later room. absurd (omega (arith, begins, later));
         }
@@ -179,6 +185,7 @@ module _ (sum : List ℕ → ℕ) (none : NoHeaderOfZeros sum) (size : ℕ) (som
         led = led_on;
         only = only;
         own = λ s found here. pos_injective s.place g.scan.segment.place (its_header s found here).0 ∙ g.at_place;
+        last = last_by (λ s found here. pos_injective s.place g.scan.segment.place (its_header s found here).0 ∙ g.at_place);
         below = below_by (λ s found here. subst (λ z. z <ℤ pos (site.place + from)) (sym (its_header s found here).1) (alone.below g.scan.segment was_found));
         going = λ more room. record { scan = g.scan; there = known_in sum size new H reach first reach stands g.scan y_found y_scan; in_slot = g.in_slot; at_place = g.at_place; ended = g.ended; broken = g.broken };
       }

@@ -1,5 +1,5 @@
 -- The write of the first sealed buffer, where no other segment that is found has the number of the current one: what a crash leaves of it stands up to what was written before, and all of it up to where the reading of the segment ends. That may be behind later buffers, which were written before it.
-use Rattle.std.proofs.Common.{◌≡◌, ◌⊎◌, ◌≤◌, ◌<◌, ◌<ℤ◌, ◌+◌, ◌*◌, ◌/◌, ◌%◌, ◌^◌, ◌-ℤ◌, ℕ, ℤ, pos, negsuc, lt→ltb, max, List, [], ◌++◌, length, take, get_or, refl, sym, subst, arith, inl, inr}
+use Rattle.std.proofs.Common.{◌≡◌, ◌≢◌, ◌⊎◌, ◌≤◌, ◌<◌, ◌<ℤ◌, ◌-◌, ◌+◌, ◌*◌, ◌/◌, ◌%◌, ◌^◌, ◌-ℤ◌, ℕ, ℤ, pos, negsuc, lt→ltb, max, List, [], ◌++◌, length, take, get_or, refl, sym, subst, arith, inl, inr}
 use Rattle.std.specs.List.{Contains}
 use Rattle.std.proofs.Math.Nat.{mod-add-div'}
 use Rattle.std.proofs.lemmas.Bool.{cases_eq, cases_lt}
@@ -17,7 +17,7 @@ use Rattle.sled_core.specs.declared.iterator.scan.ScanEnd.{ScanEnd}
 use Rattle.sled_core.specs.declared.iterator.scan.ScanEnd.TheVariants.{Capped, Broken}
 use Rattle.sled_core.specs.LogFile.{HasHeader}
 use Rattle.sled_core.specs.Reached.{BeginsNext, GoesOnIn, ReachesIn, StandsAlone}
-use Rattle.sled_core.specs.Recoverable.{NoHeaderOfZeros, NoMessageBegins, NoBatchBegins, IsOfHistory}
+use Rattle.sled_core.specs.Recoverable.{NoHeaderOfZeros, NoMessageBegins, NoBatchBegins, NoBatchEnds, IsOfHistory}
 use Rattle.sled_core.specs.Scan.{IsFoundSegment, IsPath, IsEnd, IsScan}
 use Rattle.sled_core.specs.Tail.{Scanned, IsScanned, least_place}
 use Rattle.sled_core.proofs.Read.FoundLemmas.{pos_injective}
@@ -29,6 +29,8 @@ use Rattle.sled_codec.proofs.Segments.{one_header}
 use Rattle.sled_core.proofs.Reached.Recoverable.{less_than}
 use Rattle.sled_core.proofs.Reached.StandsTo.{StandsTo}
 use Rattle.sled_core.proofs.Reached.WrittenWhole.{same_whole}
+use Rattle.sled_codec.specs.Coords.{raised}
+use Rattle.sled_core.proofs.Tail.Multiples.{next_multiple, one_multiple}
 use Rattle.sled_core.proofs.Tail.OneTail.{segment_there}
 use Rattle.sled_core.proofs.Torn.TornLemmas.{after_write}
 use Rattle.sled_core.proofs.Torn.WrittenBegun.{none_in_zeros}
@@ -179,6 +181,10 @@ module _ (sum : List ℕ → ℕ) (none : NoHeaderOfZeros sum) (size : ℕ) (som
     own : (s : Segment) → IsFoundSegment sum size new (least_place size first) s → s.slot ≡ site.slot → s.place ≡ site.place
     own s found here = pos_injective s.place site.place (its_header s found here).0
 
+    -- None lies behind it.
+    last : (s : Segment) → IsFoundSegment sum size new (least_place size first) s → s.place ≤ site.place
+    last s found = elim (cases_eq s.slot site.slot) [ inl here ↦ omega (arith, own s found here) | inr other ↦ alone.last s (beside.found (least_place size first) s other found) ]
+
     -- And no mark lies behind what is written now.
     below : (s : Segment) → IsFoundSegment sum size new (least_place size first) s → s.mark <ℤ pos (site.place + stop)
     below s found = elim (cases_eq s.slot site.slot) [
@@ -209,6 +215,24 @@ module _ (sum : List ℕ → ℕ) (none : NoHeaderOfZeros sum) (size : ℕ) (som
       led = inl (omega (arith, rises));
       only = only;
       own = own;
+      last = last;
       below = below;
       going = λ later room. record { scan = y; there = known_in sum size new H (site.place + stop) first (site.place + stop) stands y y_found y_scan; in_slot = refl; at_place = refl; ended = refl; broken = broken room };
     }
+
+    -- Where it is full now, the next segment begins in a slot of zeros, and nothing of it is written.
+    pub next_alone : why ≢ Broken → stop ≤ size → NoMessageBegins H (site.place + stop) (site.place + size) → NoBatchBegins H (site.place + stop) (site.place + size) → NoBatchEnds H (site.place + stop) (site.place + size)
+        → (slot' : ℕ) → ((i : ℕ) → slot' ≤ i → i < slot' + 20 → get_or new i 0 ≡ 0) → StandsAlone sum size new (record { place = site.place + size; slot = slot' }) 0 (site.place + stop) H first
+    next_alone goes within no_message no_batch no_end slot' zeros = record {
+      stands = stands;
+      reached = inr (refl, record { above = omega (arith, within); next = omega (arith, further); no_message = no_message; no_batch = no_batch; no_end = no_end });
+      led = inr (inr (record { scan = y; found = y_found; read = y_scan; next = refl; goes = goes; below = omega (arith, rises) }));
+      only = λ s found same. (let at = last s found in absurd (omega (arith, at, same, some)));
+      own = λ s found here. absurd (none_in_zeros sum 20 none (omega arith) new slot' zeros (pos s.place) s.mark (subst (λ n. IsHeader sum (part new n 20) (pos s.place) s.mark) here found.header));
+      last = λ s found. (let at = last s found in omega (arith, at));
+      below = λ s found. less_than s.mark (site.place + stop) (site.place + size + 0) (omega (arith, within)) (below s found);
+      going = λ later room. absurd (omega (arith, later));
+    }
+      where
+        further : raised size (site.place + stop) ≡ site.place + size
+        further = one_multiple size some (site.place + size) (site.place + stop + (size - 1)) (next_multiple size site.place place_begins) (omega (arith, rises, some)) (omega (arith, within, some))

@@ -90,6 +90,7 @@ begins_alone sum size log s first H site from same end begins own behind alone =
       led = inr (inl (omega (arith, begins, least)));
       only = λ x found at. own x.slot (alone.only x (was x found));
       own = λ x found at. here x (was x found);
+      last = λ x found. omega (arith, here x (was x found));
       below = λ x found. (
           let known = (alone.stands.numbers.found x).1 (was x found) in
           less_than x.mark x.place reach (omega (arith, here x (was x found))) (alone.stands.marks x known).below);
