@@ -3,6 +3,7 @@ pub mod BufferStands
 pub mod Higher
 pub mod KeptStands
 pub mod LeftBeside
+pub mod LongerStands
 pub mod OneWrite
 pub mod PutIn
 pub mod ReachedCut

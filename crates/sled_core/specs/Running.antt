@@ -28,8 +28,8 @@ BlobsFit sum blobs H reach =
 pub record FitsIn (sum : List ℕ → ℕ) (parts : LogParts) (pins : ℕ) (H : History) (A f : ℕ) (U : List Message) : Type 0 where
   pub holds : HoldsIn sum parts H
   pub alone : parts.fault ≡ None → NoHeaderOfZeros sum → StandsAlone sum parts.size parts.device.log.bytes parts.site parts.written_len (parts.site.place + parts.written_len) H holds.begun.first
-  -- and so does the file as the first write of a segment makes it, where that fills a gap
-  pub beyond : parts.fault ≡ None → NoHeaderOfZeros sum → StandsAlone sum parts.size (padded parts.site.slot parts.device.log.bytes) parts.site parts.written_len (parts.site.place + parts.written_len) H holds.begun.first
+  -- and so does the file with zeros behind its end, as a write there makes it
+  pub beyond : (to : ℕ) → parts.site.slot ≤ to → parts.fault ≡ None → NoHeaderOfZeros sum → StandsAlone sum parts.size (padded to parts.device.log.bytes) parts.site parts.written_len (parts.site.place + parts.written_len) H holds.begun.first
   pub blobs : BlobsFit sum parts.device.blobs H (parts.site.place + parts.written_len)
   pub names : NamesFit sum parts.size parts.device.snapshots H f holds.begun.first
   -- all that was acknowledged is written

@@ -20,7 +20,7 @@ module _ (sum : List ℕ → ℕ) (size : ℕ) (site : SegmentPosition) (device 
   fits_faulty new e now is blobs snapshots left = record {
     holds = holds-faulty sum size site device fault bytes from bs rs H fits.holds new e now is (ap (λ (s : NamesState). s.file) snapshots);
     alone = λ none. cc;
-    beyond = λ none. cc;
+    beyond = λ to far none. cc;
     blobs = subst (λ (s : NamesState). BlobsFit sum s H (site.place + from)) (sym blobs) fits.blobs;
     names = subst (λ (s : NamesState). NamesFit sum size s H f fits.holds.begun.first) (sym snapshots) fits.names;
     passes = fits.passes;

@@ -72,7 +72,9 @@ module _ (sum : List ℕ → ℕ) (size : ℕ) (site : SegmentPosition) (device 
     (fits : FitsIn sum (log_parts size site device fault bytes from bs rs) pins H A f U) (big : 256 ≤ size) (whole : fault ≡ None) (to : ℕ) (up : from ≤ to) (at : ℕ) (asked : List ℕ)
     (torn : NoHeaderOfZeros sum → StandsAlone sum size device.log.bytes site from (site.place + from) H fits.holds.begun.first → (now left : List ℕ) → length now ≤ length asked → LeavesLog (after_write device.log.bytes at asked now) left
     → (placed : List (ℕ × List ℕ)) → NoForeignLog sum size (after_write device.log.bytes at asked now) placed left → StandsTo sum size left H (site.place + from) fits.holds.begun.first (site.place + from))
-    (alone : NoHeaderOfZeros sum → StandsAlone sum size (padded site.slot device.log.bytes) site from (site.place + from) H fits.holds.begun.first → StandsAlone sum size (overwritten device.log.bytes at asked) site to (site.place + to) H fits.holds.begun.first) where
+    (alone : NoHeaderOfZeros sum → (end : ℕ) → site.slot ≤ end → StandsAlone sum size (padded end device.log.bytes) site from (site.place + from) H fits.holds.begun.first
+    → StandsAlone sum size (padded end (overwritten device.log.bytes at asked)) site to (site.place + to) H fits.holds.begun.first)
+    (reaches : site.slot ≤ length (overwritten device.log.bytes at asked)) where
   abbrev after_sync : State
   after_sync = step Synced (step (Wrote at asked asked) device)
 
@@ -91,20 +93,21 @@ module _ (sum : List ℕ → ℕ) (size : ℕ) (site : SegmentPosition) (device 
   torn_now zeros = torn zeros (fits.alone whole zeros)
 
   alone_now : NoHeaderOfZeros sum → StandsAlone sum size (overwritten device.log.bytes at asked) site to (site.place + to) H fits.holds.begun.first
-  alone_now zeros = alone zeros (fits.beyond whole zeros)
+  alone_now zeros = subst (λ (l : List ℕ). StandsAlone sum size l site to (site.place + to) H fits.holds.begun.first) (padded_none site.slot (overwritten device.log.bytes at asked) reaches)
+      (alone zeros site.slot (omega arith) (fits.beyond site.slot (omega arith) whole zeros))
 
   along_behind : Along (LeavesRecoverable sum size H (site.place + from) f) (Wrote at asked asked ∷ Synced ∷ []) device
   along_behind = moments.write_along sum size big device rest_now site from to up H f fits.holds.begun.first ordered inline fits.names fits.blobs fits.left at asked torn_now alone_now
 
-  fits_behind : site.slot ≤ length (overwritten device.log.bytes at asked) → (cs : List Sealed) (others : List Reserved) (holds : HoldsIn sum (log_parts size site after_sync fault bytes to cs others) H)
+  fits_behind : (cs : List Sealed) (others : List Reserved) (holds : HoldsIn sum (log_parts size site after_sync fault bytes to cs others) H)
       → holds.begun.first ≡ fits.holds.begun.first → (A' : ℕ) → A' ≤ site.place + to → FitsIn sum (log_parts size site after_sync fault bytes to cs others) pins H A' f U
-  fits_behind reaches cs others holds same A' passes =
+  fits_behind cs others holds same A' passes =
       let new : List ℕ = overwritten device.log.bytes at asked in
       let stands : NoHeaderOfZeros sum → StandsAlone sum size new site to (site.place + to) H holds.begun.first = λ zeros. subst (λ (s : SnapshotModel). StandsAlone sum size new site to (site.place + to) H s) (sym same) (alone_now zeros) in
       record {
         holds = holds;
         alone = λ none zeros. stands zeros;
-        beyond = λ none zeros. subst (λ (l : List ℕ). StandsAlone sum size l site to (site.place + to) H holds.begun.first) (sym (padded_none site.slot new reaches)) (stands zeros);
+        beyond = λ end far none zeros. subst (λ (s : SnapshotModel). StandsAlone sum size (padded end new) site to (site.place + to) H s) (sym same) (alone zeros end far (fits.beyond end far whole zeros));
         blobs = moments.blobs_up sum size big device rest_now site from to up H f fits.holds.begun.first ordered inline fits.names fits.blobs fits.left at asked torn_now alone_now;
         names = subst (λ (s : SnapshotModel). NamesFit sum size device.snapshots H f s) (sym same) fits.names;
         passes = passes;
@@ -238,10 +241,11 @@ module _ (sum : List ℕ → ℕ) (size : ℕ) (site : SegmentPosition) (device 
       (site.place + from) H holds.begun.first alone has_first now left no_more leaves {placed = placed} only_own
 
   -- All of it.
-  alone_first : NoHeaderOfZeros sum → StandsAlone sum size (padded site.slot old) site from (site.place + from) H holds.begun.first → StandsAlone sum size new_log site stop (site.place + stop) H holds.begun.first
-  alone_first zeros beyond =
+  alone_first : NoHeaderOfZeros sum → (end : ℕ) → site.slot ≤ end → StandsAlone sum size (padded end old) site from (site.place + from) H holds.begun.first
+      → StandsAlone sum size (padded end new_log) site stop (site.place + stop) H holds.begun.first
+  alone_first zeros =
       first_alone sum size big old site holds.place_begins holds.slot_begins place_small slot_small bytes from first_begins rs b rest fresh closed are rise_size inside holds.stand holds.room holds.header file_old.header (holds.laid whole)
-      zeros (site.place + from) H holds.begun.first beyond has_first (all_ascend sum size site device fault bytes from (b ∷ rest) rs H holds) (let least = holds.begun.least in omega (arith, least))
+      zeros (site.place + from) H holds.begun.first has_first (all_ascend sum size site device fault bytes from (b ∷ rest) rs H holds) (let least = holds.begun.least in omega (arith, least))
       (none_crosses sum size site device fault bytes from (b ∷ rest) rs H holds (site.place + stop) (let above = up.0 in omega (arith, above)))
 
   -- so the file reaches its slot
@@ -322,9 +326,10 @@ module _ (sum : List ℕ → ℕ) (size : ℕ) (site : SegmentPosition) (device 
       alone now left no_more leaves {placed = placed} only_own
 
   -- All of it.
-  alone_later : x.is_written ≡ false → NoHeaderOfZeros sum → StandsAlone sum size (padded site.slot old_later) site from (site.place + from) H holds.begun.first → StandsAlone sum size new_later site from (site.place + from) H holds.begun.first
-  alone_later fresh zeros beyond = later_alone sum size big old_later site holds.place_begins holds.slot_begins place_small slot_small bytes from later_begins rs x xs b rest fresh are rise_later lies.2 long_records holds.room (holds.laid whole)
-      zeros (site.place + from) H holds.begun.first beyond
+  alone_later : x.is_written ≡ false → NoHeaderOfZeros sum → (end : ℕ) → site.slot ≤ end → StandsAlone sum size (padded end old_later) site from (site.place + from) H holds.begun.first
+      → StandsAlone sum size (padded end new_later) site from (site.place + from) H holds.begun.first
+  alone_later fresh zeros = later_alone sum size big old_later site holds.place_begins holds.slot_begins place_small slot_small bytes from later_begins rs x xs b rest fresh are rise_later lies.2 long_records holds.room (holds.laid whole)
+      zeros (site.place + from) H holds.begun.first
 
   -- so the file reaches its slot
   reaches_later : site.slot ≤ length new_later
@@ -354,10 +359,12 @@ module _ (sum : List ℕ → ℕ) (size : ℕ) (site : SegmentPosition) (device 
       along_behind sum size site device fault bytes from (b ∷ rest) rs pins H A f U fits big whole (run_end b.end rest) (stop_up from rs b rest closed are).0
       (site.slot + from) (asked_behind []) (torn_first sum size site device fault bytes from b rest rs H fits.holds short big place_small slot_small are fresh closed rise whole)
       (alone_first sum size site device fault bytes from b rest rs H fits.holds short big place_small slot_small are fresh closed rise whole)
+      (reaches_first sum size site device fault bytes from b rest rs H fits.holds short big place_small slot_small are fresh closed rise whole)
   along_around (x ∷ xs) fits are fresh rise =
       along_behind sum size site device fault bytes from (x ∷ xs ++ b ∷ rest) rs pins H A f U fits big whole from (omega arith)
       (site.slot + sealed_end x.end xs) (asked_behind (x ∷ xs)) (torn_later sum size site device fault bytes from x xs b rest rs H fits.holds short big place_small slot_small are rise whole fresh)
       (alone_later sum size site device fault bytes from x xs b rest rs H fits.holds short big place_small slot_small are rise whole fresh)
+      (reaches_later sum size site device fault bytes from x xs b rest rs H fits.holds short big place_small slot_small are rise whole)
 
   abbrev after_behind : List Sealed → State
   after_behind front = step Synced (step (Wrote (site.slot + sealed_end from front) (asked_behind front) (asked_behind front)) device)

@@ -1,5 +1,5 @@
 -- How a running log goes on fitting its history at the calls that write nothing.
-use Rattle.std.proofs.Common.{◌≡◌, ◌≢◌, ◌≤◌, ◌<◌, ◌+◌, ℕ, List, [], ◌∷◌, length, Option, None, sym, arith, subst}
+use Rattle.std.proofs.Common.{◌≡◌, ◌≢◌, ◌≤◌, ◌<◌, ◌+◌, ◌∙◌, ℕ, List, [], ◌∷◌, length, Option, None, sym, arith, subst}
 use Rattle.std.specs.declared.io.Error.{Error as IoError}
 use Rattle.sled_codec.specs.History.{Message, History, AddsMessage}
 use Rattle.sled_codec.specs.Snapshots.{SnapshotModel}
@@ -17,7 +17,7 @@ use Rattle.sled_core.specs.Recoverable.{LeavesRecoverable, NoHeaderOfZeros}
 use Rattle.sled_core.specs.SealedBuffers.{AreSealed, AreZeros, FirstUnwritten}
 use Rattle.sled_core.proofs.Holds.Added.{added_there}
 use Rattle.sled_core.proofs.Holds.BegunLemmas.{names-adds, blobs-adds}
-use Rattle.sled_core.proofs.Flush.Padded.{padded_clean}
+use Rattle.sled_core.proofs.Flush.Padded.{padded_get}
 use Rattle.sled_core.proofs.Holds.ReachLemmas.{LiesBehind, completed_behind}
 use Rattle.sled_core.proofs.Flush.Completed.{all_ascend}
 use Rattle.sled_core.proofs.Flush.Settled.{InlineFrom, leaves_less, rests, settled_recoverable}
@@ -40,7 +40,8 @@ module _ (sum : List ℕ → ℕ) (size : ℕ) (site : SegmentPosition) (device 
       record {
         holds = holds;
         alone = λ ok none. subst (λ (s : SnapshotModel). StandsAlone sum size device.log.bytes site from' (site.place + from') H s) same (subst (λ n. StandsAlone sum size device.log.bytes site n (site.place + n) H first) (sym is) (fits.alone ok none));
-        beyond = λ ok none. subst (λ (s : SnapshotModel). StandsAlone sum size (padded site.slot device.log.bytes) site from' (site.place + from') H s) same (subst (λ n. StandsAlone sum size (padded site.slot device.log.bytes) site n (site.place + n) H first) (sym is) (fits.beyond ok none));
+        beyond = λ to far ok none. subst (λ (s : SnapshotModel). StandsAlone sum size (padded to device.log.bytes) site from' (site.place + from') H s) same
+            (subst (λ n. StandsAlone sum size (padded to device.log.bytes) site n (site.place + n) H first) (sym is) (fits.beyond to far ok none));
         blobs = subst (λ n. BlobsFit sum device.blobs H (site.place + n)) (sym is) fits.blobs;
         names = subst (λ (s : SnapshotModel). NamesFit sum size device.snapshots H f s) same fits.names;
         passes = let le = fits.passes in omega (arith, le, is);
@@ -100,8 +101,8 @@ module _ (sum : List ℕ → ℕ) (size : ℕ) (site : SegmentPosition) (device 
     alone_new : NoHeaderOfZeros sum → StandsAlone sum size device.log.bytes site from reach H' first
     alone_new none = alone-adds sum size device.log.bytes site from reach H H' first least none holds.place_begins clean m adds above inside_segment room lies.lies (fits.alone ok none)
 
-    beyond_new : NoHeaderOfZeros sum → StandsAlone sum size (padded site.slot device.log.bytes) site from reach H' first
-    beyond_new none = alone-adds sum size (padded site.slot device.log.bytes) site from reach H H' first least none holds.place_begins (λ first_one i low high. padded_clean site.slot device.log.bytes i low (clean first_one i low high)) m adds above inside_segment room lies.lies (fits.beyond ok none)
+    beyond_new : (to : ℕ) → site.slot ≤ to → NoHeaderOfZeros sum → StandsAlone sum size (padded to device.log.bytes) site from reach H' first
+    beyond_new to far none = alone-adds sum size (padded to device.log.bytes) site from reach H H' first least none holds.place_begins (λ first_one i low high. padded_get to device.log.bytes i ∙ clean first_one i low high) m adds above inside_segment room lies.lies (fits.beyond to far ok none)
 
     names_new : NamesFit sum size device.snapshots H' f first
     names_new = let reached = fits.holds.begun.reached in names-adds H H' m adds sum size device.snapshots f first (omega (arith, reached, above)) fits.names
@@ -125,7 +126,8 @@ module _ (sum : List ℕ → ℕ) (size : ℕ) (site : SegmentPosition) (device 
         record {
           holds = holds;
           alone = λ fine none. subst (λ (s : SnapshotModel). StandsAlone sum size device.log.bytes site from' (site.place + from') H' s) same (subst (λ n. StandsAlone sum size device.log.bytes site n (site.place + n) H' first) (sym is) (alone_new none));
-          beyond = λ fine none. subst (λ (s : SnapshotModel). StandsAlone sum size (padded site.slot device.log.bytes) site from' (site.place + from') H' s) same (subst (λ n. StandsAlone sum size (padded site.slot device.log.bytes) site n (site.place + n) H' first) (sym is) (beyond_new none));
+          beyond = λ to far fine none. subst (λ (s : SnapshotModel). StandsAlone sum size (padded to device.log.bytes) site from' (site.place + from') H' s) same
+                (subst (λ n. StandsAlone sum size (padded to device.log.bytes) site n (site.place + n) H' first) (sym is) (beyond_new to far none));
           blobs = subst (λ n. BlobsFit sum device.blobs H' (site.place + n)) (sym is) blobs_new;
           names = subst (λ (s : SnapshotModel). NamesFit sum size device.snapshots H' f s) same names_new;
           passes = let le = fits.passes in omega (arith, le, is);

@@ -46,7 +46,7 @@ module _ (sum : List ℕ → ℕ) (size : ℕ) (old left : List ℕ) (slot : ℕ
       (alike, in_this_file sum size left old (slot + from) len (omega (arith, some)) (all_there sum size old (slot + from) number h body len s) alike)
 
   -- what is met is met with the same bytes
-  path_kept : (place from : ℕ) (ms : List ScannedRecord) (next : ℕ) → IsPath sum size old slot place from ms next → IsPath sum size left slot place from ms next
+  pub path_kept : (place from : ℕ) (ms : List ScannedRecord) (next : ℕ) → IsPath sum size old slot place from ms next → IsPath sum size left slot place from ms next
   unfolding IsMet
   path_kept place from [] next path = path
   path_kept place from (m ∷ ms) next (room, at_place, (h, body, stands, says), path) =
@@ -57,7 +57,7 @@ module _ (sum : List ℕ → ℕ) (size : ℕ) (old left : List ℕ) (slot : ℕ
         path_kept place (from + m.len) ms next path,
       )
 
-  alike_kept : (place from : ℕ) (ms : List ScannedRecord) (next : ℕ) → IsPath sum size old slot place from ms next → AlikeAlong old left slot from ms
+  pub alike_kept : (place from : ℕ) (ms : List ScannedRecord) (next : ℕ) → IsPath sum size old slot place from ms next → AlikeAlong old left slot from ms
   unfolding IsMet
   alike_kept place from [] next path = tt
   alike_kept place from (m ∷ ms) next (room, at_place, (h, body, stands, says), path) =

@@ -1,5 +1,5 @@
 -- One of the sealed buffers of the current segment is written, the first one or another: what a crash leaves of it stands as before, and behind it the log file stands up to where the run at the front ends, with what the buffers have laid in it.
-use Rattle.std.proofs.Common.{◌≡◌, ◌≤◌, ◌<◌, ◌+◌, ◌/◌, ◌%◌, ◌^◌, ◌-ℤ◌, ◌⊎◌, ℕ, pos, max, false, List, [], ◌∷◌, ◌++◌, length, take, sym, subst, arith, inl, inr}
+use Rattle.std.proofs.Common.{◌≡◌, ◌≤◌, ◌<◌, ◌+◌, ◌/◌, ◌%◌, ◌^◌, ◌-◌, ◌-ℤ◌, ◌⊎◌, replicate, ℕ, pos, max, false, List, [], ◌∷◌, ◌++◌, length, take, sym, subst, arith, inl, inr}
 use Rattle.std.specs.List.{All, Contains}
 use Rattle.std.proofs.lemmas.Bool.{cases_lt}
 use Rattle.sled_codec.specs.Record.{short_header}
@@ -17,7 +17,9 @@ use Rattle.sled_core.specs.Recoverable.{NoHeaderOfZeros}
 use Rattle.sled_core.specs.SealedBuffers.{Agrees, AreSealed, Laid, run_count, run_end, sealed_end, bytes_between}
 use Rattle.sled_core.specs.Tail.{least_place}
 use Rattle.sled_core.proofs.Flush.LogFileLemmas.{header_kept}
-use Rattle.sled_core.proofs.Flush.Padded.{length-padded, overwritten-padded, padded_long, padded_same}
+use Rattle.sled_core.proofs.Flush.Padded.{length-padded, overwritten-further, padded_get, padded_long}
+use Rattle.sled_core.proofs.Reserve.Ranges.{part-append}
+use Rattle.sled_codec.specs.Record.{IsHeader}
 use Rattle.sled_core.proofs.Flush.WrittenFile.{header_written}
 use Rattle.sled_core.proofs.Reached.BufferPath.{HasOnly}
 use Rattle.sled_core.proofs.Sealed.BehindUnwritten.{head_headed, written_behind_unwritten}
@@ -28,9 +30,9 @@ use Rattle.sled_core.proofs.Sealed.OneWritten.{has_written, long, rises_at}
 module _ (sum : List ℕ → ℕ) (size : ℕ) (some : 256 ≤ size) (old : List ℕ) (site : SegmentPosition)
     (place_begins : site.place % size ≡ 0) (slot_begins : site.slot % size ≡ 0) (place_small : site.place + size < 2 ^ 63) (slot_small : site.slot + size < 2 ^ 63)
     (bytes : List ℕ) (from : ℕ) (begins : (from ≡ 0) ⊎ (20 ≤ from)) (rs : List Reserved) where
-  -- the file with the gap in front of the slot filled
-  abbrev filled : List ℕ
-  filled = padded site.slot old
+  -- the file with zeros behind its end, up to its slot or further
+  abbrev filled : ℕ → List ℕ
+  filled to = padded to old
 
   -- The first buffer.
   module _ (b : Sealed) (rest : List Sealed) (fresh : b.is_written ≡ false) (closed : b.open_count ≡ 0) (are : AreSealed from rs (b ∷ rest)) (rise : EndsRise from (b ∷ rest) size) (inside : b.end ≤ length bytes)
@@ -48,11 +50,11 @@ module _ (sum : List ℕ → ℕ) (size : ℕ) (some : 256 ≤ size) (old : List
     length_asked : from + length asked ≡ b.end
     length_asked = long old site.slot bytes from [] b rest size rise inside
 
-    same_file : overwritten filled (site.slot + from) asked ≡ new
-    same_file = let l = length_asked in overwritten-padded site.slot old (site.slot + from) asked (omega arith) (omega (arith, l, up))
+    same_file : (to : ℕ) → overwritten (filled to) (site.slot + from) asked ≡ padded to new
+    same_file to = let l = length_asked in overwritten-further to old (site.slot + from) asked (omega (arith, l, up))
 
-    laid_filled : Laid filled site.slot bytes from (b ∷ rest) size
-    laid_filled = laid_same site.slot old filled bytes from (b ∷ rest) size rise (record { grows = omega (arith, length-padded site.slot old); same = λ i above below. padded_same site.slot old (site.slot + i) (omega arith) }) laid
+    laid_filled : (to : ℕ) → Laid (filled to) site.slot bytes from (b ∷ rest) size
+    laid_filled to = laid_same site.slot old (filled to) bytes from (b ∷ rest) size rise (record { grows = omega (arith, length-padded to old); same = λ i above below. padded_get to old (site.slot + i) }) laid
 
     -- The header of its segment is there.
     pub first_header : HasHeader sum new site
@@ -64,13 +66,25 @@ module _ (sum : List ℕ → ℕ) (size : ℕ) (some : 256 ≤ size) (old : List
           header_written sum new bytes site b.end (omega (arith, place_small)) (head_headed from rs b rest are none) (subst (λ n. Agrees new site.slot bytes n b.end) none agrees) (header none))
     ]
 
-    -- A reader reads up to the end of those that are written now.
-    pub first_alone : NoHeaderOfZeros sum → (reach : ℕ) (H : History) (first : SnapshotModel) → StandsAlone sum size filled site from reach H first → HasOnly H (completed_in site bytes (take (b.count + run_count rest) rs)) (site.place + max 20 from) (site.place + run_end b.end rest)
-        → Ascends H.messages → least_place size first ≤ site.place → ((c : Batch) → Contains H.batches c → c.low < site.place + run_end b.end rest → c.peg < site.place + run_end b.end rest) → StandsAlone sum size new site (run_end b.end rest) (site.place + run_end b.end rest) H first
-    first_alone zeros reach H first alone has ordered low ended = subst (λ (l : List ℕ). StandsAlone sum size l site (run_end b.end rest) (site.place + run_end b.end rest) H first) same_file
-        (head_sealed_written sum zeros size some filled site place_begins slot_begins place_small slot_small bytes from begins rs b rest fresh closed are rise inside stand room header laid_filled reach H first alone has
-        ordered (padded_long site.slot old) low ended (subst (λ (l : List ℕ). HasHeader sum l site) (sym same_file) first_header))
+    begun : 20 ≤ b.end
+    begun = elim begins [ inl none ↦ head_headed from rs b rest are none | inr far ↦ omega (arith, far, up) ]
 
+    -- and stays there with zeros behind the end of the file
+    padded_header : (to : ℕ) → HasHeader sum (padded to new) site
+    padded_header to =
+        let h = first_header in
+        let agrees = has_written old site.slot bytes from [] b rest size rise inside in
+        let there = agrees.in_file in
+        let long : site.slot + 20 ≤ length new = omega (arith, there, begun) in
+        record { mark = h.mark; header = subst (λ (l : List ℕ). IsHeader sum l (pos site.place) h.mark) (sym (part-append new (replicate (to - length new) 0) site.slot 20 long)) h.header; below = h.below }
+
+    -- A reader reads up to the end of those that are written now.
+    pub first_alone : NoHeaderOfZeros sum → (reach : ℕ) (H : History) (first : SnapshotModel) → HasOnly H (completed_in site bytes (take (b.count + run_count rest) rs)) (site.place + max 20 from) (site.place + run_end b.end rest)
+        → Ascends H.messages → least_place size first ≤ site.place → ((c : Batch) → Contains H.batches c → c.low < site.place + run_end b.end rest → c.peg < site.place + run_end b.end rest)
+        → (to : ℕ) → site.slot ≤ to → StandsAlone sum size (filled to) site from reach H first → StandsAlone sum size (padded to new) site (run_end b.end rest) (site.place + run_end b.end rest) H first
+    first_alone zeros reach H first has ordered low ended to far alone = subst (λ (l : List ℕ). StandsAlone sum size l site (run_end b.end rest) (site.place + run_end b.end rest) H first) (same_file to)
+        (head_sealed_written sum zeros size some (filled to) site place_begins slot_begins place_small slot_small bytes from begins rs b rest fresh closed are rise inside stand room header (laid_filled to) reach H first alone has
+        ordered (omega (arith, padded_long to old, far)) low ended (subst (λ (l : List ℕ). HasHeader sum l site) (sym (same_file to)) (padded_header to)))
   -- Another one, behind a first one that isn't written.
   module _ (x : Sealed) (xs : List Sealed) (b : Sealed) (rest : List Sealed) (fresh : x.is_written ≡ false) (are : AreSealed from rs (x ∷ xs ++ b ∷ rest)) (rise : EndsRise from (x ∷ xs ++ b ∷ rest) size) (inside : b.end ≤ length bytes)
       (lens : All (λ r. 5 ≤ r.len) rs) (room : All (λ r. r.from + 32 ≤ size) rs) (laid : Laid old site.slot bytes from (x ∷ xs ++ b ∷ rest) size) where
@@ -83,13 +97,15 @@ module _ (sum : List ℕ → ℕ) (size : ℕ) (some : 256 ≤ size) (old : List
     length_later : at + length asked_later ≡ b.end
     length_later = long old site.slot bytes from (x ∷ xs) b rest size rise inside
 
-    same_later : overwritten filled (site.slot + at) asked_later ≡ overwritten old (site.slot + at) asked_later
-    same_later = let l = length_later in let lies = rises_at x.end xs b rest size rise.1 in let up = lies.1 in overwritten-padded site.slot old (site.slot + at) asked_later (omega arith) (omega (arith, l, up))
+    same_later : (to : ℕ) → overwritten (filled to) (site.slot + at) asked_later ≡ padded to (overwritten old (site.slot + at) asked_later)
+    same_later to = let l = length_later in let lies = rises_at x.end xs b rest size rise.1 in let up = lies.1 in overwritten-further to old (site.slot + at) asked_later (omega (arith, l, up))
 
-    laid_later : Laid filled site.slot bytes from (x ∷ xs ++ b ∷ rest) size
-    laid_later = laid_same site.slot old filled bytes from (x ∷ xs ++ b ∷ rest) size rise (record { grows = omega (arith, length-padded site.slot old); same = λ i above below. padded_same site.slot old (site.slot + i) (omega arith) }) laid
+    laid_later : (to : ℕ) → Laid (filled to) site.slot bytes from (x ∷ xs ++ b ∷ rest) size
+    laid_later to =
+        laid_same site.slot old (filled to) bytes from (x ∷ xs ++ b ∷ rest) size rise (record { grows = omega (arith, length-padded to old); same = λ i above below. padded_get to old (site.slot + i) }) laid
 
     -- A reader reads no further than before.
-    pub later_alone : NoHeaderOfZeros sum → (reach : ℕ) (H : History) (first : SnapshotModel) → StandsAlone sum size filled site from reach H first → StandsAlone sum size (overwritten old (site.slot + at) asked_later) site from reach H first
-    later_alone zeros reach H first alone = subst (λ (l : List ℕ). StandsAlone sum size l site from reach H first) same_later
-        (written_behind_unwritten sum zeros size some old site slot_begins bytes from begins rs x xs b rest fresh are rise inside lens room reach H first filled laid_later alone (padded_long site.slot old))
+    pub later_alone : NoHeaderOfZeros sum → (reach : ℕ) (H : History) (first : SnapshotModel) (to : ℕ) → site.slot ≤ to → StandsAlone sum size (filled to) site from reach H first
+        → StandsAlone sum size (padded to (overwritten old (site.slot + at) asked_later)) site from reach H first
+    later_alone zeros reach H first to far alone = subst (λ (l : List ℕ). StandsAlone sum size l site from reach H first) (same_later to)
+        (written_behind_unwritten sum zeros size some old site slot_begins bytes from begins rs x xs b rest fresh are rise inside lens room reach H first (filled to) (laid_later to) alone (omega (arith, padded_long to old, far)))

@@ -1,7 +1,8 @@
 -- Each message of a table is an entry of a snapshot that is this table, so the snapshot uses its slot.
-use Rattle.std.proofs.Common.{◌≡◌, ◌∙◌, ◌||◌, ◌==◌, ◌/◌, ℕ, zero, suc, pos, Bool, true, false, if◌then◌else◌, List, [], ◌∷◌, map, get_or, Option, Some, None, refl, sym, ap, subst, inl, inr, eqb-true}
+use Rattle.std.proofs.Common.{◌≡◌, ◌⊎◌, ◌∙◌, ◌||◌, ◌==◌, ◌/◌, ℕ, zero, suc, pos, Bool, true, false, if◌then◌else◌, List, [], ◌∷◌, map, get_or, Option, Some, None, refl, sym, ap, subst, inl, inr, eqb-true}
 use Rattle.std.specs.List.{Contains, list_any}
 use Rattle.std.proofs.Math.Bool.{or-true}
+use Rattle.std.proofs.lemmas.Bool.Decides.{eqb_tells}
 use Rattle.std.proofs.lemmas.List.Concat.{flat_map-cons}
 use Rattle.std.proofs.lemmas.List.Elements.{Contains-append_left, Contains-append_right, Contains-append_cases}
 use Rattle.sled_codec.specs.Pointers.{lid_of}
@@ -121,11 +122,22 @@ from_any test (x ∷ es) is = by (test x) refl is (from_any test es)
     by false fails is rest = let found = rest is in (found.0, in_rest x found.0 es found.1, found.2)
 
 -- Where no segment is active, a slot that is used has an entry.
-pub used_entry : (size : ℕ) (s : SnapshotModel) (k : ℕ) → s.active ≡ None → is_used size s k ≡ true → (e : Entry) × Contains (entries_of s.pages) e × (slot_of size e ≡ k)
+used_entry : (size : ℕ) (s : SnapshotModel) (k : ℕ) → s.active ≡ None → is_used size s k ≡ true → (e : Entry) × Contains (entries_of s.pages) e × (slot_of size e ≡ k)
 used_entry size s k none used =
     let listed : list_any (λ e. slot_of size e == k) (entries_of s.pages) ≡ true = subst (λ (o : Option ℕ). (is_active size o k || list_any (λ e. slot_of size e == k) (entries_of s.pages)) ≡ true) none used in
     let found = from_any (λ e. slot_of size e == k) (entries_of s.pages) listed in
     (found.0, found.1, eqb-true (slot_of size found.0) k found.2)
+
+-- a slot that is used is the active one, or has an entry
+pub used_cases : (size : ℕ) (s : SnapshotModel) (k : ℕ) → is_used size s k ≡ true → ((a : ℕ) × (s.active ≡ Some a) × (a / size ≡ k)) ⊎ ((e : Entry) × Contains (entries_of s.pages) e × (slot_of size e ≡ k))
+used_cases size s k used = by s.active refl used where
+  by : (o : Option ℕ) → s.active ≡ o → (is_active size o k || list_any (λ e. slot_of size e == k) (entries_of s.pages)) ≡ true
+      → ((a : ℕ) × (s.active ≡ Some a) × (a / size ≡ k)) ⊎ ((e : Entry) × Contains (entries_of s.pages) e × (slot_of size e ≡ k))
+  by None none used_k = inr (used_entry size s k none used)
+  by (Some a) is used_k = elim (eqb_tells (a / size) k) [
+    | inl here ↦ inl (a, is, here.1)
+    | inr other ↦ inr (let found = from_any (λ e. slot_of size e == k) (entries_of s.pages) (ap (λ (b : Bool). b || list_any (λ e. slot_of size e == k) (entries_of s.pages)) (sym other.0) ∙ used_k) in (found.0, found.1, eqb-true (slot_of size found.0) k found.2))
+  ]
 
 -- an active slot is used
 pub active_used : (size : ℕ) (s : SnapshotModel) (a : ℕ) → s.active ≡ Some a → is_used size s (a / size) ≡ true

@@ -11,8 +11,7 @@ use Rattle.sled_core.specs.declared.iobuf.Reserved.{Reserved}
 use Rattle.sled_core.specs.declared.iobuf.Sealed.{Sealed}
 use Rattle.sled_core.specs.declared.iobuf.SegmentPosition.{SegmentPosition}
 use Rattle.sled_store.specs.Begin.{slots_of, unused, first_or, beginning_at, beginning_of, MayBeActive, IsStartable}
-use Rattle.sled_store.proofs.Segments.FilledLemmas.{begins_in}
-use Rattle.sled_store.proofs.Segments.StartedFile.{started_file, started_there}
+use Rattle.sled_store.proofs.Segments.StartedFile.{started_file}
 use Rattle.sled_core.specs.Fits.{log_parts, HoldsIn}
 use Rattle.sled_core.specs.LogFile.{padded}
 use Rattle.sled_core.specs.Ready.{HasFile}
@@ -20,9 +19,9 @@ use Rattle.sled_core.specs.Recoverable.{LeavesRecoverable, NoHeaderOfZeros}
 use Rattle.sled_core.specs.Running.{BlobsFit, NamesFit, FitsIn, IsReadyFor}
 use Rattle.sled_core.specs.Reached.{StandsActive, StandsAlone}
 use Rattle.sled_core.proofs.Start.StartedActive.{started_active}
-use Rattle.sled_core.proofs.Start.Entries.{active_used}
 use Rattle.sled_core.proofs.Start.KeptActive.{begins_alone}
-use Rattle.sled_core.proofs.Start.PaddedActive.{padded_same, padded_active}
+use Rattle.sled_core.specs.SealedBuffers.{AreZeros}
+use Rattle.sled_core.proofs.Start.PaddedActive.{padded_active}
 use Rattle.sled_core.proofs.Start.ReadyLemmas.{raised_same, file_there, begins_from}
 use Rattle.sled_core.proofs.Start.Recoverable.{same_place, settled_leaves}
 
@@ -64,14 +63,16 @@ module _ (sum : List ℕ → ℕ) (size : ℕ) (device now : State) (s : Snapsho
 
   -- Where it begins at a site.
   module _ (site : SegmentPosition) (from : ℕ) (end : site.place + from ≡ stable) (begins : site.place ≡ stable / size * size) (own : (slot : ℕ) → s.active ≡ Some slot → slot ≡ site.slot)
-      (behind : 0 < from → (s.active ≡ Some site.slot) × (from ≡ stable % size)) (beyond : NoHeaderOfZeros sum → StandsActive sum size (padded site.slot new) s H) where
+      (behind : 0 < from → (s.active ≡ Some site.slot) × (from ≡ stable % size)) (beyond : AreZeros new (site.slot + from) (site.slot + size) → (to : ℕ) → NoHeaderOfZeros sum → StandsActive sum size (padded to new) s H) where
     fits_at : (bytes : List ℕ) (holds : HoldsIn sum (log_parts size site now None bytes from [] []) H) → holds.begun.first ≡ ready.ready.first → FitsIn sum (log_parts size site now None bytes from [] []) 0 H A f []
     fits_at bytes holds first =
         let same : stable_place holds.begun.first.stable ≡ stable = ap (λ (x : SnapshotModel). stable_place x.stable) first ∙ same_stable in
+        let clean : AreZeros new (site.slot + from) (site.slot + size) = subst (λ (l : List ℕ). AreZeros l (site.slot + from) (site.slot + size)) bytes_now (holds.laid refl) in
         record {
           holds = holds;
           alone = λ none zeros. subst (λ (l : List ℕ). StandsAlone sum size l site from (site.place + from) H holds.begun.first) (sym bytes_now) (begins_alone sum size new s holds.begun.first H site from same end begins own behind (active_now zeros));
-          beyond = λ none zeros. subst (λ (l : List ℕ). StandsAlone sum size (padded site.slot l) site from (site.place + from) H holds.begun.first) (sym bytes_now) (begins_alone sum size (padded site.slot new) s holds.begun.first H site from same end begins own behind (beyond zeros));
+          beyond = λ to far none zeros. subst (λ (l : List ℕ). StandsAlone sum size (padded to l) site from (site.place + from) H holds.begun.first) (sym bytes_now)
+              (begins_alone sum size (padded to new) s holds.begun.first H site from same end begins own behind (beyond clean to zeros));
           blobs = subst (λ (n : NamesState). BlobsFit sum n H (site.place + from)) (sym same_blobs) (subst (BlobsFit sum device.blobs H) (sym end) ready.blobs);
           names = subst (λ (n : NamesState). NamesFit sum size n H f holds.begun.first) (sym same_names) (subst (NamesFit sum size device.snapshots H f) (sym first) ready.names);
           passes = let passes = ready.passes in omega (arith, passes, end);
@@ -90,19 +91,18 @@ module _ (sum : List ℕ → ℕ) (size : ℕ) (device now : State) (s : Snapsho
     where
       by : (o : Option ℕ) → s.active ≡ o → HasFile sum size log s o H → IfSome o (MayBeActive size slots stable) → FitsAt bytes (beginning_at size slots stable free o)
       by (Some a) active has may =
-          let begins : a / size * size < length log = begins_in size (length log) (a / size) (omega (arith, long)) may.slot in
-          let aligned = may.aligned in
-          let inside : a ≤ length new =
-          (let there = started_there size (omega (arith, long)) log s (a / size) (active_used size s a active) may.slot (a / size * size) 0 (omega arith) (omega (arith, begins)) in omega (arith, there, mod-add-div' a size, aligned)) in
+          let offset = may.offset in
+          let room = offset.before_end in
           fits_at (record { place = stable / size * size; slot = a }) (stable % size) (omega (arith, mod-add-div' stable size)) refl
           (λ slot is. some_is slot a (sym is ∙ active)) (λ some. (active, refl))
-          (λ zeros. subst (λ (l : List ℕ). StandsActive sum size l s H) (sym (padded_same a new inside)) (active_now zeros)) bytes
+          (λ clean to zeros. padded_active sum size long zeros log s H ready.ready.table ready.alone (active_now zeros)
+          (λ slot is. (let here = some_is slot a (sym is ∙ active) in clean (slot + stable % size + 4) (omega (arith, here)) (omega (arith, here, room)))) to) bytes
       by None none has may =
           let begins = has.begins in
           let place : raised size stable ≡ stable = raised_same size stable (omega (arith, long)) begins in
           fits_at (record { place = raised size stable; slot = first_or slots free * size }) 0 (omega (arith, place)) (place ∙ sym (omega (arith, begins, mod-add-div' stable size)))
           (λ slot is. absurd (let both : None ≡ Some slot = sym none ∙ is in cc)) (λ some. absurd (omega (arith, some)))
-          (λ zeros. padded_active sum size long zeros log s H ready.ready.table ready.alone none (active_now zeros)) bytes
+          (λ clean to zeros. padded_active sum size long zeros log s H ready.ready.table ready.alone (active_now zeros) (λ slot is. absurd (let both : None ≡ Some slot = sym none ∙ is in cc)) to) bytes
 
   -- The log fits the history that it holds.
   pub start_fits : (b : Beginning) → b ≡ beginning_of size (length log) s → (bytes : List ℕ) (from : ℕ) (sealed : List Sealed) (reserved : List Reserved) → (b.offset ≡ 0 → bytes ≡ short_header sum (pos b.place) (pos b.place -ℤ pos 1)) → (0 < b.offset → length bytes ≡ b.offset)
