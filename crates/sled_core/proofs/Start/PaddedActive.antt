@@ -3,7 +3,7 @@ use Rattle.std.proofs.Common.{◌≡◌, ◌∙◌, ◌+◌, ◌-◌, ◌*◌, �
 use Rattle.std.specs.List.{All, Contains}
 use Rattle.std.proofs.Math.Nat.{mul-le-mul_right}
 use Rattle.std.proofs.lemmas.Bool.{cases_lt}
-use Rattle.std.proofs.lemmas.List.{append-nil, length-replicate, get_or-replicate, get_or_past, get_or_append_left, get_or-append_right}
+use Rattle.std.proofs.lemmas.List.{length-replicate, get_or-replicate, get_or_past, get_or_append_left, get_or-append_right}
 use Rattle.sled_codec.specs.History.{History}
 use Rattle.sled_codec.specs.PageTables.{IsTable}
 use Rattle.sled_codec.specs.Pointers.{lid_of}
@@ -34,10 +34,6 @@ use Rattle.sled_core.proofs.Tail.OneTail.{segment_there}
 use Rattle.sled_core.proofs.Torn.AlikeSlots.{slot_found}
 use Rattle.sled_core.proofs.Torn.WrittenBegun.{none_in_zeros}
 use Rattle.sled_core.proofs.Torn.WrittenBeside.{found_moved}
-
--- a file that reaches as far isn't padded
-pub padded_same : (to : ℕ) (log : List ℕ) → to ≤ length log → padded to log ≡ log
-padded_same to log le = let none : to - length log ≡ 0 = omega (arith, le) in ap (λ n. log ++ replicate n 0) none ∙ append-nil log
 
 module _ (sum : List ℕ → ℕ) (size : ℕ) (long : 256 ≤ size) (zeros : NoHeaderOfZeros sum) (log : List ℕ) (s : SnapshotModel) (H : History) (is : IsTable s.pages H (stable_place s.stable)) (before : StandsActive sum size log s H) where
   abbrev slots : ℕ
