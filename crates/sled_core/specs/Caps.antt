@@ -17,11 +17,13 @@ cap_record sum number len = short_record sum Cap cap_page number (replicate len 
 abbrev pub filled_up : List ℕ → ℕ → List ℕ
 filled_up text len = text ++ replicate (len - length text) 0
 
--- What fills a segment of this number from an offset to its end: a Cap with zeros behind it, or zeros alone where a header has no room. A Cap's body is as if its header had 32 bytes.
+-- a Cap with zeros behind it, from an offset of a segment of this number to its end; the Cap's body is as long as if its header had 32 bytes
+abbrev pub capped_rest : (List ℕ → ℕ) → ℕ → ℕ → ℕ → List ℕ
+capped_rest sum size number from = filled_up (cap_record sum number (size - from - 32)) (size - from)
+
+-- What fills a segment of this number from an offset to its end: a Cap with zeros behind it, or zeros alone where a header has no room.
 unfoldable pub segment_rest : (List ℕ → ℕ) → ℕ → ℕ → ℕ → List ℕ
-segment_rest sum size number from =
-    if nat_lt size (from + 32) then replicate (size - from) 0
-    else filled_up (cap_record sum number (size - from - 32)) (size - from)
+segment_rest sum size number from = if nat_lt size (from + 32) then replicate (size - from) 0 else capped_rest sum size number from
 
 -- why the reading of a segment that was filled so ends there
 abbrev pub rest_why : ℕ → ℕ → ScanEnd

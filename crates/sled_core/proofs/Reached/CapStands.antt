@@ -11,7 +11,7 @@ use Rattle.sled_codec.specs.Record.{IsRecord}
 use Rattle.sled_codec.specs.Spelling.{short_number, short_header_tail}
 use Rattle.sled_codec.specs.SpellingLaws.{length-short_number}
 use Rattle.sled_codec.proofs.Records.{short_is_record, length-short_record}
-use Rattle.sled_core.specs.Caps.{cap_page, cap_record, filled_up, segment_rest, rest_why}
+use Rattle.sled_core.specs.Caps.{cap_page, cap_record, filled_up, capped_rest, segment_rest, rest_why}
 use Rattle.sled_core.specs.declared.iterator.scan.ScanEnd.TheVariants.{Full, Capped}
 use Rattle.sled_core.specs.Reading.{StandsAt}
 use Rattle.sled_core.specs.Scan.{EndsThere, IsEnd}
@@ -46,17 +46,16 @@ pub rest_is_zeros : (sum : List ℕ → ℕ) (size number from : ℕ) → size <
 unfolding segment_rest
 rest_is_zeros sum size number from none =
     let test : nat_lt size (from + 32) ≡ true = grind (arith, nat_tests, none) in (
-      ap (λ b. if b then replicate (size - from) 0 else filled_up (cap_record sum number (size - from - 32)) (size - from)) test,
+      ap (λ b. if b then replicate (size - from) 0 else capped_rest sum size number from) test,
       ap (λ b. if b then Full else Capped) test,
     )
 
 -- A header has room.
-pub rest_has_cap : (sum : List ℕ → ℕ) (size number from : ℕ) → from + 32 ≤ size
-    → (segment_rest sum size number from ≡ filled_up (cap_record sum number (size - from - 32)) (size - from)) × (rest_why size from ≡ Capped)
+pub rest_has_cap : (sum : List ℕ → ℕ) (size number from : ℕ) → from + 32 ≤ size → (segment_rest sum size number from ≡ capped_rest sum size number from) × (rest_why size from ≡ Capped)
 unfolding segment_rest
 rest_has_cap sum size number from room =
     let test : nat_lt size (from + 32) ≡ false = grind (arith, nat_tests, room) in (
-      ap (λ b. if b then replicate (size - from) 0 else filled_up (cap_record sum number (size - from - 32)) (size - from)) test,
+      ap (λ b. if b then replicate (size - from) 0 else capped_rest sum size number from) test,
       ap (λ b. if b then Full else Capped) test,
     )
 

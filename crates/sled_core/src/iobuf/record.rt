@@ -4,7 +4,7 @@ ghost use Rattle.std.specs.Prelude.{◌≡◌, ◌+◌, ◌-◌, ◌≤◌, ◌<
 ghost use Rattle.sled_codec.specs.Places.{part};
 ghost use Rattle.sled_codec.specs.Spelling.{low_bytes, short_header_tail};
 ghost use Rattle.sled_core.specs.Buffers.{placeholder_head};
-ghost use Rattle.sled_core.specs.Caps.{cap_record, filled_up, segment_rest};
+ghost use Rattle.sled_core.specs.Caps.{capped_rest, segment_rest};
 
 use sled_codec::result::PageId;
 use sled_codec::serialization::{Checksum, MessageHeader, MessageKind, SegmentNumber, Serialize};
@@ -141,6 +141,7 @@ pub(crate) fn push_rest<C: Checksum>(
     requires room { size ≤ vec_capacity bytes.old }
     ensures bytes { bytes.new.items ≡ bytes.old.items ++ segment_rest C.sum_of size number.0 (length bytes.old.items) }
     ensures len { length bytes.new.items ≡ size }
+    ensures capacity { vec_capacity bytes.old ≤ vec_capacity bytes.new }
 {
     if size - bytes.len() < MAX_MSG_HEADER_LEN {
         push_zeros(bytes, size);
@@ -149,12 +150,13 @@ pub(crate) fn push_rest<C: Checksum>(
     }
 }
 
-/// Puts a Cap behind what is there, and zeros up to the end of the segment. The Cap's body is as if its
-/// header had the most bytes that one has, so that the header takes the place of some of the zeros.
+/// Puts a Cap behind what is there, and zeros up to the end of the segment. The zeros are put there first,
+/// and the header is written over the front of them.
 fn push_cap<C: Checksum>(checksum: &C, bytes: &mut Vec<u8>, number: SegmentNumber, size: usize)
     requires header { length bytes.old.items + 32 ≤ size }
     requires room { size ≤ vec_capacity bytes.old }
-    ensures bytes { bytes.new.items ≡ bytes.old.items ++ filled_up (cap_record C.sum_of number.0 (size - length bytes.old.items - 32)) (size - length bytes.old.items) }
+    ensures bytes { bytes.new.items ≡ bytes.old.items ++ capped_rest C.sum_of size number.0 (length bytes.old.items) }
+    ensures capacity { vec_capacity bytes.old ≤ vec_capacity bytes.new }
 {
     let at = bytes.len();
     let body_len = size - at - MAX_MSG_HEADER_LEN;

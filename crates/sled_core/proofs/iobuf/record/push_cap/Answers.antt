@@ -8,18 +8,21 @@ use Rattle.sled_codec.specs.Sums.{flipped}
 use Rattle.sled_codec.specs.Spelling.{low_bytes, short_header_tail, short_message_header}
 use Rattle.sled_codec.specs.Record.{record_sum, short_record}
 use Rattle.sled_codec.specs.Written.{written}
-use Rattle.sled_core.specs.Caps.{cap_page, cap_record, filled_up}
+use Rattle.sled_core.specs.Caps.{cap_page, cap_record, capped_rest, filled_up}
 use Rattle.sled_core.proofs.Reserve.Heads.{length-short_message_header}
 use Rattle.sled_core.proofs.Reached.CapStands.{cap_header}
 use Rattle.sled_core.proofs.iobuf.record.push_cap.Goals as goal
+
+-- zeros, and more zeros, behind a text
+more_zeros : (text : List ℕ) (len more : ℕ) → text ++ replicate len 0 ++ replicate more 0 ≡ text ++ replicate (len + more) 0
+more_zeros text len more = append_assoc text (replicate len 0) (replicate more 0) ∙ ap (λ (l : List ℕ). text ++ l) (replicate-append-replicate len more 0)
 
 -- A header and some zeros behind it are filled up by the zeros of a rest but for as many as the header has bytes.
 filled_header : (header : List ℕ) (len rest : ℕ) → length header + len ≤ rest → filled_up (header ++ replicate len 0) rest ≡ header ++ replicate (rest - length header) 0
 filled_header header len rest within =
     let long : length (header ++ replicate len 0) ≡ length header + len = omega (arith, length-append header (replicate len 0), length-replicate {A = ℕ} len 0) in
     let count : len + (rest - length (header ++ replicate len 0)) ≡ rest - length header = omega (arith, long, within) in
-    append_assoc header (replicate len 0) (replicate (rest - length (header ++ replicate len 0)) 0)
-    ∙ ap (λ (l : List ℕ). header ++ l) (replicate-append-replicate len (rest - length (header ++ replicate len 0)) 0 ∙ ap (λ n. replicate n 0) count)
+    more_zeros header len (rest - length (header ++ replicate len 0)) ∙ ap (λ n. header ++ replicate n 0) count
 
 -- So it is where it is written over the front of that rest.
 written_header : (old header : List ℕ) (len rest : ℕ) → length header + len ≤ rest → written (old ++ replicate rest 0) (length old) header ≡ old ++ filled_up (header ++ replicate len 0) rest
@@ -60,8 +63,7 @@ module _ (old one two last : List ℕ) (at size : ℕ) (begins : at ≡ length o
   all_behind =
       second
       ∙ ap (λ (l : List ℕ). l ++ replicate (size - length two) 0) (same ∙ body_behind)
-      ∙ append_assoc old (replicate (size - at - 32) 0) (replicate (size - length two) 0)
-      ∙ ap (λ (l : List ℕ). old ++ l) (replicate-append-replicate (size - at - 32) (size - length two) 0)
+      ∙ more_zeros old (size - at - 32) (size - length two)
       ∙ ap (λ n. old ++ replicate n 0) (let e : size - at - 32 + (size - length two) ≡ size - at = omega (arith, two_long, room) in e)
 
   all_long : length last ≡ size
@@ -69,7 +71,7 @@ module _ (old one two last : List ℕ) (at size : ℕ) (begins : at ≡ length o
 
   -- The header over the front of them makes them a Cap, filled up.
   cap_over : (sum : List ℕ → ℕ) (s : ℕ) (number : SegmentNumber) (tail : List ℕ) → number.0 < 2 ^ 64 → tail ≡ short_header_tail kind.Cap (size - at - 32) number.0 cap_page → s ≡ sum (drop at one ++ tail)
-      → written last at (short_message_header (header_with s number (size - at - 32))) ≡ old ++ filled_up (cap_record sum number.0 (size - length old - 32)) (size - length old)
+      → written last at (short_message_header (header_with s number (size - at - 32))) ≡ old ++ capped_rest sum size number.0 (length old)
   cap_over sum s number tail number_small tail_is summed =
       let header : List ℕ = short_message_header (header_with s number (size - at - 32)) in
       let small = cap_header (size - at - 32) number.0 number_small in
@@ -79,7 +81,7 @@ module _ (old one two last : List ℕ) (at size : ℕ) (begins : at ≡ length o
       ∙ ap (λ n. written (old ++ replicate (size - at) 0) n header) begins
       ∙ written_header old header (size - at - 32) (size - at) (omega (arith, room, small, length-short_message_header (header_with s number (size - at - 32))))
       ∙ ap (λ (l : List ℕ). old ++ filled_up l (size - at)) (cap_with sum s number (size - at - 32) sum_is)
-      ∙ ap (λ n. old ++ filled_up (cap_record sum number.0 (size - n - 32)) (size - n)) begins
+      ∙ ap (λ n. old ++ capped_rest sum size number.0 n) begins
 
 -- It has room.
 pub serialize_into-requires-clause-room : goal.serialize_into-requires-clause-room
@@ -91,13 +93,11 @@ serialize_into-requires-clause-room g c =
     let there = ap length c.deref_mut.ensures.value in
     omega (arith, length-short_message_header (header_with c.sum_behind-sum.result c.args.number (c.args.size - at - 32)), header, whole, there, c.len-at.ensures, c.requires.header)
 
-pub returns : goal.returns
-returns g c = record {
-  bytes =
-      take_at c.serialize_into.new.buf (drop (length c.serialize_into.new.buf) c.push_zeros-2.new.bytes.items) c.push_zeros-2.new.bytes.len (c.serialize_into.auto.buf ∙ c.deref_mut.ensures.len)
-      ∙ c.serialize_into.ensures.bytes
-      ∙ ap (λ (l : List ℕ). written l c.len-at.result (short_message_header (header_with c.sum_behind-sum.result c.args.number (c.args.size - c.len-at.result - 32)))) c.deref_mut.ensures.value
-      ∙ cap_over c.args.bytes.now.items c.push_zeros.new.bytes.items c.sum_behind-sum.new.bytes.items c.push_zeros-2.new.bytes.items c.len-at.result c.args.size
-      (omega (arith, c.len-at.ensures)) (omega (arith, c.len-at.ensures, c.requires.header)) c.push_zeros.ensures.bytes c.sum_behind-sum.ensures.bytes c.push_zeros-2.ensures.bytes
-      g.C.Checksum.sum_of c.sum_behind-sum.result c.args.number c.tail.result.now (omega arith) (c.tail.ensures.tail ∙ c.head_of-head.ensures.bytes) c.sum_behind-sum.ensures.sum;
-}
+pub returns-clause-bytes : goal.returns-clause-bytes
+returns-clause-bytes g c =
+    take_at c.serialize_into.new.buf (drop (length c.serialize_into.new.buf) c.push_zeros-2.new.bytes.items) c.push_zeros-2.new.bytes.len (c.serialize_into.auto.buf ∙ c.deref_mut.ensures.len)
+    ∙ c.serialize_into.ensures.bytes
+    ∙ ap (λ (l : List ℕ). written l c.len-at.result (short_message_header (header_with c.sum_behind-sum.result c.args.number (c.args.size - c.len-at.result - 32)))) c.deref_mut.ensures.value
+    ∙ cap_over c.args.bytes.now.items c.push_zeros.new.bytes.items c.sum_behind-sum.new.bytes.items c.push_zeros-2.new.bytes.items c.len-at.result c.args.size
+    (omega (arith, c.len-at.ensures)) (omega (arith, c.len-at.ensures, c.requires.header)) c.push_zeros.ensures.bytes c.sum_behind-sum.ensures.bytes c.push_zeros-2.ensures.bytes
+    g.C.Checksum.sum_of c.sum_behind-sum.result c.args.number c.tail.result.now (omega arith) (c.tail.ensures.tail ∙ c.head_of-head.ensures.bytes) c.sum_behind-sum.ensures.sum
