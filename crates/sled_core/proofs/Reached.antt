@@ -1,5 +1,6 @@
 pub mod BufferPath
 pub mod BufferStands
+pub mod CapStands
 pub mod Higher
 pub mod KeptStands
 pub mod LeftBeside

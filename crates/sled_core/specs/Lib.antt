@@ -1,5 +1,6 @@
 pub mod Buffers
 pub mod Canceled
+pub mod Caps
 pub mod Causes
 pub mod FirstBuffer
 pub mod Fits

@@ -1,9 +1,10 @@
 //! How a record is laid out at the end of a segment's bytes. Until it is completed it has zeros in place
 //! of its sum and its kind.
-ghost use Rattle.std.specs.Prelude.{◌≡◌, ◌+◌, ◌-◌, ◌≤◌, ◌<◌, ◌^◌, ◌++◌, ◌∷◌, [], length, take, drop, vec_capacity};
+ghost use Rattle.std.specs.Prelude.{◌≡◌, ◌+◌, ◌-◌, ◌≤◌, ◌<◌, ◌^◌, ◌++◌, ◌∷◌, [], length, take, drop, replicate, vec_capacity};
 ghost use Rattle.sled_codec.specs.Places.{part};
 ghost use Rattle.sled_codec.specs.Spelling.{low_bytes, short_header_tail};
 ghost use Rattle.sled_core.specs.Buffers.{placeholder_head};
+ghost use Rattle.sled_core.specs.Caps.{capped_rest, segment_rest};
 
 use sled_codec::result::PageId;
 use sled_codec::serialization::{Checksum, MessageHeader, MessageKind, SegmentNumber, Serialize};
@@ -124,4 +125,61 @@ pub(crate) fn sum_around<C: Checksum>(
     let sum = checksum.sum(summed);
     summed.rotate_right(header_len - 4);
     sum
+}
+
+/// The page of a Cap.
+const CAP_PAGE: PageId = u64::MAX;
+
+/// Fills a segment to its end: a Cap and zeros, or zeros alone where a header has no room.
+pub(crate) fn push_rest<C: Checksum>(
+    checksum: &C,
+    bytes: &mut Vec<u8>,
+    number: SegmentNumber,
+    size: usize,
+)
+    requires inside { length bytes.old.items ≤ size }
+    requires room { size ≤ vec_capacity bytes.old }
+    ensures bytes { bytes.new.items ≡ bytes.old.items ++ segment_rest C.sum_of size number.0 (length bytes.old.items) }
+    ensures len { length bytes.new.items ≡ size }
+    ensures capacity { vec_capacity bytes.old ≤ vec_capacity bytes.new }
+{
+    if size - bytes.len() < MAX_MSG_HEADER_LEN {
+        push_zeros(bytes, size);
+    } else {
+        push_cap(checksum, bytes, number, size);
+    }
+}
+
+/// Puts a Cap behind what is there, and zeros up to the end of the segment. The zeros are put there first,
+/// and the header is written over the front of them.
+fn push_cap<C: Checksum>(checksum: &C, bytes: &mut Vec<u8>, number: SegmentNumber, size: usize)
+    requires header { length bytes.old.items + 32 ≤ size }
+    requires room { size ≤ vec_capacity bytes.old }
+    ensures bytes { bytes.new.items ≡ bytes.old.items ++ capped_rest C.sum_of size number.0 (length bytes.old.items) }
+    ensures capacity { vec_capacity bytes.old ≤ vec_capacity bytes.new }
+{
+    let at = bytes.len();
+    let body_len = size - at - MAX_MSG_HEADER_LEN;
+    push_zeros(bytes, at + body_len);
+    let head = head_of(MessageKind::Cap, number, CAP_PAGE, body_len as u64);
+    let sum = sum_behind(checksum, bytes, at, head.tail());
+    push_zeros(bytes, size);
+    let header = MessageHeader {
+        crc32: !sum,
+        kind: MessageKind::Cap,
+        segment_number: number,
+        pid: CAP_PAGE,
+        len: body_len as u64,
+    };
+    header.serialize_into(bytes, at);
+}
+
+/// Puts zeros behind what is there, up to a length.
+fn push_zeros(bytes: &mut Vec<u8>, to: usize)
+    requires inside { length bytes.old.items ≤ to }
+    requires room { to ≤ vec_capacity bytes.old }
+    ensures bytes { bytes.new.items ≡ bytes.old.items ++ replicate (to - length bytes.old.items) 0 }
+    ensures capacity { vec_capacity bytes.old ≤ vec_capacity bytes.new }
+{
+    let _ = bytes.resize(to, 0);
 }
