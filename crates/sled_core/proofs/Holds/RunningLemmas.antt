@@ -127,7 +127,7 @@ module _ (sum : List ℕ → ℕ) (size : ℕ) (site : SegmentPosition) (device 
           holds = holds;
           alone = λ fine none. subst (λ (s : SnapshotModel). StandsAlone sum size device.log.bytes site from' (site.place + from') H' s) same (subst (λ n. StandsAlone sum size device.log.bytes site n (site.place + n) H' first) (sym is) (alone_new none));
           beyond = λ to far fine none. subst (λ (s : SnapshotModel). StandsAlone sum size (padded to device.log.bytes) site from' (site.place + from') H' s) same
-                (subst (λ n. StandsAlone sum size (padded to device.log.bytes) site n (site.place + n) H' first) (sym is) (beyond_new to far none));
+              (subst (λ n. StandsAlone sum size (padded to device.log.bytes) site n (site.place + n) H' first) (sym is) (beyond_new to far none));
           blobs = subst (λ n. BlobsFit sum device.blobs H' (site.place + n)) (sym is) blobs_new;
           names = subst (λ (s : SnapshotModel). NamesFit sum size device.snapshots H' f s) same names_new;
           passes = let le = fits.passes in omega (arith, le, is);

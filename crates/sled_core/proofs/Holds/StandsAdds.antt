@@ -170,10 +170,13 @@ alone-adds sum size log site from reach H H' first some none place_begins clean 
   where
     reached_adds : ReachesIn size H site.place from reach → ReachesIn size H' site.place from reach
     reached_adds (inl at) = inl at
-    reached_adds (inr (begins, next)) = inr (begins, record {
-      above = next.above;
-      next = next.next;
-      no_message = λ x there. ⊎_elim (next.no_message x) (λ own. inr (omega (arith, above, begins, ap (λ (y : Message). y.place) own))) (was_or_added H H' m adds x there);
-      no_batch = λ b there. next.no_batch b (subst (λ (l : List Batch). Contains l b) adds.batches there);
-      no_end = λ b there. next.no_end b (subst (λ (l : List Batch). Contains l b) adds.batches there);
-    })
+    reached_adds (inr (begins, next)) = inr (
+      begins,
+      record {
+        above = next.above;
+        next = next.next;
+        no_message = λ x there. ⊎_elim (next.no_message x) (λ own. inr (omega (arith, above, begins, ap (λ (y : Message). y.place) own))) (was_or_added H H' m adds x there);
+        no_batch = λ b there. next.no_batch b (subst (λ (l : List Batch). Contains l b) adds.batches there);
+        no_end = λ b there. next.no_end b (subst (λ (l : List Batch). Contains l b) adds.batches there);
+      },
+    )

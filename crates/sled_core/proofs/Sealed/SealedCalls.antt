@@ -85,6 +85,7 @@ module _ (sum : List ℕ → ℕ) (size : ℕ) (some : 256 ≤ size) (old : List
     first_alone zeros reach H first has ordered low ended to far alone = subst (λ (l : List ℕ). StandsAlone sum size l site (run_end b.end rest) (site.place + run_end b.end rest) H first) (same_file to)
         (head_sealed_written sum zeros size some (filled to) site place_begins slot_begins place_small slot_small bytes from begins rs b rest fresh closed are rise inside stand room header (laid_filled to) reach H first alone has
         ordered (omega (arith, padded_long to old, far)) low ended (subst (λ (l : List ℕ). HasHeader sum l site) (sym (same_file to)) (padded_header to)))
+
   -- Another one, behind a first one that isn't written.
   module _ (x : Sealed) (xs : List Sealed) (b : Sealed) (rest : List Sealed) (fresh : x.is_written ≡ false) (are : AreSealed from rs (x ∷ xs ++ b ∷ rest)) (rise : EndsRise from (x ∷ xs ++ b ∷ rest) size) (inside : b.end ≤ length bytes)
       (lens : All (λ r. 5 ≤ r.len) rs) (room : All (λ r. r.from + 32 ≤ size) rs) (laid : Laid old site.slot bytes from (x ∷ xs ++ b ∷ rest) size) where
