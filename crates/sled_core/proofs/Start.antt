@@ -1,4 +1,5 @@
 pub mod Entries
+pub mod FreeSlots
 pub mod FreshLemmas
 pub mod FreshReady
 pub mod GoodStarted

@@ -4,6 +4,7 @@ pub mod Caps
 pub mod Causes
 pub mod FirstBuffer
 pub mod Fits
+pub mod FreeSlots
 pub mod Good
 pub mod Keeps
 pub mod LogFile
