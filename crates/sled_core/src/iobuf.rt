@@ -1,19 +1,20 @@
 //! The bytes of the segment that is being filled. The current buffer is the part of them that was not
 //! written yet, and the reservations in it lie one behind another.
 ghost use Rattle.std.specs.Prelude.{◌≡◌, ◌+◌, ◌-◌, ◌<◌, ◌≤◌, ◌^◌, ◌++◌, ◌∷◌, [], ℕ, List, true, false, length, max, take, drop, set, replicate, vec_capacity, slice_get, OnOk, OnErr, IfOk, IsOkUnless, IsTrue, ◌↔◌, pos, All, Some};
-ghost use Rattle.std.specs.List.Sorted.{IsNonDecreasingBy, IsPartitionPoint};
 ghost use Rattle.std.specs.VecDeque.{deque_len, deque_capacity};
 ghost use Rattle.sled_codec.specs.Written.{written};
 ghost use Rattle.sled_core.specs.declared.iobuf.Reserved.{Reserved};
 ghost use Rattle.sled_core.specs.Buffers.{IsChain, canceling, completing, ended, ending, first_open_in, most_open, open_in, open_state, placeholder_head, reserved_for};
-ghost use Rattle.sled_core.specs.SealedBuffers.{AreSealed, FirstUnwritten, HasOpenAt, behind_run, is_ready, one_ended, ready_count, run_count, run_end, seal_at, sealed_count, sealed_end, written_at};
+ghost use Rattle.sled_core.specs.SealedBuffers.{AreSealed, FirstUnwritten, one_ended, sealed_count, sealed_end};
 ghost use Rattle.sled_core.specs.SealedProps.{IsChain-prop, AreSealed-prop, FirstUnwritten-prop};
 
 pub mod intervals;
 pub(crate) mod record;
+pub(crate) mod sealing;
 pub(crate) mod start;
 
 use crate::iobuf::record::{Head, push_item, push_placeholder, sum_around, sum_behind};
+use crate::iobuf::sealing::{all_ended, end_sealed};
 use sled_codec::result::{Error, LogOffset, Lsn, PageId, Result};
 use sled_codec::serialization::{Checksum, LogKind, MessageKind, Serialize};
 use sled_store::segment::MAX_MSG_HEADER_LEN;
@@ -327,49 +328,6 @@ impl IoBuf {
         }
     }
 
-    /// Seals the current buffer, which has something in it.
-    pub(crate) fn seal(&mut self) -> Result<()>
-        requires some { sealed_end self.old.written_len self.old.sealed.items < length self.old.bytes.items }
-        ensures sealed { OnOk result (self.new.sealed.items ≡ self.old.sealed.items
-            ++ seal_at (length self.old.bytes.items) (drop (sealed_count self.old.sealed.items) self.old.reserved.items) ∷ []) }
-        ensures unsealed { OnErr result (self.new.sealed.items ≡ self.old.sealed.items) }
-        ensures bytes { self.new.bytes.items ≡ self.old.bytes.items }
-        ensures from { self.new.written_len ≡ self.old.written_len }
-        ensures reserved { self.new.reserved.items ≡ self.old.reserved.items }
-        ensures gone { self.new.gone ≡ self.old.gone }
-        ensures err { IsOkUnless result Error.OutOfMemory }
-    {
-        self.sealed.reserve(1)?;
-        self.sealed.push_back_reserved(Sealed {
-            end: self.bytes.len(),
-            count: self.reserved.len() - self.first,
-            open_count: self.open_count,
-            is_written: false,
-        });
-        self.begin = self.bytes.len();
-        self.first = self.reserved.len();
-        self.open_count = 0;
-        Ok(())
-    }
-
-    /// One of the sealed buffers is on the device now. Those at the front that are go.
-    pub(crate) fn mark_written(&mut self, k: usize)
-        requires within { k < deque_len self.old.sealed }
-        requires ready { (b : Sealed) → slice_get self.old.sealed.items k ≡ Some b → is_ready b ≡ true }
-        ensures sealed { self.new.sealed.items ≡ behind_run (written_at k self.old.sealed.items) }
-        ensures from { self.new.written_len ≡ run_end self.old.written_len (written_at k self.old.sealed.items) }
-        ensures reserved { self.new.reserved.items ≡ drop (run_count (written_at k self.old.sealed.items)) self.old.reserved.items }
-        ensures gone { self.new.gone ≡ self.old.gone + run_count (written_at k self.old.sealed.items) }
-        ensures bytes { self.new.bytes.items ≡ self.old.bytes.items }
-    {
-        note_written(&mut self.sealed, k);
-        let (end, count) = take_run(&mut self.sealed, self.written_len);
-        drop_first(&mut self.reserved, count);
-        self.written_len = end;
-        self.gone += count;
-        self.first -= count;
-    }
-
     /// All bytes are on the device now, where no buffer was sealed.
     pub(crate) fn advance(&mut self)
         requires none_sealed { self.old.sealed.items ≡ [] }
@@ -392,129 +350,6 @@ impl IoBuf {
         ensures inside { result ≤ length self.now.bytes.items }
     {
         self.written_len
-    }
-
-    /// Where a sealed buffer begins and ends.
-    pub(crate) fn span(&self, k: usize) -> (usize, usize)
-        requires { k < length self.now.sealed.items }
-        ensures from { result.0 ≡ sealed_end self.now.written_len (take k self.now.sealed.items) }
-        ensures to { result.1 ≡ sealed_end self.now.written_len (take (k + 1) self.now.sealed.items) }
-        ensures rises { result.0 ≤ result.1 }
-        ensures inside { result.1 ≤ length self.now.bytes.items }
-    {
-        let to = self.sealed[k].end;
-        if k == 0 {
-            return (self.written_len, to);
-        }
-        (self.sealed[k - 1].end, to)
-    }
-
-    /// How many sealed buffers can be written: they have no open reservation, and aren't on the device.
-    pub(crate) fn pending(&self) -> usize
-        ensures { result ≡ ready_count self.now.sealed.items }
-    {
-        let mut count = 0;
-        let mut k = 0;
-        while k < self.sealed.len() {
-            if self.sealed[k].is_ready() {
-                count += 1;
-            }
-            k += 1;
-        }
-        count
-    }
-
-    /// The index of the i-th of these.
-    pub(crate) fn ready_at(&self, i: usize) -> usize
-        requires { i < ready_count self.now.sealed.items }
-        ensures within { result < deque_len self.now.sealed }
-        ensures ready { (b : Sealed) → slice_get self.now.sealed.items result ≡ Some b → is_ready b ≡ true }
-        ensures place { ready_count (take result self.now.sealed.items) ≡ i }
-    {
-        let mut left = i;
-        let mut k = 0;
-        while k < self.sealed.len() {
-            if self.sealed[k].is_ready() {
-                if left == 0 {
-                    return k;
-                }
-                left -= 1;
-            }
-            k += 1;
-        }
-        k
-    }
-}
-
-impl Sealed {
-    /// It has no open reservation, and isn't on the device.
-    pub(crate) fn is_ready(&self) -> bool
-        ensures { result ≡ is_ready self.now }
-    {
-        !self.is_written && self.open_count == 0
-    }
-}
-
-/// None of the buffers has an open reservation.
-fn all_ended(sealed: &VecDeque<Sealed>) -> bool
-    ensures { IsTrue result ↔ All (λ b. b.open_count ≡ 0) sealed.now.items }
-{
-    sealed.iter().all(|b| b.open_count == 0)
-}
-
-/// The buffer that has the place, of which there is one with an open reservation, waits for one fewer.
-fn end_sealed(sealed: &mut VecDeque<Sealed>, from: usize)
-    requires some { (at index : ℕ) × (rs : List Reserved) × HasOpenAt at rs index from sealed.old.items }
-    ensures { (at index : ℕ) (rs : List Reserved) → HasOpenAt at rs index from sealed.old.items → sealed.new.items ≡ one_ended index sealed.old.items }
-{
-    let k = ended_before(sealed, from);
-    sealed[k].open_count -= 1;
-}
-
-/// How many of them end no further than an offset.
-fn ended_before(sealed: &VecDeque<Sealed>, from: usize) -> usize
-    ensures { IsNonDecreasingBy (λ b. b.end) sealed.now.items → IsPartitionPoint (λ b. b.end ≤ from) (λ b. from < b.end) sealed.now.items result }
-{
-    sealed.partition_point(|b| b.end <= from)
-}
-
-/// The buffer at an index is on the device now.
-fn note_written(sealed: &mut VecDeque<Sealed>, k: usize)
-    requires { k < deque_len sealed.old }
-    ensures items { sealed.new.items ≡ written_at k sealed.old.items }
-{
-    let b = &mut sealed[k];
-    b.is_written = true;
-}
-
-/// Takes out those at the front that are on the device. Returns where they end, and how many reservations they have.
-fn take_run(sealed: &mut VecDeque<Sealed>, from: usize) -> (usize, usize)
-    requires { sealed_count sealed.old.items < 2 ^ 64 }
-    ensures left { sealed.new.items ≡ behind_run sealed.old.items }
-    ensures end { result.0 ≡ run_end from sealed.old.items }
-    ensures count { result.1 ≡ run_count sealed.old.items }
-{
-    let mut end = from;
-    let mut count = 0;
-    while let Some(b) = sealed.front() {
-        if !b.is_written {
-            break;
-        }
-        end = b.end;
-        count += b.count;
-        let _ = sealed.pop_front();
-    }
-    (end, count)
-}
-
-/// Takes out so many at the front.
-fn drop_first(reserved: &mut VecDeque<Reserved>, count: usize)
-    ensures { reserved.new.items ≡ drop count reserved.old.items }
-{
-    let mut left = count;
-    while left > 0 {
-        let _ = reserved.pop_front();
-        left -= 1;
     }
 }
 

@@ -7,7 +7,7 @@ use Rattle.sled_core.specs.declared.iobuf.Sealed.{Sealed}
 use Rattle.sled_core.specs.SealedBuffers.{HasOpenAt, one_fewer}
 use Rattle.sled_core.proofs.Reserve.Parts.{get_there}
 use Rattle.sled_core.proofs.Sealed.InBuffer.{Waits, ends_in_order, waits_first}
-use Rattle.sled_core.proofs.iobuf.end_sealed.Goals as goal
+use Rattle.sled_core.proofs.iobuf.sealing.end_sealed.Goals as goal
 
 waits : (at index from : ℕ) (rs : List Reserved) (bs : List Sealed) (k : ℕ) → HasOpenAt at rs index from bs
     → (IsNonDecreasingBy (λ (b : Sealed). b.end) bs → IsPartitionPoint (λ (b : Sealed). b.end ≤ from) (λ (b : Sealed). from < b.end) bs k) → Waits bs k index

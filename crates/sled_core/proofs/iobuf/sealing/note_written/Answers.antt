@@ -1,7 +1,7 @@
 use Rattle.std.proofs.Common.{◌<◌, rules, length}
 use Rattle.sled_core.proofs.Reserve.Parts.{there_is}
 use Rattle.sled_core.proofs.Sealed.Marked.{written_set}
-use Rattle.sled_core.proofs.iobuf.note_written.Goals as goal
+use Rattle.sled_core.proofs.iobuf.sealing.note_written.Goals as goal
 
 pub returns : goal.returns
 returns c =

@@ -1,5 +1,5 @@
 use Rattle.std.proofs.Common.{◌≡◌, drop}
-use Rattle.sled_core.proofs.iobuf.drop_first.Given as goal
+use Rattle.sled_core.proofs.iobuf.sealing.drop_first.Given as goal
 
 abbrev pub invariant-loop-left : goal.invariant-loop-left
 invariant-loop-left l = drop l.left l.reserved.items ≡ drop l.count l.fn.reserved.items

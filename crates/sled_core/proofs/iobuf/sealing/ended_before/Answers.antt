@@ -4,7 +4,7 @@ use Rattle.std.proofs.lemmas.List.Sorted.{IsPartitionPoint-from_clause, IsPartit
 use borrow.Author.Tests.{leb-true}
 use lib.Dec.{leb}
 use Rattle.sled_core.specs.declared.iobuf.Sealed.{Sealed}
-use Rattle.sled_core.proofs.iobuf.ended_before.Goals as goal
+use Rattle.sled_core.proofs.iobuf.sealing.ended_before.Goals as goal
 
 pub returns : goal.returns
 returns c ordered =

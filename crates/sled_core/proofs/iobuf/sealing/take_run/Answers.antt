@@ -2,7 +2,7 @@
 use Rattle.std.proofs.Common.{◌<◌, arith, length, refl, rules}
 use Rattle.sled_core.proofs.Reserve.Parts.{there_is}
 use Rattle.sled_core.proofs.Sealed.Marked.{count_run, first_in_run}
-use Rattle.sled_core.proofs.iobuf.take_run.Goals as goal
+use Rattle.sled_core.proofs.iobuf.sealing.take_run.Goals as goal
 
 pub overflow_add-count : goal.overflow_add-count
 overflow_add-count c =
