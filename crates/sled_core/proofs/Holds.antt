@@ -14,3 +14,4 @@ pub mod RunningLemmas
 pub mod SealedCalls
 pub mod StandsAdds
 pub mod Writes
+pub mod WrittenRecords

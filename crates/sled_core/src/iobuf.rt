@@ -9,6 +9,7 @@ ghost use Rattle.sled_core.specs.Buffers.{IsChain, canceling, completing, ended,
 ghost use Rattle.sled_core.specs.SealedBuffers.{AreSealed, FirstUnwritten, HasOpenAt, behind_run, is_ready, one_ended, ready_count, run_count, run_end, seal_at, sealed_count, sealed_end, written_at};
 ghost use Rattle.sled_core.specs.SealedProps.{IsChain-prop, AreSealed-prop, FirstUnwritten-prop};
 
+pub(crate) mod around;
 pub mod intervals;
 pub(crate) mod record;
 pub(crate) mod start;
