@@ -1,4 +1,5 @@
 pub mod Added
+pub mod Around
 pub mod BegunLemmas
 pub mod BufferEnds
 pub mod CallMoments

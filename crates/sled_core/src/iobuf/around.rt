@@ -1,20 +1,22 @@
 //! Which sealed buffer has an offset of the segment, and where its reservations begin.
-ghost use Rattle.std.specs.Prelude.{◌≡◌, ◌<◌, ◌≤◌, ℕ, length, take};
+ghost use Rattle.std.specs.Prelude.{◌≡◌, ◌<◌, ◌≤◌, ℕ, length, take, slice_get, Some};
 ghost use Rattle.std.specs.List.Sorted.{IsNonDecreasingBy, IsPartitionPoint};
 ghost use Rattle.sled_core.specs.SealedBuffers.{sealed_count, sealed_end};
 
-use crate::iobuf::{IoBuf, Reserved, ended_before};
+use crate::iobuf::{IoBuf, Reserved, Sealed, ended_before};
 use std::collections::VecDeque;
 
 impl IoBuf {
-    /// The index of the sealed buffer that has an offset: it is the first that ends behind it.
-    pub(crate) fn holding(&self, at: usize) -> usize
+    /// The sealed buffer that has an offset, with its index: it is the first that ends behind it.
+    pub(crate) fn around(&self, at: usize) -> (usize, Sealed)
         requires sealed { at < sealed_end self.now.written_len self.now.sealed.items }
         requires behind { self.now.written_len ≤ at }
-        ensures within { result < length self.now.sealed.items }
-        ensures point { IsPartitionPoint (λ b. b.end ≤ at) (λ b. at < b.end) self.now.sealed.items result }
+        ensures within { result.0 < length self.now.sealed.items }
+        ensures there { slice_get self.now.sealed.items result.0 ≡ Some result.1 }
+        ensures point { IsPartitionPoint (λ b. b.end ≤ at) (λ b. at < b.end) self.now.sealed.items result.0 }
     {
-        ended_before(&self.sealed, at)
+        let k = ended_before(&self.sealed, at);
+        (k, self.sealed[k])
     }
 
     /// The index of the first reservation of a sealed buffer.

@@ -1,4 +1,4 @@
-use Rattle.std.proofs.Common.{◌∙◌, ◌≡◌, ◌<◌, ◌≤◌, ap, subst, arith, List, length, take, drop, max, ℕ}
+use Rattle.std.proofs.Common.{◌<◌, ◌≤◌, subst, arith, List, length, drop, max}
 use Rattle.std.specs.List.{All}
 use Rattle.std.specs.List.Sorted.{IsPartitionPoint}
 use Rattle.sled_core.specs.declared.iobuf.Reserved.{Reserved}
