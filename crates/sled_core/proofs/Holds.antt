@@ -13,6 +13,7 @@ pub mod OpenTickets
 pub mod ReachLemmas
 pub mod RunningLemmas
 pub mod SealedCalls
+pub mod Settling
 pub mod StandsAdds
 pub mod Writes
 pub mod WrittenRecords

@@ -1,20 +1,17 @@
 -- The sealed buffer of a log that has an offset: the calls that write it, and what holds that up.
-use Rattle.std.proofs.Common.{◌≡◌, ◌∙◌, ◌≤◌, ◌<◌, ◌+◌, ◌++◌, ◌==◌, nat_eq, max, suc, ℕ, Bool, true, false, if◌then◌else◌, List, [], ◌∷◌, length, take, drop, get_or, None, Some, Option, refl, sym, ap, subst, arith, inl, inr, take-append-drop}
+use Rattle.std.proofs.Common.{◌≡◌, ◌∙◌, ◌≤◌, ◌<◌, ◌+◌, ◌++◌, ◌==◌, nat_eq, max, suc, ℕ, Bool, true, false, if◌then◌else◌, List, [], ◌∷◌, length, take, drop, get_or, None, Some, refl, sym, ap, subst, arith, inl, inr, take-append-drop}
 use Rattle.std.specs.List.{slice_get}
 use Rattle.std.specs.List.Sorted.{IsPartitionPoint}
 use Rattle.std.proofs.lemmas.Bool.Decides.{nat_tests}
 use Rattle.std.proofs.lemmas.List.{append-nil, drop_all, length-drop}
 use Rattle.std.proofs.lemmas.Option.{slice_get-get_or}
-use Rattle.sled_store.specs.Device.{Event}
-use Rattle.sled_core.specs.declared.iobuf.IoBuf.{IoBuf}
 use Rattle.sled_core.specs.declared.iobuf.Reserved.{Reserved}
 use Rattle.sled_core.specs.declared.iobuf.Sealed.{Sealed}
-use Rattle.sled_core.specs.declared.iobuf.SegmentPosition.{SegmentPosition}
 use Rattle.sled_core.specs.declared.logger.Log.{Log}
 use Rattle.sled_core.specs.Buffers.{IsChain, first_open_in, none_open, open_in}
 use Rattle.sled_core.specs.Fits.{IsWrittenAt, KeepsReserved, buffers_of, reserved_len, sealed_len, writing_buffer}
 use Rattle.sled_core.specs.ReadBuffer.{IsWrittenAround, held_around, reserved_around, write_around, writing_around, written_around}
-use Rattle.sled_core.specs.SealedBuffers.{bytes_between, current_buffer, is_ready, seal_at, sealed_count, sealed_end, writing, written_at, AreSealed}
+use Rattle.sled_core.specs.SealedBuffers.{bytes_between, current_buffer, is_ready, seal_at, sealed_count, sealed_end, writing, AreSealed}
 use Rattle.sled_core.proofs.Flush.SealedWrites.{calls_are}
 use Rattle.sled_core.proofs.Holds.BufferEnds.{written_behind}
 use Rattle.sled_core.proofs.Holds.Writes.{reserved_inside}

@@ -1,9 +1,7 @@
 -- The current buffer is sealed as it counts among the buffers.
-use Rattle.std.proofs.Common.{◌≡◌, ◌∙◌, ◌≤◌, ◌<◌, ◌++◌, ◌∷◌, [], arith, ap, sym, length, Result, Ok, Err, OnOk}
-use Rattle.sled_core.specs.SealedBuffers.{seal_at}
+use Rattle.std.proofs.Common.{Result, Ok, Err, OnOk}
 use Rattle.sled_codec.specs.declared.result.Error.{Error}
-use Rattle.sled_core.specs.Fits.{current_reserved}
-use Rattle.sled_core.proofs.Holds.Around.{ends_behind, held_same, sealed_behind, writes_same}
+use Rattle.sled_core.proofs.Holds.Around.{held_same, sealed_behind, writes_same}
 use Rattle.sled_core.proofs.Holds.KeptCalls.{kept_still}
 use Rattle.sled_core.proofs.logger.Log.seal_around.Goals as goal
 
