@@ -1,42 +1,83 @@
--- What is written for the read of a place, and what holds that up, where it isn't stable yet, and where it is; and the record of a message at it.
-use Rattle.std.proofs.Common.{◌≡◌, ◌∙◌, ◌⊎◌, ◌≤◌, ◌<◌, ◌+◌, ◌-◌, ◌≤ℤ◌, ◌<ℤ◌, int_lt, Bool, true, ℕ, ℤ, pos, Option, None, if◌then◌else◌, List, [], length, ap, sym, subst, arith, inl, inr}
+-- What a read answers and asks for, by whether its place was brought to the device; and the record of a message there.
+use Rattle.std.proofs.Common.{◌≡◌, ◌∙◌, ◌⊎◌, ◌≤◌, ◌<◌, ◌≤ℤ◌, ◌<ℤ◌, ℕ, ℤ, pos, unsigned_abs, Option, None, List, Result, Ok, Err, arith, inl, inr}
+use Rattle.std.specs.declared.io.Error.{Error as IoError}
+use Rattle.std.proofs.lemmas.Int.{ints}
+use Rattle.sled_codec.specs.declared.result.Error.{Error}
+use Rattle.sled_codec.specs.declared.result.Error.TheVariants.{Corruption, Held, Io, NotReserved, OutOfMemory}
+use Rattle.sled_store.specs.Script.{Performs, after_all}
+use Rattle.sled_store.proofs.Traces.ScriptLemmas.{performs_whole}
+use Rattle.sled_core.specs.Causes.{HeldAnswers, OnDone, RecordAnswers}
+use Rattle.sled_core.specs.Reading.{IsNoPlace}
+use Rattle.sled_core.specs.Stable.{IsNotReserved}
 use Rattle.std.specs.List.{Contains}
 use Rattle.std.proofs.lemmas.Bool.{cases_lt}
 use Rattle.sled_codec.specs.declared.result.DiskPtr.TheVariants.{Inline}
 use Rattle.sled_codec.specs.History.{Message, History, table}
 use Rattle.sled_codec.specs.Snapshots.{stable_place}
-use Rattle.sled_store.specs.Device.{State}
-use Rattle.sled_core.specs.declared.iobuf.SegmentPosition.{SegmentPosition}
+use Rattle.sled_store.specs.Device.{State, Trace}
 use Rattle.sled_core.specs.declared.logger.Log.{Log}
-use Rattle.sled_core.specs.Fits.{HoldsIn, log_parts, synced_end}
-use Rattle.sled_core.specs.ReadBuffer.{IsWrittenAround, IsWrittenPlace, held_around, held_at, offset_of, settling, writing_around, written_around}
+use Rattle.sled_core.specs.Fits.{HoldsIn, device_of, log_parts, reserved_end, segment_size_of, synced_end}
+use Rattle.sled_core.specs.ReadBuffer.{IsWrittenPlace, ReadAnswers, RefusesPlace, Settles, held_at, settling}
 use Rattle.sled_core.proofs.Holds.BufferEnds.{sealed_rise}
 use Rattle.sled_core.proofs.Holds.HeldRecords.{IsHeldAt, held_record}
 use Rattle.sled_core.proofs.Holds.WrittenRecords.{written_record}
-use Rattle.sled_core.proofs.Stable.Places.{is_less, not_less}
 
--- A place that isn't stable.
-pub settles : {D C : Type 0} (log : Log D C) (lsn : ℤ) → pos (synced_end log) ≤ℤ lsn → settling log lsn ≡ writing_around log (offset_of log lsn)
-settles log lsn above = ap (λ (o : Bool). if o then [] else writing_around log (offset_of log lsn)) (not_less lsn (pos (synced_end log)) above)
+-- What a read answers of a place that was reserved, where that isn't brought to the device.
 
-pub holds_settling : {D C : Type 0} (log : Log D C) (lsn : ℤ) → pos (synced_end log) ≤ℤ lsn → held_at log lsn ≡ held_around log (offset_of log lsn)
-holds_settling log lsn above = ap (λ (o : Bool). if o then None else held_around log (offset_of log lsn)) (not_less lsn (pos (synced_end log)) above)
+module _ {D C : Type 0} (lsn : ℤ) (lid : ℕ) (old new : Log D C) where
+  pub err_settles : (T : Type 0) (trace : D → Trace) (e : Error) (place : ℕ) (held : Option ℕ) (now : Option IoError) (before after : ℕ) → HeldAnswers {T = Unit {0}} (Err e) place held None now before after
+      → OnDone {T = Unit {0}} (Err e) (trace (device_of new) ≡ after_all (settling old lsn) (trace (device_of old))) → Performs (settling old lsn) (trace (device_of old)) (trace (device_of new))
+      → (lsn <ℤ pos (synced_end old) → trace (device_of new) ≡ trace (device_of old)) → Settles {T = T} trace (Err e) lsn lid old new
+  err_settles T trace (Held at) place held now before after answers made most still = record { made = made; damaged = λ is. absurd is; at_most = most; unwritten = still }
+  err_settles T trace (Io e) place held now before after answers made most still = record { made = tt; damaged = λ is. absurd is; at_most = most; unwritten = still }
+  err_settles T trace OutOfMemory place held now before after answers made most still = record { made = tt; damaged = λ is. absurd is; at_most = most; unwritten = still }
+  err_settles T trace _ place held now before after answers made most still = absurd answers
 
--- One that is.
-pub settles_none : {D C : Type 0} (log : Log D C) (lsn : ℤ) → lsn <ℤ pos (synced_end log) → settling log lsn ≡ []
-settles_none log lsn below = ap (λ (o : Bool). if o then [] else writing_around log (offset_of log lsn)) (is_less lsn (pos (synced_end log)) below)
+  -- It was a place, and reserved.
+  pub refuses_none : {T : Type 0} (r : Result T Error) → (IsNotReserved r → ⊥) → (IsNoPlace (segment_size_of old) lsn lid → ⊥) → lsn <ℤ pos (reserved_end old) → RefusesPlace r lsn lid old new
+  refuses_none r not_so is_place inside = record {
+    no_place = λ _ none. absurd (is_place none);
+    not_reserved = λ _ _ behind. absurd (omega (arith, ints, behind, inside));
+    unchanged = λ is. absurd (not_so is);
+  }
 
-pub none_settling : {D C : Type 0} (log : Log D C) (lsn : ℤ) → lsn <ℤ pos (synced_end log) → held_at log lsn ≡ None
-none_settling log lsn below = ap (λ (o : Bool). if o then None else held_around log (offset_of log lsn)) (is_less lsn (pos (synced_end log)) below)
+pub err_reserved : (T : Type 0) (e : Error) (place : ℕ) (held : Option ℕ) (now : Option IoError) (before after : ℕ) → HeldAnswers {T = Unit {0}} (Err e) place held None now before after → IsNotReserved {T = T} (Err e) → ⊥
+err_reserved T (Held at) place held now before after answers is = is
+err_reserved T (Io e) place held now before after answers is = is
+err_reserved T OutOfMemory place held now before after answers is = is
+err_reserved T _ place held now before after answers is = absurd answers
 
--- What is written around an offset is so at its place.
-pub written_place : {D C : Type 0} (old new : Log D C) (place : ℕ) → new.site ≡ old.site → synced_end old ≤ place → IsWrittenAround new (place - old.site.place) → IsWrittenPlace new place
-written_place old new place site above is =
-    let same : new.site.place ≡ old.site.place = ap (λ (s : SegmentPosition). s.place) site in
-    elim is [
-      | inl below ↦ inl (omega (arith, below, above, same))
-      | inr there ↦ inr (ap (λ n. written_around (place - n) new.buffer.sealed.items) same ∙ there)
-    ]
+-- And where it is.
+
+pub read_reserved : {T : Type 0} (sum : List ℕ → ℕ) (blobs : ℤ → Option (List ℕ)) (r : Result T Error) (old now : Option IoError) (before after : ℕ) → RecordAnswers sum blobs r old now before after → IsNotReserved r → ⊥
+read_reserved sum blobs (Err (NotReserved at)) old now before after answers is = answers
+read_reserved sum blobs _ old now before after answers is = is
+
+all_done : {T : Type 0} (r : Result T Error) (P : Type 0) → P → OnDone r P
+all_done (Ok x) P is = is
+all_done (Err (Held at)) P is = is
+all_done (Err _) P is = tt
+
+pub read_settles : {T D C : Type 0} (trace : D → Trace) (r : Result T Error) (lsn : ℤ) (lid : ℕ) (old mid new : Log D C) → held_at old lsn ≡ None → trace (device_of mid) ≡ after_all (settling old lsn) (trace (device_of old))
+    → (lsn <ℤ pos (synced_end old) → trace (device_of mid) ≡ trace (device_of old)) → trace (device_of new) ≡ trace (device_of mid) → Settles trace r lsn lid old new
+read_settles trace r lsn lid old mid new held made still read = record {
+  made = all_done r _ (read ∙ made);
+  damaged = λ _. inr (held, read ∙ made);
+  at_most = performs_whole _ _ _ (read ∙ made);
+  unwritten = λ below. read ∙ still below;
+}
+
+pub read_answers : {T : Type 0} (sum : List ℕ → ℕ) (blobs : ℤ → Option (List ℕ)) (r : Result T Error) (lsn : ℤ) (end place : ℕ) (held : Option ℕ) (now : Option IoError) (before after : ℕ) → lsn <ℤ pos end → held ≡ None → RecordAnswers sum blobs r None now before after
+    → ReadAnswers sum blobs r lsn end place held None now before after
+read_answers sum blobs (Ok x) lsn end place held now before after inside none answers = (inside, none, answers.0, answers.1, answers.2)
+read_answers sum blobs (Err (Io e)) lsn end place held now before after inside none answers = answers
+read_answers sum blobs (Err OutOfMemory) lsn end place held now before after inside none answers = (inside, answers.0, answers.1, answers.2)
+read_answers sum blobs (Err (Corruption at)) lsn end place held now before after inside none answers = answers
+read_answers sum blobs (Err _) lsn end place held now before after inside none answers = absurd answers
+
+-- a place that isn't negative
+pub pos_abs : (z : ℤ) → pos 0 ≤ℤ z → pos (unsigned_abs z) ≡ z
+pos_abs z above = omega (arith, ints)
 
 -- The record of a message of the history stands where its pointer says, where its place is stable or its buffer is written, and the log has it still.
 module _ {D C : Type 0} (log : Log D C) (sum : List ℕ → ℕ) (device : State) (H : History)

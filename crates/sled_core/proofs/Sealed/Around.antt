@@ -53,7 +53,7 @@ parts_at from rs (b ∷ bs) (suc k) end are chain =
     let behind : IsChain b.end more end = chain_rest (max 20 from) end rs b.count b.end chain are.0.chain in
     let rest = parts_at b.end more bs k end are.1 (subst (λ m. IsChain m more end) (sym begins) behind) in (
       subst (λ (l : List Reserved). IsChain (max 20 from) l (max 20 (sealed_end b.end (take k bs)))) (sym (take_more b.count n rs))
-      (chain_on (max 20 from) b.end (max 20 (sealed_end b.end (take k bs))) own (take n more) are.0.chain (subst (λ m. IsChain m (take n more) (max 20 (sealed_end b.end (take k bs)))) begins rest.0)),
+          (chain_on (max 20 from) b.end (max 20 (sealed_end b.end (take k bs))) own (take n more) are.0.chain (subst (λ m. IsChain m (take n more) (max 20 (sealed_end b.end (take k bs)))) begins rest.0)),
       subst (λ (l : List Reserved). IsChain (max 20 (sealed_end b.end (take k bs))) l end) (drop-drop n b.count rs) rest.1,
     )
 

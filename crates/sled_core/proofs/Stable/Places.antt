@@ -9,10 +9,10 @@ use Rattle.sled_core.specs.Causes.{HeldAnswers}
 use Rattle.sled_core.specs.Fits.{held_below, synced_end, writing_below}
 use Rattle.sled_core.specs.Stable.{StableAnswers, held_for, length_to, stabilizing}
 
-pub not_less : (a b : ℤ) → b ≤ℤ a → int_lt a b ≡ false
+not_less : (a b : ℤ) → b ≤ℤ a → int_lt a b ≡ false
 not_less a b le = grind (arith, ints)
 
-pub is_less : (a b : ℤ) → a <ℤ b → int_lt a b ≡ true
+is_less : (a b : ℤ) → a <ℤ b → int_lt a b ≡ true
 is_less a b lt = grind (arith, ints)
 
 -- A place that isn't durable.
