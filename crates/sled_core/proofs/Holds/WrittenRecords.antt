@@ -19,7 +19,7 @@ use Rattle.sled_core.proofs.Flush.Completed.{which}
 use Rattle.sled_core.proofs.Holds.HeldRecords.{IsHeldAt}
 use Rattle.sled_core.proofs.Reached.BufferStands.{StandsOwn, own_in}
 use Rattle.sled_core.proofs.Reserve.CompletesLemmas.{some_long}
-use Rattle.sled_core.proofs.Reserve.Ranges.{chain_grows, completed-append, completed_between}
+use Rattle.sled_core.proofs.Reserve.Ranges.{completed-append, completed_between}
 use Rattle.sled_core.proofs.Sealed.Ended.{chain_rest}
 use Rattle.sled_core.proofs.Sealed.LaidLemmas.{EndsRise, ends_below}
 use Rattle.sled_core.proofs.Sealed.Runs.{end_begun}

@@ -1,4 +1,4 @@
-use Rattle.std.proofs.Common.{◌≡◌, ◌⊎◌, ◌∙◌, ◌+◌, ◌<◌, ◌≤◌, ◌/◌, ap, sym, subst, ℕ, arith, inl, inr, Option, IsTrue, rules, pos, refl}
+use Rattle.std.proofs.Common.{◌≡◌, ◌⊎◌, ◌∙◌, ◌<◌, ◌≤◌, ◌/◌, ap, sym, subst, ℕ, arith, inl, inr, Option, IsTrue, rules, pos, refl}
 use Rattle.std.specs.Int.{w64}
 use Rattle.std.specs.Prelude.{unsigned_abs, ◌<ℤ◌, ◌≤ℤ◌, ℤ, None, List, Err}
 use Rattle.std.specs.List.{Contains}
