@@ -1,4 +1,5 @@
 pub mod Added
+pub mod Around
 pub mod BegunLemmas
 pub mod BufferEnds
 pub mod CallMoments
@@ -12,5 +13,7 @@ pub mod OpenTickets
 pub mod ReachLemmas
 pub mod RunningLemmas
 pub mod SealedCalls
+pub mod Settling
 pub mod StandsAdds
 pub mod Writes
+pub mod WrittenRecords

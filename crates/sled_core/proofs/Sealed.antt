@@ -1,4 +1,5 @@
 pub mod Appended
+pub mod Around
 pub mod BehindUnwritten
 pub mod Clear
 pub mod Covering

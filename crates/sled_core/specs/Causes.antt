@@ -73,13 +73,13 @@ ReaderAnswers (Err (Io e)) early before after = IsTrue (is_fault e) × (after �
 ReaderAnswers (Err (Corruption at)) early before after = (after ≡ before) × (at ≡ None) × early
 ReaderAnswers (Err _) early before after = ⊥
 
--- A read of the log: as each call that may touch the device, and damage besides.
-abbrev pub ReadAnswers : {T : Type 0} → (List ℕ → ℕ) → (ℤ → Option (List ℕ)) → Result T Error → Option IoError → Option IoError → ℕ → ℕ → Type 0
-ReadAnswers sum blobs (Ok _) old new before after = (old ≡ None) × (new ≡ None) × (after ≡ before)
-ReadAnswers sum blobs (Err (Io e)) old new before after = IsFault e old new before after
-ReadAnswers sum blobs (Err OutOfMemory) old new before after = (old ≡ None) × (new ≡ None) × (after ≡ before)
-ReadAnswers sum blobs (Err (Corruption at)) old new before after = (old ≡ None) × (new ≡ None) × (after ≡ before) × NamesDamage sum blobs at
-ReadAnswers sum blobs (Err _) old new before after = ⊥
+-- A read of a record: as each call that may touch the device, and damage besides.
+abbrev pub RecordAnswers : {T : Type 0} → (List ℕ → ℕ) → (ℤ → Option (List ℕ)) → Result T Error → Option IoError → Option IoError → ℕ → ℕ → Type 0
+RecordAnswers sum blobs (Ok _) old new before after = (old ≡ None) × (new ≡ None) × (after ≡ before)
+RecordAnswers sum blobs (Err (Io e)) old new before after = IsFault e old new before after
+RecordAnswers sum blobs (Err OutOfMemory) old new before after = (old ≡ None) × (new ≡ None) × (after ≡ before)
+RecordAnswers sum blobs (Err (Corruption at)) old new before after = (old ≡ None) × (new ≡ None) × (after ≡ before) × NamesDamage sum blobs at
+RecordAnswers sum blobs (Err _) old new before after = ⊥
 
 -- the failure of the device that an answer tells of
 abbrev pub failure_in : {T : Type 0} → Result T Error → Option IoError

@@ -10,6 +10,7 @@ pub mod Keeps
 pub mod LogFile
 pub mod Own
 pub mod Reached
+pub mod ReadBuffer
 pub mod Reading
 pub mod Ready
 pub mod Recoverable

@@ -22,11 +22,12 @@ ghost use Rattle.sled_store.specs.Moments.{IsLater, LeavesOnly};
 ghost use Rattle.sled_store.specs.Begin.{IsStartable, IsInReach};
 ghost use Rattle.sled_store.specs.Started.{started};
 ghost use Rattle.sled_core.specs.Recoverable.{LeavesRecoverable, RecoverableIfOwn};
-ghost use Rattle.sled_core.specs.Causes.{Answers, FaultAnswers, ReserveAnswers, ReadAnswers, failure_in};
+ghost use Rattle.sled_core.specs.Causes.{FaultAnswers, RecordAnswers, ReserveAnswers, failure_in};
 
 mod abort;
 pub mod read_at;
 pub mod read_message;
+mod settle;
 mod stable;
 pub(crate) mod unverified_record;
 mod writing;
@@ -58,8 +59,9 @@ pub struct Log<D, C> {
 }
 
 impl<D: Device, C: Checksum> Log<D, C> {
-    ghost use Rattle.sled_core.specs.Fits.{Holds, NoneOpen, NoneSealed, Awaits, IsOpen, IsOnlyOpen, HasRoom, IsUnchanged, fault_of, open_of, IsLeastOpen, next_place, synced_end, reserved_end, pins_of, config_of, device_of, IsWritten, HasRecordOf, flushing, manifest_page, segment_size_of, size_for, message_for, KeepsAll};
+    ghost use Rattle.sled_core.specs.Fits.{Holds, NoneOpen, NoneSealed, Awaits, IsOpen, IsOnlyOpen, HasRoom, IsUnchanged, fault_of, open_of, IsLeastOpen, next_place, synced_end, reserved_end, pins_of, config_of, device_of, IsWritten, HasRecordOf, flushing, manifest_page, segment_size_of, site_of, size_for, message_for, KeepsAll, KeepsTickets};
     ghost use Rattle.sled_core.specs.Keeps.{ConfigKept, GoesOn, Preserves, SamePosition};
+    ghost use Rattle.sled_core.specs.ReadBuffer.{ReadAnswers, RefusesPlace, Settles, held_at};
     ghost use Rattle.sled_core.specs.Ready.{IsReady};
     ghost use Rattle.sled_core.specs.Running.{Fits, Ready};
     ghost use Rattle.sled_core.specs.Starts.{BeginsBehind, StartsOrRefuses, config_left};
@@ -247,19 +249,21 @@ impl<D: Device, C: Checksum> Log<D, C> {
         Ok((place, pointer))
     }
 
-    /// Reads the message of this page and place that lies there, from the device. Where its place is not
-    /// written yet, what was completed is written first, as `flush` does; for that alone no reservation may
-    /// be open. Returns what stands there. A message has its record as long as it is of the current segment, or the
+    /// Reads the message of this page and place that lies there, from the device. Where its place isn't stable, the one
+    /// buffer that has it is written first, unless it is on the device: the current one is sealed for that, and no other
+    /// buffer is written. Returns what stands there. A message has its record as long as it is of the current segment, or the
     /// table of what was written needs it; else its slot may have been filled when the log started.
     ///
     /// # Errors
     ///
-    /// `Corruption` for a negative place, for an offset at which no record begins, and for a record that can't be read
-    /// (`read_message`). `Io` and `OutOfMemory` as of `flush`.
+    /// In this order: `Io` where the log keeps a failure of its device; `Corruption` for a negative place, and for an offset at
+    /// which no record begins; `NotReserved` exactly where the place isn't below the end of what was reserved (the log
+    /// is as it was after each of these); `Held` exactly where the place isn't stable and its buffer has an open reservation,
+    /// with the least place of those of that buffer; `Corruption` for a record that can't be read
+    /// (`read_message`). `Io` where the device failed in this call: the log keeps that. `OutOfMemory` where the current
+    /// buffer could not be sealed, or from the device.
     pub fn read(&mut self, _pid: PageId, lsn: Lsn, ptr: DiskPtr) -> Result<LogRead>
-        requires ended { pos (synced_end self.old) ≤ℤ lsn → NoneOpen self.old }
         requires inline { IsInline ptr }
-        requires reserved { lsn <ℤ pos (reserved_end self.old) }
         ensures message { (H : History) (m : Message) → Holds D.trace C.sum_of self.old H → Contains H.messages m → HasRecordOf self.old H m
             → pos m.place ≡ lsn → m.pointer ≡ ptr → IfOk result (GivesMessage m) }
         ensures undamaged { (H : History) (A f : ℕ) (U : List Message) (m : Message) → Fits D.trace C.sum_of self.old H A f U → Contains H.messages m
@@ -268,13 +272,14 @@ impl<D: Device, C: Checksum> Log<D, C> {
             IfOk result (IsReading C.sum_of size s.log.bytes s.blobs.file (lid_of ptr) (unsigned_abs lsn / size)) }
         ensures corrupt { let s = state_of (D.trace (device_of self.new)) in let size = segment_size_of self.old in
             IsCorruption result → IsNoPlace size lsn (lid_of ptr) ⊎ IsUnreadable C.sum_of size s.log.bytes s.blobs.file (lid_of ptr) (unsigned_abs lsn / size) }
-        ensures unwritten { lsn <ℤ pos (synced_end self.old) → D.trace (device_of self.new) ≡ D.trace (device_of self.old) }
-        ensures refused { fault_of self.old ≡ None → IsNoPlace (segment_size_of self.old) lsn (lid_of ptr) → IsCorruption result × (self.new ≡ self.old) }
+        ensures calls { Settles D.trace result lsn (lid_of ptr) self.old self.new }
+        ensures refused { RefusesPlace result lsn (lid_of ptr) self.old self.new }
         ensures keeps { Preserves D.trace C.sum_of self.old self.new }
-        ensures ended { NoneOpen self.old → NoneOpen self.new }
+        ensures tickets { KeepsTickets self.old self.new }
         ensures position { SamePosition self.old self.new }
         ensures answers { let blobs = (state_of (D.trace (device_of self.new))).blobs.file in
-            ReadAnswers C.sum_of blobs result (fault_of self.old) (fault_of self.new) (D.faults (device_of self.old)) (D.faults (device_of self.new)) }
+            ReadAnswers C.sum_of blobs result lsn (reserved_end self.old) (site_of self.old).place (held_at self.old lsn)
+            (fault_of self.old) (fault_of self.new) (D.faults (device_of self.old)) (D.faults (device_of self.new)) }
         ensures faulty { (e : IoError) → fault_of self.old ≡ Some e → self.new ≡ self.old }
     {
         if let Some(e) = self.fault {
@@ -286,29 +291,11 @@ impl<D: Device, C: Checksum> Log<D, C> {
             return Err(Error::Corruption { at: None });
         }
         let place = lsn.unsigned_abs();
+        if place >= self.reserved_end() {
+            return Err(Error::NotReserved(lsn));
+        }
         self.settle(place)?;
         self.read_settled(lid, SegmentNumber(place / size))
-    }
-
-    /// Writes what was completed where this place is not written yet.
-    fn settle(&mut self, place: u64) -> Result<()>
-        requires ended { synced_end self.old ≤ place → NoneOpen self.old }
-        requires reserved { place < reserved_end self.old }
-        requires fault { fault_of self.old ≡ None }
-        ensures written { OnOk result (place < synced_end self.new) }
-        ensures unwritten { place < synced_end self.old → D.trace (device_of self.new) ≡ D.trace (device_of self.old) }
-        ensures keeps { Preserves D.trace C.sum_of self.old self.new }
-        ensures ended { NoneOpen self.old → NoneOpen self.new }
-        ensures position { SamePosition self.old self.new }
-        ensures answers { Answers result (fault_of self.old) (fault_of self.new) (D.faults (device_of self.old)) (D.faults (device_of self.new)) }
-    {
-        if place >= self.site.place + self.buffer.synced_len() as u64 {
-            return match self.flush() {
-                Ok(_) => Ok(()),
-                Err(e) => Err(e),
-            };
-        }
-        Ok(())
     }
 
     /// Reads at an offset of the device, and keeps a failure of it.
@@ -320,11 +307,11 @@ impl<D: Device, C: Checksum> Log<D, C> {
         ensures unreadable { let s = state_of (D.trace (device_of self.old)) in
             IsCorruption result → IsUnreadable C.sum_of (segment_size_of self.old) s.log.bytes s.blobs.file lid number.0 }
         ensures keeps { Preserves D.trace C.sum_of self.old self.new }
-        ensures ended { NoneOpen self.old → NoneOpen self.new }
+        ensures tickets { KeepsTickets self.old self.new }
         ensures position { SamePosition self.old self.new }
         ensures trace { D.trace (device_of self.new) ≡ D.trace (device_of self.old) }
         ensures answers { let blobs = (state_of (D.trace (device_of self.old))).blobs.file in
-            ReadAnswers C.sum_of blobs result None (fault_of self.new) (D.faults (device_of self.old)) (D.faults (device_of self.new)) }
+            RecordAnswers C.sum_of blobs result None (fault_of self.new) (D.faults (device_of self.old)) (D.faults (device_of self.new)) }
     {
         let answer = read_message(&mut self.config, None, lid, number);
         self.fault = failure_of(&answer);

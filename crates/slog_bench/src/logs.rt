@@ -240,16 +240,12 @@ impl Opened {
         }
     }
 
-    // Reads a message that was written.
+    // Reads a message.
     fn read(&mut self, page: PageId, place: i64, at: DiskPtr, out: &mut Answer) {
         let DiskPtr::Inline(lid) = at else {
             out.refused();
             return;
         };
-        if place > self.log.stable_offset() {
-            out.refused();
-            return;
-        }
         push_read(self.log.read(page, place, DiskPtr::Inline(lid)), out);
     }
 

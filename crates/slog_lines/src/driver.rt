@@ -412,20 +412,11 @@ impl Opened {
         Reply::Refused(Refusal::Ticket)
     }
 
-    // Reads the last completed message of a page. Where it is not durable yet, it is flushed first.
+    // Reads the last completed message of a page. Where it is not durable yet, the log writes its buffer first.
     fn read(&mut self, page: PageId) -> Reply {
         let Some((place, DiskPtr::Inline(lid))) = self.last_of(page) else {
             return Reply::Refused(Refusal::Page);
         };
-        if place > self.log.stable_offset() {
-            match self.flush() {
-                Reply::Flushed(_) => {}
-                reply => return reply,
-            }
-        }
-        if place > self.log.stable_offset() {
-            return Reply::Failed(Error::Corruption { at: None });
-        }
         match self.log.read(page, place, DiskPtr::Inline(lid)) {
             Ok(LogRead::Inline(_, item, _)) => Reply::Page(item),
             Ok(_) => Reply::Failed(Error::Corruption { at: None }),

@@ -154,7 +154,7 @@ first_step slot bytes to from (b ∷ bs) rs are ready = by_test (nat_lt from to)
 -- Where the first buffer can't be written, and begins below the offset, or there is none.
 
 -- reservations in front that have an open one have the first one
-first_front : (xs ys : List Reserved) → 0 < open_in xs → first_open_in (xs ++ ys) ≡ first_open_in xs
+pub first_front : (xs ys : List Reserved) → 0 < open_in xs → first_open_in (xs ++ ys) ≡ first_open_in xs
 first_front [] ys some = absurd (omega (arith, some))
 first_front (x ∷ xs) ys some = by_state (open_state x.state) some (first_front xs ys) where
   by_state : (o : Bool) → 0 < (if o then suc (open_in xs) else open_in xs) → (0 < open_in xs → first_open_in (xs ++ ys) ≡ first_open_in xs)
@@ -162,7 +162,7 @@ first_front (x ∷ xs) ys some = by_state (open_state x.state) some (first_front
   by_state true some rest = refl
   by_state false some rest = rest some
 
-open_front : (xs ys : List Reserved) → open_in xs ≤ open_in (xs ++ ys)
+pub open_front : (xs ys : List Reserved) → open_in xs ≤ open_in (xs ++ ys)
 open_front [] ys = omega arith
 open_front (x ∷ xs) ys = by_state (open_state x.state) (open_front xs ys) where
   by_state : (o : Bool) → open_in xs ≤ open_in (xs ++ ys) → (if o then suc (open_in xs) else open_in xs) ≤ (if o then suc (open_in (xs ++ ys)) else open_in (xs ++ ys))

@@ -34,7 +34,7 @@ take_more (suc n) m (r ∷ rs) = let same : suc n + m ≡ suc (n + m) = omega ar
 pub written_ended : (from : ℕ) (own : List Reserved) (b : Sealed) → IsSealed from own b → b.is_written ≡ true → none_open own ≡ true
 written_ended from own b is written = let none : open_in own ≡ 0 = sym is.still_open ∙ is.ended written in grind (arith, nat_tests, none, ended_is own)
 
-end_begun : (from : ℕ) (own : List Reserved) (b : Sealed) → IsSealed from own b → max 20 b.end ≡ b.end
+pub end_begun : (from : ℕ) (own : List Reserved) (b : Sealed) → IsSealed from own b → max 20 b.end ≡ b.end
 end_begun from own b is = let grows = chain_grows (max 20 from) b.end own is.chain in omega (arith, grows)
 
 -- Those at the front that are written, and the others.

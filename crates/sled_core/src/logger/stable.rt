@@ -63,7 +63,7 @@ impl<D: Device, C: Checksum> Log<D, C> {
     }
 
     /// The place behind the greatest reserved one.
-    fn reserved_end(&self) -> u64
+    pub(crate) fn reserved_end(&self) -> u64
         ensures end { result ≡ reserved_end self.now }
         ensures in_reach { result < 2 ^ 63 }
     {

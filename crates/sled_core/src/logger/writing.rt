@@ -88,7 +88,7 @@ impl<D: Device, C: Checksum> Log<D, C> {
     }
 
     /// Seals the current buffer, which holds something.
-    fn seal(&mut self) -> Result<()>
+    pub(crate) fn seal(&mut self) -> Result<()>
         requires some { 0 < held_len self.old }
         ensures sealed { OnOk result (sealed_of self.new ≡ sealed_of self.old
             ++ seal_at (length self.old.buffer.bytes.items) (current_reserved self.old) ∷ []) }
@@ -236,7 +236,7 @@ impl<D: Device, C: Checksum> Log<D, C> {
     }
 
     /// Writes one of the sealed buffers, which can be written, and syncs it.
-    fn write_buffer(&mut self, k: usize) -> Result<()>
+    pub(crate) fn write_buffer(&mut self, k: usize) -> Result<()>
         requires fault { fault_of self.old ≡ None }
         requires within { k < length self.old.buffer.sealed.items }
         requires ready { (b : Sealed) → slice_get self.old.buffer.sealed.items k ≡ Some b → is_ready b ≡ true }

@@ -1,6 +1,6 @@
-use Rattle.std.proofs.Common.{◌≡◌, ◌⊎◌, ◌∙◌, ◌+◌, ◌<◌, ◌≤◌, ◌/◌, ap, sym, subst, ℕ, arith, inl, inr, Option, IsTrue, rules, pos}
+use Rattle.std.proofs.Common.{◌≡◌, ◌⊎◌, ◌∙◌, ◌<◌, ◌≤◌, ◌/◌, ap, sym, subst, ℕ, arith, inl, inr, Option, IsTrue, rules, pos, refl}
 use Rattle.std.specs.Int.{w64}
-use Rattle.std.specs.Prelude.{unsigned_abs, ◌<ℤ◌}
+use Rattle.std.specs.Prelude.{unsigned_abs, ◌<ℤ◌, ◌≤ℤ◌, ℤ, None, List, Err}
 use Rattle.std.specs.List.{Contains}
 use Rattle.std.proofs.lemmas.Bool.{cases_lt}
 use Rattle.sled_codec.specs.declared.result.DiskPtr.TheVariants.{Inline}
@@ -14,14 +14,21 @@ use Rattle.sled_codec.specs.Pointers.{lid_of}
 use Rattle.sled_store.specs.Device.{State, Trace, state_of}
 use Rattle.sled_store.specs.SnapshotFiles.{BeginsFrom}
 use Rattle.sled_store.proofs.Names.OneBegin.{one_begin}
-use Rattle.sled_core.specs.Reading.{IsUnreadable, GivesMessage}
-use Rattle.sled_core.specs.Fits.{HasRecordOf, Holds, HoldsIn, segment_size_of, log_parts}
+use Rattle.sled_core.specs.Reading.{IsNoPlace, IsUnreadable, GivesMessage}
+use Rattle.sled_core.specs.Fits.{HasRecordOf, Holds, HoldsIn, reserved_end, segment_size_of, log_parts}
+use Rattle.sled_core.specs.Causes.{OnDone}
+use Rattle.sled_core.specs.ReadBuffer.{IsWrittenPlace, ReadAnswers, held_at, settling}
 use Rattle.sled_core.specs.declared.iobuf.SegmentPosition.{SegmentPosition}
 use Rattle.sled_core.specs.declared.logger.read_message.LogRead.{LogRead}
 use Rattle.sled_core.proofs.Reserve.Parts.{moved}
 use Rattle.sled_core.proofs.Read.ReadingLemmas.{if_ok}
 use Rattle.sled_core.proofs.Read.GivesLemmas.{gives}
-use Rattle.sled_core.proofs.Holds.HeldRecords.{fits_begins, held_record, inline_is}
+use Rattle.sled_core.proofs.Holds.HeldRecords.{fits_begins, inline_is}
+use Rattle.sled_core.proofs.Holds.Settling.{err_reserved, err_settles, pos_abs, read_answers, read_reserved, read_settles, refuses_none, settled_record}
+use Rattle.sled_store.specs.Script.{Performs, after_all}
+use Rattle.sled_store.proofs.Traces.ScriptLemmas.{performs_nothing}
+use Rattle.std.proofs.lemmas.Int.{ints}
+use Rattle.std.proofs.lemmas.Result.{err_from_is_err_and}
 use Rattle.sled_core.proofs.Read.PathLemmas.{stands_readable}
 use Rattle.sled_core.proofs.Holds.KeptCalls.{kept_still, kept_further}
 use Rattle.sled_core.proofs.Holds.ReachLemmas.{fits_holds}
@@ -56,8 +63,8 @@ held_there g c H m holds there has at pointer =
     let device : State = state_of (g.D.Device.trace log.config.device) in
     let size : ℕ = log.config.config.segment_size in
     let place : c.unsigned_abs-place.result ≡ m.place = place_is g c ∙ ap unsigned_abs (sym at) in
-    let after = subst (λ (o : Option IoError). HoldsIn g.C.Checksum.sum_of (log_parts size log.site device o log.buffer.bytes.items log.buffer.written_len log.buffer.sealed.items log.buffer.reserved.items) H) c.in_ok-settle.ensures.answers.1 (c.in_ok-settle.ensures.keeps.history H holds) in
-    let written : m.place < log.site.place + log.buffer.written_len = omega (arith, c.in_ok-settle.ensures.written, place) in
+    let after = subst (λ (o : Option IoError). HoldsIn g.C.Checksum.sum_of (log_parts size log.site device o log.buffer.bytes.items log.buffer.written_len log.buffer.sealed.items log.buffer.reserved.items) H) c.in_ok-settle.ensures.answers.2 (c.in_ok-settle.ensures.keeps.history H holds) in
+    let written : IsWrittenPlace log m.place = subst (IsWrittenPlace log) place c.in_ok-settle.ensures.written in
     let here : log.site.place ≡ old.site.place = ap (λ (x : SegmentPosition). x.place) c.in_ok-settle.ensures.position.site in
     let still : (log.site.place ≤ m.place) ⊎ ((cut : ℕ) × (stable_place after.begun.first.stable ≤ cut) × Contains (table H cut m.page) m) = elim (cases_lt m.place old.site.place) [
       | inr above ↦ inl (omega (arith, above, here))
@@ -72,7 +79,7 @@ held_there g c H m holds there has at pointer =
       ]
     ] in
     let inline : m.pointer ≡ Inline (lid_of c.args.ptr) = pointer ∙ inline_is c.args.ptr c.requires.inline in
-    let found = held_record g.C.Checksum.sum_of size log.site device log.buffer.bytes.items log.buffer.written_len log.buffer.sealed.items log.buffer.reserved.items H after m there written still (lid_of c.args.ptr) inline in
+    let found = settled_record log g.C.Checksum.sum_of device H after m there written still (lid_of c.args.ptr) inline in
     let number : c.unsigned_abs-place.result / c.args.self.now.config.config.segment_size ≡ m.place / size =
     ap (λ n. n / c.args.self.now.config.config.segment_size) place ∙ ap (λ n. m.place / n) (sym c.in_ok-settle.ensures.position.size) in
     subst (λ n. MessageStands g.C.Checksum.sum_of size device.log.bytes n (c.unsigned_abs-place.result / c.args.self.now.config.config.segment_size) m) (sym c.lid-lid.ensures)
@@ -108,3 +115,104 @@ returns-in-Some-clause-keeps g c = kept_still g.D.Device.trace g.C.Checksum.sum_
 
 pub returns-then-lsn-lt0-clause-keeps : goal.returns-then-lsn-lt0-clause-keeps
 returns-then-lsn-lt0-clause-keeps g c = kept_still g.D.Device.trace g.C.Checksum.sum_of c.args.self.now
+
+-- Where the log keeps a failure, or the place is refused, nothing is done.
+
+pub returns-in-Some-clause-calls : goal.returns-in-Some-clause-calls
+returns-in-Some-clause-calls g c = record { made = tt; damaged = λ is. absurd is; at_most = performs_nothing _ _ _ refl; unwritten = λ _. refl }
+
+pub returns-then-lsn-lt0-clause-calls : goal.returns-then-lsn-lt0-clause-calls
+returns-then-lsn-lt0-clause-calls g c = record {
+  made = tt;
+  damaged = λ _. inl (elim c.then-lsn-lt0.branch [
+    | then-lsn-lt0-via-then-lsn-lt0 w ↦ (let negative : c.args.lsn <ℤ pos 0 = search rules in inl negative)
+    | then-lsn-lt0-via-else-lsn-lt0+then-not-may_begin w ↦ inr (λ begins.
+        let begins_there : MayBegin (segment_size_of c.args.self.now) c.lid-lid.result = subst (MayBegin (segment_size_of c.args.self.now)) (sym c.lid-lid.ensures) begins in
+        let yes : IsTrue w.may_begin.result = w.may_begin.ensures.1 begins_there in search rules)
+  ]);
+  at_most = performs_nothing _ _ _ refl;
+  unwritten = λ _. refl;
+}
+
+pub returns-then-place-reserved_end-clause-calls : goal.returns-then-place-reserved_end-clause-calls
+returns-then-place-reserved_end-clause-calls g c = record { made = tt; damaged = λ is. absurd is; at_most = performs_nothing _ _ _ refl; unwritten = λ _. refl }
+
+pub returns-then-place-reserved_end-clause-keeps : goal.returns-then-place-reserved_end-clause-keeps
+returns-then-place-reserved_end-clause-keeps g c = kept_still g.D.Device.trace g.C.Checksum.sum_of c.args.self.now
+
+-- The place is one, and was reserved.
+
+lsn_is : (lsn : ℤ) (place : ℕ) → place ≡ unsigned_abs lsn → pos 0 ≤ℤ lsn → pos place ≡ lsn
+lsn_is lsn place is above = ap pos is ∙ pos_abs lsn above
+
+pub returns-in_err-settle-clause-calls : goal.returns-in_err-settle-clause-calls
+returns-in_err-settle-clause-calls g c =
+    let old = c.args.self.now in
+    let mid = c.settle.new.self in
+    let above : pos 0 ≤ℤ c.args.lsn = search rules in
+    let at : pos c.unsigned_abs-place.result ≡ c.args.lsn = lsn_is c.args.lsn c.unsigned_abs-place.result (c.unsigned_abs-place.ensures.value ∙ ap unsigned_abs (to_z-of_z w64 c.args.lsn c.ranges.lsn)) above in
+    let e = err_from_is_err_and c.from_residual.result c.from_residual.ensures.1 in
+    rw (e.1, e.2) (err_settles c.args.lsn (lid_of c.args.ptr) old mid LogRead g.D.Device.trace c.in_err-settle.field-0.0 old.site.place (held_at old (pos c.unsigned_abs-place.result)) _ _ _ c.in_err-settle.ensures.answers
+    (subst (λ z. OnDone {T = Unit {0}} (Err c.in_err-settle.field-0.0) (g.D.Device.trace mid.config.device ≡ after_all (settling old z) (g.D.Device.trace old.config.device))) at c.in_err-settle.ensures.calls)
+    (subst (λ z. Performs (settling old z) (g.D.Device.trace old.config.device) (g.D.Device.trace mid.config.device)) at c.settle.ensures.at_most)
+    (λ below. c.settle.ensures.unwritten (omega (arith, ints, at, below))))
+
+pub returns-in_err-settle-clause-refused : goal.returns-in_err-settle-clause-refused
+returns-in_err-settle-clause-refused g c =
+    let old = c.args.self.now in
+    let above : pos 0 ≤ℤ c.args.lsn = search rules in
+    let at : pos c.unsigned_abs-place.result ≡ c.args.lsn = lsn_is c.args.lsn c.unsigned_abs-place.result (c.unsigned_abs-place.ensures.value ∙ ap unsigned_abs (to_z-of_z w64 c.args.lsn c.ranges.lsn)) above in
+    let lower : c.unsigned_abs-place.result < reserved_end old = omega (arith, c.if-place-reserved_end.false, c.reserved_end.ensures.end) in
+    let inside : c.args.lsn <ℤ pos (reserved_end old) = omega (arith, ints, at, lower) in
+    let yes : IsTrue c.may_begin.result = search rules in
+    let is_place : IsNoPlace (segment_size_of old) c.args.lsn (lid_of c.args.ptr) → ⊥ = λ none. elim none [
+      | inl negative ↦ omega (arith, ints, negative, above)
+      | inr never ↦ never (subst (MayBegin (segment_size_of old)) c.lid-lid.ensures (c.may_begin.ensures.0 yes))
+    ] in
+    let e = err_from_is_err_and c.from_residual.result c.from_residual.ensures.1 in
+    rw (e.1, e.2) (refuses_none c.args.lsn (lid_of c.args.ptr) old c.settle.new.self {T = LogRead} (Err c.in_err-settle.field-0.0)
+    (err_reserved LogRead c.in_err-settle.field-0.0 old.site.place (held_at old (pos c.unsigned_abs-place.result)) _ _ _ c.in_err-settle.ensures.answers) is_place inside)
+
+pub returns-clause-calls : goal.returns-clause-calls
+returns-clause-calls g c =
+    let old = c.args.self.now in
+    let mid = c.settle.new.self in
+    let above : pos 0 ≤ℤ c.args.lsn = search rules in
+    let at : pos c.unsigned_abs-place.result ≡ c.args.lsn = lsn_is c.args.lsn c.unsigned_abs-place.result (c.unsigned_abs-place.ensures.value ∙ ap unsigned_abs (to_z-of_z w64 c.args.lsn c.ranges.lsn)) above in
+    read_settles g.D.Device.trace c.read_settled.result c.args.lsn (lid_of c.args.ptr) old mid c.read_settled.new.self
+    (subst (λ z. held_at old z ≡ None) at c.in_ok-settle.ensures.answers.0)
+    (subst (λ z. g.D.Device.trace mid.config.device ≡ after_all (settling old z) (g.D.Device.trace old.config.device)) at c.in_ok-settle.ensures.calls)
+    (λ below. c.settle.ensures.unwritten (omega (arith, ints, at, below))) c.read_settled.ensures.trace
+
+pub returns-clause-refused : goal.returns-clause-refused
+returns-clause-refused g c =
+    let old = c.args.self.now in
+    let above : pos 0 ≤ℤ c.args.lsn = search rules in
+    let at : pos c.unsigned_abs-place.result ≡ c.args.lsn = lsn_is c.args.lsn c.unsigned_abs-place.result (c.unsigned_abs-place.ensures.value ∙ ap unsigned_abs (to_z-of_z w64 c.args.lsn c.ranges.lsn)) above in
+    let lower : c.unsigned_abs-place.result < reserved_end old = omega (arith, c.if-place-reserved_end.false, c.reserved_end.ensures.end) in
+    let inside : c.args.lsn <ℤ pos (reserved_end old) = omega (arith, ints, at, lower) in
+    let yes : IsTrue c.may_begin.result = search rules in
+    let is_place : IsNoPlace (segment_size_of old) c.args.lsn (lid_of c.args.ptr) → ⊥ = λ none. elim none [
+      | inl negative ↦ omega (arith, ints, negative, above)
+      | inr never ↦ never (subst (MayBegin (segment_size_of old)) c.lid-lid.ensures (c.may_begin.ensures.0 yes))
+    ] in
+    refuses_none c.args.lsn (lid_of c.args.ptr) old c.read_settled.new.self c.read_settled.result (read_reserved g.C.Checksum.sum_of _ c.read_settled.result _ _ _ _ c.read_settled.ensures.answers) is_place inside
+
+pub returns-clause-tickets : goal.returns-clause-tickets
+returns-clause-tickets g c =
+    record { awaits = λ ticket m awaits. c.read_settled.ensures.tickets.awaits ticket m (c.settle.ensures.tickets.awaits ticket m awaits); ended = λ ended. c.read_settled.ensures.tickets.ended (c.settle.ensures.tickets.ended ended) }
+
+pub returns-clause-answers : goal.returns-clause-answers
+returns-clause-answers g c =
+    let old = c.args.self.now in
+    let new = c.read_settled.new.self in
+    let blobs : Trace → ℤ → Option (List ℕ) = λ t. (state_of t).blobs.file in
+    let above : pos 0 ≤ℤ c.args.lsn = search rules in
+    let at : pos c.unsigned_abs-place.result ≡ c.args.lsn = lsn_is c.args.lsn c.unsigned_abs-place.result (c.unsigned_abs-place.ensures.value ∙ ap unsigned_abs (to_z-of_z w64 c.args.lsn c.ranges.lsn)) above in
+    let lower : c.unsigned_abs-place.result < reserved_end old = omega (arith, c.if-place-reserved_end.false, c.reserved_end.ensures.end) in
+    let inside : c.args.lsn <ℤ pos (reserved_end old) = omega (arith, ints, at, lower) in
+    let answers = read_answers g.C.Checksum.sum_of (blobs (g.D.Device.trace c.settle.new.self.config.device)) c.read_settled.result c.args.lsn (reserved_end old) old.site.place (held_at old c.args.lsn) new.fault _ _ inside
+    (subst (λ z. held_at old z ≡ None) at c.in_ok-settle.ensures.answers.0) c.read_settled.ensures.answers in
+    subst (λ (t : Trace). ReadAnswers g.C.Checksum.sum_of (blobs t) c.read_settled.result c.args.lsn (reserved_end old) old.site.place (held_at old c.args.lsn) old.fault new.fault (g.D.Device.faults old.config.device) (g.D.Device.faults new.config.device)) (sym c.read_settled.ensures.trace)
+    (subst (λ n. ReadAnswers g.C.Checksum.sum_of (blobs (g.D.Device.trace c.settle.new.self.config.device)) c.read_settled.result c.args.lsn (reserved_end old) old.site.place (held_at old c.args.lsn) old.fault new.fault n (g.D.Device.faults new.config.device)) c.in_ok-settle.ensures.answers.3
+    (subst (λ (o : Option IoError). ReadAnswers g.C.Checksum.sum_of (blobs (g.D.Device.trace c.settle.new.self.config.device)) c.read_settled.result c.args.lsn (reserved_end old) old.site.place (held_at old c.args.lsn) o new.fault (g.D.Device.faults c.settle.new.self.config.device) (g.D.Device.faults new.config.device)) (sym c.in_default.is) answers))
