@@ -8,7 +8,6 @@ ghost use Rattle.sled_core.specs.Buffers.{IsChain, canceling, completing, ended,
 ghost use Rattle.sled_core.specs.SealedBuffers.{AreSealed, FirstUnwritten, one_ended, sealed_count, sealed_end};
 ghost use Rattle.sled_core.specs.SealedProps.{IsChain-prop, AreSealed-prop, FirstUnwritten-prop};
 
-pub(crate) mod around;
 pub mod intervals;
 pub(crate) mod record;
 pub(crate) mod sealing;

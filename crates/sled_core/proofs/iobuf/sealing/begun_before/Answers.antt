@@ -4,7 +4,7 @@ use Rattle.std.proofs.lemmas.List.Sorted.{IsPartitionPoint-from_clause, IsPartit
 use borrow.Author.Tests.{ltb-true}
 use lib.Dec.{ltb}
 use Rattle.sled_core.specs.declared.iobuf.Reserved.{Reserved}
-use Rattle.sled_core.proofs.iobuf.around.begun_before.Goals as goal
+use Rattle.sled_core.proofs.iobuf.sealing.begun_before.Goals as goal
 
 pub returns-clause-point : goal.returns-clause-point
 returns-clause-point c ordered =
