@@ -1,5 +1,5 @@
 -- What a read writes first: the one buffer that has the place, where that isn't stable; and what it answers.
-use Rattle.std.specs.Prelude.{◌≡◌, ◌⊎◌, ◌≤ℤ◌, ◌<ℤ◌, ◌<◌, ◌+◌, ◌-◌, nat_lt, int_lt, unsigned_abs, ℕ, ℤ, pos, Bool, true, false, if◌then◌else◌, List, [], ◌∷◌, take, drop, Option, None, Some, Result, Ok, Err}
+use Rattle.std.specs.Prelude.{◌≡◌, ◌⊎◌, ◌≤ℤ◌, ◌<ℤ◌, ◌<◌, ◌+◌, ◌-◌, nat_lt, int_lt, unsigned_abs, ℕ, ℤ, pos, Bool, true, false, if◌then◌else◌, List, [], ◌∷◌, take, drop, Option, None, Some, Result, Ok, Err, OnOk}
 use Rattle.std.specs.declared.io.Error.{Error as IoError}
 use Rattle.sled_codec.specs.declared.result.Error.{Error}
 use Rattle.sled_codec.specs.declared.result.Error.TheVariants.{Io, OutOfMemory, Held, NotReserved, Corruption}
@@ -69,6 +69,8 @@ pub record Settles {T D C : Type 0} (trace : D → Trace) (result : Result T Err
   pub made : OnDone result (trace (device_of new) ≡ after_all (settling old lsn) (trace (device_of old)))
   pub damaged : IsCorruption result → IsNoPlace (segment_size_of old) lsn lid ⊎ ((held_at old lsn ≡ None) × (trace (device_of new) ≡ after_all (settling old lsn) (trace (device_of old))))
   pub at_most : Performs (settling old lsn) (trace (device_of old)) (trace (device_of new))
+  -- the place is stable then, or its buffer is on the device, so that another read writes nothing
+  pub settled : OnOk result (IsWrittenPlace new (unsigned_abs lsn))
   pub unwritten : lsn <ℤ pos (synced_end old) → trace (device_of new) ≡ trace (device_of old)
 
 -- What a read refuses, where the log keeps no failure: what is no place as damage, and then a place that wasn't reserved as that. The log is as it was.

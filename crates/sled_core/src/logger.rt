@@ -310,6 +310,7 @@ impl<D: Device, C: Checksum> Log<D, C> {
         ensures tickets { KeepsTickets self.old self.new }
         ensures position { SamePosition self.old self.new }
         ensures trace { D.trace (device_of self.new) ≡ D.trace (device_of self.old) }
+        ensures buffer { self.new.buffer ≡ self.old.buffer }
         ensures answers { let blobs = (state_of (D.trace (device_of self.old))).blobs.file in
             RecordAnswers C.sum_of blobs result None (fault_of self.new) (D.faults (device_of self.old)) (D.faults (device_of self.new)) }
     {

@@ -1,5 +1,5 @@
 -- What a read answers and asks for, by whether its place was brought to the device; and the record of a message there.
-use Rattle.std.proofs.Common.{◌≡◌, ◌∙◌, ◌⊎◌, ◌≤◌, ◌≤ℤ◌, ◌<ℤ◌, ℕ, ℤ, pos, unsigned_abs, Option, None, List, Result, Ok, Err, arith, inl, inr}
+use Rattle.std.proofs.Common.{◌≡◌, ◌∙◌, ◌⊎◌, ◌≤◌, ◌≤ℤ◌, ◌<ℤ◌, ℕ, ℤ, pos, unsigned_abs, Option, None, List, Result, Ok, Err, arith, inl, inr, OnOk, ap, ◌-◌}
 use Rattle.std.specs.declared.io.Error.{Error as IoError}
 use Rattle.std.proofs.lemmas.Int.{ints}
 use Rattle.sled_codec.specs.declared.result.Error.{Error}
@@ -17,7 +17,9 @@ use Rattle.sled_codec.specs.Snapshots.{stable_place}
 use Rattle.sled_store.specs.Device.{State, Trace}
 use Rattle.sled_core.specs.declared.logger.Log.{Log}
 use Rattle.sled_core.specs.Fits.{HoldsIn, device_of, log_parts, reserved_end, segment_size_of, synced_end}
-use Rattle.sled_core.specs.ReadBuffer.{IsWrittenPlace, ReadAnswers, RefusesPlace, Settles, held_at, settling}
+use Rattle.sled_core.specs.ReadBuffer.{IsWrittenPlace, ReadAnswers, RefusesPlace, Settles, held_at, settling, written_around}
+use Rattle.sled_core.specs.declared.iobuf.IoBuf.{IoBuf}
+use Rattle.sled_core.specs.declared.iobuf.SegmentPosition.{SegmentPosition}
 use Rattle.sled_core.proofs.Holds.BufferEnds.{sealed_rise}
 use Rattle.sled_core.proofs.Holds.HeldRecords.{IsHeldAt, held_record}
 use Rattle.sled_core.proofs.Holds.WrittenRecords.{written_record}
@@ -28,9 +30,9 @@ module _ {D C : Type 0} (lsn : ℤ) (lid : ℕ) (old new : Log D C) where
   pub err_settles : (T : Type 0) (trace : D → Trace) (e : Error) (place : ℕ) (held : Option ℕ) (now : Option IoError) (before after : ℕ) → HeldAnswers {T = Unit {0}} (Err e) place held None now before after
       → OnDone {T = Unit {0}} (Err e) (trace (device_of new) ≡ after_all (settling old lsn) (trace (device_of old))) → Performs (settling old lsn) (trace (device_of old)) (trace (device_of new))
       → (lsn <ℤ pos (synced_end old) → trace (device_of new) ≡ trace (device_of old)) → Settles {T = T} trace (Err e) lsn lid old new
-  err_settles T trace (Held at) place held now before after answers made most still = record { made = made; damaged = λ is. absurd is; at_most = most; unwritten = still }
-  err_settles T trace (Io e) place held now before after answers made most still = record { made = tt; damaged = λ is. absurd is; at_most = most; unwritten = still }
-  err_settles T trace OutOfMemory place held now before after answers made most still = record { made = tt; damaged = λ is. absurd is; at_most = most; unwritten = still }
+  err_settles T trace (Held at) place held now before after answers made most still = record { made = made; damaged = λ is. absurd is; at_most = most; settled = tt; unwritten = still }
+  err_settles T trace (Io e) place held now before after answers made most still = record { made = tt; damaged = λ is. absurd is; at_most = most; settled = tt; unwritten = still }
+  err_settles T trace OutOfMemory place held now before after answers made most still = record { made = tt; damaged = λ is. absurd is; at_most = most; settled = tt; unwritten = still }
   err_settles T trace _ place held now before after answers made most still = absurd answers
 
   -- It was a place, and reserved.
@@ -58,12 +60,24 @@ all_done (Ok x) P is = is
 all_done (Err (Held at)) P is = is
 all_done (Err _) P is = tt
 
+on_ok : {T : Type 0} (r : Result T Error) (P : Type 0) → P → OnOk r P
+on_ok (Ok x) P is = is
+on_ok (Err e) P is = tt
+
+-- what is written stays so where the buffers do
+pub written_still : {D C : Type 0} (mid new : Log D C) → new.site ≡ mid.site → new.buffer ≡ mid.buffer → (place : ℕ) → IsWrittenPlace mid place → IsWrittenPlace new place
+written_still mid new site buffer place is = elim is [
+  | inl below ↦ inl (let at = ap (λ (s : SegmentPosition). s.place) site in let from = ap (λ (b : IoBuf). b.written_len) buffer in omega (arith, below, at, from))
+  | inr there ↦ inr ((λ i. written_around (place - (site i).place) (buffer i).sealed.items) ∙ there)
+]
+
 pub read_settles : {T D C : Type 0} (trace : D → Trace) (r : Result T Error) (lsn : ℤ) (lid : ℕ) (old mid new : Log D C) → held_at old lsn ≡ None → trace (device_of mid) ≡ after_all (settling old lsn) (trace (device_of old))
-    → (lsn <ℤ pos (synced_end old) → trace (device_of mid) ≡ trace (device_of old)) → trace (device_of new) ≡ trace (device_of mid) → Settles trace r lsn lid old new
-read_settles trace r lsn lid old mid new held made still read = record {
+    → (lsn <ℤ pos (synced_end old) → trace (device_of mid) ≡ trace (device_of old)) → trace (device_of new) ≡ trace (device_of mid) → IsWrittenPlace new (unsigned_abs lsn) → Settles trace r lsn lid old new
+read_settles trace r lsn lid old mid new held made still read written = record {
   made = all_done r _ (read ∙ made);
   damaged = λ _. inr (held, read ∙ made);
   at_most = performs_whole _ _ _ (read ∙ made);
+  settled = on_ok r _ written;
   unwritten = λ below. read ∙ still below;
 }
 

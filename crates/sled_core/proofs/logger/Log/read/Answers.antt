@@ -24,7 +24,7 @@ use Rattle.sled_core.proofs.Reserve.Parts.{moved}
 use Rattle.sled_core.proofs.Read.ReadingLemmas.{if_ok}
 use Rattle.sled_core.proofs.Read.GivesLemmas.{gives}
 use Rattle.sled_core.proofs.Holds.HeldRecords.{fits_begins, inline_is}
-use Rattle.sled_core.proofs.Holds.Settling.{err_reserved, err_settles, pos_abs, read_answers, read_reserved, read_settles, refuses_none, settled_record}
+use Rattle.sled_core.proofs.Holds.Settling.{err_reserved, err_settles, pos_abs, read_answers, read_reserved, read_settles, refuses_none, settled_record, written_still}
 use Rattle.sled_store.specs.Script.{Performs, after_all}
 use Rattle.sled_store.proofs.Traces.ScriptLemmas.{performs_nothing}
 use Rattle.std.proofs.lemmas.Int.{ints}
@@ -119,7 +119,7 @@ returns-then-lsn-lt0-clause-keeps g c = kept_still g.D.Device.trace g.C.Checksum
 -- Where the log keeps a failure, or the place is refused, nothing is done.
 
 pub returns-in-Some-clause-calls : goal.returns-in-Some-clause-calls
-returns-in-Some-clause-calls g c = record { made = tt; damaged = λ is. absurd is; at_most = performs_nothing _ _ _ refl; unwritten = λ _. refl }
+returns-in-Some-clause-calls g c = record { made = tt; damaged = λ is. absurd is; at_most = performs_nothing _ _ _ refl; settled = tt; unwritten = λ _. refl }
 
 pub returns-then-lsn-lt0-clause-calls : goal.returns-then-lsn-lt0-clause-calls
 returns-then-lsn-lt0-clause-calls g c = record {
@@ -131,11 +131,12 @@ returns-then-lsn-lt0-clause-calls g c = record {
         let yes : IsTrue w.may_begin.result = w.may_begin.ensures.1 begins_there in search rules)
   ]);
   at_most = performs_nothing _ _ _ refl;
+  settled = tt;
   unwritten = λ _. refl;
 }
 
 pub returns-then-place-reserved_end-clause-calls : goal.returns-then-place-reserved_end-clause-calls
-returns-then-place-reserved_end-clause-calls g c = record { made = tt; damaged = λ is. absurd is; at_most = performs_nothing _ _ _ refl; unwritten = λ _. refl }
+returns-then-place-reserved_end-clause-calls g c = record { made = tt; damaged = λ is. absurd is; at_most = performs_nothing _ _ _ refl; settled = tt; unwritten = λ _. refl }
 
 pub returns-then-place-reserved_end-clause-keeps : goal.returns-then-place-reserved_end-clause-keeps
 returns-then-place-reserved_end-clause-keeps g c = kept_still g.D.Device.trace g.C.Checksum.sum_of c.args.self.now
@@ -183,6 +184,7 @@ returns-clause-calls g c =
     (subst (λ z. held_at old z ≡ None) at c.in_ok-settle.ensures.answers.0)
     (subst (λ z. g.D.Device.trace mid.config.device ≡ after_all (settling old z) (g.D.Device.trace old.config.device)) at c.in_ok-settle.ensures.calls)
     (λ below. c.settle.ensures.unwritten (omega (arith, ints, at, below))) c.read_settled.ensures.trace
+    (subst (IsWrittenPlace c.read_settled.new.self) (place_is g c) (written_still mid c.read_settled.new.self c.read_settled.ensures.position.site c.read_settled.ensures.buffer c.unsigned_abs-place.result c.in_ok-settle.ensures.written))
 
 pub returns-clause-refused : goal.returns-clause-refused
 returns-clause-refused g c =
