@@ -11,6 +11,7 @@ pub mod KeptCalls
 pub mod KeptTickets
 pub mod OpenTickets
 pub mod ReachLemmas
+pub mod ReadSeals
 pub mod RunningLemmas
 pub mod SealedCalls
 pub mod Settling

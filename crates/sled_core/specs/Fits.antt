@@ -299,6 +299,10 @@ writing_pending log i = ready_write log.site.slot log.buffer.bytes.items log.buf
 abbrev pub sealed_len : {D C : Type 0} → Log D C → ℕ
 sealed_len log = sealed_end log.buffer.written_len log.buffer.sealed.items
 
+-- the place where the current buffer begins
+abbrev pub current_begin : {D C : Type 0} → Log D C → ℕ
+current_begin log = log.site.place + sealed_len log
+
 -- The i-th of them is written: the stable end lies behind those at the front that are written now, and these have gone.
 pub record HasWrittenPending {D C : Type 0} (i : ℕ) (old new : Log D C) : Type 0 where
   pub stable : synced_len new ≡ run_end (synced_len old) (ready_marked i (sealed_of old))

@@ -11,8 +11,8 @@ use Rattle.sled_core.specs.declared.iobuf.Reserved.{Reserved}
 use Rattle.sled_core.specs.declared.iobuf.Sealed.{Sealed}
 use Rattle.sled_core.specs.declared.logger.Log.{Log}
 use Rattle.sled_core.specs.Buffers.{first_open_in}
-use Rattle.sled_core.specs.Causes.{IsFault, OnDone}
-use Rattle.sled_core.specs.Fits.{buffers_of, device_of, fault_of, reserved_end, segment_size_of, synced_end, synced_len}
+use Rattle.sled_core.specs.Causes.{IsFault, IsHeld, OnDone}
+use Rattle.sled_core.specs.Fits.{NoneSealed, buffers_of, current_begin, device_of, fault_of, next_place, reserved_end, sealed_of, segment_size_of, synced_end, synced_len}
 use Rattle.sled_core.specs.Reading.{IsNoPlace}
 use Rattle.sled_core.specs.SealedBuffers.{bytes_between, is_ready, writing}
 use Rattle.sled_core.specs.Stable.{IsNotReserved}
@@ -72,6 +72,14 @@ pub record Settles {T D C : Type 0} (trace : D → Trace) (result : Result T Err
   -- the place is stable then, or its buffer is on the device, so that another read writes nothing
   pub settled : OnOk result (IsWrittenPlace new (unsigned_abs lsn))
   pub unwritten : lsn <ℤ pos (synced_end old) → trace (device_of new) ≡ trace (device_of old)
+
+-- What a read seals: nothing where its place is stable or in a sealed buffer; else the current buffer, at most, which is written then unless an open reservation holds it.
+pub record SealsAround {T D C : Type 0} (result : Result T Error) (lsn : ℤ) (old new : Log D C) : Type 0 where
+  pub still : lsn <ℤ pos (synced_end old) → sealed_of new ≡ sealed_of old
+  pub apart : lsn <ℤ pos (current_begin old) → current_begin new ≡ current_begin old
+  pub once : (current_begin new ≡ current_begin old) ⊎ (current_begin new ≡ next_place old)
+  pub held : IsHeld result → lsn <ℤ pos (current_begin new)
+  pub none : NoneSealed old → OnOk result (NoneSealed new)
 
 -- What a read refuses, where the log keeps no failure: what is no place as damage, and then a place that wasn't reserved as that. The log is as it was.
 pub record RefusesPlace {T D C : Type 0} (result : Result T Error) (lsn : ℤ) (lid : ℕ) (old new : Log D C) : Type 0 where

@@ -124,7 +124,7 @@ pub(crate) struct IoBuf {
     ghost begins: { begin ≡ sealed_end written_len sealed.items },
     ghost before: { first ≡ sealed_count sealed.items },
     ghost parted: { first ≤ length reserved.items },
-    ghost chain: { IsChain (max 20 begin) (drop first reserved.items) (length bytes.items) } by { IsChain-prop (max 20 begin) (drop first reserved.items) (length bytes.items) },
+    ghost chain: { IsChain (max 20 begin) (drop first reserved.items) (length bytes.items) } by { IsChain-prop _ _ _ },
     ghost counted: { open_count ≡ open_in (drop first reserved.items) },
     ghost few: { open_count ≤ most_open },
 }

@@ -61,7 +61,7 @@ pub struct Log<D, C> {
 impl<D: Device, C: Checksum> Log<D, C> {
     ghost use Rattle.sled_core.specs.Fits.{Holds, NoneOpen, NoneSealed, Awaits, IsOpen, IsOnlyOpen, HasRoom, IsUnchanged, fault_of, open_of, IsLeastOpen, next_place, synced_end, reserved_end, pins_of, config_of, device_of, IsWritten, HasRecordOf, flushing, manifest_page, segment_size_of, site_of, size_for, message_for, KeepsAll, KeepsTickets};
     ghost use Rattle.sled_core.specs.Keeps.{ConfigKept, GoesOn, Preserves, SamePosition};
-    ghost use Rattle.sled_core.specs.ReadBuffer.{ReadAnswers, RefusesPlace, Settles, held_at};
+    ghost use Rattle.sled_core.specs.ReadBuffer.{ReadAnswers, RefusesPlace, SealsAround, Settles, held_at};
     ghost use Rattle.sled_core.specs.Ready.{IsReady};
     ghost use Rattle.sled_core.specs.Running.{Fits, Ready};
     ghost use Rattle.sled_core.specs.Starts.{BeginsBehind, StartsOrRefuses, config_left};
@@ -274,6 +274,7 @@ impl<D: Device, C: Checksum> Log<D, C> {
             IsCorruption result → IsNoPlace size lsn (lid_of ptr) ⊎ IsUnreadable C.sum_of size s.log.bytes s.blobs.file (lid_of ptr) (unsigned_abs lsn / size) }
         ensures calls { Settles D.trace result lsn (lid_of ptr) self.old self.new }
         ensures refused { RefusesPlace result lsn (lid_of ptr) self.old self.new }
+        ensures seals { SealsAround result lsn self.old self.new }
         ensures keeps { Preserves D.trace C.sum_of self.old self.new }
         ensures tickets { KeepsTickets self.old self.new }
         ensures position { SamePosition self.old self.new }

@@ -1,14 +1,14 @@
 //! Bringing the buffer of one place to the device.
 //!
 //! The others aren't written, so it may lie behind a gap (`specs/ReadBuffer.antt`).
-ghost use Rattle.std.specs.Prelude.{◌≡◌, ◌+◌, ◌-◌, ◌<◌, ◌≤◌, ℕ, pos, None, length, take, drop, OnOk, IsOkUnless};
+ghost use Rattle.std.specs.Prelude.{◌≡◌, ◌+◌, ◌-◌, ◌<◌, ◌≤◌, ◌⊎◌, ℕ, pos, None, length, take, drop, OnOk, IsOkUnless};
 ghost use Rattle.sled_store.specs.Script.{after_all, Performs};
 ghost use Rattle.sled_core.specs.Buffers.{open_in};
-ghost use Rattle.sled_core.specs.Causes.{HeldAnswers, OnDone};
-ghost use Rattle.sled_core.specs.Fits.{IsLeastOpenOf, KeepsAll, KeepsTickets, device_of, fault_of, reserved_end, reserved_len, sealed_len, site_of, synced_end, synced_len};
+ghost use Rattle.sled_core.specs.Causes.{HeldAnswers, IsHeld, OnDone};
+ghost use Rattle.sled_core.specs.Fits.{IsLeastOpenOf, KeepsAll, KeepsTickets, NoneSealed, device_of, fault_of, reserved_end, reserved_len, sealed_len, sealed_of, site_of, synced_end, synced_len};
 ghost use Rattle.sled_core.specs.Keeps.{Preserves, SamePosition};
 ghost use Rattle.sled_core.specs.SealedBuffers.{sealed_count};
-ghost use Rattle.sled_core.specs.ReadBuffer.{IsWrittenAround, IsWrittenPlace, held_around, held_at, settling, writing_around};
+ghost use Rattle.sled_core.specs.ReadBuffer.{IsWrittenAround, IsWrittenPlace, SealsAround, held_around, held_at, settling, writing_around};
 
 use crate::logger::Log;
 use sled_codec::result::{Error, Lsn, Result};
@@ -29,6 +29,7 @@ impl<D: Device, C: Checksum> Log<D, C> {
         ensures position { SamePosition self.old self.new }
         ensures answers { HeldAnswers result (site_of self.old).place (held_at self.old (pos place)) None (fault_of self.new)
             (D.faults (device_of self.old)) (D.faults (device_of self.new)) }
+        ensures seals { SealsAround result (pos place) self.old self.new }
     {
         if place < self.site.place + self.buffer.synced_len() as u64 {
             return Ok(());
@@ -50,6 +51,10 @@ impl<D: Device, C: Checksum> Log<D, C> {
         ensures position { SamePosition self.old self.new }
         ensures answers { HeldAnswers result (site_of self.old).place (held_around self.old at) None (fault_of self.new)
             (D.faults (device_of self.old)) (D.faults (device_of self.new)) }
+        ensures apart { at < sealed_len self.old → sealed_len self.new ≡ sealed_len self.old }
+        ensures once { (sealed_len self.new ≡ sealed_len self.old) ⊎ (sealed_len self.new ≡ length self.old.buffer.bytes.items) }
+        ensures held { IsHeld result → at < sealed_len self.new }
+        ensures none { NoneSealed self.old → OnOk result (NoneSealed self.new) }
     {
         self.seal_around(at)?;
         self.write_sealed(at)
@@ -67,6 +72,9 @@ impl<D: Device, C: Checksum> Log<D, C> {
         ensures same { KeepsAll self.old self.new }
         ensures position { SamePosition self.old self.new }
         ensures memory { IsOkUnless result Error.OutOfMemory }
+        ensures apart { at < sealed_len self.old → sealed_len self.new ≡ sealed_len self.old }
+        ensures once { (sealed_len self.new ≡ sealed_len self.old) ⊎ (sealed_len self.new ≡ length self.old.buffer.bytes.items) }
+        ensures one { NoneSealed self.old → OnOk result (length (sealed_of self.new) ≡ 1) }
     {
         if at < self.buffer.begin {
             return Ok(());
@@ -87,6 +95,8 @@ impl<D: Device, C: Checksum> Log<D, C> {
         ensures position { SamePosition self.old self.new }
         ensures answers { HeldAnswers result (site_of self.old).place (held_around self.old at) None (fault_of self.new)
             (D.faults (device_of self.old)) (D.faults (device_of self.new)) }
+        ensures end { sealed_len self.new ≡ sealed_len self.old }
+        ensures none { length (sealed_of self.old) ≡ 1 → OnOk result (NoneSealed self.new) }
     {
         let (k, b) = self.buffer.around(at);
         if b.is_written {

@@ -1,6 +1,6 @@
 use Rattle.std.proofs.Common.{◌≡◌, ◌⊎◌, ◌∙◌, ◌<◌, ◌≤◌, ◌/◌, ap, sym, subst, ℕ, arith, inl, inr, Option, IsTrue, rules, pos, refl}
 use Rattle.std.specs.Int.{w64}
-use Rattle.std.specs.Prelude.{unsigned_abs, ◌<ℤ◌, ◌≤ℤ◌, ℤ, None, List, Err}
+use Rattle.std.specs.Prelude.{unsigned_abs, ◌<ℤ◌, ◌≤ℤ◌, ℕ, ℤ, None, List, Result, Ok, Err}
 use Rattle.std.specs.List.{Contains}
 use Rattle.std.proofs.lemmas.Bool.{cases_lt}
 use Rattle.sled_codec.specs.declared.result.DiskPtr.TheVariants.{Inline}
@@ -16,14 +16,17 @@ use Rattle.sled_store.specs.SnapshotFiles.{BeginsFrom}
 use Rattle.sled_store.proofs.Names.OneBegin.{one_begin}
 use Rattle.sled_core.specs.Reading.{IsNoPlace, IsUnreadable, GivesMessage}
 use Rattle.sled_core.specs.Fits.{HasRecordOf, Holds, HoldsIn, reserved_end, segment_size_of, log_parts}
-use Rattle.sled_core.specs.Causes.{OnDone}
-use Rattle.sled_core.specs.ReadBuffer.{IsWrittenPlace, ReadAnswers, held_at, settling}
+use Rattle.sled_codec.specs.declared.result.Error.{Error}
+use Rattle.sled_codec.specs.declared.result.Error.TheVariants.{Held}
+use Rattle.sled_core.specs.Causes.{IsHeld, OnDone, RecordAnswers}
+use Rattle.sled_core.specs.ReadBuffer.{IsWrittenPlace, ReadAnswers, SealsAround, held_at, settling}
 use Rattle.sled_core.specs.declared.iobuf.SegmentPosition.{SegmentPosition}
 use Rattle.sled_core.specs.declared.logger.read_message.LogRead.{LogRead}
 use Rattle.sled_core.proofs.Reserve.Parts.{moved}
 use Rattle.sled_core.proofs.Read.ReadingLemmas.{if_ok}
 use Rattle.sled_core.proofs.Read.GivesLemmas.{gives}
 use Rattle.sled_core.proofs.Holds.HeldRecords.{fits_begins, inline_is}
+use Rattle.sled_core.proofs.Holds.ReadSeals.{seals_err, seals_none, seals_read}
 use Rattle.sled_core.proofs.Holds.Settling.{err_reserved, err_settles, pos_abs, read_answers, read_reserved, read_settles, refuses_none, settled_record, written_still}
 use Rattle.sled_store.specs.Script.{Performs, after_all}
 use Rattle.sled_store.proofs.Traces.ScriptLemmas.{performs_nothing}
@@ -35,6 +38,11 @@ use Rattle.sled_core.proofs.Holds.ReachLemmas.{fits_holds}
 use Rattle.sled_core.proofs.logger.Log.read.Given as given
 use Rattle.sled_core.proofs.logger.Log.read.Goals.{then-lsn-lt0-via-then-lsn-lt0, then-lsn-lt0-via-else-lsn-lt0+then-not-may_begin}
 use Rattle.sled_core.proofs.logger.Log.read.Goals as goal
+
+-- An answer of a record isn't held.
+read_held : {T : Type 0} (sum : List ℕ → ℕ) (blobs : ℤ → Option (List ℕ)) (r : Result T Error) (old now : Option IoError) (before after : ℕ) → RecordAnswers sum blobs r old now before after → IsHeld r → ⊥
+read_held sum blobs (Err (Held at)) old now before after answers is = answers
+read_held sum blobs _ old now before after answers is = is
 
 place_is : (g : given.Over) (c : goal.After-read_settled g) → c.unsigned_abs-place.result ≡ unsigned_abs c.args.lsn
 place_is g c = c.unsigned_abs-place.ensures.value ∙ ap unsigned_abs (to_z-of_z w64 c.args.lsn c.ranges.lsn)
@@ -218,3 +226,30 @@ returns-clause-answers g c =
     subst (λ (t : Trace). ReadAnswers g.C.Checksum.sum_of (blobs t) c.read_settled.result c.args.lsn (reserved_end old) old.site.place (held_at old c.args.lsn) old.fault new.fault (g.D.Device.faults old.config.device) (g.D.Device.faults new.config.device)) (sym c.read_settled.ensures.trace)
     (subst (λ n. ReadAnswers g.C.Checksum.sum_of (blobs (g.D.Device.trace c.settle.new.self.config.device)) c.read_settled.result c.args.lsn (reserved_end old) old.site.place (held_at old c.args.lsn) old.fault new.fault n (g.D.Device.faults new.config.device)) c.in_ok-settle.ensures.answers.3
     (subst (λ (o : Option IoError). ReadAnswers g.C.Checksum.sum_of (blobs (g.D.Device.trace c.settle.new.self.config.device)) c.read_settled.result c.args.lsn (reserved_end old) old.site.place (held_at old c.args.lsn) o new.fault (g.D.Device.faults c.settle.new.self.config.device) (g.D.Device.faults new.config.device)) (sym c.in_default.is) answers))
+
+-- What is sealed.
+
+pub returns-in-Some-clause-seals : goal.returns-in-Some-clause-seals
+returns-in-Some-clause-seals g c = seals_none _ c.args.lsn c.args.self.now (λ is. absurd is)
+
+pub returns-then-lsn-lt0-clause-seals : goal.returns-then-lsn-lt0-clause-seals
+returns-then-lsn-lt0-clause-seals g c = seals_none _ c.args.lsn c.args.self.now (λ is. absurd is)
+
+pub returns-then-place-reserved_end-clause-seals : goal.returns-then-place-reserved_end-clause-seals
+returns-then-place-reserved_end-clause-seals g c = seals_none _ c.args.lsn c.args.self.now (λ is. absurd is)
+
+pub returns-in_err-settle-clause-seals : goal.returns-in_err-settle-clause-seals
+returns-in_err-settle-clause-seals g c =
+    let old = c.args.self.now in
+    let above : pos 0 ≤ℤ c.args.lsn = search rules in
+    let at : pos c.unsigned_abs-place.result ≡ c.args.lsn = lsn_is c.args.lsn c.unsigned_abs-place.result (c.unsigned_abs-place.ensures.value ∙ ap unsigned_abs (to_z-of_z w64 c.args.lsn c.ranges.lsn)) above in
+    let e = err_from_is_err_and c.from_residual.result c.from_residual.ensures.1 in
+    rw (e.1, e.2) (seals_err c.args.lsn old c.settle.new.self c.in_err-settle.field-0.0 (subst (λ z. SealsAround {T = Unit {0}} (Err c.in_err-settle.field-0.0) z old c.settle.new.self) at c.in_err-settle.ensures.seals))
+
+pub returns-clause-seals : goal.returns-clause-seals
+returns-clause-seals g c =
+    let old = c.args.self.now in
+    let above : pos 0 ≤ℤ c.args.lsn = search rules in
+    let at : pos c.unsigned_abs-place.result ≡ c.args.lsn = lsn_is c.args.lsn c.unsigned_abs-place.result (c.unsigned_abs-place.ensures.value ∙ ap unsigned_abs (to_z-of_z w64 c.args.lsn c.ranges.lsn)) above in
+    seals_read c.args.lsn old c.settle.new.self c.read_settled.result c.read_settled.new.self tt (subst (λ z. SealsAround {T = Unit {0}} (Ok tt) z old c.settle.new.self) at c.in_ok-settle.ensures.seals)
+    c.read_settled.ensures.position.site c.read_settled.ensures.buffer (read_held g.C.Checksum.sum_of _ c.read_settled.result _ _ _ _ c.read_settled.ensures.answers)

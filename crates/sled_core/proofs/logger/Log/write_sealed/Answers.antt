@@ -13,6 +13,7 @@ use Rattle.sled_core.specs.ReadBuffer.{IsWrittenAround, held_around, writing_aro
 use Rattle.sled_core.specs.SealedBuffers.{is_ready}
 use Rattle.sled_core.proofs.Holds.Around.{around_point, calls_none, calls_ready, else_ready, held_first, held_none, is_now_written, is_written, open_not_ready, some_behind, written_closed, written_not_ready}
 use Rattle.sled_core.proofs.Holds.KeptCalls.{kept_still}
+use Rattle.sled_core.proofs.Holds.ReadSeals.{end_kept, one_gone, one_unwritten}
 use Rattle.sled_core.proofs.Holds.Writes.{made_answers, made_calls}
 use Rattle.sled_core.proofs.Sealed.Around.{IsAround}
 use Rattle.sled_core.proofs.logger.Log.write_sealed.Given as given
@@ -100,3 +101,14 @@ returns-clause-answers g c =
     let old = c.args.self.now in
     made_answers old.site.place (held_around old c.args.at) c.write_buffer.result _ _ _ c.write_buffer.ensures.answers
     (held_none old c.args.at c.around-k.result.0 c.around-k.result.1 (around_point _ _ _ _ c.around-k.ensures.within c.around-k.ensures.there c.around-k.ensures.point) (omega (arith, c.if-b-gt0.false)))
+
+-- What is sealed ends where it did.
+
+pub returns-clause-end : goal.returns-clause-end
+returns-clause-end g c = end_kept c.args.self.now c.write_buffer.new.self c.write_buffer.result c.around-k.result.0 c.write_buffer.ensures.written c.write_buffer.ensures.same
+
+pub returns-clause-none : goal.returns-clause-none
+returns-clause-none g c = one_gone c.args.self.now c.write_buffer.new.self c.write_buffer.result c.around-k.result.0 c.around-k.ensures.within c.write_buffer.ensures.written
+
+pub returns-then-b-clause-none : goal.returns-then-b-clause-none
+returns-then-b-clause-none g c = λ one. absurd (one_unwritten c.args.self.now.buffer.sealed.items c.around-k.result.0 c.around-k.result.1 c.args.self.now.buffer.head one c.around-k.ensures.within c.around-k.ensures.there c.if-b.true)
