@@ -1,5 +1,5 @@
 -- What a log has to do with the history of what was completed, and with its device. It has one current segment, whose buffer has all of what is not written.
-use Rattle.std.specs.Prelude.{nat_lt, if◌then◌else◌, Bool, false, ◌≡◌, ◌⊎◌, ◌+◌, ◌-◌, ◌*◌, ◌/◌, ◌%◌, ◌^◌, ◌≤◌, ◌<◌, ◌-ℤ◌, ℕ, ℤ, pos, max, true, List, [], ◌++◌, ◌∷◌, length, take, drop, All, Option, None, Some, slice_get, Contains}
+use Rattle.std.specs.Prelude.{nat_lt, if◌then◌else◌, Bool, false, ◌≡◌, ◌⊎◌, ◌+◌, ◌-◌, ◌*◌, ◌/◌, ◌%◌, ◌^◌, ◌≤◌, ◌<◌, ℕ, ℤ, pos, max, true, List, [], ◌++◌, ◌∷◌, length, take, drop, All, Option, None, Some, slice_get, Contains}
 use Rattle.std.specs.declared.io.Error.{Error as IoError}
 use Rattle.sled_codec.specs.declared.result.DiskPtr.TheVariants.{Inline}
 use Rattle.sled_codec.specs.declared.serialization.message.LogKind.{LogKind}
@@ -20,6 +20,7 @@ use Rattle.sled_core.specs.declared.logger.Log.{Log}
 use Rattle.sled_store.specs.declared.config.RunningConfig.{RunningConfig}
 use Rattle.sled_core.specs.Buffers.{Stands, IsChain, completed_in, message_in, none_open, open_in, first_open_in, end_reserved, record_size}
 use Rattle.sled_core.specs.LogFile.{IsLogFile}
+use Rattle.sled_core.specs.Recoverable.{IsMarkOf}
 use Rattle.sled_core.specs.SealedBuffers.{AreZeros, Laid, behind_run, buffer_writes, bytes_between, current_buffer, first_ready, ready_count, ready_marked, ready_write, ready_writes, reserved_below, run_count, run_end, seal_at, sealed_count, sealed_end, writing, written_at}
 use Rattle.sled_core.specs.Tickets.{index_of, IsFor}
 
@@ -166,6 +167,12 @@ EndBelow place = All (λ m. (m.place < place) × (m.place + m.size ≤ place))
 abbrev pub CloseBelow : ℕ → List Batch → Type 0
 CloseBelow place = All (λ b. (b.low < place) × (b.peg < place))
 
+-- The bytes of a segment begin with its header. Its mark lies below the segment, and in no batch of the history.
+pub record HasMark (sum : List ℕ → ℕ) (site : SegmentPosition) (bytes : List ℕ) (H : History) : Type 0 where
+  pub mark : ℤ
+  pub is : take 20 bytes ≡ short_header sum (pos site.place) mark
+  pub of_history : IsMarkOf H (record { place = site.place; slot = site.slot; mark = mark })
+
 -- A history, and the bytes and reservations of a log's current segment over a device: what was written is settled there, as far as it is needed, and what was completed since stands in the buffer.
 pub record HoldsIn (sum : List ℕ → ℕ) (parts : LogParts) (H : History) : Type 0 where
   -- the messages that were written
@@ -176,7 +183,7 @@ pub record HoldsIn (sum : List ℕ → ℕ) (parts : LogParts) (H : History) : T
   pub batches : CloseBelow (parts.site.place + parts.written_len) H.batches
   pub place_begins : parts.site.place % parts.size ≡ 0
   pub slot_begins : parts.site.slot % parts.size ≡ 0
-  pub header : parts.written_len ≡ 0 → take 20 parts.bytes ≡ short_header sum (pos parts.site.place) (pos parts.site.place -ℤ pos 1)
+  pub header : parts.written_len ≡ 0 → HasMark sum parts.site parts.bytes H
   pub chain : IsChain (max 20 parts.written_len) parts.reserved (length parts.bytes)
   pub stand : All (Stands sum (parts.site.place / parts.size) parts.bytes) parts.reserved
   pub room : All (λ r. r.from + 32 ≤ parts.size) parts.reserved

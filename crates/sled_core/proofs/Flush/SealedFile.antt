@@ -1,16 +1,16 @@
 -- A log file has all messages that it had, and those of the buffers at the front that are written now, once a sealed buffer is.
-use Rattle.std.proofs.Common.{◌≡◌, ◌≤◌, ◌<◌, ◌+◌, ◌/◌, ◌%◌, ◌^◌, ◌⊎◌, ◌-ℤ◌, ℕ, pos, max, false, List, [], ◌∷◌, ◌++◌, length, take, drop, arith, subst}
+use Rattle.std.proofs.Common.{◌≡◌, ◌≤◌, ◌<◌, ◌+◌, ◌/◌, ◌%◌, ◌^◌, ◌⊎◌, ℕ, max, false, List, [], ◌∷◌, ◌++◌, length, take, drop, arith, subst}
 use Rattle.std.specs.List.{All}
 use Rattle.std.proofs.Math.Nat.{div-le_self}
 use Rattle.std.proofs.lemmas.List.{append-nil}
 use Rattle.std.proofs.lemmas.List.Elements.{All-take}
-use Rattle.sled_codec.specs.Record.{short_header}
-use Rattle.sled_codec.specs.History.{Message}
+use Rattle.sled_codec.specs.History.{Message, History}
 use Rattle.sled_store.specs.Device.{overwritten}
 use Rattle.sled_core.specs.declared.iobuf.Reserved.{Reserved}
 use Rattle.sled_core.specs.declared.iobuf.Sealed.{Sealed}
 use Rattle.sled_core.specs.declared.iobuf.SegmentPosition.{SegmentPosition}
 use Rattle.sled_core.specs.Buffers.{IsChain, completed_in, Stands}
+use Rattle.sled_core.specs.Fits.{HasMark}
 use Rattle.sled_core.specs.LogFile.{IsLogFile}
 use Rattle.sled_core.specs.SealedBuffers.{Agrees, AreSealed, Laid, now_written, run_end, run_count, bytes_between}
 use Rattle.sled_core.proofs.Flush.LogFileKept.{header_kept}
@@ -65,7 +65,7 @@ module _ (sum : List ℕ → ℕ) (size : ℕ) (some : 256 ≤ size) (old : List
     (place_begins : site.place % size ≡ 0) (slot_begins : site.slot % size ≡ 0) (place_small : site.place + size < 2 ^ 63) (slot_small : site.slot + size < 2 ^ 63)
     (bytes : List ℕ) (from : ℕ) (begins : (from ≡ 0) ⊎ (20 ≤ from)) (rs : List Reserved) (b : Sealed) (rest : List Sealed) (fresh : b.is_written ≡ false) (closed : b.open_count ≡ 0) (are : AreSealed from rs (b ∷ rest))
     (rise : EndsRise from (b ∷ rest) size) (inside : b.end ≤ length bytes)
-    (stand : All (Stands sum (site.place / size) bytes) rs) (room : All (λ r. r.from + 32 ≤ size) rs) (header : from ≡ 0 → take 20 bytes ≡ short_header sum (pos site.place) (pos site.place -ℤ pos 1))
+    (stand : All (Stands sum (site.place / size) bytes) rs) (room : All (λ r. r.from + 32 ≤ size) rs) {H : History} (header : from ≡ 0 → HasMark sum site bytes H)
     (laid : Laid old site.slot bytes from (b ∷ rest) size) (earlier : List Message) (entries : ℕ → List Message) (file : IsLogFile sum size old site from earlier entries) where
   abbrev end_now : ℕ
   end_now = run_end b.end rest

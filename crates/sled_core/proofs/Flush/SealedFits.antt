@@ -238,14 +238,14 @@ module _ (sum : List ℕ → ℕ) (size : ℕ) (site : SegmentPosition) (device 
       → NoForeignLog sum size (after_write old (site.slot + from) asked now) placed left → StandsTo sum size left H (site.place + from) holds.begun.first (site.place + from)
   torn_first zeros alone now left no_more leaves placed only_own =
       torn_head_sealed sum zeros size big old site holds.place_begins holds.slot_begins place_small slot_small bytes from first_begins rs b rest fresh closed are rise_size inside holds.stand holds.room holds.header (holds.laid whole)
-      (site.place + from) H holds.begun.first alone has_first now left no_more leaves {placed = placed} only_own
+      (site.place + from) holds.begun.first alone has_first now left no_more leaves {placed = placed} only_own
 
   -- All of it.
   alone_first : NoHeaderOfZeros sum → (end : ℕ) → site.slot ≤ end → StandsAlone sum size (padded end old) site from (site.place + from) H holds.begun.first
       → StandsAlone sum size (padded end new_log) site stop (site.place + stop) H holds.begun.first
   alone_first zeros =
       first_alone sum size big old site holds.place_begins holds.slot_begins place_small slot_small bytes from first_begins rs b rest fresh closed are rise_size inside holds.stand holds.room holds.header file_old.header (holds.laid whole)
-      zeros (site.place + from) H holds.begun.first has_first (all_ascend sum size site device fault bytes from (b ∷ rest) rs H holds) (let least = holds.begun.least in omega (arith, least))
+      zeros (site.place + from) holds.begun.first has_first (all_ascend sum size site device fault bytes from (b ∷ rest) rs H holds) (let least = holds.begun.least in omega (arith, least))
       (none_crosses sum size site device fault bytes from (b ∷ rest) rs H holds (site.place + stop) (let above = up.0 in omega (arith, above)))
 
   -- so the file reaches its slot

@@ -1,34 +1,31 @@
 -- A log file has all messages once the buffer is written: those that stood there, and those of the buffer behind them.
-use Rattle.std.proofs.Common.{◌≡◌, ◌≤◌, ◌<◌, ◌+◌, ◌^◌, ◌∙◌, ◌-ℤ◌, ℕ, pos, List, ◌++◌, length, take, sym, refl, ap, arith, subst, inl, inr}
+use Rattle.std.proofs.Common.{◌≡◌, ◌≤◌, ◌<◌, ◌+◌, ◌^◌, ◌∙◌, ℕ, pos, List, ◌++◌, length, take, sym, ap, arith, subst, inl, inr}
 use Rattle.std.specs.List.{All}
 use Rattle.std.proofs.lemmas.List.Elements.{All-contains, Contains-append_cases}
 use Rattle.sled_codec.specs.declared.result.DiskPtr.TheVariants.{Inline}
 use Rattle.sled_codec.specs.Places.{part}
 use Rattle.sled_codec.specs.Pointers.{lid_of}
-use Rattle.sled_codec.specs.Record.{IsHeader, short_header}
-use Rattle.sled_codec.specs.History.{Message, no_history}
+use Rattle.sled_codec.specs.Record.{IsHeader}
+use Rattle.sled_codec.specs.History.{Message, History}
 use Rattle.sled_store.specs.Device.{overwritten}
-use Rattle.sled_store.proofs.Segments.Elements.{in_nothing}
 use Rattle.sled_core.specs.declared.iobuf.SegmentPosition.{SegmentPosition}
+use Rattle.sled_core.specs.Fits.{HasMark}
 use Rattle.sled_core.specs.LogFile.{StandsHere, HasHeader, IsLogFile}
 use Rattle.sled_core.proofs.Flush.LogFileKept.{here_below, here_kept, elsewhere_kept}
-use Rattle.sled_core.proofs.Reached.BufferPath.{buffer_header, buffer_mark}
+use Rattle.sled_core.proofs.Reached.BufferPath.{buffer_header}
 use Rattle.sled_core.specs.SealedBuffers.{Agrees}
 use Rattle.sled_core.proofs.Reached.BufferStands.{StandsOwn, same_part}
 use Rattle.sled_core.proofs.Tail.GreatestMark.{mark_below}
 
 -- The header of a segment stands where its first bytes were written.
-pub header_written : (sum : List ℕ → ℕ) (new bytes : List ℕ) (site : SegmentPosition) (to : ℕ) → site.place < 2 ^ 63 → 20 ≤ to → Agrees new site.slot bytes 0 to
-    → take 20 bytes ≡ short_header sum (pos site.place) (pos site.place -ℤ pos 1) → HasHeader sum new site
-header_written sum new bytes site to small begun agree header =
+pub header_written : (sum : List ℕ → ℕ) (new bytes : List ℕ) (site : SegmentPosition) (to : ℕ) (H : History) → site.place < 2 ^ 63 → 20 ≤ to → Agrees new site.slot bytes 0 to → HasMark sum site bytes H → HasHeader sum new site
+header_written sum new bytes site to H small begun agree m =
     let here : site.slot + 0 ≡ site.slot = omega arith in
     let at : part new site.slot 20 ≡ take 20 bytes = ap (λ i. part new i 20) (sym here) ∙ same_part new site.slot bytes 0 to agree 0 20 (omega arith) (omega (arith, begun)) in
-    let written = buffer_header sum bytes 0 site.place refl small header in
-    let mark = buffer_mark no_history site.slot site.place (λ b there low. absurd (in_nothing b there)) in
     record {
-      mark = pos site.place -ℤ pos 1;
-      header = subst (λ (l : List ℕ). IsHeader sum l (pos site.place) (pos site.place -ℤ pos 1)) (sym at) written;
-      below = λ n is. mark_below (pos site.place -ℤ pos 1) n site.place is mark.below;
+      mark = m.mark;
+      header = subst (λ (l : List ℕ). IsHeader sum l (pos site.place) m.mark) (sym at) (buffer_header sum site bytes H m small);
+      below = λ n is. mark_below m.mark n site.place is m.of_history.below;
     }
 
 -- a message that stands at its pointer stands where that says

@@ -20,6 +20,7 @@ use Rattle.sled_core.specs.declared.iobuf.Sealed.{Sealed}
 use Rattle.sled_core.specs.declared.iobuf.SegmentPosition.{SegmentPosition}
 use Rattle.sled_core.specs.Buffers.{body_in, message_in, IsChain, completed_in, with_own, ending, completing, canceling, ended, open_state, Stands}
 use Rattle.sled_core.specs.Fits.{log_parts, HoldsIn, CloseBelow, IsBegunFrom, IsOnDevice}
+use Rattle.sled_core.proofs.Reached.BufferPath.{mark_same}
 use Rattle.sled_core.proofs.Reserve.Ranges.{part-written_before, length-written, completed-same, completed-append, completed_between, chain-split, chain-joined, chain_grows, chain_within, there_split, all_split, all_joined, at_there, there-set_other, chain_apart}
 use Rattle.sled_core.proofs.Reserve.CompletesLemmas.{changes_page, body_before, same_before, body_behind, same_behind, body_own, completed_stands, canceled_stands, fits, some_long}
 use Rattle.sled_core.proofs.Holds.HoldsLemmas.{completed_open}
@@ -75,10 +76,10 @@ module _ (sum : List ℕ → ℕ) (size : ℕ) (site : SegmentPosition) (device 
         completed-append site new xs (ended state r ∷ ys) ∙ (λ i. front i ++ with_own state (its i) (back i))
 
     -- A history is held that has them, and its own message where it was completed.
-    holds_new : (bs' : List Sealed) (H' : History) → H'.messages ≡ holds.earlier ++ (completed_in site bytes xs ++ with_own state (message_in site bytes r) (completed_in site bytes ys)) → CloseBelow (site.place + from) H'.batches
+    holds_new : (bs' : List Sealed) (H' : History) → H'.messages ≡ holds.earlier ++ (completed_in site bytes xs ++ with_own state (message_in site bytes r) (completed_in site bytes ys)) → H'.batches ≡ H.batches
         → (begun : IsBegunFrom sum size device.snapshots.file site from H') → (fault ≡ None → IsOnDevice sum size device.log site from holds.earlier (table H' (stable_place begun.first.stable)))
         → (fault ≡ None → Laid device.log.bytes site.slot new from bs' size) → HoldsIn sum (log_parts size site device fault new from bs' (xs ++ ended state r ∷ ys)) H'
-    holds_new bs' H' messages batches begun on_device laid =
+    holds_new bs' H' messages same begun on_device laid =
         let fit = fits sum number bytes r ends stand_all.1 word k in
         let long : length new ≡ length bytes = length-written bytes (ending word k) r.from fit in
         let rooms = all_split (λ (x : Reserved). x.from + 32 ≤ size) xs ys r holds.room in
@@ -87,10 +88,10 @@ module _ (sum : List ℕ → ℕ) (size : ℕ) (site : SegmentPosition) (device 
           messages = messages ∙ ap (λ (ms : List Message). holds.earlier ++ ms) (sym messages_new);
           below = holds.below;
           apart = holds.apart;
-          batches = batches;
+          batches = subst (CloseBelow (site.place + from)) (sym same) holds.batches;
           place_begins = holds.place_begins;
           slot_begins = holds.slot_begins;
-          header = λ first. part-written_before bytes (ending word k) r.from 0 20 (omega (arith, begins)) fit ∙ holds.header first;
+          header = λ first. let m = holds.header first in record { mark = m.mark; is = part-written_before bytes (ending word k) r.from 0 20 (omega (arith, begins)) fit ∙ m.is; of_history = mark_same H H' (record { place = site.place; slot = site.slot; mark = m.mark }) same m.of_history };
           chain = subst (λ n. IsChain (max 20 from) (xs ++ ended state r ∷ ys) n) (sym long) (chain-joined (max 20 from) (length bytes) xs ys (ended state r) chains.0 chains.1);
           stand = stand_new;
           room = all_joined (λ (x : Reserved). x.from + 32 ≤ size) xs ys (ended state r) rooms.0 rooms.1 rooms.2;
@@ -135,7 +136,7 @@ module _ (sum : List ℕ → ℕ) (size : ℕ) (site : SegmentPosition) (device 
   holds_completed : (bs' : List Sealed) → (fault ≡ None → Laid device.log.bytes site.slot (written bytes r.from (completing r)) from bs' size)
       → HoldsIn sum (log_parts size site device fault (written bytes r.from (completing r)) from bs' (xs ++ ended Completed r ∷ ys)) history
   holds_completed bs' laid = holds_new r.sum r.kind Completed (completed_stands sum number bytes r ends stand_all.1 is_open) bs' history
-      (append_assoc holds.earlier (completed_in site bytes xs) (message_in site bytes r ∷ completed_in site bytes ys)) holds.batches
+      (append_assoc holds.earlier (completed_in site bytes xs) (message_in site bytes r ∷ completed_in site bytes ys)) refl
       (begun-adds H history (message_in site bytes r) adds sum size device.snapshots.file site from above holds.begun)
       (λ ok. device-adds H history (message_in site bytes r) adds sum size device site from above holds.begun holds.earlier (holds.written ok)) laid
 
@@ -146,7 +147,7 @@ module _ (sum : List ℕ → ℕ) (size : ℕ) (site : SegmentPosition) (device 
 
   holds_canceled : (bs' : List Sealed) → (fault ≡ None → Laid device.log.bytes site.slot (written bytes r.from (canceling sum bytes r)) from bs' size)
       → HoldsIn sum (log_parts size site device fault (written bytes r.from (canceling sum bytes r)) from bs' (xs ++ ended Canceled r ∷ ys)) H
-  holds_canceled bs' laid = holds_new (sum (body_in bytes r ++ code_of kind.Canceled ∷ part bytes (r.from + 5) (r.header_len - 5))) kind.Canceled Canceled canceled_there bs' H old_messages holds.batches holds.begun holds.written laid
+  holds_canceled bs' laid = holds_new (sum (body_in bytes r ++ code_of kind.Canceled ∷ part bytes (r.from + 5) (r.header_len - 5))) kind.Canceled Canceled canceled_there bs' H old_messages refl holds.begun holds.written laid
 
 -- Once an open reservation has ended, the log file has of the sealed buffers what it had.
 laid_ends : (sum : List ℕ → ℕ) (size : ℕ) (site : SegmentPosition) (device : State) (fault : Option IoError) (bytes : List ℕ) (from : ℕ) (bs : List Sealed) (rs : List Reserved) (i : ℕ) (r : Reserved) (H : History)

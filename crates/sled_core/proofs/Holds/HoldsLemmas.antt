@@ -60,7 +60,7 @@ module _ (sum : List ℕ → ℕ) (size : ℕ) (site : SegmentPosition) (device 
         batches = holds.batches;
         place_begins = holds.place_begins;
         slot_begins = holds.slot_begins;
-        header = λ first. take-append-le 20 bytes more begun ∙ holds.header first;
+        header = λ first. let m = holds.header first in record { mark = m.mark; is = take-append-le 20 bytes more begun ∙ m.is; of_history = m.of_history };
         chain = subst (λ (n : ℕ). IsChain (max 20 from) (rs ++ r ∷ []) n) end (chain-append (max 20 from) (length bytes) rs r holds.chain at);
         stand = All-append (Stands sum number new) rs (r ∷ []) (λ k d lt. stands-append sum number bytes more (get_or rs k d) (within k d lt) (holds.stand k d lt)) (one (Stands sum number new) r stands);
         room = All-append (λ (x : Reserved). x.from + 32 ≤ size) rs (r ∷ []) holds.room (one (λ (x : Reserved). x.from + 32 ≤ size) r has_room);

@@ -1,25 +1,27 @@
 -- A buffer in which all reservations have ended is a path of records of the history, some of them passed over, and nothing comes behind it; where it begins a segment, the header is there, with a mark that no batch crosses.
-use Rattle.std.proofs.Common.{◌≡◌, ◌≢◌, ◌⊎◌, ◌≤◌, ◌<◌, ◌≤ℤ◌, ◌<ℤ◌, ◌+◌, ◌/◌, ◌%◌, ◌^◌, ◌∙◌, ◌-ℤ◌, ℕ, ℤ, zero, suc, pos, max, Bool, true, false, nat_lt, if◌then◌else◌, List, [], ◌∷◌, take, drop, get_or, sym, ap, arith, lt→ltb, le→leb, refl, subst, inl, inr, FitsSigned}
+use Rattle.std.proofs.Common.{◌≡◌, ◌≢◌, ◌⊎◌, ◌≤◌, ◌<◌, ◌≤ℤ◌, ◌<ℤ◌, ◌+◌, ◌/◌, ◌%◌, ◌^◌, ◌∙◌, ◌-ℤ◌, ℕ, ℤ, zero, suc, pos, negsuc, max, Bool, true, false, nat_lt, if◌then◌else◌, List, [], ◌∷◌, take, get_or, sym, ap, arith, lt→ltb, le→leb, refl, subst, inl, inr}
 use Rattle.std.proofs.Math.IntN.{ -ℤ_one}
 use Rattle.std.specs.List.{All, Contains}
-use Rattle.std.specs.Int.{w64}
 use Rattle.std.proofs.Math.Nat.{div-le_self}
 use Rattle.std.proofs.lemmas.Bool.{cases_lt}
 use Rattle.std.proofs.lemmas.Bool.Decides.{nat_tests}
+use Rattle.std.proofs.lemmas.Int.{ints}
 use Rattle.std.proofs.lemmas.List.Elements.{All-cons, All-contains, All-tail}
-use Rattle.sled_codec.specs.Record.{IsHeader, short_header}
+use Rattle.sled_codec.specs.Record.{IsHeader}
 use Rattle.sled_codec.specs.History.{Message, Batch, History}
 use Rattle.sled_store.proofs.Segments.Elements.{in_first}
 use Rattle.sled_core.specs.declared.iobuf.ReservationState.{ReservationState}
 use Rattle.sled_core.specs.declared.iobuf.ReservationState.TheVariants.{Open, Completed, Canceled}
 use Rattle.sled_core.specs.declared.iobuf.Reserved.{Reserved}
 use Rattle.sled_core.specs.declared.iobuf.SegmentPosition.{SegmentPosition}
+use Rattle.sled_core.specs.declared.iterator.Segment.{Segment}
 use Rattle.sled_core.specs.declared.iterator.scan.ScannedRecord.{ScannedRecord}
 use Rattle.sled_core.specs.declared.iterator.scan.ScanEnd.{ScanEnd}
 use Rattle.sled_core.specs.declared.iterator.scan.ScanEnd.TheVariants.{Full, Capped, Broken}
 use Rattle.sled_core.specs.Buffers.{IsChain, completed_in, message_in, none_open, with_own, Stands}
 use Rattle.sled_core.specs.Reached.{BeginsNext}
-use Rattle.sled_core.specs.Recoverable.{NoMessageBegins, NoBatchBegins, NoBatchEnds, IsOfHistory, IsMarkOf, IsMarkBelow}
+use Rattle.sled_core.specs.Fits.{HasMark}
+use Rattle.sled_core.specs.Recoverable.{NoBatchBegins, IsOfHistory, IsMarkOf, IsMarkBelow}
 use Rattle.sled_core.specs.Scan.{IsPath, IsEnd, EndsThere}
 use Rattle.sled_core.proofs.Holds.OpenTickets.{by_first}
 use Rattle.sled_core.proofs.Read.PathLemmas.{zeros_empty}
@@ -148,10 +150,6 @@ module _ (sum : List ℕ → ℕ) (size : ℕ) (site : SegmentPosition) (log byt
 mark_is : (m : ℕ) → pos m ≡ pos (suc m) -ℤ pos 1
 mark_is m = sym (-ℤ_one (pos (suc m)))
 
-mark_fits : (place : ℕ) → place < 2 ^ 63 → FitsSigned w64 (pos place -ℤ pos 1)
-mark_fits zero small = omega arith
-mark_fits (suc m) small = subst (λ (z : ℤ). FitsSigned w64 z) (mark_is m) (omega (arith, small))
-
 mark_least : (place : ℕ) → (pos 0 -ℤ pos 1) ≤ℤ (pos place -ℤ pos 1)
 mark_least zero = omega arith
 mark_least (suc m) = subst (λ (z : ℤ). (pos 0 -ℤ pos 1) ≤ℤ z) (mark_is m) (omega arith)
@@ -165,11 +163,14 @@ mark_higher zero n lt = absurd (omega (arith, lt))
 mark_higher (suc m) n lt = subst (λ (z : ℤ). pos n ≤ℤ z) (mark_is m) (omega (arith, le→leb, lt))
 
 -- The header of a buffer that begins a segment is there.
-pub buffer_header : (sum : List ℕ → ℕ) (bytes : List ℕ) (from place : ℕ) → from ≡ 0 → place < 2 ^ 63 → take 20 bytes ≡ short_header sum (pos place) (pos place -ℤ pos 1)
-    → IsHeader sum (take 20 (drop from bytes)) (pos place) (pos place -ℤ pos 1)
-buffer_header sum bytes from place begins small header = record { is = ap (λ n. take 20 (drop n bytes)) begins ∙ header; place_fits = omega (arith, small); mark_fits = mark_fits place small }
+pub buffer_header : (sum : List ℕ → ℕ) (site : SegmentPosition) (bytes : List ℕ) (H : History) (m : HasMark sum site bytes H) → site.place < 2 ^ 63 → IsHeader sum (take 20 bytes) (pos site.place) m.mark
+buffer_header sum site bytes H m small = let least = m.of_history.least in let below = m.of_history.below in record { is = m.is; place_fits = omega (arith, small); mark_fits = omega (arith, ints, least, below, small) }
 
--- Its mark crosses no batch, where none is open at the segment.
+-- A mark crosses no batch of another history that has the same batches.
+pub mark_same : (H H' : History) (s : Segment) → H'.batches ≡ H.batches → IsMarkOf H s → IsMarkOf H' s
+mark_same H H' s same is = record { least = is.least; below = is.below; apart = λ b there. is.apart b (subst (λ (bs : List Batch). Contains bs b) same there) }
+
+-- The place before a segment is a mark that crosses no batch, where none is open at the segment.
 pub buffer_mark : (H : History) (slot place : ℕ) → ((b : Batch) → Contains H.batches b → b.low < place → b.peg < place) → IsMarkOf H (record { place = place; slot = slot; mark = pos place -ℤ pos 1 })
 buffer_mark H slot place ended = record {
   least = mark_least place;
@@ -185,11 +186,21 @@ ended_there size H reach place (inr g) ended b there lower =
     let above = g.above in
     elim (g.no_batch b there) [ inl low ↦ (let peg = ended b there low in omega (arith, peg, above)) | inr high ↦ absurd (omega (arith, high, lower)) ]
 
--- And its mark lies below what was reached, or just behind it.
-pub buffer_mark_below : (size : ℕ) (H : History) (reach place : ℕ) → (reach ≡ place) ⊎ BeginsNext size H reach place → IsMarkBelow size H reach (pos place -ℤ pos 1)
-buffer_mark_below size H reach place (inl at) = inl (mark_lower place reach (omega (arith, at)))
-buffer_mark_below size H reach zero (inr g) = inl (mark_lower 0 reach (omega arith))
-buffer_mark_below size H reach (suc m) (inr g) =
+-- And a mark that lies below the segment lies below what was reached, or in front of the segment.
+pub buffer_mark_below : (size : ℕ) (H : History) (reach place : ℕ) (mark : ℤ) → (reach ≡ place) ⊎ BeginsNext size H reach place → mark <ℤ pos place → IsMarkBelow size H reach mark
+buffer_mark_below size H reach place mark (inl at) below = inl (omega (arith, ints, at, below))
+buffer_mark_below size H reach place (negsuc n) (inr g) below = inl (omega arith)
+buffer_mark_below size H reach place (pos n) (inr g) below =
     let next = g.next in
-    let one : suc m ≡ m + 1 = omega arith in
-    inr (m, sym (mark_is m), omega (arith, next), subst (NoMessageBegins H reach) one g.no_message, subst (NoBatchBegins H reach) one g.no_batch, subst (NoBatchEnds H reach) one g.no_end)
+    let lower : n < place = omega (arith, ints, below) in
+    elim (cases_lt n reach) [
+      | inl under ↦ inl (omega (arith, ints, under))
+      | inr above ↦ inr (
+        n,
+        refl,
+        omega (arith, next, lower),
+        λ m there. elim (g.no_message m there) [ inl low ↦ inl low | inr high ↦ inr (omega (arith, high, lower)) ],
+        λ b there. elim (g.no_batch b there) [ inl low ↦ inl low | inr high ↦ inr (omega (arith, high, lower)) ],
+        λ b there. elim (g.no_end b there) [ inl low ↦ inl low | inr high ↦ inr (omega (arith, high, lower)) ],
+      )
+    ]

@@ -1,10 +1,9 @@
 -- The first sealed buffer is written, behind what was written of its segment or at the beginning of it: what a crash leaves of it stands as before, and all of it up to the end of those behind it that were written before it.
-use Rattle.std.proofs.Common.{◌≡◌, ◌≤◌, ◌<◌, ◌+◌, ◌/◌, ◌%◌, ◌^◌, ◌-ℤ◌, ◌⊎◌, ◌∙◌, ℕ, pos, max, Bool, true, false, nat_lt, if◌then◌else◌, List, [], ◌∷◌, ◌++◌, length, take, drop, get_or, sym, ap, refl, subst, arith}
+use Rattle.std.proofs.Common.{◌≡◌, ◌≤◌, ◌<◌, ◌+◌, ◌/◌, ◌%◌, ◌^◌, ◌⊎◌, ◌∙◌, ℕ, max, Bool, true, false, nat_lt, if◌then◌else◌, List, [], ◌∷◌, ◌++◌, length, take, drop, get_or, sym, ap, refl, subst, arith}
 use Rattle.std.specs.List.{All, Contains}
 use Rattle.std.proofs.lemmas.Bool.Decides.{nat_tests}
 use Rattle.std.proofs.lemmas.List.{take-take}
 use Rattle.std.proofs.lemmas.List.Elements.{All-drop, All-take}
-use Rattle.sled_codec.specs.Record.{short_header}
 use Rattle.sled_codec.specs.History.{Batch, History}
 use Rattle.sled_codec.specs.Snapshots.{SnapshotModel}
 use Rattle.sled_store.specs.Device.{overwritten, LeavesLog}
@@ -16,6 +15,7 @@ use Rattle.sled_core.specs.declared.iobuf.SegmentPosition.{SegmentPosition}
 use Rattle.sled_core.specs.declared.iterator.scan.ScannedRecord.{ScannedRecord}
 use Rattle.sled_core.specs.declared.iterator.scan.ScanEnd.TheVariants.{Full, Broken}
 use Rattle.sled_core.specs.Buffers.{IsChain, completed_in, message_in, none_open, Stands}
+use Rattle.sled_core.specs.Fits.{HasMark}
 use Rattle.sled_core.specs.LogFile.{HasHeader}
 use Rattle.sled_core.specs.Reached.{StandsAlone}
 use Rattle.sled_core.specs.Recoverable.{NoHeaderOfZeros, IsOfHistory}
@@ -53,8 +53,8 @@ module _ (sum : List ℕ → ℕ) (none : NoHeaderOfZeros sum) (size : ℕ) (som
     (bytes : List ℕ) (from : ℕ) (begins : (from ≡ 0) ⊎ (20 ≤ from)) (rs : List Reserved) (b : Sealed) (rest : List Sealed)
     (fresh : b.is_written ≡ false) (closed : b.open_count ≡ 0) (are : AreSealed from rs (b ∷ rest)) (rise : EndsRise from (b ∷ rest) size) (inside : b.end ≤ length bytes)
     (stand : All (Stands sum (site.place / size) bytes) rs) (room : All (λ r. r.from + 32 ≤ size) rs)
-    (header : from ≡ 0 → take 20 bytes ≡ short_header sum (pos site.place) (pos site.place -ℤ pos 1))
-    (laid : Laid file site.slot bytes from (b ∷ rest) size) (reach : ℕ) (H : History) (first : SnapshotModel) (alone : StandsAlone sum size file site from reach H first) where
+    {H : History} (header : from ≡ 0 → HasMark sum site bytes H)
+    (laid : Laid file site.slot bytes from (b ∷ rest) size) (reach : ℕ) (first : SnapshotModel) (alone : StandsAlone sum size file site from reach H first) where
   abbrev asked : List ℕ
   asked = bytes_between bytes from b.end
 
@@ -143,8 +143,8 @@ module _ (sum : List ℕ → ℕ) (none : NoHeaderOfZeros sum) (size : ℕ) (som
       (clear_on sum size new site.slot site.place b.end (max 20 from) (met_in site bytes own) (met_in site bytes more) path_own
       (clear_behind sum size new site.slot site.place b.end b.end (met_in site bytes more) stop (omega arith) path_on))
 
-  headed : from ≡ 0 → take 20 asked ≡ short_header sum (pos site.place) (pos site.place -ℤ pos 1)
-  headed is = ap (λ n. take 20 (drop n (take b.end bytes))) is ∙ take-take 20 b.end bytes begun ∙ header is
+  headed : from ≡ 0 → HasMark sum site asked H
+  headed is = let m = header is in record { mark = m.mark; is = ap (λ n. take 20 (drop n (take b.end bytes))) is ∙ take-take 20 b.end bytes begun ∙ m.is; of_history = m.of_history }
 
   clean : (i : ℕ) → site.slot + from ≤ i → i < site.slot + b.end → get_or file i 0 ≡ 0
   clean = let zeros : LaidOne file site.slot bytes from false b.end = subst (λ (o : Bool). LaidOne file site.slot bytes from o b.end) fresh laid.0 in zeros
@@ -161,12 +161,12 @@ module _ (sum : List ℕ → ℕ) (none : NoHeaderOfZeros sum) (size : ℕ) (som
         → NoForeignLog sum size (after_write file (site.slot + from) asked now) placed left → StandsTo sum size left H reach first reach
     torn_head_sealed now left no_more leaves {placed} only_own =
         torn_head sum none size some file site from asked b.end covers (omega (arith, far, low)) (head_headed from rs b rest are) (head_room size from some begins rs b rest are room) place_begins slot_begins place_small headed clean
-        reach H first alone (met_in site bytes done) stop (ending_at size stop) clear path ends truth (λ capped. absurd (never_capped size stop capped)) now left no_more leaves {placed = placed} only_own
+        reach first alone (met_in site bytes done) stop (ending_at size stop) clear path ends truth (λ capped. absurd (never_capped size stop capped)) now left no_more leaves {placed = placed} only_own
 
     -- All of it, where the file reaches up to the slot.
     pub head_sealed_written : Ascends H.messages → site.slot ≤ length file → least_place size first ≤ site.place → ((c : Batch) → Contains H.batches c → c.low < site.place + stop → c.peg < site.place + stop) → HasHeader sum new site
         → StandsAlone sum size new site stop (site.place + stop) H first
     head_sealed_written ordered there low_enough ended has_header =
         head_written sum none size some file site from asked b.end covers (omega (arith, far, low)) (head_headed from rs b rest are) (head_room size from some begins rs b rest are room) place_begins slot_begins place_small headed clean
-        reach H first alone (met_in site bytes done) stop (ending_at size stop) clear path ends truth (λ capped. absurd (never_capped size stop capped)) ordered there low_enough ended has_header
+        reach first alone (met_in site bytes done) stop (ending_at size stop) clear path ends truth (λ capped. absurd (never_capped size stop capped)) ordered there low_enough ended has_header
         (λ more. let test : nat_lt size (stop + 32) ≡ false = grind (arith, nat_tests, more) in ap (λ (o : Bool). if o then Full else Broken) test)

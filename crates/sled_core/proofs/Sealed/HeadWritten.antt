@@ -1,10 +1,10 @@
 -- The write of the first sealed buffer, where no other segment that is found has the number of the current one: what a crash leaves of it stands up to what was written before, and all of it up to where the reading of the segment ends. That may be behind later buffers, which were written before it.
-use Rattle.std.proofs.Common.{◌≡◌, ◌≢◌, ◌⊎◌, ◌≤◌, ◌<◌, ◌<ℤ◌, ◌-◌, ◌+◌, ◌*◌, ◌/◌, ◌%◌, ◌^◌, ◌-ℤ◌, ℕ, ℤ, pos, negsuc, lt→ltb, max, List, [], ◌++◌, length, take, get_or, refl, sym, subst, arith, inl, inr}
+use Rattle.std.proofs.Common.{◌≡◌, ◌≢◌, ◌⊎◌, ◌≤◌, ◌<◌, ◌<ℤ◌, ◌-◌, ◌+◌, ◌*◌, ◌/◌, ◌%◌, ◌^◌, ℕ, ℤ, pos, negsuc, lt→ltb, max, List, [], ◌++◌, length, get_or, refl, sym, subst, arith, inl, inr}
 use Rattle.std.specs.List.{Contains}
 use Rattle.std.proofs.Math.Nat.{mod-add-div'}
 use Rattle.std.proofs.lemmas.Bool.{cases_eq, cases_lt}
 use Rattle.sled_codec.specs.Places.{part}
-use Rattle.sled_codec.specs.Record.{IsHeader, short_header}
+use Rattle.sled_codec.specs.Record.{IsHeader}
 use Rattle.sled_codec.specs.History.{Batch, History}
 use Rattle.sled_codec.specs.Snapshots.{SnapshotModel}
 use Rattle.sled_store.specs.Device.{overwritten, LeavesLog}
@@ -15,13 +15,14 @@ use Rattle.sled_core.specs.declared.iterator.Segment.{Segment}
 use Rattle.sled_core.specs.declared.iterator.scan.ScannedRecord.{ScannedRecord}
 use Rattle.sled_core.specs.declared.iterator.scan.ScanEnd.{ScanEnd}
 use Rattle.sled_core.specs.declared.iterator.scan.ScanEnd.TheVariants.{Capped, Broken}
+use Rattle.sled_core.specs.Fits.{HasMark}
 use Rattle.sled_core.specs.LogFile.{HasHeader}
 use Rattle.sled_core.specs.Reached.{BeginsNext, GoesOnIn, ReachesIn, StandsAlone}
 use Rattle.sled_core.specs.Recoverable.{NoHeaderOfZeros, NoMessageBegins, NoBatchBegins, NoBatchEnds, IsOfHistory}
 use Rattle.sled_core.specs.Scan.{IsFoundSegment, IsPath, IsEnd, IsScan}
 use Rattle.sled_core.specs.Tail.{Scanned, IsScanned, least_place}
 use Rattle.sled_core.proofs.Read.FoundLemmas.{pos_injective}
-use Rattle.sled_core.proofs.Reached.BufferPath.{buffer_header, buffer_mark, buffer_mark_below, ended_there}
+use Rattle.sled_core.proofs.Reached.BufferPath.{buffer_header, buffer_mark_below}
 use Rattle.sled_core.proofs.Reached.Higher.{IsBegunOrLedTo, known_in}
 use Rattle.sled_core.proofs.Reached.LeftBeside.{IsSameBeside}
 use Rattle.sled_core.proofs.Reached.OneWrite.{BeginsSegment, torn_stands, written_stands}
@@ -82,9 +83,9 @@ mark_under (negsuc n) low high le below = omega arith
 module _ (sum : List ℕ → ℕ) (none : NoHeaderOfZeros sum) (size : ℕ) (some : 256 ≤ size) (old : List ℕ) (site : SegmentPosition) (from : ℕ) (asked : List ℕ)
     (until : ℕ) (covers : from + length asked ≤ until) (reaches : until ≤ size) (headed : from ≡ 0 → 20 ≤ until) (has_room : from + 32 ≤ size)
     (place_begins : site.place % size ≡ 0) (slot_begins : site.slot % size ≡ 0) (place_small : site.place + size < 2 ^ 63)
-    (header : from ≡ 0 → take 20 asked ≡ short_header sum (pos site.place) (pos site.place -ℤ pos 1))
+    {H : History} (header : from ≡ 0 → HasMark sum site asked H)
     (clean : (i : ℕ) → site.slot + from ≤ i → i < site.slot + until → get_or old i 0 ≡ 0)
-    (reach : ℕ) (H : History) (first : SnapshotModel) (alone : StandsAlone sum size old site from reach H first)
+    (reach : ℕ) (first : SnapshotModel) (alone : StandsAlone sum size old site from reach H first)
     (more : List ScannedRecord) (stop : ℕ) (why : ScanEnd) (clear : AreClear size until (max 20 from) more)
     (path : IsPath sum size (overwritten old (site.slot + from) asked) site.slot site.place (max 20 from) more stop) (end : IsEnd sum size (overwritten old (site.slot + from) asked) site.slot site.place stop why)
     (truth : (x : ScannedRecord) → Contains more x → IsOfHistory sum size (overwritten old (site.slot + from) asked) H x)
@@ -110,14 +111,15 @@ module _ (sum : List ℕ → ℕ) (none : NoHeaderOfZeros sum) (size : ℕ) (som
         let begins : from ≡ 0 = omega (arith, first_one) in
         let far = headed begins in
         let at : (reach ≡ site.place) ⊎ BeginsNext size H reach site.place = reached_first size H site.place from reach begins alone.reached in
+        let m = header begins in
         inr (record {
           begins = begins;
-          mark = pos site.place -ℤ pos 1;
-          header = buffer_header sum asked 0 site.place refl (omega (arith, place_small)) (header begins);
+          mark = m.mark;
+          header = buffer_header sum site asked H m (omega (arith, place_small));
           whole = place_begins;
           fits = place_small;
-          its_mark = buffer_mark H (slot * size) site.place (ended_there size H reach site.place at alone.stands.closed);
-          mark_below = buffer_mark_below size H reach site.place at;
+          its_mark = record { least = m.of_history.least; below = m.of_history.below; apart = m.of_history.apart };
+          mark_below = buffer_mark_below size H reach site.place m.mark at m.of_history.below;
           alone = λ s there same.
               let found = (alone.stands.numbers.found s).0 there in
               none_in_zeros sum until none far old site.slot (λ i above below. clean i (omega (arith, above, begins)) below) (pos s.place) s.mark

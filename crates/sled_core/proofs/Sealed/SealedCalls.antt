@@ -1,8 +1,7 @@
 -- One of the sealed buffers of the current segment is written, the first one or another: what a crash leaves of it stands as before, and behind it the log file stands up to where the run at the front ends, with what the buffers have laid in it.
-use Rattle.std.proofs.Common.{◌≡◌, ◌≤◌, ◌<◌, ◌+◌, ◌/◌, ◌%◌, ◌^◌, ◌-◌, ◌-ℤ◌, ◌⊎◌, replicate, ℕ, pos, max, false, List, [], ◌∷◌, ◌++◌, length, take, sym, subst, arith, inl, inr}
+use Rattle.std.proofs.Common.{◌≡◌, ◌≤◌, ◌<◌, ◌+◌, ◌/◌, ◌%◌, ◌^◌, ◌-◌, ◌⊎◌, replicate, ℕ, pos, max, false, List, [], ◌∷◌, ◌++◌, length, take, sym, subst, arith, inl, inr}
 use Rattle.std.specs.List.{All, Contains}
 use Rattle.std.proofs.lemmas.Bool.{cases_lt}
-use Rattle.sled_codec.specs.Record.{short_header}
 use Rattle.sled_codec.specs.History.{Batch, History}
 use Rattle.sled_codec.specs.Snapshots.{SnapshotModel}
 use Rattle.sled_store.specs.Device.{overwritten}
@@ -11,6 +10,7 @@ use Rattle.sled_core.specs.declared.iobuf.Reserved.{Reserved}
 use Rattle.sled_core.specs.declared.iobuf.Sealed.{Sealed}
 use Rattle.sled_core.specs.declared.iobuf.SegmentPosition.{SegmentPosition}
 use Rattle.sled_core.specs.Buffers.{completed_in, Stands}
+use Rattle.sled_core.specs.Fits.{HasMark}
 use Rattle.sled_core.specs.LogFile.{HasHeader, padded}
 use Rattle.sled_core.specs.Reached.{StandsAlone}
 use Rattle.sled_core.specs.Recoverable.{NoHeaderOfZeros}
@@ -36,7 +36,7 @@ module _ (sum : List ℕ → ℕ) (size : ℕ) (some : 256 ≤ size) (old : List
 
   -- The first buffer.
   module _ (b : Sealed) (rest : List Sealed) (fresh : b.is_written ≡ false) (closed : b.open_count ≡ 0) (are : AreSealed from rs (b ∷ rest)) (rise : EndsRise from (b ∷ rest) size) (inside : b.end ≤ length bytes)
-      (stand : All (Stands sum (site.place / size) bytes) rs) (room : All (λ r. r.from + 32 ≤ size) rs) (header : from ≡ 0 → take 20 bytes ≡ short_header sum (pos site.place) (pos site.place -ℤ pos 1))
+      (stand : All (Stands sum (site.place / size) bytes) rs) (room : All (λ r. r.from + 32 ≤ size) rs) {H : History} (header : from ≡ 0 → HasMark sum site bytes H)
       (old_header : 0 < from → HasHeader sum old site) (laid : Laid old site.slot bytes from (b ∷ rest) size) where
     abbrev asked : List ℕ
     asked = bytes_between bytes from b.end
@@ -63,7 +63,7 @@ module _ (sum : List ℕ → ℕ) (size : ℕ) (some : 256 ≤ size) (old : List
       | inr first_one ↦ (
           let none : from ≡ 0 = omega (arith, first_one) in
           let agrees = has_written old site.slot bytes from [] b rest size rise inside in
-          header_written sum new bytes site b.end (omega (arith, place_small)) (head_headed from rs b rest are none) (subst (λ n. Agrees new site.slot bytes n b.end) none agrees) (header none))
+          header_written sum new bytes site b.end H (omega (arith, place_small)) (head_headed from rs b rest are none) (subst (λ n. Agrees new site.slot bytes n b.end) none agrees) (header none))
     ]
 
     begun : 20 ≤ b.end
@@ -79,11 +79,11 @@ module _ (sum : List ℕ → ℕ) (size : ℕ) (some : 256 ≤ size) (old : List
         record { mark = h.mark; header = subst (λ (l : List ℕ). IsHeader sum l (pos site.place) h.mark) (sym (part-append new (replicate (to - length new) 0) site.slot 20 long)) h.header; below = h.below }
 
     -- A reader reads up to the end of those that are written now.
-    pub first_alone : NoHeaderOfZeros sum → (reach : ℕ) (H : History) (first : SnapshotModel) → HasOnly H (completed_in site bytes (take (b.count + run_count rest) rs)) (site.place + max 20 from) (site.place + run_end b.end rest)
+    pub first_alone : NoHeaderOfZeros sum → (reach : ℕ) (first : SnapshotModel) → HasOnly H (completed_in site bytes (take (b.count + run_count rest) rs)) (site.place + max 20 from) (site.place + run_end b.end rest)
         → Ascends H.messages → least_place size first ≤ site.place → ((c : Batch) → Contains H.batches c → c.low < site.place + run_end b.end rest → c.peg < site.place + run_end b.end rest)
         → (to : ℕ) → site.slot ≤ to → StandsAlone sum size (filled to) site from reach H first → StandsAlone sum size (padded to new) site (run_end b.end rest) (site.place + run_end b.end rest) H first
-    first_alone zeros reach H first has ordered low ended to far alone = subst (λ (l : List ℕ). StandsAlone sum size l site (run_end b.end rest) (site.place + run_end b.end rest) H first) (same_file to)
-        (head_sealed_written sum zeros size some (filled to) site place_begins slot_begins place_small slot_small bytes from begins rs b rest fresh closed are rise inside stand room header (laid_filled to) reach H first alone has
+    first_alone zeros reach first has ordered low ended to far alone = subst (λ (l : List ℕ). StandsAlone sum size l site (run_end b.end rest) (site.place + run_end b.end rest) H first) (same_file to)
+        (head_sealed_written sum zeros size some (filled to) site place_begins slot_begins place_small slot_small bytes from begins rs b rest fresh closed are rise inside stand room header (laid_filled to) reach first alone has
         ordered (omega (arith, padded_long to old, far)) low ended (subst (λ (l : List ℕ). HasHeader sum l site) (sym (same_file to)) (padded_header to)))
 
   -- Another one, behind a first one that isn't written.

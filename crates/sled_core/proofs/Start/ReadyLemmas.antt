@@ -22,6 +22,7 @@ use Rattle.sled_core.specs.LogFile.{IsLogFile}
 use Rattle.sled_core.specs.SealedBuffers.{AreZeros}
 use Rattle.sled_core.specs.Ready.{HasActive, HasNoActive, HasFile, IsReady, active_site}
 use Rattle.sled_store.proofs.Segments.StartedFile.{started_file}
+use Rattle.sled_core.proofs.Reached.BufferPath.{buffer_mark}
 use Rattle.sled_core.proofs.Start.UsedLemmas.{active_clean, active_file, new_file, new_clean}
 
 -- a place that is a multiple of a size is not raised
@@ -82,7 +83,13 @@ module _ (sum : List ℕ → ℕ) (size : ℕ) (device now : State) (s : Snapsho
       batches = subst (λ n. CloseBelow n H.batches) (sym end) ready.batches;
       place_begins = place_begins;
       slot_begins = slot_begins;
-      header = λ is. let header = first is in take_all 20 bytes (omega (arith, ap length header, length-short_header sum (pos site.place) (pos site.place -ℤ pos 1))) ∙ header;
+      header = λ is.
+          let header = first is in
+          record {
+            mark = pos site.place -ℤ pos 1;
+            is = take_all 20 bytes (omega (arith, ap length header, length-short_header sum (pos site.place) (pos site.place -ℤ pos 1))) ∙ header;
+            of_history = buffer_mark H site.slot site.place (λ b there low. let all = All-contains (λ (x : Batch). (x.low < stable) × (x.peg < stable)) H.batches b ready.batches there in omega (arith, all.1, end, is));
+          };
       chain = elim (cases_lt 0 from) [
         | inl begun ↦ (let count = more begun in let least = behind begun in omega (arith, count, least))
         | inr start ↦ (let is : from ≡ 0 = omega (arith, start) in let header = first is in omega (arith, is, ap length header, length-short_header sum (pos site.place) (pos site.place -ℤ pos 1)))
