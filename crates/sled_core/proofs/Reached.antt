@@ -11,10 +11,12 @@ pub mod ReachedCut
 pub mod ReachedEntries
 pub mod Recoverable
 pub mod Reread
+pub mod SegmentsBeside
 pub mod StandsTo
 pub mod StartedStands
 pub mod TornBegun
 pub mod TornBehind
+pub mod UnreachedWrite
 pub mod WholeBegun
 pub mod WholeBehind
 pub mod WrittenUnread

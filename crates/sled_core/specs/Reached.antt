@@ -6,6 +6,7 @@ use Rattle.sled_codec.specs.Snapshots.{SnapshotModel, stable_place}
 use Rattle.sled_core.specs.declared.iobuf.SegmentPosition.{SegmentPosition}
 use Rattle.sled_core.specs.declared.iterator.Segment.{Segment}
 use Rattle.sled_core.specs.declared.iterator.scan.ScannedRecord.{ScannedRecord}
+use Rattle.sled_core.specs.declared.iterator.scan.ScanEnd.{ScanEnd}
 use Rattle.sled_core.specs.declared.iterator.scan.ScanEnd.TheVariants.{Capped, Broken}
 use Rattle.sled_core.specs.Scan.{IsFoundSegment}
 use Rattle.sled_core.specs.Tail.{IsOrdering, IsScanned, Scanned, AreScanned, least_place}
@@ -32,6 +33,15 @@ pub record StandsTo (sum : List ℕ → ℕ) (size : ℕ) (log : List ℕ) (H : 
       → (t : Scanned) × Contains scanned t × (t.segment.place ≡ z) × ((reach ≤ z + t.stop) ⊎ ((t.why ≢ Broken) × (u : Segment) × Contains ordering u × (u.place ≡ z + size)))
   pub needed : (page : ℕ) (m : Message) → Contains (table H reach page) m → IsSegmentOf sum size log H reach m × StandsInline sum size log m m.pointer
 
+-- A segment that was read to an offset, in this slot and with this place, and why reading ended there.
+pub record IsReadTo (scanned : List Scanned) (slot place stop : ℕ) (why : ScanEnd) : Type 0 where
+  pub scan : Scanned
+  pub there : Contains scanned scan
+  pub in_slot : scan.segment.slot ≡ slot
+  pub at_place : scan.segment.place ≡ place
+  pub ended : scan.stop ≡ stop
+  pub ends : scan.why ≡ why
+
 -- A segment that was read to an offset, in this slot and with this place, where reading ended for want of a record: a write goes on there.
 pub record GoesOnIn (scanned : List Scanned) (slot from place : ℕ) : Type 0 where
   pub scan : Scanned
@@ -40,6 +50,13 @@ pub record GoesOnIn (scanned : List Scanned) (slot from place : ℕ) : Type 0 wh
   pub at_place : scan.segment.place ≡ place
   pub ended : scan.stop ≡ from
   pub broken : scan.why ≡ Broken
+
+-- A segment among those that are found, of which so much is written from its beginning on without a gap: no other slot has one of its place, its slot has no other one, and it is read up to there. A full one leads on.
+pub record StandsIn (sum : List ℕ → ℕ) (size : ℕ) (log : List ℕ) (least : ℕ) (scanned : List Scanned) (site : SegmentPosition) (from : ℕ) : Type 0 where
+  pub only : (s : Segment) → IsFoundSegment sum size log least s → s.place ≡ site.place → s.slot ≡ site.slot
+  pub own : (s : Segment) → IsFoundSegment sum size log least s → s.slot ≡ site.slot → s.place ≡ site.place
+  pub going : 0 < from → from + 32 ≤ size → GoesOnIn scanned site.slot from site.place
+  pub full : from ≡ size → (stop : ℕ) × (why : ScanEnd) × IsReadTo scanned site.slot site.place stop why × (why ≢ Broken)
 
 -- The segment before one at this place is found, begins below what was reached, and leads on.
 pub record LeadsTo (sum : List ℕ → ℕ) (size : ℕ) (log : List ℕ) (least reach place : ℕ) : Type 0 where

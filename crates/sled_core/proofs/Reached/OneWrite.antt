@@ -56,7 +56,7 @@ module _ (sum : List ℕ → ℕ) (none : NoHeaderOfZeros sum) (size : ℕ) (som
       let ended = g.ended in
       omega (arith, rises, ended)
 
-  path_on : (g : GoesOnIn is.scanned (slot * size) from place) → IsPath sum size new (slot * size) g.scan.segment.place from more stop
+  pub path_on : (g : GoesOnIn is.scanned (slot * size) from place) → IsPath sum size new (slot * size) g.scan.segment.place from more stop
   path_on g =
       let far = behind g in
       let begins : max 20 from ≡ from = omega (arith, far) in
@@ -68,13 +68,13 @@ module _ (sum : List ℕ → ℕ) (none : NoHeaderOfZeros sum) (size : ℕ) (som
   clear_first : from ≡ 0 → AreClear size until 20 more
   clear_first begins = let at : max 20 from ≡ 20 = omega (arith, begins) in subst (λ n. AreClear size until n more) at clear
 
-  end_on : (g : GoesOnIn is.scanned (slot * size) from place) → IsEnd sum size new (slot * size) g.scan.segment.place stop why
+  pub end_on : (g : GoesOnIn is.scanned (slot * size) from place) → IsEnd sum size new (slot * size) g.scan.segment.place stop why
   end_on g = subst (λ n. IsEnd sum size new (slot * size) n stop why) (sym g.at_place) end
 
-  caps_on : (g : GoesOnIn is.scanned (slot * size) from place) → why ≡ Capped → NoMessageBegins H (g.scan.segment.place + stop) (g.scan.segment.place + size) × NoBatchBegins H (g.scan.segment.place + stop) (g.scan.segment.place + size)
+  pub caps_on : (g : GoesOnIn is.scanned (slot * size) from place) → why ≡ Capped → NoMessageBegins H (g.scan.segment.place + stop) (g.scan.segment.place + size) × NoBatchBegins H (g.scan.segment.place + stop) (g.scan.segment.place + size)
   caps_on g capped = subst (λ n. NoMessageBegins H (n + stop) (n + size) × NoBatchBegins H (n + stop) (n + size)) (sym g.at_place) (caps capped)
 
-  path_first : from ≡ 0 → IsPath sum size new (slot * size) place 20 more stop
+  pub path_first : from ≡ 0 → IsPath sum size new (slot * size) place 20 more stop
   path_first begins = let at : max 20 from ≡ 20 = omega (arith, begins) in subst (λ n. IsPath sum size new (slot * size) place n more stop) at path
 
   -- What a crash leaves of it.

@@ -52,14 +52,15 @@ module _ (sum : List ℕ → ℕ) (size : ℕ) (some : 256 ≤ size) (old : List
     came : IsHeader sum (part new (slot * size) 20) (pos place) mark
     came = header_new sum size old slot from asked asked new inside done leaves until covers clean none begins place mark header
 
-    stands : StandsTo sum size new H A first reach
+    -- All is read up to the same place as before, and the new segment up to where the path ends.
+    pub stands : StandsTo sum size new H A first reach
     stands = begun.stands_with sum size some old slot from asked asked new inside done leaves same free H A first reach is place mark came low whole fits its_mark mark_below alone more stop why truth caps
         (meets_whole sum size new (slot * size) place 20 more stop why path end)
 
-    abbrev y : Scanned
+    abbrev pub y : Scanned
     y = record { segment = record { place = place; slot = slot * size; mark = mark }; met = more; stop = stop; why = why }
 
-    y_known : Contains stands.scanned y
+    pub y_known : Contains stands.scanned y
     unfolding IsScan
     y_known = known_in sum size new H A first reach stands y (record { slot = mul-mod_left slot size; header = came; not_below = low }) (path, end)
 

@@ -50,14 +50,15 @@ module _ (sum : List ℕ → ℕ) (size : ℕ) (some : 256 ≤ size) (old : List
     same : IsSameBeside sum size old new (slot * size)
     same = same_whole sum size some old slot from asked inside there
 
-    stands : StandsTo sum size new H A first reach
+    -- All is read up to the same place as before, and this segment up to where the path ends.
+    pub stands : StandsTo sum size new H A first reach
     stands = behind.stands_behind sum size some old slot from asked asked new inside done leaves same H A first reach is z known in_slot from (omega arith) ended broken more stop why truth caps
         (meets_whole sum size new (slot * size) z.segment.place from more stop why path end)
 
     all_found : (s : Segment) → IsFoundSegment sum size old least s → IsFoundSegment sum size new least s
     all_found = behind.all_found sum size some old slot from asked asked new inside done leaves same H A first reach is z known in_slot from (omega arith) ended broken least
 
-    abbrev y : Scanned
+    abbrev pub y : Scanned
     y = record { segment = z.segment; met = z.met ++ more; stop = stop; why = why }
 
     y_scan : IsScanned sum size new y
@@ -65,6 +66,9 @@ module _ (sum : List ℕ → ℕ) (size : ℕ) (some : 256 ≤ size) (old : List
     y_scan =
         let stood = behind.before_left sum size some old slot from asked asked new inside done leaves same H A first reach is z known in_slot from (omega arith) ended broken in
         subst (λ n. IsScan sum size new n z.segment.place y.met y.stop y.why) (sym in_slot) (paths_joined sum size new (slot * size) z.segment.place 20 z.met from more stop stood path, end)
+
+    pub y_known : Contains stands.scanned y
+    y_known = known_in sum size new H A first reach stands y (all_found z.segment z_found) y_scan
 
     -- one that leads on is another one, and is read as before
     stays : (t : Scanned) → Contains is.scanned t → t.why ≢ Broken → Contains stands.scanned t
@@ -79,5 +83,5 @@ module _ (sum : List ℕ → ℕ) (size : ℕ) (some : 256 ≤ size) (old : List
     pub written_behind : (A' : ℕ) → A' ≤ z.segment.place + stop → reach ≤ z.segment.place + stop → IsBegunOrLedTo size is.scanned least reach z.segment.place → NoMessageBegins H reach z.segment.place
         → ((b : Batch) → Contains H.batches b → b.low < z.segment.place + stop → b.peg < z.segment.place + stop) → StandsTo sum size new H A' first (z.segment.place + stop)
     written_behind A' passes far led between closed =
-        stands_higher sum size new some H A first reach stands ordered y (known_in sum size new H A first reach stands y (all_found z.segment z_found) y_scan) far
+        stands_higher sum size new some H A first reach stands ordered y y_known far
         (led_as_before size is.scanned stands.scanned least reach z.segment.place stays led) between closed A' passes
