@@ -1,5 +1,5 @@
 -- What a reader finds of a settled log file, up to a place that the log has reached.
-use Rattle.std.specs.Prelude.{◌≡◌, ◌≢◌, ◌⊎◌, ◌+◌, ◌*◌, ◌/◌, ◌%◌, ◌≤◌, ◌<◌, ◌<ℤ◌, ℕ, pos, List, Some, Contains}
+use Rattle.std.specs.Prelude.{◌≡◌, ◌≢◌, ◌⊎◌, ◌+◌, ◌*◌, ◌/◌, ◌%◌, ◌≤◌, ◌<◌, ◌<ℤ◌, ℕ, pos, List, [], Some, Contains}
 use Rattle.sled_codec.specs.Coords.{raised}
 use Rattle.sled_codec.specs.History.{Message, Batch, History, table}
 use Rattle.sled_codec.specs.Snapshots.{SnapshotModel, stable_place}
@@ -51,12 +51,15 @@ pub record GoesOnIn (scanned : List Scanned) (slot from place : ℕ) : Type 0 wh
   pub ended : scan.stop ≡ from
   pub broken : scan.why ≡ Broken
 
--- A segment among those that are found, of which so much is written from its beginning on without a gap: no other slot has one of its place, its slot has no other one, and it is read up to there. A full one leads on.
+-- So much of a segment is written where its reading ends there, for want of a record or of room; or it is full, and leads on.
+abbrev pub IsSoFar : ℕ → ℕ → ℕ → ScanEnd → Type 0
+IsSoFar size from stop why = ((stop ≡ from) × (from + 32 ≤ size → why ≡ Broken)) ⊎ ((from ≡ size) × (why ≢ Broken))
+
+-- A segment among those that are found, of which so much is written from its beginning on without a gap: no other slot has one of its place, its slot has no other one, and it is read up to there.
 pub record StandsIn (sum : List ℕ → ℕ) (size : ℕ) (log : List ℕ) (least : ℕ) (scanned : List Scanned) (site : SegmentPosition) (from : ℕ) : Type 0 where
   pub only : (s : Segment) → IsFoundSegment sum size log least s → s.place ≡ site.place → s.slot ≡ site.slot
   pub own : (s : Segment) → IsFoundSegment sum size log least s → s.slot ≡ site.slot → s.place ≡ site.place
-  pub going : 0 < from → from + 32 ≤ size → GoesOnIn scanned site.slot from site.place
-  pub full : from ≡ size → (stop : ℕ) × (why : ScanEnd) × IsReadTo scanned site.slot site.place stop why × (why ≢ Broken)
+  pub read : 0 < from → (stop : ℕ) × (why : ScanEnd) × IsReadTo scanned site.slot site.place stop why × IsSoFar size from stop why
 
 -- The segment before one at this place is found, begins below what was reached, and leads on.
 pub record LeadsTo (sum : List ℕ → ℕ) (size : ℕ) (log : List ℕ) (least reach place : ℕ) : Type 0 where
@@ -83,16 +86,29 @@ pub record BeginsNext (size : ℕ) (H : History) (reach place : ℕ) : Type 0 wh
 abbrev pub ReachesIn : ℕ → History → ℕ → ℕ → ℕ → Type 0
 ReachesIn size H place from reach = (reach ≡ place + from) ⊎ ((from ≡ 0) × BeginsNext size H reach place)
 
--- A reader reads the log file without a gap up to a place, where a write of the current segment goes on. The segment that is found in its slot has its number, no other one has, none lies behind it, and no mark behind what is written.
-pub record StandsAlone (sum : List ℕ → ℕ) (size : ℕ) (log : List ℕ) (site : SegmentPosition) (from reach : ℕ) (H : History) (first : SnapshotModel) : Type 0 where
+-- A segment that was begun, and how much of it is written from its beginning on without a gap.
+pub record BegunSegment : Type 0 where
+  pub site : SegmentPosition
+  pub from : ℕ
+
+-- Of these segments one begins at a place.
+abbrev pub BeginsOne : List BegunSegment → ℕ → Type 0
+BeginsOne others place = (x : BegunSegment) × Contains others x × (x.site.place ≡ place)
+
+-- A reader reads the log file without a gap up to a place, where a write of a segment goes on. That segment and the others that were begun behind it stand there, each as far as it is written, no other one lies behind it, and no mark behind what is written.
+pub record StandsAmong (sum : List ℕ → ℕ) (size : ℕ) (log : List ℕ) (site : SegmentPosition) (from : ℕ) (others : List BegunSegment) (reach : ℕ) (H : History) (first : SnapshotModel) : Type 0 where
   pub stands : StandsTo sum size log H reach first reach
   pub reached : ReachesIn size H site.place from reach
   pub led : IsLed sum size log (least_place size first) reach site.place
-  pub only : (s : Segment) → IsFoundSegment sum size log (least_place size first) s → s.place ≡ site.place → s.slot ≡ site.slot
-  pub own : (s : Segment) → IsFoundSegment sum size log (least_place size first) s → s.slot ≡ site.slot → s.place ≡ site.place
-  pub last : (s : Segment) → IsFoundSegment sum size log (least_place size first) s → s.place ≤ site.place
+  pub here : StandsIn sum size log (least_place size first) stands.scanned site from
+  pub behind : (x : BegunSegment) → Contains others x → StandsIn sum size log (least_place size first) stands.scanned x.site x.from
+  pub apart : (x : BegunSegment) → Contains others x → (site.place < x.site.place) × (x.site.slot ≢ site.slot)
+  pub last : (s : Segment) → IsFoundSegment sum size log (least_place size first) s → (s.place ≤ site.place) ⊎ BeginsOne others s.place
   pub below : (s : Segment) → IsFoundSegment sum size log (least_place size first) s → s.mark <ℤ pos (site.place + from)
-  pub going : 0 < from → from + 32 ≤ size → GoesOnIn stands.scanned site.slot from site.place
+
+-- It is the only one that isn't wholly written.
+abbrev pub StandsAlone : (List ℕ → ℕ) → ℕ → List ℕ → SegmentPosition → ℕ → ℕ → History → SnapshotModel → Type 0
+StandsAlone sum size log site from reach H first = StandsAmong sum size log site from [] reach H first
 
 -- The same where a log goes on from a snapshot: the active segment is all that is found, up to the stable place; where none is active nothing is found.
 pub record StandsActive (sum : List ℕ → ℕ) (size : ℕ) (log : List ℕ) (s : SnapshotModel) (H : History) : Type 0 where

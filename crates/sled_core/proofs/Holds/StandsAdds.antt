@@ -11,12 +11,13 @@ use Rattle.sled_core.specs.declared.iobuf.SegmentPosition.{SegmentPosition}
 use Rattle.sled_core.specs.declared.iterator.Segment.{Segment}
 use Rattle.sled_core.specs.declared.iterator.scan.ScannedRecord.{ScannedRecord}
 use Rattle.sled_core.specs.declared.iterator.scan.ScanEnd.TheVariants.{Capped, Broken}
-use Rattle.sled_core.specs.Reached.{GoesOnIn, ReachesIn, StandsAlone, StandsTo}
+use Rattle.sled_core.specs.Reached.{BegunSegment, GoesOnIn, ReachesIn, StandsAmong, StandsTo}
 use Rattle.sled_core.specs.Recoverable.{NoHeaderOfZeros, NoMessageBegins, NoBatchBegins, StandsInline, IsMarkBelow, IsOfHistory, IsSegmentOf, LiesInSegment}
 use Rattle.sled_core.specs.Scan.{IsFoundSegment, IsScan}
 use Rattle.sled_core.specs.SealedBuffers.{AreZeros}
 use Rattle.sled_core.specs.Tail.{Scanned, IsScanned, least_place}
 use Rattle.sled_core.proofs.Reached.Recoverable.{less_than}
+use Rattle.sled_core.proofs.Reached.SegmentsBeside.{going_in}
 use Rattle.sled_core.proofs.Tail.OneTail.{place_aligned, segment_there}
 use Rattle.sled_core.proofs.Sealed.HeadWritten.{reached_near}
 use Rattle.sled_core.proofs.Tail.GreatestMark.{mark_below}
@@ -33,7 +34,7 @@ LiesBeside size t m = (m.place < t.segment.place) ⊎ (t.segment.place + size �
 
 -- One that is to lie behind the written end of the current segment, where this has room, lies beside all that is found.
 alone_beside : (sum : List ℕ → ℕ) (size : ℕ) (log : List ℕ) (site : SegmentPosition) (from reach : ℕ) (H : History) (first : SnapshotModel) → 256 ≤ size → NoHeaderOfZeros sum → site.place % size ≡ 0
-    → (from ≡ 0 → AreZeros log site.slot (site.slot + 20)) → (alone : StandsAlone sum size log site from reach H first) → from + 32 ≤ size → (m : Message) → site.place + from ≤ m.place → m.place < site.place + size
+    → (from ≡ 0 → AreZeros log site.slot (site.slot + 20)) → {others : List BegunSegment} (alone : StandsAmong sum size log site from others reach H first) → from + 32 ≤ size → (m : Message) → site.place + from ≤ m.place → m.place < site.place + size
     → (t : Scanned) → Contains alone.stands.scanned t → LiesBeside size t m
 alone_beside sum size log site from reach H first some none place_begins clean alone room m above inside t there =
     let is = alone.stands in
@@ -44,12 +45,12 @@ alone_beside sum size log site from reach H first some none place_begins clean a
     elim (cases_order t.segment.place site.place) [
       | inl same ↦ elim (cases_lt 0 from) [
         | inl begun ↦ (
-            let going : GoesOnIn is.scanned site.slot from site.place = alone.going begun room in
+            let going : GoesOnIn is.scanned site.slot from site.place = going_in sum size log least is.scanned site from alone.here begun room in
             let one : t ≡ going.scan = one_reading sum size log some least is.ordering is.numbers is.scanned is.reads t going.scan there going.there (same ∙ sym going.at_place) in
             let stop = going.ended in
             inr (inr (omega (arith, same, stop, ap (λ (y : Scanned). y.stop) one, above), ap (λ (y : Scanned). y.why) one ∙ going.broken)))
         | inr begins ↦ absurd (none_in_zeros sum 20 none (omega arith) log site.slot (clean (omega (arith, begins))) (pos t.segment.place) t.segment.mark
-            (subst (λ n. IsHeader sum (part log n 20) (pos t.segment.place) t.segment.mark) (alone.only t.segment found same) found.header))
+            (subst (λ n. IsHeader sum (part log n 20) (pos t.segment.place) t.segment.mark) (alone.here.only t.segment found same) found.header))
       ]
       | inr (inl lower) ↦ (let far = apart size (omega (arith, some)) t.segment.place site.place aligned place_begins lower in inr (inl (omega (arith, far, above))))
       | inr (inr higher) ↦ (let far = apart size (omega (arith, some)) site.place t.segment.place place_begins aligned higher in inl (omega (arith, far, inside)))
@@ -152,7 +153,7 @@ module _ (sum : List ℕ → ℕ) (size : ℕ) (log : List ℕ) (some : 256 ≤ 
 -- And a write goes on in the current segment where it did.
 pub alone-adds : (sum : List ℕ → ℕ) (size : ℕ) (log : List ℕ) (site : SegmentPosition) (from reach : ℕ) (H H' : History) (first : SnapshotModel) → 256 ≤ size → NoHeaderOfZeros sum → site.place % size ≡ 0
     → (from ≡ 0 → AreZeros log site.slot (site.slot + 20)) → (m : Message) → AddsMessage H m H' → site.place + from ≤ m.place → m.place < site.place + size → from + 32 ≤ size → LiesInSegment size m
-    → StandsAlone sum size log site from reach H first → StandsAlone sum size log site from reach H' first
+    → {others : List BegunSegment} → StandsAmong sum size log site from others reach H first → StandsAmong sum size log site from others reach H' first
 unfolding stands-adds
 alone-adds sum size log site from reach H H' first some none place_begins clean m adds above inside room lies alone =
     let near : reach ≤ site.place + from = reached_near size H site.place from reach alone.reached in
@@ -161,11 +162,11 @@ alone-adds sum size log site from reach H H' first some none place_begins clean 
       stands = stands-adds sum size log some H H' reach first reach alone.stands m (alone_beside sum size log site from reach H first some none place_begins clean alone room m above inside) marks adds (omega (arith, near, above)) lies;
       reached = reached_adds alone.reached;
       led = alone.led;
-      only = alone.only;
-      own = alone.own;
+      here = alone.here;
+      behind = alone.behind;
+      apart = alone.apart;
       last = alone.last;
       below = alone.below;
-      going = alone.going;
     }
   where
     reached_adds : ReachesIn size H site.place from reach → ReachesIn size H' site.place from reach

@@ -1,6 +1,7 @@
 -- A buffer is written to one slot of a log file: the segments in other slots stand there as they stood, and the one in that slot stands up to where its records end now.
-use Rattle.std.proofs.Common.{◌≡◌, ◌≢◌, ◌+◌, ◌*◌, ◌<◌, ◌≤◌, ◌∙◌, ℕ, ℤ, pos, List, length, sym, ap, subst, arith, inl, inr}
+use Rattle.std.proofs.Common.{◌≡◌, ◌≢◌, ◌+◌, ◌*◌, ◌/◌, ◌%◌, ◌<◌, ◌≤◌, ◌∙◌, ℕ, ℤ, pos, List, length, sym, ap, subst, arith, inl, inr}
 use Rattle.std.specs.List.{Contains}
+use Rattle.std.proofs.Math.Nat.{mod-add-div'}
 use Rattle.std.proofs.lemmas.Bool.{cases_eq}
 use Rattle.sled_codec.specs.History.{History}
 use Rattle.sled_codec.specs.Places.{part}
@@ -12,7 +13,7 @@ use Rattle.sled_core.specs.declared.iterator.Segment.{Segment}
 use Rattle.sled_core.specs.declared.iterator.scan.ScanEnd.{ScanEnd}
 use Rattle.sled_core.specs.declared.iterator.scan.ScanEnd.TheVariants.{Broken}
 use Rattle.sled_core.specs.LogFile.{HasHeader}
-use Rattle.sled_core.specs.Reached.{GoesOnIn, IsReadTo, StandsIn}
+use Rattle.sled_core.specs.Reached.{GoesOnIn, IsReadTo, IsSoFar, StandsIn}
 use Rattle.sled_core.specs.Scan.{IsFoundSegment}
 use Rattle.sled_core.specs.Tail.{Scanned, least_place}
 use Rattle.sled_codec.proofs.Segments.{one_header}
@@ -23,65 +24,76 @@ use Rattle.sled_core.proofs.Reached.StandsTo.{StandsTo}
 use Rattle.sled_core.proofs.Reached.WrittenWhole.{all_done, leaves_new, same_whole}
 use Rattle.sled_core.proofs.Tail.OneTail.{segment_there}
 
-module _ (sum : List ℕ → ℕ) (size : ℕ) (some : 256 ≤ size) (old : List ℕ) (slot from : ℕ) (asked : List ℕ) (inside : from + length asked ≤ size) (there : slot * size ≤ length old) (H : History) (A : ℕ) (first : SnapshotModel) (reach : ℕ)
-    (is : StandsTo sum size old H A first reach) (A' reach' : ℕ) (now : StandsTo sum size (overwritten old (slot * size + from) asked) H A' first reach') where
+-- A write goes on where a segment isn't full.
+pub going_in : (sum : List ℕ → ℕ) (size : ℕ) (log : List ℕ) (least : ℕ) (scanned : List Scanned) (site : SegmentPosition) (from : ℕ) → StandsIn sum size log least scanned site from → 0 < from → from + 32 ≤ size → GoesOnIn scanned site.slot from site.place
+going_in sum size log least scanned site from stands some room =
+    let r = stands.read some in
+    let is = r.2 in
+    elim r.3 [
+      | inl (at, broken) ↦ record { scan = is.scan; there = is.there; in_slot = is.in_slot; at_place = is.at_place; ended = is.ended ∙ at; broken = is.ends ∙ broken room }
+      | inr (whole, goes) ↦ absurd (omega (arith, whole, room))
+    ]
+
+module _ (sum : List ℕ → ℕ) (size : ℕ) (some : 256 ≤ size) (old : List ℕ) (at : ℕ) (aligned : at % size ≡ 0) (from : ℕ) (asked : List ℕ) (inside : from + length asked ≤ size) (there : at ≤ length old) (H : History) (A : ℕ)
+    (first : SnapshotModel) (reach : ℕ) (is : StandsTo sum size old H A first reach) (A' reach' : ℕ) (now : StandsTo sum size (overwritten old (at + from) asked) H A' first reach') where
   abbrev new : List ℕ
-  new = overwritten old (slot * size + from) asked
+  new = overwritten old (at + from) asked
 
   abbrev least : ℕ
   least = least_place size first
 
-  same : IsSameBeside sum size old new (slot * size)
-  same = same_whole sum size some old slot from asked inside there
+  -- the number of the slot
+  abbrev slot : ℕ
+  slot = at / size
 
-  -- what was read in another slot is read there still
-  still_read : (t : Scanned) → Contains is.scanned t → t.segment.slot ≢ slot * size → Contains now.scanned t
+  its : slot * size ≡ at
+  its = omega (arith, mod-add-div' at size, aligned)
+
+  there_too : slot * size ≤ length old
+  there_too = omega (arith, its, there)
+
+  same : IsSameBeside sum size old new at
+  same = subst (λ n. IsSameBeside sum size old (overwritten old (n + from) asked) n) its (same_whole sum size some old slot from asked inside there_too)
+
+  -- what is found in another slot is found there still
+  pub still_found : (s : Segment) → IsFoundSegment sum size old least s → s.slot ≢ at → IsFoundSegment sum size new least s
+  still_found s found other = subst (λ n. IsFoundSegment sum size (overwritten old (n + from) asked) least s) its
+      (found_beside sum size some old slot from asked asked (overwritten old (slot * size + from) asked) inside (all_done sum size some old slot from asked inside there_too) (leaves_new sum size some old slot from asked inside there_too) least s
+      (λ here. other (here ∙ its)) found)
+
+  -- and what was read there is read
+  still_read : (t : Scanned) → Contains is.scanned t → t.segment.slot ≢ at → Contains now.scanned t
   still_read t known other =
       let had = segment_there sum size old is.ordering is.scanned is.reads t known in
       let found = (is.numbers.found t.segment).0 had.0 in
-      known_in sum size new H A' first reach' now t
-      (found_beside sum size some old slot from asked asked new inside (all_done sum size some old slot from asked inside there) (leaves_new sum size some old slot from asked inside there) least t.segment other found)
-      (same.scans least t found other had.1)
+      known_in sum size new H A' first reach' now t (still_found t.segment found other) (same.scans least t found other had.1)
 
   -- Another one, where what is found in the slot now has a place that isn't its own.
-  pub segment_stays : (site : SegmentPosition) (so_far place : ℕ) → site.slot ≢ slot * size → site.place ≢ place → ((s : Segment) → IsFoundSegment sum size new least s → s.slot ≡ slot * size → s.place ≡ place)
+  pub segment_stays : (site : SegmentPosition) (so_far place : ℕ) → site.slot ≢ at → site.place ≢ place → ((s : Segment) → IsFoundSegment sum size new least s → s.slot ≡ at → s.place ≡ place)
       → StandsIn sum size old least is.scanned site so_far → StandsIn sum size new least now.scanned site so_far
-  segment_stays site so_far place other apart its stands = record {
-    only = λ s found at. elim (cases_eq s.slot (slot * size)) [ inl here ↦ absurd (apart (sym at ∙ its s found here)) | inr beside ↦ stands.only s (same.found least s beside found) at ];
-    own = λ s found here. stands.own s (same.found least s (λ at. other (sym here ∙ at)) found) here;
-    going = λ later room.
-        let g = stands.going later room in
-        record { scan = g.scan; there = still_read g.scan g.there (λ at. other (sym g.in_slot ∙ at)); in_slot = g.in_slot; at_place = g.at_place; ended = g.ended; broken = g.broken };
-    full = λ whole.
-        let f = stands.full whole in
-        let r = f.2 in
-        (f.0, f.1, record { scan = r.scan; there = still_read r.scan r.there (λ at. other (sym r.in_slot ∙ at)); in_slot = r.in_slot; at_place = r.at_place; ended = r.ended; ends = r.ends }, f.3);
+  segment_stays site so_far place other apart its_place stands = record {
+    only = λ s found same_place. elim (cases_eq s.slot at) [ inl here ↦ absurd (apart (sym same_place ∙ its_place s found here)) | inr beside ↦ stands.only s (same.found least s beside found) same_place ];
+    own = λ s found here. stands.own s (same.found least s (λ at_slot. other (sym here ∙ at_slot)) found) here;
+    read = λ later.
+        let r = stands.read later in
+        let was = r.2 in
+        (r.0, r.1, record { scan = was.scan; there = still_read was.scan was.there (λ at_slot. other (sym was.in_slot ∙ at_slot)); in_slot = was.in_slot; at_place = was.at_place; ended = was.ended; ends = was.ends }, r.3);
   }
 
   -- The one that was written, whose header is there.
-  module _ (site : SegmentPosition) (so_far : ℕ) (its_slot : site.slot ≡ slot * size) (stands : StandsIn sum size old least is.scanned site so_far) (has : HasHeader sum new site) where
-    pub own_place : (s : Segment) → IsFoundSegment sum size new least s → s.slot ≡ slot * size → s.place ≡ site.place
-    own_place s found here =
+  module _ (site : SegmentPosition) (so_far : ℕ) (its_slot : site.slot ≡ at) (stands : StandsIn sum size old least is.scanned site so_far) (has : HasHeader sum new site) where
+    -- what is found in its slot has its place and its mark
+    pub its_header : (s : Segment) → IsFoundSegment sum size new least s → s.slot ≡ at → (pos s.place ≡ pos site.place) × (s.mark ≡ has.mark)
+    its_header s found here =
         let there_now : IsHeader sum (part new site.slot 20) (pos s.place) s.mark = subst (λ n. IsHeader sum (part new n 20) (pos s.place) s.mark) (here ∙ sym its_slot) found.header in
-        pos_injective s.place site.place (one_header sum (part new site.slot 20) (pos s.place) s.mark (pos site.place) has.mark there_now has.header).0
+        one_header sum (part new site.slot 20) (pos s.place) s.mark (pos site.place) has.mark there_now has.header
 
-    only_now : (s : Segment) → IsFoundSegment sum size new least s → s.place ≡ site.place → s.slot ≡ site.slot
-    only_now s found at = elim (cases_eq s.slot (slot * size)) [ inl here ↦ here ∙ sym its_slot | inr beside ↦ stands.only s (same.found least s beside found) at ]
+    pub its_place_now : (s : Segment) → IsFoundSegment sum size new least s → s.slot ≡ at → s.place ≡ site.place
+    its_place_now s found here = pos_injective s.place site.place (its_header s found here).0
 
-    -- It isn't full.
-    pub segment_grown : (stop : ℕ) (why : ScanEnd) → IsReadTo now.scanned site.slot site.place stop why → stop < size → (stop + 32 ≤ size → why ≡ Broken) → StandsIn sum size new least now.scanned site stop
-    segment_grown stop why read inside broken = record {
-      only = only_now;
-      own = λ s found here. own_place s found (here ∙ its_slot);
-      going = λ later room. record { scan = read.scan; there = read.there; in_slot = read.in_slot; at_place = read.at_place; ended = read.ended; broken = read.ends ∙ broken room };
-      full = λ whole. absurd (omega (arith, whole, inside));
-    }
-
-    -- It is.
-    pub segment_filled : (stop : ℕ) (why : ScanEnd) → IsReadTo now.scanned site.slot site.place stop why → why ≢ Broken → StandsIn sum size new least now.scanned site size
-    segment_filled stop why read goes = record {
-      only = only_now;
-      own = λ s found here. own_place s found (here ∙ its_slot);
-      going = λ later room. absurd (omega (arith, room));
-      full = λ whole. (stop, why, read, goes);
+    pub segment_grown : (so_far' stop : ℕ) (why : ScanEnd) → IsReadTo now.scanned site.slot site.place stop why → IsSoFar size so_far' stop why → StandsIn sum size new least now.scanned site so_far'
+    segment_grown so_far' stop why read far = record {
+      only = λ s found same_place. elim (cases_eq s.slot at) [ inl here ↦ here ∙ sym its_slot | inr beside ↦ stands.only s (same.found least s beside found) same_place ];
+      own = λ s found here. its_place_now s found (here ∙ its_slot);
+      read = λ later. (stop, why, read, far);
     }

@@ -35,24 +35,26 @@ module _ (sum : List ℕ → ℕ) (none : NoHeaderOfZeros sum) (size : ℕ) (som
         let path_g = one.path_on sum none size some old slot from asked inside until covers clean H A first reach is place (inl g) more stop why clear path end truth caps g in
         let end_g = one.end_on sum none size some old slot from asked inside until covers clean H A first reach is place (inl g) more stop why clear path end truth caps g in
         let caps_g = one.caps_on sum none size some old slot from asked inside until covers clean H A first reach is place (inl g) more stop why clear path end truth caps g in (
-        behind.stands sum size some old slot from asked inside H ordered A first reach is g.scan g.there g.in_slot g.ended g.broken more stop why path_g end_g truth caps_g,
-        record {
-          scan = behind.y sum size some old slot from asked inside H ordered A first reach is g.scan g.there g.in_slot g.ended g.broken more stop why path_g end_g truth caps_g;
-          there = behind.y_known sum size some old slot from asked inside H ordered A first reach is g.scan g.there g.in_slot g.ended g.broken more stop why path_g end_g truth caps_g;
-          in_slot = g.in_slot;
-          at_place = g.at_place;
-          ended = refl;
-          ends = refl;
-        }))
+          behind.stands sum size some old slot from asked inside H ordered A first reach is g.scan g.there g.in_slot g.ended g.broken more stop why path_g end_g truth caps_g,
+          record {
+            scan = behind.y sum size some old slot from asked inside H ordered A first reach is g.scan g.there g.in_slot g.ended g.broken more stop why path_g end_g truth caps_g;
+            there = behind.y_known sum size some old slot from asked inside H ordered A first reach is g.scan g.there g.in_slot g.ended g.broken more stop why path_g end_g truth caps_g;
+            in_slot = g.in_slot;
+            at_place = g.at_place;
+            ended = refl;
+            ends = refl;
+          },
+        ))
     | inr b ↦ (
         let path_b = one.path_first sum none size some old slot from asked inside until covers clean H A first reach is place (inr b) more stop why clear path end truth caps b.begins in (
-        begun.stands sum size some old slot from asked inside H ordered A first reach is none there b.begins until covers clean place b.mark b.header low b.whole b.fits b.its_mark b.mark_below b.alone more stop why path_b end truth caps,
-        record {
-          scan = begun.y sum size some old slot from asked inside H ordered A first reach is none there b.begins until covers clean place b.mark b.header low b.whole b.fits b.its_mark b.mark_below b.alone more stop why path_b end truth caps;
-          there = begun.y_known sum size some old slot from asked inside H ordered A first reach is none there b.begins until covers clean place b.mark b.header low b.whole b.fits b.its_mark b.mark_below b.alone more stop why path_b end truth caps;
-          in_slot = refl;
-          at_place = refl;
-          ended = refl;
-          ends = refl;
-        }))
+          begun.stands sum size some old slot from asked inside H ordered A first reach is none there b.begins until covers clean place b.mark b.header low b.whole b.fits b.its_mark b.mark_below b.alone more stop why path_b end truth caps,
+          record {
+            scan = begun.y sum size some old slot from asked inside H ordered A first reach is none there b.begins until covers clean place b.mark b.header low b.whole b.fits b.its_mark b.mark_below b.alone more stop why path_b end truth caps;
+            there = begun.y_known sum size some old slot from asked inside H ordered A first reach is none there b.begins until covers clean place b.mark b.header low b.whole b.fits b.its_mark b.mark_below b.alone more stop why path_b end truth caps;
+            in_slot = refl;
+            at_place = refl;
+            ended = refl;
+            ends = refl;
+          },
+        ))
   ]

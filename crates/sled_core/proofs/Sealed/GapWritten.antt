@@ -1,7 +1,8 @@
 -- The write of a sealed buffer behind one that isn't written, where no other segment that is found has the number of the current one: torn or whole, a reader finds what he found before.
-use Rattle.std.proofs.Common.{◌≡◌, ◌≢◌, ◌≤◌, ◌<◌, ◌<ℤ◌, ◌+◌, ◌*◌, ◌/◌, ◌%◌, ℕ, pos, List, length, get_or, refl, sym, ap, ◌∙◌, subst, arith, inl, inr}
+use Rattle.std.proofs.Common.{◌≡◌, ◌≢◌, ◌⊎◌, ◌≤◌, ◌<◌, ◌<ℤ◌, ◌+◌, ◌*◌, ◌/◌, ◌%◌, ℕ, pos, List, length, get_or, refl, sym, ap, ◌∙◌, subst, arith, inl, inr}
 use Rattle.std.proofs.Math.Nat.{mod-add-div'}
 use Rattle.std.proofs.lemmas.Bool.{cases_eq, cases_lt}
+use Rattle.std.specs.List.{Contains}
 use Rattle.sled_codec.specs.Record.{IsHeader}
 use Rattle.sled_codec.specs.History.{History}
 use Rattle.sled_codec.specs.Snapshots.{SnapshotModel}
@@ -10,7 +11,7 @@ use Rattle.sled_store.specs.Foreign.{NoForeignLog}
 use Rattle.sled_core.specs.declared.iobuf.SegmentPosition.{SegmentPosition}
 use Rattle.sled_core.specs.declared.iterator.Segment.{Segment}
 use Rattle.sled_core.specs.declared.iterator.scan.ScanEnd.TheVariants.{Broken}
-use Rattle.sled_core.specs.Reached.{GoesOnIn, IsLed, StandsAlone}
+use Rattle.sled_core.specs.Reached.{BeginsOne, BegunSegment, GoesOnIn, IsLed, StandsAmong, StandsIn}
 use Rattle.sled_core.specs.Recoverable.{NoHeaderOfZeros}
 use Rattle.sled_core.specs.Scan.{IsFoundSegment, IsEnd, EndsThere, IsScan}
 use Rattle.sled_core.specs.Tail.{Scanned, IsScanned, least_place}
@@ -22,6 +23,7 @@ use Rattle.sled_core.proofs.Read.FoundLemmas.{pos_injective}
 use Rattle.sled_core.proofs.Torn.WrittenBegun.{none_in_zeros}
 use Rattle.sled_core.proofs.Reached.Higher.{known_in}
 use Rattle.sled_core.proofs.Reached.LeftBeside.{IsSameBeside, found_beside}
+use Rattle.sled_core.proofs.Reached.SegmentsBeside.{going_in, segment_stays}
 use Rattle.sled_core.proofs.Reached.StandsTo.{StandsTo}
 use Rattle.sled_core.proofs.Reached.WrittenUnread.{torn_headless, torn_unread, written_headless, written_unread, zero_below}
 use Rattle.sled_core.proofs.Reached.WrittenWhole.{all_done, leaves_new, same_whole}
@@ -32,7 +34,7 @@ use Rattle.sled_core.proofs.Torn.WrittenParts.{in_this_file, path_rises, path_wh
 module _ (sum : List ℕ → ℕ) (none : NoHeaderOfZeros sum) (size : ℕ) (some : 256 ≤ size) (old : List ℕ) (site : SegmentPosition) (from at : ℕ) (asked : List ℕ) (inside : at + length asked ≤ size)
     (slot_begins : site.slot % size ≡ 0) (has_room : from + 32 ≤ size) (to : ℕ) (gap : from + 5 ≤ to) (before : to ≤ at) (headed : from ≡ 0 → 20 ≤ to)
     (clean : (i : ℕ) → site.slot + from ≤ i → i < site.slot + to → get_or old i 0 ≡ 0)
-    (reach : ℕ) (H : History) (first : SnapshotModel) (alone : StandsAlone sum size old site from reach H first) where
+    {others : List BegunSegment} (reach : ℕ) (H : History) (first : SnapshotModel) (alone : StandsAmong sum size old site from others reach H first) where
   abbrev new : List ℕ
   new = overwritten old (site.slot + at) asked
 
@@ -58,7 +60,7 @@ module _ (sum : List ℕ → ℕ) (none : NoHeaderOfZeros sum) (size : ℕ) (som
       let own_there = subst (λ n. NoForeignLog sum size (after_write old (n + at) asked now) placed left) (sym its_slot) only_own in
       elim (cases_lt 0 from) [
         | inl later ↦ (
-            let g = alone.going later has_room in
+            let g = going_in sum size old (least_place size first) alone.stands.scanned site from alone.here later has_room in
             let ended = g.ended in
             torn_unread sum size some old slot at asked inside H reach first reach alone.stands g.scan g.there (g.in_slot ∙ sym its_slot) (omega (arith, ended, gap, before)) g.broken now left no_more leaves_there own_there)
         | inr first_one ↦ (
@@ -75,7 +77,12 @@ module _ (sum : List ℕ → ℕ) (none : NoHeaderOfZeros sum) (size : ℕ) (som
     beside = subst (λ n. IsSameBeside sum size old (overwritten old (n + at) asked) n) its_slot (same_whole sum size some old slot at asked inside there_too)
 
     only : (s : Segment) → IsFoundSegment sum size new (least_place size first) s → s.place ≡ site.place → s.slot ≡ site.slot
-    only s found same = elim (cases_eq s.slot site.slot) [ inl here ↦ here | inr other ↦ alone.only s (beside.found (least_place size first) s other found) same ]
+    only s found same = elim (cases_eq s.slot site.slot) [ inl here ↦ here | inr other ↦ alone.here.only s (beside.found (least_place size first) s other found) same ]
+
+    found_on : (s : Segment) → IsFoundSegment sum size old (least_place size first) s → s.slot ≢ site.slot → IsFoundSegment sum size new (least_place size first) s
+    found_on s found other = subst (λ n. IsFoundSegment sum size (overwritten old (n + at) asked) (least_place size first) s) its_slot
+        (found_beside sum size some old slot at asked asked (overwritten old (slot * size + at) asked) inside (all_done sum size some old slot at asked inside there_too) (leaves_new sum size some old slot at asked inside there_too)
+        (least_place size first) s (λ here. other (here ∙ its_slot)) found)
 
     -- The one that leads to it is found and read as before.
     led_on : IsLed sum size new (least_place size first) reach site.place
@@ -84,12 +91,10 @@ module _ (sum : List ℕ → ℕ) (none : NoHeaderOfZeros sum) (size : ℕ) (som
       | inr (inl low) ↦ inr (inl low)
       | inr (inr l) ↦ (
           let next = l.next in
-          let other : l.scan.segment.slot ≢ site.slot = λ here. (let same = alone.own l.scan.segment l.found here in omega (arith, same, next, some)) in
+          let other : l.scan.segment.slot ≢ site.slot = λ here. (let same = alone.here.own l.scan.segment l.found here in omega (arith, same, next, some)) in
           inr (inr (record {
             scan = l.scan;
-            found = subst (λ n. IsFoundSegment sum size (overwritten old (n + at) asked) (least_place size first) l.scan.segment) its_slot
-                (found_beside sum size some old slot at asked asked (overwritten old (slot * size + at) asked) inside (all_done sum size some old slot at asked inside there_too) (leaves_new sum size some old slot at asked inside there_too)
-                (least_place size first) l.scan.segment (λ here. other (here ∙ its_slot)) l.found);
+            found = found_on l.scan.segment l.found other;
             read = beside.scans (least_place size first) l.scan l.found other l.read;
             next = next;
             goes = l.goes;
@@ -97,10 +102,17 @@ module _ (sum : List ℕ → ℕ) (none : NoHeaderOfZeros sum) (size : ℕ) (som
           })))
     ]
 
-    -- None lies behind it, where the one in its slot doesn't.
+    -- None lies behind it but the others, where the one in its slot doesn't.
     last_by : ((s : Segment) → IsFoundSegment sum size new (least_place size first) s → s.slot ≡ site.slot → s.place ≡ site.place)
-        → (s : Segment) → IsFoundSegment sum size new (least_place size first) s → s.place ≤ site.place
-    last_by own s found = elim (cases_eq s.slot site.slot) [ inl here ↦ omega (arith, own s found here) | inr other ↦ alone.last s (beside.found (least_place size first) s other found) ]
+        → (s : Segment) → IsFoundSegment sum size new (least_place size first) s → (s.place ≤ site.place) ⊎ BeginsOne others s.place
+    last_by own s found = elim (cases_eq s.slot site.slot) [ inl here ↦ inl (let same = own s found here in omega (arith, same)) | inr other ↦ alone.last s (beside.found (least_place size first) s other found) ]
+
+    -- The others stand as they stood, where what is found in its slot has its place.
+    behind_by : (now : StandsTo sum size new H reach first reach) → ((s : Segment) → IsFoundSegment sum size new (least_place size first) s → s.slot ≡ site.slot → s.place ≡ site.place)
+        → (x : BegunSegment) → Contains others x → StandsIn sum size new (least_place size first) now.scanned x.site x.from
+    behind_by now own x among =
+        let apart = alone.apart x among in
+        segment_stays sum size some old site.slot slot_begins at asked inside there H reach first reach alone.stands reach reach now x.site x.from site.place apart.1 (λ same. let low = apart.0 in omega (arith, same, low)) own (alone.behind x among)
 
     -- No mark lies behind what is written, where that of the segment doesn't.
     below_by : ((s : Segment) → IsFoundSegment sum size new (least_place size first) s → s.slot ≡ site.slot → s.mark <ℤ pos (site.place + from))
@@ -108,7 +120,7 @@ module _ (sum : List ℕ → ℕ) (none : NoHeaderOfZeros sum) (size : ℕ) (som
     below_by own s found = elim (cases_eq s.slot site.slot) [ inl here ↦ own s found here | inr other ↦ alone.below s (beside.found (least_place size first) s other found) ]
 
     -- Nothing of the segment is written yet.
-    headless : from ≡ 0 → StandsAlone sum size new site from reach H first
+    headless : from ≡ 0 → StandsAmong sum size new site from others reach H first
     headless begins =
         let below_slot : slot * size + 20 ≤ slot * size + at = (let h = far begins in omega (arith, h)) in
         let written = written_headless sum size some old slot at asked inside H reach first reach alone.stands none (far begins) (begins_clean begins) there_too in
@@ -121,17 +133,17 @@ module _ (sum : List ℕ → ℕ) (none : NoHeaderOfZeros sum) (size : ℕ) (som
           stands = stands;
           reached = alone.reached;
           led = led_on;
-          only = only;
-          own = λ s found here. absurd (none_here s found here);
+          here = record { only = only; own = λ s found here. absurd (none_here s found here); read = λ later. absurd (omega (arith, begins, later)) };
+          behind = behind_by stands (λ s found here. absurd (none_here s found here));
+          apart = alone.apart;
           last = last_by (λ s found here. absurd (none_here s found here));
           below = below_by (λ s found here. absurd (none_here s found here));
-          going = λ later room. absurd (omega (arith, begins, later));
         }
 
     -- The reading of it ends in front of the gap.
     module _ (later : 0 < from) where
       abbrev g : GoesOnIn alone.stands.scanned site.slot from site.place
-      g = alone.going later has_room
+      g = going_in sum size old (least_place size first) alone.stands.scanned site from alone.here later has_room
 
       stands : StandsTo sum size new H reach first reach
       stands =
@@ -178,17 +190,24 @@ module _ (sum : List ℕ → ℕ) (none : NoHeaderOfZeros sum) (size : ℕ) (som
       was_found : IsFoundSegment sum size old (least_place size first) g.scan.segment
       was_found = (alone.stands.numbers.found g.scan.segment).0 (segment_there sum size old alone.stands.ordering alone.stands.scanned alone.stands.reads g.scan g.there).0
 
-      behind : StandsAlone sum size new site from reach H first
+      own_place : (s : Segment) → IsFoundSegment sum size new (least_place size first) s → s.slot ≡ site.slot → s.place ≡ site.place
+      own_place s found here = pos_injective s.place g.scan.segment.place (its_header s found here).0 ∙ g.at_place
+
+      behind : StandsAmong sum size new site from others reach H first
       behind = record {
         stands = stands;
         reached = alone.reached;
         led = led_on;
-        only = only;
-        own = λ s found here. pos_injective s.place g.scan.segment.place (its_header s found here).0 ∙ g.at_place;
-        last = last_by (λ s found here. pos_injective s.place g.scan.segment.place (its_header s found here).0 ∙ g.at_place);
+        here = record {
+          only = only;
+          own = own_place;
+          read = λ some_more. (from, Broken, record { scan = g.scan; there = known_in sum size new H reach first reach stands g.scan y_found y_scan; in_slot = g.in_slot; at_place = g.at_place; ended = g.ended; ends = g.broken }, inl (refl, λ room. refl));
+        };
+        behind = behind_by stands own_place;
+        apart = alone.apart;
+        last = last_by own_place;
         below = below_by (λ s found here. subst (λ z. z <ℤ pos (site.place + from)) (sym (its_header s found here).1) (alone.below g.scan.segment was_found));
-        going = λ more room. record { scan = g.scan; there = known_in sum size new H reach first reach stands g.scan y_found y_scan; in_slot = g.in_slot; at_place = g.at_place; ended = g.ended; broken = g.broken };
       }
 
-    pub gap_written : StandsAlone sum size new site from reach H first
+    pub gap_written : StandsAmong sum size new site from others reach H first
     gap_written = elim (cases_lt 0 from) [ inl later ↦ behind later | inr first_one ↦ headless (omega (arith, first_one)) ]

@@ -17,7 +17,7 @@ use Rattle.sled_core.specs.declared.iterator.scan.ScanEnd.{ScanEnd}
 use Rattle.sled_core.specs.declared.iterator.scan.ScanEnd.TheVariants.{Capped, Broken}
 use Rattle.sled_core.specs.Fits.{HasMark}
 use Rattle.sled_core.specs.LogFile.{HasHeader}
-use Rattle.sled_core.specs.Reached.{BeginsNext, GoesOnIn, ReachesIn, StandsAlone}
+use Rattle.sled_core.specs.Reached.{BeginsNext, BeginsOne, BegunSegment, GoesOnIn, IsReadTo, IsSoFar, ReachesIn, StandsAlone, StandsAmong, StandsIn}
 use Rattle.sled_core.specs.Recoverable.{NoHeaderOfZeros, NoMessageBegins, NoBatchBegins, NoBatchEnds, IsOfHistory}
 use Rattle.sled_core.specs.Scan.{IsFoundSegment, IsPath, IsEnd, IsScan}
 use Rattle.sled_core.specs.Tail.{Scanned, IsScanned, least_place}
@@ -26,8 +26,9 @@ use Rattle.sled_core.proofs.Reached.BufferPath.{buffer_header, buffer_mark_below
 use Rattle.sled_core.proofs.Reached.Higher.{IsBegunOrLedTo, known_in}
 use Rattle.sled_core.proofs.Reached.LeftBeside.{IsSameBeside}
 use Rattle.sled_core.proofs.Reached.OneWrite.{BeginsSegment, torn_stands, written_stands}
-use Rattle.sled_codec.proofs.Segments.{one_header}
+use Rattle.sled_store.proofs.Segments.Elements.{in_nothing}
 use Rattle.sled_core.proofs.Reached.Recoverable.{less_than}
+use Rattle.sled_core.proofs.Reached.SegmentsBeside.{going_in, its_header, its_place_now, segment_grown, segment_stays}
 use Rattle.sled_core.proofs.Reached.StandsTo.{StandsTo}
 use Rattle.sled_core.proofs.Reached.WrittenWhole.{same_whole}
 use Rattle.sled_codec.specs.Coords.{raised}
@@ -39,7 +40,7 @@ use Rattle.sled_core.proofs.Torn.WrittenParts.{path_rises, path_whole, paths_joi
 use Rattle.sled_core.proofs.Torn.WrittenRecords.{AreClear}
 
 -- a reader is led to the current segment
-pub led_in : (sum : List ℕ → ℕ) (size : ℕ) (log : List ℕ) (site : SegmentPosition) (from reach : ℕ) (H : History) (first : SnapshotModel) (alone : StandsAlone sum size log site from reach H first)
+pub led_in : (sum : List ℕ → ℕ) (size : ℕ) (log : List ℕ) (site : SegmentPosition) (from reach : ℕ) (H : History) (first : SnapshotModel) {others : List BegunSegment} (alone : StandsAmong sum size log site from others reach H first)
     → IsBegunOrLedTo size alone.stands.scanned (least_place size first) reach site.place
 led_in sum size log site from reach H first alone = elim alone.led [
   | inl below ↦ inl below
@@ -48,13 +49,13 @@ led_in sum size log site from reach H first alone = elim alone.led [
 ]
 
 -- What was met of the current segment before, in a file that is the same up to what was written.
-pub met_before : (sum : List ℕ → ℕ) (size : ℕ) (old new : List ℕ) (site : SegmentPosition) (from reach : ℕ) (H : History) (first : SnapshotModel) (alone : StandsAlone sum size old site from reach H first) → from + 32 ≤ size
+pub met_before : (sum : List ℕ → ℕ) (size : ℕ) (old new : List ℕ) (site : SegmentPosition) (from reach : ℕ) (H : History) (first : SnapshotModel) {others : List BegunSegment} (alone : StandsAmong sum size old site from others reach H first) → from + 32 ≤ size
     → ((met : List ScannedRecord) → IsPath sum size old site.slot site.place 20 met from → IsPath sum size new site.slot site.place 20 met from)
     → (met : List ScannedRecord) × IsPath sum size new site.slot site.place 20 met (max 20 from)
 unfolding IsScan
 met_before sum size old new site from reach H first alone has_room stays = elim (cases_lt 0 from) [
   | inl later ↦ (
-      let g = alone.going later has_room in
+      let g = going_in sum size old (least_place size first) alone.stands.scanned site from alone.here later has_room in
       let scan = (segment_there sum size old alone.stands.ordering alone.stands.scanned alone.stands.reads g.scan g.there).1 in
       let path : IsPath sum size old site.slot site.place 20 g.scan.met from =
       subst (λ n. IsPath sum size old n site.place 20 g.scan.met from) g.in_slot
@@ -85,7 +86,7 @@ module _ (sum : List ℕ → ℕ) (none : NoHeaderOfZeros sum) (size : ℕ) (som
     (place_begins : site.place % size ≡ 0) (slot_begins : site.slot % size ≡ 0) (place_small : site.place + size < 2 ^ 63)
     {H : History} (header : from ≡ 0 → HasMark sum site asked H)
     (clean : (i : ℕ) → site.slot + from ≤ i → i < site.slot + until → get_or old i 0 ≡ 0)
-    (reach : ℕ) (first : SnapshotModel) (alone : StandsAlone sum size old site from reach H first)
+    {others : List BegunSegment} (reach : ℕ) (first : SnapshotModel) (alone : StandsAmong sum size old site from others reach H first)
     (more : List ScannedRecord) (stop : ℕ) (why : ScanEnd) (clear : AreClear size until (max 20 from) more)
     (path : IsPath sum size (overwritten old (site.slot + from) asked) site.slot site.place (max 20 from) more stop) (end : IsEnd sum size (overwritten old (site.slot + from) asked) site.slot site.place stop why)
     (truth : (x : ScannedRecord) → Contains more x → IsOfHistory sum size (overwritten old (site.slot + from) asked) H x)
@@ -106,7 +107,7 @@ module _ (sum : List ℕ → ℕ) (none : NoHeaderOfZeros sum) (size : ℕ) (som
   -- The segment goes on where it was read to, or the buffer begins it, in a slot of zeros.
   goes_on : GoesOnIn alone.stands.scanned (slot * size) from site.place ⊎ BeginsSegment sum size H alone.stands.ordering reach (slot * size) from asked site.place
   goes_on = elim (cases_lt 0 from) [
-    | inl later ↦ inl (subst (λ n. GoesOnIn alone.stands.scanned n from site.place) (sym its_slot) (alone.going later has_room))
+    | inl later ↦ inl (subst (λ n. GoesOnIn alone.stands.scanned n from site.place) (sym its_slot) (going_in sum size old (least_place size first) alone.stands.scanned site from alone.here later has_room))
     | inr first_one ↦ (
         let begins : from ≡ 0 = omega (arith, first_one) in
         let far = headed begins in
@@ -123,7 +124,7 @@ module _ (sum : List ℕ → ℕ) (none : NoHeaderOfZeros sum) (size : ℕ) (som
           alone = λ s there same.
               let found = (alone.stands.numbers.found s).0 there in
               none_in_zeros sum until none far old site.slot (λ i above below. clean i (omega (arith, above, begins)) below) (pos s.place) s.mark
-              (subst (λ n. IsHeader sum (part old n 20) (pos s.place) s.mark) (alone.only s found same) found.header);
+              (subst (λ n. IsHeader sum (part old n 20) (pos s.place) s.mark) (alone.here.only s found same) found.header);
         }))
   ]
 
@@ -169,32 +170,6 @@ module _ (sum : List ℕ → ℕ) (none : NoHeaderOfZeros sum) (size : ℕ) (som
         (written_stands sum none size some old slot from asked inside until covers clean_there H reach first reach alone.stands site.place goes_on more stop why clear path_there end_there truth_there caps
         ordered (omega (arith, its_slot, there)) low (site.place + stop) (omega arith) (omega (arith, rises, near)) (led_in sum size old site from reach H first alone) between ended)
 
-    -- No other one that is found has its number.
-
-    beside : IsSameBeside sum size old new site.slot
-    beside = subst (λ n. IsSameBeside sum size old (overwritten old (n + from) asked) n) its_slot (same_whole sum size some old slot from asked inside (omega (arith, its_slot, there)))
-
-    its_header : (s : Segment) → IsFoundSegment sum size new (least_place size first) s → s.slot ≡ site.slot → (pos s.place ≡ pos site.place) × (s.mark ≡ has_header.mark)
-    its_header s found here = one_header sum (part new site.slot 20) (pos s.place) s.mark (pos site.place) has_header.mark (subst (λ n. IsHeader sum (part new n 20) (pos s.place) s.mark) here found.header) has_header.header
-
-    only : (s : Segment) → IsFoundSegment sum size new (least_place size first) s → s.place ≡ site.place → s.slot ≡ site.slot
-    only s found same = elim (cases_eq s.slot site.slot) [ inl here ↦ here | inr other ↦ alone.only s (beside.found (least_place size first) s other found) same ]
-
-    own : (s : Segment) → IsFoundSegment sum size new (least_place size first) s → s.slot ≡ site.slot → s.place ≡ site.place
-    own s found here = pos_injective s.place site.place (its_header s found here).0
-
-    -- None lies behind it.
-    last : (s : Segment) → IsFoundSegment sum size new (least_place size first) s → s.place ≤ site.place
-    last s found = elim (cases_eq s.slot site.slot) [ inl here ↦ omega (arith, own s found here) | inr other ↦ alone.last s (beside.found (least_place size first) s other found) ]
-
-    -- And no mark lies behind what is written now.
-    below : (s : Segment) → IsFoundSegment sum size new (least_place size first) s → s.mark <ℤ pos (site.place + stop)
-    below s found = elim (cases_eq s.slot site.slot) [
-      | inl here ↦
-          subst (λ z. z <ℤ pos (site.place + stop)) (sym (its_header s found here).1) (mark_under has_header.mark site.place (site.place + stop) (omega arith) has_header.below)
-      | inr other ↦ less_than s.mark (site.place + from) (site.place + stop) (omega (arith, rises)) (alone.below s (beside.found (least_place size first) s other found))
-    ]
-
     -- It is read to where the path ends.
 
     before : (met : List ScannedRecord) × IsPath sum size new site.slot site.place 20 met (max 20 from)
@@ -210,31 +185,69 @@ module _ (sum : List ℕ → ℕ) (none : NoHeaderOfZeros sum) (size : ℕ) (som
     y_found : IsFoundSegment sum size new (least_place size first) y.segment
     y_found = record { slot = slot_begins; header = has_header.header; not_below = low }
 
-    pub head_written : (stop + 32 ≤ size → why ≡ Broken) → StandsAlone sum size new site stop (site.place + stop) H first
+    read : IsReadTo stands.scanned site.slot site.place stop why
+    read = record { scan = y; there = known_in sum size new H (site.place + stop) first (site.place + stop) stands y y_found y_scan; in_slot = refl; at_place = refl; ended = refl; ends = refl }
+
+    stays : (other : SegmentPosition) (so_far : ℕ) → other.slot ≢ site.slot → other.place ≢ site.place → StandsIn sum size old (least_place size first) alone.stands.scanned other so_far → StandsIn sum size new (least_place size first) stands.scanned other so_far
+    stays other so_far apart behind = segment_stays sum size some old site.slot slot_begins from asked inside there H reach first reach alone.stands (site.place + stop) (site.place + stop) stands other so_far site.place apart behind
+        (its_place_now sum size some old site.slot slot_begins from asked inside there H reach first reach alone.stands (site.place + stop) (site.place + stop) stands site from refl alone.here has_header)
+
+    grown : (so_far : ℕ) → IsSoFar size so_far stop why → StandsIn sum size new (least_place size first) stands.scanned site so_far
+    grown so_far = segment_grown sum size some old site.slot slot_begins from asked inside there H reach first reach alone.stands (site.place + stop) (site.place + stop) stands site from refl alone.here has_header so_far stop why read
+
+    its_header_now : (s : Segment) → IsFoundSegment sum size new (least_place size first) s → s.slot ≡ site.slot → (pos s.place ≡ pos site.place) × (s.mark ≡ has_header.mark)
+    its_header_now = its_header sum size some old site.slot slot_begins from asked inside there H reach first reach alone.stands (site.place + stop) (site.place + stop) stands site from refl alone.here has_header
+
+    beside : IsSameBeside sum size old new site.slot
+    beside = subst (λ n. IsSameBeside sum size old (overwritten old (n + from) asked) n) its_slot (same_whole sum size some old slot from asked inside (omega (arith, its_slot, there)))
+
+    -- None lies behind it, but for the others.
+    last : (s : Segment) → IsFoundSegment sum size new (least_place size first) s → (s.place ≤ site.place) ⊎ BeginsOne others s.place
+    last s found = elim (cases_eq s.slot site.slot) [
+      | inl here ↦ inl (let same = pos_injective s.place site.place (its_header_now s found here).0 in omega (arith, same))
+      | inr other ↦ alone.last s (beside.found (least_place size first) s other found)
+    ]
+
+    -- And no mark lies behind what is written now.
+    below : (s : Segment) → IsFoundSegment sum size new (least_place size first) s → s.mark <ℤ pos (site.place + stop)
+    below s found = elim (cases_eq s.slot site.slot) [
+      | inl here ↦
+          subst (λ z. z <ℤ pos (site.place + stop)) (sym (its_header_now s found here).1) (mark_under has_header.mark site.place (site.place + stop) (omega arith) has_header.below)
+      | inr other ↦ less_than s.mark (site.place + from) (site.place + stop) (omega (arith, rises)) (alone.below s (beside.found (least_place size first) s other found))
+    ]
+
+    pub head_written : (stop + 32 ≤ size → why ≡ Broken) → StandsAmong sum size new site stop others (site.place + stop) H first
     head_written broken = record {
       stands = stands;
       reached = inl refl;
       led = inl (omega (arith, rises));
-      only = only;
-      own = own;
+      here = grown stop (inl (refl, broken));
+      behind = λ x among. let apart = alone.apart x among in stays x.site x.from apart.1 (λ at. let low = apart.0 in omega (arith, at, low)) (alone.behind x among);
+      apart = alone.apart;
       last = last;
       below = below;
-      going = λ later room. record { scan = y; there = known_in sum size new H (site.place + stop) first (site.place + stop) stands y y_found y_scan; in_slot = refl; at_place = refl; ended = refl; broken = broken room };
     }
 
-    -- Where it is full now, the next segment begins in a slot of zeros, and nothing of it is written.
-    pub next_alone : why ≢ Broken → stop ≤ size → NoMessageBegins H (site.place + stop) (site.place + size) → NoBatchBegins H (site.place + stop) (site.place + size) → NoBatchEnds H (site.place + stop) (site.place + size)
+    -- Where it is full now, the next segment begins in a slot of zeros, and nothing of it is written; where it is none of the others, there are none.
+    pub next_alone : others ≡ [] → why ≢ Broken → stop ≤ size → NoMessageBegins H (site.place + stop) (site.place + size) → NoBatchBegins H (site.place + stop) (site.place + size) → NoBatchEnds H (site.place + stop) (site.place + size)
         → (slot' : ℕ) → ((i : ℕ) → slot' ≤ i → i < slot' + 20 → get_or new i 0 ≡ 0) → StandsAlone sum size new (record { place = site.place + size; slot = slot' }) 0 (site.place + stop) H first
-    next_alone goes within no_message no_batch no_end slot' zeros = record {
+    next_alone no_others goes within no_message no_batch no_end slot' zeros = record {
       stands = stands;
       reached = inr (refl, record { above = omega (arith, within); next = omega (arith, further); no_message = no_message; no_batch = no_batch; no_end = no_end });
       led = inr (inr (record { scan = y; found = y_found; read = y_scan; next = refl; goes = goes; below = omega (arith, rises) }));
-      only = λ s found same. (let at = last s found in absurd (omega (arith, at, same, some)));
-      own = λ s found here. absurd (none_in_zeros sum 20 none (omega arith) new slot' zeros (pos s.place) s.mark (subst (λ n. IsHeader sum (part new n 20) (pos s.place) s.mark) here found.header));
-      last = λ s found. (let at = last s found in omega (arith, at));
+      here = record {
+        only = λ s found same. (let at = low_or_none s found in absurd (omega (arith, at, same, some)));
+        own = λ s found here. absurd (none_in_zeros sum 20 none (omega arith) new slot' zeros (pos s.place) s.mark (subst (λ n. IsHeader sum (part new n 20) (pos s.place) s.mark) here found.header));
+        read = λ later. absurd (omega (arith, later));
+      };
+      behind = λ x among. absurd (in_nothing x among);
+      apart = λ x among. absurd (in_nothing x among);
+      last = λ s found. inl (let at = low_or_none s found in omega (arith, at));
       below = λ s found. less_than s.mark (site.place + stop) (site.place + size + 0) (omega (arith, within)) (below s found);
-      going = λ later room. absurd (omega (arith, later));
     }
       where
         further : raised size (site.place + stop) ≡ site.place + size
         further = one_multiple size some (site.place + size) (site.place + stop + (size - 1)) (next_multiple size site.place place_begins) (omega (arith, rises, some)) (omega (arith, within, some))
+
+        low_or_none : (s : Segment) → IsFoundSegment sum size new (least_place size first) s → s.place ≤ site.place
+        low_or_none s found = elim (last s found) [ inl low ↦ low | inr one ↦ absurd (in_nothing one.0 (subst (λ (xs : List BegunSegment). Contains xs one.0) no_others one.1)) ]

@@ -7,6 +7,8 @@ use Rattle.sled_codec.specs.Snapshots.{SnapshotModel, stable_place}
 use Rattle.sled_store.specs.Begin.{is_used}
 use Rattle.sled_core.specs.declared.iobuf.SegmentPosition.{SegmentPosition}
 use Rattle.sled_core.specs.declared.iterator.Segment.{Segment}
+use Rattle.sled_core.specs.declared.iterator.scan.ScanEnd.TheVariants.{Broken}
+use Rattle.sled_store.proofs.Segments.Elements.{in_nothing}
 use Rattle.sled_core.specs.Reached.{StandsTo, StandsAlone, StandsActive, GoesOnIn}
 use Rattle.sled_core.specs.Scan.{IsFoundSegment}
 use Rattle.sled_core.specs.Tail.{Scanned, IsScanned, least_place}
@@ -88,14 +90,19 @@ begins_alone sum size log s first H site from same end begins own behind alone =
       stands = on.0;
       reached = inl refl;
       led = inr (inl (omega (arith, begins, least)));
-      only = λ x found at. own x.slot (alone.only x (was x found));
-      own = λ x found at. here x (was x found);
-      last = λ x found. omega (arith, here x (was x found));
+      here = record {
+        only = λ x found at. own x.slot (alone.only x (was x found));
+        own = λ x found at. here x (was x found);
+        read = λ some.
+            let at = behind some in
+            let g : GoesOnIn on.0.scanned site.slot from site.place = subst (λ (ss : List Scanned). GoesOnIn ss site.slot from site.place) (sym on.1)
+            (subst (λ n. GoesOnIn alone.stands.scanned site.slot n site.place) (sym at.1) (subst (λ n. GoesOnIn alone.stands.scanned site.slot (stable % size) n) (sym begins) (alone.going site.slot at.0))) in
+            (from, Broken, record { scan = g.scan; there = g.there; in_slot = g.in_slot; at_place = g.at_place; ended = g.ended; ends = g.broken }, inl (refl, λ room. refl));
+      };
+      behind = λ x among. absurd (in_nothing x among);
+      apart = λ x among. absurd (in_nothing x among);
+      last = λ x found. inl (omega (arith, here x (was x found)));
       below = λ x found. (
           let known = (alone.stands.numbers.found x).1 (was x found) in
           less_than x.mark x.place reach (omega (arith, here x (was x found))) (alone.stands.marks x known).below);
-      going = λ some room.
-          let at = behind some in
-          subst (λ (ss : List Scanned). GoesOnIn ss site.slot from site.place) (sym on.1)
-          (subst (λ n. GoesOnIn alone.stands.scanned site.slot n site.place) (sym at.1) (subst (λ n. GoesOnIn alone.stands.scanned site.slot (stable % size) n) (sym begins) (alone.going site.slot at.0)));
     }
