@@ -15,7 +15,7 @@ use Rattle.sled_core.specs.declared.iobuf.Sealed.{Sealed}
 use Rattle.sled_core.specs.declared.iobuf.SegmentPosition.{SegmentPosition}
 use Rattle.sled_core.specs.declared.iterator.scan.ScannedRecord.{ScannedRecord}
 use Rattle.sled_core.specs.declared.iterator.scan.ScanEnd.TheVariants.{Full, Broken}
-use Rattle.sled_core.specs.Buffers.{IsChain, completed_in, message_in, none_open, Stands}
+use Rattle.sled_core.specs.Buffers.{IsChain, completed_in, message_in, none_open, NoPadding, Stands}
 use Rattle.sled_core.specs.LogFile.{HasHeader}
 use Rattle.sled_core.specs.Reached.{StandsAlone}
 use Rattle.sled_core.specs.Recoverable.{NoHeaderOfZeros, IsOfHistory}
@@ -25,6 +25,7 @@ use Rattle.sled_core.specs.Tail.{least_place}
 use Rattle.sled_core.proofs.Reached.BufferPath.{HasOnly, ending_at, never_capped, path_to, truth_to}
 use Rattle.sled_core.proofs.Reached.BufferStands.{met_as, met_in}
 use Rattle.sled_core.proofs.Reached.StandsTo.{StandsTo}
+use Rattle.sled_core.proofs.Reserve.Entries.{reserved_in}
 use Rattle.sled_core.proofs.Reserve.Ranges.{chain_grows}
 use Rattle.sled_core.proofs.Sealed.BehindUnwritten.{head_headed, head_room}
 use Rattle.sled_core.proofs.Sealed.Clear.{clear_behind, clear_on, run_ends}
@@ -52,7 +53,7 @@ module _ (sum : List ℕ → ℕ) (none : NoHeaderOfZeros sum) (size : ℕ) (som
     (place_begins : site.place % size ≡ 0) (slot_begins : site.slot % size ≡ 0) (place_small : site.place + size < 2 ^ 63) (slot_small : site.slot + size < 2 ^ 63)
     (bytes : List ℕ) (from : ℕ) (begins : (from ≡ 0) ⊎ (20 ≤ from)) (rs : List Reserved) (b : Sealed) (rest : List Sealed)
     (fresh : b.is_written ≡ false) (closed : b.open_count ≡ 0) (are : AreSealed from rs (b ∷ rest)) (rise : EndsRise from (b ∷ rest) size) (inside : b.end ≤ length bytes)
-    (stand : All (Stands sum (site.place / size) bytes) rs) (room : All (λ r. r.from + 32 ≤ size) rs)
+    (stand : All (Stands sum size (site.place / size) bytes) rs) (plain : All NoPadding rs)
     (header : from ≡ 0 → take 20 bytes ≡ short_header sum (pos site.place) (pos site.place -ℤ pos 1))
     (laid : Laid file site.slot bytes from (b ∷ rest) size) (reach : ℕ) (H : History) (first : SnapshotModel) (alone : StandsAlone sum size file site from reach H first) where
   abbrev asked : List ℕ
@@ -99,20 +100,23 @@ module _ (sum : List ℕ → ℕ) (none : NoHeaderOfZeros sum) (size : ℕ) (som
   agrees : Agrees new site.slot bytes from stop
   agrees = run_there new site.slot bytes from rs bs size are_new laid_now (omega (arith, up, far))
 
-  stand_done : All (Stands sum (site.place / size) bytes) done
-  stand_done = All-take (Stands sum (site.place / size) bytes) (b.count + run_count rest) rs stand
+  stand_done : All (Stands sum size (site.place / size) bytes) done
+  stand_done = All-take (Stands sum size (site.place / size) bytes) (b.count + run_count rest) rs stand
 
-  room_done : All (λ (r : Reserved). r.from + 32 ≤ size) done
-  room_done = All-take (λ (r : Reserved). r.from + 32 ≤ size) (b.count + run_count rest) rs room
+  plain_done : All NoPadding done
+  plain_done = All-take NoPadding (b.count + run_count rest) rs plain
 
   chain_done : IsChain (max 20 from) done stop
   chain_done = let same : max 20 stop ≡ stop = omega (arith, begun, far) in subst (λ n. IsChain (max 20 from) done n) same run.chain
 
   path : IsPath sum size new site.slot site.place (max 20 from) (met_in site bytes done) stop
-  path = path_to sum size site new bytes from stop agrees low place_begins slot_begins place_small slot_small done chain_done stand_done room_done run.ended
+  path = path_to sum size site new bytes from stop agrees low place_begins slot_begins place_small slot_small done chain_done stand_done plain_done run.ended
 
   lens : All (λ (r : Reserved). 5 ≤ r.len) rs
-  lens k d lt = let s = stand k d lt in let h = s.headed in let l = s.long in omega (arith, h, l)
+  lens k d lt = let s = (reserved_in sum size (site.place / size) bytes (get_or rs k d) (plain k d lt) (stand k d lt)).text in let h = s.headed in let l = s.long in omega (arith, h, l)
+
+  rooms : All (λ (r : Reserved). r.from + 32 ≤ size) rs
+  rooms k d lt = (reserved_in sum size (site.place / size) bytes (get_or rs k d) (plain k d lt) (stand k d lt)).room
 
   ends : IsEnd sum size new site.slot site.place stop (ending_at size stop)
   ends = run_ends sum new site bytes size stop (drop (b.count + run_count rest) rs) (behind_run rest) (omega (arith, begun, far)) (All-drop (λ (r : Reserved). 5 ≤ r.len) (b.count + run_count rest) rs lens)
@@ -134,10 +138,10 @@ module _ (sum : List ℕ → ℕ) (none : NoHeaderOfZeros sum) (size : ℕ) (som
       let here : Agrees new site.slot bytes from b.end = record { same = λ i above below. agrees.same i above (omega (arith, below, far)); in_file = omega (arith, in_file, far); in_bytes = inside } in
       let behind : Agrees new site.slot bytes b.end stop = record { same = λ i above below. agrees.same i (omega (arith, above, up)) below; in_file = in_file; in_bytes = in_bytes } in
       let path_own = path_to sum size site new bytes from b.end here (omega (arith, far, low)) place_begins slot_begins place_small slot_small own are.0.chain
-      (All-take (Stands sum (site.place / size) bytes) b.count rs stand) (All-take (λ (r : Reserved). r.from + 32 ≤ size) b.count rs room) own_closed in
+      (All-take (Stands sum size (site.place / size) bytes) b.count rs stand) (All-take NoPadding b.count rs plain) own_closed in
       let path_more = path_to sum size site new bytes b.end stop behind low place_begins slot_begins place_small slot_small more (subst (λ n. IsChain (max 20 b.end) more n) also rest_run.chain)
-      (All-take (Stands sum (site.place / size) bytes) (run_count rest) (drop b.count rs) (All-drop (Stands sum (site.place / size) bytes) b.count rs stand))
-      (All-take (λ (r : Reserved). r.from + 32 ≤ size) (run_count rest) (drop b.count rs) (All-drop (λ (r : Reserved). r.from + 32 ≤ size) b.count rs room)) rest_run.ended in
+      (All-take (Stands sum size (site.place / size) bytes) (run_count rest) (drop b.count rs) (All-drop (Stands sum size (site.place / size) bytes) b.count rs stand))
+      (All-take NoPadding (run_count rest) (drop b.count rs) (All-drop NoPadding b.count rs plain)) rest_run.ended in
       let path_on = subst (λ n. IsPath sum size new site.slot site.place n (met_in site bytes more) stop) same path_more in
       subst (λ (ms : List ScannedRecord). AreClear size b.end (max 20 from) ms) (sym (ap (met_in site bytes) two ∙ met_on site bytes own more))
       (clear_on sum size new site.slot site.place b.end (max 20 from) (met_in site bytes own) (met_in site bytes more) path_own
@@ -154,19 +158,19 @@ module _ (sum : List ℕ → ℕ) (none : NoHeaderOfZeros sum) (size : ℕ) (som
 
   module _ (has : HasOnly H (completed_in site bytes done) (site.place + max 20 from) (site.place + stop)) where
     truth : (x : ScannedRecord) → Contains (met_in site bytes done) x → IsOfHistory sum size new H x
-    truth = truth_to sum size site new bytes from stop agrees low place_begins slot_begins place_small slot_small H done chain_done stand_done room_done run.ended has
+    truth = truth_to sum size site new bytes from stop agrees low place_begins slot_begins place_small slot_small H done chain_done stand_done plain_done run.ended has
 
     -- What a crash leaves of it.
     pub torn_head_sealed : (now left : List ℕ) → length now ≤ length asked → LeavesLog (after_write file (site.slot + from) asked now) left → {placed : List (ℕ × List ℕ)}
         → NoForeignLog sum size (after_write file (site.slot + from) asked now) placed left → StandsTo sum size left H reach first reach
     torn_head_sealed now left no_more leaves {placed} only_own =
-        torn_head sum none size some file site from asked b.end covers (omega (arith, far, low)) (head_headed from rs b rest are) (head_room size from some begins rs b rest are room) place_begins slot_begins place_small headed clean
+        torn_head sum none size some file site from asked b.end covers (omega (arith, far, low)) (head_headed from rs b rest are) (head_room size from some begins rs b rest are rooms) place_begins slot_begins place_small headed clean
         reach H first alone (met_in site bytes done) stop (ending_at size stop) clear path ends truth (λ capped. absurd (never_capped size stop capped)) now left no_more leaves {placed = placed} only_own
 
     -- All of it, where the file reaches up to the slot.
     pub head_sealed_written : Ascends H.messages → site.slot ≤ length file → least_place size first ≤ site.place → ((c : Batch) → Contains H.batches c → c.low < site.place + stop → c.peg < site.place + stop) → HasHeader sum new site
         → StandsAlone sum size new site stop (site.place + stop) H first
     head_sealed_written ordered there low_enough ended has_header =
-        head_written sum none size some file site from asked b.end covers (omega (arith, far, low)) (head_headed from rs b rest are) (head_room size from some begins rs b rest are room) place_begins slot_begins place_small headed clean
+        head_written sum none size some file site from asked b.end covers (omega (arith, far, low)) (head_headed from rs b rest are) (head_room size from some begins rs b rest are rooms) place_begins slot_begins place_small headed clean
         reach H first alone (met_in site bytes done) stop (ending_at size stop) clear path ends truth (λ capped. absurd (never_capped size stop capped)) ordered there low_enough ended has_header
         (λ more. let test : nat_lt size (stop + 32) ≡ false = grind (arith, nat_tests, more) in ap (λ (o : Bool). if o then Full else Broken) test)

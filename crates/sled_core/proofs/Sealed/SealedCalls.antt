@@ -10,7 +10,7 @@ use Rattle.sled_store.proofs.Histories.Ascending.{Ascends}
 use Rattle.sled_core.specs.declared.iobuf.Reserved.{Reserved}
 use Rattle.sled_core.specs.declared.iobuf.Sealed.{Sealed}
 use Rattle.sled_core.specs.declared.iobuf.SegmentPosition.{SegmentPosition}
-use Rattle.sled_core.specs.Buffers.{completed_in, Stands}
+use Rattle.sled_core.specs.Buffers.{NoPadding, Stands, completed_in}
 use Rattle.sled_core.specs.LogFile.{HasHeader, padded}
 use Rattle.sled_core.specs.Reached.{StandsAlone}
 use Rattle.sled_core.specs.Recoverable.{NoHeaderOfZeros}
@@ -36,7 +36,7 @@ module _ (sum : List ℕ → ℕ) (size : ℕ) (some : 256 ≤ size) (old : List
 
   -- The first buffer.
   module _ (b : Sealed) (rest : List Sealed) (fresh : b.is_written ≡ false) (closed : b.open_count ≡ 0) (are : AreSealed from rs (b ∷ rest)) (rise : EndsRise from (b ∷ rest) size) (inside : b.end ≤ length bytes)
-      (stand : All (Stands sum (site.place / size) bytes) rs) (room : All (λ r. r.from + 32 ≤ size) rs) (header : from ≡ 0 → take 20 bytes ≡ short_header sum (pos site.place) (pos site.place -ℤ pos 1))
+      (header : from ≡ 0 → take 20 bytes ≡ short_header sum (pos site.place) (pos site.place -ℤ pos 1))
       (old_header : 0 < from → HasHeader sum old site) (laid : Laid old site.slot bytes from (b ∷ rest) size) where
     abbrev asked : List ℕ
     asked = bytes_between bytes from b.end
@@ -79,11 +79,11 @@ module _ (sum : List ℕ → ℕ) (size : ℕ) (some : 256 ≤ size) (old : List
         record { mark = h.mark; header = subst (λ (l : List ℕ). IsHeader sum l (pos site.place) h.mark) (sym (part-append new (replicate (to - length new) 0) site.slot 20 long)) h.header; below = h.below }
 
     -- A reader reads up to the end of those that are written now.
-    pub first_alone : NoHeaderOfZeros sum → (reach : ℕ) (H : History) (first : SnapshotModel) → HasOnly H (completed_in site bytes (take (b.count + run_count rest) rs)) (site.place + max 20 from) (site.place + run_end b.end rest)
+    pub first_alone : All (Stands sum size (site.place / size) bytes) rs → All NoPadding rs → NoHeaderOfZeros sum → (reach : ℕ) (H : History) (first : SnapshotModel) → HasOnly H (completed_in site bytes (take (b.count + run_count rest) rs)) (site.place + max 20 from) (site.place + run_end b.end rest)
         → Ascends H.messages → least_place size first ≤ site.place → ((c : Batch) → Contains H.batches c → c.low < site.place + run_end b.end rest → c.peg < site.place + run_end b.end rest)
         → (to : ℕ) → site.slot ≤ to → StandsAlone sum size (filled to) site from reach H first → StandsAlone sum size (padded to new) site (run_end b.end rest) (site.place + run_end b.end rest) H first
-    first_alone zeros reach H first has ordered low ended to far alone = subst (λ (l : List ℕ). StandsAlone sum size l site (run_end b.end rest) (site.place + run_end b.end rest) H first) (same_file to)
-        (head_sealed_written sum zeros size some (filled to) site place_begins slot_begins place_small slot_small bytes from begins rs b rest fresh closed are rise inside stand room header (laid_filled to) reach H first alone has
+    first_alone stand plain zeros reach H first has ordered low ended to far alone = subst (λ (l : List ℕ). StandsAlone sum size l site (run_end b.end rest) (site.place + run_end b.end rest) H first) (same_file to)
+        (head_sealed_written sum zeros size some (filled to) site place_begins slot_begins place_small slot_small bytes from begins rs b rest fresh closed are rise inside stand plain header (laid_filled to) reach H first alone has
         ordered (omega (arith, padded_long to old, far)) low ended (subst (λ (l : List ℕ). HasHeader sum l site) (sym (same_file to)) (padded_header to)))
 
   -- Another one, behind a first one that isn't written.
