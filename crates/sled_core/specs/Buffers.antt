@@ -118,6 +118,21 @@ abbrev pub IsChain : ℕ → List Reserved → ℕ → Type 0
 IsChain from [] end = from ≡ end
 IsChain from (r ∷ rs) end = (r.from ≡ from) × IsChain (from + r.len) rs end
 
+-- what fills a segment, and is no reservation
+abbrev pub padding_state : ReservationState → Bool
+padding_state Padding = true
+padding_state _ = false
+
+-- the entries in front of what fills the segment: those of its records
+abbrev pub records_of : List Reserved → List Reserved
+records_of [] = []
+records_of (r ∷ rs) = if padding_state r.state then [] else r ∷ records_of rs
+
+-- where these end, of entries that end there
+abbrev pub records_end : List Reserved → ℕ → ℕ
+records_end [] end = end
+records_end (r ∷ rs) end = if padding_state r.state then r.from else records_end rs end
+
 -- the message of a reservation before these, if it was completed
 abbrev pub with_own : ReservationState → Message → List Message → List Message
 with_own Open m ms = ms

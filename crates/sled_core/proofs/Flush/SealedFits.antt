@@ -1,5 +1,5 @@
 -- One of the sealed buffers of a log is written at its place, and synced: at each moment a crash leaves what can be recovered, and behind it the log fits the same history. The buffers at the front that are written leave the list.
-use Rattle.std.proofs.Common.{◌≡◌, ◌==◌, ◌⊎◌, ◌≤◌, ◌<◌, ◌+◌, ◌/◌, ◌^◌, ◌∙◌, ℕ, zero, suc, max, Bool, true, false, if◌then◌else◌, List, [], ◌∷◌, ◌++◌, length, take, drop, get_or, sym, ap, arith, refl, subst, inl, inr, Option, None, Some, append_assoc}
+use Rattle.std.proofs.Common.{◌≡◌, ◌==◌, ◌⊎◌, ◌≤◌, ◌<◌, ◌+◌, ◌/◌, ◌^◌, ◌∙◌, ℕ, zero, suc, max, Bool, true, false, if◌then◌else◌, List, [], ◌∷◌, ◌++◌, length, take, drop, sym, ap, arith, refl, subst, inl, inr, Option, None, Some, append_assoc}
 use Rattle.std.specs.List.{All, Contains, slice_get}
 use Rattle.std.specs.declared.io.Error.{Error as IoError}
 use Rattle.std.proofs.lemmas.Bool.{cases_lt}
@@ -24,7 +24,7 @@ use Rattle.sled_core.specs.Reached.{StandsAlone}
 use Rattle.sled_core.specs.Recoverable.{LeavesRecoverable, NoHeaderOfZeros}
 use Rattle.sled_core.specs.Running.{FitsIn, NamesFit}
 use Rattle.sled_core.specs.SealedBuffers.{AreSealed, FirstUnwritten, Laid, sealed_end, now_written, written_at, run_end, run_count, behind_run, bytes_between, is_ready}
-use Rattle.sled_core.proofs.Reserve.Entries.{reserved_in, some_long}
+use Rattle.sled_core.proofs.Reserve.Entries.{some_long}
 use Rattle.sled_core.proofs.Reserve.Ranges.{chain_grows, completed-append, completed_between, there_split}
 use Rattle.sled_core.proofs.Flush.Completed.{all_apart, all_ascend, batches_to, has_only, inline_from, none_crosses}
 use Rattle.sled_core.proofs.Flush.FlushLemmas.{begun-more}
@@ -33,7 +33,7 @@ use Rattle.sled_core.proofs.Flush.Settled.{InlineFrom, rests}
 use Rattle.sled_core.proofs.Flush.SealedFile.{chain_done, file_beside, first_file, stop_up}
 use Rattle.sled_core.proofs.Reached.BufferPath.{HasOnly}
 use Rattle.sled_core.proofs.Reached.StandsTo.{StandsTo}
-use Rattle.sled_core.proofs.Sealed.BehindUnwritten.{torn_behind_unwritten}
+use Rattle.sled_core.proofs.Sealed.BehindUnwritten.{plain_room, torn_behind_unwritten}
 use Rattle.sled_core.proofs.Sealed.Ended.{chain_rest, ends_rise}
 use Rattle.sled_core.proofs.Sealed.HeadSealed.{torn_head_sealed}
 use Rattle.sled_core.proofs.Sealed.LaidLemmas.{EndsRise, ends_below}
@@ -237,8 +237,8 @@ module _ (sum : List ℕ → ℕ) (size : ℕ) (site : SegmentPosition) (device 
   torn_first : NoHeaderOfZeros sum → StandsAlone sum size old site from (site.place + from) H holds.begun.first → (now left : List ℕ) → length now ≤ length asked → LeavesLog (after_write old (site.slot + from) asked now) left → (placed : List (ℕ × List ℕ))
       → NoForeignLog sum size (after_write old (site.slot + from) asked now) placed left → StandsTo sum size left H (site.place + from) holds.begun.first (site.place + from)
   torn_first zeros alone now left no_more leaves placed only_own =
-      torn_head_sealed sum zeros size big old site holds.place_begins holds.slot_begins place_small slot_small bytes from first_begins rs b rest fresh closed are rise_size inside holds.stand holds.plain holds.header (holds.laid whole)
-      (site.place + from) H holds.begun.first alone has_first now left no_more leaves {placed = placed} only_own
+      torn_head_sealed sum zeros size big old site holds.place_begins holds.slot_begins place_small slot_small bytes from first_begins rs b rest fresh closed are rise_size inside holds.stand
+      (plain_room sum size (site.place / size) bytes from big first_begins rs b rest are holds.stand holds.plain) holds.header (holds.laid whole) (site.place + from) H holds.begun.first alone has_first now left no_more leaves {placed = placed} only_own
 
   -- All of it.
   alone_first : NoHeaderOfZeros sum → (end : ℕ) → site.slot ≤ end → StandsAlone sum size (padded end old) site from (site.place + from) H holds.begun.first
@@ -313,26 +313,18 @@ module _ (sum : List ℕ → ℕ) (size : ℕ) (site : SegmentPosition) (device 
   unfolding holds_later
   later_same new is names = refl
 
-  -- a record is longer than its sum and its kind
-  long_records : All (λ r. 5 ≤ r.len) rs
-  long_records k d lt = let s = (reserved_in sum size (site.place / size) bytes (get_or rs k d) (holds.plain k d lt) (holds.stand k d lt)).text in let h = s.headed in let l = s.long in omega (arith, h, l)
-
-  -- and has room for the longest header
-  rooms : All (λ r. r.from + 32 ≤ size) rs
-  rooms k d lt = (reserved_in sum size (site.place / size) bytes (get_or rs k d) (holds.plain k d lt) (holds.stand k d lt)).room
-
   -- What a crash leaves of the write.
   torn_later : x.is_written ≡ false → NoHeaderOfZeros sum → StandsAlone sum size old_later site from (site.place + from) H holds.begun.first → (now left : List ℕ) → length now ≤ length asked_later
       → LeavesLog (after_write old_later (site.slot + at) asked_later now) left → (placed : List (ℕ × List ℕ)) → NoForeignLog sum size (after_write old_later (site.slot + at) asked_later now) placed left
       → StandsTo sum size left H (site.place + from) holds.begun.first (site.place + from)
   torn_later fresh zeros alone now left no_more leaves placed only_own =
-      torn_behind_unwritten sum zeros size big old_later site holds.slot_begins bytes from later_begins rs x xs b rest fresh are rise_later lies.2 long_records rooms (site.place + from) H holds.begun.first old_later (holds.laid whole)
+      torn_behind_unwritten sum zeros size big old_later site holds.slot_begins bytes from later_begins rs x xs b rest fresh are rise_later lies.2 (site.place / size) holds.stand (site.place + from) H holds.begun.first old_later (holds.laid whole)
       alone now left no_more leaves {placed = placed} only_own
 
   -- All of it.
   alone_later : x.is_written ≡ false → NoHeaderOfZeros sum → (end : ℕ) → site.slot ≤ end → StandsAlone sum size (padded end old_later) site from (site.place + from) H holds.begun.first
       → StandsAlone sum size (padded end new_later) site from (site.place + from) H holds.begun.first
-  alone_later fresh zeros = later_alone sum size big old_later site holds.place_begins holds.slot_begins place_small slot_small bytes from later_begins rs x xs b rest fresh are rise_later lies.2 long_records rooms (holds.laid whole)
+  alone_later fresh zeros = later_alone sum size big old_later site holds.place_begins holds.slot_begins place_small slot_small bytes from later_begins rs x xs b rest fresh are rise_later lies.2 (site.place / size) holds.stand (holds.laid whole)
       zeros (site.place + from) H holds.begun.first
 
   -- so the file reaches its slot

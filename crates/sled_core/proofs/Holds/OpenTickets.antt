@@ -13,7 +13,7 @@ by_first Completed rest is = ((λ same. cc), is)
 by_first Canceled rest is = ((λ same. cc), is)
 by_first Padding rest is = ((λ same. cc), is)
 
-both_ended : (s : ReservationState) (rest : List Reserved) → (s ≡ Open → ⊥) → none_open rest ≡ true → (if open_state s then false else none_open rest) ≡ true
+pub both_ended : (s : ReservationState) (rest : List Reserved) → (s ≡ Open → ⊥) → none_open rest ≡ true → (if open_state s then false else none_open rest) ≡ true
 both_ended Open rest not_open ended = absurd (not_open refl)
 both_ended Completed rest not_open ended = ended
 both_ended Canceled rest not_open ended = ended

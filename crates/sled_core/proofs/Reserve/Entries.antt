@@ -1,5 +1,5 @@
 -- What stands in an entry, by whether it is a reservation or a padding.
-use Rattle.std.proofs.Common.{◌≡◌, ◌≢◌, ◌≤◌, ◌<◌, ◌∙◌, ℕ, List, sym, refl, subst, arith}
+use Rattle.std.proofs.Common.{◌≡◌, ◌≢◌, ◌⊎◌, ◌≤◌, ◌<◌, ◌+◌, ◌∙◌, ℕ, List, sym, refl, subst, arith, inl, inr}
 use Rattle.std.specs.List.{All}
 use Rattle.sled_core.specs.declared.iobuf.ReservationState.{ReservationState}
 use Rattle.sled_core.specs.declared.iobuf.ReservationState.TheVariants.{Open, Completed, Canceled, Padding}
@@ -12,6 +12,14 @@ open_plain s is same = let both : Open ≡ Padding = sym is ∙ same in cc
 
 pub completed_plain : (s : ReservationState) → s ≡ Completed → s ≢ Padding
 completed_plain s is same = let both : Completed ≡ Padding = sym is ∙ same in cc
+
+-- an entry is longer than the sum and the kind of a record, or it ends where the segment does
+abbrev pub IsLong : ℕ → Reserved → Type 0
+IsLong size r = (5 ≤ r.len) ⊎ (size ≤ r.from + r.len)
+
+-- the longest header has room in it, or it ends where the segment does
+abbrev pub HasSpace : ℕ → Reserved → Type 0
+HasSpace size r = (r.from + 32 ≤ size) ⊎ (size ≤ r.from + r.len)
 
 module _ (sum : List ℕ → ℕ) (size number : ℕ) where
   module _ (bytes : List ℕ) (r : Reserved) where
@@ -50,8 +58,27 @@ module _ (sum : List ℕ → ℕ) (size number : ℕ) where
     pub some_in : Stands sum size number bytes r → 0 < r.len
     some_in stands = by_some r.state stands
 
+    -- and more, where it doesn't end with the segment
+    reserved_long : StandsReserved sum size number bytes r → IsLong size r × HasSpace size r
+    reserved_long stands = let a = stands.text.headed in let b = stands.text.long in (inl (omega (arith, a, b)), inl stands.room)
+
+    by_long : (s : ReservationState) → StandsBy s sum size number bytes r → IsLong size r × HasSpace size r
+    by_long Open stands = reserved_long stands
+    by_long Completed stands = reserved_long stands
+    by_long Canceled stands = reserved_long stands
+    by_long Padding stands = let at = stands.to_end in (inr (omega (arith, at)), inr (omega (arith, at)))
+
+    pub long_in : Stands sum size number bytes r → IsLong size r × HasSpace size r
+    long_in stands = by_long r.state stands
+
   pub some_long : (bytes : List ℕ) (rs : List Reserved) → All (Stands sum size number bytes) rs → All (λ x. 0 < x.len) rs
   some_long bytes rs all k d lt = some_in bytes _ (all k d lt)
+
+  pub all_long : (bytes : List ℕ) (rs : List Reserved) → All (Stands sum size number bytes) rs → All (IsLong size) rs
+  all_long bytes rs all k d lt = (long_in bytes _ (all k d lt)).0
+
+  pub all_space : (bytes : List ℕ) (rs : List Reserved) → All (Stands sum size number bytes) rs → All (HasSpace size) rs
+  all_space bytes rs all k d lt = (long_in bytes _ (all k d lt)).1
 
   -- Where a text and a body are the same, what stands there is.
   module _ (old new : List ℕ) (r : Reserved) (text : text_in new r ≡ text_in old r) (body : r.header_len ≤ r.len → body_in new r ≡ body_in old r) where
