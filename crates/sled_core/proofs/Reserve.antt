@@ -1,4 +1,5 @@
 pub mod CompletesLemmas
+pub mod Entries
 pub mod Heads
 pub mod OpenCounts
 pub mod Parts

@@ -14,6 +14,7 @@ pub mod LaidLemmas
 pub mod Marked
 pub mod OneWritten
 pub mod Progress
+pub mod RecordsEnd
 pub mod Runs
 pub mod SealedCalls
 pub mod SealedCounts

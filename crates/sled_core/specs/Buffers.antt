@@ -10,16 +10,18 @@ use Rattle.sled_codec.specs.Places.{part}
 use Rattle.sled_codec.specs.Record.{record_sum, short_record}
 use Rattle.sled_codec.specs.History.{Message}
 use Rattle.sled_core.specs.declared.iobuf.ReservationState.{ReservationState}
-use Rattle.sled_core.specs.declared.iobuf.ReservationState.TheVariants.{Open, Completed, Canceled}
+use Rattle.sled_core.specs.declared.iobuf.ReservationState.TheVariants.{Open, Completed, Canceled, Padding}
 use Rattle.sled_core.specs.declared.iobuf.Reserved.{Reserved}
 use Rattle.sled_core.specs.declared.iobuf.Purpose.{Purpose}
 use Rattle.sled_core.specs.declared.iobuf.SegmentPosition.{SegmentPosition}
+use Rattle.sled_core.specs.Caps.{segment_rest}
 
 -- neither completed nor aborted
 abbrev pub open_state : ReservationState → Bool
 open_state Open = true
 open_state Completed = false
 open_state Canceled = false
+open_state Padding = false
 
 -- the bytes that a reservation has in its segment
 abbrev pub text_in : List ℕ → Reserved → List ℕ
@@ -41,11 +43,12 @@ placeholder_head head = replicate 5 0 ++ drop 5 head
 abbrev pub placeholder : List ℕ → List ℕ
 placeholder whole = replicate 5 0 ++ drop 5 whole
 
--- What a reservation of this page and kind is to hold, with this body: while it is open a placeholder, then its record, and once it was aborted one that is passed over.
+-- What a reservation of this page and kind is to hold, with this body: while it is open a placeholder, then its record, and once it was aborted one that is passed over. (A padding is none.)
 abbrev pub text_as : (List ℕ → ℕ) → MessageKind → ℕ → ℕ → List ℕ → ReservationState → List ℕ
 text_as sum k page number body Open = placeholder (short_record sum k page number body)
 text_as sum k page number body Completed = short_record sum k page number body
 text_as sum k page number body Canceled = short_record sum kind.Canceled page number body
+text_as sum k page number body Padding = []
 
 -- This text and this body in it are what a reservation is to hold.
 pub record StandsAs (sum : List ℕ → ℕ) (number : ℕ) (text body : List ℕ) (r : Reserved) : Type 0 where
@@ -58,9 +61,37 @@ pub record StandsAs (sum : List ℕ → ℕ) (number : ℕ) (text body : List �
   pub counted : r.header_len ≡ 4 + length (short_header_tail r.kind (length body) number r.page)
   pub is : text ≡ text_as sum r.kind r.page number body r.state
 
--- what stands in a reservation
-abbrev pub Stands : (List ℕ → ℕ) → ℕ → List ℕ → Reserved → Type 0
-Stands sum number bytes r = StandsAs sum number (text_in bytes r) (body_in bytes r) r
+-- what a reservation has in these bytes
+abbrev pub HasText : (List ℕ → ℕ) → ℕ → List ℕ → Reserved → Type 0
+HasText sum number bytes r = StandsAs sum number (text_in bytes r) (body_in bytes r) r
+
+-- What stands in a reservation, where the longest header of a record has room.
+pub record StandsReserved (sum : List ℕ → ℕ) (size number : ℕ) (bytes : List ℕ) (r : Reserved) : Type 0 where
+  pub room : r.from + 32 ≤ size
+  pub text : HasText sum number bytes r
+
+-- What fills a segment to its end, behind its last record.
+pub record IsPadding (sum : List ℕ → ℕ) (size number : ℕ) (bytes : List ℕ) (r : Reserved) : Type 0 where
+  pub some : 0 < r.len
+  pub to_end : r.from + r.len ≡ size
+  pub is : text_in bytes r ≡ segment_rest sum size number r.from
+
+-- what stands in an entry of this state
+abbrev pub StandsBy : ReservationState → (List ℕ → ℕ) → ℕ → ℕ → List ℕ → Reserved → Type 0
+StandsBy Padding sum size number bytes r = IsPadding sum size number bytes r
+StandsBy _ sum size number bytes r = StandsReserved sum size number bytes r
+
+-- what stands in an entry, in a segment of this size and number
+abbrev pub Stands : (List ℕ → ℕ) → ℕ → ℕ → List ℕ → Reserved → Type 0
+Stands sum size number bytes r = StandsBy r.state sum size number bytes r
+
+-- an entry that is a reservation
+abbrev pub NoPadding : Reserved → Type 0
+NoPadding r = r.state ≢ Padding
+
+-- An entry has a byte at least, and while it is open a header with a sum and a kind.
+abbrev pub IsHeaded : Reserved → Type 0
+IsHeaded r = (0 < r.len) × (r.state ≡ Open → (5 ≤ r.header_len) × (r.header_len ≤ r.len))
 
 -- the reservation that is made at an offset for a message, with this sum
 abbrev pub reserved_for : Purpose → ℕ → ℕ → ℕ → ℕ → Reserved
@@ -87,11 +118,27 @@ abbrev pub IsChain : ℕ → List Reserved → ℕ → Type 0
 IsChain from [] end = from ≡ end
 IsChain from (r ∷ rs) end = (r.from ≡ from) × IsChain (from + r.len) rs end
 
+-- what fills a segment, and is no reservation
+abbrev pub padding_state : ReservationState → Bool
+padding_state Padding = true
+padding_state _ = false
+
+-- the entries in front of what fills the segment: those of its records
+abbrev pub records_of : List Reserved → List Reserved
+records_of [] = []
+records_of (r ∷ rs) = if padding_state r.state then [] else r ∷ records_of rs
+
+-- where these end, of entries that end there
+abbrev pub records_end : List Reserved → ℕ → ℕ
+records_end [] end = end
+records_end (r ∷ rs) end = if padding_state r.state then r.from else records_end rs end
+
 -- the message of a reservation before these, if it was completed
 abbrev pub with_own : ReservationState → Message → List Message → List Message
 with_own Open m ms = ms
 with_own Completed m ms = m ∷ ms
 with_own Canceled m ms = ms
+with_own Padding m ms = ms
 
 -- the messages of the reservations that were completed, by place
 abbrev pub completed_in : SegmentPosition → List ℕ → List Reserved → List Message

@@ -18,7 +18,7 @@ use Rattle.sled_core.specs.declared.iobuf.SegmentPosition.{SegmentPosition}
 use Rattle.sled_core.specs.declared.reservation.Reservation.{Reservation}
 use Rattle.sled_core.specs.declared.logger.Log.{Log}
 use Rattle.sled_store.specs.declared.config.RunningConfig.{RunningConfig}
-use Rattle.sled_core.specs.Buffers.{Stands, IsChain, completed_in, message_in, none_open, open_in, first_open_in, end_reserved, record_size}
+use Rattle.sled_core.specs.Buffers.{NoPadding, Stands, IsChain, completed_in, message_in, none_open, open_in, first_open_in, end_reserved, record_size}
 use Rattle.sled_core.specs.LogFile.{IsLogFile}
 use Rattle.sled_core.specs.Recoverable.{IsMarkOf}
 use Rattle.sled_core.specs.SealedBuffers.{AreZeros, Laid, behind_run, buffer_writes, bytes_between, current_buffer, first_ready, ready_count, ready_marked, ready_write, ready_writes, reserved_below, run_count, run_end, seal_at, sealed_count, sealed_end, writing, written_at}
@@ -185,8 +185,9 @@ pub record HoldsIn (sum : List ℕ → ℕ) (parts : LogParts) (H : History) : T
   pub slot_begins : parts.site.slot % parts.size ≡ 0
   pub header : parts.written_len ≡ 0 → HasMark sum parts.site parts.bytes H
   pub chain : IsChain (max 20 parts.written_len) parts.reserved (length parts.bytes)
-  pub stand : All (Stands sum (parts.site.place / parts.size) parts.bytes) parts.reserved
-  pub room : All (λ r. r.from + 32 ≤ parts.size) parts.reserved
+  pub stand : All (Stands sum parts.size (parts.site.place / parts.size) parts.bytes) parts.reserved
+  -- none fills the segment, until a log begins further segments
+  pub plain : All NoPadding parts.reserved
   pub begun : IsBegunFrom sum parts.size parts.device.snapshots.file parts.site parts.written_len H
   pub written : parts.fault ≡ None → IsOnDevice sum parts.size parts.device.log parts.site parts.written_len earlier (table H (stable_place begun.first.stable))
   -- what the log file has of the sealed buffers, and zeros behind them

@@ -4,7 +4,7 @@ ghost use Rattle.std.specs.Prelude.{◌≡◌, ◌+◌, ◌-◌, ◌<◌, ◌≤
 ghost use Rattle.std.specs.VecDeque.{deque_len, deque_capacity};
 ghost use Rattle.sled_codec.specs.Written.{written};
 ghost use Rattle.sled_core.specs.declared.iobuf.Reserved.{Reserved};
-ghost use Rattle.sled_core.specs.Buffers.{IsChain, canceling, completing, ended, ending, first_open_in, most_open, open_in, open_state, placeholder_head, reserved_for};
+ghost use Rattle.sled_core.specs.Buffers.{IsChain, IsHeaded, canceling, completing, ended, ending, first_open_in, most_open, open_in, open_state, placeholder_head, reserved_for};
 ghost use Rattle.sled_core.specs.SealedBuffers.{AreSealed, FirstUnwritten, one_ended, sealed_count, sealed_end};
 ghost use Rattle.sled_core.specs.SealedProps.{IsChain-prop, AreSealed-prop, FirstUnwritten-prop};
 
@@ -41,7 +41,7 @@ pub(crate) struct Purpose {
     pub(crate) page: PageId,
 }
 
-/// What became of a reservation.
+/// What became of a reservation, or what there is in its place.
 #[derive(Debug, Clone, Copy)]
 pub(crate) enum ReservationState {
     /// It was neither completed nor aborted. It counts as open too where its ticket was abandoned.
@@ -50,6 +50,8 @@ pub(crate) enum ReservationState {
     Completed,
     /// It was aborted: its record is one that is passed over.
     Canceled,
+    /// No reservation: what fills the segment behind its last record.
+    Padding,
 }
 
 impl ReservationState {
@@ -58,7 +60,8 @@ impl ReservationState {
     {
         match self {
             ReservationState::Open => true,
-            ReservationState::Completed | ReservationState::Canceled => false,
+            ReservationState::Completed | ReservationState::Canceled | ReservationState::Padding =>
+                false,
         }
     }
 }
@@ -117,7 +120,7 @@ pub(crate) struct IoBuf {
     ghost begun: { 20 ≤ length bytes.items },
     ghost behind: { begin ≤ length bytes.items },
     ghost within: { All (λ r. r.from + r.len ≤ length bytes.items) reserved.items },
-    ghost headed: { All (λ r. (5 ≤ r.header_len) × (r.header_len ≤ r.len)) reserved.items },
+    ghost headed: { All IsHeaded reserved.items },
     ghost numbered: { gone + length reserved.items ≤ length bytes.items },
     ghost head: { FirstUnwritten sealed.items } by { FirstUnwritten-prop sealed.items },
     ghost are: { AreSealed written_len reserved.items sealed.items } by { AreSealed-prop written_len reserved.items sealed.items },

@@ -8,7 +8,7 @@ use Rattle.sled_codec.specs.History.{Message, Batch, History}
 use Rattle.sled_codec.specs.WellFormed.{LieApart}
 use Rattle.sled_store.specs.Device.{State}
 use Rattle.sled_store.proofs.Histories.Ascending.{Ascends, apart_ascends}
-use Rattle.sled_core.specs.declared.iobuf.ReservationState.TheVariants.{Open, Completed, Canceled}
+use Rattle.sled_core.specs.declared.iobuf.ReservationState.TheVariants.{Open, Completed, Canceled, Padding}
 use Rattle.sled_core.specs.declared.iobuf.Reserved.{Reserved}
 use Rattle.sled_core.specs.declared.iobuf.Sealed.{Sealed}
 use Rattle.sled_core.specs.declared.iobuf.SegmentPosition.{SegmentPosition}
@@ -16,7 +16,7 @@ use Rattle.sled_core.specs.Buffers.{IsChain, completed_in, message_in, with_own}
 use Rattle.sled_core.specs.Fits.{log_parts, HoldsIn, EndBelow, CloseBelow}
 use Rattle.sled_core.proofs.Reached.BufferPath.{HasOnly}
 use Rattle.sled_core.proofs.Reserve.Ranges.{all_own, chain_grows, completed_between}
-use Rattle.sled_core.proofs.Reserve.CompletesLemmas.{some_long}
+use Rattle.sled_core.proofs.Reserve.Entries.{some_long}
 use Rattle.sled_core.proofs.Flush.Settled.{InlineFrom}
 
 -- messages that lie apart, and below others that do
@@ -37,7 +37,7 @@ completed_apart site bytes from end (r ∷ rs) is some =
     let rest : LieApart (completed_in site bytes rs) = completed_apart site bytes (from + r.len) end rs is.1 (All-tail (λ x. 0 < x.len) r rs some) in
     let over : All (λ n. site.place + r.from + r.len ≤ n.place) (completed_in site bytes rs) = λ k d lt. let b = later k d lt in omega (arith, b.0, here) in
     elim r.state as (λ s. LieApart (with_own s (message_in site bytes r) (completed_in site bytes rs)))
-    [ Open ↦ rest | Completed ↦ (long, over, rest) | Canceled ↦ rest ]
+    [ Open ↦ rest | Completed ↦ (long, over, rest) | Canceled ↦ rest | Padding ↦ rest ]
 
 -- and has its items in its records
 abbrev IsInline : Message → Type 0
@@ -54,7 +54,7 @@ module _ (sum : List ℕ → ℕ) (size : ℕ) (site : SegmentPosition) (device 
   done = completed_in site bytes rs
 
   long : All (λ r. 0 < r.len) rs
-  long = some_long sum (site.place / size) bytes rs holds.stand
+  long = some_long sum size (site.place / size) bytes rs holds.stand
 
   -- the bytes reach as far as what was written
   pub grows : max 20 from ≤ length bytes

@@ -16,8 +16,9 @@ use Rattle.sled_store.specs.SnapshotFiles.{BeginsFrom}
 use Rattle.sled_core.specs.declared.iobuf.Reserved.{Reserved}
 use Rattle.sled_core.specs.declared.iobuf.Sealed.{Sealed}
 use Rattle.sled_core.specs.declared.iobuf.SegmentPosition.{SegmentPosition}
-use Rattle.sled_core.specs.Buffers.{IsChain, completed_in, Stands}
+use Rattle.sled_core.specs.Buffers.{IsChain, NoPadding, Stands, completed_in}
 use Rattle.sled_core.specs.Fits.{log_parts, HoldsIn, IsOnDevice, IsBegunFrom, IsKept, EndBelow}
+use Rattle.sled_core.proofs.Reserve.Entries.{reserved_in, some_in}
 use Rattle.sled_core.proofs.Reserve.Ranges.{chain_grows}
 use Rattle.sled_core.specs.SealedBuffers.{AreSealed, FirstUnwritten}
 use Rattle.sled_core.proofs.Sealed.Zeros.{rest_zeros}
@@ -39,29 +40,29 @@ pub fault_or_none : (o : Option IoError) → (o ≡ None) ⊎ ((e : IoError) × 
 fault_or_none None = inl refl
 fault_or_none (Some e) = inr (e, refl)
 
--- a chain of something that is as long as a header is longer than nothing
-chain_some : (sum : List ℕ → ℕ) (number : ℕ) (bytes : List ℕ) (from end : ℕ) (rs : List Reserved) → 0 < length rs → All (Stands sum number bytes) rs → IsChain (max 20 from) rs end → from < end
-chain_some sum number bytes from end [] some stand chain = absurd (omega (arith, some))
-chain_some sum number bytes from end (r ∷ rs) some stand chain =
-    let s = stand 0 r (omega arith) in
-    let h = s.headed in let l = s.long in
+-- a chain of something is longer than nothing
+chain_some : (sum : List ℕ → ℕ) (size number : ℕ) (bytes : List ℕ) (from end : ℕ) (rs : List Reserved) → 0 < length rs → All (Stands sum size number bytes) rs → IsChain (max 20 from) rs end → from < end
+chain_some sum size number bytes from end [] some stand chain = absurd (omega (arith, some))
+chain_some sum size number bytes from end (r ∷ rs) some stand chain =
+    let long = some_in sum size number bytes r (stand 0 r (omega arith)) in
     let rest = chain_grows (max 20 from + r.len) end rs chain.1 in
-    omega (arith, h, l, rest)
+    omega (arith, long, rest)
 
 -- where something is reserved a record has room behind what was written
-chain_room : (size from end : ℕ) (rs : List Reserved) → 0 < length rs → All (λ r. r.from + 32 ≤ size) rs → IsChain (max 20 from) rs end → from + 32 ≤ size
-chain_room size from end [] some room chain = absurd (omega (arith, some))
-chain_room size from end (r ∷ rs) some room chain = let fits : r.from + 32 ≤ size = room 0 r (omega arith) in omega (arith, fits, chain.0)
+chain_room : (sum : List ℕ → ℕ) (size number : ℕ) (bytes : List ℕ) (from end : ℕ) (rs : List Reserved) → 0 < length rs → All (Stands sum size number bytes) rs → All NoPadding rs → IsChain (max 20 from) rs end → from + 32 ≤ size
+chain_room sum size number bytes from end [] some stand plain chain = absurd (omega (arith, some))
+chain_room sum size number bytes from end (r ∷ rs) some stand plain chain =
+    let fits = (reserved_in sum size number bytes r (plain 0 r (omega arith)) (stand 0 r (omega arith))).room in omega (arith, fits, chain.0)
 
 module _ (sum : List ℕ → ℕ) (size : ℕ) (site : SegmentPosition) (device : State) (fault : Option IoError) (bytes : List ℕ) (from : ℕ) (bs : List Sealed) (rs : List Reserved) (H : History)
     (holds : HoldsIn sum (log_parts size site device fault bytes from bs rs) H) where
   -- Something was reserved, so there is something to write, and room where it begins.
 
   pub grown : 0 < length rs → from < length bytes
-  grown some = chain_some sum (site.place / size) bytes from (length bytes) rs some holds.stand holds.chain
+  grown some = chain_some sum size (site.place / size) bytes from (length bytes) rs some holds.stand holds.chain
 
   pub has_room : 0 < length rs → from + 32 ≤ size
-  has_room some = chain_room size from (length bytes) rs some holds.room holds.chain
+  has_room some = chain_room sum size (site.place / size) bytes from (length bytes) rs some holds.stand holds.plain holds.chain
 
   -- A log that keeps a failure of its device holds what it held, whatever the log file is now.
   unfoldable pub holds-faulty : (new : State) (e : IoError) (now : Option IoError) → now ≡ Some e → new.snapshots.file ≡ device.snapshots.file → HoldsIn sum (log_parts size site new now bytes from bs rs) H
@@ -76,7 +77,7 @@ module _ (sum : List ℕ → ℕ) (size : ℕ) (site : SegmentPosition) (device 
     header = holds.header;
     chain = holds.chain;
     stand = holds.stand;
-    room = holds.room;
+    plain = holds.plain;
     begun = begun-more sum size device.snapshots.file new.snapshots.file site from from H names (omega arith) holds.begun;
     written = λ none. cc;
     laid = λ none. cc;

@@ -65,7 +65,7 @@ module _ (sum : List ℕ → ℕ) (size : ℕ) (some : 256 ≤ size) (old : List
     (place_begins : site.place % size ≡ 0) (slot_begins : site.slot % size ≡ 0) (place_small : site.place + size < 2 ^ 63) (slot_small : site.slot + size < 2 ^ 63)
     (bytes : List ℕ) (from : ℕ) (begins : (from ≡ 0) ⊎ (20 ≤ from)) (rs : List Reserved) (b : Sealed) (rest : List Sealed) (fresh : b.is_written ≡ false) (closed : b.open_count ≡ 0) (are : AreSealed from rs (b ∷ rest))
     (rise : EndsRise from (b ∷ rest) size) (inside : b.end ≤ length bytes)
-    (stand : All (Stands sum (site.place / size) bytes) rs) (room : All (λ r. r.from + 32 ≤ size) rs) {H : History} (header : from ≡ 0 → HasMark sum site bytes H)
+    (stand : All (Stands sum size (site.place / size) bytes) rs) {H : History} (header : from ≡ 0 → HasMark sum site bytes H)
     (laid : Laid old site.slot bytes from (b ∷ rest) size) (earlier : List Message) (entries : ℕ → List Message) (file : IsLogFile sum size old site from earlier entries) where
   abbrev end_now : ℕ
   end_now = run_end b.end rest
@@ -92,9 +92,9 @@ module _ (sum : List ℕ → ℕ) (size : ℕ) (some : 256 ≤ size) (old : List
   done_stand : All (StandsOwn sum size new site end_now) (completed_in site bytes done)
   done_stand = own_in sum size site new bytes from end_now (agrees_now from rs b rest closed are old site.slot bytes size rise inside laid) low place_begins slot_begins slot_small
       (omega (arith, div-le_self site.place size, place_small)) (max 20 from) done (omega arith) (chain_done from rs b rest closed are)
-      (All-take (Stands sum (site.place / size) bytes) (b.count + run_count rest) rs stand) (All-take (λ (r : Reserved). r.from + 32 ≤ size) (b.count + run_count rest) rs room)
+      (All-take (Stands sum size (site.place / size) bytes) (b.count + run_count rest) rs stand)
 
   -- So the log file has all messages up to that end.
   pub first_file : IsLogFile sum size new site end_now (earlier ++ completed_in site bytes done) entries
   first_file = file_more sum size site old from asked from end_now earlier (completed_in site bytes done) entries file (omega arith) covers up.0 (λ more. up.1)
-      (λ more. first_header sum size some old site place_begins slot_begins place_small slot_small bytes from begins rs b rest fresh closed are rise inside stand room header file.header laid) done_stand
+      (λ more. first_header sum size some old site place_begins slot_begins place_small slot_small bytes from begins rs b rest fresh closed are rise inside header file.header laid) done_stand

@@ -17,14 +17,14 @@ use Rattle.sled_store.proofs.Segments.FitLemmas.{all_front}
 use Rattle.sled_core.specs.declared.iobuf.Reserved.{Reserved}
 use Rattle.sled_core.specs.declared.iobuf.Sealed.{Sealed}
 use Rattle.sled_core.specs.declared.iobuf.SegmentPosition.{SegmentPosition}
-use Rattle.sled_core.specs.Buffers.{IsChain, completed_in, Stands}
+use Rattle.sled_core.specs.Buffers.{IsChain, NoPadding, Stands, completed_in}
 use Rattle.sled_core.specs.Fits.{log_parts, HoldsIn, IsOnDevice, EndBelow}
 use Rattle.sled_core.specs.LogFile.{IsLogFile, padded}
 use Rattle.sled_core.specs.Reached.{StandsAlone}
 use Rattle.sled_core.specs.Recoverable.{LeavesRecoverable, NoHeaderOfZeros}
 use Rattle.sled_core.specs.Running.{FitsIn, NamesFit}
 use Rattle.sled_core.specs.SealedBuffers.{AreSealed, FirstUnwritten, Laid, sealed_end, now_written, written_at, run_end, run_count, behind_run, bytes_between, is_ready}
-use Rattle.sled_core.proofs.Reserve.CompletesLemmas.{some_long}
+use Rattle.sled_core.proofs.Reserve.Entries.{some_long}
 use Rattle.sled_core.proofs.Reserve.Ranges.{chain_grows, completed-append, completed_between, there_split}
 use Rattle.sled_core.proofs.Flush.Completed.{all_apart, all_ascend, batches_to, has_only, inline_from, none_crosses}
 use Rattle.sled_core.proofs.Flush.FlushLemmas.{begun-more}
@@ -33,7 +33,7 @@ use Rattle.sled_core.proofs.Flush.Settled.{InlineFrom, rests}
 use Rattle.sled_core.proofs.Flush.SealedFile.{chain_done, file_beside, first_file, stop_up}
 use Rattle.sled_core.proofs.Reached.BufferPath.{HasOnly}
 use Rattle.sled_core.proofs.Reached.StandsTo.{StandsTo}
-use Rattle.sled_core.proofs.Sealed.BehindUnwritten.{torn_behind_unwritten}
+use Rattle.sled_core.proofs.Sealed.BehindUnwritten.{plain_room, torn_behind_unwritten}
 use Rattle.sled_core.proofs.Sealed.Ended.{chain_rest, ends_rise}
 use Rattle.sled_core.proofs.Sealed.HeadSealed.{torn_head_sealed}
 use Rattle.sled_core.proofs.Sealed.LaidLemmas.{EndsRise, ends_below}
@@ -165,13 +165,13 @@ module _ (sum : List ℕ → ℕ) (size : ℕ) (site : SegmentPosition) (device 
   messages_now = holds.messages ∙ ap (λ (l : List Reserved). holds.earlier ++ completed_in site bytes l) (sym (take-append-drop count rs))
       ∙ ap (λ (ms : List Message). holds.earlier ++ ms) (completed-append site bytes done others) ∙ sym (append_assoc holds.earlier (completed_in site bytes done) (completed_in site bytes others))
 
-  stand_done : All (Stands sum (site.place / size) bytes) done
-  stand_done = All-take (Stands sum (site.place / size) bytes) count rs holds.stand
+  stand_done : All (Stands sum size (site.place / size) bytes) done
+  stand_done = All-take (Stands sum size (site.place / size) bytes) count rs holds.stand
 
   below_now : EndBelow (site.place + stop) earlier_now
   below_now =
       let above = up.0 in
-      let late = completed_between site bytes (max 20 from) stop done (chain_done from rs b rest closed are) (some_long sum (site.place / size) bytes done stand_done) in
+      let late = completed_between site bytes (max 20 from) stop done (chain_done from rs b rest closed are) (some_long sum size (site.place / size) bytes done stand_done) in
       All-append (λ (m : Message). (m.place < site.place + stop) × (m.place + m.size ≤ site.place + stop)) holds.earlier (completed_in site bytes done)
       (λ k d lt. let low = holds.below k d lt in (omega (arith, low.0, above), omega (arith, low.1, above)))
       (λ k d lt. let low = late k d lt in (low.1, low.2))
@@ -194,13 +194,13 @@ module _ (sum : List ℕ → ℕ) (size : ℕ) (site : SegmentPosition) (device 
     slot_begins = holds.slot_begins;
     header = λ none. absurd (let some = up.1 in omega (arith, none, some));
     chain = let some = up.1 in let same : stop ≡ max 20 stop = omega (arith, some) in subst (λ n. IsChain n others (length bytes)) same chain_others;
-    stand = All-drop (Stands sum (site.place / size) bytes) count rs holds.stand;
-    room = All-drop (λ (r : Reserved). r.from + 32 ≤ size) count rs holds.room;
+    stand = All-drop (Stands sum size (site.place / size) bytes) count rs holds.stand;
+    plain = All-drop NoPadding count rs holds.plain;
     begun = begun-more sum size device.snapshots.file new.snapshots.file site from stop H names up.0 holds.begun;
     written = λ none. record {
       log = new_log;
       settled = is;
-      file = first_file sum size big old site holds.place_begins holds.slot_begins place_small slot_small bytes from first_begins rs b rest fresh closed are rise_size inside holds.stand holds.room holds.header (holds.laid whole)
+      file = first_file sum size big old site holds.place_begins holds.slot_begins place_small slot_small bytes from first_begins rs b rest fresh closed are rise_size inside holds.stand holds.header (holds.laid whole)
           holds.earlier entries file_old;
     };
     laid = λ none. subst (λ (s : LogState). Laid s.bytes site.slot bytes stop (behind_run rest) size) (sym is)
@@ -219,7 +219,7 @@ module _ (sum : List ℕ → ℕ) (size : ℕ) (site : SegmentPosition) (device 
       let far = chain_grows stop (length bytes) others chain_others in
       let parts : completed_in site bytes rs ≡ completed_in site bytes done ++ completed_in site bytes others =
       ap (λ (l : List Reserved). completed_in site bytes l) (sym (take-append-drop count rs)) ∙ completed-append site bytes done others in
-      let behind = completed_between site bytes stop (length bytes) others chain_others (some_long sum (site.place / size) bytes others (All-drop (Stands sum (site.place / size) bytes) count rs holds.stand)) in
+      let behind = completed_between site bytes stop (length bytes) others chain_others (some_long sum size (site.place / size) bytes others (All-drop (Stands sum size (site.place / size) bytes) count rs holds.stand)) in
       record {
         there = λ m among. all.there m (subst (λ (ms : List Message). Contains ms m) (sym parts) (Contains-append_left (completed_in site bytes done) (completed_in site bytes others) m among));
         only = λ m among. elim (all.only m among) [
@@ -237,15 +237,15 @@ module _ (sum : List ℕ → ℕ) (size : ℕ) (site : SegmentPosition) (device 
   torn_first : NoHeaderOfZeros sum → StandsAlone sum size old site from (site.place + from) H holds.begun.first → (now left : List ℕ) → length now ≤ length asked → LeavesLog (after_write old (site.slot + from) asked now) left → (placed : List (ℕ × List ℕ))
       → NoForeignLog sum size (after_write old (site.slot + from) asked now) placed left → StandsTo sum size left H (site.place + from) holds.begun.first (site.place + from)
   torn_first zeros alone now left no_more leaves placed only_own =
-      torn_head_sealed sum zeros size big old site holds.place_begins holds.slot_begins place_small slot_small bytes from first_begins rs b rest fresh closed are rise_size inside holds.stand holds.room holds.header (holds.laid whole)
-      (site.place + from) holds.begun.first alone has_first now left no_more leaves {placed = placed} only_own
+      torn_head_sealed sum zeros size big old site holds.place_begins holds.slot_begins place_small slot_small bytes from first_begins rs b rest fresh closed are rise_size inside holds.stand
+      (plain_room sum size (site.place / size) bytes from big first_begins rs b rest are holds.stand holds.plain) holds.header (holds.laid whole) (site.place + from) holds.begun.first alone has_first now left no_more leaves {placed = placed} only_own
 
   -- All of it.
   alone_first : NoHeaderOfZeros sum → (end : ℕ) → site.slot ≤ end → StandsAlone sum size (padded end old) site from (site.place + from) H holds.begun.first
       → StandsAlone sum size (padded end new_log) site stop (site.place + stop) H holds.begun.first
   alone_first zeros =
-      first_alone sum size big old site holds.place_begins holds.slot_begins place_small slot_small bytes from first_begins rs b rest fresh closed are rise_size inside holds.stand holds.room holds.header file_old.header (holds.laid whole)
-      zeros (site.place + from) holds.begun.first has_first (all_ascend sum size site device fault bytes from (b ∷ rest) rs H holds) (let least = holds.begun.least in omega (arith, least))
+      first_alone sum size big old site holds.place_begins holds.slot_begins place_small slot_small bytes from first_begins rs b rest fresh closed are rise_size inside holds.header file_old.header (holds.laid whole)
+      holds.stand holds.plain zeros (site.place + from) holds.begun.first has_first (all_ascend sum size site device fault bytes from (b ∷ rest) rs H holds) (let least = holds.begun.least in omega (arith, least))
       (none_crosses sum size site device fault bytes from (b ∷ rest) rs H holds (site.place + stop) (let above = up.0 in omega (arith, above)))
 
   -- so the file reaches its slot
@@ -301,7 +301,7 @@ module _ (sum : List ℕ → ℕ) (size : ℕ) (site : SegmentPosition) (device 
     header = holds.header;
     chain = holds.chain;
     stand = holds.stand;
-    room = holds.room;
+    plain = holds.plain;
     begun = begun-more sum size device.snapshots.file new.snapshots.file site from from H names (omega arith) holds.begun;
     written = λ none. record { log = new_later; settled = is; file = file_beside sum size site old_later at asked_later from holds.earlier entries_later file_later lies.0 covers };
     laid = λ none. subst (λ (s : LogState). Laid s.bytes site.slot bytes from (x ∷ xs ++ now_written b ∷ rest) size) (sym is)
@@ -313,22 +313,18 @@ module _ (sum : List ℕ → ℕ) (size : ℕ) (site : SegmentPosition) (device 
   unfolding holds_later
   later_same new is names = refl
 
-  -- a record is longer than its sum and its kind
-  long_records : All (λ r. 5 ≤ r.len) rs
-  long_records k d lt = let s = holds.stand k d lt in let h = s.headed in let l = s.long in omega (arith, h, l)
-
   -- What a crash leaves of the write.
   torn_later : x.is_written ≡ false → NoHeaderOfZeros sum → StandsAlone sum size old_later site from (site.place + from) H holds.begun.first → (now left : List ℕ) → length now ≤ length asked_later
       → LeavesLog (after_write old_later (site.slot + at) asked_later now) left → (placed : List (ℕ × List ℕ)) → NoForeignLog sum size (after_write old_later (site.slot + at) asked_later now) placed left
       → StandsTo sum size left H (site.place + from) holds.begun.first (site.place + from)
   torn_later fresh zeros alone now left no_more leaves placed only_own =
-      torn_behind_unwritten sum zeros size big old_later site holds.slot_begins bytes from later_begins rs x xs b rest fresh are rise_later lies.2 long_records holds.room (site.place + from) H holds.begun.first old_later (holds.laid whole)
+      torn_behind_unwritten sum zeros size big old_later site holds.slot_begins bytes from later_begins rs x xs b rest fresh are rise_later lies.2 (site.place / size) holds.stand (site.place + from) H holds.begun.first old_later (holds.laid whole)
       alone now left no_more leaves {placed = placed} only_own
 
   -- All of it.
   alone_later : x.is_written ≡ false → NoHeaderOfZeros sum → (end : ℕ) → site.slot ≤ end → StandsAlone sum size (padded end old_later) site from (site.place + from) H holds.begun.first
       → StandsAlone sum size (padded end new_later) site from (site.place + from) H holds.begun.first
-  alone_later fresh zeros = later_alone sum size big old_later site holds.place_begins holds.slot_begins place_small slot_small bytes from later_begins rs x xs b rest fresh are rise_later lies.2 long_records holds.room (holds.laid whole)
+  alone_later fresh zeros = later_alone sum size big old_later site holds.place_begins holds.slot_begins place_small slot_small bytes from later_begins rs x xs b rest fresh are rise_later lies.2 (site.place / size) holds.stand (holds.laid whole)
       zeros (site.place + from) H holds.begun.first
 
   -- so the file reaches its slot

@@ -15,7 +15,7 @@ use Rattle.sled_core.specs.declared.iobuf.ReservationState.TheVariants.{Open, Ca
 use Rattle.sled_core.specs.declared.iobuf.Reserved.{Reserved}
 use Rattle.sled_core.specs.declared.iobuf.Sealed.{Sealed}
 use Rattle.sled_core.specs.declared.iobuf.SegmentPosition.{SegmentPosition}
-use Rattle.sled_core.specs.Buffers.{body_in, canceling, ended, Stands}
+use Rattle.sled_core.specs.Buffers.{body_in, canceling, ended, HasText}
 use Rattle.sled_core.specs.Fits.{log_parts, HoldsIn}
 use Rattle.sled_core.specs.SealedBuffers.{AreSealed, bytes_between, one_ended}
 use Rattle.sled_core.proofs.Holds.CompletedLemmas.{holds-cancel}
@@ -30,7 +30,7 @@ unfolding short_header_tail
 tail_long k l len number page = refl
 
 module _ (sum : List ℕ → ℕ) (size place : ℕ) (bytes : List ℕ) (r : Reserved) (aligned : place % size ≡ 0) (room : r.from + 32 ≤ size) (within : r.from + r.len ≤ length bytes)
-    (stands : Stands sum (place / size) bytes r) where
+    (stands : HasText sum (place / size) bytes r) where
   abbrev new : List ℕ
   new = written bytes r.from (canceling sum bytes r)
 

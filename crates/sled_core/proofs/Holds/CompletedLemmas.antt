@@ -1,5 +1,5 @@
 -- A reservation that is completed becomes a message of the history that a log holds, at its place; one that is aborted leaves the history as it was. No other one is touched.
-use Rattle.std.proofs.Common.{◌≡◌, ◌≤◌, ◌<◌, ◌+◌, ◌/◌, inl, inr, ℕ, suc, max, List, ◌∷◌, ◌++◌, length, take, drop, set, sym, ◌∙◌, ap, arith, refl, subst, false, append_assoc, Option, None, Some, get_or, ◌-◌}
+use Rattle.std.proofs.Common.{◌≡◌, ◌≢◌, ◌≤◌, ◌<◌, ◌+◌, ◌/◌, inl, inr, ℕ, suc, max, List, ◌∷◌, ◌++◌, length, take, drop, set, sym, ◌∙◌, ap, arith, refl, subst, false, append_assoc, Option, None, Some, get_or, ◌-◌}
 use Rattle.std.specs.List.{All, Contains, slice_get}
 use Rattle.std.specs.declared.io.Error.{Error as IoError}
 use Rattle.std.proofs.lemmas.List.{set_split}
@@ -14,15 +14,16 @@ use Rattle.sled_codec.specs.Places.{part}
 use Rattle.sled_codec.specs.Snapshots.{stable_place}
 use Rattle.sled_store.specs.Device.{State}
 use Rattle.sled_core.specs.declared.iobuf.ReservationState.{ReservationState}
-use Rattle.sled_core.specs.declared.iobuf.ReservationState.TheVariants.{Open, Completed, Canceled}
+use Rattle.sled_core.specs.declared.iobuf.ReservationState.TheVariants.{Open, Completed, Canceled, Padding}
 use Rattle.sled_core.specs.declared.iobuf.Reserved.{Reserved}
 use Rattle.sled_core.specs.declared.iobuf.Sealed.{Sealed}
 use Rattle.sled_core.specs.declared.iobuf.SegmentPosition.{SegmentPosition}
-use Rattle.sled_core.specs.Buffers.{body_in, message_in, IsChain, completed_in, with_own, ending, completing, canceling, ended, open_state, Stands}
+use Rattle.sled_core.specs.Buffers.{body_in, message_in, IsChain, completed_in, with_own, ending, completing, canceling, ended, open_state, HasText, NoPadding, Stands, StandsReserved}
 use Rattle.sled_core.specs.Fits.{log_parts, HoldsIn, CloseBelow, IsBegunFrom, IsOnDevice}
 use Rattle.sled_core.proofs.Reached.BufferPath.{mark_same}
 use Rattle.sled_core.proofs.Reserve.Ranges.{part-written_before, length-written, completed-same, completed-append, completed_between, chain-split, chain-joined, chain_grows, chain_within, there_split, all_split, all_joined, at_there, there-set_other, chain_apart}
-use Rattle.sled_core.proofs.Reserve.CompletesLemmas.{changes_page, body_before, same_before, body_behind, same_behind, body_own, completed_stands, canceled_stands, fits, some_long}
+use Rattle.sled_core.proofs.Reserve.CompletesLemmas.{changes_page, body_before, same_before, body_behind, same_behind, body_own, completed_stands, canceled_stands, fits}
+use Rattle.sled_core.proofs.Reserve.Entries.{completed_plain, in_reserved, open_plain, reserved_in, some_long}
 use Rattle.sled_core.proofs.Holds.HoldsLemmas.{completed_open}
 use Rattle.sled_core.specs.SealedBuffers.{AreSealed, Laid, one_ended}
 use Rattle.sled_core.proofs.Sealed.LaidCalls.{laid_over}
@@ -33,8 +34,11 @@ module _ (sum : List ℕ → ℕ) (size : ℕ) (site : SegmentPosition) (device 
   abbrev number : ℕ
   number = site.place / size
 
-  stand_all : All (Stands sum number bytes) xs × Stands sum number bytes r × All (Stands sum number bytes) ys
-  stand_all = all_split (Stands sum number bytes) xs ys r holds.stand
+  stand_all : All (Stands sum size number bytes) xs × Stands sum size number bytes r × All (Stands sum size number bytes) ys
+  stand_all = all_split (Stands sum size number bytes) xs ys r holds.stand
+
+  its : StandsReserved sum size number bytes r
+  its = reserved_in sum size number bytes r (open_plain r.state is_open) stand_all.1
 
   chains : IsChain (max 20 from) xs r.from × IsChain (r.from + r.len) ys (length bytes)
   chains = chain-split (max 20 from) (length bytes) xs ys r holds.chain
@@ -57,32 +61,40 @@ module _ (sum : List ℕ → ℕ) (size : ℕ) (site : SegmentPosition) (device 
       ∙ ap (λ (ms : List Message). holds.earlier ++ ms) (completed-append site bytes xs (r ∷ ys) ∙ ap (λ (ms : List Message). completed_in site bytes xs ++ ms) (completed_open site bytes r ys is_open))
 
   -- It has ended with a sum and a kind.
-  module _ (word : ℕ) (k : MessageKind) (state : ReservationState) (own : Stands sum number (written bytes r.from (ending word k)) (ended state r)) where
+  module _ (word : ℕ) (k : MessageKind) (state : ReservationState) (plain : state ≢ Padding) (own : HasText sum number (written bytes r.from (ending word k)) (ended state r)) where
     abbrev new : List ℕ
     new = written bytes r.from (ending word k)
 
-    stand_new : All (Stands sum number new) (xs ++ ended state r ∷ ys)
-    stand_new = all_joined (Stands sum number new) xs ys (ended state r)
-        (λ j d lt. let b = in_front j d lt in same_before sum number bytes r ends stand_all.1 word k (get_or xs j d) b.1 (stand_all.0 j d lt))
-        own
-        (λ j d lt. let b = after_it j d lt in same_behind sum number bytes r ends stand_all.1 word k (get_or ys j d) b.0 (stand_all.2 j d lt))
+    stand_new : All (Stands sum size number new) (xs ++ ended state r ∷ ys)
+    stand_new = all_joined (Stands sum size number new) xs ys (ended state r)
+        (λ j d lt. let b = in_front j d lt in same_before sum number bytes r ends its.text word k size (get_or xs j d) b.1 (stand_all.0 j d lt))
+        (in_reserved sum size number new (ended state r) plain (record { room = its.room; text = own }))
+        (λ j d lt. let b = after_it j d lt in same_behind sum number bytes r ends its.text word k size (get_or ys j d) b.0 (stand_all.2 j d lt))
+
+    -- a message before it stands in the same bytes
+    front_same : (j : ℕ) (d : Reserved) → j < length xs → (get_or xs j d).state ≡ Completed → body_in new (get_or xs j d) ≡ body_in bytes (get_or xs j d)
+    front_same j d lt done =
+        let x : Reserved = get_or xs j d in
+        let b = in_front j d lt in
+        let stands = reserved_in sum size number bytes x (completed_plain x.state done) (stand_all.0 j d lt) in
+        body_before sum number bytes r ends its.text word k x b.1 stands.text.long
 
     -- the messages of the others are as they were
     messages_new : completed_in site new (xs ++ ended state r ∷ ys) ≡ completed_in site bytes xs ++ with_own state (message_in site bytes r) (completed_in site bytes ys)
     messages_new =
-        let front : completed_in site new xs ≡ completed_in site bytes xs = completed-same site bytes new xs (λ j d lt. let b = in_front j d lt in body_before sum number bytes r ends stand_all.1 word k (get_or xs j d) b.1 (stand_all.0 j d lt)) in
-        let back : completed_in site new ys ≡ completed_in site bytes ys = completed-same site bytes new ys (λ j d lt. let b = after_it j d lt in body_behind sum number bytes r ends stand_all.1 word k (get_or ys j d) b.0) in
-        let its : message_in site new (ended state r) ≡ message_in site bytes r = ap (λ (l : List ℕ). record (message_in site bytes r) { bytes = l }) (body_own sum number bytes r ends stand_all.1 word k) in
-        completed-append site new xs (ended state r ∷ ys) ∙ (λ i. front i ++ with_own state (its i) (back i))
+        let front : completed_in site new xs ≡ completed_in site bytes xs = completed-same site bytes new xs front_same in
+        let back : completed_in site new ys ≡ completed_in site bytes ys = completed-same site bytes new ys (λ j d lt done. let b = after_it j d lt in body_behind sum number bytes r ends its.text word k (get_or ys j d) b.0) in
+        let own_is : message_in site new (ended state r) ≡ message_in site bytes r = ap (λ (l : List ℕ). record (message_in site bytes r) { bytes = l }) (body_own sum number bytes r ends its.text word k) in
+        completed-append site new xs (ended state r ∷ ys) ∙ (λ i. front i ++ with_own state (own_is i) (back i))
 
     -- A history is held that has them, and its own message where it was completed.
     holds_new : (bs' : List Sealed) (H' : History) → H'.messages ≡ holds.earlier ++ (completed_in site bytes xs ++ with_own state (message_in site bytes r) (completed_in site bytes ys)) → H'.batches ≡ H.batches
         → (begun : IsBegunFrom sum size device.snapshots.file site from H') → (fault ≡ None → IsOnDevice sum size device.log site from holds.earlier (table H' (stable_place begun.first.stable)))
         → (fault ≡ None → Laid device.log.bytes site.slot new from bs' size) → HoldsIn sum (log_parts size site device fault new from bs' (xs ++ ended state r ∷ ys)) H'
     holds_new bs' H' messages same begun on_device laid =
-        let fit = fits sum number bytes r ends stand_all.1 word k in
+        let fit = fits sum number bytes r ends its.text word k in
         let long : length new ≡ length bytes = length-written bytes (ending word k) r.from fit in
-        let rooms = all_split (λ (x : Reserved). x.from + 32 ≤ size) xs ys r holds.room in
+        let others = all_split NoPadding xs ys r holds.plain in
         record {
           earlier = holds.earlier;
           messages = messages ∙ ap (λ (ms : List Message). holds.earlier ++ ms) (sym messages_new);
@@ -94,7 +106,7 @@ module _ (sum : List ℕ → ℕ) (size : ℕ) (site : SegmentPosition) (device 
           header = λ first. let m = holds.header first in record { mark = m.mark; is = part-written_before bytes (ending word k) r.from 0 20 (omega (arith, begins)) fit ∙ m.is; of_history = mark_same H H' (record { place = site.place; slot = site.slot; mark = m.mark }) same m.of_history };
           chain = subst (λ n. IsChain (max 20 from) (xs ++ ended state r ∷ ys) n) (sym long) (chain-joined (max 20 from) (length bytes) xs ys (ended state r) chains.0 chains.1);
           stand = stand_new;
-          room = all_joined (λ (x : Reserved). x.from + 32 ≤ size) xs ys (ended state r) rooms.0 rooms.1 rooms.2;
+          plain = all_joined NoPadding xs ys (ended state r) others.0 plain others.2;
           begun = begun;
           written = on_device;
           laid = laid;
@@ -108,18 +120,18 @@ module _ (sum : List ℕ → ℕ) (size : ℕ) (site : SegmentPosition) (device 
   lower : (x : Message) → Contains (holds.earlier ++ completed_in site bytes xs) x → x.place < site.place + r.from
   lower x there = elim (Contains-append_cases holds.earlier (completed_in site bytes xs) x there) [
     | inl early ↦ (let b = All-contains (λ m. (m.place < site.place + from) × (m.place + m.size ≤ site.place + from)) holds.earlier x holds.below early in omega (arith, b.0, begins))
-    | inr late ↦ (All-contains (λ m. (site.place + max 20 from ≤ m.place) × (m.place < site.place + r.from) × (m.place + m.size ≤ site.place + r.from)) (completed_in site bytes xs) x (completed_between site bytes (max 20 from) r.from xs chains.0 (some_long sum number bytes xs stand_all.0)) late).1
+    | inr late ↦ (All-contains (λ m. (site.place + max 20 from ≤ m.place) × (m.place < site.place + r.from) × (m.place + m.size ≤ site.place + r.from)) (completed_in site bytes xs) x (completed_between site bytes (max 20 from) r.from xs chains.0 (some_long sum size number bytes xs stand_all.0)) late).1
   ]
 
   higher : (x : Message) → Contains (completed_in site bytes ys) x → site.place + r.from < x.place
   higher x there =
-      let b = All-contains (λ m. (site.place + (r.from + r.len) ≤ m.place) × (m.place < site.place + length bytes) × (m.place + m.size ≤ site.place + length bytes)) (completed_in site bytes ys) x (completed_between site bytes (r.from + r.len) (length bytes) ys chains.1 (some_long sum number bytes ys stand_all.2)) there in
-      let at_r = stand_all.1 in let h = at_r.headed in let l = at_r.long in
+      let b = All-contains (λ m. (site.place + (r.from + r.len) ≤ m.place) × (m.place < site.place + length bytes) × (m.place + m.size ≤ site.place + length bytes)) (completed_in site bytes ys) x (completed_between site bytes (r.from + r.len) (length bytes) ys chains.1 (some_long sum size number bytes ys stand_all.2)) there in
+      let at_r = its.text in let h = at_r.headed in let l = at_r.long in
       omega (arith, b.0, h, l)
 
   adds : AddsMessage H (message_in site bytes r) history
   adds = record {
-    changes = changes_page r.log_kind r.page r.kind stand_all.1.known;
+    changes = changes_page r.log_kind r.page r.kind its.text.known;
     before = holds.earlier ++ completed_in site bytes xs;
     after = completed_in site bytes ys;
     old = old_messages ∙ sym (append_assoc holds.earlier (completed_in site bytes xs) (completed_in site bytes ys));
@@ -135,26 +147,26 @@ module _ (sum : List ℕ → ℕ) (size : ℕ) (site : SegmentPosition) (device 
 
   holds_completed : (bs' : List Sealed) → (fault ≡ None → Laid device.log.bytes site.slot (written bytes r.from (completing r)) from bs' size)
       → HoldsIn sum (log_parts size site device fault (written bytes r.from (completing r)) from bs' (xs ++ ended Completed r ∷ ys)) history
-  holds_completed bs' laid = holds_new r.sum r.kind Completed (completed_stands sum number bytes r ends stand_all.1 is_open) bs' history
+  holds_completed bs' laid = holds_new r.sum r.kind Completed (λ same. cc) (completed_stands sum number bytes r ends its.text is_open) bs' history
       (append_assoc holds.earlier (completed_in site bytes xs) (message_in site bytes r ∷ completed_in site bytes ys)) refl
       (begun-adds H history (message_in site bytes r) adds sum size device.snapshots.file site from above holds.begun)
       (λ ok. device-adds H history (message_in site bytes r) adds sum size device site from above holds.begun holds.earlier (holds.written ok)) laid
 
   -- Aborted, nothing is.
 
-  canceled_there : Stands sum number (written bytes r.from (canceling sum bytes r)) (ended Canceled r)
-  canceled_there = canceled_stands sum number bytes r ends stand_all.1 is_open
+  canceled_there : HasText sum number (written bytes r.from (canceling sum bytes r)) (ended Canceled r)
+  canceled_there = canceled_stands sum number bytes r ends its.text is_open
 
   holds_canceled : (bs' : List Sealed) → (fault ≡ None → Laid device.log.bytes site.slot (written bytes r.from (canceling sum bytes r)) from bs' size)
       → HoldsIn sum (log_parts size site device fault (written bytes r.from (canceling sum bytes r)) from bs' (xs ++ ended Canceled r ∷ ys)) H
-  holds_canceled bs' laid = holds_new (sum (body_in bytes r ++ code_of kind.Canceled ∷ part bytes (r.from + 5) (r.header_len - 5))) kind.Canceled Canceled canceled_there bs' H old_messages refl holds.begun holds.written laid
+  holds_canceled bs' laid = holds_new (sum (body_in bytes r ++ code_of kind.Canceled ∷ part bytes (r.from + 5) (r.header_len - 5))) kind.Canceled Canceled (λ same. cc) canceled_there bs' H old_messages refl holds.begun holds.written laid
 
 -- Once an open reservation has ended, the log file has of the sealed buffers what it had.
 laid_ends : (sum : List ℕ → ℕ) (size : ℕ) (site : SegmentPosition) (device : State) (fault : Option IoError) (bytes : List ℕ) (from : ℕ) (bs : List Sealed) (rs : List Reserved) (i : ℕ) (r : Reserved) (H : History)
     → HoldsIn sum (log_parts size site device fault bytes from bs rs) H → slice_get rs i ≡ Some r → r.state ≡ Open → AreSealed from rs bs → (word : ℕ) (k : MessageKind) (state : ReservationState) → open_state state ≡ false
     → Laid device.log.bytes site.slot bytes from bs size → Laid device.log.bytes site.slot (written bytes r.from (ending word k)) from (one_ended i bs) size
 laid_ends sum size site device fault bytes from bs rs i r H holds there is_open are word k state closed laid =
-    let stands : Stands sum (site.place / size) bytes r = at_there (Stands sum (site.place / size) bytes) rs i r there holds.stand in
+    let stands : HasText sum (site.place / size) bytes r = (reserved_in sum size (site.place / size) bytes r (open_plain r.state is_open) (at_there (Stands sum size (site.place / size) bytes) rs i r there holds.stand)).text in
     let inside = at_there (λ z. (max 20 from ≤ z.from) × (z.from + z.len ≤ length bytes)) rs i r there (chain_within (max 20 from) (length bytes) rs holds.chain) in
     let headed = stands.headed in let long = stands.long in
     laid_over device.log.bytes site.slot bytes from bs size rs i r word k state closed there is_open (omega (arith, headed, long)) inside.1 holds.chain are laid
@@ -190,16 +202,16 @@ holds-cancel sum size site device fault bytes from bs rs i r H holds there is_op
 
 -- Every other reservation stays where it is, for the same message.
 pub others_stay : (sum : List ℕ → ℕ) (size : ℕ) (site : SegmentPosition) (device : State) (fault : Option IoError) (bytes : List ℕ) (from : ℕ) (bs : List Sealed) (rs : List Reserved) (i j : ℕ) (r x : Reserved) (H : History) (word : ℕ) (k : MessageKind) (state : ReservationState)
-    → HoldsIn sum (log_parts size site device fault bytes from bs rs) H → slice_get rs i ≡ Some r → slice_get rs j ≡ Some x → (x.from ≡ r.from → ⊥)
+    → HoldsIn sum (log_parts size site device fault bytes from bs rs) H → slice_get rs i ≡ Some r → r.state ≡ Open → slice_get rs j ≡ Some x → x.state ≡ Open → (x.from ≡ r.from → ⊥)
     → (slice_get (set rs i (ended state r)) j ≡ Some x) × (message_in site (written bytes r.from (ending word k)) x ≡ message_in site bytes x)
-others_stay sum size site device fault bytes from bs rs i j r x H word k state holds at_i at_j apart =
+others_stay sum size site device fault bytes from bs rs i j r x H word k state holds at_i is_open at_j x_open apart =
     let number : ℕ = site.place / size in
-    let stands : Stands sum number bytes r = at_there (Stands sum number bytes) rs i r at_i holds.stand in
-    let at_x : Stands sum number bytes x = at_there (Stands sum number bytes) rs j x at_j holds.stand in
+    let stands : HasText sum number bytes r = (reserved_in sum size number bytes r (open_plain r.state is_open) (at_there (Stands sum size number bytes) rs i r at_i holds.stand)).text in
+    let at_x : HasText sum number bytes x = (reserved_in sum size number bytes x (open_plain x.state x_open) (at_there (Stands sum size number bytes) rs j x at_j holds.stand)).text in
     let inside = at_there (λ z. (max 20 from ≤ z.from) × (z.from + z.len ≤ length bytes)) rs i r at_i (chain_within (max 20 from) (length bytes) rs holds.chain) in
     let body : body_in (written bytes r.from (ending word k)) x ≡ body_in bytes x =
     elim (chain_apart (max 20 from) (length bytes) rs i j r x holds.chain at_i at_j apart) [
-      | inl before ↦ body_before sum number bytes r inside.1 stands word k x before at_x
+      | inl before ↦ body_before sum number bytes r inside.1 stands word k x before at_x.long
       | inr behind ↦ body_behind sum number bytes r inside.1 stands word k x behind
     ] in (
       there-set_other rs i j r x (ended state r) at_i at_j (λ same. apart (sym (ap (λ (z : Reserved). z.from) same))),

@@ -7,29 +7,35 @@ use Rattle.std.proofs.lemmas.List.Elements.{All-append}
 use Rattle.sled_codec.specs.History.{Message, History}
 use Rattle.sled_store.specs.Device.{State}
 use Rattle.sled_core.specs.declared.iobuf.ReservationState.{ReservationState}
-use Rattle.sled_core.specs.declared.iobuf.ReservationState.TheVariants.{Open}
+use Rattle.sled_core.specs.declared.iobuf.ReservationState.TheVariants.{Completed, Open}
 use Rattle.sled_core.specs.declared.iobuf.Reserved.{Reserved}
 use Rattle.sled_core.specs.declared.iobuf.Sealed.{Sealed}
 use Rattle.sled_core.specs.declared.iobuf.SegmentPosition.{SegmentPosition}
-use Rattle.sled_core.specs.Buffers.{text_in, body_in, message_in, IsChain, completed_in, with_own, StandsAs, Stands}
+use Rattle.sled_core.specs.Buffers.{body_in, message_in, IsChain, completed_in, with_own, HasText, NoPadding, Stands}
 use Rattle.sled_core.specs.Fits.{log_parts, HoldsIn}
 use Rattle.sled_core.proofs.Sealed.LaidCalls.{laid_append}
 use Rattle.sled_core.proofs.Sealed.LaidLemmas.{EndsRise}
+use Rattle.sled_core.proofs.Reserve.Entries.{completed_plain, in_reserved, open_plain, reserved_in, stands-same}
 use Rattle.sled_core.proofs.Reserve.Ranges.{part-append, completed-same, completed-append, chain-append}
-
--- Where a text and a body are the same, what stands there is.
-pub stands-same : (sum : List ℕ → ℕ) (number : ℕ) (old new : List ℕ) (r : Reserved) → text_in new r ≡ text_in old r → body_in new r ≡ body_in old r → Stands sum number old r → Stands sum number new r
-stands-same sum number old new r text body stands =
-    subst (λ (t : List ℕ). StandsAs sum number t (body_in new r) r) (sym text) (subst (λ (b : List ℕ). StandsAs sum number (text_in old r) b r) (sym body) stands)
 
 -- Bytes behind the text leave each reservation in it as it was.
 
 pub body-append : (bytes more : List ℕ) (r : Reserved) → r.from + r.len ≤ length bytes → r.header_len ≤ r.len → body_in (bytes ++ more) r ≡ body_in bytes r
 body-append bytes more r within long = part-append bytes more (r.from + r.header_len) (r.len - r.header_len) (omega arith)
 
-pub stands-append : (sum : List ℕ → ℕ) (number : ℕ) (bytes more : List ℕ) (r : Reserved) → r.from + r.len ≤ length bytes → Stands sum number bytes r → Stands sum number (bytes ++ more) r
-stands-append sum number bytes more r within stands =
-    stands-same sum number bytes (bytes ++ more) r (part-append bytes more r.from r.len within) (body-append bytes more r within stands.long) stands
+pub stands-append : (sum : List ℕ → ℕ) (size number : ℕ) (bytes more : List ℕ) (r : Reserved) → r.from + r.len ≤ length bytes → Stands sum size number bytes r → Stands sum size number (bytes ++ more) r
+stands-append sum size number bytes more r within stands =
+    stands-same sum size number bytes (bytes ++ more) r (part-append bytes more r.from r.len within) (body-append bytes more r within) stands
+
+-- and so the messages of those that were completed
+pub completed-behind : (sum : List ℕ → ℕ) (size number : ℕ) (site : SegmentPosition) (bytes more : List ℕ) (rs : List Reserved) → All (λ x. x.from + x.len ≤ length bytes) rs → All (Stands sum size number bytes) rs
+    → completed_in site (bytes ++ more) rs ≡ completed_in site bytes rs
+completed-behind sum size number site bytes more rs within stand = completed-same site bytes (bytes ++ more) rs bodies where
+  bodies : All (λ r. r.state ≡ Completed → body_in (bytes ++ more) r ≡ body_in bytes r) rs
+  bodies k d lt done =
+      let r : Reserved = get_or rs k d in
+      let stands = reserved_in sum size number bytes r (completed_plain r.state done) (stand k d lt) in
+      body-append bytes more r (within k d lt) stands.text.long
 
 pub one : {X : Type 0} (P : X → Type 0) (x : X) → P x → All P (x ∷ [])
 one P x here zero d lt = here
@@ -43,18 +49,17 @@ module _ (sum : List ℕ → ℕ) (size : ℕ) (site : SegmentPosition) (device 
     (holds : HoldsIn sum (log_parts size site device fault bytes from bs rs) H) where
   -- A place is reserved: its placeholder stands behind what is there.
   pub holds-append : (more : List ℕ) (r : Reserved) → 20 ≤ length bytes → All (λ x. x.from + x.len ≤ length bytes) rs
-      → r.from ≡ length bytes → r.len ≡ length more → r.state ≡ Open → r.from + 32 ≤ size → EndsRise from bs (length bytes) → Stands sum (site.place / size) (bytes ++ more) r
+      → r.from ≡ length bytes → r.len ≡ length more → r.state ≡ Open → r.from + 32 ≤ size → EndsRise from bs (length bytes) → HasText sum (site.place / size) (bytes ++ more) r
       → HoldsIn sum (log_parts size site device fault (bytes ++ more) from bs (rs ++ r ∷ [])) H
   holds-append more r begun within at long is_open has_room rise stands =
       let number : ℕ = site.place / size in
       let new : List ℕ = bytes ++ more in
-      let bodies : All (λ x. body_in new x ≡ body_in bytes x) rs = λ k d lt. body-append bytes more (get_or rs k d) (within k d lt) (holds.stand k d lt).long in
       let none : completed_in site new (r ∷ []) ≡ [] = completed_open site new r [] is_open in
       let end : length bytes + r.len ≡ length new = omega (arith, length-append bytes more) in
       record {
         earlier = holds.earlier;
         messages = holds.messages ∙ ap (λ (ms : List Message). holds.earlier ++ ms) (sym (
-            completed-append site new rs (r ∷ []) ∙ ap (λ (ms : List Message). completed_in site new rs ++ ms) none ∙ append-nil (completed_in site new rs) ∙ completed-same site bytes new rs bodies));
+            completed-append site new rs (r ∷ []) ∙ ap (λ (ms : List Message). completed_in site new rs ++ ms) none ∙ append-nil (completed_in site new rs) ∙ completed-behind sum size number site bytes more rs within holds.stand));
         below = holds.below;
         apart = holds.apart;
         batches = holds.batches;
@@ -62,8 +67,9 @@ module _ (sum : List ℕ → ℕ) (size : ℕ) (site : SegmentPosition) (device 
         slot_begins = holds.slot_begins;
         header = λ first. let m = holds.header first in record { mark = m.mark; is = take-append-le 20 bytes more begun ∙ m.is; of_history = m.of_history };
         chain = subst (λ (n : ℕ). IsChain (max 20 from) (rs ++ r ∷ []) n) end (chain-append (max 20 from) (length bytes) rs r holds.chain at);
-        stand = All-append (Stands sum number new) rs (r ∷ []) (λ k d lt. stands-append sum number bytes more (get_or rs k d) (within k d lt) (holds.stand k d lt)) (one (Stands sum number new) r stands);
-        room = All-append (λ (x : Reserved). x.from + 32 ≤ size) rs (r ∷ []) holds.room (one (λ (x : Reserved). x.from + 32 ≤ size) r has_room);
+        stand = All-append (Stands sum size number new) rs (r ∷ []) (λ k d lt. stands-append sum size number bytes more (get_or rs k d) (within k d lt) (holds.stand k d lt))
+            (one (Stands sum size number new) r (in_reserved sum size number new r (open_plain r.state is_open) (record { room = has_room; text = stands })));
+        plain = All-append NoPadding rs (r ∷ []) holds.plain (one NoPadding r (open_plain r.state is_open));
         begun = holds.begun;
         written = holds.written;
         laid = λ ok. laid_append device.log.bytes site.slot bytes more from bs size rise (holds.laid ok);

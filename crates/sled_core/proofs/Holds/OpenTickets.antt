@@ -2,7 +2,7 @@
 use Rattle.std.proofs.Common.{◌≡◌, ap, refl, ℕ, zero, suc, true, false, if◌then◌else◌, List, [], ◌∷◌, ◌++◌, length, set, Some, ◌∙◌, arith}
 use Rattle.std.specs.List.{slice_get}
 use Rattle.sled_core.specs.declared.iobuf.ReservationState.{ReservationState}
-use Rattle.sled_core.specs.declared.iobuf.ReservationState.TheVariants.{Open, Completed, Canceled}
+use Rattle.sled_core.specs.declared.iobuf.ReservationState.TheVariants.{Open, Completed, Canceled, Padding}
 use Rattle.sled_core.specs.declared.iobuf.Reserved.{Reserved}
 use Rattle.sled_core.specs.Buffers.{none_open, open_state}
 
@@ -11,11 +11,13 @@ pub by_first : (s : ReservationState) (rest : List Reserved) → (if open_state 
 by_first Open rest is = cc
 by_first Completed rest is = ((λ same. cc), is)
 by_first Canceled rest is = ((λ same. cc), is)
+by_first Padding rest is = ((λ same. cc), is)
 
-both_ended : (s : ReservationState) (rest : List Reserved) → (s ≡ Open → ⊥) → none_open rest ≡ true → (if open_state s then false else none_open rest) ≡ true
+pub both_ended : (s : ReservationState) (rest : List Reserved) → (s ≡ Open → ⊥) → none_open rest ≡ true → (if open_state s then false else none_open rest) ≡ true
 both_ended Open rest not_open ended = absurd (not_open refl)
 both_ended Completed rest not_open ended = ended
 both_ended Canceled rest not_open ended = ended
+both_ended Padding rest not_open ended = ended
 
 -- they have ended where each has
 ended_each : (rs : List Reserved) → ((i : ℕ) (r : Reserved) → slice_get rs i ≡ Some r → r.state ≡ Open → ⊥) → none_open rs ≡ true

@@ -14,13 +14,13 @@ use Rattle.sled_core.specs.declared.iobuf.SegmentPosition.{SegmentPosition}
 use Rattle.sled_core.specs.declared.logger.Log.{Log}
 use Rattle.sled_core.specs.declared.reservation.Reservation.{Reservation}
 use Rattle.sled_core.specs.Tickets.{place_of, pointer_of}
-use Rattle.sled_core.specs.Buffers.{IsChain, completed_in, message_in}
+use Rattle.sled_core.specs.Buffers.{IsChain, Stands, completed_in, message_in}
 use Rattle.sled_core.specs.Fits.{Awaits, log_parts, next_place, synced_end, HoldsIn, Holds, IsKept}
 use Rattle.sled_core.specs.Running.{Fits}
 use Rattle.sled_core.specs.Reading.{IsInline}
 use Rattle.sled_core.specs.Recoverable.{LiesInSegment}
 use Rattle.sled_core.proofs.Reserve.Ranges.{all_own, completed_between, chain_grows}
-use Rattle.sled_core.proofs.Reserve.CompletesLemmas.{some_long}
+use Rattle.sled_core.proofs.Reserve.Entries.{completed_plain, reserved_in, some_long}
 use Rattle.sled_core.proofs.Flush.Completed.{all_apart, all_below, which}
 use Rattle.sled_core.proofs.Read.ScanLemmas.{aligned_offset}
 
@@ -46,20 +46,20 @@ module _ (size : ℕ) (site : SegmentPosition) (place_begins : site.place % size
       }
 
   -- the messages of reservations that were completed
-  completed_lie : (bytes : List ℕ) (from end : ℕ) (rs : List Reserved) → 20 ≤ from → end ≤ size → IsChain from rs end → All (λ r. r.from + 32 ≤ size) rs → All (LiesBehind size site) (completed_in site bytes rs)
-  completed_lie bytes from end [] behind inside chain room = λ k d lt. absurd (omega arith)
-  completed_lie bytes from end (r ∷ rs) behind inside chain room =
+  completed_lie : (sum : List ℕ → ℕ) (number : ℕ) (bytes : List ℕ) (from end : ℕ) (rs : List Reserved) → 20 ≤ from → end ≤ size → IsChain from rs end → All (Stands sum size number bytes) rs → All (LiesBehind size site) (completed_in site bytes rs)
+  completed_lie sum number bytes from end [] behind inside chain stand = λ k d lt. absurd (omega arith)
+  completed_lie sum number bytes from end (r ∷ rs) behind inside chain stand =
       let here : r.from ≡ from = chain.0 in
       let grows : from + r.len ≤ end = chain_grows (from + r.len) end rs chain.1 in
-      let rest : All (LiesBehind size site) (completed_in site bytes rs) = completed_lie bytes (from + r.len) end rs (omega (arith, behind)) inside chain.1 (All-tail (λ x. x.from + 32 ≤ size) r rs room) in
-      all_own (LiesBehind size site) r.state (message_in site bytes r) (completed_in site bytes rs) (λ own. lies_behind bytes r (omega (arith, here, behind)) (room 0 r (omega arith)) (omega (arith, here, grows, inside))) rest
+      let rest : All (LiesBehind size site) (completed_in site bytes rs) = completed_lie sum number bytes (from + r.len) end rs (omega (arith, behind)) inside chain.1 (All-tail (Stands sum size number bytes) r rs stand) in
+      all_own (LiesBehind size site) r.state (message_in site bytes r) (completed_in site bytes rs) (λ own. lies_behind bytes r (omega (arith, here, behind)) (reserved_in sum size number bytes r (completed_plain r.state own) (stand 0 r (omega arith))).room (omega (arith, here, grows, inside))) rest
 
 module _ (sum : List ℕ → ℕ) (size : ℕ) (site : SegmentPosition) (device : State) (fault : Option IoError) (bytes : List ℕ) (from : ℕ) (bs : List Sealed) (rs : List Reserved) (H : History) (holds : HoldsIn sum (log_parts size site device fault bytes from bs rs) H) where
   abbrev done : List Message
   done = completed_in site bytes rs
 
   long : All (λ r. 0 < r.len) rs
-  long = some_long sum (site.place / size) bytes rs holds.stand
+  long = some_long sum size (site.place / size) bytes rs holds.stand
 
   between : All (λ m. (site.place + max 20 from ≤ m.place) × (m.place < site.place + length bytes) × (m.place + m.size ≤ site.place + length bytes)) done
   between = completed_between site bytes (max 20 from) (length bytes) rs holds.chain long
@@ -75,7 +75,7 @@ module _ (sum : List ℕ → ℕ) (size : ℕ) (site : SegmentPosition) (device 
   pub completed_behind : length bytes ≤ size → (m : Message) → Contains H.messages m → site.place + from ≤ m.place → LiesBehind size site m
   completed_behind inside m there above = elim (which sum size site device fault bytes from bs rs H holds m there) [
     | inl early ↦ (let b = All-contains (λ x. (x.place < site.place + from) × (x.place + x.size ≤ site.place + from)) holds.earlier m holds.below early in absurd (omega (arith, b.0, above)))
-    | inr later ↦ All-contains (LiesBehind size site) done m (completed_lie size site holds.place_begins holds.slot_begins bytes (max 20 from) (length bytes) rs (omega arith) inside holds.chain holds.room) later
+    | inr later ↦ All-contains (LiesBehind size site) done m (completed_lie size site holds.place_begins holds.slot_begins sum (site.place / size) bytes (max 20 from) (length bytes) rs (omega arith) inside holds.chain holds.stand) later
   ]
 
 -- Where all of a history is on the device, it ends at the stable end.

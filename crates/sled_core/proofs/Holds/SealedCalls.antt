@@ -26,7 +26,7 @@ holds-sealed sum size site device fault bytes from bs rs own H short inside hold
   header = holds.header;
   chain = holds.chain;
   stand = holds.stand;
-  room = holds.room;
+  plain = holds.plain;
   begun = holds.begun;
   written = holds.written;
   laid = λ ok. laid_sealed device.log.bytes site.slot bytes from bs (seal_at (length bytes) own) size refl short inside (holds.laid ok);

@@ -15,7 +15,7 @@ use Rattle.sled_core.specs.declared.iobuf.SegmentPosition.{SegmentPosition}
 use Rattle.sled_core.specs.declared.logger.Log.{Log}
 use Rattle.sled_codec.specs.declared.result.Error.{Error}
 use Rattle.sled_codec.specs.declared.result.Error.TheVariants.{Held, Io, OutOfMemory}
-use Rattle.sled_core.specs.Buffers.{IsChain, end_reserved, first_open_in, open_in}
+use Rattle.sled_core.specs.Buffers.{IsChain, IsHeaded, end_reserved, first_open_in, open_in}
 use Rattle.sled_core.specs.Causes.{Answers, HeldAnswers, HeldOrMemory, OnDone}
 use Rattle.sled_core.specs.Fits.{Holds, IsLeastOpenOf, IsWrittenAt, KeepsTickets, NoneOpen, NoneSealed, SameBuffer, device_of, fault_of, flushing, held_below, ready_below, reserved_end, reserved_len, synced_end, synced_len, writing_below, writing_buffer, writing_current}
 use Rattle.sled_core.specs.Keeps.{Preserves, SamePosition, SealsBelow}
@@ -295,9 +295,9 @@ flushing_alone log none ended = by log.buffer.reserved.items refl where
       let begin : b.begin ≡ b.written_len = b.begins ∙ ap (sealed_end b.written_len) none in
       let chain : IsChain (max 20 b.begin) (r ∷ rs) (length b.bytes.items) = subst (λ (l : List Reserved). IsChain (max 20 b.begin) l (length b.bytes.items)) ((λ i. drop (first i) (is i))) b.chain in
       let grows = chain_grows (max 20 b.begin + r.len) (length b.bytes.items) rs chain.1 in
-      let headed : All (λ x. (5 ≤ x.header_len) × (x.header_len ≤ x.len)) (r ∷ rs) = subst (All (λ x. (5 ≤ x.header_len) × (x.header_len ≤ x.len))) is b.headed in
-      let long = headed 0 r (omega arith) in
-      omega (arith, grows, begin, long.0, long.1)
+      let headed : All IsHeaded (r ∷ rs) = subst (All IsHeaded) is b.headed in
+      let some = (headed 0 r (omega arith)).0 in
+      omega (arith, grows, begin, some)
 
   by : (rs : List Reserved) → log.buffer.reserved.items ≡ rs → flushing log ≡ flushing_of (log.site.slot + log.buffer.written_len) (drop log.buffer.written_len log.buffer.bytes.items) rs
   by [] is =

@@ -18,7 +18,7 @@ use Rattle.sled_core.specs.SealedBuffers.{AreSealed, Laid, LaidOne, Agrees}
 use Rattle.sled_core.proofs.Flush.Completed.{which}
 use Rattle.sled_core.proofs.Holds.HeldRecords.{IsHeldAt}
 use Rattle.sled_core.proofs.Reached.BufferStands.{StandsOwn, own_in}
-use Rattle.sled_core.proofs.Reserve.CompletesLemmas.{some_long}
+use Rattle.sled_core.proofs.Reserve.Entries.{some_long}
 use Rattle.sled_core.proofs.Reserve.Ranges.{completed-append, completed_between}
 use Rattle.sled_core.proofs.Sealed.Ended.{chain_rest}
 use Rattle.sled_core.proofs.Sealed.LaidLemmas.{EndsRise, ends_below}
@@ -36,33 +36,31 @@ module _ (sum : List ℕ → ℕ) (size : ℕ) (site : SegmentPosition) (log byt
   Between low high m = (site.place + low ≤ m.place) × (m.place < site.place + high) × (m.place + m.size ≤ site.place + high)
 
   -- Each that was completed, of a buffer that is written, stands in the file.
-  written_one : (from : ℕ) (rs : List Reserved) (bs : List Sealed) (end to : ℕ) → AreSealed from rs bs → IsChain (max 20 from) rs end → All (Stands sum number bytes) rs → All (λ r. r.from + 32 ≤ size) rs → EndsRise from bs end → end ≤ size
+  written_one : (from : ℕ) (rs : List Reserved) (bs : List Sealed) (end to : ℕ) → AreSealed from rs bs → IsChain (max 20 from) rs end → All (Stands sum size number bytes) rs → EndsRise from bs end → end ≤ size
       → Laid log site.slot bytes from bs to → (m : Message) → Contains (completed_in site bytes rs) m → written_around (m.place - site.place) bs ≡ true → StandsOwn sum size log site end m
-  written_one from rs [] end to are chain stand room rise short laid m there is = let never : ⊥ = cc in absurd never
-  written_one from rs (b ∷ bs) end to are chain stand room rise short laid m there is =
+  written_one from rs [] end to are chain stand rise short laid m there is = let never : ⊥ = cc in absurd never
+  written_one from rs (b ∷ bs) end to are chain stand rise short laid m there is =
       let own : List Reserved = take b.count rs in
       let more : List Reserved = drop b.count rs in
-      let stand_own : All (Stands sum number bytes) own = All-take (Stands sum number bytes) b.count rs stand in
-      let stand_more : All (Stands sum number bytes) more = All-drop (Stands sum number bytes) b.count rs stand in
-      let room_own : All (λ (r : Reserved). r.from + 32 ≤ size) own = All-take (λ (r : Reserved). r.from + 32 ≤ size) b.count rs room in
-      let room_more : All (λ (r : Reserved). r.from + 32 ≤ size) more = All-drop (λ (r : Reserved). r.from + 32 ≤ size) b.count rs room in
+      let stand_own : All (Stands sum size number bytes) own = All-take (Stands sum size number bytes) b.count rs stand in
+      let stand_more : All (Stands sum size number bytes) more = All-drop (Stands sum size number bytes) b.count rs stand in
       let high = ends_below b.end bs end rise.1 in
       let behind : IsChain b.end more end = chain_rest (max 20 from) end rs b.count b.end chain are.0.chain in
       let parts : Contains (completed_in site bytes own ++ completed_in site bytes more) m =
       subst (λ (ms : List Message). Contains ms m) (ap (completed_in site bytes) (sym (take-append-drop b.count rs)) ∙ completed-append site bytes own more) there in
       elim (Contains-append_cases (completed_in site bytes own) (completed_in site bytes more) m parts) [
         | inl first ↦ (
-            let lies = All-contains (Between (max 20 from) b.end) (completed_in site bytes own) m (completed_between site bytes (max 20 from) b.end own are.0.chain (some_long sum number bytes own stand_own)) first in
+            let lies = All-contains (Between (max 20 from) b.end) (completed_in site bytes own) m (completed_between site bytes (max 20 from) b.end own are.0.chain (some_long sum size number bytes own stand_own)) first in
             let low : nat_lt (m.place - site.place) b.end ≡ true = (let lt : m.place - site.place < b.end = omega (arith, lies.0, lies.1) in grind (arith, nat_tests, lt)) in
             let written : b.is_written ≡ true = sym (ap (λ (o : Bool). if o then b.is_written else written_around (m.place - site.place) bs) low) ∙ is in
             let agrees : Agrees log site.slot bytes from b.end = subst (λ (o : Bool). LaidOne log site.slot bytes from o b.end) written laid.0 in
             let s = All-contains (StandsOwn sum size log site b.end) (completed_in site bytes own) m
-            (own_in sum size site log bytes from b.end agrees (omega (arith, high.0, high.1, short)) place_begins slot_begins slot_small number_small (max 20 from) own (omega arith) are.0.chain stand_own room_own) first in
+            (own_in sum size site log bytes from b.end agrees (omega (arith, high.0, high.1, short)) place_begins slot_begins slot_small number_small (max 20 from) own (omega arith) are.0.chain stand_own) first in
             (s.0, s.1, record { at = s.2.at; place = s.2.place; offset = s.2.offset; begins = s.2.begins; stands = s.2.stands; inside = (let w = s.2.inside in omega (arith, w, high.0, high.1)) }))
         | inr later ↦ (
-            let lies = All-contains (Between b.end end) (completed_in site bytes more) m (completed_between site bytes b.end end more behind (some_long sum number bytes more stand_more)) later in
+            let lies = All-contains (Between b.end end) (completed_in site bytes more) m (completed_between site bytes b.end end more behind (some_long sum size number bytes more stand_more)) later in
             let far : nat_lt (m.place - site.place) b.end ≡ false = (let le : b.end ≤ m.place - site.place = omega (arith, lies.0) in grind (arith, nat_tests, le)) in
-            written_one b.end more bs end to are.1 (subst (λ n. IsChain n more end) (sym (end_begun from own b are.0)) behind) stand_more room_more rise.1 short laid.1 m later
+            written_one b.end more bs end to are.1 (subst (λ n. IsChain n more end) (sym (end_begun from own b are.0)) behind) stand_more rise.1 short laid.1 m later
             (sym (ap (λ (o : Bool). if o then b.is_written else written_around (m.place - site.place) bs) far) ∙ is))
       ]
 
@@ -73,7 +71,7 @@ module _ (sum : List ℕ → ℕ) (size : ℕ) (site : SegmentPosition) (device 
   written_record are rise short place_small slot_small m there above is lid pointer = elim (which sum size site device None bytes from bs rs H holds m there) [
     | inl early ↦ (let b = All-contains (λ x. (x.place < site.place + from) × (x.place + x.size ≤ site.place + from)) holds.earlier m holds.below early in absurd (omega (arith, b.0, above)))
     | inr late ↦ (
-        let s = written_one sum size site device.log.bytes bytes holds.place_begins holds.slot_begins place_small slot_small from rs bs (length bytes) size are holds.chain holds.stand holds.room rise short (holds.laid refl) m late is in
+        let s = written_one sum size site device.log.bytes bytes holds.place_begins holds.slot_begins place_small slot_small from rs bs (length bytes) size are holds.chain holds.stand rise short (holds.laid refl) m late is in
         let same : s.0 ≡ lid = ap lid_of (let both : Inline s.0 ≡ Inline lid = sym s.1 ∙ pointer in both) in
         subst (λ n. IsHeldAt sum size device.log.bytes n m) same (record { begins = s.2.begins; stands = s.2.stands }))
   ]

@@ -11,21 +11,21 @@ use Rattle.sled_codec.specs.Record.{IsHeader}
 use Rattle.sled_codec.specs.History.{Message, Batch, History}
 use Rattle.sled_store.proofs.Segments.Elements.{in_first}
 use Rattle.sled_core.specs.declared.iobuf.ReservationState.{ReservationState}
-use Rattle.sled_core.specs.declared.iobuf.ReservationState.TheVariants.{Open, Completed, Canceled}
+use Rattle.sled_core.specs.declared.iobuf.ReservationState.TheVariants.{Open, Completed, Canceled, Padding}
 use Rattle.sled_core.specs.declared.iobuf.Reserved.{Reserved}
 use Rattle.sled_core.specs.declared.iobuf.SegmentPosition.{SegmentPosition}
 use Rattle.sled_core.specs.declared.iterator.Segment.{Segment}
 use Rattle.sled_core.specs.declared.iterator.scan.ScannedRecord.{ScannedRecord}
 use Rattle.sled_core.specs.declared.iterator.scan.ScanEnd.{ScanEnd}
 use Rattle.sled_core.specs.declared.iterator.scan.ScanEnd.TheVariants.{Full, Capped, Broken}
-use Rattle.sled_core.specs.Buffers.{IsChain, completed_in, message_in, none_open, with_own, Stands}
+use Rattle.sled_core.specs.Buffers.{IsChain, completed_in, message_in, none_open, with_own, NoPadding, Stands}
 use Rattle.sled_core.specs.Reached.{BeginsNext}
 use Rattle.sled_core.specs.Fits.{HasMark}
 use Rattle.sled_core.specs.Recoverable.{NoBatchBegins, IsOfHistory, IsMarkOf, IsMarkBelow}
 use Rattle.sled_core.specs.Scan.{IsPath, IsEnd, EndsThere}
 use Rattle.sled_core.proofs.Holds.OpenTickets.{by_first}
 use Rattle.sled_core.proofs.Read.PathLemmas.{zeros_empty}
-use Rattle.sled_core.proofs.Reserve.CompletesLemmas.{some_long}
+use Rattle.sled_core.proofs.Reserve.Entries.{completed_plain, reserved_in, some_in, some_long}
 use Rattle.sled_core.proofs.Reserve.Ranges.{chain_grows, completed_between, own_cases, own_rest}
 use Rattle.sled_core.specs.SealedBuffers.{Agrees}
 use Rattle.sled_core.proofs.Reached.BufferStands.{met_as, met_in, one_inline, path_in}
@@ -53,9 +53,9 @@ module _ (sum : List ℕ → ℕ) (size : ℕ) (site : SegmentPosition) (log byt
   number_small = omega (arith, div-le_self site.place size, place_small)
 
   -- The records are met one behind another.
-  pub path_to : (rs : List Reserved) → IsChain (max 20 from) rs to → All (Stands sum (site.place / size) bytes) rs → All (λ r. r.from + 32 ≤ size) rs → none_open rs ≡ true
+  pub path_to : (rs : List Reserved) → IsChain (max 20 from) rs to → All (Stands sum size (site.place / size) bytes) rs → All NoPadding rs → none_open rs ≡ true
       → IsPath sum size log site.slot site.place (max 20 from) (met_in site bytes rs) to
-  path_to rs chain stand room closed = path_in sum size site log bytes from to agrees short place_begins slot_begins slot_small number_small (max 20 from) rs (omega arith) chain stand room closed
+  path_to rs chain stand plain closed = path_in sum size site log bytes from to agrees short place_begins slot_begins slot_small number_small (max 20 from) rs (omega arith) chain stand plain closed
 
   -- And there the reading ends, where a zero is in place of the next kind.
   pub end_at : (to + 32 ≤ size → get_or log (site.slot + to + 4) 0 ≡ 0) → IsEnd sum size log site.slot site.place to (ending_at size to)
@@ -67,7 +67,7 @@ module _ (sum : List ℕ → ℕ) (size : ℕ) (site : SegmentPosition) (log byt
 
   -- Each record is of the history, where this has no others within the buffer.
   module _ (H : History) where
-    module _ (at : ℕ) (r : Reserved) (rs : List Reserved) (behind : max 20 from ≤ at) (chain : IsChain at (r ∷ rs) to) (stand : All (Stands sum (site.place / size) bytes) (r ∷ rs))
+    module _ (at : ℕ) (r : Reserved) (rs : List Reserved) (behind : max 20 from ≤ at) (chain : IsChain at (r ∷ rs) to) (stand : All (Stands sum size (site.place / size) bytes) (r ∷ rs))
         (has : HasOnly H (completed_in site bytes (r ∷ rs)) (site.place + at) (site.place + to)) where
       abbrev own : Message
       own = message_in site bytes r
@@ -79,12 +79,12 @@ module _ (sum : List ℕ → ℕ) (size : ℕ) (site : SegmentPosition) (log byt
       grows = chain_grows (at + r.len) to rs chain.1
 
       some : 0 < r.len
-      some = let s = stand 0 r (omega arith) in let h = s.headed in let l = s.long in omega (arith, h, l)
+      some = some_in sum size (site.place / size) bytes r (stand 0 r (omega arith))
 
       -- a later one begins behind it
       later_behind : (n : Message) → Contains (completed_in site bytes rs) n → own.place + own.size ≤ n.place
       later_behind n later =
-          let long = some_long sum (site.place / size) bytes rs (All-tail (Stands sum (site.place / size) bytes) r rs stand) in
+          let long = some_long sum size (site.place / size) bytes rs (All-tail (Stands sum size (site.place / size) bytes) r rs stand) in
           let between = All-contains (λ x. (site.place + (at + r.len) ≤ x.place) × (x.place < site.place + to) × (x.place + x.size ≤ site.place + to)) (completed_in site bytes rs) n (completed_between site bytes (at + r.len) to rs chain.1 long) later in
           omega (arith, between.0, here)
 
@@ -113,37 +113,39 @@ module _ (sum : List ℕ → ℕ) (size : ℕ) (site : SegmentPosition) (log byt
         no_batch = λ b there. elim (has.no_batch b there) [ inl before ↦ inl (omega (arith, before)) | inr after ↦ inr after ];
       }
 
-      pub one_truth : (s : ReservationState) → r.state ≡ s → (s ≡ Open → ⊥) → r.from + 32 ≤ size → IsOfHistory sum size log H (met_as s own)
-      one_truth Open is not_open room = absurd (not_open refl)
-      one_truth Completed is not_open room =
+      pub one_truth : (s : ReservationState) → r.state ≡ s → (s ≡ Open → ⊥) → s ≢ Padding → IsOfHistory sum size log H (met_as s own)
+      one_truth Open is not_open plain = absurd (not_open refl)
+      one_truth Completed is not_open plain =
+          let stands = reserved_in sum size (site.place / size) bytes r (completed_plain r.state is) (stand 0 r (omega arith)) in
           let there : Contains (completed_in site bytes (r ∷ rs)) own = subst (λ (s : ReservationState). Contains (with_own s own (completed_in site bytes rs)) own) (sym is) (in_first own (completed_in site bytes rs)) in
           inl (
             own,
             has.there own there,
             record { place = refl; len = refl; what = inl refl },
-            one_inline sum size site log bytes from to agrees short place_begins slot_begins slot_small number_small r (stand 0 r (omega arith)) (omega (arith, here, behind)) (omega (arith, here, grows)) is room,
+            one_inline sum size site log bytes from to agrees short place_begins slot_begins slot_small number_small r stands.text (omega (arith, here, behind)) (omega (arith, here, grows)) is stands.room,
             (λ n at_n. elim (which n at_n) [ inl same ↦ inl (omega (arith, ap (λ (x : Message). x.place) same.1)) | inr (inl before) ↦ inl (omega (arith, before)) | inr (inr after) ↦ inr after ]),
             no_batch_here,
           )
-      one_truth Canceled is not_open room = inr (inr (
+      one_truth Padding is not_open plain = absurd (plain refl)
+      one_truth Canceled is not_open plain = inr (inr (
         refl,
         (λ n at_n. elim (which n at_n) [ inl same ↦ absurd (let both : Canceled ≡ Completed = sym is ∙ same.0 in cc) | inr (inl before) ↦ inl before | inr (inr after) ↦ inr after ]),
         no_batch_here,
       ))
 
-    truth_from : (at : ℕ) (rs : List Reserved) → max 20 from ≤ at → IsChain at rs to → All (Stands sum (site.place / size) bytes) rs → All (λ r. r.from + 32 ≤ size) rs → none_open rs ≡ true
+    truth_from : (at : ℕ) (rs : List Reserved) → max 20 from ≤ at → IsChain at rs to → All (Stands sum size (site.place / size) bytes) rs → All NoPadding rs → none_open rs ≡ true
         → HasOnly H (completed_in site bytes rs) (site.place + at) (site.place + to) → All (IsOfHistory sum size log H) (met_in site bytes rs)
-    truth_from at [] behind chain stand room closed has = λ k d lt. absurd (omega arith)
-    truth_from at (r ∷ rs) behind chain stand room closed has =
+    truth_from at [] behind chain stand plain closed has = λ k d lt. absurd (omega arith)
+    truth_from at (r ∷ rs) behind chain stand plain closed has =
         let ended = by_first r.state rs closed in
         All-cons (IsOfHistory sum size log H) (met_as r.state (message_in site bytes r)) (met_in site bytes rs)
-        (one_truth at r rs behind chain stand has r.state refl ended.0 (room 0 r (omega arith)))
-        (truth_from (at + r.len) rs (omega (arith, behind)) chain.1 (All-tail (Stands sum (site.place / size) bytes) r rs stand) (All-tail (λ (x : Reserved). x.from + 32 ≤ size) r rs room) ended.1
+        (one_truth at r rs behind chain stand has r.state refl ended.0 (plain 0 r (omega arith)))
+        (truth_from (at + r.len) rs (omega (arith, behind)) chain.1 (All-tail (Stands sum size (site.place / size) bytes) r rs stand) (All-tail NoPadding r rs plain) ended.1
         (rest_only at r rs behind chain stand has))
 
-    pub truth_to : (rs : List Reserved) → IsChain (max 20 from) rs to → All (Stands sum (site.place / size) bytes) rs → All (λ r. r.from + 32 ≤ size) rs → none_open rs ≡ true
+    pub truth_to : (rs : List Reserved) → IsChain (max 20 from) rs to → All (Stands sum size (site.place / size) bytes) rs → All NoPadding rs → none_open rs ≡ true
         → HasOnly H (completed_in site bytes rs) (site.place + max 20 from) (site.place + to) → (x : ScannedRecord) → Contains (met_in site bytes rs) x → IsOfHistory sum size log H x
-    truth_to rs chain stand room closed has x there = All-contains (IsOfHistory sum size log H) (met_in site bytes rs) x (truth_from (max 20 from) rs (omega arith) chain stand room closed has) there
+    truth_to rs chain stand plain closed has x there = All-contains (IsOfHistory sum size log H) (met_in site bytes rs) x (truth_from (max 20 from) rs (omega arith) chain stand plain closed has) there
 
 -- The place before a segment is its mark, or minus one where there is none.
 

@@ -17,12 +17,12 @@ use Rattle.sled_store.specs.Device.{overwritten}
 use Rattle.sled_store.proofs.LogFile.LooseLemmas.{end_of-some}
 use Rattle.sled_store.proofs.LogFile.OverwrittenLemmas.{length-overwritten, overwritten-part}
 use Rattle.sled_core.specs.declared.iobuf.ReservationState.{ReservationState}
-use Rattle.sled_core.specs.declared.iobuf.ReservationState.TheVariants.{Open, Completed, Canceled}
+use Rattle.sled_core.specs.declared.iobuf.ReservationState.TheVariants.{Open, Completed, Canceled, Padding}
 use Rattle.sled_core.specs.declared.iobuf.Reserved.{Reserved}
 use Rattle.sled_core.specs.declared.iobuf.SegmentPosition.{SegmentPosition}
 use Rattle.sled_core.specs.declared.iterator.scan.ScannedRecord.{ScannedRecord}
 use Rattle.sled_core.specs.declared.iterator.scan.RecordContent.TheVariants.{Skipped}
-use Rattle.sled_core.specs.Buffers.{body_in, message_in, text_as, IsChain, completed_in, none_open, Stands}
+use Rattle.sled_core.specs.Buffers.{body_in, message_in, text_as, IsChain, completed_in, none_open, HasText, NoPadding, Stands}
 use Rattle.sled_core.specs.SealedBuffers.{Agrees}
 use Rattle.sled_core.specs.LogFile.{MessageStands, StandsHere}
 use Rattle.sled_core.specs.Reading.{StandsAt}
@@ -30,9 +30,10 @@ use Rattle.sled_core.specs.Scan.{IsMet, IsPath}
 use Rattle.sled_core.proofs.Holds.OpenTickets.{by_first}
 use Rattle.sled_core.proofs.Read.PathLemmas.{met_of, is_met}
 use Rattle.sled_core.proofs.Read.ScanLemmas.{aligned_number, aligned_offset}
+use Rattle.sled_core.proofs.Reserve.Entries.{completed_plain, reserved_in}
 use Rattle.sled_core.proofs.Reserve.Ranges.{all_own, chain_grows}
 
--- what a reader meets of a reservation that has ended
+-- what a reader meets of a reservation that has ended (a padding isn't met: the reading ends there)
 abbrev pub met_as : ReservationState → Message → ScannedRecord
 met_as Canceled m = record { place = m.place; len = m.size; what = Skipped }
 met_as _ m = met_of m
@@ -66,7 +67,7 @@ module _ (sum : List ℕ → ℕ) (size : ℕ) (site : SegmentPosition) (log byt
   number = site.place / size
 
   -- One that has ended.
-  module _ (r : Reserved) (stands : Stands sum number bytes r) (behind : from ≤ r.from) (within : r.from + r.len ≤ to) where
+  module _ (r : Reserved) (stands : HasText sum number bytes r) (behind : from ≤ r.from) (within : r.from + r.len ≤ to) where
     abbrev body : List ℕ
     body = body_in bytes r
 
@@ -145,24 +146,26 @@ module _ (sum : List ℕ → ℕ) (size : ℕ) (site : SegmentPosition) (log byt
         let valid : kind.Canceled ≢ kind.Corrupted = λ same. cc in
         (header_as (as_record kind.Canceled valid).header kind.Canceled, body, record_stands kind.Canceled valid (text_there ∙ ap (text_as sum r.kind r.page number body) is), refl)
 
-    met_by : (s : ReservationState) → r.state ≡ s → (s ≡ Open → ⊥) → IsMet sum size log (site.slot + r.from) number (met_as s (message_in site bytes r))
-    met_by Open is not_open = absurd (not_open refl)
-    met_by Completed is not_open = is_met sum size log (site.slot + r.from) number (message_in site bytes r) (one_stands is) refl
-    met_by Canceled is not_open = one_skips is
+    met_by : (s : ReservationState) → r.state ≡ s → (s ≡ Open → ⊥) → s ≢ Padding → IsMet sum size log (site.slot + r.from) number (met_as s (message_in site bytes r))
+    met_by Open is not_open plain = absurd (not_open refl)
+    met_by Completed is not_open plain = is_met sum size log (site.slot + r.from) number (message_in site bytes r) (one_stands is) refl
+    met_by Canceled is not_open plain = one_skips is
+    met_by Padding is not_open plain = absurd (plain refl)
 
   -- They are met one behind another.
-  pub path_in : (at : ℕ) (rs : List Reserved) → from ≤ at → IsChain at rs to → All (Stands sum number bytes) rs → All (λ r. r.from + 32 ≤ size) rs → none_open rs ≡ true
+  pub path_in : (at : ℕ) (rs : List Reserved) → from ≤ at → IsChain at rs to → All (Stands sum size number bytes) rs → All NoPadding rs → none_open rs ≡ true
       → IsPath sum size log site.slot site.place at (met_in site bytes rs) to
-  path_in at [] behind chain stand room closed = sym chain
-  path_in at (r ∷ rs) behind chain stand room closed =
+  path_in at [] behind chain stand plain closed = sym chain
+  path_in at (r ∷ rs) behind chain stand plain closed =
       let ended = by_first r.state rs closed in
       let here : r.from ≡ at = chain.0 in
       let grows : at + r.len ≤ to = chain_grows (at + r.len) to rs chain.1 in
-      let has_room : r.from + 32 ≤ size = room 0 r (omega arith) in
-      let met = met_by r (stand 0 r (omega arith)) (omega (arith, here, behind)) (omega (arith, here, grows)) r.state refl ended.0 in
+      let stands = reserved_in sum size number bytes r (plain 0 r (omega arith)) (stand 0 r (omega arith)) in
+      let has_room : r.from + 32 ≤ size = stands.room in
+      let met = met_by r stands.text (omega (arith, here, behind)) (omega (arith, here, grows)) r.state refl ended.0 (plain 0 r (omega arith)) in
       let its_place : (met_as r.state (message_in site bytes r)).place ≡ site.place + r.from = met_place r.state (message_in site bytes r) in
       let its_len : (met_as r.state (message_in site bytes r)).len ≡ r.len = met_len r.state (message_in site bytes r) in
-      let rest = path_in (at + r.len) rs (omega (arith, behind)) chain.1 (All-tail (Stands sum number bytes) r rs stand) (All-tail (λ (x : Reserved). x.from + 32 ≤ size) r rs room) ended.1 in (
+      let rest = path_in (at + r.len) rs (omega (arith, behind)) chain.1 (All-tail (Stands sum size number bytes) r rs stand) (All-tail NoPadding r rs plain) ended.1 in (
         omega (arith, here, has_room),
         its_place ∙ ap (λ n. site.place + n) here,
         subst (λ n. IsMet sum size log (site.slot + n) number (met_as r.state (message_in site bytes r))) here met,
@@ -173,21 +176,25 @@ module _ (sum : List ℕ → ℕ) (size : ℕ) (site : SegmentPosition) (log byt
       met_place Open m = refl
       met_place Completed m = refl
       met_place Canceled m = refl
+      met_place Padding m = refl
 
       met_len : (s : ReservationState) (m : Message) → (met_as s m).len ≡ m.size
       met_len Open m = refl
       met_len Completed m = refl
       met_len Canceled m = refl
+      met_len Padding m = refl
 
   -- The messages of those that were completed stand at their pointers.
-  pub own_in : (at : ℕ) (rs : List Reserved) → max 20 from ≤ at → IsChain at rs to → All (Stands sum number bytes) rs → All (λ r. r.from + 32 ≤ size) rs → All (StandsOwn sum size log site to) (completed_in site bytes rs)
-  own_in at [] behind chain stand room = λ k d lt. absurd (omega arith)
-  own_in at (r ∷ rs) behind chain stand room =
+  pub own_in : (at : ℕ) (rs : List Reserved) → max 20 from ≤ at → IsChain at rs to → All (Stands sum size number bytes) rs → All (StandsOwn sum size log site to) (completed_in site bytes rs)
+  own_in at [] behind chain stand = λ k d lt. absurd (omega arith)
+  own_in at (r ∷ rs) behind chain stand =
       let here : r.from ≡ at = chain.0 in
       let grows : at + r.len ≤ to = chain_grows (at + r.len) to rs chain.1 in
-      let rest = own_in (at + r.len) rs (omega (arith, behind)) chain.1 (All-tail (Stands sum number bytes) r rs stand) (All-tail (λ (x : Reserved). x.from + 32 ≤ size) r rs room) in
+      let rest = own_in (at + r.len) rs (omega (arith, behind)) chain.1 (All-tail (Stands sum size number bytes) r rs stand) in
       all_own (StandsOwn sum size log site to) r.state (message_in site bytes r) (completed_in site bytes rs)
-      (λ own. one_own r (stand 0 r (omega arith)) (omega (arith, here, behind)) (omega (arith, here, grows)) own (omega (arith, here, behind)) (room 0 r (omega arith))) rest
+      (λ own.
+      let stands = reserved_in sum size number bytes r (completed_plain r.state own) (stand 0 r (omega arith)) in
+      one_own r stands.text (omega (arith, here, behind)) (omega (arith, here, grows)) own (omega (arith, here, behind)) stands.room) rest
 
 -- The bytes that are written are there.
 module _ (old bytes : List ℕ) (slot from : ℕ) (behind : from < length bytes) where

@@ -1,6 +1,5 @@
 -- A reservation that ends has its record, or one that is passed over, at its place, and no other one is touched.
-use Rattle.std.proofs.Common.{◌≡◌, ◌≤◌, ◌<◌, ◌+◌, ◌-◌, inl, inr, ℕ, List, [], ◌∷◌, ◌++◌, length, take, drop, sym, ◌∙◌, ap, arith, refl, subst, false, Some}
-use Rattle.std.specs.List.{All}
+use Rattle.std.proofs.Common.{◌≡◌, ◌≤◌, ◌+◌, ◌-◌, inl, inr, ℕ, List, [], ◌∷◌, ◌++◌, length, take, drop, sym, ◌∙◌, ap, arith, refl, subst, false, Some}
 use Rattle.std.proofs.lemmas.List.{drop-drop, take-take, take_at}
 use Rattle.sled_codec.specs.Written.{written}
 use Rattle.sled_codec.specs.Places.{part}
@@ -16,10 +15,10 @@ use Rattle.sled_codec.specs.History.{ChangesPage}
 use Rattle.sled_core.specs.declared.iobuf.ReservationState.{ReservationState}
 use Rattle.sled_core.specs.declared.iobuf.ReservationState.TheVariants.{Open, Completed, Canceled}
 use Rattle.sled_core.specs.declared.iobuf.Reserved.{Reserved}
-use Rattle.sled_core.specs.Buffers.{text_in, body_in, text_as, placeholder, ending, completing, canceling, ended, StandsAs, Stands}
+use Rattle.sled_core.specs.Buffers.{text_in, body_in, text_as, placeholder, ending, completing, canceling, ended, HasText, Stands, StandsAs}
+use Rattle.sled_core.proofs.Reserve.Entries.{stands-same}
 use Rattle.sled_core.proofs.Reserve.Parts.{mid_is}
 use Rattle.sled_core.proofs.Reserve.Ranges.{part-written_before, part-written_behind, part-written_at}
-use Rattle.sled_core.proofs.Holds.HoldsLemmas.{stands-same}
 
 -- a message that has a kind to be written under changes a page
 pub changes_page : (does : LogKind) (page : ℕ) (kind : MessageKind) → kind_written does page false ≡ Some kind → ChangesPage does
@@ -52,7 +51,7 @@ summed_around bytes r code headed long within =
     λ i. body i ++ tail i
 
 -- A sum and a kind are written over the beginning of what stands in a reservation.
-module _ (sum : List ℕ → ℕ) (number : ℕ) (bytes : List ℕ) (r : Reserved) (within : r.from + r.len ≤ length bytes) (stands : Stands sum number bytes r) where
+module _ (sum : List ℕ → ℕ) (number : ℕ) (bytes : List ℕ) (r : Reserved) (within : r.from + r.len ≤ length bytes) (stands : HasText sum number bytes r) where
   abbrev body : List ℕ
   body = body_in bytes r
 
@@ -64,12 +63,12 @@ module _ (sum : List ℕ → ℕ) (number : ℕ) (bytes : List ℕ) (r : Reserve
     fits = let a = stands.headed in let b = stands.long in omega (arith, a, b, within)
 
     -- one before it
-    pub body_before : (x : Reserved) → x.from + x.len ≤ r.from → Stands sum number bytes x → body_in new x ≡ body_in bytes x
-    body_before x before at_x = let long = at_x.long in part-written_before bytes (ending word k) r.from (x.from + x.header_len) (x.len - x.header_len) (omega arith) fits
+    pub body_before : (x : Reserved) → x.from + x.len ≤ r.from → x.header_len ≤ x.len → body_in new x ≡ body_in bytes x
+    body_before x before long = part-written_before bytes (ending word k) r.from (x.from + x.header_len) (x.len - x.header_len) (omega arith) fits
 
-    pub same_before : (x : Reserved) → x.from + x.len ≤ r.from → Stands sum number bytes x → Stands sum number new x
-    same_before x before at_x =
-        stands-same sum number bytes new x (part-written_before bytes (ending word k) r.from x.from x.len before fits) (body_before x before at_x) at_x
+    pub same_before : (size : ℕ) (x : Reserved) → x.from + x.len ≤ r.from → Stands sum size number bytes x → Stands sum size number new x
+    same_before size x before at_x =
+        stands-same sum size number bytes new x (part-written_before bytes (ending word k) r.from x.from x.len before fits) (body_before x before) at_x
 
     -- one behind it
     pub body_behind : (x : Reserved) → r.from + r.len ≤ x.from → body_in new x ≡ body_in bytes x
@@ -77,10 +76,10 @@ module _ (sum : List ℕ → ℕ) (number : ℕ) (bytes : List ℕ) (r : Reserve
         let a = stands.headed in let b = stands.long in
         part-written_behind bytes (ending word k) r.from (x.from + x.header_len) (x.len - x.header_len) (omega (arith, a, b)) fits
 
-    pub same_behind : (x : Reserved) → r.from + r.len ≤ x.from → Stands sum number bytes x → Stands sum number new x
-    same_behind x behind at_x =
+    pub same_behind : (size : ℕ) (x : Reserved) → r.from + r.len ≤ x.from → Stands sum size number bytes x → Stands sum size number new x
+    same_behind size x behind at_x =
         let a = stands.headed in let b = stands.long in
-        stands-same sum number bytes new x (part-written_behind bytes (ending word k) r.from x.from x.len (omega (arith, a, b)) fits) (body_behind x behind) at_x
+        stands-same sum size number bytes new x (part-written_behind bytes (ending word k) r.from x.from x.len (omega (arith, a, b)) fits) (λ long. body_behind x behind) at_x
 
     -- its own body
     pub body_own : body_in new r ≡ body
@@ -99,7 +98,7 @@ module _ (sum : List ℕ → ℕ) (number : ℕ) (bytes : List ℕ) (r : Reserve
         ∙ record_is sum number r.page word r.kind k body summed
 
     ended_stands : (word : ℕ) (k : MessageKind) (state : ReservationState) → text_in (written bytes r.from (ending word k)) r ≡ text_as sum r.kind r.page number body state
-        → Stands sum number (written bytes r.from (ending word k)) (ended state r)
+        → HasText sum number (written bytes r.from (ending word k)) (ended state r)
     ended_stands word k state text =
         let completed : List ℕ = written bytes r.from (ending word k) in
         let as_new : StandsAs sum number (text_in completed r) body (ended state r) = record {
@@ -115,7 +114,7 @@ module _ (sum : List ℕ → ℕ) (number : ℕ) (bytes : List ℕ) (r : Reserve
         subst (λ (b : List ℕ). StandsAs sum number (text_in completed r) b (ended state r)) (sym (body_own word k)) as_new
 
     -- What stands in it once it is completed is its record.
-    pub completed_stands : Stands sum number (written bytes r.from (completing r)) (ended Completed r)
+    pub completed_stands : HasText sum number (written bytes r.from (completing r)) (ended Completed r)
     completed_stands = ended_stands r.sum r.kind Completed (text_own r.sum r.kind stands.summed)
 
     -- between its kind and its body stands what the header has there, whatever its kind
@@ -139,9 +138,5 @@ module _ (sum : List ℕ → ℕ) (number : ℕ) (bytes : List ℕ) (r : Reserve
     text_canceled = text_own (sum (body ++ code_of kind.Canceled ∷ part bytes (r.from + 5) (r.header_len - 5))) kind.Canceled (ap (λ (l : List ℕ). flipped (sum (body ++ l))) tail_there)
 
     -- And once it is aborted it is one that is passed over.
-    pub canceled_stands : Stands sum number (written bytes r.from (canceling sum bytes r)) (ended Canceled r)
+    pub canceled_stands : HasText sum number (written bytes r.from (canceling sum bytes r)) (ended Canceled r)
     canceled_stands = ended_stands (sum (body ++ code_of kind.Canceled ∷ part bytes (r.from + 5) (r.header_len - 5))) kind.Canceled Canceled text_canceled
-
--- what stands in a reservation has a length
-pub some_long : (sum : List ℕ → ℕ) (number : ℕ) (bytes : List ℕ) (rs : List Reserved) → All (Stands sum number bytes) rs → All (λ x. 0 < x.len) rs
-some_long sum number bytes rs all k d lt = let s = all k d lt in let a = s.headed in let b = s.long in omega (arith, a, b)

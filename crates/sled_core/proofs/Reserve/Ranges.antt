@@ -8,7 +8,7 @@ use Rattle.sled_codec.specs.Places.{part}
 use Rattle.sled_codec.specs.Written.{written}
 use Rattle.sled_codec.specs.History.{Message}
 use Rattle.sled_core.specs.declared.iobuf.ReservationState.{ReservationState}
-use Rattle.sled_core.specs.declared.iobuf.ReservationState.TheVariants.{Open, Completed, Canceled}
+use Rattle.sled_core.specs.declared.iobuf.ReservationState.TheVariants.{Open, Completed, Canceled, Padding}
 use Rattle.sled_core.specs.declared.iobuf.Reserved.{Reserved}
 use Rattle.sled_core.specs.declared.iobuf.SegmentPosition.{SegmentPosition}
 use Rattle.sled_store.proofs.Segments.Elements.{in_cases, in_rest}
@@ -47,33 +47,43 @@ own-append : (s : ReservationState) (m : Message) (xs ys : List Message) → wit
 own-append Open m xs ys = refl
 own-append Completed m xs ys = refl
 own-append Canceled m xs ys = refl
+own-append Padding m xs ys = refl
 
 -- what holds of it, if it was completed, and of the others holds of all
 pub all_own : (P : Message → Type 0) (s : ReservationState) (m : Message) (ms : List Message) → (s ≡ Completed → P m) → All P ms → All P (with_own s m ms)
 all_own P Open m ms own all = all
 all_own P Completed m ms own all = All-cons P m ms (own refl) all
 all_own P Canceled m ms own all = all
+all_own P Padding m ms own all = all
 
 -- one of all is it, and then it was completed, or one of the others
 pub own_cases : (s : ReservationState) (m : Message) (ms : List Message) (x : Message) → Contains (with_own s m ms) x → ((s ≡ Completed) × (m ≡ x)) ⊎ Contains ms x
 own_cases Open m ms x there = inr there
 own_cases Completed m ms x there = elim (in_cases m x ms there) [ inl is ↦ inl (refl, is) | inr later ↦ inr later ]
 own_cases Canceled m ms x there = inr there
+own_cases Padding m ms x there = inr there
 
 -- the others are among all
 pub own_rest : (s : ReservationState) (m : Message) (ms : List Message) (x : Message) → Contains ms x → Contains (with_own s m ms) x
 own_rest Open m ms x there = there
 own_rest Completed m ms x there = in_rest m x ms there
 own_rest Canceled m ms x there = there
+own_rest Padding m ms x there = there
+
+-- two of them, if both are the same where it was completed
+own_same : (s : ReservationState) (m n : Message) (ms ns : List Message) → (s ≡ Completed → m ≡ n) → ms ≡ ns → with_own s m ms ≡ with_own s n ns
+own_same Open m n ms ns own rest = rest
+own_same Completed m n ms ns own rest = λ i. own refl i ∷ rest i
+own_same Canceled m n ms ns own rest = rest
+own_same Padding m n ms ns own rest = rest
 
 -- Messages that stand in the same bytes are the same.
-pub completed-same : (site : SegmentPosition) (old new : List ℕ) (rs : List Reserved) → All (λ r. body_in new r ≡ body_in old r) rs → completed_in site new rs ≡ completed_in site old rs
+pub completed-same : (site : SegmentPosition) (old new : List ℕ) (rs : List Reserved) → All (λ r. r.state ≡ Completed → body_in new r ≡ body_in old r) rs → completed_in site new rs ≡ completed_in site old rs
 completed-same site old new [] all = refl
 completed-same site old new (r ∷ rs) all =
-    let rest : completed_in site new rs ≡ completed_in site old rs = completed-same site old new rs (All-tail (λ x. body_in new x ≡ body_in old x) r rs all) in
-    let here : body_in new r ≡ body_in old r = all 0 r (omega arith) in
-    let message : message_in site new r ≡ message_in site old r = ap (λ (l : List ℕ). record (message_in site old r) { bytes = l }) here in
-    λ i. with_own r.state (message i) (rest i)
+    let rest : completed_in site new rs ≡ completed_in site old rs = completed-same site old new rs (All-tail (λ x. x.state ≡ Completed → body_in new x ≡ body_in old x) r rs all) in
+    own_same r.state (message_in site new r) (message_in site old r) (completed_in site new rs) (completed_in site old rs)
+    (λ done. ap (λ (l : List ℕ). record (message_in site old r) { bytes = l }) (all 0 r (omega arith) done)) rest
 
 pub completed-append : (site : SegmentPosition) (bytes : List ℕ) (xs ys : List Reserved) → completed_in site bytes (xs ++ ys) ≡ completed_in site bytes xs ++ completed_in site bytes ys
 completed-append site bytes [] ys = refl

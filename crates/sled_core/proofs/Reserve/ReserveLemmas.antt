@@ -16,7 +16,7 @@ use Rattle.sled_core.specs.declared.iobuf.Reserved.{Reserved}
 use Rattle.sled_core.specs.declared.iobuf.Purpose.{Purpose}
 use Rattle.sled_core.specs.declared.iobuf.SegmentPosition.{SegmentPosition}
 use Rattle.sled_codec.specs.declared.result.DiskPtr.TheVariants.{Inline}
-use Rattle.sled_core.specs.Buffers.{text_in, body_in, message_in, placeholder, placeholder_head, reserved_for, record_size, StandsAs, Stands}
+use Rattle.sled_core.specs.Buffers.{text_in, body_in, message_in, placeholder, placeholder_head, reserved_for, record_size, HasText, StandsAs}
 use Rattle.sled_core.proofs.Reserve.Heads.{length-short_header_tail}
 
 -- no message is written as damage
@@ -76,7 +76,7 @@ module _ (sum : List ℕ → ℕ) (number : ℕ) (bytes head item : List ℕ) (k
       let behind : drop 5 head ≡ drop 1 (short_header_tail kept.kind (length item) number kept.page) = sym (drop-drop 1 4 head) ∙ ap (drop 1) tail in
       ap (λ (l : List ℕ). replicate 5 0 ++ l ++ item) behind
 
-  pub stands : Stands sum number (bytes ++ more) reserved
+  pub stands : HasText sum number (bytes ++ more) reserved
   unfolding record_sum
   stands =
       let as_item : StandsAs sum number (text_in (bytes ++ more) reserved) item reserved = record {

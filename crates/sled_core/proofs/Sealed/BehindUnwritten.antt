@@ -1,5 +1,5 @@
 -- A sealed buffer is written behind one that isn't: torn or whole, a reader finds what he found before.
-use Rattle.std.proofs.Common.{◌≡◌, ◌≤◌, ◌<◌, ◌+◌, ◌%◌, ◌⊎◌, ℕ, zero, suc, max, Bool, false, List, [], ◌∷◌, ◌++◌, length, take, get_or, refl, subst, arith, inl, inr}
+use Rattle.std.proofs.Common.{◌≡◌, ◌≤◌, ◌<◌, ◌+◌, ◌%◌, ◌⊎◌, ℕ, max, Bool, false, List, [], ◌∷◌, ◌++◌, length, take, get_or, refl, subst, arith, inl, inr}
 use Rattle.std.specs.List.{All}
 use Rattle.sled_codec.specs.History.{History}
 use Rattle.sled_codec.specs.Snapshots.{SnapshotModel}
@@ -8,12 +8,13 @@ use Rattle.sled_store.specs.Foreign.{NoForeignLog}
 use Rattle.sled_core.specs.declared.iobuf.Reserved.{Reserved}
 use Rattle.sled_core.specs.declared.iobuf.Sealed.{Sealed}
 use Rattle.sled_core.specs.declared.iobuf.SegmentPosition.{SegmentPosition}
-use Rattle.sled_core.specs.Buffers.{IsChain}
+use Rattle.sled_core.specs.Buffers.{IsChain, NoPadding, Stands}
 use Rattle.sled_core.specs.Reached.{StandsAlone}
 use Rattle.sled_core.specs.Recoverable.{NoHeaderOfZeros}
 use Rattle.sled_core.specs.SealedBuffers.{AreSealed, sealed_end, LaidOne, Laid, bytes_between}
 use Rattle.sled_core.proofs.Reached.StandsTo.{StandsTo}
-use Rattle.sled_core.proofs.Reserve.Ranges.{chain_grows}
+use Rattle.sled_core.proofs.Reserve.Entries.{HasSpace, IsLong, all_long, all_space, reserved_in}
+use Rattle.sled_core.proofs.Reserve.Ranges.{chain_grows, chain_within}
 use Rattle.sled_core.proofs.Sealed.Clear.{first_of, own_long}
 use Rattle.sled_core.proofs.Sealed.GapWritten.{gap_written, torn_gap}
 use Rattle.sled_core.proofs.Sealed.LaidLemmas.{EndsRise}
@@ -25,20 +26,31 @@ first_room : (size from : ℕ) (own : List Reserved) (end : ℕ) → 20 ≤ from
 first_room size from [] end begun rises chain room = absurd (omega (arith, chain, rises, begun))
 first_room size from (r ∷ more) end begun rises chain room = let fits = room r more refl in omega (arith, fits, chain.0)
 
-first_fits : (size n : ℕ) (xs : List Reserved) (r : Reserved) (more : List Reserved) → take n xs ≡ r ∷ more → All (λ x. x.from + 32 ≤ size) xs → r.from + 32 ≤ size
-first_fits size zero xs r more is all = absurd (let never : ⊥ = cc in never)
-first_fits size (suc n) [] r more is all = absurd (let never : ⊥ = cc in never)
-first_fits size (suc n) (x ∷ xs) r more is all = let same : x ≡ r = cc in subst (λ (y : Reserved). y.from + 32 ≤ size) same (all 0 x (omega arith))
-
 -- Where a record has room behind what was written, if the first buffer isn't written.
-pub head_room : (size from : ℕ) → 256 ≤ size → (from ≡ 0) ⊎ (20 ≤ from) → (rs : List Reserved) (x : Sealed) (xs : List Sealed) → AreSealed from rs (x ∷ xs) → All (λ r. r.from + 32 ≤ size) rs → from + 32 ≤ size
+pub head_room : (size from : ℕ) → 256 ≤ size → (from ≡ 0) ⊎ (20 ≤ from) → (rs : List Reserved) (x : Sealed) (xs : List Sealed) → AreSealed from rs (x ∷ xs)
+    → ((r : Reserved) (more : List Reserved) → take x.count rs ≡ r ∷ more → r.from + 32 ≤ size) → from + 32 ≤ size
 head_room size from some (inl none) rs x xs are room = omega (arith, none, some)
-head_room size from some (inr begun) rs x xs are room = first_room size from (take x.count rs) x.end begun are.0.rises are.0.chain (λ r more is. first_fits size x.count rs r more is room)
+head_room size from some (inr begun) rs x xs are room = first_room size from (take x.count rs) x.end begun are.0.rises are.0.chain room
+
+-- It does where no entry fills the segment,
+pub plain_room : (sum : List ℕ → ℕ) (size number : ℕ) (bytes : List ℕ) (from : ℕ) → 256 ≤ size → (from ≡ 0) ⊎ (20 ≤ from) → (rs : List Reserved) (x : Sealed) (xs : List Sealed) → AreSealed from rs (x ∷ xs)
+    → All (Stands sum size number bytes) rs → All NoPadding rs → from + 32 ≤ size
+plain_room sum size number bytes from some begins rs x xs are stand plain = head_room size from some begins rs x xs are (λ r more is. first_of (λ y. y.from + 32 ≤ size) x.count rs r more is room) where
+  room : All (λ (r : Reserved). r.from + 32 ≤ size) rs
+  room k d lt = (reserved_in sum size number bytes (get_or rs k d) (plain k d lt) (stand k d lt)).room
+
+-- and where the buffer ends before the segment.
+below_room : (size from : ℕ) → 256 ≤ size → (from ≡ 0) ⊎ (20 ≤ from) → (rs : List Reserved) (x : Sealed) (xs : List Sealed) → AreSealed from rs (x ∷ xs) → All (HasSpace size) rs → x.end < size → from + 32 ≤ size
+below_room size from some begins rs x xs are space low = head_room size from some begins rs x xs are room where
+  room : (r : Reserved) (more : List Reserved) → take x.count rs ≡ r ∷ more → r.from + 32 ≤ size
+  room r more is =
+      let within = (chain_within (max 20 from) x.end (r ∷ more) (subst (λ (l : List Reserved). IsChain (max 20 from) l x.end) is are.0.chain) 0 r (omega arith)).1 in
+      elim (first_of (HasSpace size) x.count rs r more is space) [ inl fits ↦ fits | inr ends ↦ absurd (omega (arith, ends, within, low)) ]
 
 -- and it is longer than the sum and the kind of a record
-pub head_long : (from : ℕ) → (from ≡ 0) ⊎ (20 ≤ from) → (rs : List Reserved) (x : Sealed) (xs : List Sealed) → AreSealed from rs (x ∷ xs) → All (λ r. 5 ≤ r.len) rs → from + 5 ≤ x.end
-head_long from (inl none) rs x xs are lens = let grows = chain_grows (max 20 from) x.end (take x.count rs) are.0.chain in omega (arith, grows, none)
-head_long from (inr begun) rs x xs are lens = own_long from (take x.count rs) x.end begun are.0.rises are.0.chain (λ r more is. first_of x.count rs r more is lens)
+pub head_long : (size from : ℕ) → from + 32 ≤ size → (from ≡ 0) ⊎ (20 ≤ from) → (rs : List Reserved) (x : Sealed) (xs : List Sealed) → AreSealed from rs (x ∷ xs) → All (IsLong size) rs → from + 5 ≤ x.end
+head_long size from room (inl none) rs x xs are lens = let grows = chain_grows (max 20 from) x.end (take x.count rs) are.0.chain in omega (arith, grows, none)
+head_long size from room (inr begun) rs x xs are lens = own_long size from (take x.count rs) x.end begun room are.0.rises are.0.chain (λ r more is. first_of (IsLong size) x.count rs r more is lens)
 
 -- or than a header
 pub head_headed : (from : ℕ) (rs : List Reserved) (x : Sealed) (xs : List Sealed) → AreSealed from rs (x ∷ xs) → from ≡ 0 → 20 ≤ x.end
@@ -46,7 +58,7 @@ head_headed from rs x xs are none = let grows = chain_grows (max 20 from) x.end 
 
 module _ (sum : List ℕ → ℕ) (none : NoHeaderOfZeros sum) (size : ℕ) (some : 256 ≤ size) (old : List ℕ) (site : SegmentPosition) (slot_begins : site.slot % size ≡ 0) (bytes : List ℕ) (from : ℕ) (begins : (from ≡ 0) ⊎ (20 ≤ from))
     (rs : List Reserved) (x : Sealed) (xs : List Sealed) (b : Sealed) (rest : List Sealed) (fresh : x.is_written ≡ false) (are : AreSealed from rs (x ∷ xs ++ b ∷ rest)) (rise : EndsRise from (x ∷ xs ++ b ∷ rest) size) (inside : b.end ≤ length bytes)
-    (lens : All (λ r. 5 ≤ r.len) rs) (room : All (λ r. r.from + 32 ≤ size) rs) (reach : ℕ) (H : History) (first : SnapshotModel) where
+    (number : ℕ) (stand : All (Stands sum size number bytes) rs) (reach : ℕ) (H : History) (first : SnapshotModel) where
   -- where it begins
   abbrev at : ℕ
   at = sealed_end x.end xs
@@ -65,10 +77,10 @@ module _ (sum : List ℕ → ℕ) (none : NoHeaderOfZeros sum) (size : ℕ) (som
     clean = let zeros : LaidOne file site.slot bytes from false x.end = subst (λ (o : Bool). LaidOne file site.slot bytes from o x.end) fresh laid.0 in zeros
 
     has_room : from + 32 ≤ size
-    has_room = head_room size from some begins rs x (xs ++ b ∷ rest) are room
+    has_room = let far = lies in below_room size from some begins rs x (xs ++ b ∷ rest) are (all_space sum size number bytes rs stand) (omega (arith, far.0, far.1, far.2))
 
     gap : from + 5 ≤ x.end
-    gap = head_long from begins rs x (xs ++ b ∷ rest) are lens
+    gap = head_long size from has_room begins rs x (xs ++ b ∷ rest) are (all_long sum size number bytes rs stand)
 
     -- What a crash leaves of it.
     pub torn_behind_unwritten : StandsAlone sum size file site from reach H first → (now left : List ℕ) → length now ≤ length asked → LeavesLog (after_write file (site.slot + at) asked now) left → {placed : List (ℕ × List ℕ)}

@@ -2,6 +2,7 @@
 use Rattle.std.proofs.Common.{◌≡◌, ◌≤◌, ◌<◌, ◌+◌, ◌/◌, ◌%◌, ◌^◌, ◌-◌, ◌⊎◌, replicate, ℕ, pos, max, false, List, [], ◌∷◌, ◌++◌, length, take, sym, subst, arith, inl, inr}
 use Rattle.std.specs.List.{All, Contains}
 use Rattle.std.proofs.lemmas.Bool.{cases_lt}
+use Rattle.std.proofs.lemmas.List.Elements.{All-take}
 use Rattle.sled_codec.specs.History.{Batch, History}
 use Rattle.sled_codec.specs.Snapshots.{SnapshotModel}
 use Rattle.sled_store.specs.Device.{overwritten}
@@ -9,7 +10,7 @@ use Rattle.sled_store.proofs.Histories.Ascending.{Ascends}
 use Rattle.sled_core.specs.declared.iobuf.Reserved.{Reserved}
 use Rattle.sled_core.specs.declared.iobuf.Sealed.{Sealed}
 use Rattle.sled_core.specs.declared.iobuf.SegmentPosition.{SegmentPosition}
-use Rattle.sled_core.specs.Buffers.{completed_in, Stands}
+use Rattle.sled_core.specs.Buffers.{NoPadding, Stands, completed_in}
 use Rattle.sled_core.specs.Fits.{HasMark}
 use Rattle.sled_core.specs.LogFile.{HasHeader, padded}
 use Rattle.sled_core.specs.Reached.{StandsAlone}
@@ -22,7 +23,7 @@ use Rattle.sled_core.proofs.Reserve.Ranges.{part-append}
 use Rattle.sled_codec.specs.Record.{IsHeader}
 use Rattle.sled_core.proofs.Flush.WrittenFile.{header_written}
 use Rattle.sled_core.proofs.Reached.BufferPath.{HasOnly}
-use Rattle.sled_core.proofs.Sealed.BehindUnwritten.{head_headed, written_behind_unwritten}
+use Rattle.sled_core.proofs.Sealed.BehindUnwritten.{head_headed, plain_room, written_behind_unwritten}
 use Rattle.sled_core.proofs.Sealed.HeadSealed.{head_sealed_written}
 use Rattle.sled_core.proofs.Sealed.LaidLemmas.{EndsRise, laid_same}
 use Rattle.sled_core.proofs.Sealed.OneWritten.{has_written, long, rises_at}
@@ -36,7 +37,7 @@ module _ (sum : List ℕ → ℕ) (size : ℕ) (some : 256 ≤ size) (old : List
 
   -- The first buffer.
   module _ (b : Sealed) (rest : List Sealed) (fresh : b.is_written ≡ false) (closed : b.open_count ≡ 0) (are : AreSealed from rs (b ∷ rest)) (rise : EndsRise from (b ∷ rest) size) (inside : b.end ≤ length bytes)
-      (stand : All (Stands sum (site.place / size) bytes) rs) (room : All (λ r. r.from + 32 ≤ size) rs) {H : History} (header : from ≡ 0 → HasMark sum site bytes H)
+      {H : History} (header : from ≡ 0 → HasMark sum site bytes H)
       (old_header : 0 < from → HasHeader sum old site) (laid : Laid old site.slot bytes from (b ∷ rest) size) where
     abbrev asked : List ℕ
     asked = bytes_between bytes from b.end
@@ -79,16 +80,16 @@ module _ (sum : List ℕ → ℕ) (size : ℕ) (some : 256 ≤ size) (old : List
         record { mark = h.mark; header = subst (λ (l : List ℕ). IsHeader sum l (pos site.place) h.mark) (sym (part-append new (replicate (to - length new) 0) site.slot 20 long)) h.header; below = h.below }
 
     -- A reader reads up to the end of those that are written now.
-    pub first_alone : NoHeaderOfZeros sum → (reach : ℕ) (first : SnapshotModel) → HasOnly H (completed_in site bytes (take (b.count + run_count rest) rs)) (site.place + max 20 from) (site.place + run_end b.end rest)
+    pub first_alone : All (Stands sum size (site.place / size) bytes) rs → All NoPadding rs → NoHeaderOfZeros sum → (reach : ℕ) (first : SnapshotModel) → HasOnly H (completed_in site bytes (take (b.count + run_count rest) rs)) (site.place + max 20 from) (site.place + run_end b.end rest)
         → Ascends H.messages → least_place size first ≤ site.place → ((c : Batch) → Contains H.batches c → c.low < site.place + run_end b.end rest → c.peg < site.place + run_end b.end rest)
         → (to : ℕ) → site.slot ≤ to → StandsAlone sum size (filled to) site from reach H first → StandsAlone sum size (padded to new) site (run_end b.end rest) (site.place + run_end b.end rest) H first
-    first_alone zeros reach first has ordered low ended to far alone = subst (λ (l : List ℕ). StandsAlone sum size l site (run_end b.end rest) (site.place + run_end b.end rest) H first) (same_file to)
-        (head_sealed_written sum zeros size some (filled to) site place_begins slot_begins place_small slot_small bytes from begins rs b rest fresh closed are rise inside stand room header (laid_filled to) reach first alone has
-        ordered (omega (arith, padded_long to old, far)) low ended (subst (λ (l : List ℕ). HasHeader sum l site) (sym (same_file to)) (padded_header to)))
+    first_alone stand plain zeros reach first has ordered low ended to far alone = subst (λ (l : List ℕ). StandsAlone sum size l site (run_end b.end rest) (site.place + run_end b.end rest) H first) (same_file to)
+        (head_sealed_written sum zeros size some (filled to) site place_begins slot_begins place_small slot_small bytes from begins rs b rest fresh closed are rise inside stand (plain_room sum size (site.place / size) bytes from some begins rs b rest are stand plain) header (laid_filled to) reach first alone has
+        ordered (omega (arith, padded_long to old, far)) low (subst (λ (l : List ℕ). HasHeader sum l site) (sym (same_file to)) (padded_header to)) (All-take NoPadding (b.count + run_count rest) rs plain) ended)
 
   -- Another one, behind a first one that isn't written.
   module _ (x : Sealed) (xs : List Sealed) (b : Sealed) (rest : List Sealed) (fresh : x.is_written ≡ false) (are : AreSealed from rs (x ∷ xs ++ b ∷ rest)) (rise : EndsRise from (x ∷ xs ++ b ∷ rest) size) (inside : b.end ≤ length bytes)
-      (lens : All (λ r. 5 ≤ r.len) rs) (room : All (λ r. r.from + 32 ≤ size) rs) (laid : Laid old site.slot bytes from (x ∷ xs ++ b ∷ rest) size) where
+      (number : ℕ) (stand : All (Stands sum size number bytes) rs) (laid : Laid old site.slot bytes from (x ∷ xs ++ b ∷ rest) size) where
     abbrev at : ℕ
     at = sealed_end x.end xs
 
@@ -109,4 +110,4 @@ module _ (sum : List ℕ → ℕ) (size : ℕ) (some : 256 ≤ size) (old : List
     pub later_alone : NoHeaderOfZeros sum → (reach : ℕ) (H : History) (first : SnapshotModel) (to : ℕ) → site.slot ≤ to → StandsAlone sum size (filled to) site from reach H first
         → StandsAlone sum size (padded to (overwritten old (site.slot + at) asked_later)) site from reach H first
     later_alone zeros reach H first to far alone = subst (λ (l : List ℕ). StandsAlone sum size l site from reach H first) (same_later to)
-        (written_behind_unwritten sum zeros size some old site slot_begins bytes from begins rs x xs b rest fresh are rise inside lens room reach H first (filled to) (laid_later to) alone (omega (arith, padded_long to old, far)))
+        (written_behind_unwritten sum zeros size some old site slot_begins bytes from begins rs x xs b rest fresh are rise inside number stand reach H first (filled to) (laid_later to) alone (omega (arith, padded_long to old, far)))

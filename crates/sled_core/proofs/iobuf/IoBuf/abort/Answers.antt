@@ -4,7 +4,7 @@ use Rattle.sled_codec.specs.declared.serialization.message.MessageKind.TheVarian
 use Rattle.sled_codec.specs.Places.{part}
 use Rattle.sled_codec.specs.Written.{written}
 use Rattle.sled_core.specs.declared.iobuf.Reserved.{Reserved}
-use Rattle.sled_core.specs.Buffers.{body_in, canceling, ending}
+use Rattle.sled_core.specs.Buffers.{IsHeaded, body_in, canceling, ending}
 use Rattle.sled_core.proofs.Reserve.CompletesLemmas.{summed_around}
 use Rattle.sled_core.proofs.Reserve.Parts.{get_there}
 use Rattle.sled_core.proofs.Reserve.Ranges.{at_there, written-over}
@@ -16,7 +16,7 @@ returns-clause-bytes g c = λ r there.
     let rs : List Reserved = c.args.self.now.reserved.items in
     let its : Reserved = c.index-r.result.now in
     let same : its ≡ r = c.index-r.ensures ∙ get_there rs c.args.index r its there in
-    let headed = at_there (λ x. (5 ≤ x.header_len) × (x.header_len ≤ x.len)) rs c.args.index r there c.args.self.now.headed in
+    let headed = (at_there IsHeaded rs c.args.index r there c.args.self.now.headed).1 (c.requires.awaited r there) in
     let within = at_there (λ x. x.from + x.len ≤ length old) rs c.args.index r there c.args.self.now.within in
     let marked : List ℕ = written old (r.from + 4) (1 ∷ []) in
     let text : c.put.new.buf.items ≡ marked =

@@ -3,7 +3,7 @@ use Rattle.std.proofs.Common.{rules, refl, sym, ap, arith, ◌∙◌, ◌≡◌,
 use Rattle.std.specs.List.{All}
 use Rattle.std.proofs.lemmas.List.{drop-append-le}
 use Rattle.sled_core.specs.declared.iobuf.Reserved.{Reserved}
-use Rattle.sled_core.specs.Buffers.{IsChain, open_in}
+use Rattle.sled_core.specs.Buffers.{IsChain, IsHeaded, open_in}
 use Rattle.sled_core.specs.SealedBuffers.{AreSealed}
 use Rattle.sled_core.proofs.Reserve.OpenCounts.{open_more}
 use Rattle.sled_core.proofs.Reserve.Ranges.{all_joined, chain-append}
@@ -37,8 +37,8 @@ invariant_of-self g c =
       behind = (let le = c.args.self.now.behind in omega (arith, le, before, from, len));
       within = subst (λ (rs : List Reserved). All (λ r. r.from + r.len ≤ length bytes) rs) (sym new)
           (all_joined (λ (r : Reserved). r.from + r.len ≤ length bytes) old [] _ (λ i d lt. let le = c.args.self.now.within i d lt in omega (arith, le, from, before, len)) (omega (arith, len)) (λ i d lt. absurd (omega (arith, lt))));
-      headed = subst (λ (rs : List Reserved). All (λ r. (5 ≤ r.header_len) × (r.header_len ≤ r.len)) rs) (sym new)
-          (all_joined (λ (r : Reserved). (5 ≤ r.header_len) × (r.header_len ≤ r.len)) old [] _ c.args.self.now.headed (five, omega arith) (λ i d lt. absurd (omega (arith, lt))));
+      headed = subst (λ (rs : List Reserved). All IsHeaded rs) (sym new)
+          (all_joined IsHeaded old [] _ c.args.self.now.headed (omega (arith, five), λ is. (five, omega arith)) (λ i d lt. absurd (omega (arith, lt))));
       numbered = (let le = c.args.self.now.numbered in let count = ap length new ∙ length-append old (_ ∷ []) in omega (arith, le, count, len, from, before, five));
       head = c.args.self.now.head;
       are = subst (λ (rs : List Reserved). AreSealed c.args.self.now.written_len rs c.args.self.now.sealed.items) (sym new) (sealed_more c.args.self.now.written_len old c.args.self.now.sealed.items (_ ∷ []) c.args.self.now.are);

@@ -8,7 +8,7 @@ use Rattle.sled_core.specs.declared.iobuf.ReservationState.{ReservationState}
 use Rattle.sled_core.specs.declared.iobuf.ReservationState.TheVariants.{Open}
 use Rattle.sled_core.specs.declared.iobuf.Reserved.{Reserved}
 use Rattle.sled_core.specs.declared.iobuf.Sealed.{Sealed}
-use Rattle.sled_core.specs.Buffers.{IsChain, ended, ending, open_in, open_state}
+use Rattle.sled_core.specs.Buffers.{IsChain, IsHeaded, ended, ending, open_in, open_state}
 use Rattle.sled_core.specs.SealedBuffers.{AreSealed, FirstUnwritten, HasOpenAt, one_ended, sealed_count, sealed_end}
 use Rattle.sled_core.proofs.Reserve.OpenCounts.{open_fewer}
 use Rattle.sled_core.proofs.Reserve.Parts.{get_there, there_is}
@@ -22,15 +22,19 @@ still : (P : Reserved → Type 0) (old new : List Reserved) (i : ℕ) (r : Reser
     → ((x : Reserved) → P x → P (ended state x)) → All P old → All P new
 still P old new i r state there set_is ends all = subst (λ (rs : List Reserved). All P rs) (sym set_is) (All-set P old i (ended state r) (ends r (at_there P old i r there all)) all)
 
+-- a state in which a reservation has ended isn't the one in which it is open
+not_open : (s : ReservationState) → open_state s ≡ false → s ≡ Open → ⊥
+not_open s ends is = let both : open_state Open ≡ false = ap open_state (sym is) ∙ ends in cc
+
 module _ (from : ℕ) (rs : List Reserved) (bs : List Sealed) (i : ℕ) (r : Reserved) (there : slice_get rs i ≡ Some r) (open_yet : r.state ≡ Open) where
-  has_open : AreSealed from rs bs → i < sealed_count bs → All (λ x. (5 ≤ x.header_len) × (x.header_len ≤ x.len)) rs → HasOpenAt from rs i r.from bs
+  has_open : AreSealed from rs bs → i < sealed_count bs → All IsHeaded rs → HasOpenAt from rs i r.from bs
   has_open are theirs headed = record {
     reserved = r;
     are = are;
     theirs = theirs;
     there = there;
     begins = refl;
-    some = (let long = at_there (λ x. (5 ≤ x.header_len) × (x.header_len ≤ x.len)) rs i r there headed in let a = long.0 in let b = long.1 in omega (arith, a, b));
+    some = (at_there IsHeaded rs i r there headed).0;
     open_yet = open_yet;
   }
 
@@ -97,7 +101,7 @@ invariant_of-self c =
       begun = omega (arith, len);
       behind = (let le = c.args.self.now.behind in omega (arith, le, len));
       within = still (λ x. x.from + x.len ≤ length c.put_ending.new.buf.items) rs _ i r c.args.state there new (λ x h. h) (subst (λ (n : ℕ). All (λ x. x.from + x.len ≤ n) rs) len c.args.self.now.within);
-      headed = still (λ x. (5 ≤ x.header_len) × (x.header_len ≤ x.len)) rs _ i r c.args.state there new (λ x h. h) c.args.self.now.headed;
+      headed = still IsHeaded rs _ i r c.args.state there new (λ x h. (h.0, λ is. absurd (not_open c.args.state c.requires.ends is))) c.args.self.now.headed;
       numbered = (let le = c.args.self.now.numbered in omega (arith, le, count, len));
       head = subst (λ (l : List Sealed). FirstUnwritten l) (sym left) (first_ended i bs c.args.self.now.head);
       are = subst (λ (l : List Sealed). AreSealed from c.close.new.reserved.items l) (sym left)
@@ -131,7 +135,7 @@ invariant_of-self-else-index-self c =
       begun = omega (arith, len);
       behind = (let le = c.args.self.now.behind in omega (arith, le, len));
       within = still (λ x. x.from + x.len ≤ length c.put_ending.new.buf.items) rs _ i r c.args.state there new (λ x h. h) (subst (λ (n : ℕ). All (λ x. x.from + x.len ≤ n) rs) len c.args.self.now.within);
-      headed = still (λ x. (5 ≤ x.header_len) × (x.header_len ≤ x.len)) rs _ i r c.args.state there new (λ x h. h) c.args.self.now.headed;
+      headed = still IsHeaded rs _ i r c.args.state there new (λ x h. (h.0, λ is. absurd (not_open c.args.state c.requires.ends is))) c.args.self.now.headed;
       numbered = (let le = c.args.self.now.numbered in omega (arith, le, count, len));
       head = c.args.self.now.head;
       are = subst (λ (l : List Sealed). AreSealed from c.close.new.reserved.items l) none

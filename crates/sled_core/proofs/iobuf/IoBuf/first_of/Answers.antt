@@ -19,7 +19,7 @@ returns c =
     let few = count_within bs c.args.k in
     let current : IsChain (max 20 b.begin) (drop b.first rs) (length b.bytes.items) = b.chain in
     let chain = whole_chain b.written_len rs bs (length b.bytes.items) b.are (subst (λ n. IsChain (max 20 n) (drop (sealed_count bs) rs) (length b.bytes.items)) at (subst (λ n. IsChain (max 20 b.begin) (drop n rs) (length b.bytes.items)) before current)) in
-    let long : All (λ r. 0 < r.len) rs = λ k d lt. let h = b.headed k d lt in omega (arith, h.0, h.1) in
+    let long : All (λ r. 0 < r.len) rs = λ k d lt. (b.headed k d lt).0 in
     let point = c.begun_before.ensures.point (from_in_order (max 20 b.written_len) (length b.bytes.items) rs chain) in
     first_index b.written_len rs bs c.args.k c.begun_before.result (length b.bytes.items) b.are chain long (omega (arith, few, before, parted)) c.begun_before.ensures.bound
     (subst (λ n. IsPartitionPoint (λ (r : Reserved). r.from < n) (λ (r : Reserved). n ≤ r.from) rs c.begun_before.result) c.span-from.ensures.from point)

@@ -5,7 +5,7 @@ use Rattle.std.proofs.lemmas.List.{drop-drop}
 use Rattle.std.proofs.lemmas.List.Elements.{All-drop}
 use Rattle.sled_core.specs.declared.iobuf.Reserved.{Reserved}
 use Rattle.sled_core.specs.declared.iobuf.Sealed.{Sealed}
-use Rattle.sled_core.specs.Buffers.{IsChain, open_in}
+use Rattle.sled_core.specs.Buffers.{IsChain, IsHeaded, open_in}
 use Rattle.sled_core.specs.SealedBuffers.{AreSealed, FirstUnwritten, behind_run, run_count, run_end, sealed_count, sealed_end, written_at}
 use Rattle.sled_core.proofs.Sealed.Marked.{count_run, count_written, end_run, end_written, first_behind, ready_closed, written_are}
 use Rattle.sled_core.proofs.Sealed.Runs.{run_of}
@@ -71,7 +71,7 @@ invariant_of-self c =
       begun = c.args.self.now.begun;
       behind = c.args.self.now.behind;
       within = subst (λ (l : List Reserved). All (λ r. r.from + r.len ≤ length c.args.self.now.bytes.items) l) (sym rest) (All-drop (λ (r : Reserved). r.from + r.len ≤ length c.args.self.now.bytes.items) (run_count ws) rs c.args.self.now.within);
-      headed = subst (λ (l : List Reserved). All (λ r. (5 ≤ r.header_len) × (r.header_len ≤ r.len)) l) (sym rest) (All-drop (λ (r : Reserved). (5 ≤ r.header_len) × (r.header_len ≤ r.len)) (run_count ws) rs c.args.self.now.headed);
+      headed = subst (λ (l : List Reserved). All IsHeaded l) (sym rest) (All-drop IsHeaded (run_count ws) rs c.args.self.now.headed);
       numbered = (let numbered = c.args.self.now.numbered in omega (arith, numbered, count, long, less, within));
       head = subst (λ (l : List Sealed). FirstUnwritten l) (sym left) (first_behind ws);
       are = subst (λ n. AreSealed n c.drop_first.new.reserved.items c.take_run-end.new.sealed.items) (sym end)

@@ -6,7 +6,7 @@ use Rattle.sled_codec.specs.Spelling.{short_number, short_header_tail}
 use Rattle.sled_store.specs.Device.{state_of}
 use Rattle.sled_core.specs.declared.iobuf.Reserved.{Reserved}
 use Rattle.sled_core.specs.declared.iobuf.Purpose.{Purpose}
-use Rattle.sled_core.specs.Buffers.{first_open_in, placeholder_head, reserved_for, message_in, open_in}
+use Rattle.sled_core.specs.Buffers.{IsHeaded, first_open_in, placeholder_head, reserved_for, message_in, open_in}
 use Rattle.sled_core.specs.SealedBuffers.{sealed_count}
 use Rattle.sled_core.specs.Tickets.{place_of, index_of}
 use Rattle.sled_codec.specs.History.{History}
@@ -126,7 +126,7 @@ returns-clause-others g c = λ ticket m awaits.
     let r : Reserved = awaits.reserved in
     let more : List ℕ = placeholder_head (head g c) ++ item g c in
     let within = at_there (λ x. x.from + x.len ≤ length old.bytes.items) old.reserved.items (index_of ticket - old.gone) r awaits.there old.within in
-    let headed = at_there (λ x. (5 ≤ x.header_len) × (x.header_len ≤ x.len)) old.reserved.items (index_of ticket - old.gone) r awaits.there old.headed in
+    let headed = (at_there IsHeaded old.reserved.items (index_of ticket - old.gone) r awaits.there old.headed).1 awaits.own.open_yet in
     record {
       reserved = r;
       numbered = omega (arith, awaits.numbered, gone_is g c);
