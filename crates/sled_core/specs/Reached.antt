@@ -1,5 +1,5 @@
 -- What a reader finds of a settled log file, up to a place that the log has reached.
-use Rattle.std.specs.Prelude.{◌≡◌, ◌≢◌, ◌⊎◌, ◌+◌, ◌*◌, ◌/◌, ◌%◌, ◌≤◌, ◌<◌, ◌<ℤ◌, ℕ, pos, List, [], Some, Contains}
+use Rattle.std.specs.Prelude.{◌≡◌, ◌≢◌, ◌⊎◌, ◌+◌, ◌*◌, ◌/◌, ◌%◌, ◌≤◌, ◌<◌, ◌<ℤ◌, ℕ, pos, List, [], ◌∷◌, Some, Contains}
 use Rattle.sled_codec.specs.Coords.{raised}
 use Rattle.sled_codec.specs.History.{Message, Batch, History, table}
 use Rattle.sled_codec.specs.Snapshots.{SnapshotModel, stable_place}
@@ -91,6 +91,11 @@ pub record BegunSegment : Type 0 where
   pub site : SegmentPosition
   pub from : ℕ
 
+-- Segments follow one behind another, in slots that are apart.
+abbrev pub FollowApart : SegmentPosition → List BegunSegment → Type 0
+FollowApart site [] = Unit {0}
+FollowApart site (x ∷ xs) = ((y : BegunSegment) → Contains (x ∷ xs) y → (site.place < y.site.place) × (y.site.slot ≢ site.slot)) × FollowApart x.site xs
+
 -- Of these segments one begins at a place.
 abbrev pub BeginsOne : List BegunSegment → ℕ → Type 0
 BeginsOne others place = (x : BegunSegment) × Contains others x × (x.site.place ≡ place)
@@ -102,7 +107,7 @@ pub record StandsAmong (sum : List ℕ → ℕ) (size : ℕ) (log : List ℕ) (s
   pub led : IsLed sum size log (least_place size first) reach site.place
   pub here : StandsIn sum size log (least_place size first) stands.scanned site from
   pub behind : (x : BegunSegment) → Contains others x → StandsIn sum size log (least_place size first) stands.scanned x.site x.from
-  pub apart : (x : BegunSegment) → Contains others x → (site.place < x.site.place) × (x.site.slot ≢ site.slot)
+  pub apart : FollowApart site others
   pub last : (s : Segment) → IsFoundSegment sum size log (least_place size first) s → (s.place ≤ site.place) ⊎ BeginsOne others s.place
   pub below : (s : Segment) → IsFoundSegment sum size log (least_place size first) s → s.mark <ℤ pos (site.place + from)
 

@@ -1,8 +1,9 @@
 -- A buffer is written to one slot of a log file: the segments in other slots stand there as they stood, and the one in that slot stands up to where its records end now.
-use Rattle.std.proofs.Common.{◌≡◌, ◌≢◌, ◌+◌, ◌*◌, ◌/◌, ◌%◌, ◌<◌, ◌≤◌, ◌∙◌, ℕ, ℤ, pos, List, length, sym, ap, subst, arith, inl, inr}
+use Rattle.std.proofs.Common.{◌≡◌, ◌++◌, ◌∷◌, [], ◌⊎◌, ◌≢◌, ◌+◌, ◌*◌, ◌/◌, ◌%◌, ◌<◌, ◌≤◌, ◌∙◌, ℕ, ℤ, pos, List, length, sym, ap, subst, arith, inl, inr}
 use Rattle.std.specs.List.{Contains}
 use Rattle.std.proofs.Math.Nat.{mod-add-div'}
 use Rattle.std.proofs.lemmas.Bool.{cases_eq}
+use Rattle.std.proofs.lemmas.List.Elements.{Contains-append_right}
 use Rattle.sled_codec.specs.History.{History}
 use Rattle.sled_codec.specs.Places.{part}
 use Rattle.sled_codec.specs.Record.{IsHeader}
@@ -13,11 +14,12 @@ use Rattle.sled_core.specs.declared.iterator.Segment.{Segment}
 use Rattle.sled_core.specs.declared.iterator.scan.ScanEnd.{ScanEnd}
 use Rattle.sled_core.specs.declared.iterator.scan.ScanEnd.TheVariants.{Broken}
 use Rattle.sled_core.specs.LogFile.{HasHeader}
-use Rattle.sled_core.specs.Reached.{GoesOnIn, IsReadTo, IsSoFar, StandsIn}
+use Rattle.sled_core.specs.Reached.{BeginsOne, BegunSegment, FollowApart, GoesOnIn, IsReadTo, IsSoFar, StandsIn}
 use Rattle.sled_core.specs.Scan.{IsFoundSegment}
 use Rattle.sled_core.specs.Tail.{Scanned, least_place}
 use Rattle.sled_codec.proofs.Segments.{one_header}
 use Rattle.sled_core.proofs.Read.FoundLemmas.{pos_injective}
+use Rattle.sled_store.proofs.Segments.Elements.{in_cases, in_first, in_nothing, in_rest}
 use Rattle.sled_core.proofs.Reached.Higher.{known_in}
 use Rattle.sled_core.proofs.Reached.LeftBeside.{IsSameBeside, found_beside}
 use Rattle.sled_core.proofs.Reached.StandsTo.{StandsTo}
@@ -97,3 +99,56 @@ module _ (sum : List ℕ → ℕ) (size : ℕ) (some : 256 ≤ size) (old : List
       own = λ s found here. its_place_now s found (here ∙ its_slot);
       read = λ later. (stop, why, read, far);
     }
+
+-- those that follow a segment lie behind it, in other slots
+pub follows : (site : SegmentPosition) (others : List BegunSegment) → FollowApart site others → (x : BegunSegment) → Contains others x → (site.place < x.site.place) × (x.site.slot ≢ site.slot)
+follows site [] apart x among = absurd (in_nothing x among)
+follows site (y ∷ ys) apart x among = apart.0 x among
+
+-- One of the segments that follow has another extent now: the others are those that they were, and all have their sites.
+
+abbrev pub grown_one : BegunSegment → ℕ → BegunSegment
+grown_one y so_far = record { site = y.site; from = so_far }
+
+-- each of them is that one, or another one of before, before it or behind it
+pub was_other : (site : SegmentPosition) (pre : List BegunSegment) (y : BegunSegment) (post : List BegunSegment) (so_far : ℕ) → FollowApart site (pre ++ y ∷ post) → (x : BegunSegment) → Contains (pre ++ grown_one y so_far ∷ post) x
+    → (x ≡ grown_one y so_far) ⊎ (Contains (pre ++ y ∷ post) x × (x.site.slot ≢ y.site.slot) × (x.site.place ≢ y.site.place))
+was_other site [] y post so_far apart x among = elim (in_cases (grown_one y so_far) x post among) [
+  | inl same ↦ inl (sym same)
+  | inr later ↦ (let f = follows y.site post apart.1 x later in inr (in_rest y x post later, f.1, λ same. let low = f.0 in omega (arith, low, same)))
+]
+was_other site (z ∷ zs) y post so_far apart x among = elim (in_cases z x (zs ++ grown_one y so_far ∷ post) among) [
+  | inl same ↦ (
+      let f = follows z.site (zs ++ y ∷ post) apart.1 y (Contains-append_right zs (y ∷ post) y (in_first y post)) in
+      inr (subst (λ (w : BegunSegment). Contains (z ∷ zs ++ y ∷ post) w) same (in_first z (zs ++ y ∷ post)),
+        λ at. f.1 (sym at ∙ ap (λ (w : BegunSegment). w.site.slot) (sym same)), λ at. let low = f.0 in let here = ap (λ (w : BegunSegment). w.site.place) same in omega (arith, low, at, here)))
+  | inr later ↦ elim (was_other z.site zs y post so_far apart.1 x later) [
+    | inl one ↦ inl one
+    | inr had ↦ inr (in_rest z x (zs ++ y ∷ post) had.0, had.1, had.2)
+  ]
+]
+
+-- the sites are the same
+pub begins_still : (pre : List BegunSegment) (y : BegunSegment) (post : List BegunSegment) (so_far place : ℕ) → BeginsOne (pre ++ y ∷ post) place → BeginsOne (pre ++ grown_one y so_far ∷ post) place
+begins_still [] y post so_far place (x, among, at) = elim (in_cases y x post among) [
+  | inl same ↦ (grown_one y so_far, in_first (grown_one y so_far) post, ap (λ (w : BegunSegment). w.site.place) same ∙ at)
+  | inr later ↦ (x, in_rest (grown_one y so_far) x post later, at)
+]
+begins_still (z ∷ zs) y post so_far place (x, among, at) = elim (in_cases z x (zs ++ y ∷ post) among) [
+  | inl same ↦ (x, subst (λ (w : BegunSegment). Contains (z ∷ zs ++ grown_one y so_far ∷ post) w) same (in_first z (zs ++ grown_one y so_far ∷ post)), at)
+  | inr later ↦ (let rest = begins_still zs y post so_far place (x, later, at) in (rest.0, in_rest z rest.0 (zs ++ grown_one y so_far ∷ post) rest.1, rest.2))
+]
+
+apart_in : (pre : List BegunSegment) (y : BegunSegment) (post : List BegunSegment) (so_far : ℕ) (P : SegmentPosition → Type 0) → ((x : BegunSegment) → Contains (pre ++ y ∷ post) x → P x.site) → (x : BegunSegment) → Contains (pre ++ grown_one y so_far ∷ post) x → P x.site
+apart_in [] y post so_far P all x among = elim (in_cases (grown_one y so_far) x post among) [
+  | inl same ↦ subst (λ (w : BegunSegment). P w.site) same (all y (in_first y post))
+  | inr later ↦ all x (in_rest y x post later)
+]
+apart_in (z ∷ zs) y post so_far P all x among = elim (in_cases z x (zs ++ grown_one y so_far ∷ post) among) [
+  | inl same ↦ subst (λ (w : BegunSegment). P w.site) same (all z (in_first z (zs ++ y ∷ post)))
+  | inr later ↦ apart_in zs y post so_far P (λ w at. all w (in_rest z w (zs ++ y ∷ post) at)) x later
+]
+
+pub follow_still : (site : SegmentPosition) (pre : List BegunSegment) (y : BegunSegment) (post : List BegunSegment) (so_far : ℕ) → FollowApart site (pre ++ y ∷ post) → FollowApart site (pre ++ grown_one y so_far ∷ post)
+follow_still site [] y post so_far apart = (apart_in [] y post so_far (λ s. (site.place < s.place) × (s.slot ≢ site.slot)) apart.0, apart.1)
+follow_still site (z ∷ zs) y post so_far apart = (apart_in (z ∷ zs) y post so_far (λ s. (site.place < s.place) × (s.slot ≢ site.slot)) apart.0, follow_still z.site zs y post so_far apart.1)

@@ -23,7 +23,7 @@ use Rattle.sled_core.proofs.Read.FoundLemmas.{pos_injective}
 use Rattle.sled_core.proofs.Torn.WrittenBegun.{none_in_zeros}
 use Rattle.sled_core.proofs.Reached.Higher.{known_in}
 use Rattle.sled_core.proofs.Reached.LeftBeside.{IsSameBeside, found_beside}
-use Rattle.sled_core.proofs.Reached.SegmentsBeside.{going_in, segment_stays}
+use Rattle.sled_core.proofs.Reached.SegmentsBeside.{follows, going_in, segment_stays}
 use Rattle.sled_core.proofs.Reached.StandsTo.{StandsTo}
 use Rattle.sled_core.proofs.Reached.WrittenUnread.{torn_headless, torn_unread, written_headless, written_unread, zero_below}
 use Rattle.sled_core.proofs.Reached.WrittenWhole.{all_done, leaves_new, same_whole}
@@ -111,7 +111,7 @@ module _ (sum : List ℕ → ℕ) (none : NoHeaderOfZeros sum) (size : ℕ) (som
     behind_by : (now : StandsTo sum size new H reach first reach) → ((s : Segment) → IsFoundSegment sum size new (least_place size first) s → s.slot ≡ site.slot → s.place ≡ site.place)
         → (x : BegunSegment) → Contains others x → StandsIn sum size new (least_place size first) now.scanned x.site x.from
     behind_by now own x among =
-        let apart = alone.apart x among in
+        let apart = follows site others alone.apart x among in
         segment_stays sum size some old site.slot slot_begins at asked inside there H reach first reach alone.stands reach reach now x.site x.from site.place apart.1 (λ same. let low = apart.0 in omega (arith, same, low)) own (alone.behind x among)
 
     -- No mark lies behind what is written, where that of the segment doesn't.

@@ -28,7 +28,7 @@ use Rattle.sled_core.proofs.Reached.LeftBeside.{IsSameBeside}
 use Rattle.sled_core.proofs.Reached.OneWrite.{BeginsSegment, torn_stands, written_stands}
 use Rattle.sled_store.proofs.Segments.Elements.{in_nothing}
 use Rattle.sled_core.proofs.Reached.Recoverable.{less_than}
-use Rattle.sled_core.proofs.Reached.SegmentsBeside.{going_in, its_header, its_place_now, segment_grown, segment_stays}
+use Rattle.sled_core.proofs.Reached.SegmentsBeside.{follows, going_in, its_header, its_place_now, segment_grown, segment_stays}
 use Rattle.sled_core.proofs.Reached.StandsTo.{StandsTo}
 use Rattle.sled_core.proofs.Reached.WrittenWhole.{same_whole}
 use Rattle.sled_codec.specs.Coords.{raised}
@@ -222,7 +222,7 @@ module _ (sum : List ℕ → ℕ) (none : NoHeaderOfZeros sum) (size : ℕ) (som
       reached = inl refl;
       led = inl (omega (arith, rises));
       here = grown stop (inl (refl, broken));
-      behind = λ x among. let apart = alone.apart x among in stays x.site x.from apart.1 (λ at. let low = apart.0 in omega (arith, at, low)) (alone.behind x among);
+      behind = λ x among. let apart = follows site others alone.apart x among in stays x.site x.from apart.1 (λ at. let low = apart.0 in omega (arith, at, low)) (alone.behind x among);
       apart = alone.apart;
       last = last;
       below = below;
@@ -241,7 +241,7 @@ module _ (sum : List ℕ → ℕ) (none : NoHeaderOfZeros sum) (size : ℕ) (som
         read = λ later. absurd (omega (arith, later));
       };
       behind = λ x among. absurd (in_nothing x among);
-      apart = λ x among. absurd (in_nothing x among);
+      apart = tt;
       last = λ s found. inl (let at = low_or_none s found in omega (arith, at));
       below = λ s found. less_than s.mark (site.place + stop) (site.place + size + 0) (omega (arith, within)) (below s found);
     }

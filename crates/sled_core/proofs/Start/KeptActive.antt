@@ -100,7 +100,7 @@ begins_alone sum size log s first H site from same end begins own behind alone =
             (from, Broken, record { scan = g.scan; there = g.there; in_slot = g.in_slot; at_place = g.at_place; ended = g.ended; ends = g.broken }, inl (refl, λ room. refl));
       };
       behind = λ x among. absurd (in_nothing x among);
-      apart = λ x among. absurd (in_nothing x among);
+      apart = tt;
       last = λ x found. inl (omega (arith, here x (was x found)));
       below = λ x found. (
           let known = (alone.stands.numbers.found x).1 (was x found) in
