@@ -13,6 +13,7 @@ pub mod LaidCalls
 pub mod LaidLemmas
 pub mod Marked
 pub mod OneWritten
+pub mod OtherWritten
 pub mod Progress
 pub mod RecordsEnd
 pub mod Runs
