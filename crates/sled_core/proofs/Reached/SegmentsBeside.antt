@@ -120,8 +120,11 @@ was_other site [] y post so_far apart x among = elim (in_cases (grown_one y so_f
 was_other site (z ∷ zs) y post so_far apart x among = elim (in_cases z x (zs ++ grown_one y so_far ∷ post) among) [
   | inl same ↦ (
       let f = follows z.site (zs ++ y ∷ post) apart.1 y (Contains-append_right zs (y ∷ post) y (in_first y post)) in
-      inr (subst (λ (w : BegunSegment). Contains (z ∷ zs ++ y ∷ post) w) same (in_first z (zs ++ y ∷ post)),
-        λ at. f.1 (sym at ∙ ap (λ (w : BegunSegment). w.site.slot) (sym same)), λ at. let low = f.0 in let here = ap (λ (w : BegunSegment). w.site.place) same in omega (arith, low, at, here)))
+      inr (
+        subst (λ (w : BegunSegment). Contains (z ∷ zs ++ y ∷ post) w) same (in_first z (zs ++ y ∷ post)),
+        λ at. f.1 (sym at ∙ ap (λ (w : BegunSegment). w.site.slot) (sym same)),
+        λ at. let low = f.0 in let here = ap (λ (w : BegunSegment). w.site.place) same in omega (arith, low, at, here),
+      ))
   | inr later ↦ elim (was_other z.site zs y post so_far apart.1 x later) [
     | inl one ↦ inl one
     | inr had ↦ inr (in_rest z x (zs ++ y ∷ post) had.0, had.1, had.2)

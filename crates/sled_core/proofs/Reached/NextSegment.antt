@@ -1,0 +1,125 @@
+-- A segment is full and on the device: the reading goes on in the next one, as far as that was written before.
+use Rattle.std.proofs.Common.{◌≡◌, ◌≢◌, ◌⊎◌, ◌≤◌, ◌<◌, ◌<ℤ◌, ◌+◌, ◌∙◌, ℕ, pos, List, [], ◌∷◌, refl, sym, ap, subst, arith, inl, inr}
+use Rattle.std.specs.List.{Contains}
+use Rattle.sled_codec.specs.Coords.{raised}
+use Rattle.sled_codec.specs.History.{Batch, History}
+use Rattle.sled_codec.specs.Snapshots.{SnapshotModel}
+use Rattle.sled_store.proofs.Histories.Ascending.{Ascends}
+use Rattle.sled_store.proofs.Segments.Elements.{in_cases, in_first, in_nothing, in_rest}
+use Rattle.sled_core.specs.declared.iobuf.SegmentPosition.{SegmentPosition}
+use Rattle.sled_core.specs.declared.iterator.Segment.{Segment}
+use Rattle.sled_core.specs.declared.iterator.scan.ScanEnd.{ScanEnd}
+use Rattle.sled_core.specs.declared.iterator.scan.ScanEnd.TheVariants.{Broken}
+use Rattle.sled_core.specs.Reached.{BeginsNext, BeginsOne, BegunSegment, FollowApart, IsReadTo, IsSoFar, LeadsTo, StandsAmong, StandsIn}
+use Rattle.sled_core.specs.Recoverable.{NoMessageBegins, NoBatchBegins, NoBatchEnds}
+use Rattle.sled_core.specs.Scan.{IsFoundSegment}
+use Rattle.sled_core.specs.Tail.{Scanned, least_place}
+use Rattle.sled_core.proofs.Reached.Higher.{IsBegunOrLedTo, known_in, stands_higher}
+use Rattle.sled_core.proofs.Reached.Recoverable.{less_than}
+use Rattle.sled_core.proofs.Reached.StandsTo.{StandsTo}
+use Rattle.sled_core.proofs.Tail.OneTail.{segment_there}
+
+-- The segment before one at this place is full and read to its end; behind it come these, each as far as it is written.
+pub record StandsFull (sum : List ℕ → ℕ) (size : ℕ) (log : List ℕ) (place : ℕ) (others : List BegunSegment) (reach : ℕ) (H : History) (first : SnapshotModel) : Type 0 where
+  pub stands : StandsTo sum size log H reach first reach
+  pub leads : LeadsTo sum size log (least_place size first) reach place
+  pub near : BeginsNext size H reach place
+  pub behind : (x : BegunSegment) → Contains others x → StandsIn sum size log (least_place size first) stands.scanned x.site x.from
+  pub last : (s : Segment) → IsFoundSegment sum size log (least_place size first) s → (s.place < place) ⊎ BeginsOne others s.place
+  pub below : (s : Segment) → IsFoundSegment sum size log (least_place size first) s → s.mark <ℤ pos place
+
+-- What is read of a segment is so wherever the same file stands.
+pub stands_anew : (sum : List ℕ → ℕ) (size : ℕ) (log : List ℕ) (H : History) (A reach A' reach' : ℕ) (first : SnapshotModel) (is : StandsTo sum size log H A first reach) (now : StandsTo sum size log H A' first reach') (site : SegmentPosition) (from : ℕ)
+    → StandsIn sum size log (least_place size first) is.scanned site from → StandsIn sum size log (least_place size first) now.scanned site from
+stands_anew sum size log H A reach A' reach' first is now site from stands = record {
+  only = stands.only;
+  own = stands.own;
+  read = λ later.
+      let r = stands.read later in
+      let was = r.2 in
+      let had = segment_there sum size log is.ordering is.scanned is.reads was.scan was.there in
+      (r.0, r.1, record { scan = was.scan; there = known_in sum size log H A' first reach' now was.scan ((is.numbers.found was.scan.segment).0 had.0) had.1; in_slot = was.in_slot; at_place = was.at_place; ended = was.ended; ends = was.ends }, r.3);
+}
+
+module _ (sum : List ℕ → ℕ) (size : ℕ) (some : 256 ≤ size) (log : List ℕ) (y : BegunSegment) (ys : List BegunSegment) (reach : ℕ) (H : History) (first : SnapshotModel) (full : StandsFull sum size log y.site.place (y ∷ ys) reach H first) (follow : FollowApart y.site ys) where
+  abbrev pub least : ℕ
+  least = least_place size first
+
+  abbrev pub its : StandsIn sum size log least full.stands.scanned y.site y.from
+  its = full.behind y (in_first y ys)
+
+  last_behind : (s : Segment) → IsFoundSegment sum size log least s → (s.place ≤ y.site.place) ⊎ BeginsOne ys s.place
+  last_behind s found = elim (full.last s found) [
+    | inl low ↦ inl (omega (arith, low))
+    | inr (x, among, at) ↦ elim (in_cases y x ys among) [ inl same ↦ inl (let same_place = ap (λ (w : BegunSegment). w.site.place) same in omega (arith, same_place, at)) | inr later ↦ inr (x, later, at) ]
+  ]
+
+  -- Nothing of it is written: the reading ends before it.
+  pub next_begins : y.from ≡ 0 → StandsAmong sum size log y.site 0 ys reach H first
+  next_begins none = record {
+    stands = full.stands;
+    reached = inr (refl, full.near);
+    led = inr (inr full.leads);
+    here = subst (λ n. StandsIn sum size log least full.stands.scanned y.site n) none its;
+    behind = λ x among. full.behind x (in_rest y x ys among);
+    apart = follow;
+    last = last_behind;
+    below = λ s found. less_than s.mark y.site.place (y.site.place + 0) (omega arith) (full.below s found);
+  }
+
+  -- Some of it is.
+  module _ (ordered : Ascends H.messages) (later : 0 < y.from) where
+    abbrev pub read : (stop : ℕ) × (why : ScanEnd) × IsReadTo full.stands.scanned y.site.slot y.site.place stop why × IsSoFar size y.from stop why
+    read = its.read later
+
+    abbrev pub stop : ℕ
+    stop = read.0
+
+    -- no batch is open where it ends
+    module _ (closed : (b : Batch) → Contains H.batches b → b.low < y.site.place + stop → b.peg < y.site.place + stop) where
+      led : IsBegunOrLedTo size full.stands.scanned least reach y.site.place
+      led =
+          let l = full.leads in
+          inr (inr (record { scan = l.scan; there = known_in sum size log H reach first reach full.stands l.scan l.found l.read; next = l.next; goes = l.goes; below = l.below }))
+
+      pub further : StandsTo sum size log H (y.site.place + stop) first (y.site.place + stop)
+      further =
+          let is = read.2 in
+          let at = is.at_place in
+          let ended = is.ended in
+          let near = full.near.above in
+          let same : is.scan.segment.place + is.scan.stop ≡ y.site.place + stop = omega (arith, at, ended) in
+          subst (λ n. StandsTo sum size log H n first n) same
+          (stands_higher sum size log some H reach first reach full.stands ordered is.scan is.there (omega (arith, same, near)) (subst (IsBegunOrLedTo size full.stands.scanned least reach) (sym at) led) (subst (NoMessageBegins H reach) (sym at) full.near.no_message)
+          (λ b there lower. let peg = closed b there (omega (arith, lower, same)) in omega (arith, peg, same)) (is.scan.segment.place + is.scan.stop) (omega arith))
+
+      anew : (site : SegmentPosition) (from : ℕ) → StandsIn sum size log least full.stands.scanned site from → StandsIn sum size log least further.scanned site from
+      anew = stands_anew sum size log H reach reach (y.site.place + stop) (y.site.place + stop) first full.stands further
+
+      -- The reading ends in it.
+      pub next_goes : stop ≡ y.from → StandsAmong sum size log y.site y.from ys (y.site.place + stop) H first
+      next_goes at = record {
+        stands = further;
+        reached = inl (ap (λ n. y.site.place + n) at);
+        led = inl (omega (arith, at, later));
+        here = anew y.site y.from its;
+        behind = λ x among. anew x.site x.from (full.behind x (in_rest y x ys among));
+        apart = follow;
+        last = last_behind;
+        below = λ s found. less_than s.mark y.site.place (y.site.place + y.from) (omega arith) (full.below s found);
+      }
+
+      -- It is full too, and so the reading goes on behind it.
+      pub next_full : read.1 ≢ Broken → 0 < stop → BeginsNext size H (y.site.place + stop) (y.site.place + size) → StandsFull sum size log (y.site.place + size) ys (y.site.place + stop) H first
+      next_full goes begun near = record {
+        stands = further;
+        leads = (
+            let is = read.2 in
+            let at = is.at_place in
+            let had = segment_there sum size log full.stands.ordering full.stands.scanned full.stands.reads is.scan is.there in
+            record { scan = is.scan; found = (full.stands.numbers.found is.scan.segment).0 had.0; read = had.1; next = ap (λ n. n + size) at; goes = λ broken. goes (sym is.ends ∙ broken); below = omega (arith, at, begun) });
+        near = near;
+        behind = λ x among. anew x.site x.from (full.behind x (in_rest y x ys among));
+        last = λ s found. elim (last_behind s found) [ inl low ↦ inl (omega (arith, low, some)) | inr one ↦ inr one ];
+        below = λ s found. less_than s.mark y.site.place (y.site.place + size) (omega arith) (full.below s found);
+      }
