@@ -1,6 +1,9 @@
 -- A segment is full and on the device: the reading goes on in the next one, as far as that was written before.
-use Rattle.std.proofs.Common.{◌≡◌, ◌≢◌, ◌⊎◌, ◌≤◌, ◌<◌, ◌<ℤ◌, ◌+◌, ◌∙◌, ℕ, pos, List, [], ◌∷◌, refl, sym, ap, subst, arith, inl, inr}
+use Rattle.std.proofs.Common.{◌≡◌, ◌≢◌, ◌⊎◌, ◌≤◌, ◌<◌, ◌<ℤ◌, ◌+◌, ◌∙◌, ℕ, pos, List, [], ◌∷◌, ◌++◌, get_or, refl, sym, ap, subst, arith, inl, inr}
 use Rattle.std.specs.List.{Contains}
+use Rattle.std.proofs.lemmas.List.Elements.{Contains-append_cases, Contains-append_left}
+use Rattle.sled_codec.specs.Places.{part}
+use Rattle.sled_codec.specs.Record.{IsHeader}
 use Rattle.sled_codec.specs.Coords.{raised}
 use Rattle.sled_codec.specs.History.{Batch, History}
 use Rattle.sled_codec.specs.Snapshots.{SnapshotModel}
@@ -10,14 +13,15 @@ use Rattle.sled_core.specs.declared.iobuf.SegmentPosition.{SegmentPosition}
 use Rattle.sled_core.specs.declared.iterator.Segment.{Segment}
 use Rattle.sled_core.specs.declared.iterator.scan.ScanEnd.{ScanEnd}
 use Rattle.sled_core.specs.declared.iterator.scan.ScanEnd.TheVariants.{Broken}
-use Rattle.sled_core.specs.Reached.{BeginsNext, BeginsOne, BegunSegment, FollowApart, IsReadTo, IsSoFar, LeadsTo, StandsAmong, StandsIn}
-use Rattle.sled_core.specs.Recoverable.{NoMessageBegins, NoBatchBegins, NoBatchEnds}
+use Rattle.sled_core.specs.Reached.{BeginsNext, BeginsOne, BegunSegment, FollowApart, IsReadTo, IsSoFar, LeadsTo, StandsAlone, StandsAmong, StandsIn}
+use Rattle.sled_core.specs.Recoverable.{NoHeaderOfZeros, NoMessageBegins}
 use Rattle.sled_core.specs.Scan.{IsFoundSegment}
 use Rattle.sled_core.specs.Tail.{Scanned, least_place}
 use Rattle.sled_core.proofs.Reached.Higher.{IsBegunOrLedTo, known_in, stands_higher}
 use Rattle.sled_core.proofs.Reached.Recoverable.{less_than}
 use Rattle.sled_core.proofs.Reached.StandsTo.{StandsTo}
 use Rattle.sled_core.proofs.Tail.OneTail.{segment_there}
+use Rattle.sled_core.proofs.Torn.WrittenBegun.{none_in_zeros}
 
 -- The segment before one at this place is full and read to its end; behind it come these, each as far as it is written.
 pub record StandsFull (sum : List ℕ → ℕ) (size : ℕ) (log : List ℕ) (place : ℕ) (others : List BegunSegment) (reach : ℕ) (H : History) (first : SnapshotModel) : Type 0 where
@@ -40,6 +44,63 @@ stands_anew sum size log H A reach A' reach' first is now site from stands = rec
       let had = segment_there sum size log is.ordering is.scanned is.reads was.scan was.there in
       (r.0, r.1, record { scan = was.scan; there = known_in sum size log H A' first reach' now was.scan ((is.numbers.found was.scan.segment).0 had.0) had.1; in_slot = was.in_slot; at_place = was.at_place; ended = was.ended; ends = was.ends }, r.3);
 }
+
+-- A segment that is none of those that were begun begins in a slot of zeros.
+new_stands : (sum : List ℕ → ℕ) (none : NoHeaderOfZeros sum) (size : ℕ) (log : List ℕ) (least : ℕ) (scanned : List Scanned) (site : SegmentPosition) → ((s : Segment) → IsFoundSegment sum size log least s → s.place ≢ site.place)
+    → ((i : ℕ) → site.slot ≤ i → i < site.slot + 20 → get_or log i 0 ≡ 0) → StandsIn sum size log least scanned site 0
+new_stands sum none size log least scanned site other zeros = record {
+  only = λ s found same. absurd (other s found same);
+  own = λ s found here. absurd (none_in_zeros sum 20 none (omega arith) log site.slot zeros (pos s.place) s.mark (subst (λ n. IsHeader sum (part log n 20) (pos s.place) s.mark) here found.header));
+  read = λ later. absurd (omega (arith, later));
+}
+
+-- Behind a full one, where there are no others.
+pub begins_alone : (sum : List ℕ → ℕ) (none : NoHeaderOfZeros sum) (size : ℕ) (log : List ℕ) (place reach : ℕ) (H : History) (first : SnapshotModel) (slot : ℕ) → ((i : ℕ) → slot ≤ i → i < slot + 20 → get_or log i 0 ≡ 0)
+    → StandsFull sum size log place [] reach H first → StandsAlone sum size log (record { place = place; slot = slot }) 0 reach H first
+begins_alone sum none size log place reach H first slot zeros full = record {
+  stands = full.stands;
+  reached = inr (refl, full.near);
+  led = inr (inr full.leads);
+  here = new_stands sum none size log (least_place size first) full.stands.scanned (record { place = place; slot = slot }) (λ s found same. let low = low_all s found in omega (arith, low, same)) zeros;
+  behind = λ x among. absurd (in_nothing x among);
+  apart = tt;
+  last = λ s found. inl (let low = low_all s found in omega (arith, low));
+  below = λ s found. less_than s.mark place (place + 0) (omega arith) (full.below s found);
+}
+  where
+    low_all : (s : Segment) → IsFoundSegment sum size log (least_place size first) s → s.place < place
+    low_all s found = elim (full.last s found) [ inl low ↦ low | inr (x, among, at) ↦ absurd (in_nothing x among) ]
+
+-- Behind all that were begun.
+pub begins_behind : (sum : List ℕ → ℕ) (none : NoHeaderOfZeros sum) (size : ℕ) (log : List ℕ) (site : SegmentPosition) (from : ℕ) (others : List BegunSegment) (reach : ℕ) (H : History) (first : SnapshotModel) (new : SegmentPosition)
+    → site.place < new.place → ((x : BegunSegment) → Contains others x → x.site.place < new.place) → FollowApart site (others ++ record { site = new; from = 0 } ∷ []) → ((i : ℕ) → new.slot ≤ i → i < new.slot + 20 → get_or log i 0 ≡ 0)
+    → StandsAmong sum size log site from others reach H first → StandsAmong sum size log site from (others ++ record { site = new; from = 0 } ∷ []) reach H first
+begins_behind sum none size log site from others reach H first new above above_all apart zeros among = record {
+  stands = among.stands;
+  reached = among.reached;
+  led = among.led;
+  here = among.here;
+  behind = λ x at. elim (Contains-append_cases others (begun ∷ []) x at) [
+    | inl had ↦ among.behind x had
+    | inr added ↦ elim (in_cases begun x [] added) [
+      | inl same ↦ subst (λ (w : BegunSegment). StandsIn sum size log (least_place size first) among.stands.scanned w.site w.from) same
+          (new_stands sum none size log (least_place size first) among.stands.scanned new not_there zeros)
+      | inr never ↦ absurd (in_nothing x never)
+    ]
+  ];
+  apart = apart;
+  last = λ s found. elim (among.last s found) [ inl low ↦ inl low | inr (x, had, at) ↦ inr (x, Contains-append_left others (begun ∷ []) x had, at) ];
+  below = among.below;
+}
+  where
+    begun : BegunSegment
+    begun = record { site = new; from = 0 }
+
+    not_there : (s : Segment) → IsFoundSegment sum size log (least_place size first) s → s.place ≢ new.place
+    not_there s found same = elim (among.last s found) [
+      | inl low ↦ omega (arith, low, same, above)
+      | inr (x, had, at) ↦ (let under = above_all x had in omega (arith, under, at, same))
+    ]
 
 module _ (sum : List ℕ → ℕ) (size : ℕ) (some : 256 ≤ size) (log : List ℕ) (y : BegunSegment) (ys : List BegunSegment) (reach : ℕ) (H : History) (first : SnapshotModel) (full : StandsFull sum size log y.site.place (y ∷ ys) reach H first) (follow : FollowApart y.site ys) where
   abbrev pub least : ℕ

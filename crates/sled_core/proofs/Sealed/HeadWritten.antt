@@ -28,6 +28,7 @@ use Rattle.sled_core.proofs.Reached.LeftBeside.{IsSameBeside}
 use Rattle.sled_core.proofs.Reached.OneWrite.{BeginsSegment, torn_stands, written_stands}
 use Rattle.sled_store.proofs.Segments.Elements.{in_nothing}
 use Rattle.sled_core.proofs.Reached.Recoverable.{less_than}
+use Rattle.sled_core.proofs.Reached.NextSegment.{StandsFull, begins_alone}
 use Rattle.sled_core.proofs.Reached.SegmentsBeside.{follows, going_in, its_header, its_place_now, segment_grown, segment_stays}
 use Rattle.sled_core.proofs.Reached.StandsTo.{StandsTo}
 use Rattle.sled_core.proofs.Reached.WrittenWhole.{same_whole}
@@ -216,38 +217,39 @@ module _ (sum : List ℕ → ℕ) (none : NoHeaderOfZeros sum) (size : ℕ) (som
       | inr other ↦ less_than s.mark (site.place + from) (site.place + stop) (omega (arith, rises)) (alone.below s (beside.found (least_place size first) s other found))
     ]
 
+    others_stay : (x : BegunSegment) → Contains others x → StandsIn sum size new (least_place size first) stands.scanned x.site x.from
+    others_stay x among = let apart = follows site others alone.apart x among in stays x.site x.from apart.1 (λ at. let low = apart.0 in omega (arith, at, low)) (alone.behind x among)
+
     pub head_written : (stop + 32 ≤ size → why ≡ Broken) → StandsAmong sum size new site stop others (site.place + stop) H first
     head_written broken = record {
       stands = stands;
       reached = inl refl;
       led = inl (omega (arith, rises));
       here = grown stop (inl (refl, broken));
-      behind = λ x among. let apart = follows site others alone.apart x among in stays x.site x.from apart.1 (λ at. let low = apart.0 in omega (arith, at, low)) (alone.behind x among);
+      behind = others_stay;
       apart = alone.apart;
       last = last;
       below = below;
     }
 
-    -- Where it is full now, the next segment begins in a slot of zeros, and nothing of it is written; where it is none of the others, there are none.
-    pub next_alone : others ≡ [] → why ≢ Broken → stop ≤ size → NoMessageBegins H (site.place + stop) (site.place + size) → NoBatchBegins H (site.place + stop) (site.place + size) → NoBatchEnds H (site.place + stop) (site.place + size)
-        → (slot' : ℕ) → ((i : ℕ) → slot' ≤ i → i < slot' + 20 → get_or new i 0 ≡ 0) → StandsAlone sum size new (record { place = site.place + size; slot = slot' }) 0 (site.place + stop) H first
-    next_alone no_others goes within no_message no_batch no_end slot' zeros = record {
+    -- Where it is full now, the reading goes on in the next one.
+    pub head_filled : why ≢ Broken → stop ≤ size → NoMessageBegins H (site.place + stop) (site.place + size) → NoBatchBegins H (site.place + stop) (site.place + size) → NoBatchEnds H (site.place + stop) (site.place + size)
+        → StandsFull sum size new (site.place + size) others (site.place + stop) H first
+    head_filled goes within no_message no_batch no_end = record {
       stands = stands;
-      reached = inr (refl, record { above = omega (arith, within); next = omega (arith, further); no_message = no_message; no_batch = no_batch; no_end = no_end });
-      led = inr (inr (record { scan = y; found = y_found; read = y_scan; next = refl; goes = goes; below = omega (arith, rises) }));
-      here = record {
-        only = λ s found same. (let at = low_or_none s found in absurd (omega (arith, at, same, some)));
-        own = λ s found here. absurd (none_in_zeros sum 20 none (omega arith) new slot' zeros (pos s.place) s.mark (subst (λ n. IsHeader sum (part new n 20) (pos s.place) s.mark) here found.header));
-        read = λ later. absurd (omega (arith, later));
-      };
-      behind = λ x among. absurd (in_nothing x among);
-      apart = tt;
-      last = λ s found. inl (let at = low_or_none s found in omega (arith, at));
-      below = λ s found. less_than s.mark (site.place + stop) (site.place + size + 0) (omega (arith, within)) (below s found);
+      leads = record { scan = y; found = y_found; read = y_scan; next = refl; goes = goes; below = omega (arith, rises) };
+      near = record { above = omega (arith, within); next = omega (arith, further); no_message = no_message; no_batch = no_batch; no_end = no_end };
+      behind = others_stay;
+      last = λ s found. elim (last s found) [ inl low ↦ inl (omega (arith, low, some)) | inr one ↦ inr one ];
+      below = λ s found. less_than s.mark (site.place + stop) (site.place + size) (omega (arith, within)) (below s found);
     }
       where
         further : raised size (site.place + stop) ≡ site.place + size
         further = one_multiple size some (site.place + size) (site.place + stop + (size - 1)) (next_multiple size site.place place_begins) (omega (arith, rises, some)) (omega (arith, within, some))
 
-        low_or_none : (s : Segment) → IsFoundSegment sum size new (least_place size first) s → s.place ≤ site.place
-        low_or_none s found = elim (last s found) [ inl low ↦ low | inr one ↦ absurd (in_nothing one.0 (subst (λ (xs : List BegunSegment). Contains xs one.0) no_others one.1)) ]
+    -- The next segment begins in a slot of zeros, and nothing of it is written; where it is none of the others, there are none.
+    pub next_alone : others ≡ [] → why ≢ Broken → stop ≤ size → NoMessageBegins H (site.place + stop) (site.place + size) → NoBatchBegins H (site.place + stop) (site.place + size) → NoBatchEnds H (site.place + stop) (site.place + size)
+        → (slot' : ℕ) → ((i : ℕ) → slot' ≤ i → i < slot' + 20 → get_or new i 0 ≡ 0) → StandsAlone sum size new (record { place = site.place + size; slot = slot' }) 0 (site.place + stop) H first
+    next_alone no_others goes within no_message no_batch no_end slot' zeros =
+        begins_alone sum none size new (site.place + size) (site.place + stop) H first slot' zeros
+        (subst (λ (xs : List BegunSegment). StandsFull sum size new (site.place + size) xs (site.place + stop) H first) no_others (head_filled goes within no_message no_batch no_end))
