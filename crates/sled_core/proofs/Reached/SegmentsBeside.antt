@@ -105,6 +105,34 @@ pub follows : (site : SegmentPosition) (others : List BegunSegment) → FollowAp
 follows site [] apart x among = absurd (in_nothing x among)
 follows site (y ∷ ys) apart x among = apart.0 x among
 
+-- there is one of each slot, and of each place
+
+pub one_slot : (site : SegmentPosition) (others : List BegunSegment) → FollowApart site others → (x y : BegunSegment) → Contains others x → Contains others y → x.site.slot ≡ y.site.slot → x ≡ y
+one_slot site [] apart x y has had same = absurd (in_nothing x has)
+one_slot site (z ∷ zs) apart x y has had same = elim (in_cases z x zs has) [
+  | inl first_one ↦ elim (in_cases z y zs had) [
+    | inl also ↦ sym first_one ∙ also
+    | inr later ↦ (let f = follows z.site zs apart.1 y later in absurd (f.1 (sym same ∙ ap (λ (w : BegunSegment). w.site.slot) (sym first_one))))
+  ]
+  | inr later ↦ elim (in_cases z y zs had) [
+    | inl first_one ↦ (let f = follows z.site zs apart.1 x later in absurd (f.1 (same ∙ ap (λ (w : BegunSegment). w.site.slot) (sym first_one))))
+    | inr also ↦ one_slot z.site zs apart.1 x y later also same
+  ]
+]
+
+pub one_place : (site : SegmentPosition) (others : List BegunSegment) → FollowApart site others → (x y : BegunSegment) → Contains others x → Contains others y → x.site.place ≡ y.site.place → x ≡ y
+one_place site [] apart x y has had same = absurd (in_nothing x has)
+one_place site (z ∷ zs) apart x y has had same = elim (in_cases z x zs has) [
+  | inl first_one ↦ elim (in_cases z y zs had) [
+    | inl also ↦ sym first_one ∙ also
+    | inr later ↦ (let f = follows z.site zs apart.1 y later in let low = f.0 in let here = ap (λ (w : BegunSegment). w.site.place) first_one in absurd (omega (arith, low, here, same)))
+  ]
+  | inr later ↦ elim (in_cases z y zs had) [
+    | inl first_one ↦ (let f = follows z.site zs apart.1 x later in let low = f.0 in let here = ap (λ (w : BegunSegment). w.site.place) first_one in absurd (omega (arith, low, here, same)))
+    | inr also ↦ one_place z.site zs apart.1 x y later also same
+  ]
+]
+
 -- One of the segments that follow has another extent now: the others are those that they were, and all have their sites.
 
 abbrev pub grown_one : BegunSegment → ℕ → BegunSegment

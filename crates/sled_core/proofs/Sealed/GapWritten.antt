@@ -22,8 +22,8 @@ use Rattle.sled_codec.proofs.Segments.{one_header}
 use Rattle.sled_core.proofs.Read.FoundLemmas.{pos_injective}
 use Rattle.sled_core.proofs.Torn.WrittenBegun.{none_in_zeros}
 use Rattle.sled_core.proofs.Reached.Higher.{known_in}
-use Rattle.sled_core.proofs.Reached.LeftBeside.{IsSameBeside, found_beside}
-use Rattle.sled_core.proofs.Reached.SegmentsBeside.{follows, going_in, segment_stays}
+use Rattle.sled_core.proofs.Reached.LeftBeside.{IsSameBeside}
+use Rattle.sled_core.proofs.Reached.SegmentsBeside.{follows, going_in, one_place, one_slot, segment_stays, still_found}
 use Rattle.sled_core.proofs.Reached.StandsTo.{StandsTo}
 use Rattle.sled_core.proofs.Reached.WrittenUnread.{torn_headless, torn_unread, written_headless, written_unread, zero_below}
 use Rattle.sled_core.proofs.Reached.WrittenWhole.{all_done, leaves_new, same_whole}
@@ -31,10 +31,16 @@ use Rattle.sled_core.proofs.Tail.OneTail.{segment_there}
 use Rattle.sled_core.proofs.Torn.TornLemmas.{after_write}
 use Rattle.sled_core.proofs.Torn.WrittenParts.{in_this_file, path_rises, path_whole, twenty}
 
+-- A file stands as far as another one, and so does a segment in it, with no other mark in its slot.
+pub record StandsAfter (sum : List ℕ → ℕ) (size : ℕ) (old new : List ℕ) (site : SegmentPosition) (from reach : ℕ) (H : History) (first : SnapshotModel) : Type 0 where
+  pub stands : StandsTo sum size new H reach first reach
+  pub here : StandsIn sum size new (least_place size first) stands.scanned site from
+  pub marks : (s : Segment) → IsFoundSegment sum size new (least_place size first) s → s.slot ≡ site.slot → (t : Segment) × IsFoundSegment sum size old (least_place size first) t × (s.mark ≡ t.mark)
+
 module _ (sum : List ℕ → ℕ) (none : NoHeaderOfZeros sum) (size : ℕ) (some : 256 ≤ size) (old : List ℕ) (site : SegmentPosition) (from at : ℕ) (asked : List ℕ) (inside : at + length asked ≤ size)
     (slot_begins : site.slot % size ≡ 0) (has_room : from + 32 ≤ size) (to : ℕ) (gap : from + 5 ≤ to) (before : to ≤ at) (headed : from ≡ 0 → 20 ≤ to)
     (clean : (i : ℕ) → site.slot + from ≤ i → i < site.slot + to → get_or old i 0 ≡ 0)
-    {others : List BegunSegment} (reach : ℕ) (H : History) (first : SnapshotModel) (alone : StandsAmong sum size old site from others reach H first) where
+    (reach : ℕ) (H : History) (first : SnapshotModel) (is : StandsTo sum size old H reach first reach) (its : StandsIn sum size old (least_place size first) is.scanned site from) where
   abbrev new : List ℕ
   new = overwritten old (site.slot + at) asked
 
@@ -60,12 +66,12 @@ module _ (sum : List ℕ → ℕ) (none : NoHeaderOfZeros sum) (size : ℕ) (som
       let own_there = subst (λ n. NoForeignLog sum size (after_write old (n + at) asked now) placed left) (sym its_slot) only_own in
       elim (cases_lt 0 from) [
         | inl later ↦ (
-            let g = going_in sum size old (least_place size first) alone.stands.scanned site from alone.here later has_room in
+            let g = going_in sum size old (least_place size first) is.scanned site from its later has_room in
             let ended = g.ended in
-            torn_unread sum size some old slot at asked inside H reach first reach alone.stands g.scan g.there (g.in_slot ∙ sym its_slot) (omega (arith, ended, gap, before)) g.broken now left no_more leaves_there own_there)
+            torn_unread sum size some old slot at asked inside H reach first reach is g.scan g.there (g.in_slot ∙ sym its_slot) (omega (arith, ended, gap, before)) g.broken now left no_more leaves_there own_there)
         | inr first_one ↦ (
             let begins : from ≡ 0 = omega (arith, first_one) in
-            torn_headless sum size some old slot at asked inside H reach first reach alone.stands none (far begins) (begins_clean begins) now left no_more leaves_there own_there)
+            torn_headless sum size some old slot at asked inside H reach first reach is none (far begins) (begins_clean begins) now left no_more leaves_there own_there)
       ]
 
   -- All of it, where the file reaches up to the slot.
@@ -77,53 +83,17 @@ module _ (sum : List ℕ → ℕ) (none : NoHeaderOfZeros sum) (size : ℕ) (som
     beside = subst (λ n. IsSameBeside sum size old (overwritten old (n + at) asked) n) its_slot (same_whole sum size some old slot at asked inside there_too)
 
     only : (s : Segment) → IsFoundSegment sum size new (least_place size first) s → s.place ≡ site.place → s.slot ≡ site.slot
-    only s found same = elim (cases_eq s.slot site.slot) [ inl here ↦ here | inr other ↦ alone.here.only s (beside.found (least_place size first) s other found) same ]
+    only s found same = elim (cases_eq s.slot site.slot) [ inl here ↦ here | inr other ↦ its.only s (beside.found (least_place size first) s other found) same ]
 
-    found_on : (s : Segment) → IsFoundSegment sum size old (least_place size first) s → s.slot ≢ site.slot → IsFoundSegment sum size new (least_place size first) s
-    found_on s found other = subst (λ n. IsFoundSegment sum size (overwritten old (n + at) asked) (least_place size first) s) its_slot
-        (found_beside sum size some old slot at asked asked (overwritten old (slot * size + at) asked) inside (all_done sum size some old slot at asked inside there_too) (leaves_new sum size some old slot at asked inside there_too)
-        (least_place size first) s (λ here. other (here ∙ its_slot)) found)
-
-    -- The one that leads to it is found and read as before.
-    led_on : IsLed sum size new (least_place size first) reach site.place
-    led_on = elim alone.led [
-      | inl below ↦ inl below
-      | inr (inl low) ↦ inr (inl low)
-      | inr (inr l) ↦ (
-          let next = l.next in
-          let other : l.scan.segment.slot ≢ site.slot = λ here. (let same = alone.here.own l.scan.segment l.found here in omega (arith, same, next, some)) in
-          inr (inr (record {
-            scan = l.scan;
-            found = found_on l.scan.segment l.found other;
-            read = beside.scans (least_place size first) l.scan l.found other l.read;
-            next = next;
-            goes = l.goes;
-            below = l.below;
-          })))
-    ]
-
-    -- None lies behind it but the others, where the one in its slot doesn't.
-    last_by : ((s : Segment) → IsFoundSegment sum size new (least_place size first) s → s.slot ≡ site.slot → s.place ≡ site.place)
-        → (s : Segment) → IsFoundSegment sum size new (least_place size first) s → (s.place ≤ site.place) ⊎ BeginsOne others s.place
-    last_by own s found = elim (cases_eq s.slot site.slot) [ inl here ↦ inl (let same = own s found here in omega (arith, same)) | inr other ↦ alone.last s (beside.found (least_place size first) s other found) ]
-
-    -- The others stand as they stood, where what is found in its slot has its place.
-    behind_by : (now : StandsTo sum size new H reach first reach) → ((s : Segment) → IsFoundSegment sum size new (least_place size first) s → s.slot ≡ site.slot → s.place ≡ site.place)
-        → (x : BegunSegment) → Contains others x → StandsIn sum size new (least_place size first) now.scanned x.site x.from
-    behind_by now own x among =
-        let apart = follows site others alone.apart x among in
-        segment_stays sum size some old site.slot slot_begins at asked inside there H reach first reach alone.stands reach reach now x.site x.from site.place apart.1 (λ same. let low = apart.0 in omega (arith, same, low)) own (alone.behind x among)
-
-    -- No mark lies behind what is written, where that of the segment doesn't.
-    below_by : ((s : Segment) → IsFoundSegment sum size new (least_place size first) s → s.slot ≡ site.slot → s.mark <ℤ pos (site.place + from))
-        → (s : Segment) → IsFoundSegment sum size new (least_place size first) s → s.mark <ℤ pos (site.place + from)
-    below_by own s found = elim (cases_eq s.slot site.slot) [ inl here ↦ own s found here | inr other ↦ alone.below s (beside.found (least_place size first) s other found) ]
+    -- What stands then: the file as far as before, the segment as far as before, and no other mark in its slot.
+    abbrev pub GapStands : Type 0
+    GapStands = StandsAfter sum size old new site from reach H first
 
     -- Nothing of the segment is written yet.
-    headless : from ≡ 0 → StandsAmong sum size new site from others reach H first
+    headless : from ≡ 0 → GapStands
     headless begins =
         let below_slot : slot * size + 20 ≤ slot * size + at = (let h = far begins in omega (arith, h)) in
-        let written = written_headless sum size some old slot at asked inside H reach first reach alone.stands none (far begins) (begins_clean begins) there_too in
+        let written = written_headless sum size some old slot at asked inside H reach first reach is none (far begins) (begins_clean begins) there_too in
         let zeros : (i : ℕ) → site.slot ≤ i → i < site.slot + 20 → get_or new i 0 ≡ 0 =
         λ i above under. zero_below old (site.slot + at) asked i (omega (arith, below_slot, under)) (begins_clean begins i (omega (arith, its_slot, above)) (omega (arith, its_slot, under))) in
         let stands = subst (λ n. StandsTo sum size (overwritten old (n + at) asked) H reach first reach) its_slot written in
@@ -131,25 +101,20 @@ module _ (sum : List ℕ → ℕ) (none : NoHeaderOfZeros sum) (size : ℕ) (som
         λ s found here. none_in_zeros sum 20 none (omega arith) new site.slot zeros (pos s.place) s.mark (subst (λ n. IsHeader sum (part new n 20) (pos s.place) s.mark) here found.header) in
         record {
           stands = stands;
-          reached = alone.reached;
-          led = led_on;
           here = record { only = only; own = λ s found here. absurd (none_here s found here); read = λ later. absurd (omega (arith, begins, later)) };
-          behind = behind_by stands (λ s found here. absurd (none_here s found here));
-          apart = alone.apart;
-          last = last_by (λ s found here. absurd (none_here s found here));
-          below = below_by (λ s found here. absurd (none_here s found here));
+          marks = λ s found here. absurd (none_here s found here);
         }
 
     -- The reading of it ends in front of the gap.
     module _ (later : 0 < from) where
-      abbrev g : GoesOnIn alone.stands.scanned site.slot from site.place
-      g = going_in sum size old (least_place size first) alone.stands.scanned site from alone.here later has_room
+      abbrev g : GoesOnIn is.scanned site.slot from site.place
+      g = going_in sum size old (least_place size first) is.scanned site from its later has_room
 
       stands : StandsTo sum size new H reach first reach
       stands =
           let ended = g.ended in
           subst (λ n. StandsTo sum size (overwritten old (n + at) asked) H reach first reach) its_slot
-          (written_unread sum size some old slot at asked inside H reach first reach alone.stands g.scan g.there (g.in_slot ∙ sym its_slot) (omega (arith, ended, gap, before)) g.broken there_too (omega (arith, ended, gap, before))
+          (written_unread sum size some old slot at asked inside H reach first reach is g.scan g.there (g.in_slot ∙ sym its_slot) (omega (arith, ended, gap, before)) g.broken there_too (omega (arith, ended, gap, before))
           (clean (slot * size + g.scan.stop + 4) (omega (arith, its_slot, ended)) (omega (arith, its_slot, ended, gap))))
 
       y_scan : IsScanned sum size new g.scan
@@ -158,7 +123,7 @@ module _ (sum : List ℕ → ℕ) (none : NoHeaderOfZeros sum) (size : ℕ) (som
           let y : Scanned = g.scan in
           let ended = g.ended in
           let in_slot = g.in_slot in
-          let scan = (segment_there sum size old alone.stands.ordering alone.stands.scanned alone.stands.reads y g.there).1 in
+          let scan = (segment_there sum size old is.ordering is.scanned is.reads y g.there).1 in
           let was : IsEnd sum size old y.segment.slot y.segment.place y.stop Broken = subst (λ w. IsEnd sum size old y.segment.slot y.segment.place y.stop w) g.broken scan.1 in
           let here : IsEnd sum size new y.segment.slot y.segment.place y.stop Broken = (
             was.0,
@@ -173,8 +138,8 @@ module _ (sum : List ℕ → ℕ) (none : NoHeaderOfZeros sum) (size : ℕ) (som
       unfolding IsScan
       y_found =
           let y : Scanned = g.scan in
-          let known = segment_there sum size old alone.stands.ordering alone.stands.scanned alone.stands.reads y g.there in
-          let found = (alone.stands.numbers.found y.segment).0 known.0 in
+          let known = segment_there sum size old is.ordering is.scanned is.reads y g.there in
+          let found = (is.numbers.found y.segment).0 known.0 in
           let rises = path_rises sum size old y.segment.slot y.segment.place 20 y.met y.stop known.1.0 in
           let in_slot = g.in_slot in
           let ended = g.ended in
@@ -188,26 +153,104 @@ module _ (sum : List ℕ → ℕ) (none : NoHeaderOfZeros sum) (size : ℕ) (som
           one_header sum (part new g.scan.segment.slot 20) (pos s.place) s.mark (pos g.scan.segment.place) g.scan.segment.mark (subst (λ n. IsHeader sum (part new n 20) (pos s.place) s.mark) (here ∙ sym g.in_slot) found.header) y_found.header
 
       was_found : IsFoundSegment sum size old (least_place size first) g.scan.segment
-      was_found = (alone.stands.numbers.found g.scan.segment).0 (segment_there sum size old alone.stands.ordering alone.stands.scanned alone.stands.reads g.scan g.there).0
+      was_found = (is.numbers.found g.scan.segment).0 (segment_there sum size old is.ordering is.scanned is.reads g.scan g.there).0
 
       own_place : (s : Segment) → IsFoundSegment sum size new (least_place size first) s → s.slot ≡ site.slot → s.place ≡ site.place
       own_place s found here = pos_injective s.place g.scan.segment.place (its_header s found here).0 ∙ g.at_place
 
-      behind : StandsAmong sum size new site from others reach H first
+      behind : GapStands
       behind = record {
         stands = stands;
-        reached = alone.reached;
-        led = led_on;
         here = record {
           only = only;
           own = own_place;
           read = λ some_more. (from, Broken, record { scan = g.scan; there = known_in sum size new H reach first reach stands g.scan y_found y_scan; in_slot = g.in_slot; at_place = g.at_place; ended = g.ended; ends = g.broken }, inl (refl, λ room. refl));
         };
-        behind = behind_by stands own_place;
-        apart = alone.apart;
-        last = last_by own_place;
-        below = below_by (λ s found here. subst (λ z. z <ℤ pos (site.place + from)) (sym (its_header s found here).1) (alone.below g.scan.segment was_found));
+        marks = λ s found here. (g.scan.segment, was_found, (its_header s found here).1);
       }
 
-    pub gap_written : StandsAmong sum size new site from others reach H first
-    gap_written = elim (cases_lt 0 from) [ inl later ↦ behind later | inr first_one ↦ headless (omega (arith, first_one)) ]
+    pub gap_stands : GapStands
+    gap_stands = elim (cases_lt 0 from) [ inl later ↦ behind later | inr first_one ↦ headless (omega (arith, first_one)) ]
+
+-- Behind a gap of the first segment, or of one behind it.
+module _ (sum : List ℕ → ℕ) (size : ℕ) (some : 256 ≤ size) (old : List ℕ) (site : SegmentPosition) (from : ℕ) (others : List BegunSegment) (reach : ℕ) (H : History) (first : SnapshotModel) (among : StandsAmong sum size old site from others reach H first)
+    (its : SegmentPosition) (at : ℕ) (asked : List ℕ) (inside : at + length asked ≤ size) (slot_begins : its.slot % size ≡ 0) (there : its.slot ≤ length old) where
+  abbrev fresh : List ℕ
+  fresh = overwritten old (its.slot + at) asked
+
+  abbrev least : ℕ
+  least = least_place size first
+
+  beside_it : IsSameBeside sum size old fresh its.slot
+  beside_it =
+      let at_slot : its.slot / size * size ≡ its.slot = omega (arith, mod-add-div' its.slot size, slot_begins) in
+      subst (λ n. IsSameBeside sum size old (overwritten old (n + at) asked) n) at_slot (same_whole sum size some old (its.slot / size) at asked inside (omega (arith, at_slot, there)))
+
+  module _ (so_far : ℕ) (after : StandsAfter sum size old fresh its so_far reach H first) where
+    -- the one that leads to the first segment lies before it, so in another slot
+    leads_on : site.place ≤ its.place → ((s : Segment) → IsFoundSegment sum size old least s → s.slot ≡ its.slot → s.place ≡ its.place) → IsLed sum size fresh least reach site.place
+    leads_on low own = elim among.led [
+      | inl below ↦ inl below
+      | inr (inl under) ↦ inr (inl under)
+      | inr (inr l) ↦ (
+          let next = l.next in
+          let other : l.scan.segment.slot ≢ its.slot = λ here. (let same = own l.scan.segment l.found here in omega (arith, same, next, some, low)) in
+          inr (inr (record {
+            scan = l.scan;
+            found = still_found sum size some old its.slot slot_begins at asked inside there H reach first reach among.stands reach reach after.stands l.scan.segment l.found other;
+            read = beside_it.scans least l.scan l.found other l.read;
+            next = next;
+            goes = l.goes;
+            below = l.below;
+          })))
+    ]
+
+    other_stays : (x : SegmentPosition) (far : ℕ) → x.slot ≢ its.slot → x.place ≢ its.place → StandsIn sum size old least among.stands.scanned x far → StandsIn sum size fresh least after.stands.scanned x far
+    other_stays x far apart behind = segment_stays sum size some old its.slot slot_begins at asked inside there H reach first reach among.stands reach reach after.stands x far its.place apart behind after.here.own
+
+    low_mark : (s : Segment) → IsFoundSegment sum size fresh least s → s.mark <ℤ pos (site.place + from)
+    low_mark s found = elim (cases_eq s.slot its.slot) [
+      | inl here ↦ (let m = after.marks s found here in subst (λ z. z <ℤ pos (site.place + from)) (sym m.2) (among.below m.0 m.1))
+      | inr other ↦ among.below s (beside_it.found least s other found)
+    ]
+
+    last_of : ((s : Segment) → s.place ≡ its.place → (s.place ≤ site.place) ⊎ BeginsOne others s.place) → (s : Segment) → IsFoundSegment sum size fresh least s → (s.place ≤ site.place) ⊎ BeginsOne others s.place
+    last_of known s found = elim (cases_eq s.slot its.slot) [ inl here ↦ known s (after.here.own s found here) | inr other ↦ among.last s (beside_it.found least s other found) ]
+
+  pub gap_written : its ≡ site → StandsAfter sum size old fresh its from reach H first → StandsAmong sum size fresh site from others reach H first
+  gap_written same after =
+      let at_place : its.place ≡ site.place = ap (λ (x : SegmentPosition). x.place) same in
+      let at_slot : its.slot ≡ site.slot = ap (λ (x : SegmentPosition). x.slot) same in
+      record {
+        stands = after.stands;
+        reached = among.reached;
+        led = leads_on from after (omega (arith, at_place)) (λ s found here. among.here.own s found (here ∙ at_slot) ∙ sym at_place);
+        here = subst (λ (x : SegmentPosition). StandsIn sum size fresh least after.stands.scanned x from) same after.here;
+        behind = λ x has.
+            let f = follows site others among.apart x has in
+            other_stays from after x.site x.from (λ here. f.1 (here ∙ at_slot)) (λ here. let low = f.0 in omega (arith, here, low, at_place)) (among.behind x has);
+        apart = among.apart;
+        last = last_of from after (λ s here. inl (omega (arith, here, at_place)));
+        below = low_mark from after;
+      }
+
+  pub other_gap : (y : BegunSegment) → Contains others y → its ≡ y.site → StandsAfter sum size old fresh its y.from reach H first → StandsAmong sum size fresh site from others reach H first
+  other_gap y known same after =
+      let at_place : its.place ≡ y.site.place = ap (λ (x : SegmentPosition). x.place) same in
+      let at_slot : its.slot ≡ y.site.slot = ap (λ (x : SegmentPosition). x.slot) same in
+      let f = follows site others among.apart y known in
+      let behind_first = f.0 in
+      let stands_its : StandsIn sum size fresh least after.stands.scanned y.site y.from = subst (λ (x : SegmentPosition). StandsIn sum size fresh least after.stands.scanned x y.from) same after.here in
+      record {
+        stands = after.stands;
+        reached = among.reached;
+        led = leads_on y.from after (omega (arith, at_place, behind_first)) (λ s found here. (among.behind y known).own s found (here ∙ at_slot) ∙ sym at_place);
+        here = other_stays y.from after site from (λ here. f.1 (sym (here ∙ at_slot))) (λ here. omega (arith, here, at_place, behind_first)) among.here;
+        behind = λ x has. elim (cases_eq x.site.slot its.slot) [
+          | inl here ↦ subst (λ (w : BegunSegment). StandsIn sum size fresh least after.stands.scanned w.site w.from) (one_slot site others among.apart y x known has (sym (here ∙ at_slot))) stands_its
+          | inr other ↦ other_stays y.from after x.site x.from other (λ here. other (ap (λ (w : BegunSegment). w.site.slot) (sym (one_place site others among.apart y x known has (sym (here ∙ at_place)))) ∙ sym at_slot)) (among.behind x has)
+        ];
+        apart = among.apart;
+        last = last_of y.from after (λ s here. inr (y, known, sym (here ∙ at_place)));
+        below = low_mark y.from after;
+      }
