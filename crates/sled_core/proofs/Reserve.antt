@@ -1,5 +1,6 @@
 pub mod CompletesLemmas
 pub mod Entries
+pub mod Filled
 pub mod Heads
 pub mod OpenCounts
 pub mod Parts

@@ -5,6 +5,7 @@ pub mod Clear
 pub mod Covering
 pub mod Ended
 pub mod EndedParts
+pub mod FullSegment
 pub mod GapWritten
 pub mod HeadSealed
 pub mod HeadWritten

@@ -1,6 +1,7 @@
 -- The current buffer: which records and which placeholders stand in it, and which messages these are.
 use Rattle.std.specs.Prelude.{suc, ◌≡◌, ◌≢◌, ◌+◌, ◌-◌, ◌≤◌, ◌<◌, ◌^◌, ℕ, Bool, true, false, if◌then◌else◌, List, [], ◌∷◌, ◌++◌, length, drop, replicate, Option, None, Some}
 use Rattle.sled_codec.specs.declared.result.DiskPtr.TheVariants.{Inline}
+use Rattle.sled_codec.specs.declared.serialization.message.LogKind.TheVariants.{Skip}
 use Rattle.sled_codec.specs.declared.serialization.message.MessageKind.{MessageKind}
 use Rattle.sled_codec.specs.declared.serialization.message.MessageKind.TheVariants as kind
 use Rattle.sled_codec.specs.Kinds.{kind_written, code_of}
@@ -96,6 +97,10 @@ IsHeaded r = (0 < r.len) × (r.state ≡ Open → (5 ≤ r.header_len) × (r.hea
 -- the reservation that is made at an offset for a message, with this sum
 abbrev pub reserved_for : Purpose → ℕ → ℕ → ℕ → ℕ → Reserved
 reserved_for kept at header_len item_len sum = record { from = at; header_len = header_len; len = header_len + item_len; log_kind = kept.log_kind; kind = kept.kind; page = kept.page; sum = sum; state = Open }
+
+-- the entry of what fills a segment of this size from an offset on
+abbrev pub padding_at : ℕ → ℕ → Reserved
+padding_at size from = record { from = from; header_len = 0; len = size - from; log_kind = Skip; kind = kind.Cap; page = 0; sum = 0; state = Padding }
 
 -- a sum, flipped, and a kind, with which a record ends its reservation
 abbrev pub ending : ℕ → MessageKind → List ℕ

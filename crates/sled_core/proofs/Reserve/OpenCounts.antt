@@ -27,6 +27,11 @@ pub open_more : (rs : List Reserved) (r : Reserved) → r.state ≡ Open → ope
 open_more [] r is = ap (λ (s : ReservationState). if open_state s then suc zero else zero) is
 open_more (x ∷ rs) r is = more_step (open_state x.state) (open_in rs) (open_in (rs ++ r ∷ [])) (open_more rs r is)
 
+-- none more, where that one isn't open
+pub open_same : (rs : List Reserved) (r : Reserved) → open_state r.state ≡ false → open_in (rs ++ r ∷ []) ≡ open_in rs
+open_same [] r is = ap (λ (o : Bool). if o then suc zero else zero) is
+open_same (x ∷ rs) r is = ap (λ n. if open_state x.state then suc n else n) (open_same rs r is)
+
 -- one fewer where an open one has ended
 pub open_fewer : (rs : List Reserved) (i : ℕ) (r new : Reserved) → slice_get rs i ≡ Some r → r.state ≡ Open → open_state new.state ≡ false → open_in rs ≡ open_in (set rs i new) + 1
 open_fewer [] i r new there is ends = absurd (let never : ⊥ = cc in never)

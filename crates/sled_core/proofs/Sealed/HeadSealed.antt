@@ -1,4 +1,4 @@
--- The first sealed buffer is written, behind what was written of its segment or at the beginning of it: what a crash leaves of it stands as before, and all of it up to the end of those behind it that were written before it.
+-- The first sealed buffer is written, behind what was written of its segment or at the beginning of it: what a crash leaves of it stands as before, and all of it up to the end of those behind it that were written before it. Where the last of these fills the segment, the next one begins.
 use Rattle.std.proofs.Common.{◌≡◌, ◌≢◌, ◌≤◌, ◌<◌, ◌+◌, ◌-◌, ◌/◌, ◌%◌, ◌^◌, ◌-ℤ◌, ◌⊎◌, ◌∙◌, ℕ, pos, max, Bool, true, false, nat_lt, if◌then◌else◌, List, [], ◌∷◌, ◌++◌, length, take, drop, get_or, sym, ap, refl, subst, arith, inl, inr}
 use Rattle.std.specs.List.{All, Contains}
 use Rattle.std.proofs.Math.Nat.{div-le_self}
@@ -62,7 +62,7 @@ less_agrees log slot bytes from to less low agrees =
     let in_bytes = agrees.in_bytes in
     record { same = λ i above below. agrees.same i above (omega (arith, below, low)); in_file = omega (arith, in_file, low); in_bytes = omega (arith, in_bytes, low) }
 
--- what fills a segment breaks nothing off
+-- the reading of a segment that was filled ends not for want of a record
 never_broken : (size stop : ℕ) → rest_why size stop ≢ Broken
 never_broken size stop = by_test (nat_lt size (stop + 32)) where
   by_test : (o : Bool) → (if o then Full else Capped) ≢ Broken

@@ -21,7 +21,7 @@ use Rattle.sled_core.specs.Fits.{HasRoom, IsWritten, IsKept, NoneOpen, NoneSeale
 use Rattle.sled_core.specs.Good.{IsGood}
 use Rattle.sled_core.specs.Running.{Fits}
 use Rattle.sled_core.proofs.Holds.Writes.{flushing_alone, flushing_of}
-use Rattle.sled_core.proofs.Reserve.CompletesLemmas.{some_long}
+use Rattle.sled_core.proofs.Reserve.Entries.{some_long}
 use Rattle.sled_core.proofs.Reserve.Ranges.{chain_grows}
 use Rattle.sled_core.proofs.Start.GoodStarted.{good_started}
 use Rattle.sled_log.specs.declared.session.command.Reply.{Reply}
@@ -34,15 +34,15 @@ use Rattle.sled_log.specs.Runs.{StartActs, starting, flush_calls}
 -- What is reserved, and what a flush asks.
 
 -- a chain of records that are not empty ends above where it begins, unless it has none
-chain_pending : (sum : List ℕ → ℕ) (number : ℕ) (bytes : List ℕ) (from end : ℕ) (rs : List Reserved) → IsChain (max 20 from) rs end → All (Stands sum number bytes) rs
+chain_pending : (sum : List ℕ → ℕ) (size number : ℕ) (bytes : List ℕ) (from end : ℕ) (rs : List Reserved) → IsChain (max 20 from) rs end → All (Stands sum size number bytes) rs
     → end_in from end rs ≡ (if nat_lt (max 20 from) end then end else from)
-chain_pending sum number bytes from end [] is stand = by (nat_lt (max 20 from) end) refl
+chain_pending sum size number bytes from end [] is stand = by (nat_lt (max 20 from) end) refl
   where
     by : (b : Bool) → nat_lt (max 20 from) end ≡ b → from ≡ (if b then end else from)
     by true less = absurd (grind (arith, nat_tests, less, is))
     by false less = refl
-chain_pending sum number bytes from end (r ∷ rs) is stand =
-    let long : 0 < r.len = some_long sum number bytes (r ∷ rs) stand 0 r (omega arith) in
+chain_pending sum size number bytes from end (r ∷ rs) is stand =
+    let long : 0 < r.len = some_long sum size number bytes (r ∷ rs) stand 0 r (omega arith) in
     let grows : max 20 from + r.len ≤ end = chain_grows (max 20 from + r.len) end rs is.1 in
     by (nat_lt (max 20 from) end) refl long grows
   where
@@ -51,15 +51,15 @@ chain_pending sum number bytes from end (r ∷ rs) is stand =
     by false less long grows = absurd (grind (arith, nat_tests, less, long, grows))
 
 -- the calls of a flush of such a chain
-chain_flushing : (sum : List ℕ → ℕ) (number : ℕ) (bytes all : List ℕ) (at from end : ℕ) (rs : List Reserved) → IsChain (max 20 from) rs end → All (Stands sum number all) rs
+chain_flushing : (sum : List ℕ → ℕ) (size number : ℕ) (bytes all : List ℕ) (at from end : ℕ) (rs : List Reserved) → IsChain (max 20 from) rs end → All (Stands sum size number all) rs
     → flushing_of at bytes rs ≡ (if nat_lt (max 20 from) end then Wrote at bytes bytes ∷ Synced ∷ [] else [])
-chain_flushing sum number bytes all at from end [] is stand = by (nat_lt (max 20 from) end) refl
+chain_flushing sum size number bytes all at from end [] is stand = by (nat_lt (max 20 from) end) refl
   where
     by : (b : Bool) → nat_lt (max 20 from) end ≡ b → [] ≡ (if b then Wrote at bytes bytes ∷ Synced ∷ [] else [])
     by true less = absurd (grind (arith, nat_tests, less, is))
     by false less = refl
-chain_flushing sum number bytes all at from end (r ∷ rs) is stand =
-    let long : 0 < r.len = some_long sum number all (r ∷ rs) stand 0 r (omega arith) in
+chain_flushing sum size number bytes all at from end (r ∷ rs) is stand =
+    let long : 0 < r.len = some_long sum size number all (r ∷ rs) stand 0 r (omega arith) in
     let grows : max 20 from + r.len ≤ end = chain_grows (max 20 from + r.len) end rs is.1 in
     by (nat_lt (max 20 from) end) refl long grows
   where
@@ -121,7 +121,7 @@ module _ {D C : Type 0} (opened : Opened D C) where
         let place : ℕ = log.site.place in
         let from : ℕ = log.buffer.written_len in
         let end : ℕ = length log.buffer.bytes.items in
-        ap (λ n. place + n) (chain_pending sum (place / segment_size_of log) log.buffer.bytes.items from end log.buffer.reserved.items fits.holds.chain fits.holds.stand)
+        ap (λ n. place + n) (chain_pending sum (segment_size_of log) (place / segment_size_of log) log.buffer.bytes.items from end log.buffer.reserved.items fits.holds.chain fits.holds.stand)
         ∙ end_at place from end (nat_lt (max 20 from) end)
         ∙ ap (λ (b : Bool). if b then place + end else place + from) (pending_at place from end)
 
@@ -135,7 +135,7 @@ module _ {D C : Type 0} (opened : Opened D C) where
         let bytes : List ℕ = drop from log.buffer.bytes.items in (
           bytes,
           length-drop from log.buffer.bytes.items ∙ omega arith,
-          flushing_alone log none ended ∙ chain_flushing sum (place / segment_size_of log) bytes log.buffer.bytes.items (log.site.slot + from) from end log.buffer.reserved.items fits.holds.chain fits.holds.stand
+          flushing_alone log none ended ∙ chain_flushing sum (segment_size_of log) (place / segment_size_of log) bytes log.buffer.bytes.items (log.site.slot + from) from end log.buffer.reserved.items fits.holds.chain fits.holds.stand
               ∙ (λ i. if pending_at place from end i then Wrote (log.site.slot + sym stable_is i) bytes bytes ∷ Synced ∷ [] else []),
         )
 
