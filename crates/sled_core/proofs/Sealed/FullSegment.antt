@@ -1,9 +1,7 @@
 -- Where no header has room behind what was written of a segment, that is full, without a byte behind its records: the next one begins, in a slot of zeros.
-use Rattle.std.proofs.Common.{◌≡◌, ◌≢◌, ◌≤◌, ◌<◌, ◌+◌, ◌-◌, ◌%◌, ℕ, pos, List, get_or, refl, subst, arith, inl, inr}
+use Rattle.std.proofs.Common.{◌≡◌, ◌≢◌, ◌≤◌, ◌<◌, ◌+◌, ◌-◌, ◌%◌, ℕ, List, get_or, arith, inl, inr}
 use Rattle.sled_codec.specs.Coords.{raised}
 use Rattle.sled_codec.specs.History.{History}
-use Rattle.sled_codec.specs.Places.{part}
-use Rattle.sled_codec.specs.Record.{IsHeader}
 use Rattle.sled_codec.specs.Snapshots.{SnapshotModel}
 use Rattle.sled_store.proofs.Segments.Elements.{in_nothing}
 use Rattle.sled_core.specs.declared.iobuf.SegmentPosition.{SegmentPosition}

@@ -26,7 +26,7 @@ use Rattle.sled_core.proofs.Reached.LeftBeside.{IsSameBeside}
 use Rattle.sled_core.proofs.Reached.SegmentsBeside.{follows, going_in, one_place, one_slot, segment_stays, still_found}
 use Rattle.sled_core.proofs.Reached.StandsTo.{StandsTo}
 use Rattle.sled_core.proofs.Reached.WrittenUnread.{torn_headless, torn_unread, written_headless, written_unread, zero_below}
-use Rattle.sled_core.proofs.Reached.WrittenWhole.{all_done, leaves_new, same_whole}
+use Rattle.sled_core.proofs.Reached.WrittenWhole.{same_whole}
 use Rattle.sled_core.proofs.Tail.OneTail.{segment_there}
 use Rattle.sled_core.proofs.Torn.TornLemmas.{after_write}
 use Rattle.sled_core.proofs.Torn.WrittenParts.{in_this_file, path_rises, path_whole, twenty}

@@ -26,7 +26,6 @@ use Rattle.sled_core.proofs.Reached.BufferPath.{buffer_header, buffer_mark_below
 use Rattle.sled_core.proofs.Reached.Higher.{IsBegunOrLedTo, known_in}
 use Rattle.sled_core.proofs.Reached.LeftBeside.{IsSameBeside}
 use Rattle.sled_core.proofs.Reached.OneWrite.{BeginsSegment, torn_stands, written_stands}
-use Rattle.sled_store.proofs.Segments.Elements.{in_nothing}
 use Rattle.sled_core.proofs.Reached.Recoverable.{less_than}
 use Rattle.sled_core.proofs.Reached.NextSegment.{StandsFull, begins_alone}
 use Rattle.sled_core.proofs.Reached.SegmentsBeside.{follows, going_in, its_header, its_place_now, segment_grown, segment_stays}

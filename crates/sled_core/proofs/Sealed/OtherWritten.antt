@@ -1,9 +1,8 @@
 -- A buffer is written to a segment behind the first one, at its beginning or behind what is written of it: what a crash leaves of it stands as before, and all of it too, with that segment up to where its records end now.
-use Rattle.std.proofs.Common.{◌≡◌, ◌≢◌, ◌⊎◌, ◌≤◌, ◌<◌, ◌<ℤ◌, ◌+◌, ◌*◌, ◌/◌, ◌%◌, ◌^◌, ◌∙◌, ℕ, ℤ, pos, max, List, [], ◌∷◌, ◌++◌, length, take, get_or, refl, sym, ap, subst, arith, inl, inr}
+use Rattle.std.proofs.Common.{◌≡◌, ◌≢◌, ◌⊎◌, ◌≤◌, ◌<◌, ◌<ℤ◌, ◌+◌, ◌*◌, ◌/◌, ◌%◌, ◌^◌, ℕ, ℤ, pos, max, List, ◌∷◌, ◌++◌, length, get_or, refl, sym, subst, arith, inl, inr}
 use Rattle.std.specs.List.{Contains}
 use Rattle.std.proofs.Math.Nat.{mod-add-div'}
 use Rattle.std.proofs.lemmas.Bool.{cases_eq, cases_lt}
-use Rattle.std.proofs.lemmas.Int.{ints}
 use Rattle.std.proofs.lemmas.List.Elements.{Contains-append_right}
 use Rattle.sled_codec.specs.History.{History}
 use Rattle.sled_codec.specs.Places.{part}
@@ -24,7 +23,6 @@ use Rattle.sled_core.specs.Reached.{BeginsOne, BegunSegment, GoesOnIn, IsLed, Is
 use Rattle.sled_core.specs.Recoverable.{NoHeaderOfZeros, NoMessageBegins, NoBatchBegins, IsOfHistory, IsMarkBelow}
 use Rattle.sled_core.specs.Scan.{IsFoundSegment, IsPath, IsEnd}
 use Rattle.sled_core.specs.Tail.{least_place}
-use Rattle.sled_core.proofs.Read.FoundLemmas.{pos_injective}
 use Rattle.sled_core.proofs.Reached.BufferPath.{buffer_header, buffer_mark_below}
 use Rattle.sled_core.proofs.Reached.LeftBeside.{IsSameBeside}
 use Rattle.sled_core.proofs.Reached.OneWrite.{BeginsSegment, torn_stands}
@@ -32,7 +30,6 @@ use Rattle.sled_core.proofs.Reached.SegmentsBeside.{begins_still, follow_still, 
 use Rattle.sled_core.proofs.Reached.StandsTo.{StandsTo}
 use Rattle.sled_core.proofs.Reached.UnreachedWrite.{unreached_write}
 use Rattle.sled_core.proofs.Reached.WrittenWhole.{same_whole}
-use Rattle.sled_core.proofs.Sealed.HeadWritten.{reached_first}
 use Rattle.sled_core.proofs.Torn.TornLemmas.{after_write}
 use Rattle.sled_core.proofs.Torn.WrittenBegun.{none_in_zeros}
 use Rattle.sled_core.proofs.Torn.WrittenRecords.{AreClear}
