@@ -16,5 +16,6 @@ pub mod RunningLemmas
 pub mod SealedCalls
 pub mod Settling
 pub mod StandsAdds
+pub mod WholeLemmas
 pub mod Writes
 pub mod WrittenRecords

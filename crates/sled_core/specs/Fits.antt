@@ -19,7 +19,7 @@ use Rattle.sled_core.specs.declared.reservation.Reservation.{Reservation}
 use Rattle.sled_core.specs.declared.logger.Log.{Log}
 use Rattle.sled_store.specs.declared.config.RunningConfig.{RunningConfig}
 use Rattle.sled_core.specs.Buffers.{NoPadding, Stands, IsChain, completed_in, message_in, none_open, open_in, first_open_in, end_reserved, record_size}
-use Rattle.sled_core.specs.LogFile.{IsLogFile}
+use Rattle.sled_core.specs.LogFile.{IsLogFile, StaysFrom}
 use Rattle.sled_core.specs.Recoverable.{IsMarkOf}
 use Rattle.sled_core.specs.SealedBuffers.{AreZeros, Laid, behind_run, buffer_writes, bytes_between, current_buffer, first_ready, ready_count, ready_marked, ready_write, ready_writes, reserved_below, run_count, run_end, seal_at, sealed_count, sealed_end, writing, written_at}
 use Rattle.sled_core.specs.Tickets.{index_of, IsFor}
@@ -144,11 +144,11 @@ log_parts size site device fault bytes written_len sealed reserved = record {
 abbrev pub parts_of : {D C : Type 0} → (D → Trace) → Log D C → LogParts
 parts_of trace log = log_parts log.config.config.segment_size log.site (state_of (trace log.config.device)) log.fault log.buffer.bytes.items log.buffer.written_len log.buffer.sealed.items log.buffer.reserved.items
 
--- The log file has these messages and entries, and all of it is settled, so that a crash leaves just that.
-pub record IsOnDevice (sum : List ℕ → ℕ) (size : ℕ) (device : LogState) (site : SegmentPosition) (from : ℕ) (messages : List Message) (entries : ℕ → List Message) : Type 0 where
+-- The log file has these messages, and those that stay of earlier segments, and all of it is settled, so that a crash leaves just that.
+pub record IsOnDevice (sum : List ℕ → ℕ) (size : ℕ) (device : LogState) (site : SegmentPosition) (from : ℕ) (messages : List Message) (stays : Message → Type 0) : Type 0 where
   pub log : List ℕ
   pub settled : device ≡ at_rest log
-  pub file : IsLogFile sum size log site from messages entries
+  pub file : IsLogFile sum size log site from messages stays
 
 -- The newest snapshot on the device is the table of the history below its own place. That is where the current segment begins, or in it.
 pub record IsBegunFrom (sum : List ℕ → ℕ) (size : ℕ) (snapshots : ℤ → Option (List ℕ)) (site : SegmentPosition) (from : ℕ) (H : History) : Type 0 where
@@ -173,8 +173,8 @@ pub record HasMark (sum : List ℕ → ℕ) (site : SegmentPosition) (bytes : Li
   pub is : take 20 bytes ≡ short_header sum (pos site.place) mark
   pub of_history : IsMarkOf H (record { place = site.place; slot = site.slot; mark = mark })
 
--- A history, and the bytes and reservations of a log's current segment over a device: what was written is settled there, as far as it is needed, and what was completed since stands in the buffer.
-pub record HoldsIn (sum : List ℕ → ℕ) (parts : LogParts) (H : History) : Type 0 where
+-- A history, and the bytes and reservations of a segment of a log over a device: what was written is settled there, with those messages of earlier segments that stay, and what was completed since stands in the buffer.
+pub record HoldsSegment (sum : List ℕ → ℕ) (parts : LogParts) (stays : Message → Type 0) (H : History) : Type 0 where
   -- the messages that were written
   pub earlier : List Message
   pub messages : H.messages ≡ earlier ++ completed_in parts.site parts.bytes parts.reserved
@@ -188,10 +188,14 @@ pub record HoldsIn (sum : List ℕ → ℕ) (parts : LogParts) (H : History) : T
   pub stand : All (Stands sum parts.size (parts.site.place / parts.size) parts.bytes) parts.reserved
   -- none fills the segment, until a log begins further segments
   pub plain : All NoPadding parts.reserved
-  pub begun : IsBegunFrom sum parts.size parts.device.snapshots.file parts.site parts.written_len H
-  pub written : parts.fault ≡ None → IsOnDevice sum parts.size parts.device.log parts.site parts.written_len earlier (table H (stable_place begun.first.stable))
+  pub written : parts.fault ≡ None → IsOnDevice sum parts.size parts.device.log parts.site parts.written_len earlier stays
   -- what the log file has of the sealed buffers, and zeros behind them
   pub laid : parts.fault ≡ None → Laid parts.device.log.bytes parts.site.slot parts.bytes parts.written_len parts.sealed parts.size
+
+-- The same of a log's current segment, where the newest snapshot is that with which the log began.
+pub record HoldsIn (sum : List ℕ → ℕ) (parts : LogParts) (H : History) : Type 0 where
+  pub begun : IsBegunFrom sum parts.size parts.device.snapshots.file parts.site parts.written_len H
+  pub own : HoldsSegment sum parts (StaysFrom H (stable_place begun.first.stable)) H
 
 -- The log holds this history.
 unfoldable pub Holds : {D C : Type 0} → (D → Trace) → (List ℕ → ℕ) → Log D C → History → Type 0
@@ -201,7 +205,7 @@ Holds trace sum log H = HoldsIn sum (parts_of trace log) H
 abbrev pub HasRecordOf : {D C : Type 0} → Log D C → History → Message → Type 0
 HasRecordOf log H m = (log.site.place ≤ m.place) ⊎ ((cut : ℕ) × (synced_end log ≤ cut) × Contains (table H cut m.page) m)
 
--- All of a history is on the device and settled: the log file has the messages of the current segment and the entries of the newest snapshot's table, which is that of the history below the place where the log began.
+-- All of a history is on the device and settled: the log file has the messages of the current segment and those that stay: the entries of the newest snapshot's table, which is that of the history below the place where the log began, and all messages from there on.
 pub record IsKept (sum : List ℕ → ℕ) (size : ℕ) (site : SegmentPosition) (from : ℕ) (device : State) (H : History) : Type 0 where
   pub below : EndBelow (site.place + from) H.messages
   pub apart : LieApart H.messages
@@ -211,7 +215,7 @@ pub record IsKept (sum : List ℕ → ℕ) (size : ℕ) (site : SegmentPosition)
   pub in_reach : site.place + size < 2 ^ 63
   pub inside : from ≤ size
   pub begun : IsBegunFrom sum size device.snapshots.file site from H
-  pub on_device : IsOnDevice sum size device.log site from H.messages (table H (stable_place begun.first.stable))
+  pub on_device : IsOnDevice sum size device.log site from H.messages (StaysFrom H (stable_place begun.first.stable))
   -- the rest of the segment has zeros
   pub clean : AreZeros device.log.bytes (site.slot + from) (site.slot + size)
 

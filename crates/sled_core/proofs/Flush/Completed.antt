@@ -1,4 +1,4 @@
--- Where the messages lie of a log that holds a history: what was written one behind another, below what was completed since, which is in the buffer.
+-- Where the messages lie of a segment that holds a history: what was written one behind another, below what was completed since, which is in the buffer.
 use Rattle.std.proofs.Common.{◌≡◌, ◌⊎◌, ◌≤◌, ◌<◌, ◌+◌, ◌/◌, ℕ, max, List, [], ◌∷◌, ◌++◌, length, Option, sym, subst, arith, refl, inl, inr}
 use Rattle.std.specs.List.{All, Contains}
 use Rattle.std.specs.declared.io.Error.{Error as IoError}
@@ -13,7 +13,7 @@ use Rattle.sled_core.specs.declared.iobuf.Reserved.{Reserved}
 use Rattle.sled_core.specs.declared.iobuf.Sealed.{Sealed}
 use Rattle.sled_core.specs.declared.iobuf.SegmentPosition.{SegmentPosition}
 use Rattle.sled_core.specs.Buffers.{IsChain, completed_in, message_in, with_own}
-use Rattle.sled_core.specs.Fits.{log_parts, HoldsIn, EndBelow, CloseBelow}
+use Rattle.sled_core.specs.Fits.{log_parts, HoldsSegment, EndBelow, CloseBelow}
 use Rattle.sled_core.proofs.Reached.BufferPath.{HasOnly}
 use Rattle.sled_core.proofs.Reserve.Ranges.{all_own, chain_grows, completed_between}
 use Rattle.sled_core.proofs.Reserve.Entries.{some_long}
@@ -49,7 +49,7 @@ completed_inline site bytes (r ∷ rs) =
     let rest : All IsInline (completed_in site bytes rs) = completed_inline site bytes rs in
     all_own IsInline r.state (message_in site bytes r) (completed_in site bytes rs) (λ own. (site.slot + r.from, refl)) rest
 
-module _ (sum : List ℕ → ℕ) (size : ℕ) (site : SegmentPosition) (device : State) (fault : Option IoError) (bytes : List ℕ) (from : ℕ) (bs : List Sealed) (rs : List Reserved) (H : History) (holds : HoldsIn sum (log_parts size site device fault bytes from bs rs) H) where
+module _ (sum : List ℕ → ℕ) (size : ℕ) (site : SegmentPosition) (device : State) (fault : Option IoError) (bytes : List ℕ) (from : ℕ) (bs : List Sealed) (rs : List Reserved) (H : History) {stays : Message → Type 0} (holds : HoldsSegment sum (log_parts size site device fault bytes from bs rs) stays H) where
   abbrev pub done : List Message
   done = completed_in site bytes rs
 

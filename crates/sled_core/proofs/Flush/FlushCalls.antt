@@ -16,7 +16,7 @@ use Rattle.sled_core.specs.SealedBuffers.{AreSealed, is_ready, seal_at}
 use Rattle.sled_core.proofs.Flush.FlushLemmas.{grown}
 use Rattle.sled_core.proofs.Flush.SealedFits.{fits_written_one, holds_written_one, write_along}
 use Rattle.sled_core.proofs.Holds.RunningLemmas.{fits-moved}
-use Rattle.sled_core.proofs.Holds.SealedCalls.{holds-sealed}
+use Rattle.sled_core.proofs.Holds.WholeLemmas.{holds-sealed}
 use Rattle.sled_core.proofs.Reserve.OpenCounts.{none_open_count}
 use Rattle.sled_core.proofs.Sealed.Appended.{seal_are}
 use Rattle.sled_core.proofs.Sealed.LaidLemmas.{EndsRise}
@@ -30,13 +30,13 @@ module _ (sum : List ℕ → ℕ) (size : ℕ) (site : SegmentPosition) (device 
   one = seal_at (length bytes) rs
 
   more : from < length bytes
-  more = grown sum size site device fault bytes from [] rs H holds some
+  more = grown sum size site device fault bytes from [] rs H holds.own some
 
   sealed : HoldsIn sum (log_parts size site device fault bytes from (one ∷ []) rs) H
-  sealed = holds-sealed sum size site device fault bytes from [] rs rs H short behind holds
+  sealed = holds-sealed sum size site device fault bytes from [] rs H holds rs short behind
 
   are : AreSealed from rs (one ∷ [])
-  are = seal_are from rs [] from 0 (length bytes) tt refl refl more holds.chain
+  are = seal_are from rs [] from 0 (length bytes) tt refl refl more holds.own.chain
 
   rise : EndsRise from (one ∷ []) (length bytes)
   rise = (more, omega arith)

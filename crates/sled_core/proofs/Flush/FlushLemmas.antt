@@ -7,7 +7,7 @@ use Rattle.std.specs.declared.io.Error.{Error as IoError}
 use Rattle.std.specs.declared.io.ErrorKind.{ErrorKind}
 use Rattle.std.specs.declared.io.ErrorKind.TheVariants.{OutOfMemory}
 use Rattle.std.proofs.lemmas.List.{append-nil}
-use Rattle.sled_codec.specs.History.{Message, History, table}
+use Rattle.sled_codec.specs.History.{Message, History}
 use Rattle.sled_codec.specs.Snapshots.{stable_place}
 use Rattle.sled_codec.specs.WellFormed.{LieApart}
 use Rattle.sled_store.specs.Answers.{is_fault, is_fault_kind}
@@ -17,7 +17,8 @@ use Rattle.sled_core.specs.declared.iobuf.Reserved.{Reserved}
 use Rattle.sled_core.specs.declared.iobuf.Sealed.{Sealed}
 use Rattle.sled_core.specs.declared.iobuf.SegmentPosition.{SegmentPosition}
 use Rattle.sled_core.specs.Buffers.{IsChain, NoPadding, Stands, completed_in}
-use Rattle.sled_core.specs.Fits.{log_parts, HoldsIn, IsOnDevice, IsBegunFrom, IsKept, EndBelow}
+use Rattle.sled_core.specs.Fits.{log_parts, HoldsIn, HoldsSegment, IsOnDevice, IsBegunFrom, IsKept, EndBelow}
+use Rattle.sled_core.specs.LogFile.{StaysFrom}
 use Rattle.sled_core.proofs.Reserve.Entries.{reserved_in, some_in}
 use Rattle.sled_core.proofs.Reserve.Ranges.{chain_grows}
 use Rattle.sled_core.specs.SealedBuffers.{AreSealed, FirstUnwritten}
@@ -55,7 +56,7 @@ chain_room sum size number bytes from end (r ∷ rs) some stand plain chain =
     let fits = (reserved_in sum size number bytes r (plain 0 r (omega arith)) (stand 0 r (omega arith))).room in omega (arith, fits, chain.0)
 
 module _ (sum : List ℕ → ℕ) (size : ℕ) (site : SegmentPosition) (device : State) (fault : Option IoError) (bytes : List ℕ) (from : ℕ) (bs : List Sealed) (rs : List Reserved) (H : History)
-    (holds : HoldsIn sum (log_parts size site device fault bytes from bs rs) H) where
+    {stays : Message → Type 0} (holds : HoldsSegment sum (log_parts size site device fault bytes from bs rs) stays H) where
   -- Something was reserved, so there is something to write, and room where it begins.
 
   pub grown : 0 < length rs → from < length bytes
@@ -64,9 +65,9 @@ module _ (sum : List ℕ → ℕ) (size : ℕ) (site : SegmentPosition) (device 
   pub has_room : 0 < length rs → from + 32 ≤ size
   has_room some = chain_room sum size (site.place / size) bytes from (length bytes) rs some holds.stand holds.plain holds.chain
 
-  -- A log that keeps a failure of its device holds what it held, whatever the log file is now.
-  unfoldable pub holds-faulty : (new : State) (e : IoError) (now : Option IoError) → now ≡ Some e → new.snapshots.file ≡ device.snapshots.file → HoldsIn sum (log_parts size site new now bytes from bs rs) H
-  holds-faulty new e now is names = record {
+  -- In a log that keeps a failure of its device it holds what it held, whatever the log file is now.
+  segment-faulty : (new : State) (e : IoError) (now : Option IoError) → now ≡ Some e → HoldsSegment sum (log_parts size site new now bytes from bs rs) stays H
+  segment-faulty new e now is = record {
     earlier = holds.earlier;
     messages = holds.messages;
     below = holds.below;
@@ -78,26 +79,42 @@ module _ (sum : List ℕ → ℕ) (size : ℕ) (site : SegmentPosition) (device 
     chain = holds.chain;
     stand = holds.stand;
     plain = holds.plain;
-    begun = begun-more sum size device.snapshots.file new.snapshots.file site from from H names (omega arith) holds.begun;
     written = λ none. cc;
     laid = λ none. cc;
   }
 
+-- What a log holds it holds over the same snapshot, and up to a place no lower, where its segment holds the same beside the same entries.
+abbrev pub holds_over : (sum : List ℕ → ℕ) (size : ℕ) (site : SegmentPosition) (device : State) (fault : Option IoError) (bytes : List ℕ) (from : ℕ) (bs : List Sealed) (rs : List Reserved) (H : History) (holds : HoldsIn sum (log_parts size site device fault bytes from bs rs) H)
+    (new : State) (now : Option IoError) (bytes' : List ℕ) (from' : ℕ) (bs' : List Sealed) (rs' : List Reserved) → new.snapshots.file ≡ device.snapshots.file → from ≤ from'
+    → HoldsSegment sum (log_parts size site new now bytes' from' bs' rs') (StaysFrom H (stable_place holds.begun.first.stable)) H → HoldsIn sum (log_parts size site new now bytes' from' bs' rs') H
+holds_over sum size site device fault bytes from bs rs H holds new now bytes' from' bs' rs' names more own = record {
+  begun = begun-more sum size device.snapshots.file new.snapshots.file site from from' H names more holds.begun;
+  own = own;
+}
+
+module _ (sum : List ℕ → ℕ) (size : ℕ) (site : SegmentPosition) (device : State) (fault : Option IoError) (bytes : List ℕ) (from : ℕ) (bs : List Sealed) (rs : List Reserved) (H : History)
+    (holds : HoldsIn sum (log_parts size site device fault bytes from bs rs) H) where
+  -- A log that keeps a failure of its device holds what it held, whatever the log file is now.
+  pub holds-faulty : (new : State) (e : IoError) (now : Option IoError) → now ≡ Some e → new.snapshots.file ≡ device.snapshots.file → HoldsIn sum (log_parts size site new now bytes from bs rs) H
+  holds-faulty new e now is names =
+      holds_over sum size site device fault bytes from bs rs H holds new now bytes from bs rs names (omega arith) (segment-faulty sum size site device fault bytes from bs rs H holds.own new e now is)
+
   -- Where nothing was reserved since the last write, all is on the device.
   pub all_kept : rs ≡ [] → fault ≡ None → site.place + size < 2 ^ 63 → from ≤ size → FirstUnwritten bs → AreSealed from rs bs → IsKept sum size site from device H
   all_kept none whole in_reach inside fresh are =
-      let all : H.messages ≡ holds.earlier = holds.messages ∙ ap (λ (l : List Reserved). holds.earlier ++ completed_in site bytes l) none ∙ append-nil holds.earlier in
+      let own = holds.own in
+      let all : H.messages ≡ own.earlier = own.messages ∙ ap (λ (l : List Reserved). own.earlier ++ completed_in site bytes l) none ∙ append-nil own.earlier in
       record {
-        below = subst (λ (ms : List Message). EndBelow (site.place + from) ms) (sym all) holds.below;
-        apart = subst LieApart (sym all) holds.apart;
-        batches = holds.batches;
-        place_begins = holds.place_begins;
-        slot_begins = holds.slot_begins;
+        below = subst (λ (ms : List Message). EndBelow (site.place + from) ms) (sym all) own.below;
+        apart = subst LieApart (sym all) own.apart;
+        batches = own.batches;
+        place_begins = own.place_begins;
+        slot_begins = own.slot_begins;
         in_reach = in_reach;
         inside = inside;
         begun = holds.begun;
-        on_device = subst (λ (ms : List Message). IsOnDevice sum size device.log site from ms (table H (stable_place holds.begun.first.stable))) (sym all) (holds.written whole);
-        clean = rest_zeros device.log.bytes site.slot bytes from bs size fresh (subst (λ (l : List Reserved). AreSealed from l bs) none are) (holds.laid whole);
+        on_device = subst (λ (ms : List Message). IsOnDevice sum size device.log site from ms (StaysFrom H (stable_place holds.begun.first.stable))) (sym all) (own.written whole);
+        clean = rest_zeros device.log.bytes site.slot bytes from bs size fresh (subst (λ (l : List Reserved). AreSealed from l bs) none are) (own.laid whole);
       }
 
   -- The same device and the same failure hold the same.

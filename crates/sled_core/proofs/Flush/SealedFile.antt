@@ -24,11 +24,11 @@ use Rattle.sled_core.proofs.Sealed.Runs.{IsRun, run_of, run_there}
 use Rattle.sled_core.proofs.Sealed.SealedCalls.{first_header}
 
 -- A write further behind changes nothing of it.
-pub file_beside : (sum : List ℕ → ℕ) (size : ℕ) (site : SegmentPosition) (old : List ℕ) (at : ℕ) (xs : List ℕ) (from : ℕ) (earlier : List Message) (entries : ℕ → List Message) → IsLogFile sum size old site from earlier entries
-    → from ≤ at → at + length xs ≤ size → IsLogFile sum size (overwritten old (site.slot + at) xs) site from earlier entries
-file_beside sum size site old at xs from earlier entries file behind inside =
-    subst (λ (ms : List Message). IsLogFile sum size (overwritten old (site.slot + at) xs) site from ms entries) (append-nil earlier)
-    (file_more sum size site old at xs from from earlier [] entries file behind inside (omega arith) file.begun
+pub file_beside : (sum : List ℕ → ℕ) (size : ℕ) (site : SegmentPosition) (old : List ℕ) (at : ℕ) (xs : List ℕ) (from : ℕ) (earlier : List Message) (stays : Message → Type 0) → IsLogFile sum size old site from earlier stays
+    → from ≤ at → at + length xs ≤ size → IsLogFile sum size (overwritten old (site.slot + at) xs) site from earlier stays
+file_beside sum size site old at xs from earlier stays file behind inside =
+    subst (λ (ms : List Message). IsLogFile sum size (overwritten old (site.slot + at) xs) site from ms stays) (append-nil earlier)
+    (file_more sum size site old at xs from from earlier [] stays file behind inside (omega arith) file.begun
     (λ some. header_kept sum size old (site.slot + at) xs site (let far = file.begun some in omega (arith, far, behind)) (file.header some)) (λ k d lt. absurd (omega arith)))
 
 -- The first sealed buffer is written: with those behind it that were written before it, its reservations are a chain up to where they end.
@@ -66,7 +66,7 @@ module _ (sum : List ℕ → ℕ) (size : ℕ) (some : 256 ≤ size) (old : List
     (bytes : List ℕ) (from : ℕ) (begins : (from ≡ 0) ⊎ (20 ≤ from)) (rs : List Reserved) (b : Sealed) (rest : List Sealed) (fresh : b.is_written ≡ false) (closed : b.open_count ≡ 0) (are : AreSealed from rs (b ∷ rest))
     (rise : EndsRise from (b ∷ rest) size) (inside : b.end ≤ length bytes)
     (stand : All (Stands sum size (site.place / size) bytes) rs) {H : History} (header : from ≡ 0 → HasMark sum site bytes H)
-    (laid : Laid old site.slot bytes from (b ∷ rest) size) (earlier : List Message) (entries : ℕ → List Message) (file : IsLogFile sum size old site from earlier entries) where
+    (laid : Laid old site.slot bytes from (b ∷ rest) size) (earlier : List Message) (stays : Message → Type 0) (file : IsLogFile sum size old site from earlier stays) where
   abbrev end_now : ℕ
   end_now = run_end b.end rest
 
@@ -95,6 +95,6 @@ module _ (sum : List ℕ → ℕ) (size : ℕ) (some : 256 ≤ size) (old : List
       (All-take (Stands sum size (site.place / size) bytes) (b.count + run_count rest) rs stand)
 
   -- So the log file has all messages up to that end.
-  pub first_file : IsLogFile sum size new site end_now (earlier ++ completed_in site bytes done) entries
-  first_file = file_more sum size site old from asked from end_now earlier (completed_in site bytes done) entries file (omega arith) covers up.0 (λ more. up.1)
+  pub first_file : IsLogFile sum size new site end_now (earlier ++ completed_in site bytes done) stays
+  first_file = file_more sum size site old from asked from end_now earlier (completed_in site bytes done) stays file (omega arith) covers up.0 (λ more. up.1)
       (λ more. first_header sum size some old site place_begins slot_begins place_small slot_small bytes from begins rs b rest fresh closed are rise inside header file.header laid) done_stand

@@ -18,7 +18,7 @@ use Rattle.sled_core.specs.declared.iobuf.Reserved.{Reserved}
 use Rattle.sled_core.specs.declared.iobuf.Sealed.{Sealed}
 use Rattle.sled_core.specs.declared.iobuf.SegmentPosition.{SegmentPosition}
 use Rattle.sled_core.specs.Buffers.{IsChain, NoPadding, Stands, completed_in}
-use Rattle.sled_core.specs.Fits.{log_parts, HoldsIn, IsOnDevice, EndBelow}
+use Rattle.sled_core.specs.Fits.{log_parts, HoldsIn, HoldsSegment, IsOnDevice, EndBelow}
 use Rattle.sled_core.specs.LogFile.{IsLogFile, padded}
 use Rattle.sled_core.specs.Reached.{StandsAlone}
 use Rattle.sled_core.specs.Recoverable.{LeavesRecoverable, NoHeaderOfZeros}
@@ -27,7 +27,7 @@ use Rattle.sled_core.specs.SealedBuffers.{AreSealed, FirstUnwritten, Laid, seale
 use Rattle.sled_core.proofs.Reserve.Entries.{some_long}
 use Rattle.sled_core.proofs.Reserve.Ranges.{chain_grows, completed-append, completed_between, there_split}
 use Rattle.sled_core.proofs.Flush.Completed.{all_apart, all_ascend, batches_to, has_only, inline_from, none_crosses}
-use Rattle.sled_core.proofs.Flush.FlushLemmas.{begun-more}
+use Rattle.sled_core.proofs.Flush.FlushLemmas.{holds_over}
 use Rattle.sled_core.proofs.Flush.Padded.{padded_none}
 use Rattle.sled_core.proofs.Flush.Settled.{InlineFrom, rests}
 use Rattle.sled_core.proofs.Flush.SealedFile.{chain_done, file_beside, first_file, stop_up}
@@ -38,7 +38,8 @@ use Rattle.sled_core.proofs.Sealed.Ended.{chain_rest, ends_rise}
 use Rattle.sled_core.proofs.Sealed.HeadSealed.{torn_head_sealed}
 use Rattle.sled_core.proofs.Sealed.LaidLemmas.{EndsRise, ends_below}
 use Rattle.sled_core.proofs.Sealed.OneWritten.{has_written, laid_new, long, rises_at}
-use Rattle.sled_core.proofs.Sealed.Runs.{run_laid}
+use Rattle.sled_core.proofs.Sealed.Marked.{written_are}
+use Rattle.sled_core.proofs.Sealed.Runs.{run_laid, run_of}
 use Rattle.sled_core.proofs.Sealed.SealedCalls.{first_alone, later_alone}
 use Rattle.sled_core.proofs.Sealed.WriteMoments as moments
 use Rattle.sled_core.proofs.Torn.TornLemmas.{after_write}
@@ -49,13 +50,13 @@ apart_front [] ys apart = tt
 apart_front (x ∷ xs) ys apart = (apart.0, all_front (λ n. x.place + x.size ≤ n.place) xs ys apart.1, apart_front xs ys apart.2)
 
 -- What is on a device stands in the log file that is read of it.
-on_file : (sum : List ℕ → ℕ) (size : ℕ) (device : LogState) (site : SegmentPosition) (from : ℕ) (messages : List Message) (entries : ℕ → List Message) → IsOnDevice sum size device site from messages entries
-    → IsLogFile sum size device.bytes site from messages entries
-on_file sum size device site from messages entries is = subst (λ (l : List ℕ). IsLogFile sum size l site from messages entries) (sym (ap (λ (s : LogState). s.bytes) is.settled)) is.file
+on_file : (sum : List ℕ → ℕ) (size : ℕ) (device : LogState) (site : SegmentPosition) (from : ℕ) (messages : List Message) (stays : Message → Type 0) → IsOnDevice sum size device site from messages stays
+    → IsLogFile sum size device.bytes site from messages stays
+on_file sum size device site from messages stays is = subst (λ (l : List ℕ). IsLogFile sum size l site from messages stays) (sym (ap (λ (s : LogState). s.bytes) is.settled)) is.file
 
 -- nothing was written of a segment, or its header was
-none_or_begun : (sum : List ℕ → ℕ) (size : ℕ) (log : List ℕ) (site : SegmentPosition) (from : ℕ) (messages : List Message) (entries : ℕ → List Message) → IsLogFile sum size log site from messages entries → (from ≡ 0) ⊎ (20 ≤ from)
-none_or_begun sum size log site from messages entries file = elim (cases_lt 0 from) [ inl some ↦ inr (file.begun some) | inr none ↦ inl (omega (arith, none)) ]
+none_or_begun : (sum : List ℕ → ℕ) (size : ℕ) (log : List ℕ) (site : SegmentPosition) (from : ℕ) (messages : List Message) (stays : Message → Type 0) → IsLogFile sum size log site from messages stays → (from ≡ 0) ⊎ (20 ≤ from)
+none_or_begun sum size log site from messages stays file = elim (cases_lt 0 from) [ inl some ↦ inr (file.begun some) | inr none ↦ inl (omega (arith, none)) ]
 
 -- buffers that end in a text end in a segment that is as long or longer
 rise_in : (from : ℕ) (rs : List Reserved) (bs : List Sealed) (to more : ℕ) → AreSealed from rs bs → EndsRise from bs to → to ≤ more → EndsRise from bs more
@@ -80,13 +81,13 @@ module _ (sum : List ℕ → ℕ) (size : ℕ) (site : SegmentPosition) (device 
 
   -- the log file is at rest
   rest_now : device.log ≡ at_rest device.log.bytes
-  rest_now = let on_device = fits.holds.written whole in rests device.log on_device.log on_device.settled
+  rest_now = let on_device = fits.holds.own.written whole in rests device.log on_device.log on_device.settled
 
   ordered : Ascends H.messages
-  ordered = all_ascend sum size site device fault bytes from bs rs H fits.holds
+  ordered = all_ascend sum size site device fault bytes from bs rs H fits.holds.own
 
   inline : InlineFrom H (site.place + from)
-  inline = inline_from sum size site device fault bytes from bs rs H fits.holds
+  inline = inline_from sum size site device fault bytes from bs rs H fits.holds.own
 
   torn_now : NoHeaderOfZeros sum → (now left : List ℕ) → length now ≤ length asked → LeavesLog (after_write device.log.bytes at asked now) left → (placed : List (ℕ × List ℕ))
       → NoForeignLog sum size (after_write device.log.bytes at asked now) placed left → StandsTo sum size left H (site.place + from) fits.holds.begun.first (site.place + from)
@@ -117,7 +118,7 @@ module _ (sum : List ℕ → ℕ) (size : ℕ) (site : SegmentPosition) (device 
 
 -- The first buffer is written.
 module _ (sum : List ℕ → ℕ) (size : ℕ) (site : SegmentPosition) (device : State) (fault : Option IoError) (bytes : List ℕ) (from : ℕ) (b : Sealed) (rest : List Sealed) (rs : List Reserved) (H : History)
-    (holds : HoldsIn sum (log_parts size site device fault bytes from (b ∷ rest) rs) H)
+    {stays : Message → Type 0} (holds : HoldsSegment sum (log_parts size site device fault bytes from (b ∷ rest) rs) stays H)
     (short : length bytes ≤ size) (big : 256 ≤ size) (place_small : site.place + size < 2 ^ 63) (slot_small : site.slot + size < 2 ^ 63)
     (are : AreSealed from rs (b ∷ rest)) (fresh : b.is_written ≡ false) (closed : b.open_count ≡ 0) (rise : EndsRise from (b ∷ rest) (length bytes)) (whole : fault ≡ None) where
   -- where those end that are written now, and how many reservations they have
@@ -141,9 +142,6 @@ module _ (sum : List ℕ → ℕ) (size : ℕ) (site : SegmentPosition) (device 
 
   abbrev new_log : List ℕ
   new_log = overwritten old (site.slot + from) asked
-
-  abbrev entries : ℕ → List Message
-  entries = table H (stable_place holds.begun.first.stable)
 
   -- the messages that are written then
   abbrev earlier_now : List Message
@@ -176,15 +174,15 @@ module _ (sum : List ℕ → ℕ) (size : ℕ) (site : SegmentPosition) (device 
       (λ k d lt. let low = holds.below k d lt in (omega (arith, low.0, above), omega (arith, low.1, above)))
       (λ k d lt. let low = late k d lt in (low.1, low.2))
 
-  file_old : IsLogFile sum size old site from holds.earlier entries
-  file_old = on_file sum size device.log site from holds.earlier entries (holds.written whole)
+  file_old : IsLogFile sum size old site from holds.earlier stays
+  file_old = on_file sum size device.log site from holds.earlier stays (holds.written whole)
 
   first_begins : (from ≡ 0) ⊎ (20 ≤ from)
-  first_begins = none_or_begun sum size old site from holds.earlier entries file_old
+  first_begins = none_or_begun sum size old site from holds.earlier stays file_old
 
-  -- Once it is synced the log holds the same.
-  holds_first : (new : State) → new.log ≡ at_rest new_log → new.snapshots.file ≡ device.snapshots.file → HoldsIn sum (log_parts size site new fault bytes stop (behind_run rest) others) H
-  holds_first new is names = record {
+  -- Once it is synced the segment holds the same.
+  segment_first : (new : State) → new.log ≡ at_rest new_log → HoldsSegment sum (log_parts size site new fault bytes stop (behind_run rest) others) stays H
+  segment_first new is = record {
     earlier = earlier_now;
     messages = messages_now;
     below = below_now;
@@ -196,21 +194,15 @@ module _ (sum : List ℕ → ℕ) (size : ℕ) (site : SegmentPosition) (device 
     chain = let some = up.1 in let same : stop ≡ max 20 stop = omega (arith, some) in subst (λ n. IsChain n others (length bytes)) same chain_others;
     stand = All-drop (Stands sum size (site.place / size) bytes) count rs holds.stand;
     plain = All-drop NoPadding count rs holds.plain;
-    begun = begun-more sum size device.snapshots.file new.snapshots.file site from stop H names up.0 holds.begun;
     written = λ none. record {
       log = new_log;
       settled = is;
       file = first_file sum size big old site holds.place_begins holds.slot_begins place_small slot_small bytes from first_begins rs b rest fresh closed are rise_size inside holds.stand holds.header (holds.laid whole)
-          holds.earlier entries file_old;
+          holds.earlier stays file_old;
     };
     laid = λ none. subst (λ (s : LogState). Laid s.bytes site.slot bytes stop (behind_run rest) size) (sym is)
         (run_laid new_log site.slot bytes from (now_written b ∷ rest) size (laid_new old site.slot bytes from [] b rest size rise_size inside (holds.laid whole)));
   }
-
-  -- and it began from the same snapshot
-  first_same : (new : State) (is : new.log ≡ at_rest new_log) (names : new.snapshots.file ≡ device.snapshots.file) → (holds_first new is names).begun.first ≡ holds.begun.first
-  unfolding holds_first
-  first_same new is names = refl
 
   -- Of the history those are all that begins in what is written then.
   has_first : HasOnly H (completed_in site bytes done) (site.place + max 20 from) (site.place + stop)
@@ -234,18 +226,18 @@ module _ (sum : List ℕ → ℕ) (size : ℕ) (site : SegmentPosition) (device 
       }
 
   -- What a crash leaves of the write.
-  torn_first : NoHeaderOfZeros sum → StandsAlone sum size old site from (site.place + from) H holds.begun.first → (now left : List ℕ) → length now ≤ length asked → LeavesLog (after_write old (site.slot + from) asked now) left → (placed : List (ℕ × List ℕ))
-      → NoForeignLog sum size (after_write old (site.slot + from) asked now) placed left → StandsTo sum size left H (site.place + from) holds.begun.first (site.place + from)
-  torn_first zeros alone now left no_more leaves placed only_own =
+  torn_first : (first : SnapshotModel) → NoHeaderOfZeros sum → StandsAlone sum size old site from (site.place + from) H first → (now left : List ℕ) → length now ≤ length asked → LeavesLog (after_write old (site.slot + from) asked now) left → (placed : List (ℕ × List ℕ))
+      → NoForeignLog sum size (after_write old (site.slot + from) asked now) placed left → StandsTo sum size left H (site.place + from) first (site.place + from)
+  torn_first first zeros alone now left no_more leaves placed only_own =
       torn_head_sealed sum zeros size big old site holds.place_begins holds.slot_begins place_small slot_small bytes from first_begins rs b rest fresh closed are rise_size inside holds.stand
-      (plain_room sum size (site.place / size) bytes from big first_begins rs b rest are holds.stand holds.plain) holds.header (holds.laid whole) (site.place + from) holds.begun.first alone has_first now left no_more leaves {placed = placed} only_own
+      (plain_room sum size (site.place / size) bytes from big first_begins rs b rest are holds.stand holds.plain) holds.header (holds.laid whole) (site.place + from) first alone has_first now left no_more leaves {placed = placed} only_own
 
   -- All of it.
-  alone_first : NoHeaderOfZeros sum → (end : ℕ) → site.slot ≤ end → StandsAlone sum size (padded end old) site from (site.place + from) H holds.begun.first
-      → StandsAlone sum size (padded end new_log) site stop (site.place + stop) H holds.begun.first
-  alone_first zeros =
+  alone_first : (first : SnapshotModel) → stable_place first.stable / size * size ≡ site.place → NoHeaderOfZeros sum → (end : ℕ) → site.slot ≤ end → StandsAlone sum size (padded end old) site from (site.place + from) H first
+      → StandsAlone sum size (padded end new_log) site stop (site.place + stop) H first
+  alone_first first least zeros =
       first_alone sum size big old site holds.place_begins holds.slot_begins place_small slot_small bytes from first_begins rs b rest fresh closed are rise_size inside holds.header file_old.header (holds.laid whole)
-      holds.stand holds.plain zeros (site.place + from) holds.begun.first has_first (all_ascend sum size site device fault bytes from (b ∷ rest) rs H holds) (let least = holds.begun.least in omega (arith, least))
+      holds.stand holds.plain zeros (site.place + from) first has_first (all_ascend sum size site device fault bytes from (b ∷ rest) rs H holds) (omega (arith, least))
       (none_crosses sum size site device fault bytes from (b ∷ rest) rs H holds (site.place + stop) (let above = up.0 in omega (arith, above)))
 
   -- so the file reaches its slot
@@ -254,7 +246,7 @@ module _ (sum : List ℕ → ℕ) (size : ℕ) (site : SegmentPosition) (device 
 
 -- Another one is written, behind a first one that isn't.
 module _ (sum : List ℕ → ℕ) (size : ℕ) (site : SegmentPosition) (device : State) (fault : Option IoError) (bytes : List ℕ) (from : ℕ) (x : Sealed) (xs : List Sealed) (b : Sealed) (rest : List Sealed) (rs : List Reserved) (H : History)
-    (holds : HoldsIn sum (log_parts size site device fault bytes from (x ∷ xs ++ b ∷ rest) rs) H)
+    {stays : Message → Type 0} (holds : HoldsSegment sum (log_parts size site device fault bytes from (x ∷ xs ++ b ∷ rest) rs) stays H)
     (short : length bytes ≤ size) (big : 256 ≤ size) (place_small : site.place + size < 2 ^ 63) (slot_small : site.slot + size < 2 ^ 63)
     (are : AreSealed from rs (x ∷ xs ++ b ∷ rest)) (rise : EndsRise from (x ∷ xs ++ b ∷ rest) (length bytes)) (whole : fault ≡ None) where
   -- where it begins
@@ -270,9 +262,6 @@ module _ (sum : List ℕ → ℕ) (size : ℕ) (site : SegmentPosition) (device 
   abbrev new_later : List ℕ
   new_later = overwritten old_later (site.slot + at) asked_later
 
-  abbrev entries_later : ℕ → List Message
-  entries_later = table H (stable_place holds.begun.first.stable)
-
   lies : (from ≤ at) × (at < b.end) × (b.end ≤ length bytes)
   lies = rises_at from (x ∷ xs) b rest (length bytes) rise
 
@@ -282,15 +271,15 @@ module _ (sum : List ℕ → ℕ) (size : ℕ) (site : SegmentPosition) (device 
   covers : at + length asked_later ≤ size
   covers = let l = long old_later site.slot bytes from (x ∷ xs) b rest size rise_later lies.2 in let in_text = lies.2 in omega (arith, l, in_text, short)
 
-  file_later : IsLogFile sum size old_later site from holds.earlier entries_later
-  file_later = on_file sum size device.log site from holds.earlier entries_later (holds.written whole)
+  file_later : IsLogFile sum size old_later site from holds.earlier stays
+  file_later = on_file sum size device.log site from holds.earlier stays (holds.written whole)
 
   later_begins : (from ≡ 0) ⊎ (20 ≤ from)
-  later_begins = none_or_begun sum size old_later site from holds.earlier entries_later file_later
+  later_begins = none_or_begun sum size old_later site from holds.earlier stays file_later
 
-  -- Once it is synced the log holds the same.
-  holds_later : (new : State) → new.log ≡ at_rest new_later → new.snapshots.file ≡ device.snapshots.file → HoldsIn sum (log_parts size site new fault bytes from (x ∷ xs ++ now_written b ∷ rest) rs) H
-  holds_later new is names = record {
+  -- Once it is synced the segment holds the same.
+  segment_later : (new : State) → new.log ≡ at_rest new_later → HoldsSegment sum (log_parts size site new fault bytes from (x ∷ xs ++ now_written b ∷ rest) rs) stays H
+  segment_later new is = record {
     earlier = holds.earlier;
     messages = holds.messages;
     below = holds.below;
@@ -302,45 +291,40 @@ module _ (sum : List ℕ → ℕ) (size : ℕ) (site : SegmentPosition) (device 
     chain = holds.chain;
     stand = holds.stand;
     plain = holds.plain;
-    begun = begun-more sum size device.snapshots.file new.snapshots.file site from from H names (omega arith) holds.begun;
-    written = λ none. record { log = new_later; settled = is; file = file_beside sum size site old_later at asked_later from holds.earlier entries_later file_later lies.0 covers };
+    written = λ none. record { log = new_later; settled = is; file = file_beside sum size site old_later at asked_later from holds.earlier stays file_later lies.0 covers };
     laid = λ none. subst (λ (s : LogState). Laid s.bytes site.slot bytes from (x ∷ xs ++ now_written b ∷ rest) size) (sym is)
         (laid_new old_later site.slot bytes from (x ∷ xs) b rest size rise_later lies.2 (holds.laid whole));
   }
 
-  -- and it began from the same snapshot
-  later_same : (new : State) (is : new.log ≡ at_rest new_later) (names : new.snapshots.file ≡ device.snapshots.file) → (holds_later new is names).begun.first ≡ holds.begun.first
-  unfolding holds_later
-  later_same new is names = refl
-
   -- What a crash leaves of the write.
-  torn_later : x.is_written ≡ false → NoHeaderOfZeros sum → StandsAlone sum size old_later site from (site.place + from) H holds.begun.first → (now left : List ℕ) → length now ≤ length asked_later
+  torn_later : x.is_written ≡ false → (first : SnapshotModel) → NoHeaderOfZeros sum → StandsAlone sum size old_later site from (site.place + from) H first → (now left : List ℕ) → length now ≤ length asked_later
       → LeavesLog (after_write old_later (site.slot + at) asked_later now) left → (placed : List (ℕ × List ℕ)) → NoForeignLog sum size (after_write old_later (site.slot + at) asked_later now) placed left
-      → StandsTo sum size left H (site.place + from) holds.begun.first (site.place + from)
-  torn_later fresh zeros alone now left no_more leaves placed only_own =
-      torn_behind_unwritten sum zeros size big old_later site holds.slot_begins bytes from later_begins rs x xs b rest fresh are rise_later lies.2 (site.place / size) holds.stand (site.place + from) H holds.begun.first old_later (holds.laid whole)
+      → StandsTo sum size left H (site.place + from) first (site.place + from)
+  torn_later fresh first zeros alone now left no_more leaves placed only_own =
+      torn_behind_unwritten sum zeros size big old_later site holds.slot_begins bytes from later_begins rs x xs b rest fresh are rise_later lies.2 (site.place / size) holds.stand (site.place + from) H first old_later (holds.laid whole)
       alone now left no_more leaves {placed = placed} only_own
 
   -- All of it.
-  alone_later : x.is_written ≡ false → NoHeaderOfZeros sum → (end : ℕ) → site.slot ≤ end → StandsAlone sum size (padded end old_later) site from (site.place + from) H holds.begun.first
-      → StandsAlone sum size (padded end new_later) site from (site.place + from) H holds.begun.first
-  alone_later fresh zeros = later_alone sum size big old_later site holds.place_begins holds.slot_begins place_small slot_small bytes from later_begins rs x xs b rest fresh are rise_later lies.2 (site.place / size) holds.stand (holds.laid whole)
-      zeros (site.place + from) H holds.begun.first
+  alone_later : x.is_written ≡ false → (first : SnapshotModel) → NoHeaderOfZeros sum → (end : ℕ) → site.slot ≤ end → StandsAlone sum size (padded end old_later) site from (site.place + from) H first
+      → StandsAlone sum size (padded end new_later) site from (site.place + from) H first
+  alone_later fresh first zeros = later_alone sum size big old_later site holds.place_begins holds.slot_begins place_small slot_small bytes from later_begins rs x xs b rest fresh are rise_later lies.2 (site.place / size) holds.stand (holds.laid whole)
+      zeros (site.place + from) H first
 
   -- so the file reaches its slot
   reaches_later : site.slot ≤ length new_later
   reaches_later = let agrees = has_written old_later site.slot bytes from (x ∷ xs) b rest size rise_later lies.2 in let in_file = agrees.in_file in omega (arith, in_file)
 
 -- One of them is written, whichever it is.
-holds_around : (sum : List ℕ → ℕ) (size : ℕ) (site : SegmentPosition) (device : State) (fault : Option IoError) (bytes : List ℕ) (from : ℕ) (front : List Sealed) (b : Sealed) (rest : List Sealed) (rs : List Reserved) (H : History)
-    → HoldsIn sum (log_parts size site device fault bytes from (front ++ b ∷ rest) rs) H
+segment_around : (sum : List ℕ → ℕ) (size : ℕ) (site : SegmentPosition) (device : State) (fault : Option IoError) (bytes : List ℕ) (from : ℕ) (front : List Sealed) (b : Sealed) (rest : List Sealed) (rs : List Reserved) (H : History)
+    → {stays : Message → Type 0} → HoldsSegment sum (log_parts size site device fault bytes from (front ++ b ∷ rest) rs) stays H
     → length bytes ≤ size → 256 ≤ size → site.place + size < 2 ^ 63 → site.slot + size < 2 ^ 63 → AreSealed from rs (front ++ b ∷ rest) → FirstUnwritten (front ++ b ∷ rest) → b.open_count ≡ 0 → EndsRise from (front ++ b ∷ rest) (length bytes) → fault ≡ None
-    → (new : State) → new.log ≡ at_rest (overwritten device.log.bytes (site.slot + sealed_end from front) (bytes_between bytes (sealed_end from front) b.end)) → new.snapshots.file ≡ device.snapshots.file
-    → HoldsIn sum (log_parts size site new fault bytes (run_end from (front ++ now_written b ∷ rest)) (behind_run (front ++ now_written b ∷ rest)) (drop (run_count (front ++ now_written b ∷ rest)) rs)) H
-holds_around sum size site device fault bytes from [] b rest rs H holds short big place_small slot_small are fresh closed rise whole new is names =
-    holds_first sum size site device fault bytes from b rest rs H holds short big place_small slot_small are fresh closed rise whole new is names
-holds_around sum size site device fault bytes from (x ∷ xs) b rest rs H holds short big place_small slot_small are fresh closed rise whole new is names =
-    no_run (λ n cs l. HoldsIn sum (log_parts size site new fault bytes n cs l) H) from x (xs ++ now_written b ∷ rest) rs fresh (holds_later sum size site device fault bytes from x xs b rest rs H holds short big place_small slot_small are rise whole new is names)
+    → (new : State) → new.log ≡ at_rest (overwritten device.log.bytes (site.slot + sealed_end from front) (bytes_between bytes (sealed_end from front) b.end))
+    → HoldsSegment sum (log_parts size site new fault bytes (run_end from (front ++ now_written b ∷ rest)) (behind_run (front ++ now_written b ∷ rest)) (drop (run_count (front ++ now_written b ∷ rest)) rs)) stays H
+segment_around sum size site device fault bytes from [] b rest rs H holds short big place_small slot_small are fresh closed rise whole new is =
+    segment_first sum size site device fault bytes from b rest rs H holds short big place_small slot_small are fresh closed rise whole new is
+segment_around sum size site device fault bytes from (x ∷ xs) b rest rs H {stays} holds short big place_small slot_small are fresh closed rise whole new is =
+    no_run (λ n cs l. HoldsSegment sum (log_parts size site new fault bytes n cs l) stays H) from x (xs ++ now_written b ∷ rest) rs fresh
+    (segment_later sum size site device fault bytes from x xs b rest rs H holds short big place_small slot_small are rise whole new is)
 
 module _ (sum : List ℕ → ℕ) (size : ℕ) (site : SegmentPosition) (device : State) (fault : Option IoError) (bytes : List ℕ) (from : ℕ) (b : Sealed) (rest : List Sealed) (rs : List Reserved) (pins : ℕ) (H : History) (A f : ℕ) (U : List Message)
     (short : length bytes ≤ size) (big : 256 ≤ size) (place_small : site.place + size < 2 ^ 63) (slot_small : site.slot + size < 2 ^ 63) (closed : b.open_count ≡ 0) (whole : fault ≡ None) where
@@ -353,14 +337,14 @@ module _ (sum : List ℕ → ℕ) (size : ℕ) (site : SegmentPosition) (device 
       → Along (LeavesRecoverable sum size H (site.place + from) f) (Wrote (site.slot + sealed_end from front) (asked_behind front) (asked_behind front) ∷ Synced ∷ []) device
   along_around [] fits are fresh rise =
       along_behind sum size site device fault bytes from (b ∷ rest) rs pins H A f U fits big whole (run_end b.end rest) (stop_up from rs b rest closed are).0
-      (site.slot + from) (asked_behind []) (torn_first sum size site device fault bytes from b rest rs H fits.holds short big place_small slot_small are fresh closed rise whole)
-      (alone_first sum size site device fault bytes from b rest rs H fits.holds short big place_small slot_small are fresh closed rise whole)
-      (reaches_first sum size site device fault bytes from b rest rs H fits.holds short big place_small slot_small are fresh closed rise whole)
+      (site.slot + from) (asked_behind []) (torn_first sum size site device fault bytes from b rest rs H fits.holds.own short big place_small slot_small are fresh closed rise whole fits.holds.begun.first)
+      (alone_first sum size site device fault bytes from b rest rs H fits.holds.own short big place_small slot_small are fresh closed rise whole fits.holds.begun.first fits.holds.begun.least)
+      (reaches_first sum size site device fault bytes from b rest rs H fits.holds.own short big place_small slot_small are fresh closed rise whole)
   along_around (x ∷ xs) fits are fresh rise =
       along_behind sum size site device fault bytes from (x ∷ xs ++ b ∷ rest) rs pins H A f U fits big whole from (omega arith)
-      (site.slot + sealed_end x.end xs) (asked_behind (x ∷ xs)) (torn_later sum size site device fault bytes from x xs b rest rs H fits.holds short big place_small slot_small are rise whole fresh)
-      (alone_later sum size site device fault bytes from x xs b rest rs H fits.holds short big place_small slot_small are rise whole fresh)
-      (reaches_later sum size site device fault bytes from x xs b rest rs H fits.holds short big place_small slot_small are rise whole)
+      (site.slot + sealed_end x.end xs) (asked_behind (x ∷ xs)) (torn_later sum size site device fault bytes from x xs b rest rs H fits.holds.own short big place_small slot_small are rise whole fresh fits.holds.begun.first)
+      (alone_later sum size site device fault bytes from x xs b rest rs H fits.holds.own short big place_small slot_small are rise whole fresh fits.holds.begun.first)
+      (reaches_later sum size site device fault bytes from x xs b rest rs H fits.holds.own short big place_small slot_small are rise whole)
 
   abbrev after_behind : List Sealed → State
   after_behind front = step Synced (step (Wrote (site.slot + sealed_end from front) (asked_behind front) (asked_behind front)) device)
@@ -371,19 +355,19 @@ module _ (sum : List ℕ → ℕ) (size : ℕ) (site : SegmentPosition) (device 
       → FitsIn sum (log_parts size site (after_behind front) fault bytes (run_end from (front ++ now_written b ∷ rest)) (behind_run (front ++ now_written b ∷ rest)) (drop (run_count (front ++ now_written b ∷ rest)) rs)) pins H A' f U
   fits_around [] fits are fresh rise A' =
       fits_behind sum size site device fault bytes from (b ∷ rest) rs pins H A f U fits big whole (run_end b.end rest) (stop_up from rs b rest closed are).0
-      (site.slot + from) (asked_behind []) (torn_first sum size site device fault bytes from b rest rs H fits.holds short big place_small slot_small are fresh closed rise whole)
-      (alone_first sum size site device fault bytes from b rest rs H fits.holds short big place_small slot_small are fresh closed rise whole)
-      (reaches_first sum size site device fault bytes from b rest rs H fits.holds short big place_small slot_small are fresh closed rise whole) (behind_run rest) (drop (b.count + run_count rest) rs)
-      (holds_first sum size site device fault bytes from b rest rs H fits.holds short big place_small slot_small are fresh closed rise whole (after_behind []) refl refl)
-      (first_same sum size site device fault bytes from b rest rs H fits.holds short big place_small slot_small are fresh closed rise whole (after_behind []) refl refl) A'
+      (site.slot + from) (asked_behind []) (torn_first sum size site device fault bytes from b rest rs H fits.holds.own short big place_small slot_small are fresh closed rise whole fits.holds.begun.first)
+      (alone_first sum size site device fault bytes from b rest rs H fits.holds.own short big place_small slot_small are fresh closed rise whole fits.holds.begun.first fits.holds.begun.least)
+      (reaches_first sum size site device fault bytes from b rest rs H fits.holds.own short big place_small slot_small are fresh closed rise whole) (behind_run rest) (drop (b.count + run_count rest) rs)
+      (holds_over sum size site device fault bytes from (b ∷ rest) rs H fits.holds (after_behind []) fault bytes (run_end b.end rest) (behind_run rest) (drop (b.count + run_count rest) rs) refl (stop_up from rs b rest closed are).0
+      (segment_first sum size site device fault bytes from b rest rs H fits.holds.own short big place_small slot_small are fresh closed rise whole (after_behind []) refl)) refl A'
   fits_around (x ∷ xs) fits are fresh rise A' =
       no_run (λ n cs others. A' ≤ site.place + n → FitsIn sum (log_parts size site (after_behind (x ∷ xs)) fault bytes n cs others) pins H A' f U) from x (xs ++ now_written b ∷ rest) rs fresh
       (fits_behind sum size site device fault bytes from (x ∷ xs ++ b ∷ rest) rs pins H A f U fits big whole from (omega arith)
-      (site.slot + sealed_end x.end xs) (asked_behind (x ∷ xs)) (torn_later sum size site device fault bytes from x xs b rest rs H fits.holds short big place_small slot_small are rise whole fresh)
-      (alone_later sum size site device fault bytes from x xs b rest rs H fits.holds short big place_small slot_small are rise whole fresh)
-      (reaches_later sum size site device fault bytes from x xs b rest rs H fits.holds short big place_small slot_small are rise whole) (x ∷ xs ++ now_written b ∷ rest) rs
-      (holds_later sum size site device fault bytes from x xs b rest rs H fits.holds short big place_small slot_small are rise whole (after_behind (x ∷ xs)) refl refl)
-      (later_same sum size site device fault bytes from x xs b rest rs H fits.holds short big place_small slot_small are rise whole (after_behind (x ∷ xs)) refl refl) A')
+      (site.slot + sealed_end x.end xs) (asked_behind (x ∷ xs)) (torn_later sum size site device fault bytes from x xs b rest rs H fits.holds.own short big place_small slot_small are rise whole fresh fits.holds.begun.first)
+      (alone_later sum size site device fault bytes from x xs b rest rs H fits.holds.own short big place_small slot_small are rise whole fresh fits.holds.begun.first)
+      (reaches_later sum size site device fault bytes from x xs b rest rs H fits.holds.own short big place_small slot_small are rise whole) (x ∷ xs ++ now_written b ∷ rest) rs
+      (holds_over sum size site device fault bytes from (x ∷ xs ++ b ∷ rest) rs H fits.holds (after_behind (x ∷ xs)) fault bytes from (x ∷ xs ++ now_written b ∷ rest) rs refl (omega arith)
+      (segment_later sum size site device fault bytes from x xs b rest rs H fits.holds.own short big place_small slot_small are rise whole (after_behind (x ∷ xs)) refl)) refl A')
 
 -- a list once the one at an index is written, and around it
 written_split : (k : ℕ) (bs : List Sealed) (b : Sealed) → slice_get bs k ≡ Some b → written_at k bs ≡ take k bs ++ now_written b ∷ drop (suc k) bs
@@ -400,7 +384,7 @@ ready_closed b ready = by_test b.is_written ready where
   by_test false is = grind (arith, nat_tests, is)
 
 module _ (sum : List ℕ → ℕ) (size : ℕ) (site : SegmentPosition) (device : State) (fault : Option IoError) (bytes : List ℕ) (from : ℕ) (bs : List Sealed) (rs : List Reserved) (H : History)
-    (holds : HoldsIn sum (log_parts size site device fault bytes from bs rs) H)
+    {stays : Message → Type 0} (holds : HoldsSegment sum (log_parts size site device fault bytes from bs rs) stays H)
     (short : length bytes ≤ size) (big : 256 ≤ size) (place_small : site.place + size < 2 ^ 63) (slot_small : site.slot + size < 2 ^ 63)
     (are : AreSealed from rs bs) (fresh : FirstUnwritten bs) (rise : EndsRise from bs (length bytes)) (whole : fault ≡ None) (k : ℕ) (b : Sealed) (there : slice_get bs k ≡ Some b) (ready : is_ready b ≡ true) where
   -- where it begins
@@ -416,13 +400,24 @@ module _ (sum : List ℕ → ℕ) (size : ℕ) (site : SegmentPosition) (device 
   split : bs ≡ take k bs ++ b ∷ drop (suc k) bs
   split = there_split bs k b there
 
-  -- Once one that is ready is written and synced, the log holds the same.
-  pub holds_written_one : (new : State) → new.log ≡ at_rest (overwritten device.log.bytes (site.slot + begins_at) its_bytes) → new.snapshots.file ≡ device.snapshots.file
-      → HoldsIn sum (log_parts size site new fault bytes (run_end from now) (behind_run now) (drop (run_count now) rs)) H
-  holds_written_one new is names =
-      subst (λ (cs : List Sealed). HoldsIn sum (log_parts size site new fault bytes (run_end from cs) (behind_run cs) (drop (run_count cs) rs)) H) (sym (written_split k bs b there))
-      (holds_around sum size site device fault bytes from (take k bs) b (drop (suc k) bs) rs H (subst (λ (cs : List Sealed). HoldsIn sum (log_parts size site device fault bytes from cs rs) H) split holds) short big place_small slot_small
-      (subst (λ (cs : List Sealed). AreSealed from rs cs) split are) (subst FirstUnwritten split fresh) (ready_closed b ready) (subst (λ (cs : List Sealed). EndsRise from cs (length bytes)) split rise) whole new is names)
+  -- Once one that is ready is written and synced, the segment holds the same.
+  pub segment_written_one : (new : State) → new.log ≡ at_rest (overwritten device.log.bytes (site.slot + begins_at) its_bytes)
+      → HoldsSegment sum (log_parts size site new fault bytes (run_end from now) (behind_run now) (drop (run_count now) rs)) stays H
+  segment_written_one new is =
+      subst (λ (cs : List Sealed). HoldsSegment sum (log_parts size site new fault bytes (run_end from cs) (behind_run cs) (drop (run_count cs) rs)) stays H) (sym (written_split k bs b there))
+      (segment_around sum size site device fault bytes from (take k bs) b (drop (suc k) bs) rs H (subst (λ (cs : List Sealed). HoldsSegment sum (log_parts size site device fault bytes from cs rs) stays H) split holds) short big place_small slot_small
+      (subst (λ (cs : List Sealed). AreSealed from rs cs) split are) (subst FirstUnwritten split fresh) (ready_closed b ready) (subst (λ (cs : List Sealed). EndsRise from cs (length bytes)) split rise) whole new is)
+
+-- And so does the log.
+pub holds_written_one : (sum : List ℕ → ℕ) (size : ℕ) (site : SegmentPosition) (device : State) (fault : Option IoError) (bytes : List ℕ) (from : ℕ) (bs : List Sealed) (rs : List Reserved) (H : History) → HoldsIn sum (log_parts size site device fault bytes from bs rs) H
+    → length bytes ≤ size → 256 ≤ size → site.place + size < 2 ^ 63 → site.slot + size < 2 ^ 63 → AreSealed from rs bs → FirstUnwritten bs → EndsRise from bs (length bytes) → fault ≡ None → (k : ℕ) (b : Sealed) → slice_get bs k ≡ Some b → is_ready b ≡ true
+    → (new : State) → new.log ≡ at_rest (overwritten device.log.bytes (site.slot + sealed_end from (take k bs)) (bytes_between bytes (sealed_end from (take k bs)) b.end)) → new.snapshots.file ≡ device.snapshots.file
+    → HoldsIn sum (log_parts size site new fault bytes (run_end from (written_at k bs)) (behind_run (written_at k bs)) (drop (run_count (written_at k bs)) rs)) H
+holds_written_one sum size site device fault bytes from bs rs H holds short big place_small slot_small are fresh rise whole k b there ready new is names =
+    let now : List Sealed = written_at k bs in
+    let grows = (run_of from rs now (written_are from rs bs k b there (ready_closed b ready) are)).rises in
+    holds_over sum size site device fault bytes from bs rs H holds new fault bytes (run_end from now) (behind_run now) (drop (run_count now) rs) names grows
+    (segment_written_one sum size site device fault bytes from bs rs H holds.own short big place_small slot_small are fresh rise whole k b there ready new is)
 
 module _ (sum : List ℕ → ℕ) (size : ℕ) (site : SegmentPosition) (device : State) (fault : Option IoError) (bytes : List ℕ) (from : ℕ) (bs : List Sealed) (rs : List Reserved) (pins : ℕ) (H : History) (A f : ℕ) (U : List Message)
     (fits : FitsIn sum (log_parts size site device fault bytes from bs rs) pins H A f U)

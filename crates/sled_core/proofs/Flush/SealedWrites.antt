@@ -21,7 +21,7 @@ use Rattle.sled_core.proofs.Flush.SameFits.{fits_same_buffer}
 use Rattle.sled_core.proofs.Flush.SealedFits.{fits_written_one, holds_written_one, write_along}
 use Rattle.sled_core.proofs.Flush.Settled.{leaves_less}
 use Rattle.sled_core.proofs.Holds.BufferEnds.{sealed_rise}
-use Rattle.sled_core.proofs.Holds.HoldsLemmas.{holds-same}
+use Rattle.sled_core.proofs.Holds.WholeLemmas.{holds-same}
 use Rattle.sled_core.proofs.Sealed.Marked.{ready_closed, written_are}
 use Rattle.sled_core.proofs.Sealed.Runs.{run_of}
 use Rattle.sled_core.proofs.Sealed.Slices.{end_to}

@@ -35,15 +35,15 @@ at_pointer sum size log site to m lid is here =
     subst (λ n. StandsHere sum size log site to n m) same here.2
 
 -- A write behind what was written keeps all that stood in the log file. What else stands up to a place no lower is there too.
-pub file_more : (sum : List ℕ → ℕ) (size : ℕ) (site : SegmentPosition) (old : List ℕ) (at : ℕ) (xs : List ℕ) (from to : ℕ) (earlier late : List Message) (entries : ℕ → List Message) → IsLogFile sum size old site from earlier entries
+pub file_more : (sum : List ℕ → ℕ) (size : ℕ) (site : SegmentPosition) (old : List ℕ) (at : ℕ) (xs : List ℕ) (from to : ℕ) (earlier late : List Message) (stays : Message → Type 0) → IsLogFile sum size old site from earlier stays
     → from ≤ at → at + length xs ≤ size → from ≤ to → (0 < to → 20 ≤ to) → (0 < to → HasHeader sum (overwritten old (site.slot + at) xs) site) → All (StandsOwn sum size (overwritten old (site.slot + at) xs) site to) late
-    → IsLogFile sum size (overwritten old (site.slot + at) xs) site to (earlier ++ late) entries
-file_more sum size site old at xs from to earlier late entries file behind inside up begun header there = record {
+    → IsLogFile sum size (overwritten old (site.slot + at) xs) site to (earlier ++ late) stays
+file_more sum size site old at xs from to earlier late stays file behind inside up begun header there = record {
   own = λ m among above lid is. elim (Contains-append_cases earlier late m among) [
     | inl early ↦ here_below sum size (overwritten old (site.slot + at) xs) site from to lid m up (here_kept sum size old (site.slot + at) xs site from lid m (omega (arith, behind)) (file.own m early above lid is))
     | inr after ↦ at_pointer sum size (overwritten old (site.slot + at) xs) site to m lid is (All-contains (StandsOwn sum size (overwritten old (site.slot + at) xs) site to) late m there after)
   ];
-  elsewhere = λ page m among low lid is. elsewhere_kept sum size old (site.slot + at) xs site lid m (omega arith) (omega (arith, inside)) (file.elsewhere page m among low lid is);
+  elsewhere = λ m among low lid is. elsewhere_kept sum size old (site.slot + at) xs site lid m (omega arith) (omega (arith, inside)) (file.elsewhere m among low lid is);
   begun = begun;
   header = header;
 }

@@ -7,12 +7,13 @@ use Rattle.sled_codec.specs.declared.result.DiskPtr.TheVariants.{Inline}
 use Rattle.sled_codec.specs.History.{Message, History, AddsMessage, table}
 use Rattle.sled_codec.specs.Snapshots.{SnapshotModel, stable_place}
 use Rattle.sled_codec.proofs.Histories.{table_stays, table-adds, fits-adds}
-use Rattle.sled_store.specs.Device.{NamesState, State}
+use Rattle.sled_store.specs.Device.{NamesState}
 use Rattle.sled_store.specs.SnapshotFiles.{BeginsFrom}
 use Rattle.sled_store.proofs.Names.Trailers.{one_snapshot}
 use Rattle.sled_core.specs.declared.iobuf.SegmentPosition.{SegmentPosition}
 use Rattle.sled_core.specs.Recoverable.{AreRecoverableSnapshots, AreRecoverableBlobs, IsTableFile, PassesIfThere}
-use Rattle.sled_core.specs.Fits.{IsBegunFrom, IsOnDevice}
+use Rattle.sled_core.specs.Fits.{IsBegunFrom}
+use Rattle.sled_core.specs.LogFile.{StaysFrom}
 use Rattle.sled_core.specs.Running.{NamesFit, BlobsFit}
 use Rattle.sled_core.proofs.Holds.Added.{was_or_added}
 
@@ -66,23 +67,13 @@ module _ (H H' : History) (m : Message) (adds : AddsMessage H m H') where
         reached = begun.reached;
       }
 
-  -- What was written of the history is on the device still, with the entries below that place.
-  pub device-adds : (sum : List ℕ → ℕ) (size : ℕ) (device : State) (site : SegmentPosition) (from : ℕ) (above : site.place + from ≤ m.place) (begun : IsBegunFrom sum size device.snapshots.file site from H) (earlier : List Message)
-      → IsOnDevice sum size device.log site from earlier (table H (stable_place begun.first.stable))
-      → IsOnDevice sum size device.log site from earlier (table H' (stable_place (begun-adds sum size device.snapshots.file site from above begun).first.stable))
-  unfolding begun-adds
-  device-adds sum size device site from above begun earlier on =
-      let reached = begun.reached in
-      record {
-        log = on.log;
-        settled = on.settled;
-        file = record {
-          own = on.file.own;
-          elsewhere = λ page x there. on.file.elsewhere page x (entry_stays (stable_place begun.first.stable) page (omega (arith, above, reached)) x there);
-          begun = on.file.begun;
-          header = on.file.header;
-        };
-      }
+  -- a message that stays, and lies below the new one, stayed before
+  pub stays_adds : (place : ℕ) → place ≤ m.place → (x : Message) → x.place < m.place → StaysFrom H' place x → StaysFrom H place x
+  stays_adds place past x low (inl entry) = inl (entry_stays place x.page past x entry)
+  stays_adds place past x low (inr (above, there)) = elim (was_or_added H H' m adds x there) [
+    | inl was ↦ inr (above, was)
+    | inr own ↦ absurd (let same = ap (λ (y : Message). y.place) own in omega (arith, same, low))
+  ]
 
   -- Recovery begins from the same snapshot as before, whatever a crash leaves of the names.
   pub names-adds : (sum : List ℕ → ℕ) (size : ℕ) (names : NamesState) (f : ℕ) (first : SnapshotModel) → stable_place first.stable ≤ m.place → NamesFit sum size names H f first → NamesFit sum size names H' f first

@@ -4,7 +4,7 @@ use Rattle.std.specs.List.{slice_get}
 use Rattle.std.specs.declared.io.Error.{Error as IoError}
 use Rattle.sled_codec.specs.declared.serialization.message.MessageKind.{MessageKind}
 use Rattle.sled_codec.specs.declared.serialization.message.MessageKind.TheVariants as kind
-use Rattle.sled_codec.specs.History.{History}
+use Rattle.sled_codec.specs.History.{Message, History}
 use Rattle.sled_codec.specs.Places.{part}
 use Rattle.sled_codec.specs.Record.{short_record}
 use Rattle.sled_codec.specs.Spelling.{short_header_tail}
@@ -16,10 +16,10 @@ use Rattle.sled_core.specs.declared.iobuf.Reserved.{Reserved}
 use Rattle.sled_core.specs.declared.iobuf.Sealed.{Sealed}
 use Rattle.sled_core.specs.declared.iobuf.SegmentPosition.{SegmentPosition}
 use Rattle.sled_core.specs.Buffers.{body_in, canceling, ended, HasText}
-use Rattle.sled_core.specs.Fits.{log_parts, HoldsIn}
+use Rattle.sled_core.specs.Fits.{log_parts, HoldsSegment}
 use Rattle.sled_core.specs.SealedBuffers.{AreSealed, bytes_between, one_ended}
-use Rattle.sled_core.proofs.Holds.CompletedLemmas.{holds-cancel}
-use Rattle.sled_core.proofs.Holds.HoldsLemmas.{holds-same}
+use Rattle.sled_core.proofs.Holds.CompletedLemmas.{segment-cancel}
+use Rattle.sled_core.proofs.Holds.HoldsLemmas.{segment-same}
 use Rattle.sled_core.proofs.Read.ScanLemmas.{aligned_number}
 use Rattle.sled_core.proofs.Reserve.CompletesLemmas.{text_canceled}
 use Rattle.sled_core.proofs.Sealed.Covering.{part-between}
@@ -58,10 +58,10 @@ module _ (sum : List ℕ → ℕ) (size place : ℕ) (bytes : List ℕ) (r : Res
       sym (ap (λ n. length (short_record sum kind.Canceled r.page n (body_in bytes r))) number)
       ∙ omega (arith, length-short_record sum kind.Canceled r.page (place / size) (body_in bytes r), tail_long kind.Canceled r.kind (length (body_in bytes r)) (place / size) r.page, counted, body, long)
 
--- A log whose bytes and reservations are those once one was aborted holds what it held.
-pub holds-aborted : (sum : List ℕ → ℕ) (size : ℕ) (site : SegmentPosition) (device : State) (fault : Option IoError) (bytes bytes' : List ℕ) (from from' : ℕ) (bs bs' : List Sealed) (rs rs' : List Reserved) (i : ℕ) (r : Reserved) (H : History)
-    → bytes' ≡ written bytes r.from (canceling sum bytes r) → from' ≡ from → bs' ≡ one_ended i bs → rs' ≡ set rs i (ended Canceled r) → HoldsIn sum (log_parts size site device fault bytes from bs rs) H → slice_get rs i ≡ Some r → r.state ≡ Open → from ≤ length bytes → AreSealed from rs bs
-    → HoldsIn sum (log_parts size site device fault bytes' from' bs' rs') H
-holds-aborted sum size site device fault bytes bytes' from from' bs bs' rs rs' i r H is_bytes is_from is_bs is_rs holds there is_open behind are =
-    holds-same sum size site device fault (written bytes r.from (canceling sum bytes r)) bytes' from from' (one_ended i bs) bs' (set rs i (ended Canceled r)) rs' H is_bytes is_from is_bs is_rs
-    (holds-cancel sum size site device fault bytes from bs rs i r H holds there is_open behind are)
+-- A segment whose bytes and reservations are those once one was aborted holds what it held.
+pub segment-aborted : (sum : List ℕ → ℕ) (size : ℕ) (site : SegmentPosition) (device : State) (fault : Option IoError) (bytes bytes' : List ℕ) (from from' : ℕ) (bs bs' : List Sealed) (rs rs' : List Reserved) (i : ℕ) (r : Reserved) (H : History) {stays : Message → Type 0}
+    → bytes' ≡ written bytes r.from (canceling sum bytes r) → from' ≡ from → bs' ≡ one_ended i bs → rs' ≡ set rs i (ended Canceled r) → HoldsSegment sum (log_parts size site device fault bytes from bs rs) stays H → slice_get rs i ≡ Some r → r.state ≡ Open → from ≤ length bytes → AreSealed from rs bs
+    → HoldsSegment sum (log_parts size site device fault bytes' from' bs' rs') stays H
+segment-aborted sum size site device fault bytes bytes' from from' bs bs' rs rs' i r H is_bytes is_from is_bs is_rs holds there is_open behind are =
+    segment-same sum size site device fault (written bytes r.from (canceling sum bytes r)) bytes' from from' (one_ended i bs) bs' (set rs i (ended Canceled r)) rs' H is_bytes is_from is_bs is_rs
+    (segment-cancel sum size site device fault bytes from bs rs i r H holds there is_open behind are)

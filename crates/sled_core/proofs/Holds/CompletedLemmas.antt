@@ -8,18 +8,17 @@ use Rattle.std.proofs.lemmas.List.Elements.{Contains-append_cases, All-contains}
 use Rattle.sled_codec.specs.Written.{written}
 use Rattle.sled_codec.specs.declared.serialization.message.MessageKind.{MessageKind}
 use Rattle.sled_codec.specs.declared.serialization.message.MessageKind.TheVariants as kind
-use Rattle.sled_codec.specs.History.{Message, History, AddsMessage, table}
+use Rattle.sled_codec.specs.History.{Message, History, AddsMessage}
 use Rattle.sled_codec.specs.Kinds.{code_of}
 use Rattle.sled_codec.specs.Places.{part}
-use Rattle.sled_codec.specs.Snapshots.{stable_place}
-use Rattle.sled_store.specs.Device.{State}
+use Rattle.sled_store.specs.Device.{LogState, State}
 use Rattle.sled_core.specs.declared.iobuf.ReservationState.{ReservationState}
 use Rattle.sled_core.specs.declared.iobuf.ReservationState.TheVariants.{Open, Completed, Canceled, Padding}
 use Rattle.sled_core.specs.declared.iobuf.Reserved.{Reserved}
 use Rattle.sled_core.specs.declared.iobuf.Sealed.{Sealed}
 use Rattle.sled_core.specs.declared.iobuf.SegmentPosition.{SegmentPosition}
 use Rattle.sled_core.specs.Buffers.{body_in, message_in, IsChain, completed_in, with_own, ending, completing, canceling, ended, open_state, HasText, NoPadding, Stands, StandsReserved}
-use Rattle.sled_core.specs.Fits.{log_parts, HoldsIn, CloseBelow, IsBegunFrom, IsOnDevice}
+use Rattle.sled_core.specs.Fits.{log_parts, HoldsSegment, CloseBelow, IsOnDevice}
 use Rattle.sled_core.proofs.Reached.BufferPath.{mark_same}
 use Rattle.sled_core.proofs.Reserve.Ranges.{part-written_before, length-written, completed-same, completed-append, completed_between, chain-split, chain-joined, chain_grows, chain_within, there_split, all_split, all_joined, at_there, there-set_other, chain_apart}
 use Rattle.sled_core.proofs.Reserve.CompletesLemmas.{changes_page, body_before, same_before, body_behind, same_behind, body_own, completed_stands, canceled_stands, fits}
@@ -27,10 +26,9 @@ use Rattle.sled_core.proofs.Reserve.Entries.{completed_plain, in_reserved, open_
 use Rattle.sled_core.proofs.Holds.HoldsLemmas.{completed_open}
 use Rattle.sled_core.specs.SealedBuffers.{AreSealed, Laid, one_ended}
 use Rattle.sled_core.proofs.Sealed.LaidCalls.{laid_over}
-use Rattle.sled_core.proofs.Holds.BegunLemmas.{begun-adds, device-adds}
 
 module _ (sum : List ℕ → ℕ) (size : ℕ) (site : SegmentPosition) (device : State) (fault : Option IoError) (bytes : List ℕ) (from : ℕ) (bs : List Sealed) (xs ys : List Reserved) (r : Reserved) (H : History)
-    (holds : HoldsIn sum (log_parts size site device fault bytes from bs (xs ++ r ∷ ys)) H) (is_open : r.state ≡ Open) (behind : from ≤ length bytes) where
+    {stays : Message → Type 0} (holds : HoldsSegment sum (log_parts size site device fault bytes from bs (xs ++ r ∷ ys)) stays H) (is_open : r.state ≡ Open) (behind : from ≤ length bytes) where
   abbrev number : ℕ
   number = site.place / size
 
@@ -89,9 +87,9 @@ module _ (sum : List ℕ → ℕ) (size : ℕ) (site : SegmentPosition) (device 
 
     -- A history is held that has them, and its own message where it was completed.
     holds_new : (bs' : List Sealed) (H' : History) → H'.messages ≡ holds.earlier ++ (completed_in site bytes xs ++ with_own state (message_in site bytes r) (completed_in site bytes ys)) → H'.batches ≡ H.batches
-        → (begun : IsBegunFrom sum size device.snapshots.file site from H') → (fault ≡ None → IsOnDevice sum size device.log site from holds.earlier (table H' (stable_place begun.first.stable)))
-        → (fault ≡ None → Laid device.log.bytes site.slot new from bs' size) → HoldsIn sum (log_parts size site device fault new from bs' (xs ++ ended state r ∷ ys)) H'
-    holds_new bs' H' messages same begun on_device laid =
+        → {stays' : Message → Type 0} → (fault ≡ None → IsOnDevice sum size device.log site from holds.earlier stays')
+        → (fault ≡ None → Laid device.log.bytes site.slot new from bs' size) → HoldsSegment sum (log_parts size site device fault new from bs' (xs ++ ended state r ∷ ys)) stays' H'
+    holds_new bs' H' messages same on_device laid =
         let fit = fits sum number bytes r ends its.text word k in
         let long : length new ≡ length bytes = length-written bytes (ending word k) r.from fit in
         let others = all_split NoPadding xs ys r holds.plain in
@@ -107,7 +105,6 @@ module _ (sum : List ℕ → ℕ) (size : ℕ) (site : SegmentPosition) (device 
           chain = subst (λ n. IsChain (max 20 from) (xs ++ ended state r ∷ ys) n) (sym long) (chain-joined (max 20 from) (length bytes) xs ys (ended state r) chains.0 chains.1);
           stand = stand_new;
           plain = all_joined NoPadding xs ys (ended state r) others.0 plain others.2;
-          begun = begun;
           written = on_device;
           laid = laid;
         }
@@ -141,16 +138,11 @@ module _ (sum : List ℕ → ℕ) (size : ℕ) (site : SegmentPosition) (device 
     batches = refl;
   }
 
-  -- the message lies behind what was written
-  above : site.place + from ≤ (message_in site bytes r).place
-  above = omega (arith, begins)
-
   holds_completed : (bs' : List Sealed) → (fault ≡ None → Laid device.log.bytes site.slot (written bytes r.from (completing r)) from bs' size)
-      → HoldsIn sum (log_parts size site device fault (written bytes r.from (completing r)) from bs' (xs ++ ended Completed r ∷ ys)) history
-  holds_completed bs' laid = holds_new r.sum r.kind Completed (λ same. cc) (completed_stands sum number bytes r ends its.text is_open) bs' history
-      (append_assoc holds.earlier (completed_in site bytes xs) (message_in site bytes r ∷ completed_in site bytes ys)) refl
-      (begun-adds H history (message_in site bytes r) adds sum size device.snapshots.file site from above holds.begun)
-      (λ ok. device-adds H history (message_in site bytes r) adds sum size device site from above holds.begun holds.earlier (holds.written ok)) laid
+      → (stays' : Message → Type 0) → (fault ≡ None → IsOnDevice sum size device.log site from holds.earlier stays')
+      → HoldsSegment sum (log_parts size site device fault (written bytes r.from (completing r)) from bs' (xs ++ ended Completed r ∷ ys)) stays' history
+  holds_completed bs' laid stays' on = holds_new r.sum r.kind Completed (λ same. cc) (completed_stands sum number bytes r ends its.text is_open) bs' history
+      (append_assoc holds.earlier (completed_in site bytes xs) (message_in site bytes r ∷ completed_in site bytes ys)) refl on laid
 
   -- Aborted, nothing is.
 
@@ -158,12 +150,21 @@ module _ (sum : List ℕ → ℕ) (size : ℕ) (site : SegmentPosition) (device 
   canceled_there = canceled_stands sum number bytes r ends its.text is_open
 
   holds_canceled : (bs' : List Sealed) → (fault ≡ None → Laid device.log.bytes site.slot (written bytes r.from (canceling sum bytes r)) from bs' size)
-      → HoldsIn sum (log_parts size site device fault (written bytes r.from (canceling sum bytes r)) from bs' (xs ++ ended Canceled r ∷ ys)) H
-  holds_canceled bs' laid = holds_new (sum (body_in bytes r ++ code_of kind.Canceled ∷ part bytes (r.from + 5) (r.header_len - 5))) kind.Canceled Canceled (λ same. cc) canceled_there bs' H old_messages refl holds.begun holds.written laid
+      → HoldsSegment sum (log_parts size site device fault (written bytes r.from (canceling sum bytes r)) from bs' (xs ++ ended Canceled r ∷ ys)) stays H
+  holds_canceled bs' laid = holds_new (sum (body_in bytes r ++ code_of kind.Canceled ∷ part bytes (r.from + 5) (r.header_len - 5))) kind.Canceled Canceled (λ same. cc) canceled_there bs' H old_messages refl holds.written laid
+
+-- What is on the device stands there beside messages of earlier segments of which each stayed before.
+fewer_stay : (sum : List ℕ → ℕ) (size : ℕ) (device : LogState) (site : SegmentPosition) (from : ℕ) (earlier : List Message) (stays stays' : Message → Type 0) → ((x : Message) → x.place < site.place → stays' x → stays x)
+    → IsOnDevice sum size device site from earlier stays → IsOnDevice sum size device site from earlier stays'
+fewer_stay sum size device site from earlier stays stays' fewer on = record {
+  log = on.log;
+  settled = on.settled;
+  file = record { own = on.file.own; elsewhere = λ x there low. on.file.elsewhere x (fewer x low there) low; begun = on.file.begun; header = on.file.header };
+}
 
 -- Once an open reservation has ended, the log file has of the sealed buffers what it had.
 laid_ends : (sum : List ℕ → ℕ) (size : ℕ) (site : SegmentPosition) (device : State) (fault : Option IoError) (bytes : List ℕ) (from : ℕ) (bs : List Sealed) (rs : List Reserved) (i : ℕ) (r : Reserved) (H : History)
-    → HoldsIn sum (log_parts size site device fault bytes from bs rs) H → slice_get rs i ≡ Some r → r.state ≡ Open → AreSealed from rs bs → (word : ℕ) (k : MessageKind) (state : ReservationState) → open_state state ≡ false
+    → {stays : Message → Type 0} → HoldsSegment sum (log_parts size site device fault bytes from bs rs) stays H → slice_get rs i ≡ Some r → r.state ≡ Open → AreSealed from rs bs → (word : ℕ) (k : MessageKind) (state : ReservationState) → open_state state ≡ false
     → Laid device.log.bytes site.slot bytes from bs size → Laid device.log.bytes site.slot (written bytes r.from (ending word k)) from (one_ended i bs) size
 laid_ends sum size site device fault bytes from bs rs i r H holds there is_open are word k state closed laid =
     let stands : HasText sum (site.place / size) bytes r = (reserved_in sum size (site.place / size) bytes r (open_plain r.state is_open) (at_there (Stands sum size (site.place / size) bytes) rs i r there holds.stand)).text in
@@ -171,38 +172,48 @@ laid_ends sum size site device fault bytes from bs rs i r H holds there is_open 
     let headed = stands.headed in let long = stands.long in
     laid_over device.log.bytes site.slot bytes from bs size rs i r word k state closed there is_open (omega (arith, headed, long)) inside.1 holds.chain are laid
 
--- The message of an open reservation is added at its place, and the log holds that.
-pub holds-complete : (sum : List ℕ → ℕ) (size : ℕ) (site : SegmentPosition) (device : State) (fault : Option IoError) (bytes : List ℕ) (from : ℕ) (bs : List Sealed) (rs : List Reserved) (i : ℕ) (r : Reserved) (H : History)
-    → HoldsIn sum (log_parts size site device fault bytes from bs rs) H → slice_get rs i ≡ Some r → r.state ≡ Open → from ≤ length bytes → AreSealed from rs bs
-    → (H' : History) × AddsMessage H (message_in site bytes r) H' × HoldsIn sum (log_parts size site device fault (written bytes r.from (completing r)) from (one_ended i bs) (set rs i (ended Completed r))) H'
-holds-complete sum size site device fault bytes from bs rs i r H holds there is_open behind are =
+-- The message of a reservation lies behind what was written.
+pub behind_written : (sum : List ℕ → ℕ) (size : ℕ) (site : SegmentPosition) (device : State) (fault : Option IoError) (bytes : List ℕ) (from : ℕ) (bs : List Sealed) (rs : List Reserved) (i : ℕ) (r : Reserved) (H : History)
+    → {stays : Message → Type 0} → HoldsSegment sum (log_parts size site device fault bytes from bs rs) stays H → slice_get rs i ≡ Some r → site.place + from ≤ (message_in site bytes r).place
+behind_written sum size site device fault bytes from bs rs i r H holds there =
+    let inside = at_there (λ z. (max 20 from ≤ z.from) × (z.from + z.len ≤ length bytes)) rs i r there (chain_within (max 20 from) (length bytes) rs holds.chain) in
+    omega (arith, inside.0)
+
+-- The message of an open reservation is added at its place, and the segment holds that, beside messages of earlier segments of which each stayed before.
+pub segment-complete : (sum : List ℕ → ℕ) (size : ℕ) (site : SegmentPosition) (device : State) (fault : Option IoError) (bytes : List ℕ) (from : ℕ) (bs : List Sealed) (rs : List Reserved) (i : ℕ) (r : Reserved) (H : History)
+    → {stays : Message → Type 0} → HoldsSegment sum (log_parts size site device fault bytes from bs rs) stays H → slice_get rs i ≡ Some r → r.state ≡ Open → from ≤ length bytes → AreSealed from rs bs
+    → (H' : History) × AddsMessage H (message_in site bytes r) H' × ((stays' : Message → Type 0) → ((x : Message) → x.place < site.place → stays' x → stays x)
+    → HoldsSegment sum (log_parts size site device fault (written bytes r.from (completing r)) from (one_ended i bs) (set rs i (ended Completed r))) stays' H')
+segment-complete sum size site device fault bytes from bs rs i r H {stays} holds there is_open behind are =
     let xs : List Reserved = take i rs in
     let ys : List Reserved = drop (suc i) rs in
     let around : rs ≡ xs ++ r ∷ ys = there_split rs i r there in
-    let holds' : HoldsIn sum (log_parts size site device fault bytes from bs (xs ++ r ∷ ys)) H = subst (λ (l : List Reserved). HoldsIn sum (log_parts size site device fault bytes from bs l) H) around holds in
+    let holds' : HoldsSegment sum (log_parts size site device fault bytes from bs (xs ++ r ∷ ys)) stays H = subst (λ (l : List Reserved). HoldsSegment sum (log_parts size site device fault bytes from bs l) stays H) around holds in
     let set_is : set rs i (ended Completed r) ≡ xs ++ ended Completed r ∷ ys = set_split rs i (ended Completed r) (slice_get_within rs i r there) in (
       history sum size site device fault bytes from bs xs ys r H holds' is_open behind,
       adds sum size site device fault bytes from bs xs ys r H holds' is_open behind,
-      subst (λ (l : List Reserved). HoldsIn sum (log_parts size site device fault (written bytes r.from (completing r)) from (one_ended i bs) l) (history sum size site device fault bytes from bs xs ys r H holds' is_open behind)) (sym set_is) (holds_completed sum size site device fault bytes from bs xs ys r H holds' is_open behind (one_ended i bs)
-          (λ ok. laid_ends sum size site device fault bytes from bs rs i r H holds there is_open are r.sum r.kind Completed refl (holds.laid ok))),
+      λ stays' fewer. subst (λ (l : List Reserved). HoldsSegment sum (log_parts size site device fault (written bytes r.from (completing r)) from (one_ended i bs) l) stays' (history sum size site device fault bytes from bs xs ys r H holds' is_open behind)) (sym set_is)
+          (holds_completed sum size site device fault bytes from bs xs ys r H holds' is_open behind (one_ended i bs)
+          (λ ok. laid_ends sum size site device fault bytes from bs rs i r H holds there is_open are r.sum r.kind Completed refl (holds.laid ok))
+          stays' (λ ok. fewer_stay sum size device.log site from holds'.earlier stays stays' fewer (holds'.written ok))),
     )
 
--- An open reservation that is aborted leaves the history as it was, and the log holds that.
-pub holds-cancel : (sum : List ℕ → ℕ) (size : ℕ) (site : SegmentPosition) (device : State) (fault : Option IoError) (bytes : List ℕ) (from : ℕ) (bs : List Sealed) (rs : List Reserved) (i : ℕ) (r : Reserved) (H : History)
-    → HoldsIn sum (log_parts size site device fault bytes from bs rs) H → slice_get rs i ≡ Some r → r.state ≡ Open → from ≤ length bytes → AreSealed from rs bs
-    → HoldsIn sum (log_parts size site device fault (written bytes r.from (canceling sum bytes r)) from (one_ended i bs) (set rs i (ended Canceled r))) H
-holds-cancel sum size site device fault bytes from bs rs i r H holds there is_open behind are =
+-- An open reservation that is aborted leaves the history as it was, and the segment holds that.
+pub segment-cancel : (sum : List ℕ → ℕ) (size : ℕ) (site : SegmentPosition) (device : State) (fault : Option IoError) (bytes : List ℕ) (from : ℕ) (bs : List Sealed) (rs : List Reserved) (i : ℕ) (r : Reserved) (H : History)
+    → {stays : Message → Type 0} → HoldsSegment sum (log_parts size site device fault bytes from bs rs) stays H → slice_get rs i ≡ Some r → r.state ≡ Open → from ≤ length bytes → AreSealed from rs bs
+    → HoldsSegment sum (log_parts size site device fault (written bytes r.from (canceling sum bytes r)) from (one_ended i bs) (set rs i (ended Canceled r))) stays H
+segment-cancel sum size site device fault bytes from bs rs i r H {stays} holds there is_open behind are =
     let xs : List Reserved = take i rs in
     let ys : List Reserved = drop (suc i) rs in
     let around : rs ≡ xs ++ r ∷ ys = there_split rs i r there in
-    let holds' : HoldsIn sum (log_parts size site device fault bytes from bs (xs ++ r ∷ ys)) H = subst (λ (l : List Reserved). HoldsIn sum (log_parts size site device fault bytes from bs l) H) around holds in
+    let holds' : HoldsSegment sum (log_parts size site device fault bytes from bs (xs ++ r ∷ ys)) stays H = subst (λ (l : List Reserved). HoldsSegment sum (log_parts size site device fault bytes from bs l) stays H) around holds in
     let set_is : set rs i (ended Canceled r) ≡ xs ++ ended Canceled r ∷ ys = set_split rs i (ended Canceled r) (slice_get_within rs i r there) in
-    subst (λ (l : List Reserved). HoldsIn sum (log_parts size site device fault (written bytes r.from (canceling sum bytes r)) from (one_ended i bs) l) H) (sym set_is) (holds_canceled sum size site device fault bytes from bs xs ys r H holds' is_open behind (one_ended i bs)
+    subst (λ (l : List Reserved). HoldsSegment sum (log_parts size site device fault (written bytes r.from (canceling sum bytes r)) from (one_ended i bs) l) stays H) (sym set_is) (holds_canceled sum size site device fault bytes from bs xs ys r H holds' is_open behind (one_ended i bs)
     (λ ok. laid_ends sum size site device fault bytes from bs rs i r H holds there is_open are (sum (body_in bytes r ++ code_of kind.Canceled ∷ part bytes (r.from + 5) (r.header_len - 5))) kind.Canceled Canceled refl (holds.laid ok)))
 
 -- Every other reservation stays where it is, for the same message.
 pub others_stay : (sum : List ℕ → ℕ) (size : ℕ) (site : SegmentPosition) (device : State) (fault : Option IoError) (bytes : List ℕ) (from : ℕ) (bs : List Sealed) (rs : List Reserved) (i j : ℕ) (r x : Reserved) (H : History) (word : ℕ) (k : MessageKind) (state : ReservationState)
-    → HoldsIn sum (log_parts size site device fault bytes from bs rs) H → slice_get rs i ≡ Some r → r.state ≡ Open → slice_get rs j ≡ Some x → x.state ≡ Open → (x.from ≡ r.from → ⊥)
+    → {stays : Message → Type 0} → HoldsSegment sum (log_parts size site device fault bytes from bs rs) stays H → slice_get rs i ≡ Some r → r.state ≡ Open → slice_get rs j ≡ Some x → x.state ≡ Open → (x.from ≡ r.from → ⊥)
     → (slice_get (set rs i (ended state r)) j ≡ Some x) × (message_in site (written bytes r.from (ending word k)) x ≡ message_in site bytes x)
 others_stay sum size site device fault bytes from bs rs i j r x H word k state holds at_i is_open at_j x_open apart =
     let number : ℕ = site.place / size in

@@ -16,12 +16,11 @@ use Rattle.sled_core.specs.declared.iobuf.Sealed.{Sealed}
 use Rattle.sled_core.specs.declared.iobuf.SegmentPosition.{SegmentPosition}
 use Rattle.sled_core.specs.declared.logger.Log.{Log}
 use Rattle.sled_core.specs.Fits.{HasRecordOf, HoldsIn, fault_of, log_parts, segment_size_of}
-use Rattle.sled_core.specs.LogFile.{MessageStands}
+use Rattle.sled_core.specs.LogFile.{MessageStands, StaysFrom}
 use Rattle.sled_core.specs.Reading.{IsInline}
 use Rattle.sled_core.specs.Running.{Fits}
 use Rattle.sled_core.proofs.Flush.Completed.{all_ascend}
 use Rattle.sled_core.proofs.Holds.ReachLemmas.{completed_behind, written_before}
-use Rattle.sled_core.proofs.Tail.Multiples.{put_down}
 
 -- an inline pointer is one to its offset
 pub inline_is : (p : DiskPtr) → IsInline p → p ≡ Inline (lid_of p)
@@ -41,18 +40,19 @@ module _ (sum : List ℕ → ℕ) (size : ℕ) (site : SegmentPosition) (device 
   pub held_record : (m : Message) → Contains H.messages m → m.place < site.place + from → (site.place ≤ m.place) ⊎ ((cut : ℕ) × (stable ≤ cut) × Contains (table H cut m.page) m)
       → (lid : ℕ) → m.pointer ≡ Inline lid → IsHeldAt sum size device.log.bytes lid m
   held_record m there written has lid pointer =
-      let on = holds.written refl in
+      let on = holds.own.written refl in
       let same : on.log ≡ device.log.bytes = sym (ap (λ (s : LogState). s.bytes) on.settled) in
-      let early : Contains holds.earlier m = written_before sum size site device None bytes from bs rs H holds m there written in
+      let early : Contains holds.own.earlier m = written_before sum size site device None bytes from bs rs H holds.own m there written in
       let here : site.place ≤ m.place → IsHeldAt sum size on.log lid m = λ above. let s = on.file.own m early above lid pointer in record { begins = s.begins; stands = s.stands } in
       subst (λ (l : List ℕ). IsHeldAt sum size l lid m) same (elim (cases_lt m.place site.place) [
         | inl lower ↦ elim has [
           | inl above ↦ absurd (omega (arith, above, lower))
           | inr (cut, far, entry) ↦ (
-              let least = holds.begun.least in
-              let under : site.place ≤ stable = (let parts = put_down size stable in omega (arith, parts.0, least)) in
-              let low : Contains (table H stable m.page) m = entry_earlier H (all_ascend sum size site device None bytes from bs rs H holds) stable cut m.page far m (omega (arith, lower, under)) entry in
-              let s = on.file.elsewhere m.page m low lower lid pointer in
+              let stays : StaysFrom H stable m = elim (cases_lt m.place stable) [
+                | inl low ↦ inl (entry_earlier H (all_ascend sum size site device None bytes from bs rs H holds.own) stable cut m.page far m low entry)
+                | inr above ↦ inr (above, there)
+              ] in
+              let s = on.file.elsewhere m stays lower lid pointer in
               record { begins = s.begins; stands = s.stands })
         ]
         | inr above ↦ here above
@@ -72,7 +72,7 @@ fits_begins trace sum log H A f U fits none m there has lid pointer =
     elim (cases_lt m.place (log.site.place + log.buffer.written_len)) [
       | inl written ↦ (held_record sum size log.site device bytes log.buffer.written_len log.buffer.sealed.items log.buffer.reserved.items H holds m there written (elim has [ inl above ↦ inl above | inr (cut, far, entry) ↦ inr (cut, omega (arith, reached, far), entry) ]) lid pointer).begins
       | inr later ↦ (
-          let lies = completed_behind sum size log.site device None bytes log.buffer.written_len log.buffer.sealed.items log.buffer.reserved.items H holds log.in_segment m there later in
+          let lies = completed_behind sum size log.site device None bytes log.buffer.written_len log.buffer.sealed.items log.buffer.reserved.items H holds.own log.in_segment m there later in
           let same : Inline lies.lid ≡ Inline lid = sym lies.pointer ∙ pointer in
           subst (MayBegin size) (ap lid_of same) lies.begins)
     ]

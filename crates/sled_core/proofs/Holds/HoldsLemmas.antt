@@ -1,4 +1,4 @@
--- How a log goes on holding a history when a place is reserved.
+-- How a segment of a log goes on holding a history when a place is reserved.
 use Rattle.std.proofs.Common.{◌≡◌, ◌≤◌, ◌+◌, ◌-◌, ◌/◌, ℕ, zero, suc, max, List, [], ◌∷◌, ◌++◌, length, sym, ◌∙◌, ap, arith, subst, length-append, Option, get_or}
 use Rattle.std.specs.List.{All}
 use Rattle.std.specs.declared.io.Error.{Error as IoError}
@@ -12,7 +12,7 @@ use Rattle.sled_core.specs.declared.iobuf.Reserved.{Reserved}
 use Rattle.sled_core.specs.declared.iobuf.Sealed.{Sealed}
 use Rattle.sled_core.specs.declared.iobuf.SegmentPosition.{SegmentPosition}
 use Rattle.sled_core.specs.Buffers.{body_in, message_in, IsChain, completed_in, with_own, HasText, NoPadding, Stands}
-use Rattle.sled_core.specs.Fits.{log_parts, HoldsIn}
+use Rattle.sled_core.specs.Fits.{log_parts, HoldsSegment}
 use Rattle.sled_core.proofs.Sealed.LaidCalls.{laid_append}
 use Rattle.sled_core.proofs.Sealed.LaidLemmas.{EndsRise}
 use Rattle.sled_core.proofs.Reserve.Entries.{completed_plain, in_reserved, open_plain, reserved_in, stands-same}
@@ -46,12 +46,12 @@ pub completed_open : (site : SegmentPosition) (bytes : List ℕ) (r : Reserved) 
 completed_open site bytes r rs is = ap (λ (s : ReservationState). with_own s (message_in site bytes r) (completed_in site bytes rs)) is
 
 module _ (sum : List ℕ → ℕ) (size : ℕ) (site : SegmentPosition) (device : State) (fault : Option IoError) (bytes : List ℕ) (from : ℕ) (bs : List Sealed) (rs : List Reserved) (H : History)
-    (holds : HoldsIn sum (log_parts size site device fault bytes from bs rs) H) where
+    {stays : Message → Type 0} (holds : HoldsSegment sum (log_parts size site device fault bytes from bs rs) stays H) where
   -- A place is reserved: its placeholder stands behind what is there.
-  pub holds-append : (more : List ℕ) (r : Reserved) → 20 ≤ length bytes → All (λ x. x.from + x.len ≤ length bytes) rs
+  pub segment-append : (more : List ℕ) (r : Reserved) → 20 ≤ length bytes → All (λ x. x.from + x.len ≤ length bytes) rs
       → r.from ≡ length bytes → r.len ≡ length more → r.state ≡ Open → r.from + 32 ≤ size → EndsRise from bs (length bytes) → HasText sum (site.place / size) (bytes ++ more) r
-      → HoldsIn sum (log_parts size site device fault (bytes ++ more) from bs (rs ++ r ∷ [])) H
-  holds-append more r begun within at long is_open has_room rise stands =
+      → HoldsSegment sum (log_parts size site device fault (bytes ++ more) from bs (rs ++ r ∷ [])) stays H
+  segment-append more r begun within at long is_open has_room rise stands =
       let number : ℕ = site.place / size in
       let new : List ℕ = bytes ++ more in
       let none : completed_in site new (r ∷ []) ≡ [] = completed_open site new r [] is_open in
@@ -70,16 +70,15 @@ module _ (sum : List ℕ → ℕ) (size : ℕ) (site : SegmentPosition) (device 
         stand = All-append (Stands sum size number new) rs (r ∷ []) (λ k d lt. stands-append sum size number bytes more (get_or rs k d) (within k d lt) (holds.stand k d lt))
             (one (Stands sum size number new) r (in_reserved sum size number new r (open_plain r.state is_open) (record { room = has_room; text = stands })));
         plain = All-append NoPadding rs (r ∷ []) holds.plain (one NoPadding r (open_plain r.state is_open));
-        begun = holds.begun;
         written = holds.written;
         laid = λ ok. laid_append device.log.bytes site.slot bytes more from bs size rise (holds.laid ok);
       }
 
 -- The same bytes, from the same offset, and the same reservations hold the same.
-pub holds-same : (sum : List ℕ → ℕ) (size : ℕ) (site : SegmentPosition) (device : State) (fault : Option IoError) (bytes bytes' : List ℕ) (from from' : ℕ) (bs bs' : List Sealed) (rs rs' : List Reserved) (H : History)
-    → bytes' ≡ bytes → from' ≡ from → bs' ≡ bs → rs' ≡ rs → HoldsIn sum (log_parts size site device fault bytes from bs rs) H → HoldsIn sum (log_parts size site device fault bytes' from' bs' rs') H
-holds-same sum size site device fault bytes bytes' from from' bs bs' rs rs' H b f e r holds =
-    subst (λ (l : List ℕ). HoldsIn sum (log_parts size site device fault l from' bs' rs') H) (sym b)
-    (subst (λ n. HoldsIn sum (log_parts size site device fault bytes n bs' rs') H) (sym f)
-    (subst (λ (l : List Sealed). HoldsIn sum (log_parts size site device fault bytes from l rs') H) (sym e)
-    (subst (λ (l : List Reserved). HoldsIn sum (log_parts size site device fault bytes from bs l) H) (sym r) holds)))
+pub segment-same : (sum : List ℕ → ℕ) (size : ℕ) (site : SegmentPosition) (device : State) (fault : Option IoError) (bytes bytes' : List ℕ) (from from' : ℕ) (bs bs' : List Sealed) (rs rs' : List Reserved) (H : History)
+    → {stays : Message → Type 0} → bytes' ≡ bytes → from' ≡ from → bs' ≡ bs → rs' ≡ rs → HoldsSegment sum (log_parts size site device fault bytes from bs rs) stays H → HoldsSegment sum (log_parts size site device fault bytes' from' bs' rs') stays H
+segment-same sum size site device fault bytes bytes' from from' bs bs' rs rs' H {stays} b f e r holds =
+    subst (λ (l : List ℕ). HoldsSegment sum (log_parts size site device fault l from' bs' rs') stays H) (sym b)
+    (subst (λ n. HoldsSegment sum (log_parts size site device fault bytes n bs' rs') stays H) (sym f)
+    (subst (λ (l : List Sealed). HoldsSegment sum (log_parts size site device fault bytes from l rs') stays H) (sym e)
+    (subst (λ (l : List Reserved). HoldsSegment sum (log_parts size site device fault bytes from bs l) stays H) (sym r) holds)))

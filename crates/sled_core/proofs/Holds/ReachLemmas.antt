@@ -15,7 +15,7 @@ use Rattle.sled_core.specs.declared.logger.Log.{Log}
 use Rattle.sled_core.specs.declared.reservation.Reservation.{Reservation}
 use Rattle.sled_core.specs.Tickets.{place_of, pointer_of}
 use Rattle.sled_core.specs.Buffers.{IsChain, Stands, completed_in, message_in}
-use Rattle.sled_core.specs.Fits.{Awaits, log_parts, next_place, synced_end, HoldsIn, Holds, IsKept}
+use Rattle.sled_core.specs.Fits.{Awaits, log_parts, next_place, synced_end, HoldsSegment, Holds, IsKept}
 use Rattle.sled_core.specs.Running.{Fits}
 use Rattle.sled_core.specs.Reading.{IsInline}
 use Rattle.sled_core.specs.Recoverable.{LiesInSegment}
@@ -54,7 +54,7 @@ module _ (size : ℕ) (site : SegmentPosition) (place_begins : site.place % size
       let rest : All (LiesBehind size site) (completed_in site bytes rs) = completed_lie sum number bytes (from + r.len) end rs (omega (arith, behind)) inside chain.1 (All-tail (Stands sum size number bytes) r rs stand) in
       all_own (LiesBehind size site) r.state (message_in site bytes r) (completed_in site bytes rs) (λ own. lies_behind bytes r (omega (arith, here, behind)) (reserved_in sum size number bytes r (completed_plain r.state own) (stand 0 r (omega arith))).room (omega (arith, here, grows, inside))) rest
 
-module _ (sum : List ℕ → ℕ) (size : ℕ) (site : SegmentPosition) (device : State) (fault : Option IoError) (bytes : List ℕ) (from : ℕ) (bs : List Sealed) (rs : List Reserved) (H : History) (holds : HoldsIn sum (log_parts size site device fault bytes from bs rs) H) where
+module _ (sum : List ℕ → ℕ) (size : ℕ) (site : SegmentPosition) (device : State) (fault : Option IoError) (bytes : List ℕ) (from : ℕ) (bs : List Sealed) (rs : List Reserved) (H : History) {stays : Message → Type 0} (holds : HoldsSegment sum (log_parts size site device fault bytes from bs rs) stays H) where
   abbrev done : List Message
   done = completed_in site bytes rs
 
@@ -87,18 +87,18 @@ kept_past sum size site from device H kept = λ k d lt. (kept.below k d lt).1
 -- each message begins below the next place
 pub fits_reach : {D C : Type 0} (trace : D → Trace) (sum : List ℕ → ℕ) (log : Log D C) (H : History) (A f : ℕ) (U : List Message) → Fits trace sum log H A f U → All (λ m. m.place < next_place log) H.messages
 unfolding Fits
-fits_reach trace sum log H A f U fits = λ k d lt. (all_below sum log.config.config.segment_size log.site _ log.fault log.buffer.bytes.items log.buffer.written_len log.buffer.sealed.items log.buffer.reserved.items H fits.holds k d lt).0
+fits_reach trace sum log H A f U fits = λ k d lt. (all_below sum log.config.config.segment_size log.site _ log.fault log.buffer.bytes.items log.buffer.written_len log.buffer.sealed.items log.buffer.reserved.items H fits.holds.own k d lt).0
 
 -- the messages lie one behind another
 pub fits_apart : {D C : Type 0} (trace : D → Trace) (sum : List ℕ → ℕ) (log : Log D C) (H : History) (A f : ℕ) (U : List Message) → Fits trace sum log H A f U → LieApart H.messages
 unfolding Fits
-fits_apart trace sum log H A f U fits = all_apart sum log.config.config.segment_size log.site _ log.fault log.buffer.bytes.items log.buffer.written_len log.buffer.sealed.items log.buffer.reserved.items H fits.holds
+fits_apart trace sum log H A f U fits = all_apart sum log.config.config.segment_size log.site _ log.fault log.buffer.bytes.items log.buffer.written_len log.buffer.sealed.items log.buffer.reserved.items H fits.holds.own
 
 -- one that is not written yet has an inline pointer
 pub fits_inline : {D C : Type 0} (trace : D → Trace) (sum : List ℕ → ℕ) (log : Log D C) (H : History) (A f : ℕ) (U : List Message) → Fits trace sum log H A f U → (m : Message) → Contains H.messages m → synced_end log ≤ m.place → IsInline m.pointer
 unfolding Fits
 fits_inline trace sum log H A f U fits m there above =
-    let lies = completed_behind sum log.config.config.segment_size log.site _ log.fault log.buffer.bytes.items log.buffer.written_len log.buffer.sealed.items log.buffer.reserved.items H fits.holds log.in_segment m there above in
+    let lies = completed_behind sum log.config.config.segment_size log.site _ log.fault log.buffer.bytes.items log.buffer.written_len log.buffer.sealed.items log.buffer.reserved.items H fits.holds.own log.in_segment m there above in
     subst IsInline (sym lies.pointer) tt
 
 -- it holds the history

@@ -86,11 +86,11 @@ module _ (sum : List ℕ → ℕ) (size : ℕ) (site : SegmentPosition) (device 
     reach = site.place + from
 
     lies : LiesBehind size site m
-    lies = completed_behind sum size site device fault bytes' from' bs' rs' H' holds in_segment m (added_there H H' m adds) (omega (arith, is, above))
+    lies = completed_behind sum size site device fault bytes' from' bs' rs' H' holds.own in_segment m (added_there H H' m adds) (omega (arith, is, above))
 
     -- where nothing was written of the segment, the beginning of its slot has zeros
     clean : from ≡ 0 → AreZeros device.log.bytes site.slot (site.slot + 20)
-    clean none = begin_zeros device.log.bytes site.slot bytes from bs rs size fresh are (omega (arith, least)) (fits.holds.laid ok) none
+    clean none = begin_zeros device.log.bytes site.slot bytes from bs rs size fresh are (omega (arith, least)) (fits.holds.own.laid ok) none
 
     room : from + 32 ≤ size
     room = let inside = lies.room in omega (arith, inside, above)
@@ -99,10 +99,10 @@ module _ (sum : List ℕ → ℕ) (size : ℕ) (site : SegmentPosition) (device 
     inside_segment = let inside = lies.room in omega (arith, inside)
 
     alone_new : NoHeaderOfZeros sum → StandsAlone sum size device.log.bytes site from reach H' first
-    alone_new none = alone-adds sum size device.log.bytes site from reach H H' first least none holds.place_begins clean m adds above inside_segment room lies.lies (fits.alone ok none)
+    alone_new none = alone-adds sum size device.log.bytes site from reach H H' first least none holds.own.place_begins clean m adds above inside_segment room lies.lies (fits.alone ok none)
 
     beyond_new : (to : ℕ) → site.slot ≤ to → NoHeaderOfZeros sum → StandsAlone sum size (padded to device.log.bytes) site from reach H' first
-    beyond_new to far none = alone-adds sum size (padded to device.log.bytes) site from reach H H' first least none holds.place_begins (λ first_one i low high. padded_get to device.log.bytes i ∙ clean first_one i low high) m adds above inside_segment room lies.lies (fits.beyond to far ok none)
+    beyond_new to far none = alone-adds sum size (padded to device.log.bytes) site from reach H H' first least none holds.own.place_begins (λ first_one i low high. padded_get to device.log.bytes i ∙ clean first_one i low high) m adds above inside_segment room lies.lies (fits.beyond to far ok none)
 
     names_new : NamesFit sum size device.snapshots H' f first
     names_new = let reached = fits.holds.begun.reached in names-adds H H' m adds sum size device.snapshots f first (omega (arith, reached, above)) fits.names
@@ -112,13 +112,13 @@ module _ (sum : List ℕ → ℕ) (size : ℕ) (site : SegmentPosition) (device 
 
     inline_behind : InlineFrom H' reach
     inline_behind x there behind =
-        let its : LiesBehind size site x = completed_behind sum size site device fault bytes' from' bs' rs' H' holds in_segment x there (omega (arith, is, behind)) in
+        let its : LiesBehind size site x = completed_behind sum size site device fault bytes' from' bs' rs' H' holds.own in_segment x there (omega (arith, is, behind)) in
         (its.lid, its.pointer)
 
     left_new : LeavesRecoverable sum size H' reach f device
     left_new =
-        let on = fits.holds.written ok in
-        settled_recoverable sum size least device H' reach f first reach (all_ascend sum size site device fault bytes' from' bs' rs' H' holds) inline_behind (rests device.log on.log on.settled) names_new blobs_new (λ none. (alone_new none).stands)
+        let on = fits.holds.own.written ok in
+        settled_recoverable sum size least device H' reach f first reach (all_ascend sum size site device fault bytes' from' bs' rs' H' holds.own) inline_behind (rests device.log on.log on.settled) names_new blobs_new (λ none. (alone_new none).stands)
 
     pub fits-completed : 0 < pins → FitsIn sum (log_parts size site device fault bytes' from' bs' rs') pins H' A f (m ∷ U)
     fits-completed out =

@@ -102,6 +102,6 @@ module _ {D C : Type 0} (log : Log D C) (sum : List ℕ → ℕ) (device : State
     | inl below ↦ held_record sum _ log.site device log.buffer.bytes.items log.buffer.written_len log.buffer.sealed.items log.buffer.reserved.items H holds m there below has lid pointer
     | inr above ↦ elim is [
       | inl below ↦ absurd (omega (arith, below, above))
-      | inr around ↦ written_record sum _ log.site device log.buffer.bytes.items log.buffer.written_len log.buffer.sealed.items log.buffer.reserved.items H holds log.buffer.are (sealed_rise log.buffer) log.in_segment log.place_in_reach log.slot_in_reach m there above around lid pointer
+      | inr around ↦ written_record sum _ log.site device log.buffer.bytes.items log.buffer.written_len log.buffer.sealed.items log.buffer.reserved.items H holds.own log.buffer.are (sealed_rise log.buffer) log.in_segment log.place_in_reach log.slot_in_reach m there above around lid pointer
     ]
   ]

@@ -12,7 +12,7 @@ use Rattle.sled_core.specs.declared.iobuf.Reserved.{Reserved}
 use Rattle.sled_core.specs.declared.iobuf.Sealed.{Sealed}
 use Rattle.sled_core.specs.declared.iobuf.SegmentPosition.{SegmentPosition}
 use Rattle.sled_core.specs.Buffers.{IsChain, Stands, completed_in}
-use Rattle.sled_core.specs.Fits.{HoldsIn, log_parts}
+use Rattle.sled_core.specs.Fits.{HoldsSegment, log_parts}
 use Rattle.sled_core.specs.ReadBuffer.{written_around}
 use Rattle.sled_core.specs.SealedBuffers.{AreSealed, Laid, LaidOne, Agrees}
 use Rattle.sled_core.proofs.Flush.Completed.{which}
@@ -65,7 +65,7 @@ module _ (sum : List ℕ → ℕ) (size : ℕ) (site : SegmentPosition) (log byt
       ]
 
 -- Of what a log holds.
-module _ (sum : List ℕ → ℕ) (size : ℕ) (site : SegmentPosition) (device : State) (bytes : List ℕ) (from : ℕ) (bs : List Sealed) (rs : List Reserved) (H : History) (holds : HoldsIn sum (log_parts size site device None bytes from bs rs) H) where
+module _ (sum : List ℕ → ℕ) (size : ℕ) (site : SegmentPosition) (device : State) (bytes : List ℕ) (from : ℕ) (bs : List Sealed) (rs : List Reserved) (H : History) {stays : Message → Type 0} (holds : HoldsSegment sum (log_parts size site device None bytes from bs rs) stays H) where
   pub written_record : AreSealed from rs bs → EndsRise from bs (length bytes) → length bytes ≤ size → site.place + size < 2 ^ 63 → site.slot + size < 2 ^ 63
       → (m : Message) → Contains H.messages m → site.place + from ≤ m.place → written_around (m.place - site.place) bs ≡ true → (lid : ℕ) → m.pointer ≡ Inline lid → IsHeldAt sum size device.log.bytes lid m
   written_record are rise short place_small slot_small m there above is lid pointer = elim (which sum size site device None bytes from bs rs H holds m there) [

@@ -18,7 +18,7 @@ use Rattle.sled_store.specs.declared.segment.start.Beginning.{Beginning}
 use Rattle.sled_core.specs.declared.iobuf.SegmentPosition.{SegmentPosition}
 use Rattle.sled_store.specs.Begin.{slots_of, slot_of, segment_number_of, entries_of, unused, first_or, beginning_at, beginning_of, MayBeActive, IsStartable}
 use Rattle.sled_core.specs.Fits.{log_parts, EndBelow, CloseBelow, IsBegunFrom, HoldsIn}
-use Rattle.sled_core.specs.LogFile.{IsLogFile}
+use Rattle.sled_core.specs.LogFile.{IsLogFile, StaysFrom}
 use Rattle.sled_core.specs.SealedBuffers.{AreZeros}
 use Rattle.sled_core.specs.Ready.{HasActive, HasNoActive, HasFile, IsReady, active_site}
 use Rattle.sled_store.proofs.Segments.StartedFile.{started_file}
@@ -73,9 +73,11 @@ module _ (sum : List ℕ → ℕ) (size : ℕ) (device now : State) (s : Snapsho
   -- The log holds the history at a site where the file has its messages.
   holds_at : (site : SegmentPosition) (from : ℕ) → site.place % size ≡ 0 → site.slot % size ≡ 0 → site.place + from ≡ stable → stable / size * size ≡ site.place → (0 < from → 20 ≤ from)
       → (from ≡ 0 → bytes ≡ short_header sum (pos site.place) (pos site.place -ℤ pos 1)) → (0 < from → length bytes ≡ from)
-      → IsLogFile sum size now_log site from H.messages (table H stable) → AreZeros now_log (site.slot + from) (site.slot + size) → HoldsFrom site from
+      → IsLogFile sum size now_log site from H.messages (StaysFrom H stable) → AreZeros now_log (site.slot + from) (site.slot + size) → HoldsFrom site from
   holds_at site from place_begins slot_begins end least behind first more file clean = (
     record {
+      begun = begun_at site from end least;
+      own = record {
       earlier = H.messages;
       messages = sym (append-nil H.messages);
       below = subst (λ n. EndBelow n H.messages) (sym end) ready.below;
@@ -96,9 +98,9 @@ module _ (sum : List ℕ → ℕ) (size : ℕ) (device now : State) (s : Snapsho
       ];
       stand = λ k d lt. absurd (omega (arith, lt));
       plain = λ k d lt. absurd (omega (arith, lt));
-      begun = begun_at site from end least;
-      written = λ none. record { log = now_log; settled = started_now; file = subst (λ n. IsLogFile sum size now_log site from H.messages (table H n)) (sym same_stable) file };
+      written = λ none. record { log = now_log; settled = started_now; file = subst (λ n. IsLogFile sum size now_log site from H.messages (StaysFrom H n)) (sym same_stable) file };
       laid = λ none. subst (λ (l : LogState). AreZeros l.bytes (site.slot + from) (site.slot + size)) (sym started_now) clean;
+      };
     },
     refl,
   )

@@ -67,7 +67,7 @@ module _ (sum : List ℕ → ℕ) (size : ℕ) (device now : State) (s : Snapsho
     fits_at : (bytes : List ℕ) (holds : HoldsIn sum (log_parts size site now None bytes from [] []) H) → holds.begun.first ≡ ready.ready.first → FitsIn sum (log_parts size site now None bytes from [] []) 0 H A f []
     fits_at bytes holds first =
         let same : stable_place holds.begun.first.stable ≡ stable = ap (λ (x : SnapshotModel). stable_place x.stable) first ∙ same_stable in
-        let clean : AreZeros new (site.slot + from) (site.slot + size) = subst (λ (l : List ℕ). AreZeros l (site.slot + from) (site.slot + size)) bytes_now (holds.laid refl) in
+        let clean : AreZeros new (site.slot + from) (site.slot + size) = subst (λ (l : List ℕ). AreZeros l (site.slot + from) (site.slot + size)) bytes_now (holds.own.laid refl) in
         record {
           holds = holds;
           alone = λ none zeros. subst (λ (l : List ℕ). StandsAlone sum size l site from (site.place + from) H holds.begun.first) (sym bytes_now) (begins_alone sum size new s holds.begun.first H site from same end begins own behind (active_now zeros));

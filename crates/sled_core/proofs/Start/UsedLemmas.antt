@@ -14,7 +14,7 @@ use Rattle.sled_codec.specs.Snapshots.{Entry, SnapshotModel, stable_place}
 use Rattle.sled_codec.proofs.Segments.{length-short_header}
 use Rattle.sled_core.specs.declared.iobuf.SegmentPosition.{SegmentPosition}
 use Rattle.sled_store.specs.Begin.{slots_of, slot_of, segment_number_of, entries_of, is_used, unused, first_or}
-use Rattle.sled_core.specs.LogFile.{MessageStands, StandsHere, StandsElsewhere, HasHeader, IsLogFile}
+use Rattle.sled_core.specs.LogFile.{MessageStands, StandsHere, StandsElsewhere, HasHeader, IsLogFile, StaysFrom}
 use Rattle.sled_core.specs.Fits.{EndBelow}
 use Rattle.sled_core.specs.SealedBuffers.{AreZeros}
 use Rattle.sled_core.specs.Ready.{HasActive, HasNoActive, active_site}
@@ -126,10 +126,13 @@ module _ (sum : List ℕ → ℕ) (size : ℕ) (long : 256 ≤ size) (log : List
           apart = elim (other_slot lid m.size (a / size) other u.stands.stands.in_slot) [ inl before ↦ inl (omega (arith, before, whole)) | inr behind ↦ inr (omega (arith, behind, whole)) ];
         }
 
-    pub active_file : IsLogFile sum size new site (stable % size) H.messages (table H stable)
+    pub active_file : IsLogFile sum size new site (stable % size) H.messages (StaysFrom H stable)
     active_file = record {
       own = λ m there above lid pointer. here_used lid m (has.own m there above lid pointer);
-      elsewhere = elsewhere_used;
+      elsewhere = λ m stays lower. elim stays [
+        | inl entry ↦ elsewhere_used m.page m entry lower
+        | inr late ↦ absurd (let above = late.0 in omega (arith, above, lower, mod-add-div' stable size))
+      ];
       begun = λ more. has.inside;
       header = λ more. header_used has.header;
     }
@@ -176,10 +179,10 @@ module _ (sum : List ℕ → ℕ) (size : ℕ) (long : 256 ≤ size) (log : List
           apart = other_slot lid m.size lowest (lowest_apart (lid / size) u.used less) u.stands.stands.in_slot;
         }
 
-    pub new_file : IsLogFile sum size new new_site 0 H.messages (table H stable)
+    pub new_file : IsLogFile sum size new new_site 0 H.messages (StaysFrom H stable)
     new_file = record {
       own = λ m there above lid pointer. absurd (let under = (All-contains (λ (x : Message). (x.place < stable) × (x.place + x.size ≤ stable)) H.messages m below there).0 in omega (arith, under, above));
-      elsewhere = elsewhere_new;
+      elsewhere = λ m stays lower. elim stays [ inl entry ↦ elsewhere_new m.page m entry lower | inr late ↦ absurd (let above = late.0 in omega (arith, above, lower)) ];
       begun = λ more. absurd (omega (arith, more));
       header = λ more. absurd (omega (arith, more));
     }

@@ -19,7 +19,8 @@ use Rattle.sled_core.specs.Running.{Fits}
 use Rattle.sled_core.specs.SealedBuffers.{buffer_writes, bytes_between, current_buffer, sealed_count, sealed_end}
 use Rattle.sled_core.proofs.Reserve.Entries.{open_plain, reserved_in}
 use Rattle.sled_core.proofs.Reserve.Ranges.{at_there, chain_within}
-use Rattle.sled_core.proofs.Holds.CanceledLemmas.{canceled_there, canceled_long, holds-aborted}
+use Rattle.sled_core.proofs.Holds.CanceledLemmas.{canceled_there, canceled_long}
+use Rattle.sled_core.proofs.Holds.WholeLemmas.{holds-aborted}
 use Rattle.sled_core.proofs.Holds.CompletedLemmas.{others_stay}
 use Rattle.sled_core.proofs.Holds.KeptCalls.{kept_still, goes_on_quietly}
 use Rattle.sled_core.proofs.Holds.BufferEnds.{written_behind}
@@ -50,9 +51,9 @@ returns-clause-keeps g c =
     let reserved = c.abort.ensures.reserved r there in
     record {
       goes_on = goes_on_quietly g.D.Device.trace g.C.Checksum.sum_of c.args.self.now _ (record { config = refl; checksum = refl }) refl (omega (arith, c.abort.ensures.from));
-      history = λ H holds. holds-aborted g.C.Checksum.sum_of _ _ _ _ old.bytes.items _ old.written_len _ old.sealed.items _ old.reserved.items _ (c.index-index.result - c.args.self.now.buffer.gone) r H bytes c.abort.ensures.from c.abort.ensures.sealed reserved holds there own.own.open_yet (written_behind old) old.are;
+      history = λ H holds. holds-aborted g.C.Checksum.sum_of _ _ _ _ old.bytes.items old.written_len old.sealed.items old.reserved.items H holds (c.index-index.result - c.args.self.now.buffer.gone) r there own.own.open_yet (written_behind old) old.are _ _ _ _ bytes c.abort.ensures.from c.abort.ensures.sealed reserved;
       fits = λ H A f U fits. fits-moved _ _ _ _ _ _ _ _ _ _ H A f U fits _ _ _ _ c.abort.ensures.from
-          (holds-aborted g.C.Checksum.sum_of _ _ _ _ old.bytes.items _ old.written_len _ old.sealed.items _ old.reserved.items _ (c.index-index.result - c.args.self.now.buffer.gone) r H bytes c.abort.ensures.from c.abort.ensures.sealed reserved fits.holds there own.own.open_yet (written_behind old) old.are);
+          (holds-aborted g.C.Checksum.sum_of _ _ _ _ old.bytes.items old.written_len old.sealed.items old.reserved.items H fits.holds (c.index-index.result - c.args.self.now.buffer.gone) r there own.own.open_yet (written_behind old) old.are _ _ _ _ bytes c.abort.ensures.from c.abort.ensures.sealed reserved);
     }
 
 pub returns-clause-others : goal.returns-clause-others
@@ -65,7 +66,7 @@ returns-clause-others g c = λ H other m holds awaits apart.
     let there : slice_get old.reserved.items (c.index-index.result - c.args.self.now.buffer.gone) ≡ Some r = ap (λ n. slice_get old.reserved.items (n - old.gone)) c.index-index.ensures ∙ own.there in
     let elsewhere : x.from ≡ r.from → ⊥ = λ same. apart (awaits.own.place ∙ ap (λ n. pos (c.args.self.now.site.place + n)) same ∙ sym own.own.place) in
     let word : ℕ = g.C.Checksum.sum_of (body_in old.bytes.items r ++ code_of kind.Canceled ∷ part old.bytes.items (r.from + 5) (r.header_len - 5)) in
-    let stay = others_stay g.C.Checksum.sum_of c.args.self.now.config.config.segment_size c.args.self.now.site (state_of (g.D.Device.trace c.args.self.now.config.device)) c.args.self.now.fault old.bytes.items old.written_len old.sealed.items old.reserved.items (c.index-index.result - c.args.self.now.buffer.gone) (index_of other - old.gone) r x H word kind.Canceled Canceled holds there own.own.open_yet awaits.there awaits.own.open_yet elsewhere in
+    let stay = others_stay g.C.Checksum.sum_of c.args.self.now.config.config.segment_size c.args.self.now.site (state_of (g.D.Device.trace c.args.self.now.config.device)) c.args.self.now.fault old.bytes.items old.written_len old.sealed.items old.reserved.items (c.index-index.result - c.args.self.now.buffer.gone) (index_of other - old.gone) r x H word kind.Canceled Canceled holds.own there own.own.open_yet awaits.there awaits.own.open_yet elsewhere in
     record {
       reserved = x;
       numbered = omega (arith, c.abort.ensures.gone, awaits.numbered);
@@ -96,8 +97,8 @@ returns-clause-canceled g c = λ H m holds awaits.
     let index : ℕ = c.index-index.result - old.gone in
     let there : slice_get old.reserved.items index ≡ Some r = ap (λ n. slice_get old.reserved.items (n - old.gone)) c.index-index.ensures ∙ awaits.there in
     let to : ℕ = length old.bytes.items in
-    let inside = at_there (λ x. (max 20 old.written_len ≤ x.from) × (x.from + x.len ≤ to)) old.reserved.items index r there (chain_within (max 20 old.written_len) to old.reserved.items holds.chain) in
-    let its = reserved_in sum size (log.site.place / size) old.bytes.items r (open_plain r.state awaits.own.open_yet) (at_there (Stands sum size (log.site.place / size) old.bytes.items) old.reserved.items index r there holds.stand) in
+    let inside = at_there (λ x. (max 20 old.written_len ≤ x.from) × (x.from + x.len ≤ to)) old.reserved.items index r there (chain_within (max 20 old.written_len) to old.reserved.items holds.own.chain) in
+    let its = reserved_in sum size (log.site.place / size) old.bytes.items r (open_plain r.state awaits.own.open_yet) (at_there (Stands sum size (log.site.place / size) old.bytes.items) old.reserved.items index r there holds.own.stand) in
     let new : List ℕ = written old.bytes.items r.from (canceling sum old.bytes.items r) in
     let now = c.abort.new.self in
     let begins = old.begins in
@@ -123,9 +124,9 @@ returns-clause-canceled g c = λ H m holds awaits.
       pointer = ap (λ (x : Message). x.pointer) awaits.message;
       behind = (let low = own.begins in omega (arith, low));
       whole = ap (λ (x : Message). part bytes (slot + r.from - (slot + own.at)) x.size) awaits.message
-          ∙ canceled_there sum size log.site.place old.bytes.items r holds.place_begins its.room inside.1 its.text awaits.own.open_yet slot own.at own.end own.begins own.ends
+          ∙ canceled_there sum size log.site.place old.bytes.items r holds.own.place_begins its.room inside.1 its.text awaits.own.open_yet slot own.at own.end own.begins own.ends
           ∙ ap (canceled_record sum size) (sym awaits.message);
       long = ap (λ (x : Message). length (canceled_record sum size x)) awaits.message
-          ∙ canceled_long sum size log.site.place old.bytes.items r holds.place_begins its.room inside.1 its.text
+          ∙ canceled_long sum size log.site.place old.bytes.items r holds.own.place_begins its.room inside.1 its.text
           ∙ ap (λ (x : Message). x.size) (sym awaits.message);
     }

@@ -12,11 +12,12 @@ use Rattle.sled_core.specs.Fits.{Holds}
 use Rattle.sled_core.specs.Running.{Fits}
 use Rattle.sled_core.proofs.Reserve.Ranges.{at_there, chain_within}
 use Rattle.sled_core.proofs.Holds.RunningLemmas.{fits-completed}
-use Rattle.sled_core.proofs.Holds.HoldsLemmas.{holds-same}
+use Rattle.sled_core.proofs.Holds.WholeLemmas.{holds-same}
 use Rattle.sled_core.proofs.Holds.KeptCalls.{goes_on_still, goes_on_quietly}
 use Rattle.sled_core.proofs.Holds.BufferEnds.{written_behind}
 use Rattle.sled_core.proofs.Holds.OpenTickets.{only_closed}
-use Rattle.sled_core.proofs.Holds.CompletedLemmas.{holds-complete, others_stay}
+use Rattle.sled_core.proofs.Holds.CompletedLemmas.{others_stay}
+use Rattle.sled_core.proofs.Holds.WholeLemmas.{holds-complete}
 use Rattle.sled_core.proofs.logger.Log.complete.Goals as goal
 
 pub returns-clause-history : goal.returns-clause-history
@@ -26,7 +27,7 @@ returns-clause-history g c = λ H m holds awaits.
     let r : Reserved = awaits.reserved in
     let there : slice_get old.reserved.items (c.index-index.result - c.args.self.now.buffer.gone) ≡ Some r = ap (λ n. slice_get old.reserved.items (n - old.gone)) c.index-index.ensures ∙ awaits.there in
     let behind = written_behind old in
-    let done = holds-complete g.C.Checksum.sum_of c.args.self.now.config.config.segment_size c.args.self.now.site (state_of (g.D.Device.trace c.args.self.now.config.device)) c.args.self.now.fault old.bytes.items old.written_len old.sealed.items old.reserved.items (c.index-index.result - c.args.self.now.buffer.gone) r H holds there awaits.own.open_yet behind old.are in (
+    let done = holds-complete g.C.Checksum.sum_of c.args.self.now.config.config.segment_size c.args.self.now.site (state_of (g.D.Device.trace c.args.self.now.config.device)) c.args.self.now.fault old.bytes.items old.written_len old.sealed.items old.reserved.items H holds (c.index-index.result - c.args.self.now.buffer.gone) r there awaits.own.open_yet behind old.are in (
       done.0,
       subst (λ (x : Message). AddsMessage H x done.0) (sym awaits.message) done.1,
       holds-same _ _ _ _ _ _ _ _ _ _ _ _ _ done.0 (c.complete.ensures.bytes r there) c.complete.ensures.from c.complete.ensures.sealed (c.complete.ensures.reserved r there) done.2,
@@ -41,7 +42,7 @@ returns-clause-others g c = λ H other m holds awaits apart.
     let x : Reserved = awaits.reserved in
     let there : slice_get old.reserved.items (c.index-index.result - c.args.self.now.buffer.gone) ≡ Some r = ap (λ n. slice_get old.reserved.items (n - old.gone)) c.index-index.ensures ∙ own.there in
     let elsewhere : x.from ≡ r.from → ⊥ = λ same. apart (awaits.own.place ∙ ap (λ n. pos (c.args.self.now.site.place + n)) same ∙ sym own.own.place) in
-    let stay = others_stay g.C.Checksum.sum_of c.args.self.now.config.config.segment_size c.args.self.now.site (state_of (g.D.Device.trace c.args.self.now.config.device)) c.args.self.now.fault old.bytes.items old.written_len old.sealed.items old.reserved.items (c.index-index.result - c.args.self.now.buffer.gone) (index_of other - old.gone) r x H r.sum r.kind Completed holds there own.own.open_yet awaits.there awaits.own.open_yet elsewhere in
+    let stay = others_stay g.C.Checksum.sum_of c.args.self.now.config.config.segment_size c.args.self.now.site (state_of (g.D.Device.trace c.args.self.now.config.device)) c.args.self.now.fault old.bytes.items old.written_len old.sealed.items old.reserved.items (c.index-index.result - c.args.self.now.buffer.gone) (index_of other - old.gone) r x H r.sum r.kind Completed holds.own there own.own.open_yet awaits.there awaits.own.open_yet elsewhere in
     record {
       reserved = x;
       numbered = omega (arith, c.complete.ensures.gone, awaits.numbered);
@@ -81,7 +82,7 @@ returns-clause-fits g c = λ H A f U m fits awaits out.
     let old = c.args.self.now in
     let done = returns-clause-history g c H m fits.holds awaits in
     let inside = at_there (λ x. (max 20 old.buffer.written_len ≤ x.from) × (x.from + x.len ≤ length old.buffer.bytes.items)) old.buffer.reserved.items (index_of c.args.ticket - old.buffer.gone) awaits.reserved awaits.there
-    (chain_within (max 20 old.buffer.written_len) (length old.buffer.bytes.items) old.buffer.reserved.items fits.holds.chain) in
+    (chain_within (max 20 old.buffer.written_len) (length old.buffer.bytes.items) old.buffer.reserved.items fits.holds.own.chain) in
     let place : m.place ≡ old.site.place + awaits.reserved.from = ap (λ (x : Message). x.place) awaits.message in (
       done.0,
       done.1,

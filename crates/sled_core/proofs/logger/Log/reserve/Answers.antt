@@ -16,7 +16,8 @@ use Rattle.sled_core.proofs.Holds.RunningLemmas.{fits-moved}
 use Rattle.sled_core.proofs.Holds.KeptCalls.{kept_still, goes_on_quietly}
 use Rattle.sled_core.proofs.Holds.BufferEnds.{sealed_rise}
 use Rattle.sled_core.proofs.Holds.OpenTickets.{only_new}
-use Rattle.sled_core.proofs.Holds.HoldsLemmas.{holds-same, holds-append, body-append}
+use Rattle.sled_core.proofs.Holds.HoldsLemmas.{body-append}
+use Rattle.sled_core.proofs.Holds.WholeLemmas.{holds-same, holds-append}
 use Rattle.sled_core.proofs.Reserve.ReserveLemmas.{there_last, there_append, stands, message_is, more_long, head_whole}
 use Rattle.sled_core.proofs.Reserve.OpenCounts.{first_there}
 use Rattle.std.proofs.lemmas.Int.{to_z-of_z}

@@ -4,11 +4,11 @@ use Rattle.sled_store.specs.Device.{state_of}
 use Rattle.sled_core.specs.Fits.{Holds, HoldsIn, current_reserved, log_parts}
 use Rattle.sled_core.specs.Running.{Fits}
 use Rattle.sled_core.specs.SealedBuffers.{seal_at}
-use Rattle.sled_core.proofs.Holds.HoldsLemmas.{holds-same}
+use Rattle.sled_core.proofs.Holds.WholeLemmas.{holds-same}
 use Rattle.sled_core.proofs.Holds.KeptCalls.{goes_on_quietly}
 use Rattle.sled_core.proofs.Holds.KeptTickets.{tickets_behind}
 use Rattle.sled_core.proofs.Holds.RunningLemmas.{fits-moved}
-use Rattle.sled_core.proofs.Holds.SealedCalls.{holds-sealed}
+use Rattle.sled_core.proofs.Holds.WholeLemmas.{holds-sealed}
 use Rattle.sled_core.proofs.logger.Log.seal.Goals as goal
 
 pub returns-in_err-seal-clause-keeps : goal.returns-in_err-seal-clause-keeps
@@ -34,7 +34,7 @@ returns-clause-keeps g c =
     let held : (H : History) → HoldsIn g.C.Checksum.sum_of (log_parts log.config.config.segment_size log.site (state_of (g.D.Device.trace log.config.device)) log.fault old.bytes.items old.written_len old.sealed.items old.reserved.items) H
     → HoldsIn g.C.Checksum.sum_of (log_parts log.config.config.segment_size log.site (state_of (g.D.Device.trace log.config.device)) log.fault c.seal.new.self.bytes.items c.seal.new.self.written_len c.seal.new.self.sealed.items c.seal.new.self.reserved.items) H =
     λ H holds. holds-same g.C.Checksum.sum_of _ _ _ _ old.bytes.items _ old.written_len _ (old.sealed.items ++ seal_at (length old.bytes.items) (current_reserved log) ∷ []) _ old.reserved.items _ H same.bytes same.from c.in_ok-seal.ensures.sealed same.reserved
-    (holds-sealed g.C.Checksum.sum_of _ _ _ _ old.bytes.items old.written_len old.sealed.items old.reserved.items (current_reserved log) H log.in_segment (omega (arith, inside, begins)) holds) in
+    (holds-sealed g.C.Checksum.sum_of _ _ _ _ old.bytes.items old.written_len old.sealed.items old.reserved.items H holds (current_reserved log) log.in_segment (omega (arith, inside, begins))) in
     record {
       goes_on = goes_on_quietly g.D.Device.trace g.C.Checksum.sum_of log _ (record { config = refl; checksum = refl }) refl (omega (arith, same.from));
       history = held;

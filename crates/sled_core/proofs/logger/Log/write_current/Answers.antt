@@ -11,7 +11,7 @@ use Rattle.sled_core.proofs.Flush.FlushFits.{fits_faulty, fits_same_device, flus
 use Rattle.sled_core.proofs.Flush.FlushCalls.{holds-flush}
 use Rattle.sled_core.proofs.Flush.FlushLemmas.{holds-faulty, holds-moved, memory_or_fault}
 use Rattle.sled_core.proofs.Holds.BufferEnds.{written_behind}
-use Rattle.sled_core.proofs.Holds.HoldsLemmas.{holds-same}
+use Rattle.sled_core.proofs.Holds.WholeLemmas.{holds-same}
 use Rattle.sled_core.proofs.Holds.KeptTickets.{tickets_ended}
 use Rattle.sled_core.proofs.Sealed.Slices.{on_bytes, slice_behind}
 use Rattle.sled_core.proofs.logger.Log.write_current.Goals as goal
