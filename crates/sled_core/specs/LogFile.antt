@@ -1,5 +1,5 @@
 -- What stands in a log file of the messages that were written: those of the segment that is being filled, and those of earlier ones that are still needed.
-use Rattle.std.specs.Prelude.{◌≡◌, ◌⊎◌, ◌+◌, ◌-◌, ◌/◌, ◌≤◌, ◌<◌, ℕ, ℤ, pos, false, replicate, length, ◌×◌, List, ◌++◌, Some, Contains}
+use Rattle.std.specs.Prelude.{◌≡◌, ◌⊎◌, ◌+◌, ◌-◌, ◌/◌, ◌≤◌, ◌<◌, ℕ, ℤ, pos, false, replicate, length, List, ◌++◌, Some, Contains}
 use Rattle.sled_codec.specs.declared.result.DiskPtr.TheVariants.{Inline}
 use Rattle.sled_codec.specs.declared.serialization.message.MessageHeader.{MessageHeader}
 use Rattle.sled_codec.specs.Kinds.{kind_written}

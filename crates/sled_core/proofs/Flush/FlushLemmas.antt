@@ -66,7 +66,7 @@ module _ (sum : List ℕ → ℕ) (size : ℕ) (site : SegmentPosition) (device 
   has_room some = chain_room sum size (site.place / size) bytes from (length bytes) rs some holds.stand holds.plain holds.chain
 
   -- In a log that keeps a failure of its device it holds what it held, whatever the log file is now.
-  segment-faulty : (new : State) (e : IoError) (now : Option IoError) → now ≡ Some e → HoldsSegment sum (log_parts size site new now bytes from bs rs) stays H
+  pub segment-faulty : (new : State) (e : IoError) (now : Option IoError) → now ≡ Some e → HoldsSegment sum (log_parts size site new now bytes from bs rs) stays H
   segment-faulty new e now is = record {
     earlier = holds.earlier;
     messages = holds.messages;
@@ -95,7 +95,7 @@ holds_over sum size site device fault bytes from bs rs H holds new now bytes' fr
 module _ (sum : List ℕ → ℕ) (size : ℕ) (site : SegmentPosition) (device : State) (fault : Option IoError) (bytes : List ℕ) (from : ℕ) (bs : List Sealed) (rs : List Reserved) (H : History)
     (holds : HoldsIn sum (log_parts size site device fault bytes from bs rs) H) where
   -- A log that keeps a failure of its device holds what it held, whatever the log file is now.
-  pub holds-faulty : (new : State) (e : IoError) (now : Option IoError) → now ≡ Some e → new.snapshots.file ≡ device.snapshots.file → HoldsIn sum (log_parts size site new now bytes from bs rs) H
+  unfoldable pub holds-faulty : (new : State) (e : IoError) (now : Option IoError) → now ≡ Some e → new.snapshots.file ≡ device.snapshots.file → HoldsIn sum (log_parts size site new now bytes from bs rs) H
   holds-faulty new e now is names =
       holds_over sum size site device fault bytes from bs rs H holds new now bytes from bs rs names (omega arith) (segment-faulty sum size site device fault bytes from bs rs H holds.own new e now is)
 

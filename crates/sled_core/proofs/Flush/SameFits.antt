@@ -16,6 +16,7 @@ module _ (sum : List ℕ → ℕ) (size : ℕ) (site : SegmentPosition) (device 
   -- A log that keeps a failure of its device fits what it fitted, where a crash leaves what can be recovered.
   pub fits_faulty : (new : State) (e : IoError) (now : Option IoError) → now ≡ Some e → new.blobs ≡ device.blobs → new.snapshots ≡ device.snapshots → LeavesRecoverable sum size H (site.place + from) f new
       → FitsIn sum (log_parts size site new now bytes from bs rs) pins H A f U
+  unfolding holds-faulty
   fits_faulty new e now is blobs snapshots left = record {
     holds = holds-faulty sum size site device fault bytes from bs rs H fits.holds new e now is (ap (λ (s : NamesState). s.file) snapshots);
     alone = λ none. cc;

@@ -1,5 +1,5 @@
 -- A message that is completed leaves the tables as they were below the snapshots' places and below what was written, and needs no blob.
-use Rattle.std.proofs.Common.{◌≡◌, ◌∙◌, ◌≤◌, ◌≤ℤ◌, ◌+◌, ℕ, ℤ, pos, negsuc, List, Option, Some, IsSome, refl, sym, ap, subst, arith, inl, inr}
+use Rattle.std.proofs.Common.{◌≡◌, ◌∙◌, ◌<◌, ◌≤◌, ◌≤ℤ◌, ◌+◌, ℕ, ℤ, pos, negsuc, List, Option, Some, IsSome, refl, sym, ap, subst, arith, inl, inr}
 use Rattle.std.proofs.Math.Dec.{leb→le}
 use Rattle.std.specs.List.{Contains}
 use Rattle.sled_codec.specs.declared.result.DiskPtr.{DiskPtr}
@@ -54,7 +54,7 @@ module _ (H H' : History) (m : Message) (adds : AddsMessage H m H') where
   entry_stays cut page past x there = subst (λ (l : List Message). Contains l x) (table_stays H H' m cut page adds past) there
 
   -- The newest snapshot is where it was begun from still.
-  pub begun-adds : (sum : List ℕ → ℕ) (size : ℕ) (snapshots : ℤ → Option (List ℕ)) (site : SegmentPosition) (from : ℕ) → site.place + from ≤ m.place → IsBegunFrom sum size snapshots site from H → IsBegunFrom sum size snapshots site from H'
+  abbrev pub begun-adds : (sum : List ℕ → ℕ) (size : ℕ) (snapshots : ℤ → Option (List ℕ)) (site : SegmentPosition) (from : ℕ) → site.place + from ≤ m.place → IsBegunFrom sum size snapshots site from H → IsBegunFrom sum size snapshots site from H'
   begun-adds sum size snapshots site from above begun =
       let reached = begun.reached in
       let past : stable_place begun.first.stable ≤ m.place = omega (arith, above, reached) in
