@@ -1,6 +1,7 @@
 pub mod Added
 pub mod Around
 pub mod BegunLemmas
+pub mod BehindKept
 pub mod BufferEnds
 pub mod CallMoments
 pub mod CanceledLemmas
@@ -16,6 +17,7 @@ pub mod RunningLemmas
 pub mod SealedCalls
 pub mod Settling
 pub mod StandsAdds
+pub mod WholeHistory
 pub mod WholeLemmas
 pub mod Writes
 pub mod WrittenRecords

@@ -1,5 +1,5 @@
 -- What a log has to do with the history of what was completed, and with its device. It has one current segment, whose buffer has all of what is not written.
-use Rattle.std.specs.Prelude.{nat_lt, if◌then◌else◌, Bool, false, ◌≡◌, ◌⊎◌, ◌+◌, ◌-◌, ◌*◌, ◌/◌, ◌%◌, ◌^◌, ◌≤◌, ◌<◌, ℕ, ℤ, pos, max, true, List, [], ◌++◌, ◌∷◌, length, take, drop, All, Option, None, Some, slice_get, Contains}
+use Rattle.std.specs.Prelude.{nat_lt, if◌then◌else◌, Bool, false, ◌≡◌, ◌⊎◌, ◌+◌, ◌-◌, ◌*◌, ◌/◌, ◌%◌, ◌^◌, ◌≤◌, ◌<◌, ℕ, ℤ, pos, max, true, List, [], ◌++◌, ◌∷◌, length, map, take, drop, All, Option, None, Some, slice_get, Contains}
 use Rattle.std.specs.declared.io.Error.{Error as IoError}
 use Rattle.sled_codec.specs.declared.result.DiskPtr.TheVariants.{Inline}
 use Rattle.sled_codec.specs.declared.serialization.message.LogKind.{LogKind}
@@ -19,9 +19,10 @@ use Rattle.sled_core.specs.declared.reservation.Reservation.{Reservation}
 use Rattle.sled_core.specs.declared.logger.Log.{Log}
 use Rattle.sled_store.specs.declared.config.RunningConfig.{RunningConfig}
 use Rattle.sled_core.specs.Buffers.{NoPadding, Stands, IsChain, completed_in, message_in, none_open, open_in, first_open_in, end_reserved, record_size}
-use Rattle.sled_core.specs.LogFile.{IsLogFile, StaysFrom}
+use Rattle.sled_core.specs.LogFile.{IsLogFile, StaysBelow, StaysFrom}
+use Rattle.sled_core.specs.Reached.{BegunSegment, FollowApart}
 use Rattle.sled_core.specs.Recoverable.{IsMarkOf}
-use Rattle.sled_core.specs.SealedBuffers.{AreZeros, Laid, behind_run, buffer_writes, bytes_between, current_buffer, first_ready, ready_count, ready_marked, ready_write, ready_writes, reserved_below, run_count, run_end, seal_at, sealed_count, sealed_end, writing, written_at}
+use Rattle.sled_core.specs.SealedBuffers.{AreSealed, AreZeros, Laid, behind_run, buffer_writes, bytes_between, current_buffer, first_ready, ready_count, ready_marked, ready_write, ready_writes, reserved_below, run_count, run_end, seal_at, sealed_count, sealed_end, writing, written_at}
 use Rattle.sled_core.specs.Tickets.{index_of, IsFor}
 
 -- What a caller sees of a log.
@@ -192,14 +193,52 @@ pub record HoldsSegment (sum : List ℕ → ℕ) (parts : LogParts) (stays : Mes
   -- what the log file has of the sealed buffers, and zeros behind them
   pub laid : parts.fault ≡ None → Laid parts.device.log.bytes parts.site.slot parts.bytes parts.written_len parts.sealed parts.size
 
--- The same of a log's current segment, where the newest snapshot is that with which the log began.
-pub record HoldsIn (sum : List ℕ → ℕ) (parts : LogParts) (H : History) : Type 0 where
+-- What a log has of a segment that was begun behind the first one: where it lies, its bytes, how many of them were written without a gap, the buffers that were sealed since, and the reservations since.
+pub record SegmentParts : Type 0 where
+  pub site : SegmentPosition
+  pub bytes : List ℕ
+  pub written_len : ℕ
+  pub sealed : List Sealed
+  pub reserved : List Reserved
+
+-- where it lies, and how much of it is written
+abbrev pub begun_segment : SegmentParts → BegunSegment
+begun_segment s = record { site = s.site; from = s.written_len }
+
+-- a message has its item in its record
+abbrev pub HasInline : Message → Type 0
+HasInline m = (lid : ℕ) × (m.pointer ≡ Inline lid)
+
+-- A segment that begins at a place holds these messages.
+pub record HoldsNext (sum : List ℕ → ℕ) (size : ℕ) (device : State) (fault : Option IoError) (place : ℕ) (s : SegmentParts) (stays : Message → Type 0) (batches : List Batch) (own : List Message) : Type 0 where
+  pub next : s.site.place ≡ place
+  pub inside : length s.bytes ≤ size
+  pub are : AreSealed s.written_len s.reserved s.sealed
+  pub held : sealed_end s.written_len s.sealed ≤ length s.bytes
+  pub behind : s.written_len ≤ length s.bytes
+  pub segment : HoldsSegment sum (log_parts size s.site device fault s.bytes s.written_len s.sealed s.reserved) stays (record { messages = own; batches = batches })
+  pub above : All (λ m. place ≤ m.place) own
+  pub inline : All HasInline own
+
+-- Segments that begin one behind another at a place hold these messages.
+abbrev pub HoldBehind : (List ℕ → ℕ) → ℕ → State → Option IoError → ℕ → List SegmentParts → (Message → Type 0) → List Batch → List Message → Type 0
+HoldBehind sum size device fault place [] stays batches ms = ms ≡ []
+HoldBehind sum size device fault place (s ∷ ss) stays batches ms =
+    (own later : List Message) × (ms ≡ own ++ later) × HoldsNext sum size device fault place s stays batches own × HoldBehind sum size device fault (place + size) ss stays batches later
+
+-- The same of a log: its first segment that isn't wholly on the device holds these messages and all before them, and the segments that were begun behind it hold the later ones. The newest snapshot is that with which the log began.
+pub record HoldsIn (sum : List ℕ → ℕ) (parts : LogParts) (behind : List SegmentParts) (H : History) : Type 0 where
   pub begun : IsBegunFrom sum parts.size parts.device.snapshots.file parts.site parts.written_len H
-  pub own : HoldsSegment sum parts (StaysFrom H (stable_place begun.first.stable)) H
+  pub head : List Message
+  pub later : List Message
+  pub messages : H.messages ≡ head ++ later
+  pub own : HoldsSegment sum parts (StaysFrom H (stable_place begun.first.stable)) (record { messages = head; batches = H.batches })
+  pub others : HoldBehind sum parts.size parts.device parts.fault (parts.site.place + parts.size) behind (StaysBelow H (stable_place begun.first.stable) parts.site.place) H.batches later
+  pub apart : FollowApart parts.site (map begun_segment behind)
 
 -- The log holds this history.
 unfoldable pub Holds : {D C : Type 0} → (D → Trace) → (List ℕ → ℕ) → Log D C → History → Type 0
-Holds trace sum log H = HoldsIn sum (parts_of trace log) H
+Holds trace sum log H = HoldsIn sum (parts_of trace log) [] H
 
 -- A log has the record of a message: it is of the current segment, or an entry of the table of all that was written, or of that and more.
 abbrev pub HasRecordOf : {D C : Type 0} → Log D C → History → Message → Type 0

@@ -37,6 +37,10 @@ pub record StandsElsewhere (sum : List ℕ → ℕ) (size : ℕ) (log : List ℕ
 abbrev pub StaysFrom : History → ℕ → Message → Type 0
 StaysFrom H place m = Contains (table H place m.page) m ⊎ ((place ≤ m.place) × Contains H.messages m)
 
+-- those of them that lie below another place
+abbrev pub StaysBelow : History → ℕ → ℕ → Message → Type 0
+StaysBelow H from place m = StaysFrom H from m × (m.place < place)
+
 -- the header of a segment stands at the beginning of its slot, with a mark below it
 pub record HasHeader (sum : List ℕ → ℕ) (log : List ℕ) (site : SegmentPosition) : Type 0 where
   pub mark : ℤ

@@ -1,5 +1,5 @@
 -- The invariant of a running log, and what a recovery leaves for it: over a history, the end of what was acknowledged, the floor, and the completed messages that were not marked yet.
-use Rattle.std.specs.Prelude.{◌≡◌, ◌≢◌, ◌≤◌, ◌<◌, ◌+◌, ℕ, ℤ, List, [], Option, None}
+use Rattle.std.specs.Prelude.{◌≡◌, ◌≢◌, ◌≤◌, ◌<◌, ◌+◌, ℕ, ℤ, List, [], map, Option, None}
 use Rattle.sled_codec.specs.declared.serialization.message.MessageKind.{MessageKind}
 use Rattle.sled_codec.specs.History.{Message, History}
 use Rattle.sled_codec.specs.Snapshots.{SnapshotModel, stable_place}
@@ -8,9 +8,9 @@ use Rattle.sled_store.specs.Device.{Trace, NamesState, State, LeavesName}
 use Rattle.sled_store.specs.Foreign.{NoForeignNames}
 use Rattle.sled_store.specs.SnapshotFiles.{IsSnapshotFile}
 use Rattle.sled_core.specs.declared.logger.Log.{Log}
-use Rattle.sled_core.specs.Fits.{LogParts, parts_of, HoldsIn}
+use Rattle.sled_core.specs.Fits.{LogParts, SegmentParts, begun_segment, parts_of, HoldsIn}
 use Rattle.sled_core.specs.Recoverable.{ActiveFits, AreRecoverableSnapshots, AreRecoverableBlobs, NoHeaderOfZeros, LeavesRecoverable}
-use Rattle.sled_core.specs.Reached.{StandsAlone, StandsActive}
+use Rattle.sled_core.specs.Reached.{StandsAmong, StandsActive}
 use Rattle.sled_core.specs.LogFile.{padded}
 use Rattle.sled_core.specs.Ready.{IsReady}
 
@@ -24,12 +24,12 @@ abbrev pub BlobsFit : (List ℕ → ℕ) → NamesState → History → ℕ → 
 BlobsFit sum blobs H reach =
     (left : ℤ → Option (List ℕ)) → ((n : ℤ) → LeavesName blobs n (left n)) → NoForeignNames (λ bytes. (k : MessageKind) × (item : List ℕ) × IsBlob sum bytes k item) blobs left → AreRecoverableBlobs sum left H reach
 
--- What a log of these bytes and reservations over a device has to do with a history, the end of what was acknowledged, the floor and the messages that were not marked yet.
-pub record FitsIn (sum : List ℕ → ℕ) (parts : LogParts) (pins : ℕ) (H : History) (A f : ℕ) (U : List Message) : Type 0 where
-  pub holds : HoldsIn sum parts H
-  pub alone : parts.fault ≡ None → NoHeaderOfZeros sum → StandsAlone sum parts.size parts.device.log.bytes parts.site parts.written_len (parts.site.place + parts.written_len) H holds.begun.first
+-- What a log of these bytes and reservations over a device, with these segments behind, has to do with a history, the end of what was acknowledged, the floor and the messages that were not marked yet.
+pub record FitsIn (sum : List ℕ → ℕ) (parts : LogParts) (behind : List SegmentParts) (pins : ℕ) (H : History) (A f : ℕ) (U : List Message) : Type 0 where
+  pub holds : HoldsIn sum parts behind H
+  pub among : parts.fault ≡ None → NoHeaderOfZeros sum → StandsAmong sum parts.size parts.device.log.bytes parts.site parts.written_len (map begun_segment behind) (parts.site.place + parts.written_len) H holds.begun.first
   -- and so does the file with zeros behind its end, as a write there makes it
-  pub beyond : (to : ℕ) → parts.site.slot ≤ to → parts.fault ≡ None → NoHeaderOfZeros sum → StandsAlone sum parts.size (padded to parts.device.log.bytes) parts.site parts.written_len (parts.site.place + parts.written_len) H holds.begun.first
+  pub beyond : (to : ℕ) → parts.site.slot ≤ to → parts.fault ≡ None → NoHeaderOfZeros sum → StandsAmong sum parts.size (padded to parts.device.log.bytes) parts.site parts.written_len (map begun_segment behind) (parts.site.place + parts.written_len) H holds.begun.first
   pub blobs : BlobsFit sum parts.device.blobs H (parts.site.place + parts.written_len)
   pub names : NamesFit sum parts.size parts.device.snapshots H f holds.begun.first
   -- all that was acknowledged is written
@@ -41,7 +41,7 @@ pub record FitsIn (sum : List ℕ → ℕ) (parts : LogParts) (pins : ℕ) (H : 
 
 -- The log fits this history, the end of what was acknowledged, the floor and the messages that were not marked yet.
 unfoldable pub Fits : {D C : Type 0} → (D → Trace) → (List ℕ → ℕ) → Log D C → History → ℕ → ℕ → List Message → Type 0
-Fits trace sum log H A f U = FitsIn sum (parts_of trace log) log.pins H A f U
+Fits trace sum log H A f U = FitsIn sum (parts_of trace log) [] log.pins H A f U
 
 -- Snapshot and device are ready for a log that fits this history, the end of what was acknowledged and the floor.
 pub record IsReadyFor (sum : List ℕ → ℕ) (size : ℕ) (device : State) (s : SnapshotModel) (H : History) (A f : ℕ) : Type 0 where

@@ -3,7 +3,6 @@ use Rattle.std.proofs.Common.{◌≡◌, ◌⊎◌, ◌≤◌, ◌<◌, ◌+◌,
 use Rattle.std.specs.List.{All, Contains}
 use Rattle.std.specs.declared.io.Error.{Error as IoError}
 use Rattle.std.proofs.lemmas.List.Elements.{All-append, All-contains, All-tail, Contains-append_cases, Contains-append_right}
-use Rattle.sled_codec.specs.declared.result.DiskPtr.TheVariants.{Inline}
 use Rattle.sled_codec.specs.History.{Message, Batch, History}
 use Rattle.sled_codec.specs.WellFormed.{LieApart}
 use Rattle.sled_store.specs.Device.{State}
@@ -13,14 +12,14 @@ use Rattle.sled_core.specs.declared.iobuf.Reserved.{Reserved}
 use Rattle.sled_core.specs.declared.iobuf.Sealed.{Sealed}
 use Rattle.sled_core.specs.declared.iobuf.SegmentPosition.{SegmentPosition}
 use Rattle.sled_core.specs.Buffers.{IsChain, completed_in, message_in, with_own}
-use Rattle.sled_core.specs.Fits.{log_parts, HoldsSegment, EndBelow, CloseBelow}
+use Rattle.sled_core.specs.Fits.{log_parts, HoldsSegment, EndBelow, CloseBelow, HasInline}
 use Rattle.sled_core.proofs.Reached.BufferPath.{HasOnly}
 use Rattle.sled_core.proofs.Reserve.Ranges.{all_own, chain_grows, completed_between}
 use Rattle.sled_core.proofs.Reserve.Entries.{some_long}
 use Rattle.sled_core.proofs.Flush.Settled.{InlineFrom}
 
 -- messages that lie apart, and below others that do
-apart_both : (place : ℕ) (xs ys : List Message) → LieApart xs → LieApart ys → All (λ m. m.place + m.size ≤ place) xs → All (λ m. place ≤ m.place) ys → LieApart (xs ++ ys)
+pub apart_both : (place : ℕ) (xs ys : List Message) → LieApart xs → LieApart ys → All (λ m. m.place + m.size ≤ place) xs → All (λ m. place ≤ m.place) ys → LieApart (xs ++ ys)
 apart_both place [] ys first second below above = second
 apart_both place (x ∷ xs) ys first second below above =
     let here : x.place + x.size ≤ place = below 0 x (omega arith) in
@@ -40,14 +39,11 @@ completed_apart site bytes from end (r ∷ rs) is some =
     [ Open ↦ rest | Completed ↦ (long, over, rest) | Canceled ↦ rest | Padding ↦ rest ]
 
 -- and has its items in its records
-abbrev IsInline : Message → Type 0
-IsInline m = (lid : ℕ) × (m.pointer ≡ Inline lid)
-
-completed_inline : (site : SegmentPosition) (bytes : List ℕ) (rs : List Reserved) → All IsInline (completed_in site bytes rs)
+completed_inline : (site : SegmentPosition) (bytes : List ℕ) (rs : List Reserved) → All HasInline (completed_in site bytes rs)
 completed_inline site bytes [] = λ k d lt. absurd (omega arith)
 completed_inline site bytes (r ∷ rs) =
-    let rest : All IsInline (completed_in site bytes rs) = completed_inline site bytes rs in
-    all_own IsInline r.state (message_in site bytes r) (completed_in site bytes rs) (λ own. (site.slot + r.from, refl)) rest
+    let rest : All HasInline (completed_in site bytes rs) = completed_inline site bytes rs in
+    all_own HasInline r.state (message_in site bytes r) (completed_in site bytes rs) (λ own. (site.slot + r.from, refl)) rest
 
 module _ (sum : List ℕ → ℕ) (size : ℕ) (site : SegmentPosition) (device : State) (fault : Option IoError) (bytes : List ℕ) (from : ℕ) (bs : List Sealed) (rs : List Reserved) (H : History) {stays : Message → Type 0} (holds : HoldsSegment sum (log_parts size site device fault bytes from bs rs) stays H) where
   abbrev pub done : List Message
@@ -91,7 +87,7 @@ module _ (sum : List ℕ → ℕ) (size : ℕ) (site : SegmentPosition) (device 
   pub inline_from : InlineFrom H (site.place + from)
   inline_from m there above = elim (which m there) [
     | inl early ↦ (let b = below_in m early in absurd (omega (arith, b.0, above)))
-    | inr late ↦ All-contains IsInline done m (completed_inline site bytes rs) late
+    | inr late ↦ All-contains HasInline done m (completed_inline site bytes rs) late
   ]
 
   -- Of the history they are all that begins in the buffer.

@@ -9,7 +9,7 @@ use Rattle.sled_core.specs.declared.iobuf.Reserved.{Reserved}
 use Rattle.sled_core.specs.declared.iobuf.Sealed.{Sealed}
 use Rattle.sled_core.specs.declared.iobuf.SegmentPosition.{SegmentPosition}
 use Rattle.sled_core.specs.Buffers.{none_open}
-use Rattle.sled_core.specs.Fits.{log_parts, HoldsIn}
+use Rattle.sled_core.specs.Fits.{log_parts, HoldsIn, SegmentParts}
 use Rattle.sled_core.specs.Recoverable.{LeavesRecoverable}
 use Rattle.sled_core.specs.Running.{FitsIn}
 use Rattle.sled_core.specs.SealedBuffers.{AreSealed, is_ready, seal_at}
@@ -22,18 +22,18 @@ use Rattle.sled_core.proofs.Sealed.Appended.{seal_are}
 use Rattle.sled_core.proofs.Sealed.LaidLemmas.{EndsRise}
 
 module _ (sum : List ℕ → ℕ) (size : ℕ) (site : SegmentPosition) (device : State) (fault : Option IoError) (bytes : List ℕ) (from : ℕ) (rs : List Reserved) (H : History)
-    (holds : HoldsIn sum (log_parts size site device fault bytes from [] rs) H)
-    (behind : from ≤ length bytes) (short : length bytes ≤ size) (big : 256 ≤ size) (place_small : site.place + size < 2 ^ 63) (slot_small : site.slot + size < 2 ^ 63)
+    {behind : List SegmentParts} (holds : HoldsIn sum (log_parts size site device fault bytes from [] rs) behind H)
+    (low : from ≤ length bytes) (short : length bytes ≤ size) (big : 256 ≤ size) (place_small : site.place + size < 2 ^ 63) (slot_small : site.slot + size < 2 ^ 63)
     (ended : none_open rs ≡ true) (some : 0 < length rs) (whole : fault ≡ None) where
   -- the buffer of all that was reserved
   abbrev one : Sealed
   one = seal_at (length bytes) rs
 
   more : from < length bytes
-  more = grown sum size site device fault bytes from [] rs H holds.own some
+  more = grown sum size site device fault bytes from [] rs (record { messages = holds.head; batches = H.batches }) holds.own some
 
-  sealed : HoldsIn sum (log_parts size site device fault bytes from (one ∷ []) rs) H
-  sealed = holds-sealed sum size site device fault bytes from [] rs H holds rs short behind
+  sealed : HoldsIn sum (log_parts size site device fault bytes from (one ∷ []) rs) behind H
+  sealed = holds-sealed sum size site device fault bytes from [] rs H holds rs short low
 
   are : AreSealed from rs (one ∷ [])
   are = seal_are from rs [] from 0 (length bytes) tt refl refl more holds.own.chain
@@ -56,18 +56,18 @@ module _ (sum : List ℕ → ℕ) (size : ℕ) (site : SegmentPosition) (device 
 
   -- Once it is written and settled, the log holds the same.
   pub holds-flush : (new : State) → new.log ≡ at_rest (overwritten device.log.bytes (site.slot + from) asked) → new.snapshots.file ≡ device.snapshots.file
-      → HoldsIn sum (log_parts size site new fault bytes (length bytes) [] []) H
+      → HoldsIn sum (log_parts size site new fault bytes (length bytes) [] []) behind H
   holds-flush new is names =
-      subst (λ (l : List Reserved). HoldsIn sum (log_parts size site new fault bytes (length bytes) [] l) H) none_left
+      subst (λ (l : List Reserved). HoldsIn sum (log_parts size site new fault bytes (length bytes) [] l) behind H) none_left
       (holds_written_one sum size site device fault bytes from (one ∷ []) rs H sealed short big place_small slot_small are refl rise whole 0 one refl ready new
       (subst (λ (xs : List ℕ). new.log ≡ at_rest (overwritten device.log.bytes (site.slot + from) xs)) (sym all_of) is) names)
 
-  module _ (pins A f : ℕ) (U : List Message) (fits : FitsIn sum (log_parts size site device fault bytes from [] rs) pins H A f U) where
+  module _ (pins A f : ℕ) (U : List Message) (fits : FitsIn sum (log_parts size site device fault bytes from [] rs) behind pins H A f U) where
     -- the state once it is written and synced
     abbrev after_sync : List ℕ → State
     after_sync xs = step Synced (step (Wrote (site.slot + from) xs xs) device)
 
-    fits_sealed : FitsIn sum (log_parts size site device fault bytes from (one ∷ []) rs) pins H A f U
+    fits_sealed : FitsIn sum (log_parts size site device fault bytes from (one ∷ []) rs) behind pins H A f U
     fits_sealed = fits-moved sum size site device fault bytes from [] rs pins H A f U fits bytes from (one ∷ []) rs refl sealed
 
     -- each content that a crash leaves on the way can be recovered
@@ -77,8 +77,8 @@ module _ (sum : List ℕ → ℕ) (size : ℕ) (site : SegmentPosition) (device 
         (write_along sum size site device fault bytes from (one ∷ []) rs pins H A f U fits_sealed short big place_small slot_small are refl rise whole 0 one refl ready)
 
     -- The log fits with all that was written for what was acknowledged.
-    pub fits_flushed : (A' : ℕ) → A' ≤ site.place + length bytes → FitsIn sum (log_parts size site (after_sync asked) None bytes (length bytes) [] []) pins H A' f U
+    pub fits_flushed : (A' : ℕ) → A' ≤ site.place + length bytes → FitsIn sum (log_parts size site (after_sync asked) None bytes (length bytes) [] []) behind pins H A' f U
     fits_flushed A' passes =
-        subst (λ (xs : List ℕ). FitsIn sum (log_parts size site (after_sync xs) None bytes (length bytes) [] []) pins H A' f U) all_of
-        (subst (λ (l : List Reserved). FitsIn sum (log_parts size site (after_sync (drop from (take (length bytes) bytes))) None bytes (length bytes) [] l) pins H A' f U) none_left
+        subst (λ (xs : List ℕ). FitsIn sum (log_parts size site (after_sync xs) None bytes (length bytes) [] []) behind pins H A' f U) all_of
+        (subst (λ (l : List Reserved). FitsIn sum (log_parts size site (after_sync (drop from (take (length bytes) bytes))) None bytes (length bytes) [] l) behind pins H A' f U) none_left
         (fits_written_one sum size site device fault bytes from (one ∷ []) rs pins H A f U fits_sealed short big place_small slot_small are refl rise whole 0 one refl ready A' passes))

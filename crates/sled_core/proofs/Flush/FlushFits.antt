@@ -43,9 +43,9 @@ module _ {D C : Type 0} (trace : D → Trace) (sum : List ℕ → ℕ) (log : Lo
   behind : from ≤ length bytes
   behind = written_behind log.buffer
 
-  parts_fit : FitsIn sum (log_parts size log.site (state_of before) log.fault bytes from [] rs) log.pins H A f U
+  parts_fit : FitsIn sum (log_parts size log.site (state_of before) log.fault bytes from [] rs) [] log.pins H A f U
   unfolding Fits
-  parts_fit = subst (λ (bs : List Sealed). FitsIn sum (log_parts size log.site (state_of before) log.fault bytes from bs rs) log.pins H A f U) none_sealed fits
+  parts_fit = subst (λ (bs : List Sealed). FitsIn sum (log_parts size log.site (state_of before) log.fault bytes from bs rs) [] log.pins H A f U) none_sealed fits
 
   -- at each moment of the calls, with all that was written before counted as acknowledged
   pub flush_left : (new : Trace) → Performs calls before new → Throughout (LeavesRecoverable sum size H (log.site.place + from) f) before new
@@ -59,14 +59,14 @@ module _ {D C : Type 0} (trace : D → Trace) (sum : List ℕ → ℕ) (log : Lo
 
   -- behind both, with all that was written for what was acknowledged
   pub fits_written : (new : Trace) → new ≡ after_all calls before → (bytes' : List ℕ) (from' : ℕ) (bs' : List Sealed) (rs' : List Reserved) → bytes' ≡ bytes → from' ≡ length bytes → bs' ≡ [] → rs' ≡ [] → (A' : ℕ) → A' ≤ log.site.place + from'
-      → FitsIn sum (log_parts size log.site (state_of new) log.fault bytes' from' bs' rs') log.pins H A' f U
+      → FitsIn sum (log_parts size log.site (state_of new) log.fault bytes' from' bs' rs') [] log.pins H A' f U
   fits_written new came bytes' from' bs' rs' is_bytes is_from is_bs is_rs A' passes =
-      let after : FitsIn sum (log_parts size log.site (state_of (after_all calls before)) None bytes (length bytes) [] []) log.pins H A' f U =
+      let after : FitsIn sum (log_parts size log.site (state_of (after_all calls before)) None bytes (length bytes) [] []) [] log.pins H A' f U =
       fits_flushed sum size log.site (state_of before) log.fault bytes from rs H parts_fit.holds behind log.in_segment log.config.config.least log.place_in_reach log.slot_in_reach ended some whole log.pins A f U parts_fit A'
       (omega (arith, passes, is_from)) in
       fits_same_buffer sum size log.site (state_of new) log.fault bytes bytes' (length bytes) from' [] bs' [] rs' log.pins H A' f U is_bytes is_from is_bs is_rs
-      (subst (λ (o : Option IoError). FitsIn sum (log_parts size log.site (state_of new) o bytes (length bytes) [] []) log.pins H A' f U) (sym whole)
-      (subst (λ (t : Trace). FitsIn sum (log_parts size log.site (state_of t) None bytes (length bytes) [] []) log.pins H A' f U) (sym came) after))
+      (subst (λ (o : Option IoError). FitsIn sum (log_parts size log.site (state_of new) o bytes (length bytes) [] []) [] log.pins H A' f U) (sym whole)
+      (subst (λ (t : Trace). FitsIn sum (log_parts size log.site (state_of t) None bytes (length bytes) [] []) [] log.pins H A' f U) (sym came) after))
 
 -- A write and a sync of the log file leave blobs and snapshots as they were.
 pub flush_names : (at : ℕ) (xs : List ℕ) (old new : Trace) → Performs (Wrote at xs xs ∷ Synced ∷ []) old new → ((state_of new).blobs ≡ (state_of old).blobs) × ((state_of new).snapshots ≡ (state_of old).snapshots)

@@ -7,18 +7,18 @@ use Rattle.std.specs.declared.io.Error.{Error as IoError}
 use Rattle.std.specs.declared.io.ErrorKind.{ErrorKind}
 use Rattle.std.specs.declared.io.ErrorKind.TheVariants.{OutOfMemory}
 use Rattle.std.proofs.lemmas.List.{append-nil}
-use Rattle.sled_codec.specs.History.{Message, History}
+use Rattle.sled_codec.specs.History.{Message, Batch, History}
 use Rattle.sled_codec.specs.Snapshots.{stable_place}
 use Rattle.sled_codec.specs.WellFormed.{LieApart}
 use Rattle.sled_store.specs.Answers.{is_fault, is_fault_kind}
-use Rattle.sled_store.specs.Device.{State}
+use Rattle.sled_store.specs.Device.{LogState, State}
 use Rattle.sled_store.specs.SnapshotFiles.{BeginsFrom}
 use Rattle.sled_core.specs.declared.iobuf.Reserved.{Reserved}
 use Rattle.sled_core.specs.declared.iobuf.Sealed.{Sealed}
 use Rattle.sled_core.specs.declared.iobuf.SegmentPosition.{SegmentPosition}
 use Rattle.sled_core.specs.Buffers.{IsChain, NoPadding, Stands, completed_in}
-use Rattle.sled_core.specs.Fits.{log_parts, HoldsIn, HoldsSegment, IsOnDevice, IsBegunFrom, IsKept, EndBelow}
-use Rattle.sled_core.specs.LogFile.{StaysFrom}
+use Rattle.sled_core.specs.Fits.{log_parts, HoldBehind, HoldsIn, HoldsSegment, IsOnDevice, IsBegunFrom, IsKept, EndBelow, SegmentParts}
+use Rattle.sled_core.specs.LogFile.{IsLogFile, StaysBelow, StaysFrom}
 use Rattle.sled_core.proofs.Reserve.Entries.{reserved_in, some_in}
 use Rattle.sled_core.proofs.Reserve.Ranges.{chain_grows}
 use Rattle.sled_core.specs.SealedBuffers.{AreSealed, FirstUnwritten}
@@ -83,27 +83,75 @@ module _ (sum : List ℕ → ℕ) (size : ℕ) (site : SegmentPosition) (device 
     laid = λ none. cc;
   }
 
--- What a log holds it holds over the same snapshot, and up to a place no lower, where its segment holds the same beside the same entries.
-abbrev pub holds_over : (sum : List ℕ → ℕ) (size : ℕ) (site : SegmentPosition) (device : State) (fault : Option IoError) (bytes : List ℕ) (from : ℕ) (bs : List Sealed) (rs : List Reserved) (H : History) (holds : HoldsIn sum (log_parts size site device fault bytes from bs rs) H)
+-- What a log holds it holds over the same snapshot, and up to a place no lower, where its segments hold the same.
+abbrev pub holds_over : (sum : List ℕ → ℕ) (size : ℕ) (site : SegmentPosition) (device : State) (fault : Option IoError) (bytes : List ℕ) (from : ℕ) (bs : List Sealed) (rs : List Reserved) (behind : List SegmentParts) (H : History)
+    (holds : HoldsIn sum (log_parts size site device fault bytes from bs rs) behind H)
     (new : State) (now : Option IoError) (bytes' : List ℕ) (from' : ℕ) (bs' : List Sealed) (rs' : List Reserved) → new.snapshots.file ≡ device.snapshots.file → from ≤ from'
-    → HoldsSegment sum (log_parts size site new now bytes' from' bs' rs') (StaysFrom H (stable_place holds.begun.first.stable)) H → HoldsIn sum (log_parts size site new now bytes' from' bs' rs') H
-holds_over sum size site device fault bytes from bs rs H holds new now bytes' from' bs' rs' names more own = record {
+    → HoldsSegment sum (log_parts size site new now bytes' from' bs' rs') (StaysFrom H (stable_place holds.begun.first.stable)) (record { messages = holds.head; batches = H.batches })
+    → HoldBehind sum size new now (site.place + size) behind (StaysBelow H (stable_place holds.begun.first.stable) site.place) H.batches holds.later → HoldsIn sum (log_parts size site new now bytes' from' bs' rs') behind H
+holds_over sum size site device fault bytes from bs rs behind H holds new now bytes' from' bs' rs' names more own others = record {
   begun = begun-more sum size device.snapshots.file new.snapshots.file site from from' H names more holds.begun;
+  head = holds.head;
+  later = holds.later;
+  messages = holds.messages;
   own = own;
+  others = others;
+  apart = holds.apart;
 }
 
-module _ (sum : List ℕ → ℕ) (size : ℕ) (site : SegmentPosition) (device : State) (fault : Option IoError) (bytes : List ℕ) (from : ℕ) (bs : List Sealed) (rs : List Reserved) (H : History)
-    (holds : HoldsIn sum (log_parts size site device fault bytes from bs rs) H) where
-  -- A log that keeps a failure of its device holds what it held, whatever the log file is now.
-  unfoldable pub holds-faulty : (new : State) (e : IoError) (now : Option IoError) → now ≡ Some e → new.snapshots.file ≡ device.snapshots.file → HoldsIn sum (log_parts size site new now bytes from bs rs) H
-  holds-faulty new e now is names =
-      holds_over sum size site device fault bytes from bs rs H holds new now bytes from bs rs names (omega arith) (segment-faulty sum size site device fault bytes from bs rs H holds.own new e now is)
+-- The segments behind the first one, in a log that keeps a failure of its device.
+pub behind_faulty : (sum : List ℕ → ℕ) (size : ℕ) (device : State) (fault : Option IoError) (place : ℕ) (ss : List SegmentParts) (stays : Message → Type 0) (batches : List Batch) (ms : List Message)
+    → HoldBehind sum size device fault place ss stays batches ms → (new : State) (e : IoError) (now : Option IoError) → now ≡ Some e → HoldBehind sum size new now place ss stays batches ms
+behind_faulty sum size device fault place [] stays batches ms holds new e now is = holds
+behind_faulty sum size device fault place (s ∷ ss) stays batches ms (own, later, all, here, rest) new e now is = (
+  own,
+  later,
+  all,
+  record {
+    next = here.next;
+    inside = here.inside;
+    are = here.are;
+    held = here.held;
+    behind = here.behind;
+    segment = segment-faulty sum size s.site device fault s.bytes s.written_len s.sealed s.reserved (record { messages = own; batches = batches }) here.segment new e now is;
+    above = here.above;
+    inline = here.inline;
+  },
+  behind_faulty sum size device fault (place + size) ss stays batches later rest new e now is,
+)
 
-  -- Where nothing was reserved since the last write, all is on the device.
+module _ (sum : List ℕ → ℕ) (size : ℕ) (site : SegmentPosition) (device : State) (fault : Option IoError) (bytes : List ℕ) (from : ℕ) (bs : List Sealed) (rs : List Reserved) (H : History)
+    {behind : List SegmentParts} (holds : HoldsIn sum (log_parts size site device fault bytes from bs rs) behind H) where
+  -- A log that keeps a failure of its device holds what it held, whatever the log file is now.
+  unfoldable pub holds-faulty : (new : State) (e : IoError) (now : Option IoError) → now ≡ Some e → new.snapshots.file ≡ device.snapshots.file → HoldsIn sum (log_parts size site new now bytes from bs rs) behind H
+  holds-faulty new e now is names =
+      holds_over sum size site device fault bytes from bs rs behind H holds new now bytes from bs rs names (omega arith)
+      (segment-faulty sum size site device fault bytes from bs rs (record { messages = holds.head; batches = H.batches }) holds.own new e now is)
+      (behind_faulty sum size device fault (site.place + size) behind (StaysBelow H (stable_place holds.begun.first.stable) site.place) H.batches holds.later holds.others new e now is)
+
+  -- The same device and the same failure hold the same.
+  pub holds-moved : (after : State) (now : Option IoError) → after ≡ device → now ≡ fault → HoldsIn sum (log_parts size site after now bytes from bs rs) behind H
+  holds-moved after now d f = subst (λ (s : State). HoldsIn sum (log_parts size site s now bytes from bs rs) behind H) (sym d) (subst (λ (o : Option IoError). HoldsIn sum (log_parts size site device o bytes from bs rs) behind H) (sym f) holds)
+
+  -- A call that changed nothing of the device holds the same, whether or not the device failed in it.
+  pub holds-answered : (size' : ℕ) (after : State) (now : Option IoError) → size' ≡ size → after ≡ device → fault ≡ None → HoldsIn sum (log_parts size' site after now bytes from bs rs) behind H
+  holds-answered size' after now sizes same none =
+      let here : HoldsIn sum (log_parts size site after now bytes from bs rs) behind H = elim (fault_or_none now) [
+        | inl is ↦ holds-moved after now same (is ∙ sym none)
+        | inr is ↦ holds-faulty after is.0 now is.1 (ap (λ (s : State). s.snapshots.file) same)
+      ] in
+      subst (λ n. HoldsIn sum (log_parts n site after now bytes from bs rs) behind H) (sym sizes) here
+
+-- Where nothing was reserved since the last write, and no segment was begun behind the first one, all is on the device.
+module _ (sum : List ℕ → ℕ) (size : ℕ) (site : SegmentPosition) (device : State) (fault : Option IoError) (bytes : List ℕ) (from : ℕ) (bs : List Sealed) (rs : List Reserved) (H : History)
+    (holds : HoldsIn sum (log_parts size site device fault bytes from bs rs) [] H) where
   pub all_kept : rs ≡ [] → fault ≡ None → site.place + size < 2 ^ 63 → from ≤ size → FirstUnwritten bs → AreSealed from rs bs → IsKept sum size site from device H
   all_kept none whole in_reach inside fresh are =
       let own = holds.own in
-      let all : H.messages ≡ own.earlier = own.messages ∙ ap (λ (l : List Reserved). own.earlier ++ completed_in site bytes l) none ∙ append-nil own.earlier in
+      let last : holds.later ≡ [] = holds.others in
+      let all : H.messages ≡ own.earlier =
+      holds.messages ∙ ap (λ (ms : List Message). holds.head ++ ms) last ∙ append-nil holds.head
+      ∙ own.messages ∙ ap (λ (l : List Reserved). own.earlier ++ completed_in site bytes l) none ∙ append-nil own.earlier in
       record {
         below = subst (λ (ms : List Message). EndBelow (site.place + from) ms) (sym all) own.below;
         apart = subst LieApart (sym all) own.apart;
@@ -117,18 +165,10 @@ module _ (sum : List ℕ → ℕ) (size : ℕ) (site : SegmentPosition) (device 
         clean = rest_zeros device.log.bytes site.slot bytes from bs size fresh (subst (λ (l : List Reserved). AreSealed from l bs) none are) (own.laid whole);
       }
 
-  -- The same device and the same failure hold the same.
-  pub holds-moved : (after : State) (now : Option IoError) → after ≡ device → now ≡ fault → HoldsIn sum (log_parts size site after now bytes from bs rs) H
-  holds-moved after now d f = subst (λ (s : State). HoldsIn sum (log_parts size site s now bytes from bs rs) H) (sym d) (subst (λ (o : Option IoError). HoldsIn sum (log_parts size site device o bytes from bs rs) H) (sym f) holds)
-
-  -- A call that changed nothing of the device holds the same, whether or not the device failed in it.
-  pub holds-answered : (size' : ℕ) (after : State) (now : Option IoError) → size' ≡ size → after ≡ device → fault ≡ None → HoldsIn sum (log_parts size' site after now bytes from bs rs) H
-  holds-answered size' after now sizes same none =
-      let here : HoldsIn sum (log_parts size site after now bytes from bs rs) H = elim (fault_or_none now) [
-        | inl is ↦ holds-moved after now same (is ∙ sym none)
-        | inr is ↦ holds-faulty after is.0 now is.1 (ap (λ (s : State). s.snapshots.file) same)
-      ] in
-      subst (λ n. HoldsIn sum (log_parts n site after now bytes from bs rs) H) (sym sizes) here
+-- What is on a device stands in the log file that is read of it.
+pub on_file : (sum : List ℕ → ℕ) (size : ℕ) (device : LogState) (site : SegmentPosition) (from : ℕ) (messages : List Message) (stays : Message → Type 0) → IsOnDevice sum size device site from messages stays
+    → IsLogFile sum size device.bytes site from messages stays
+on_file sum size device site from messages stays is = subst (λ (l : List ℕ). IsLogFile sum size l site from messages stays) (sym (ap (λ (s : LogState). s.bytes) is.settled)) is.file
 
 kind_apart : (kind : ErrorKind) → is_fault_kind kind ≡ true → kind ≡ OutOfMemory → ⊥
 kind_apart kind fault is = let not_one : false ≡ true = sym (ap is_fault_kind is) ∙ fault in cc

@@ -1,5 +1,5 @@
 -- One of the sealed buffers of a log is written at its place, and synced: at each moment a crash leaves what can be recovered, and behind it the log fits the same history. The buffers at the front that are written leave the list.
-use Rattle.std.proofs.Common.{◌≡◌, ◌==◌, ◌⊎◌, ◌≤◌, ◌<◌, ◌+◌, ◌*◌, ◌/◌, ◌^◌, ◌∙◌, ℕ, zero, suc, max, Bool, true, false, if◌then◌else◌, List, [], ◌∷◌, ◌++◌, length, take, drop, sym, ap, arith, refl, subst, inl, inr, Option, None, Some, append_assoc}
+use Rattle.std.proofs.Common.{◌≡◌, ◌==◌, ◌⊎◌, ◌≤◌, ◌<◌, ◌+◌, ◌*◌, ◌/◌, ◌^◌, ◌∙◌, ℕ, zero, suc, max, Bool, true, false, if◌then◌else◌, List, [], ◌∷◌, ◌++◌, length, map, take, drop, sym, ap, arith, refl, subst, inl, inr, Option, None, Some, append_assoc}
 use Rattle.std.specs.List.{All, Contains, slice_get}
 use Rattle.std.specs.declared.io.Error.{Error as IoError}
 use Rattle.std.proofs.lemmas.Bool.{cases_lt}
@@ -18,24 +18,26 @@ use Rattle.sled_core.specs.declared.iobuf.Reserved.{Reserved}
 use Rattle.sled_core.specs.declared.iobuf.Sealed.{Sealed}
 use Rattle.sled_core.specs.declared.iobuf.SegmentPosition.{SegmentPosition}
 use Rattle.sled_core.specs.Buffers.{IsChain, NoPadding, Stands, completed_in}
-use Rattle.sled_core.specs.Fits.{log_parts, HoldsIn, HoldsSegment, IsOnDevice, EndBelow}
-use Rattle.sled_core.specs.LogFile.{IsLogFile, padded}
-use Rattle.sled_core.specs.Reached.{StandsAlone}
+use Rattle.sled_core.specs.Fits.{log_parts, begun_segment, HasMark, HoldsIn, HoldsSegment, EndBelow, SegmentParts}
+use Rattle.sled_core.specs.LogFile.{IsLogFile, StaysFrom, padded}
+use Rattle.sled_core.specs.Reached.{BegunSegment, StandsAmong}
 use Rattle.sled_core.specs.Recoverable.{LeavesRecoverable, NoHeaderOfZeros}
 use Rattle.sled_core.specs.Running.{FitsIn, NamesFit}
 use Rattle.sled_core.specs.SealedBuffers.{AreSealed, FirstUnwritten, Laid, sealed_end, now_written, written_at, run_end, run_count, behind_run, bytes_between, is_ready}
 use Rattle.sled_core.proofs.Reserve.Entries.{some_long}
 use Rattle.sled_core.proofs.Reserve.Ranges.{chain_grows, completed-append, completed_between, there_split}
-use Rattle.sled_core.proofs.Flush.Completed.{all_apart, all_ascend, batches_to, has_only, inline_from, none_crosses}
-use Rattle.sled_core.proofs.Flush.FlushLemmas.{holds_over}
+use Rattle.sled_core.proofs.Flush.Completed.{all_apart, batches_to, has_only, none_crosses}
+use Rattle.sled_core.proofs.Flush.FlushLemmas.{holds_over, on_file}
 use Rattle.sled_core.proofs.Flush.Padded.{padded_none}
 use Rattle.sled_core.proofs.Flush.Settled.{InlineFrom, rests}
 use Rattle.sled_core.proofs.Flush.SealedFile.{chain_done, file_beside, first_file, stop_up}
-use Rattle.sled_core.proofs.Reached.BufferPath.{HasOnly}
+use Rattle.sled_core.proofs.Holds.BehindKept.{others_written}
+use Rattle.sled_core.proofs.Holds.WholeHistory.{of_first, whole_ascends, whole_inline, whole_only}
+use Rattle.sled_core.proofs.Reached.BufferPath.{HasOnly, mark_same}
 use Rattle.sled_core.proofs.Reached.StandsTo.{StandsTo}
 use Rattle.sled_core.proofs.Sealed.BehindUnwritten.{plain_room, torn_behind_unwritten}
 use Rattle.sled_core.proofs.Sealed.Ended.{chain_rest, ends_rise}
-use Rattle.sled_core.proofs.Sealed.HeadSealed.{torn_head_sealed}
+use Rattle.sled_core.proofs.Sealed.HeadSealed.{run_below, torn_head_sealed}
 use Rattle.sled_core.proofs.Sealed.LaidLemmas.{EndsRise, ends_below}
 use Rattle.sled_core.proofs.Sealed.OneWritten.{has_written, laid_new, long, rises_at}
 use Rattle.sled_core.proofs.Sealed.Marked.{written_are}
@@ -48,11 +50,6 @@ use Rattle.sled_core.proofs.Torn.TornLemmas.{after_write}
 apart_front : (xs ys : List Message) → LieApart (xs ++ ys) → LieApart xs
 apart_front [] ys apart = tt
 apart_front (x ∷ xs) ys apart = (apart.0, all_front (λ n. x.place + x.size ≤ n.place) xs ys apart.1, apart_front xs ys apart.2)
-
--- What is on a device stands in the log file that is read of it.
-on_file : (sum : List ℕ → ℕ) (size : ℕ) (device : LogState) (site : SegmentPosition) (from : ℕ) (messages : List Message) (stays : Message → Type 0) → IsOnDevice sum size device site from messages stays
-    → IsLogFile sum size device.bytes site from messages stays
-on_file sum size device site from messages stays is = subst (λ (l : List ℕ). IsLogFile sum size l site from messages stays) (sym (ap (λ (s : LogState). s.bytes) is.settled)) is.file
 
 -- nothing was written of a segment, or its header was
 none_or_begun : (sum : List ℕ → ℕ) (size : ℕ) (log : List ℕ) (site : SegmentPosition) (from : ℕ) (messages : List Message) (stays : Message → Type 0) → IsLogFile sum size log site from messages stays → (from ≡ 0) ⊎ (20 ≤ from)
@@ -70,11 +67,11 @@ no_run P from x xs rs fresh all =
 
 -- A write to a log that fits, and the sync behind it, where what a crash leaves of the write stands as before, and all of it up to a place no lower.
 module _ (sum : List ℕ → ℕ) (size : ℕ) (site : SegmentPosition) (device : State) (fault : Option IoError) (bytes : List ℕ) (from : ℕ) (bs : List Sealed) (rs : List Reserved) (pins : ℕ) (H : History) (A f : ℕ) (U : List Message)
-    (fits : FitsIn sum (log_parts size site device fault bytes from bs rs) pins H A f U) (big : 256 ≤ size) (whole : fault ≡ None) (to : ℕ) (up : from ≤ to) (at : ℕ) (asked : List ℕ)
-    (torn : NoHeaderOfZeros sum → StandsAlone sum size device.log.bytes site from (site.place + from) H fits.holds.begun.first → (now left : List ℕ) → length now ≤ length asked → LeavesLog (after_write device.log.bytes at asked now) left
+    {behind : List SegmentParts} (fits : FitsIn sum (log_parts size site device fault bytes from bs rs) behind pins H A f U) (short : length bytes ≤ size) (big : 256 ≤ size) (whole : fault ≡ None) (to : ℕ) (up : from ≤ to) (at : ℕ) (asked : List ℕ)
+    (torn : NoHeaderOfZeros sum → StandsAmong sum size device.log.bytes site from (map begun_segment behind) (site.place + from) H fits.holds.begun.first → (now left : List ℕ) → length now ≤ length asked → LeavesLog (after_write device.log.bytes at asked now) left
     → (placed : List (ℕ × List ℕ)) → NoForeignLog sum size (after_write device.log.bytes at asked now) placed left → StandsTo sum size left H (site.place + from) fits.holds.begun.first (site.place + from))
-    (alone : NoHeaderOfZeros sum → (end : ℕ) → site.slot ≤ end → StandsAlone sum size (padded end device.log.bytes) site from (site.place + from) H fits.holds.begun.first
-    → StandsAlone sum size (padded end (overwritten device.log.bytes at asked)) site to (site.place + to) H fits.holds.begun.first)
+    (alone : NoHeaderOfZeros sum → (end : ℕ) → site.slot ≤ end → StandsAmong sum size (padded end device.log.bytes) site from (map begun_segment behind) (site.place + from) H fits.holds.begun.first
+    → StandsAmong sum size (padded end (overwritten device.log.bytes at asked)) site to (map begun_segment behind) (site.place + to) H fits.holds.begun.first)
     (reaches : site.slot ≤ length (overwritten device.log.bytes at asked)) where
   abbrev after_sync : State
   after_sync = step Synced (step (Wrote at asked asked) device)
@@ -84,31 +81,32 @@ module _ (sum : List ℕ → ℕ) (size : ℕ) (site : SegmentPosition) (device 
   rest_now = let on_device = fits.holds.own.written whole in rests device.log on_device.log on_device.settled
 
   ordered : Ascends H.messages
-  ordered = all_ascend sum size site device fault bytes from bs rs H fits.holds.own
+  ordered = whole_ascends sum size site device fault bytes from bs rs H fits.holds short
 
   inline : InlineFrom H (site.place + from)
-  inline = inline_from sum size site device fault bytes from bs rs H fits.holds.own
+  inline = whole_inline sum size site device fault bytes from bs rs H fits.holds
 
   torn_now : NoHeaderOfZeros sum → (now left : List ℕ) → length now ≤ length asked → LeavesLog (after_write device.log.bytes at asked now) left → (placed : List (ℕ × List ℕ))
       → NoForeignLog sum size (after_write device.log.bytes at asked now) placed left → StandsTo sum size left H (site.place + from) fits.holds.begun.first (site.place + from)
-  torn_now zeros = torn zeros (fits.alone whole zeros)
+  torn_now zeros = torn zeros (fits.among whole zeros)
 
-  alone_now : NoHeaderOfZeros sum → StandsAlone sum size (overwritten device.log.bytes at asked) site to (site.place + to) H fits.holds.begun.first
-  alone_now zeros = subst (λ (l : List ℕ). StandsAlone sum size l site to (site.place + to) H fits.holds.begun.first) (padded_none site.slot (overwritten device.log.bytes at asked) reaches)
+  alone_now : NoHeaderOfZeros sum → StandsAmong sum size (overwritten device.log.bytes at asked) site to (map begun_segment behind) (site.place + to) H fits.holds.begun.first
+  alone_now zeros = subst (λ (l : List ℕ). StandsAmong sum size l site to (map begun_segment behind) (site.place + to) H fits.holds.begun.first) (padded_none site.slot (overwritten device.log.bytes at asked) reaches)
       (alone zeros site.slot (omega arith) (fits.beyond site.slot (omega arith) whole zeros))
 
   along_behind : Along (LeavesRecoverable sum size H (site.place + from) f) (Wrote at asked asked ∷ Synced ∷ []) device
   along_behind = moments.write_along sum size big device rest_now site from to up H f fits.holds.begun.first ordered inline fits.names fits.blobs fits.left at asked torn_now alone_now
 
-  fits_behind : (cs : List Sealed) (others : List Reserved) (holds : HoldsIn sum (log_parts size site after_sync fault bytes to cs others) H)
-      → holds.begun.first ≡ fits.holds.begun.first → (A' : ℕ) → A' ≤ site.place + to → FitsIn sum (log_parts size site after_sync fault bytes to cs others) pins H A' f U
+  fits_behind : (cs : List Sealed) (others : List Reserved) (holds : HoldsIn sum (log_parts size site after_sync fault bytes to cs others) behind H)
+      → holds.begun.first ≡ fits.holds.begun.first → (A' : ℕ) → A' ≤ site.place + to → FitsIn sum (log_parts size site after_sync fault bytes to cs others) behind pins H A' f U
   fits_behind cs others holds same A' passes =
       let new : List ℕ = overwritten device.log.bytes at asked in
-      let stands : NoHeaderOfZeros sum → StandsAlone sum size new site to (site.place + to) H holds.begun.first = λ zeros. subst (λ (s : SnapshotModel). StandsAlone sum size new site to (site.place + to) H s) (sym same) (alone_now zeros) in
+      let stands : NoHeaderOfZeros sum → StandsAmong sum size new site to (map begun_segment behind) (site.place + to) H holds.begun.first =
+      λ zeros. subst (λ (s : SnapshotModel). StandsAmong sum size new site to (map begun_segment behind) (site.place + to) H s) (sym same) (alone_now zeros) in
       record {
         holds = holds;
-        alone = λ none zeros. stands zeros;
-        beyond = λ end far none zeros. subst (λ (s : SnapshotModel). StandsAlone sum size (padded end new) site to (site.place + to) H s) (sym same) (alone zeros end far (fits.beyond end far whole zeros));
+        among = λ none zeros. stands zeros;
+        beyond = λ end far none zeros. subst (λ (s : SnapshotModel). StandsAmong sum size (padded end new) site to (map begun_segment behind) (site.place + to) H s) (sym same) (alone zeros end far (fits.beyond end far whole zeros));
         blobs = moments.blobs_up sum size big device rest_now site from to up H f fits.holds.begun.first ordered inline fits.names fits.blobs fits.left at asked torn_now alone_now;
         names = subst (λ (s : SnapshotModel). NamesFit sum size device.snapshots H f s) (sym same) fits.names;
         passes = passes;
@@ -225,24 +223,65 @@ module _ (sum : List ℕ → ℕ) (size : ℕ) (site : SegmentPosition) (device 
         no_batch = λ c among. elim (all.no_batch c among) [ inl before ↦ inl before | inr after ↦ inr (omega (arith, after, far)) ];
       }
 
+-- So it is with the history of a log, whose first segment that is.
+module _ (sum : List ℕ → ℕ) (size : ℕ) (site : SegmentPosition) (device : State) (fault : Option IoError) (bytes : List ℕ) (from : ℕ) (b : Sealed) (rest : List Sealed) (rs : List Reserved) (H : History)
+    {behind : List SegmentParts} (holds : HoldsIn sum (log_parts size site device fault bytes from (b ∷ rest) rs) behind H)
+    (short : length bytes ≤ size) (big : 256 ≤ size) (place_small : site.place + size < 2 ^ 63) (slot_small : site.slot + size < 2 ^ 63)
+    (are : AreSealed from rs (b ∷ rest)) (fresh : b.is_written ≡ false) (closed : b.open_count ≡ 0) (rise : EndsRise from (b ∷ rest) (length bytes)) (whole : fault ≡ None) where
+  -- what that segment holds
+  abbrev own_history : History
+  own_history = record { messages = holds.head; batches = H.batches }
+
+  abbrev stop_whole : ℕ
+  stop_whole = run_end b.end rest
+
+  abbrev asked_whole : List ℕ
+  asked_whole = bytes_between bytes from b.end
+
+  abbrev old_whole : List ℕ
+  old_whole = device.log.bytes
+
+  rise_whole : EndsRise from (b ∷ rest) size
+  rise_whole = rise_in from rs (b ∷ rest) (length bytes) size are rise short
+
+  inside_whole : b.end ≤ length bytes
+  inside_whole = let below = ends_below b.end rest (length bytes) rise.1 in omega (arith, below.0, below.1)
+
+  file_whole : IsLogFile sum size old_whole site from holds.own.earlier (StaysFrom H (stable_place holds.begun.first.stable))
+  file_whole = on_file sum size device.log site from holds.own.earlier (StaysFrom H (stable_place holds.begun.first.stable)) (holds.own.written whole)
+
+  begins_whole : (from ≡ 0) ⊎ (20 ≤ from)
+  begins_whole = none_or_begun sum size old_whole site from holds.own.earlier (StaysFrom H (stable_place holds.begun.first.stable)) file_whole
+
+  header_whole : from ≡ 0 → HasMark sum site bytes H
+  header_whole none = let m = holds.own.header none in record { mark = m.mark; is = m.is; of_history = mark_same own_history H (record { place = site.place; slot = site.slot; mark = m.mark }) refl m.of_history }
+
+  has_whole : HasOnly H (completed_in site bytes (take (b.count + run_count rest) rs)) (site.place + max 20 from) (site.place + stop_whole)
+  has_whole = whole_only sum size site device fault bytes from (b ∷ rest) rs H holds (completed_in site bytes (take (b.count + run_count rest) rs)) (site.place + max 20 from) (site.place + stop_whole)
+      (let low = run_below b.end rest size rise_whole.1 in omega (arith, low)) (has_first sum size site device fault bytes from b rest rs own_history holds.own short big place_small slot_small are fresh closed rise whole)
+
+  room_whole : from + 32 ≤ size
+  room_whole = plain_room sum size (site.place / size) bytes from big begins_whole rs b rest are holds.own.stand holds.own.plain
+
   -- What a crash leaves of the write.
-  torn_first : (first : SnapshotModel) → NoHeaderOfZeros sum → StandsAlone sum size old site from (site.place + from) H first → (now left : List ℕ) → length now ≤ length asked → LeavesLog (after_write old (site.slot + from) asked now) left → (placed : List (ℕ × List ℕ))
-      → NoForeignLog sum size (after_write old (site.slot + from) asked now) placed left → StandsTo sum size left H (site.place + from) first (site.place + from)
-  torn_first first zeros alone now left no_more leaves placed only_own =
-      torn_head_sealed sum zeros size big old site holds.place_begins holds.slot_begins place_small slot_small bytes from first_begins rs b rest fresh closed are rise_size inside holds.stand
-      (plain_room sum size (site.place / size) bytes from big first_begins rs b rest are holds.stand holds.plain) holds.header (holds.laid whole) (site.place + from) first alone has_first now left no_more leaves {placed = placed} only_own
+  torn_first : NoHeaderOfZeros sum → {others : List BegunSegment} → StandsAmong sum size old_whole site from others (site.place + from) H holds.begun.first → (now left : List ℕ) → length now ≤ length asked_whole
+      → LeavesLog (after_write old_whole (site.slot + from) asked_whole now) left → (placed : List (ℕ × List ℕ))
+      → NoForeignLog sum size (after_write old_whole (site.slot + from) asked_whole now) placed left → StandsTo sum size left H (site.place + from) holds.begun.first (site.place + from)
+  torn_first zeros alone now left no_more leaves placed only_own =
+      torn_head_sealed sum zeros size big old_whole site holds.own.place_begins holds.own.slot_begins place_small slot_small bytes from begins_whole rs b rest fresh closed are rise_whole inside_whole holds.own.stand
+      room_whole header_whole (holds.own.laid whole) (site.place + from) holds.begun.first alone has_whole now left no_more leaves {placed = placed} only_own
 
   -- All of it.
-  alone_first : (first : SnapshotModel) → stable_place first.stable / size * size ≡ site.place → NoHeaderOfZeros sum → (end : ℕ) → site.slot ≤ end → StandsAlone sum size (padded end old) site from (site.place + from) H first
-      → StandsAlone sum size (padded end new_log) site stop (site.place + stop) H first
-  alone_first first least zeros =
-      first_alone sum size big old site holds.place_begins holds.slot_begins place_small slot_small bytes from first_begins rs b rest fresh closed are rise_size inside holds.header file_old.header (holds.laid whole)
-      holds.stand holds.plain zeros (site.place + from) first has_first (all_ascend sum size site device fault bytes from (b ∷ rest) rs H holds) (omega (arith, least))
-      (none_crosses sum size site device fault bytes from (b ∷ rest) rs H holds (site.place + stop) (let above = up.0 in omega (arith, above)))
+  alone_first : NoHeaderOfZeros sum → (end : ℕ) → site.slot ≤ end → {others : List BegunSegment} → StandsAmong sum size (padded end old_whole) site from others (site.place + from) H holds.begun.first
+      → StandsAmong sum size (padded end (overwritten old_whole (site.slot + from) asked_whole)) site stop_whole others (site.place + stop_whole) H holds.begun.first
+  alone_first zeros end far {others} =
+      first_alone sum size big old_whole site holds.own.place_begins holds.own.slot_begins place_small slot_small bytes from begins_whole rs b rest fresh closed are rise_whole inside_whole header_whole file_whole.header (holds.own.laid whole)
+      holds.own.stand holds.own.plain zeros (site.place + from) holds.begun.first has_whole (whole_ascends sum size site device fault bytes from (b ∷ rest) rs H holds short) (let least = holds.begun.least in omega (arith, least))
+      (none_crosses sum size site device fault bytes from (b ∷ rest) rs own_history holds.own (site.place + stop_whole) (let above = (stop_up from rs b rest closed are).0 in omega (arith, above))) end far {others = others}
 
   -- so the file reaches its slot
-  reaches_first : site.slot ≤ length new_log
-  reaches_first = let agrees = has_written old site.slot bytes from [] b rest size rise_size inside in let in_file = agrees.in_file in omega (arith, in_file)
+  reaches_first : site.slot ≤ length (overwritten old_whole (site.slot + from) asked_whole)
+  reaches_first = let agrees = has_written old_whole site.slot bytes from [] b rest size rise_whole inside_whole in let in_file = agrees.in_file in omega (arith, in_file)
 
 -- Another one is written, behind a first one that isn't.
 module _ (sum : List ℕ → ℕ) (size : ℕ) (site : SegmentPosition) (device : State) (fault : Option IoError) (bytes : List ℕ) (from : ℕ) (x : Sealed) (xs : List Sealed) (b : Sealed) (rest : List Sealed) (rs : List Reserved) (H : History)
@@ -297,18 +336,18 @@ module _ (sum : List ℕ → ℕ) (size : ℕ) (site : SegmentPosition) (device 
   }
 
   -- What a crash leaves of the write.
-  torn_later : x.is_written ≡ false → (first : SnapshotModel) → NoHeaderOfZeros sum → StandsAlone sum size old_later site from (site.place + from) H first → (now left : List ℕ) → length now ≤ length asked_later
+  torn_later : x.is_written ≡ false → (W : History) (first : SnapshotModel) → NoHeaderOfZeros sum → {others : List BegunSegment} → StandsAmong sum size old_later site from others (site.place + from) W first → (now left : List ℕ) → length now ≤ length asked_later
       → LeavesLog (after_write old_later (site.slot + at) asked_later now) left → (placed : List (ℕ × List ℕ)) → NoForeignLog sum size (after_write old_later (site.slot + at) asked_later now) placed left
-      → StandsTo sum size left H (site.place + from) first (site.place + from)
-  torn_later fresh first zeros alone now left no_more leaves placed only_own =
-      torn_behind_unwritten sum zeros size big old_later site holds.slot_begins bytes from later_begins rs x xs b rest fresh are rise_later lies.2 (site.place / size) holds.stand (site.place + from) H first old_later (holds.laid whole)
+      → StandsTo sum size left W (site.place + from) first (site.place + from)
+  torn_later fresh W first zeros alone now left no_more leaves placed only_own =
+      torn_behind_unwritten sum zeros size big old_later site holds.slot_begins bytes from later_begins rs x xs b rest fresh are rise_later lies.2 (site.place / size) holds.stand (site.place + from) W first old_later (holds.laid whole)
       alone now left no_more leaves {placed = placed} only_own
 
   -- All of it.
-  alone_later : x.is_written ≡ false → (first : SnapshotModel) → NoHeaderOfZeros sum → (end : ℕ) → site.slot ≤ end → StandsAlone sum size (padded end old_later) site from (site.place + from) H first
-      → StandsAlone sum size (padded end new_later) site from (site.place + from) H first
-  alone_later fresh first zeros = later_alone sum size big old_later site holds.place_begins holds.slot_begins place_small slot_small bytes from later_begins rs x xs b rest fresh are rise_later lies.2 (site.place / size) holds.stand (holds.laid whole)
-      zeros (site.place + from) H first
+  alone_later : x.is_written ≡ false → (W : History) (first : SnapshotModel) → NoHeaderOfZeros sum → (end : ℕ) → site.slot ≤ end → {others : List BegunSegment} → StandsAmong sum size (padded end old_later) site from others (site.place + from) W first
+      → StandsAmong sum size (padded end new_later) site from others (site.place + from) W first
+  alone_later fresh W first zeros = later_alone sum size big old_later site holds.place_begins holds.slot_begins place_small slot_small bytes from later_begins rs x xs b rest fresh are rise_later lies.2 (site.place / size) holds.stand (holds.laid whole)
+      zeros (site.place + from) W first
 
   -- so the file reaches its slot
   reaches_later : site.slot ≤ length new_later
@@ -326,48 +365,66 @@ segment_around sum size site device fault bytes from (x ∷ xs) b rest rs H {sta
     no_run (λ n cs l. HoldsSegment sum (log_parts size site new fault bytes n cs l) stays H) from x (xs ++ now_written b ∷ rest) rs fresh
     (segment_later sum size site device fault bytes from x xs b rest rs H holds short big place_small slot_small are rise whole new is)
 
-module _ (sum : List ℕ → ℕ) (size : ℕ) (site : SegmentPosition) (device : State) (fault : Option IoError) (bytes : List ℕ) (from : ℕ) (b : Sealed) (rest : List Sealed) (rs : List Reserved) (pins : ℕ) (H : History) (A f : ℕ) (U : List Message)
+module _ (sum : List ℕ → ℕ) (size : ℕ) (site : SegmentPosition) (device : State) (fault : Option IoError) (bytes : List ℕ) (from : ℕ) (b : Sealed) (rest : List Sealed) (rs : List Reserved) (behind : List SegmentParts) (pins : ℕ) (H : History) (A f : ℕ) (U : List Message)
     (short : length bytes ≤ size) (big : 256 ≤ size) (place_small : site.place + size < 2 ^ 63) (slot_small : site.slot + size < 2 ^ 63) (closed : b.open_count ≡ 0) (whole : fault ≡ None) where
   -- its bytes, behind others
   abbrev asked_behind : List Sealed → List ℕ
   asked_behind front = bytes_between bytes (sealed_end from front) b.end
 
+  -- what the first segment holds
+  abbrev own_of : List Message → History
+  own_of head = record { messages = head; batches = H.batches }
+
+  -- They lie behind what was written of the segment, and in it.
+  asked_range : (front : List Sealed) → AreSealed from rs (front ++ b ∷ rest) → EndsRise from (front ++ b ∷ rest) (length bytes)
+      → (0 < length (asked_behind front)) × (from ≤ sealed_end from front) × (sealed_end from front + length (asked_behind front) ≤ size)
+  asked_range front are rise =
+      let lies = rises_at from front b rest (length bytes) rise in
+      let l = long device.log.bytes site.slot bytes from front b rest size (rise_in from rs (front ++ b ∷ rest) (length bytes) size are rise short) lies.2 in
+      (omega (arith, l, lies.1), lies.0, omega (arith, l, lies.2, short))
+
   -- At each moment of the two calls a crash leaves what can be recovered.
-  along_around : (front : List Sealed) → FitsIn sum (log_parts size site device fault bytes from (front ++ b ∷ rest) rs) pins H A f U → AreSealed from rs (front ++ b ∷ rest) → FirstUnwritten (front ++ b ∷ rest) → EndsRise from (front ++ b ∷ rest) (length bytes)
+  along_around : (front : List Sealed) → FitsIn sum (log_parts size site device fault bytes from (front ++ b ∷ rest) rs) behind pins H A f U → AreSealed from rs (front ++ b ∷ rest) → FirstUnwritten (front ++ b ∷ rest) → EndsRise from (front ++ b ∷ rest) (length bytes)
       → Along (LeavesRecoverable sum size H (site.place + from) f) (Wrote (site.slot + sealed_end from front) (asked_behind front) (asked_behind front) ∷ Synced ∷ []) device
   along_around [] fits are fresh rise =
-      along_behind sum size site device fault bytes from (b ∷ rest) rs pins H A f U fits big whole (run_end b.end rest) (stop_up from rs b rest closed are).0
-      (site.slot + from) (asked_behind []) (torn_first sum size site device fault bytes from b rest rs H fits.holds.own short big place_small slot_small are fresh closed rise whole fits.holds.begun.first)
-      (alone_first sum size site device fault bytes from b rest rs H fits.holds.own short big place_small slot_small are fresh closed rise whole fits.holds.begun.first fits.holds.begun.least)
-      (reaches_first sum size site device fault bytes from b rest rs H fits.holds.own short big place_small slot_small are fresh closed rise whole)
+      along_behind sum size site device fault bytes from (b ∷ rest) rs pins H A f U fits short big whole (run_end b.end rest) (stop_up from rs b rest closed are).0
+      (site.slot + from) (asked_behind []) (λ zeros. torn_first sum size site device fault bytes from b rest rs H fits.holds short big place_small slot_small are fresh closed rise whole zeros)
+      (λ zeros end far. alone_first sum size site device fault bytes from b rest rs H fits.holds short big place_small slot_small are fresh closed rise whole zeros end far)
+      (reaches_first sum size site device fault bytes from b rest rs H fits.holds short big place_small slot_small are fresh closed rise whole)
   along_around (x ∷ xs) fits are fresh rise =
-      along_behind sum size site device fault bytes from (x ∷ xs ++ b ∷ rest) rs pins H A f U fits big whole from (omega arith)
-      (site.slot + sealed_end x.end xs) (asked_behind (x ∷ xs)) (torn_later sum size site device fault bytes from x xs b rest rs H fits.holds.own short big place_small slot_small are rise whole fresh fits.holds.begun.first)
-      (alone_later sum size site device fault bytes from x xs b rest rs H fits.holds.own short big place_small slot_small are rise whole fresh fits.holds.begun.first)
-      (reaches_later sum size site device fault bytes from x xs b rest rs H fits.holds.own short big place_small slot_small are rise whole)
+      along_behind sum size site device fault bytes from (x ∷ xs ++ b ∷ rest) rs pins H A f U fits short big whole from (omega arith)
+      (site.slot + sealed_end x.end xs) (asked_behind (x ∷ xs))
+      (λ zeros. torn_later sum size site device fault bytes from x xs b rest rs (own_of fits.holds.head) fits.holds.own short big place_small slot_small are rise whole fresh H fits.holds.begun.first zeros)
+      (λ zeros end far. alone_later sum size site device fault bytes from x xs b rest rs (own_of fits.holds.head) fits.holds.own short big place_small slot_small are rise whole fresh H fits.holds.begun.first zeros end far)
+      (reaches_later sum size site device fault bytes from x xs b rest rs (own_of fits.holds.head) fits.holds.own short big place_small slot_small are rise whole)
 
   abbrev after_behind : List Sealed → State
   after_behind front = step Synced (step (Wrote (site.slot + sealed_end from front) (asked_behind front) (asked_behind front)) device)
 
   -- Behind them the log fits.
-  fits_around : (front : List Sealed) → FitsIn sum (log_parts size site device fault bytes from (front ++ b ∷ rest) rs) pins H A f U → AreSealed from rs (front ++ b ∷ rest) → FirstUnwritten (front ++ b ∷ rest) → EndsRise from (front ++ b ∷ rest) (length bytes)
+  fits_around : (front : List Sealed) → FitsIn sum (log_parts size site device fault bytes from (front ++ b ∷ rest) rs) behind pins H A f U → AreSealed from rs (front ++ b ∷ rest) → FirstUnwritten (front ++ b ∷ rest) → EndsRise from (front ++ b ∷ rest) (length bytes)
       → (A' : ℕ) → A' ≤ site.place + run_end from (front ++ now_written b ∷ rest)
-      → FitsIn sum (log_parts size site (after_behind front) fault bytes (run_end from (front ++ now_written b ∷ rest)) (behind_run (front ++ now_written b ∷ rest)) (drop (run_count (front ++ now_written b ∷ rest)) rs)) pins H A' f U
+      → FitsIn sum (log_parts size site (after_behind front) fault bytes (run_end from (front ++ now_written b ∷ rest)) (behind_run (front ++ now_written b ∷ rest)) (drop (run_count (front ++ now_written b ∷ rest)) rs)) behind pins H A' f U
   fits_around [] fits are fresh rise A' =
-      fits_behind sum size site device fault bytes from (b ∷ rest) rs pins H A f U fits big whole (run_end b.end rest) (stop_up from rs b rest closed are).0
-      (site.slot + from) (asked_behind []) (torn_first sum size site device fault bytes from b rest rs H fits.holds.own short big place_small slot_small are fresh closed rise whole fits.holds.begun.first)
-      (alone_first sum size site device fault bytes from b rest rs H fits.holds.own short big place_small slot_small are fresh closed rise whole fits.holds.begun.first fits.holds.begun.least)
-      (reaches_first sum size site device fault bytes from b rest rs H fits.holds.own short big place_small slot_small are fresh closed rise whole) (behind_run rest) (drop (b.count + run_count rest) rs)
-      (holds_over sum size site device fault bytes from (b ∷ rest) rs H fits.holds (after_behind []) fault bytes (run_end b.end rest) (behind_run rest) (drop (b.count + run_count rest) rs) refl (stop_up from rs b rest closed are).0
-      (segment_first sum size site device fault bytes from b rest rs H fits.holds.own short big place_small slot_small are fresh closed rise whole (after_behind []) refl)) refl A'
+      let range = asked_range [] are rise in
+      fits_behind sum size site device fault bytes from (b ∷ rest) rs pins H A f U fits short big whole (run_end b.end rest) (stop_up from rs b rest closed are).0
+      (site.slot + from) (asked_behind []) (λ zeros. torn_first sum size site device fault bytes from b rest rs H fits.holds short big place_small slot_small are fresh closed rise whole zeros)
+      (λ zeros end far. alone_first sum size site device fault bytes from b rest rs H fits.holds short big place_small slot_small are fresh closed rise whole zeros end far)
+      (reaches_first sum size site device fault bytes from b rest rs H fits.holds short big place_small slot_small are fresh closed rise whole) (behind_run rest) (drop (b.count + run_count rest) rs)
+      (holds_over sum size site device fault bytes from (b ∷ rest) rs behind H fits.holds (after_behind []) fault bytes (run_end b.end rest) (behind_run rest) (drop (b.count + run_count rest) rs) refl (stop_up from rs b rest closed are).0
+      (segment_first sum size site device fault bytes from b rest rs (own_of fits.holds.head) fits.holds.own short big place_small slot_small are fresh closed rise whole (after_behind []) refl)
+      (others_written sum size site device fault bytes from (b ∷ rest) rs H fits.holds (omega (arith, big)) whole (site.slot + from) (asked_behind []) range.0 (omega arith) (omega (arith, range.2)) (after_behind []) refl)) refl A'
   fits_around (x ∷ xs) fits are fresh rise A' =
-      no_run (λ n cs others. A' ≤ site.place + n → FitsIn sum (log_parts size site (after_behind (x ∷ xs)) fault bytes n cs others) pins H A' f U) from x (xs ++ now_written b ∷ rest) rs fresh
-      (fits_behind sum size site device fault bytes from (x ∷ xs ++ b ∷ rest) rs pins H A f U fits big whole from (omega arith)
-      (site.slot + sealed_end x.end xs) (asked_behind (x ∷ xs)) (torn_later sum size site device fault bytes from x xs b rest rs H fits.holds.own short big place_small slot_small are rise whole fresh fits.holds.begun.first)
-      (alone_later sum size site device fault bytes from x xs b rest rs H fits.holds.own short big place_small slot_small are rise whole fresh fits.holds.begun.first)
-      (reaches_later sum size site device fault bytes from x xs b rest rs H fits.holds.own short big place_small slot_small are rise whole) (x ∷ xs ++ now_written b ∷ rest) rs
-      (holds_over sum size site device fault bytes from (x ∷ xs ++ b ∷ rest) rs H fits.holds (after_behind (x ∷ xs)) fault bytes from (x ∷ xs ++ now_written b ∷ rest) rs refl (omega arith)
-      (segment_later sum size site device fault bytes from x xs b rest rs H fits.holds.own short big place_small slot_small are rise whole (after_behind (x ∷ xs)) refl)) refl A')
+      let range = asked_range (x ∷ xs) are rise in
+      no_run (λ n cs others. A' ≤ site.place + n → FitsIn sum (log_parts size site (after_behind (x ∷ xs)) fault bytes n cs others) behind pins H A' f U) from x (xs ++ now_written b ∷ rest) rs fresh
+      (fits_behind sum size site device fault bytes from (x ∷ xs ++ b ∷ rest) rs pins H A f U fits short big whole from (omega arith)
+      (site.slot + sealed_end x.end xs) (asked_behind (x ∷ xs))
+      (λ zeros. torn_later sum size site device fault bytes from x xs b rest rs (own_of fits.holds.head) fits.holds.own short big place_small slot_small are rise whole fresh H fits.holds.begun.first zeros)
+      (λ zeros end far. alone_later sum size site device fault bytes from x xs b rest rs (own_of fits.holds.head) fits.holds.own short big place_small slot_small are rise whole fresh H fits.holds.begun.first zeros end far)
+      (reaches_later sum size site device fault bytes from x xs b rest rs (own_of fits.holds.head) fits.holds.own short big place_small slot_small are rise whole) (x ∷ xs ++ now_written b ∷ rest) rs
+      (holds_over sum size site device fault bytes from (x ∷ xs ++ b ∷ rest) rs behind H fits.holds (after_behind (x ∷ xs)) fault bytes from (x ∷ xs ++ now_written b ∷ rest) rs refl (omega arith)
+      (segment_later sum size site device fault bytes from x xs b rest rs (own_of fits.holds.head) fits.holds.own short big place_small slot_small are rise whole (after_behind (x ∷ xs)) refl)
+      (others_written sum size site device fault bytes from (x ∷ xs ++ b ∷ rest) rs H fits.holds (omega (arith, big)) whole (site.slot + sealed_end x.end xs) (asked_behind (x ∷ xs)) range.0 (omega (arith, range.1)) (omega (arith, range.2)) (after_behind (x ∷ xs)) refl)) refl A')
 
 -- a list once the one at an index is written, and around it
 written_split : (k : ℕ) (bs : List Sealed) (b : Sealed) → slice_get bs k ≡ Some b → written_at k bs ≡ take k bs ++ now_written b ∷ drop (suc k) bs
@@ -409,18 +466,22 @@ module _ (sum : List ℕ → ℕ) (size : ℕ) (site : SegmentPosition) (device 
       (subst (λ (cs : List Sealed). AreSealed from rs cs) split are) (subst FirstUnwritten split fresh) (ready_closed b ready) (subst (λ (cs : List Sealed). EndsRise from cs (length bytes)) split rise) whole new is)
 
 -- And so does the log.
-pub holds_written_one : (sum : List ℕ → ℕ) (size : ℕ) (site : SegmentPosition) (device : State) (fault : Option IoError) (bytes : List ℕ) (from : ℕ) (bs : List Sealed) (rs : List Reserved) (H : History) → HoldsIn sum (log_parts size site device fault bytes from bs rs) H
+pub holds_written_one : (sum : List ℕ → ℕ) (size : ℕ) (site : SegmentPosition) (device : State) (fault : Option IoError) (bytes : List ℕ) (from : ℕ) (bs : List Sealed) (rs : List Reserved) (H : History) {behind : List SegmentParts} → HoldsIn sum (log_parts size site device fault bytes from bs rs) behind H
     → length bytes ≤ size → 256 ≤ size → site.place + size < 2 ^ 63 → site.slot + size < 2 ^ 63 → AreSealed from rs bs → FirstUnwritten bs → EndsRise from bs (length bytes) → fault ≡ None → (k : ℕ) (b : Sealed) → slice_get bs k ≡ Some b → is_ready b ≡ true
     → (new : State) → new.log ≡ at_rest (overwritten device.log.bytes (site.slot + sealed_end from (take k bs)) (bytes_between bytes (sealed_end from (take k bs)) b.end)) → new.snapshots.file ≡ device.snapshots.file
-    → HoldsIn sum (log_parts size site new fault bytes (run_end from (written_at k bs)) (behind_run (written_at k bs)) (drop (run_count (written_at k bs)) rs)) H
-holds_written_one sum size site device fault bytes from bs rs H holds short big place_small slot_small are fresh rise whole k b there ready new is names =
+    → HoldsIn sum (log_parts size site new fault bytes (run_end from (written_at k bs)) (behind_run (written_at k bs)) (drop (run_count (written_at k bs)) rs)) behind H
+holds_written_one sum size site device fault bytes from bs rs H {behind} holds short big place_small slot_small are fresh rise whole k b there ready new is names =
     let now : List Sealed = written_at k bs in
     let grows = (run_of from rs now (written_are from rs bs k b there (ready_closed b ready) are)).rises in
-    holds_over sum size site device fault bytes from bs rs H holds new fault bytes (run_end from now) (behind_run now) (drop (run_count now) rs) names grows
-    (segment_written_one sum size site device fault bytes from bs rs H holds.own short big place_small slot_small are fresh rise whole k b there ready new is)
+    let split : bs ≡ take k bs ++ b ∷ drop (suc k) bs = there_split bs k b there in
+    let range = asked_range sum size site device fault bytes from b (drop (suc k) bs) rs behind 0 H 0 0 [] short big place_small slot_small (ready_closed b ready) whole (take k bs)
+    (subst (λ (cs : List Sealed). AreSealed from rs cs) split are) (subst (λ (cs : List Sealed). EndsRise from cs (length bytes)) split rise) in
+    holds_over sum size site device fault bytes from bs rs behind H holds new fault bytes (run_end from now) (behind_run now) (drop (run_count now) rs) names grows
+    (segment_written_one sum size site device fault bytes from bs rs (record { messages = holds.head; batches = H.batches }) holds.own short big place_small slot_small are fresh rise whole k b there ready new is)
+    (others_written sum size site device fault bytes from bs rs H holds (omega (arith, big)) whole (site.slot + sealed_end from (take k bs)) (bytes_between bytes (sealed_end from (take k bs)) b.end) range.0 (omega (arith, range.1)) (omega (arith, range.2)) new is)
 
 module _ (sum : List ℕ → ℕ) (size : ℕ) (site : SegmentPosition) (device : State) (fault : Option IoError) (bytes : List ℕ) (from : ℕ) (bs : List Sealed) (rs : List Reserved) (pins : ℕ) (H : History) (A f : ℕ) (U : List Message)
-    (fits : FitsIn sum (log_parts size site device fault bytes from bs rs) pins H A f U)
+    {behind : List SegmentParts} (fits : FitsIn sum (log_parts size site device fault bytes from bs rs) behind pins H A f U)
     (short : length bytes ≤ size) (big : 256 ≤ size) (place_small : site.place + size < 2 ^ 63) (slot_small : site.slot + size < 2 ^ 63)
     (are : AreSealed from rs bs) (fresh : FirstUnwritten bs) (rise : EndsRise from bs (length bytes)) (whole : fault ≡ None) (k : ℕ) (b : Sealed) (there : slice_get bs k ≡ Some b) (ready : is_ready b ≡ true) where
   abbrev at_one : ℕ
@@ -438,8 +499,8 @@ module _ (sum : List ℕ → ℕ) (size : ℕ) (site : SegmentPosition) (device 
   split_one : bs ≡ take k bs ++ b ∷ drop (suc k) bs
   split_one = there_split bs k b there
 
-  fits_split : FitsIn sum (log_parts size site device fault bytes from (take k bs ++ b ∷ drop (suc k) bs) rs) pins H A f U
-  fits_split = subst (λ (cs : List Sealed). FitsIn sum (log_parts size site device fault bytes from cs rs) pins H A f U) split_one fits
+  fits_split : FitsIn sum (log_parts size site device fault bytes from (take k bs ++ b ∷ drop (suc k) bs) rs) behind pins H A f U
+  fits_split = subst (λ (cs : List Sealed). FitsIn sum (log_parts size site device fault bytes from cs rs) behind pins H A f U) split_one fits
 
   are_split : AreSealed from rs (take k bs ++ b ∷ drop (suc k) bs)
   are_split = subst (λ (cs : List Sealed). AreSealed from rs cs) split_one are
@@ -449,11 +510,11 @@ module _ (sum : List ℕ → ℕ) (size : ℕ) (site : SegmentPosition) (device 
 
   -- At each moment of the write of one that is ready, and of the sync, a crash leaves what can be recovered.
   pub write_along : Along (LeavesRecoverable sum size H (site.place + from) f) (Wrote (site.slot + at_one) asked_one asked_one ∷ Synced ∷ []) device
-  write_along = along_around sum size site device fault bytes from b (drop (suc k) bs) rs pins H A f U short big place_small slot_small (ready_closed b ready) whole (take k bs) fits_split are_split (subst FirstUnwritten split_one fresh) rise_split
+  write_along = along_around sum size site device fault bytes from b (drop (suc k) bs) rs behind pins H A f U short big place_small slot_small (ready_closed b ready) whole (take k bs) fits_split are_split (subst FirstUnwritten split_one fresh) rise_split
 
   -- Behind them the log fits, with all that is written up to the end of the run for what was acknowledged.
-  pub fits_written_one : (A' : ℕ) → A' ≤ site.place + run_end from now_one → FitsIn sum (log_parts size site synced_one None bytes (run_end from now_one) (behind_run now_one) (drop (run_count now_one) rs)) pins H A' f U
+  pub fits_written_one : (A' : ℕ) → A' ≤ site.place + run_end from now_one → FitsIn sum (log_parts size site synced_one None bytes (run_end from now_one) (behind_run now_one) (drop (run_count now_one) rs)) behind pins H A' f U
   fits_written_one A' =
-      subst (λ (o : Option IoError). A' ≤ site.place + run_end from now_one → FitsIn sum (log_parts size site synced_one o bytes (run_end from now_one) (behind_run now_one) (drop (run_count now_one) rs)) pins H A' f U) whole
-      (subst (λ (cs : List Sealed). A' ≤ site.place + run_end from cs → FitsIn sum (log_parts size site synced_one fault bytes (run_end from cs) (behind_run cs) (drop (run_count cs) rs)) pins H A' f U) (sym (written_split k bs b there))
-      (fits_around sum size site device fault bytes from b (drop (suc k) bs) rs pins H A f U short big place_small slot_small (ready_closed b ready) whole (take k bs) fits_split are_split (subst FirstUnwritten split_one fresh) rise_split A'))
+      subst (λ (o : Option IoError). A' ≤ site.place + run_end from now_one → FitsIn sum (log_parts size site synced_one o bytes (run_end from now_one) (behind_run now_one) (drop (run_count now_one) rs)) behind pins H A' f U) whole
+      (subst (λ (cs : List Sealed). A' ≤ site.place + run_end from cs → FitsIn sum (log_parts size site synced_one fault bytes (run_end from cs) (behind_run cs) (drop (run_count cs) rs)) behind pins H A' f U) (sym (written_split k bs b there))
+      (fits_around sum size site device fault bytes from b (drop (suc k) bs) rs behind pins H A f U short big place_small slot_small (ready_closed b ready) whole (take k bs) fits_split are_split (subst FirstUnwritten split_one fresh) rise_split A'))

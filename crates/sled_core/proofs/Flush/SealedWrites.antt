@@ -70,7 +70,7 @@ module _ {D C : Type 0} (trace : D → Trace) (sum : List ℕ → ℕ) (log : Lo
 
   -- Behind the calls it holds what it held.
   pub holds_buffer : (H : History) → Holds trace sum log H → (new : Trace) → new ≡ after_all (writing_buffer log k) before → (later : IoBuf) → IsWrittenAt k old later
-      → HoldsIn sum (log_parts size log.site (state_of new) log.fault later.bytes.items later.written_len later.sealed.items later.reserved.items) H
+      → HoldsIn sum (log_parts size log.site (state_of new) log.fault later.bytes.items later.written_len later.sealed.items later.reserved.items) [] H
   unfolding Holds
   holds_buffer H holds new came later is =
       let made = came ∙ ap (λ (es : List Event). after_all es before) (calls_are log k b there) in
@@ -80,7 +80,7 @@ module _ {D C : Type 0} (trace : D → Trace) (sum : List ℕ → ℕ) (log : Lo
       old.are old.head (sealed_rise old) whole k b there ready (state_of new) (ap (λ (t : Trace). (state_of t).log) made) (ap (λ (t : Trace). (state_of t).snapshots.file) made))
 
   module _ (H : History) (A f : ℕ) (U : List Message) (fits : Fits trace sum log H A f U) where
-    parts_fit : FitsIn sum (log_parts size log.site (state_of before) log.fault old.bytes.items old.written_len old.sealed.items old.reserved.items) log.pins H A f U
+    parts_fit : FitsIn sum (log_parts size log.site (state_of before) log.fault old.bytes.items old.written_len old.sealed.items old.reserved.items) [] log.pins H A f U
     unfolding Fits
     parts_fit = fits
 
@@ -98,12 +98,12 @@ module _ {D C : Type 0} (trace : D → Trace) (sum : List ℕ → ℕ) (log : Lo
 
     -- Behind them it fits, with all that was written for what was acknowledged.
     pub fits_buffer : (new : Trace) → new ≡ after_all (writing_buffer log k) before → (later : IoBuf) → IsWrittenAt k old later → (A' : ℕ) → A' ≤ log.site.place + later.written_len
-        → FitsIn sum (log_parts size log.site (state_of new) log.fault later.bytes.items later.written_len later.sealed.items later.reserved.items) log.pins H A' f U
+        → FitsIn sum (log_parts size log.site (state_of new) log.fault later.bytes.items later.written_len later.sealed.items later.reserved.items) [] log.pins H A' f U
     fits_buffer new came later is A' passes =
         let made = came ∙ ap (λ (es : List Event). after_all es before) (calls_are log k b there) in
         fits_same_buffer sum size log.site (state_of new) log.fault old.bytes.items later.bytes.items (run_end old.written_len now) later.written_len (behind_run now) later.sealed.items (drop (run_count now) old.reserved.items) later.reserved.items log.pins H A' f U
         is.bytes is.from is.sealed is.reserved
-        (subst (λ (o : Option IoError). FitsIn sum (log_parts size log.site (state_of new) o old.bytes.items (run_end old.written_len now) (behind_run now) (drop (run_count now) old.reserved.items)) log.pins H A' f U) (sym whole)
-        (subst (λ (t : Trace). FitsIn sum (log_parts size log.site (state_of t) None old.bytes.items (run_end old.written_len now) (behind_run now) (drop (run_count now) old.reserved.items)) log.pins H A' f U) (sym made)
+        (subst (λ (o : Option IoError). FitsIn sum (log_parts size log.site (state_of new) o old.bytes.items (run_end old.written_len now) (behind_run now) (drop (run_count now) old.reserved.items)) [] log.pins H A' f U) (sym whole)
+        (subst (λ (t : Trace). FitsIn sum (log_parts size log.site (state_of t) None old.bytes.items (run_end old.written_len now) (behind_run now) (drop (run_count now) old.reserved.items)) [] log.pins H A' f U) (sym made)
         (fits_written_one sum size log.site (state_of before) log.fault old.bytes.items old.written_len old.sealed.items old.reserved.items log.pins H A f U parts_fit log.in_segment log.config.config.least log.place_in_reach log.slot_in_reach
         old.are old.head (sealed_rise old) whole k b there ready A' (omega (arith, passes, is.from)))))

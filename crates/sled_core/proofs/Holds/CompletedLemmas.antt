@@ -162,6 +162,25 @@ fewer_stay sum size device site from earlier stays stays' fewer on = record {
   file = record { own = on.file.own; elsewhere = λ x there low. on.file.elsewhere x (fewer x low there) low; begun = on.file.begun; header = on.file.header };
 }
 
+-- A segment holds what it held beside fewer of them.
+pub segment-fewer : (sum : List ℕ → ℕ) (size : ℕ) (site : SegmentPosition) (device : State) (fault : Option IoError) (bytes : List ℕ) (from : ℕ) (bs : List Sealed) (rs : List Reserved) (H : History) (stays stays' : Message → Type 0)
+    → ((x : Message) → x.place < site.place → stays' x → stays x) → HoldsSegment sum (log_parts size site device fault bytes from bs rs) stays H → HoldsSegment sum (log_parts size site device fault bytes from bs rs) stays' H
+segment-fewer sum size site device fault bytes from bs rs H stays stays' fewer holds = record {
+  earlier = holds.earlier;
+  messages = holds.messages;
+  below = holds.below;
+  apart = holds.apart;
+  batches = holds.batches;
+  place_begins = holds.place_begins;
+  slot_begins = holds.slot_begins;
+  header = holds.header;
+  chain = holds.chain;
+  stand = holds.stand;
+  plain = holds.plain;
+  written = λ ok. fewer_stay sum size device.log site from holds.earlier stays stays' fewer (holds.written ok);
+  laid = holds.laid;
+}
+
 -- Once an open reservation has ended, the log file has of the sealed buffers what it had.
 laid_ends : (sum : List ℕ → ℕ) (size : ℕ) (site : SegmentPosition) (device : State) (fault : Option IoError) (bytes : List ℕ) (from : ℕ) (bs : List Sealed) (rs : List Reserved) (i : ℕ) (r : Reserved) (H : History)
     → {stays : Message → Type 0} → HoldsSegment sum (log_parts size site device fault bytes from bs rs) stays H → slice_get rs i ≡ Some r → r.state ≡ Open → AreSealed from rs bs → (word : ℕ) (k : MessageKind) (state : ReservationState) → open_state state ≡ false
@@ -178,6 +197,15 @@ pub behind_written : (sum : List ℕ → ℕ) (size : ℕ) (site : SegmentPositi
 behind_written sum size site device fault bytes from bs rs i r H holds there =
     let inside = at_there (λ z. (max 20 from ≤ z.from) × (z.from + z.len ≤ length bytes)) rs i r there (chain_within (max 20 from) (length bytes) rs holds.chain) in
     omega (arith, inside.0)
+
+-- And it begins in front of the end of the bytes.
+pub ends_within : (sum : List ℕ → ℕ) (size : ℕ) (site : SegmentPosition) (device : State) (fault : Option IoError) (bytes : List ℕ) (from : ℕ) (bs : List Sealed) (rs : List Reserved) (i : ℕ) (r : Reserved) (H : History)
+    → {stays : Message → Type 0} → HoldsSegment sum (log_parts size site device fault bytes from bs rs) stays H → slice_get rs i ≡ Some r → r.state ≡ Open → (message_in site bytes r).place < site.place + length bytes
+ends_within sum size site device fault bytes from bs rs i r H holds there is_open =
+    let inside = at_there (λ z. (max 20 from ≤ z.from) × (z.from + z.len ≤ length bytes)) rs i r there (chain_within (max 20 from) (length bytes) rs holds.chain) in
+    let stands : HasText sum (site.place / size) bytes r = (reserved_in sum size (site.place / size) bytes r (open_plain r.state is_open) (at_there (Stands sum size (site.place / size) bytes) rs i r there holds.stand)).text in
+    let headed = stands.headed in let long = stands.long in
+    omega (arith, inside.1, headed, long)
 
 -- The message of an open reservation is added at its place, and the segment holds that, beside messages of earlier segments of which each stayed before.
 pub segment-complete : (sum : List ℕ → ℕ) (size : ℕ) (site : SegmentPosition) (device : State) (fault : Option IoError) (bytes : List ℕ) (from : ℕ) (bs : List Sealed) (rs : List Reserved) (i : ℕ) (r : Reserved) (H : History)

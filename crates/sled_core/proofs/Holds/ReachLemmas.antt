@@ -21,7 +21,8 @@ use Rattle.sled_core.specs.Reading.{IsInline}
 use Rattle.sled_core.specs.Recoverable.{LiesInSegment}
 use Rattle.sled_core.proofs.Reserve.Ranges.{all_own, completed_between, chain_grows}
 use Rattle.sled_core.proofs.Reserve.Entries.{completed_plain, reserved_in, some_long}
-use Rattle.sled_core.proofs.Flush.Completed.{all_apart, all_below, which}
+use Rattle.sled_core.proofs.Flush.Completed.{all_below, which}
+use Rattle.sled_core.proofs.Holds.WholeHistory.{of_one, whole_apart, whole_inline}
 use Rattle.sled_core.proofs.Read.ScanLemmas.{aligned_offset}
 
 -- A message lies behind a place in a segment, where a record may begin and in the segment's slot, and its pointer says so.
@@ -87,19 +88,22 @@ kept_past sum size site from device H kept = λ k d lt. (kept.below k d lt).1
 -- each message begins below the next place
 pub fits_reach : {D C : Type 0} (trace : D → Trace) (sum : List ℕ → ℕ) (log : Log D C) (H : History) (A f : ℕ) (U : List Message) → Fits trace sum log H A f U → All (λ m. m.place < next_place log) H.messages
 unfolding Fits
-fits_reach trace sum log H A f U fits = λ k d lt. (all_below sum log.config.config.segment_size log.site _ log.fault log.buffer.bytes.items log.buffer.written_len log.buffer.sealed.items log.buffer.reserved.items H fits.holds.own k d lt).0
+fits_reach trace sum log H A f U fits =
+    let one = of_one sum log.config.config.segment_size log.site _ log.fault log.buffer.bytes.items log.buffer.written_len log.buffer.sealed.items log.buffer.reserved.items H fits.holds in
+    subst (All (λ (m : Message). m.place < next_place log)) (sym one)
+    (λ k d lt. (all_below sum log.config.config.segment_size log.site _ log.fault log.buffer.bytes.items log.buffer.written_len log.buffer.sealed.items log.buffer.reserved.items (record { messages = fits.holds.head; batches = H.batches }) fits.holds.own k d lt).0)
 
 -- the messages lie one behind another
 pub fits_apart : {D C : Type 0} (trace : D → Trace) (sum : List ℕ → ℕ) (log : Log D C) (H : History) (A f : ℕ) (U : List Message) → Fits trace sum log H A f U → LieApart H.messages
 unfolding Fits
-fits_apart trace sum log H A f U fits = all_apart sum log.config.config.segment_size log.site _ log.fault log.buffer.bytes.items log.buffer.written_len log.buffer.sealed.items log.buffer.reserved.items H fits.holds.own
+fits_apart trace sum log H A f U fits = whole_apart sum log.config.config.segment_size log.site _ log.fault log.buffer.bytes.items log.buffer.written_len log.buffer.sealed.items log.buffer.reserved.items H fits.holds log.in_segment
 
 -- one that is not written yet has an inline pointer
 pub fits_inline : {D C : Type 0} (trace : D → Trace) (sum : List ℕ → ℕ) (log : Log D C) (H : History) (A f : ℕ) (U : List Message) → Fits trace sum log H A f U → (m : Message) → Contains H.messages m → synced_end log ≤ m.place → IsInline m.pointer
 unfolding Fits
 fits_inline trace sum log H A f U fits m there above =
-    let lies = completed_behind sum log.config.config.segment_size log.site _ log.fault log.buffer.bytes.items log.buffer.written_len log.buffer.sealed.items log.buffer.reserved.items H fits.holds.own log.in_segment m there above in
-    subst IsInline (sym lies.pointer) tt
+    let item = whole_inline sum log.config.config.segment_size log.site _ log.fault log.buffer.bytes.items log.buffer.written_len log.buffer.sealed.items log.buffer.reserved.items H fits.holds m there above in
+    subst IsInline (sym item.1) tt
 
 -- it holds the history
 pub fits_holds : {D C : Type 0} (trace : D → Trace) (sum : List ℕ → ℕ) (log : Log D C) (H : History) (A f : ℕ) (U : List Message) → Fits trace sum log H A f U → Holds trace sum log H

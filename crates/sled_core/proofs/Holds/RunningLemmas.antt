@@ -1,5 +1,6 @@
 -- How a running log goes on fitting its history at the calls that write nothing.
-use Rattle.std.proofs.Common.{◌≡◌, ◌≢◌, ◌≤◌, ◌<◌, ◌+◌, ◌∙◌, ℕ, List, [], ◌∷◌, length, Option, None, sym, arith, subst}
+use Rattle.std.proofs.Common.{◌≡◌, ◌≢◌, ◌≤◌, ◌<◌, ◌+◌, ◌∙◌, ℕ, List, [], ◌∷◌, length, map, Option, None, sym, arith, subst}
+use Rattle.std.specs.List.{Contains}
 use Rattle.std.specs.declared.io.Error.{Error as IoError}
 use Rattle.sled_codec.specs.History.{Message, History, AddsMessage}
 use Rattle.sled_codec.specs.Snapshots.{SnapshotModel}
@@ -9,39 +10,41 @@ use Rattle.sled_core.specs.declared.iobuf.Reserved.{Reserved}
 use Rattle.sled_core.specs.declared.iobuf.Sealed.{Sealed}
 use Rattle.sled_core.specs.declared.iobuf.SegmentPosition.{SegmentPosition}
 use Rattle.sled_core.specs.declared.logger.Log.{Log}
-use Rattle.sled_core.specs.Fits.{HoldsIn, device_of, log_parts, segment_size_of}
+use Rattle.sled_core.specs.Fits.{HoldsIn, SegmentParts, begun_segment, device_of, log_parts, segment_size_of}
 use Rattle.sled_core.specs.LogFile.{padded}
 use Rattle.sled_core.specs.Running.{BlobsFit, NamesFit, Fits, FitsIn}
-use Rattle.sled_core.specs.Reached.{StandsAlone}
+use Rattle.sled_core.specs.Reached.{BegunSegment, StandsAmong}
 use Rattle.sled_core.specs.Recoverable.{LeavesRecoverable, NoHeaderOfZeros}
 use Rattle.sled_core.specs.SealedBuffers.{AreSealed, AreZeros, FirstUnwritten}
-use Rattle.sled_core.proofs.Holds.Added.{added_there}
 use Rattle.sled_core.proofs.Holds.BegunLemmas.{names-adds, blobs-adds}
 use Rattle.sled_core.proofs.Flush.Padded.{padded_get}
 use Rattle.sled_core.proofs.Holds.ReachLemmas.{LiesBehind, completed_behind}
-use Rattle.sled_core.proofs.Flush.Completed.{all_ascend}
 use Rattle.sled_core.proofs.Flush.Settled.{InlineFrom, leaves_less, rests, settled_recoverable}
 use Rattle.sled_core.proofs.Holds.StandsAdds.{alone-adds}
+use Rattle.sled_core.proofs.Holds.WholeHistory.{of_first, whole_ascends, whole_inline}
 use Rattle.sled_core.proofs.Sealed.Zeros.{begin_zeros}
 
 module _ (sum : List ℕ → ℕ) (size : ℕ) (site : SegmentPosition) (device : State) (fault : Option IoError) (bytes : List ℕ) (from : ℕ) (bs : List Sealed) (rs : List Reserved) (pins : ℕ) (H : History) (A f : ℕ) (U : List Message)
-    (fits : FitsIn sum (log_parts size site device fault bytes from bs rs) pins H A f U) where
+    {behind : List SegmentParts} (fits : FitsIn sum (log_parts size site device fault bytes from bs rs) behind pins H A f U) where
   abbrev first : SnapshotModel
   first = fits.holds.begun.first
 
+  abbrev others : List BegunSegment
+  others = map begun_segment behind
+
   -- Whatever else is held over this device, it was begun from the same snapshot.
-  first_same : (bytes' : List ℕ) (from' : ℕ) (bs' : List Sealed) (rs' : List Reserved) (H' : History) (holds : HoldsIn sum (log_parts size site device fault bytes' from' bs' rs') H') → first ≡ holds.begun.first
+  first_same : (bytes' : List ℕ) (from' : ℕ) (bs' : List Sealed) (rs' : List Reserved) (H' : History) (holds : HoldsIn sum (log_parts size site device fault bytes' from' bs' rs') behind H') → first ≡ holds.begun.first
   first_same bytes' from' bs' rs' H' holds = one_begin sum device.snapshots.file first holds.begun.first fits.holds.begun.begins holds.begun.begins
 
   -- Other bytes and reservations behind what was written fit the history, where they hold it.
-  pub fits-moved : (bytes' : List ℕ) (from' : ℕ) (bs' : List Sealed) (rs' : List Reserved) → from' ≡ from → HoldsIn sum (log_parts size site device fault bytes' from' bs' rs') H → FitsIn sum (log_parts size site device fault bytes' from' bs' rs') pins H A f U
+  pub fits-moved : (bytes' : List ℕ) (from' : ℕ) (bs' : List Sealed) (rs' : List Reserved) → from' ≡ from → HoldsIn sum (log_parts size site device fault bytes' from' bs' rs') behind H → FitsIn sum (log_parts size site device fault bytes' from' bs' rs') behind pins H A f U
   fits-moved bytes' from' bs' rs' is holds =
       let same : first ≡ holds.begun.first = first_same bytes' from' bs' rs' H holds in
       record {
         holds = holds;
-        alone = λ ok none. subst (λ (s : SnapshotModel). StandsAlone sum size device.log.bytes site from' (site.place + from') H s) same (subst (λ n. StandsAlone sum size device.log.bytes site n (site.place + n) H first) (sym is) (fits.alone ok none));
-        beyond = λ to far ok none. subst (λ (s : SnapshotModel). StandsAlone sum size (padded to device.log.bytes) site from' (site.place + from') H s) same
-            (subst (λ n. StandsAlone sum size (padded to device.log.bytes) site n (site.place + n) H first) (sym is) (fits.beyond to far ok none));
+        among = λ ok none. subst (λ (s : SnapshotModel). StandsAmong sum size device.log.bytes site from' others (site.place + from') H s) same (subst (λ n. StandsAmong sum size device.log.bytes site n others (site.place + n) H first) (sym is) (fits.among ok none));
+        beyond = λ to far ok none. subst (λ (s : SnapshotModel). StandsAmong sum size (padded to device.log.bytes) site from' others (site.place + from') H s) same
+            (subst (λ n. StandsAmong sum size (padded to device.log.bytes) site n others (site.place + n) H first) (sym is) (fits.beyond to far ok none));
         blobs = subst (λ n. BlobsFit sum device.blobs H (site.place + n)) (sym is) fits.blobs;
         names = subst (λ (s : SnapshotModel). NamesFit sum size device.snapshots H f s) same fits.names;
         passes = let le = fits.passes in omega (arith, le, is);
@@ -54,10 +57,10 @@ module _ (sum : List ℕ → ℕ) (size : ℕ) (site : SegmentPosition) (device 
   fits-leaves = leaves_less sum size H A (site.place + from) f device fits.passes fits.left
 
   -- All that is written may count as acknowledged.
-  pub fits-synced : (end : ℕ) → end ≡ site.place + from → FitsIn sum (log_parts size site device fault bytes from bs rs) pins H end f U
+  pub fits-synced : (end : ℕ) → end ≡ site.place + from → FitsIn sum (log_parts size site device fault bytes from bs rs) behind pins H end f U
   fits-synced end is = record {
     holds = fits.holds;
-    alone = fits.alone;
+    among = fits.among;
     beyond = fits.beyond;
     blobs = fits.blobs;
     names = fits.names;
@@ -67,10 +70,10 @@ module _ (sum : List ℕ → ℕ) (size : ℕ) (site : SegmentPosition) (device 
   }
 
   -- Another count of pins fits, where one is out while a completed message is not marked.
-  pub fits-pinned : (pins' : ℕ) → (U ≢ [] → 0 < pins') → FitsIn sum (log_parts size site device fault bytes from bs rs) pins' H A f U
+  pub fits-pinned : (pins' : ℕ) → (U ≢ [] → 0 < pins') → FitsIn sum (log_parts size site device fault bytes from bs rs) behind pins' H A f U
   fits-pinned pins' pinned = record {
     holds = fits.holds;
-    alone = fits.alone;
+    among = fits.among;
     beyond = fits.beyond;
     blobs = fits.blobs;
     names = fits.names;
@@ -81,12 +84,12 @@ module _ (sum : List ℕ → ℕ) (size : ℕ) (site : SegmentPosition) (device 
 
   -- With one more message, which lies behind what was written, it fits the history that has that message.
   module _ (bytes' : List ℕ) (from' : ℕ) (bs' : List Sealed) (rs' : List Reserved) (H' : History) (m : Message) (is : from' ≡ from) (least : 256 ≤ size) (in_segment : length bytes' ≤ size) (ok : fault ≡ None)
-      (holds : HoldsIn sum (log_parts size site device fault bytes' from' bs' rs') H') (adds : AddsMessage H m H') (above : site.place + from ≤ m.place) (fresh : FirstUnwritten bs) (are : AreSealed from rs bs) where
+      (holds : HoldsIn sum (log_parts size site device fault bytes' from' bs' rs') behind H') (adds : AddsMessage H m H') (of_head : Contains holds.head m) (above : site.place + from ≤ m.place) (fresh : FirstUnwritten bs) (are : AreSealed from rs bs) where
     abbrev reach : ℕ
     reach = site.place + from
 
     lies : LiesBehind size site m
-    lies = completed_behind sum size site device fault bytes' from' bs' rs' H' holds.own in_segment m (added_there H H' m adds) (omega (arith, is, above))
+    lies = completed_behind sum size site device fault bytes' from' bs' rs' (of_first sum size site device fault bytes' from' bs' rs' H' holds) holds.own in_segment m of_head (omega (arith, is, above))
 
     -- where nothing was written of the segment, the beginning of its slot has zeros
     clean : from ≡ 0 → AreZeros device.log.bytes site.slot (site.slot + 20)
@@ -98,10 +101,10 @@ module _ (sum : List ℕ → ℕ) (size : ℕ) (site : SegmentPosition) (device 
     inside_segment : m.place < site.place + size
     inside_segment = let inside = lies.room in omega (arith, inside)
 
-    alone_new : NoHeaderOfZeros sum → StandsAlone sum size device.log.bytes site from reach H' first
-    alone_new none = alone-adds sum size device.log.bytes site from reach H H' first least none holds.own.place_begins clean m adds above inside_segment room lies.lies (fits.alone ok none)
+    alone_new : NoHeaderOfZeros sum → StandsAmong sum size device.log.bytes site from others reach H' first
+    alone_new none = alone-adds sum size device.log.bytes site from reach H H' first least none holds.own.place_begins clean m adds above inside_segment room lies.lies (fits.among ok none)
 
-    beyond_new : (to : ℕ) → site.slot ≤ to → NoHeaderOfZeros sum → StandsAlone sum size (padded to device.log.bytes) site from reach H' first
+    beyond_new : (to : ℕ) → site.slot ≤ to → NoHeaderOfZeros sum → StandsAmong sum size (padded to device.log.bytes) site from others reach H' first
     beyond_new to far none = alone-adds sum size (padded to device.log.bytes) site from reach H H' first least none holds.own.place_begins (λ first_one i low high. padded_get to device.log.bytes i ∙ clean first_one i low high) m adds above inside_segment room lies.lies (fits.beyond to far ok none)
 
     names_new : NamesFit sum size device.snapshots H' f first
@@ -111,23 +114,21 @@ module _ (sum : List ℕ → ℕ) (size : ℕ) (site : SegmentPosition) (device 
     blobs_new = blobs-adds H H' m adds sum device.blobs reach lies.lid above lies.pointer fits.blobs
 
     inline_behind : InlineFrom H' reach
-    inline_behind x there behind =
-        let its : LiesBehind size site x = completed_behind sum size site device fault bytes' from' bs' rs' H' holds.own in_segment x there (omega (arith, is, behind)) in
-        (its.lid, its.pointer)
+    inline_behind x there behind = whole_inline sum size site device fault bytes' from' bs' rs' H' holds x there (omega (arith, is, behind))
 
     left_new : LeavesRecoverable sum size H' reach f device
     left_new =
         let on = fits.holds.own.written ok in
-        settled_recoverable sum size least device H' reach f first reach (all_ascend sum size site device fault bytes' from' bs' rs' H' holds.own) inline_behind (rests device.log on.log on.settled) names_new blobs_new (λ none. (alone_new none).stands)
+        settled_recoverable sum size least device H' reach f first reach (whole_ascends sum size site device fault bytes' from' bs' rs' H' holds in_segment) inline_behind (rests device.log on.log on.settled) names_new blobs_new (λ none. (alone_new none).stands)
 
-    pub fits-completed : 0 < pins → FitsIn sum (log_parts size site device fault bytes' from' bs' rs') pins H' A f (m ∷ U)
+    pub fits-completed : 0 < pins → FitsIn sum (log_parts size site device fault bytes' from' bs' rs') behind pins H' A f (m ∷ U)
     fits-completed out =
         let same : first ≡ holds.begun.first = first_same bytes' from' bs' rs' H' holds in
         record {
           holds = holds;
-          alone = λ fine none. subst (λ (s : SnapshotModel). StandsAlone sum size device.log.bytes site from' (site.place + from') H' s) same (subst (λ n. StandsAlone sum size device.log.bytes site n (site.place + n) H' first) (sym is) (alone_new none));
-          beyond = λ to far fine none. subst (λ (s : SnapshotModel). StandsAlone sum size (padded to device.log.bytes) site from' (site.place + from') H' s) same
-              (subst (λ n. StandsAlone sum size (padded to device.log.bytes) site n (site.place + n) H' first) (sym is) (beyond_new to far none));
+          among = λ fine none. subst (λ (s : SnapshotModel). StandsAmong sum size device.log.bytes site from' others (site.place + from') H' s) same (subst (λ n. StandsAmong sum size device.log.bytes site n others (site.place + n) H' first) (sym is) (alone_new none));
+          beyond = λ to far fine none. subst (λ (s : SnapshotModel). StandsAmong sum size (padded to device.log.bytes) site from' others (site.place + from') H' s) same
+              (subst (λ n. StandsAmong sum size (padded to device.log.bytes) site n others (site.place + n) H' first) (sym is) (beyond_new to far none));
           blobs = subst (λ n. BlobsFit sum device.blobs H' (site.place + n)) (sym is) blobs_new;
           names = subst (λ (s : SnapshotModel). NamesFit sum size device.snapshots H' f s) same names_new;
           passes = let le = fits.passes in omega (arith, le, is);

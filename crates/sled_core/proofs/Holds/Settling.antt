@@ -1,5 +1,5 @@
 -- What a read answers and asks for, by whether its place was brought to the device; and the record of a message there.
-use Rattle.std.proofs.Common.{◌≡◌, ◌∙◌, ◌⊎◌, ◌≤◌, ◌≤ℤ◌, ◌<ℤ◌, ℕ, ℤ, pos, unsigned_abs, Option, None, List, Result, Ok, Err, arith, inl, inr, OnOk, ap, ◌-◌}
+use Rattle.std.proofs.Common.{◌≡◌, ◌∙◌, ◌⊎◌, ◌≤◌, ◌≤ℤ◌, ◌<ℤ◌, ℕ, ℤ, pos, unsigned_abs, Option, None, List, Result, Ok, Err, arith, inl, inr, OnOk, ap, ◌-◌, []}
 use Rattle.std.specs.declared.io.Error.{Error as IoError}
 use Rattle.std.proofs.lemmas.Int.{ints}
 use Rattle.sled_codec.specs.declared.result.Error.{Error}
@@ -22,6 +22,7 @@ use Rattle.sled_core.specs.declared.iobuf.IoBuf.{IoBuf}
 use Rattle.sled_core.specs.declared.iobuf.SegmentPosition.{SegmentPosition}
 use Rattle.sled_core.proofs.Holds.BufferEnds.{sealed_rise}
 use Rattle.sled_core.proofs.Holds.HeldRecords.{IsHeldAt, held_record}
+use Rattle.sled_core.proofs.Holds.WholeHistory.{of_one}
 use Rattle.sled_core.proofs.Holds.WrittenRecords.{written_record}
 
 -- What a read answers of a place that was reserved, where that isn't brought to the device.
@@ -95,13 +96,13 @@ pos_abs z above = omega (arith, ints)
 
 -- The record of a message of the history stands where its pointer says, where its place is stable or its buffer is written, and the log has it still.
 module _ {D C : Type 0} (log : Log D C) (sum : List ℕ → ℕ) (device : State) (H : History)
-    (holds : HoldsIn sum (log_parts log.config.config.segment_size log.site device None log.buffer.bytes.items log.buffer.written_len log.buffer.sealed.items log.buffer.reserved.items) H) where
+    (holds : HoldsIn sum (log_parts log.config.config.segment_size log.site device None log.buffer.bytes.items log.buffer.written_len log.buffer.sealed.items log.buffer.reserved.items) [] H) where
   pub settled_record : (m : Message) → Contains H.messages m → IsWrittenPlace log m.place → (log.site.place ≤ m.place) ⊎ ((cut : ℕ) × (stable_place holds.begun.first.stable ≤ cut) × Contains (table H cut m.page) m)
       → (lid : ℕ) → m.pointer ≡ Inline lid → IsHeldAt sum log.config.config.segment_size device.log.bytes lid m
   settled_record m there is has lid pointer = elim (cases_lt m.place (synced_end log)) [
-    | inl below ↦ held_record sum _ log.site device log.buffer.bytes.items log.buffer.written_len log.buffer.sealed.items log.buffer.reserved.items H holds m there below has lid pointer
+    | inl below ↦ held_record sum _ log.site device log.buffer.bytes.items log.buffer.written_len log.buffer.sealed.items log.buffer.reserved.items H holds m there below has log.in_segment lid pointer
     | inr above ↦ elim is [
       | inl below ↦ absurd (omega (arith, below, above))
-      | inr around ↦ written_record sum _ log.site device log.buffer.bytes.items log.buffer.written_len log.buffer.sealed.items log.buffer.reserved.items H holds.own log.buffer.are (sealed_rise log.buffer) log.in_segment log.place_in_reach log.slot_in_reach m there above around lid pointer
+      | inr around ↦ written_record sum _ log.site device log.buffer.bytes.items log.buffer.written_len log.buffer.sealed.items log.buffer.reserved.items (record { messages = holds.head; batches = H.batches }) holds.own log.buffer.are (sealed_rise log.buffer) log.in_segment log.place_in_reach log.slot_in_reach m (subst (λ (ms : List Message). Contains ms m) (of_one sum _ log.site device None log.buffer.bytes.items log.buffer.written_len log.buffer.sealed.items log.buffer.reserved.items H holds) there) above around lid pointer
     ]
   ]

@@ -250,7 +250,7 @@ flushed_none trace sum old new position written none H holds = by old.buffer.res
   by_left len long [] left le = refl
   by_left len long (x ∷ xs) left le =
       let some : 0 < length new.buffer.reserved.items = omega (arith, ap length left) in
-      let more = grown sum new.config.config.segment_size new.site (state_of (trace new.config.device)) new.fault new.buffer.bytes.items new.buffer.written_len new.buffer.sealed.items new.buffer.reserved.items H holds.own some in
+      let more = grown sum new.config.config.segment_size new.site (state_of (trace new.config.device)) new.fault new.buffer.bytes.items new.buffer.written_len new.buffer.sealed.items new.buffer.reserved.items (record { messages = holds.head; batches = H.batches }) holds.own some in
       absurd (omega (arith, more, le, long, position.next, ap (λ (s : SegmentPosition). s.place) position.site))
 
   by : (rs : List Reserved) → old.buffer.reserved.items ≡ rs → new.buffer.reserved.items ≡ []

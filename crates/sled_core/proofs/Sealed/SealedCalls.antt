@@ -13,7 +13,7 @@ use Rattle.sled_core.specs.declared.iobuf.SegmentPosition.{SegmentPosition}
 use Rattle.sled_core.specs.Buffers.{NoPadding, Stands, completed_in}
 use Rattle.sled_core.specs.Fits.{HasMark}
 use Rattle.sled_core.specs.LogFile.{HasHeader, padded}
-use Rattle.sled_core.specs.Reached.{StandsAlone}
+use Rattle.sled_core.specs.Reached.{BegunSegment, StandsAmong}
 use Rattle.sled_core.specs.Recoverable.{NoHeaderOfZeros}
 use Rattle.sled_core.specs.SealedBuffers.{Agrees, AreSealed, Laid, run_count, run_end, sealed_end, bytes_between}
 use Rattle.sled_core.specs.Tail.{least_place}
@@ -82,8 +82,8 @@ module _ (sum : List ℕ → ℕ) (size : ℕ) (some : 256 ≤ size) (old : List
     -- A reader reads up to the end of those that are written now.
     pub first_alone : All (Stands sum size (site.place / size) bytes) rs → All NoPadding rs → NoHeaderOfZeros sum → (reach : ℕ) (first : SnapshotModel) → HasOnly H (completed_in site bytes (take (b.count + run_count rest) rs)) (site.place + max 20 from) (site.place + run_end b.end rest)
         → Ascends H.messages → least_place size first ≤ site.place → ((c : Batch) → Contains H.batches c → c.low < site.place + run_end b.end rest → c.peg < site.place + run_end b.end rest)
-        → (to : ℕ) → site.slot ≤ to → StandsAlone sum size (filled to) site from reach H first → StandsAlone sum size (padded to new) site (run_end b.end rest) (site.place + run_end b.end rest) H first
-    first_alone stand plain zeros reach first has ordered low ended to far alone = subst (λ (l : List ℕ). StandsAlone sum size l site (run_end b.end rest) (site.place + run_end b.end rest) H first) (same_file to)
+        → (to : ℕ) → site.slot ≤ to → {others : List BegunSegment} → StandsAmong sum size (filled to) site from others reach H first → StandsAmong sum size (padded to new) site (run_end b.end rest) others (site.place + run_end b.end rest) H first
+    first_alone stand plain zeros reach first has ordered low ended to far {others} alone = subst (λ (l : List ℕ). StandsAmong sum size l site (run_end b.end rest) others (site.place + run_end b.end rest) H first) (same_file to)
         (head_sealed_written sum zeros size some (filled to) site place_begins slot_begins place_small slot_small bytes from begins rs b rest fresh closed are rise inside stand (plain_room sum size (site.place / size) bytes from some begins rs b rest are stand plain) header (laid_filled to) reach first alone has
         ordered (omega (arith, padded_long to old, far)) low (subst (λ (l : List ℕ). HasHeader sum l site) (sym (same_file to)) (padded_header to)) (All-take NoPadding (b.count + run_count rest) rs plain) ended)
 
@@ -107,7 +107,7 @@ module _ (sum : List ℕ → ℕ) (size : ℕ) (some : 256 ≤ size) (old : List
         laid_same site.slot old (filled to) bytes from (x ∷ xs ++ b ∷ rest) size rise (record { grows = omega (arith, length-padded to old); same = λ i above below. padded_get to old (site.slot + i) }) laid
 
     -- A reader reads no further than before.
-    pub later_alone : NoHeaderOfZeros sum → (reach : ℕ) (H : History) (first : SnapshotModel) (to : ℕ) → site.slot ≤ to → StandsAlone sum size (filled to) site from reach H first
-        → StandsAlone sum size (padded to (overwritten old (site.slot + at) asked_later)) site from reach H first
-    later_alone zeros reach H first to far alone = subst (λ (l : List ℕ). StandsAlone sum size l site from reach H first) (same_later to)
+    pub later_alone : NoHeaderOfZeros sum → (reach : ℕ) (H : History) (first : SnapshotModel) (to : ℕ) → site.slot ≤ to → {others : List BegunSegment} → StandsAmong sum size (filled to) site from others reach H first
+        → StandsAmong sum size (padded to (overwritten old (site.slot + at) asked_later)) site from others reach H first
+    later_alone zeros reach H first to far {others} alone = subst (λ (l : List ℕ). StandsAmong sum size l site from others reach H first) (same_later to)
         (written_behind_unwritten sum zeros size some old site slot_begins bytes from begins rs x xs b rest fresh are rise inside number stand reach H first (filled to) (laid_later to) alone (omega (arith, padded_long to old, far)))

@@ -7,7 +7,7 @@ use Rattle.sled_store.specs.Foreign.{NoForeignLog}
 use Rattle.sled_store.specs.Script.{Along}
 use Rattle.sled_store.proofs.Histories.Ascending.{Ascends}
 use Rattle.sled_core.specs.declared.iobuf.SegmentPosition.{SegmentPosition}
-use Rattle.sled_core.specs.Reached.{StandsAlone}
+use Rattle.sled_core.specs.Reached.{BegunSegment, StandsAmong}
 use Rattle.sled_core.specs.Recoverable.{LeavesRecoverable, NoHeaderOfZeros}
 use Rattle.sled_core.specs.Running.{BlobsFit, NamesFit}
 use Rattle.sled_core.proofs.Flush.Settled.{InlineFrom, blobs_higher, leaves_less, settled_recoverable, stands_recoverable}
@@ -19,7 +19,7 @@ module _ (sum : List ℕ → ℕ) (size : ℕ) (some : 256 ≤ size) (device : S
     (before : LeavesRecoverable sum size H (site.place + from) f device) (at : ℕ) (asked : List ℕ)
     (torn : NoHeaderOfZeros sum → (now left : List ℕ) → length now ≤ length asked → LeavesLog (after_write device.log.bytes at asked now) left → (placed : List (ℕ × List ℕ))
     → NoForeignLog sum size (after_write device.log.bytes at asked now) placed left → StandsTo sum size left H (site.place + from) first (site.place + from))
-    (whole : NoHeaderOfZeros sum → StandsAlone sum size (overwritten device.log.bytes at asked) site to (site.place + to) H first) where
+    {others : List BegunSegment} (whole : NoHeaderOfZeros sum → StandsAmong sum size (overwritten device.log.bytes at asked) site to others (site.place + to) H first) where
   -- the state once so much of the write was done
   abbrev while_written : List ℕ → State
   while_written now = step (Wrote at asked now) device

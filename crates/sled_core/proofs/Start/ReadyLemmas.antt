@@ -68,7 +68,7 @@ module _ (sum : List ℕ → ℕ) (size : ℕ) (device now : State) (s : Snapsho
 
   -- it holds the history, and begins from that snapshot
   abbrev pub HoldsFrom : SegmentPosition → ℕ → Type 0
-  HoldsFrom site from = (holds : HoldsIn sum (log_parts size site now None bytes from [] []) H) × (holds.begun.first ≡ ready.first)
+  HoldsFrom site from = (holds : HoldsIn sum (log_parts size site now None bytes from [] []) [] H) × (holds.begun.first ≡ ready.first)
 
   -- The log holds the history at a site where the file has its messages.
   holds_at : (site : SegmentPosition) (from : ℕ) → site.place % size ≡ 0 → site.slot % size ≡ 0 → site.place + from ≡ stable → stable / size * size ≡ site.place → (0 < from → 20 ≤ from)
@@ -77,6 +77,11 @@ module _ (sum : List ℕ → ℕ) (size : ℕ) (device now : State) (s : Snapsho
   holds_at site from place_begins slot_begins end least behind first more file clean = (
     record {
       begun = begun_at site from end least;
+      head = H.messages;
+      later = [];
+      messages = sym (append-nil H.messages);
+      others = refl;
+      apart = tt;
       own = record {
       earlier = H.messages;
       messages = sym (append-nil H.messages);
@@ -149,5 +154,5 @@ module _ (sum : List ℕ → ℕ) (size : ℕ) (device now : State) (s : Snapsho
       by (Some a) active has may of_active first more = holds_active a active may of_active has first more
 
   pub begins_ready : (b : Beginning) → b ≡ beginning_of size (length device.log.bytes) s → (b.offset ≡ 0 → bytes ≡ short_header sum (pos b.place) (pos b.place -ℤ pos 1)) → (0 < b.offset → length bytes ≡ b.offset)
-      → HoldsIn sum (log_parts size (record { place = b.place; slot = b.slot }) now None bytes b.offset [] []) H
+      → HoldsIn sum (log_parts size (record { place = b.place; slot = b.slot }) now None bytes b.offset [] []) [] H
   begins_ready b is first more = (begins_from b is first more).0

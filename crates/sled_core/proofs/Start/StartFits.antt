@@ -64,13 +64,13 @@ module _ (sum : List ℕ → ℕ) (size : ℕ) (device now : State) (s : Snapsho
   -- Where it begins at a site.
   module _ (site : SegmentPosition) (from : ℕ) (end : site.place + from ≡ stable) (begins : site.place ≡ stable / size * size) (own : (slot : ℕ) → s.active ≡ Some slot → slot ≡ site.slot)
       (behind : 0 < from → (s.active ≡ Some site.slot) × (from ≡ stable % size)) (beyond : AreZeros new (site.slot + from) (site.slot + size) → (to : ℕ) → NoHeaderOfZeros sum → StandsActive sum size (padded to new) s H) where
-    fits_at : (bytes : List ℕ) (holds : HoldsIn sum (log_parts size site now None bytes from [] []) H) → holds.begun.first ≡ ready.ready.first → FitsIn sum (log_parts size site now None bytes from [] []) 0 H A f []
+    fits_at : (bytes : List ℕ) (holds : HoldsIn sum (log_parts size site now None bytes from [] []) [] H) → holds.begun.first ≡ ready.ready.first → FitsIn sum (log_parts size site now None bytes from [] []) [] 0 H A f []
     fits_at bytes holds first =
         let same : stable_place holds.begun.first.stable ≡ stable = ap (λ (x : SnapshotModel). stable_place x.stable) first ∙ same_stable in
         let clean : AreZeros new (site.slot + from) (site.slot + size) = subst (λ (l : List ℕ). AreZeros l (site.slot + from) (site.slot + size)) bytes_now (holds.own.laid refl) in
         record {
           holds = holds;
-          alone = λ none zeros. subst (λ (l : List ℕ). StandsAlone sum size l site from (site.place + from) H holds.begun.first) (sym bytes_now) (begins_alone sum size new s holds.begun.first H site from same end begins own behind (active_now zeros));
+          among = λ none zeros. subst (λ (l : List ℕ). StandsAlone sum size l site from (site.place + from) H holds.begun.first) (sym bytes_now) (begins_alone sum size new s holds.begun.first H site from same end begins own behind (active_now zeros));
           beyond = λ to far none zeros. subst (λ (l : List ℕ). StandsAlone sum size (padded to l) site from (site.place + from) H holds.begun.first) (sym bytes_now)
               (begins_alone sum size (padded to new) s holds.begun.first H site from same end begins own behind (beyond clean to zeros));
           blobs = subst (λ (n : NamesState). BlobsFit sum n H (site.place + from)) (sym same_blobs) (subst (BlobsFit sum device.blobs H) (sym end) ready.blobs);
@@ -82,8 +82,8 @@ module _ (sum : List ℕ → ℕ) (size : ℕ) (device now : State) (s : Snapsho
 
   -- It fits where it begins.
   FitsAt : List ℕ → Beginning → Type 0
-  FitsAt bytes b = (holds : HoldsIn sum (log_parts size (record { place = b.place; slot = b.slot }) now None bytes b.offset [] []) H) → holds.begun.first ≡ ready.ready.first
-      → FitsIn sum (log_parts size (record { place = b.place; slot = b.slot }) now None bytes b.offset [] []) 0 H A f []
+  FitsAt bytes b = (holds : HoldsIn sum (log_parts size (record { place = b.place; slot = b.slot }) now None bytes b.offset [] []) [] H) → holds.begun.first ≡ ready.ready.first
+      → FitsIn sum (log_parts size (record { place = b.place; slot = b.slot }) now None bytes b.offset [] []) [] 0 H A f []
 
   fits_from : (bytes : List ℕ) → FitsAt bytes (beginning_of size (length log) s)
   unfolding FitsAt
@@ -106,11 +106,11 @@ module _ (sum : List ℕ → ℕ) (size : ℕ) (device now : State) (s : Snapsho
 
   -- The log fits the history that it holds.
   pub start_fits : (b : Beginning) → b ≡ beginning_of size (length log) s → (bytes : List ℕ) (from : ℕ) (sealed : List Sealed) (reserved : List Reserved) → (b.offset ≡ 0 → bytes ≡ short_header sum (pos b.place) (pos b.place -ℤ pos 1)) → (0 < b.offset → length bytes ≡ b.offset)
-      → from ≡ b.offset → sealed ≡ [] → reserved ≡ [] → FitsIn sum (log_parts size (record { place = b.place; slot = b.slot }) now None bytes from sealed reserved) 0 H A f []
+      → from ≡ b.offset → sealed ≡ [] → reserved ≡ [] → FitsIn sum (log_parts size (record { place = b.place; slot = b.slot }) now None bytes from sealed reserved) [] 0 H A f []
   unfolding FitsAt
   start_fits b is bytes from sealed reserved header more offset none_sealed none =
       let begun = begins_from sum size device now s H bytes long ready.ready startable log_is (ap (λ (n : NamesState). n.file) same_names) b is header more in
       let fits : FitsAt bytes b = subst (FitsAt bytes) (sym is) (fits_from bytes) in
-      subst (λ n. FitsIn sum (log_parts size (record { place = b.place; slot = b.slot }) now None bytes n sealed reserved) 0 H A f []) (sym offset)
-      (subst (λ (l : List Sealed). FitsIn sum (log_parts size (record { place = b.place; slot = b.slot }) now None bytes b.offset l reserved) 0 H A f []) (sym none_sealed)
-      (subst (λ (r : List Reserved). FitsIn sum (log_parts size (record { place = b.place; slot = b.slot }) now None bytes b.offset [] r) 0 H A f []) (sym none) (fits begun.0 begun.1)))
+      subst (λ n. FitsIn sum (log_parts size (record { place = b.place; slot = b.slot }) now None bytes n sealed reserved) [] 0 H A f []) (sym offset)
+      (subst (λ (l : List Sealed). FitsIn sum (log_parts size (record { place = b.place; slot = b.slot }) now None bytes b.offset l reserved) [] 0 H A f []) (sym none_sealed)
+      (subst (λ (r : List Reserved). FitsIn sum (log_parts size (record { place = b.place; slot = b.slot }) now None bytes b.offset [] r) [] 0 H A f []) (sym none) (fits begun.0 begun.1)))

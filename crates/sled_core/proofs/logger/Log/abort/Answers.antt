@@ -66,7 +66,7 @@ returns-clause-others g c = λ H other m holds awaits apart.
     let there : slice_get old.reserved.items (c.index-index.result - c.args.self.now.buffer.gone) ≡ Some r = ap (λ n. slice_get old.reserved.items (n - old.gone)) c.index-index.ensures ∙ own.there in
     let elsewhere : x.from ≡ r.from → ⊥ = λ same. apart (awaits.own.place ∙ ap (λ n. pos (c.args.self.now.site.place + n)) same ∙ sym own.own.place) in
     let word : ℕ = g.C.Checksum.sum_of (body_in old.bytes.items r ++ code_of kind.Canceled ∷ part old.bytes.items (r.from + 5) (r.header_len - 5)) in
-    let stay = others_stay g.C.Checksum.sum_of c.args.self.now.config.config.segment_size c.args.self.now.site (state_of (g.D.Device.trace c.args.self.now.config.device)) c.args.self.now.fault old.bytes.items old.written_len old.sealed.items old.reserved.items (c.index-index.result - c.args.self.now.buffer.gone) (index_of other - old.gone) r x H word kind.Canceled Canceled holds.own there own.own.open_yet awaits.there awaits.own.open_yet elsewhere in
+    let stay = others_stay g.C.Checksum.sum_of c.args.self.now.config.config.segment_size c.args.self.now.site (state_of (g.D.Device.trace c.args.self.now.config.device)) c.args.self.now.fault old.bytes.items old.written_len old.sealed.items old.reserved.items (c.index-index.result - c.args.self.now.buffer.gone) (index_of other - old.gone) r x (record { messages = holds.head; batches = H.batches }) word kind.Canceled Canceled holds.own there own.own.open_yet awaits.there awaits.own.open_yet elsewhere in
     record {
       reserved = x;
       numbered = omega (arith, c.abort.ensures.gone, awaits.numbered);

@@ -1,7 +1,7 @@
 use Rattle.std.proofs.Common.{◌≡◌, ◌∙◌, ◌≤◌, ◌+◌, ◌-◌, ap, sym, subst, refl, arith, rules, length, max, List, ℕ, pos, Some}
 use Rattle.std.specs.VecDeque.{deque_len}
 use Rattle.std.proofs.lemmas.Option.{slice_get_within}
-use Rattle.std.specs.List.{slice_get}
+use Rattle.std.specs.List.{Contains, slice_get}
 use Rattle.sled_codec.specs.History.{Message, AddsMessage, Step}
 use Rattle.sled_store.specs.Device.{state_of}
 use Rattle.sled_core.specs.declared.iobuf.ReservationState.TheVariants.{Completed}
@@ -17,6 +17,8 @@ use Rattle.sled_core.proofs.Holds.KeptCalls.{goes_on_still, goes_on_quietly}
 use Rattle.sled_core.proofs.Holds.BufferEnds.{written_behind}
 use Rattle.sled_core.proofs.Holds.OpenTickets.{only_closed}
 use Rattle.sled_core.proofs.Holds.CompletedLemmas.{others_stay}
+use Rattle.sled_core.proofs.Holds.Added.{added_there}
+use Rattle.sled_core.proofs.Holds.WholeHistory.{of_one}
 use Rattle.sled_core.proofs.Holds.WholeLemmas.{holds-complete}
 use Rattle.sled_core.proofs.logger.Log.complete.Goals as goal
 
@@ -27,7 +29,7 @@ returns-clause-history g c = λ H m holds awaits.
     let r : Reserved = awaits.reserved in
     let there : slice_get old.reserved.items (c.index-index.result - c.args.self.now.buffer.gone) ≡ Some r = ap (λ n. slice_get old.reserved.items (n - old.gone)) c.index-index.ensures ∙ awaits.there in
     let behind = written_behind old in
-    let done = holds-complete g.C.Checksum.sum_of c.args.self.now.config.config.segment_size c.args.self.now.site (state_of (g.D.Device.trace c.args.self.now.config.device)) c.args.self.now.fault old.bytes.items old.written_len old.sealed.items old.reserved.items H holds (c.index-index.result - c.args.self.now.buffer.gone) r there awaits.own.open_yet behind old.are in (
+    let done = holds-complete g.C.Checksum.sum_of c.args.self.now.config.config.segment_size c.args.self.now.site (state_of (g.D.Device.trace c.args.self.now.config.device)) c.args.self.now.fault old.bytes.items old.written_len old.sealed.items old.reserved.items H holds (c.index-index.result - c.args.self.now.buffer.gone) r there awaits.own.open_yet behind old.are c.args.self.now.in_segment in (
       done.0,
       subst (λ (x : Message). AddsMessage H x done.0) (sym awaits.message) done.1,
       holds-same _ _ _ _ _ _ _ _ _ _ _ _ _ done.0 (c.complete.ensures.bytes r there) c.complete.ensures.from c.complete.ensures.sealed (c.complete.ensures.reserved r there) done.2,
@@ -42,7 +44,7 @@ returns-clause-others g c = λ H other m holds awaits apart.
     let x : Reserved = awaits.reserved in
     let there : slice_get old.reserved.items (c.index-index.result - c.args.self.now.buffer.gone) ≡ Some r = ap (λ n. slice_get old.reserved.items (n - old.gone)) c.index-index.ensures ∙ own.there in
     let elsewhere : x.from ≡ r.from → ⊥ = λ same. apart (awaits.own.place ∙ ap (λ n. pos (c.args.self.now.site.place + n)) same ∙ sym own.own.place) in
-    let stay = others_stay g.C.Checksum.sum_of c.args.self.now.config.config.segment_size c.args.self.now.site (state_of (g.D.Device.trace c.args.self.now.config.device)) c.args.self.now.fault old.bytes.items old.written_len old.sealed.items old.reserved.items (c.index-index.result - c.args.self.now.buffer.gone) (index_of other - old.gone) r x H r.sum r.kind Completed holds.own there own.own.open_yet awaits.there awaits.own.open_yet elsewhere in
+    let stay = others_stay g.C.Checksum.sum_of c.args.self.now.config.config.segment_size c.args.self.now.site (state_of (g.D.Device.trace c.args.self.now.config.device)) c.args.self.now.fault old.bytes.items old.written_len old.sealed.items old.reserved.items (c.index-index.result - c.args.self.now.buffer.gone) (index_of other - old.gone) r x (record { messages = holds.head; batches = H.batches }) r.sum r.kind Completed holds.own there own.own.open_yet awaits.there awaits.own.open_yet elsewhere in
     record {
       reserved = x;
       numbered = omega (arith, c.complete.ensures.gone, awaits.numbered);
@@ -87,5 +89,5 @@ returns-clause-fits g c = λ H A f U m fits awaits out.
       done.0,
       done.1,
       fits-completed g.C.Checksum.sum_of old.config.config.segment_size old.site _ old.fault old.buffer.bytes.items old.buffer.written_len old.buffer.sealed.items old.buffer.reserved.items old.pins H A f U fits _ _ _ _ done.0 m c.complete.ensures.from
-          old.config.config.least (omega (arith, c.complete.ensures.len, old.in_segment)) c.in_default.is done.2 done.1 (omega (arith, inside.0, place)) old.buffer.head old.buffer.are out,
+          old.config.config.least (omega (arith, c.complete.ensures.len, old.in_segment)) c.in_default.is done.2 done.1 (subst (λ (ms : List Message). Contains ms m) (of_one g.C.Checksum.sum_of _ _ _ _ _ _ _ _ done.0 done.2) (added_there H done.0 m done.1)) (omega (arith, inside.0, place)) old.buffer.head old.buffer.are out,
     )

@@ -1,4 +1,4 @@
-use Rattle.std.proofs.Common.{◌≡◌, ◌⊎◌, ◌∙◌, ◌<◌, ◌≤◌, ◌/◌, ap, sym, subst, ℕ, arith, inl, inr, Option, IsTrue, rules, pos, refl}
+use Rattle.std.proofs.Common.{◌≡◌, ◌⊎◌, ◌∙◌, ◌<◌, ◌≤◌, ◌/◌, ap, sym, subst, ℕ, arith, inl, inr, Option, IsTrue, rules, pos, refl, []}
 use Rattle.std.specs.Int.{w64}
 use Rattle.std.specs.Prelude.{unsigned_abs, ◌<ℤ◌, ◌≤ℤ◌, ℕ, ℤ, None, List, Result, Ok, Err}
 use Rattle.std.specs.List.{Contains}
@@ -71,7 +71,7 @@ held_there g c H m holds there has at pointer =
     let device : State = state_of (g.D.Device.trace log.config.device) in
     let size : ℕ = log.config.config.segment_size in
     let place : c.unsigned_abs-place.result ≡ m.place = place_is g c ∙ ap unsigned_abs (sym at) in
-    let after = subst (λ (o : Option IoError). HoldsIn g.C.Checksum.sum_of (log_parts size log.site device o log.buffer.bytes.items log.buffer.written_len log.buffer.sealed.items log.buffer.reserved.items) H) c.in_ok-settle.ensures.answers.2 (c.in_ok-settle.ensures.keeps.history H holds) in
+    let after = subst (λ (o : Option IoError). HoldsIn g.C.Checksum.sum_of (log_parts size log.site device o log.buffer.bytes.items log.buffer.written_len log.buffer.sealed.items log.buffer.reserved.items) [] H) c.in_ok-settle.ensures.answers.2 (c.in_ok-settle.ensures.keeps.history H holds) in
     let written : IsWrittenPlace log m.place = subst (IsWrittenPlace log) place c.in_ok-settle.ensures.written in
     let here : log.site.place ≡ old.site.place = ap (λ (x : SegmentPosition). x.place) c.in_ok-settle.ensures.position.site in
     let still : (log.site.place ≤ m.place) ⊎ ((cut : ℕ) × (stable_place after.begun.first.stable ≤ cut) × Contains (table H cut m.page) m) = elim (cases_lt m.place old.site.place) [

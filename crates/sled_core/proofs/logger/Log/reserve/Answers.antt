@@ -96,8 +96,8 @@ returns-clause-next g c =
 
 -- what the log held it still holds
 held_still : (g : given.Over) (c : goal.After-new-2 g) (H : History)
-    → HoldsIn g.C.Checksum.sum_of (log_parts c.args.self.now.config.config.segment_size c.args.self.now.site (state_of (g.D.Device.trace c.args.self.now.config.device)) c.args.self.now.fault c.args.self.now.buffer.bytes.items c.args.self.now.buffer.written_len c.args.self.now.buffer.sealed.items c.args.self.now.buffer.reserved.items) H
-    → HoldsIn g.C.Checksum.sum_of (log_parts c.args.self.now.config.config.segment_size c.args.self.now.site (state_of (g.D.Device.trace c.args.self.now.config.device)) c.args.self.now.fault c.append.new.self.bytes.items c.append.new.self.written_len c.append.new.self.sealed.items c.append.new.self.reserved.items) H
+    → HoldsIn g.C.Checksum.sum_of (log_parts c.args.self.now.config.config.segment_size c.args.self.now.site (state_of (g.D.Device.trace c.args.self.now.config.device)) c.args.self.now.fault c.args.self.now.buffer.bytes.items c.args.self.now.buffer.written_len c.args.self.now.buffer.sealed.items c.args.self.now.buffer.reserved.items) [] H
+    → HoldsIn g.C.Checksum.sum_of (log_parts c.args.self.now.config.config.segment_size c.args.self.now.site (state_of (g.D.Device.trace c.args.self.now.config.device)) c.args.self.now.fault c.append.new.self.bytes.items c.append.new.self.written_len c.append.new.self.sealed.items c.append.new.self.reserved.items) [] H
 held_still g c H holds =
     let old = c.args.self.now.buffer in
     let more : List ℕ = placeholder_head (head g c) ++ item g c in

@@ -31,8 +31,8 @@ returns-clause-keeps g c =
     let same = c.seal.ensures in
     let inside = old.behind in
     let begins = old.begins in
-    let held : (H : History) → HoldsIn g.C.Checksum.sum_of (log_parts log.config.config.segment_size log.site (state_of (g.D.Device.trace log.config.device)) log.fault old.bytes.items old.written_len old.sealed.items old.reserved.items) H
-    → HoldsIn g.C.Checksum.sum_of (log_parts log.config.config.segment_size log.site (state_of (g.D.Device.trace log.config.device)) log.fault c.seal.new.self.bytes.items c.seal.new.self.written_len c.seal.new.self.sealed.items c.seal.new.self.reserved.items) H =
+    let held : (H : History) → HoldsIn g.C.Checksum.sum_of (log_parts log.config.config.segment_size log.site (state_of (g.D.Device.trace log.config.device)) log.fault old.bytes.items old.written_len old.sealed.items old.reserved.items) [] H
+    → HoldsIn g.C.Checksum.sum_of (log_parts log.config.config.segment_size log.site (state_of (g.D.Device.trace log.config.device)) log.fault c.seal.new.self.bytes.items c.seal.new.self.written_len c.seal.new.self.sealed.items c.seal.new.self.reserved.items) [] H =
     λ H holds. holds-same g.C.Checksum.sum_of _ _ _ _ old.bytes.items _ old.written_len _ (old.sealed.items ++ seal_at (length old.bytes.items) (current_reserved log) ∷ []) _ old.reserved.items _ H same.bytes same.from c.in_ok-seal.ensures.sealed same.reserved
     (holds-sealed g.C.Checksum.sum_of _ _ _ _ old.bytes.items old.written_len old.sealed.items old.reserved.items H holds (current_reserved log) log.in_segment (omega (arith, inside, begins))) in
     record {

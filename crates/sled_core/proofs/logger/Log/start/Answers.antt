@@ -55,11 +55,11 @@ returns-in-Ok-clause-history g c = λ H ready.
     let names_now = ap (λ (t : Trace). (state_of t).snapshots.file) c.in-Ok.ensures.made ∙ ap (λ (n : NamesState). n.file) (started-snapshots size some old.log.bytes s (g.D.Device.trace c.args.config.device)) in
     let first = c.in-Ok.ensures.buffer in
     let holds = begins_ready g.C.Checksum.sum_of size old now s H c.in-Ok.buffer.bytes.items c.args.config.config.least ready c.in-Ok.ensures.answers.0 log_now names_now c.in-Ok.beginning c.in-Ok.ensures.beginning first.header first.resumed in
-    subst (λ (n : ℕ). HoldsIn g.C.Checksum.sum_of (log_parts n (record { place = c.in-Ok.beginning.place; slot = c.in-Ok.beginning.slot }) now None c.in-Ok.buffer.bytes.items c.in-Ok.buffer.written_len c.in-Ok.buffer.sealed.items c.in-Ok.buffer.reserved.items) H)
+    subst (λ (n : ℕ). HoldsIn g.C.Checksum.sum_of (log_parts n (record { place = c.in-Ok.beginning.place; slot = c.in-Ok.beginning.slot }) now None c.in-Ok.buffer.bytes.items c.in-Ok.buffer.written_len c.in-Ok.buffer.sealed.items c.in-Ok.buffer.reserved.items) [] H)
     (sym (ap (λ (x : Config). x.segment_size) c.begin.ensures.config))
-    (subst (λ (n : ℕ). HoldsIn g.C.Checksum.sum_of (log_parts size (record { place = c.in-Ok.beginning.place; slot = c.in-Ok.beginning.slot }) now None c.in-Ok.buffer.bytes.items n c.in-Ok.buffer.sealed.items c.in-Ok.buffer.reserved.items) H) (sym first.from)
-    (subst (λ (l : List Sealed). HoldsIn g.C.Checksum.sum_of (log_parts size (record { place = c.in-Ok.beginning.place; slot = c.in-Ok.beginning.slot }) now None c.in-Ok.buffer.bytes.items c.in-Ok.beginning.offset l c.in-Ok.buffer.reserved.items) H) (sym first.sealed)
-    (subst (λ (r : List Reserved). HoldsIn g.C.Checksum.sum_of (log_parts size (record { place = c.in-Ok.beginning.place; slot = c.in-Ok.beginning.slot }) now None c.in-Ok.buffer.bytes.items c.in-Ok.beginning.offset [] r) H) (sym first.reserved) holds)))
+    (subst (λ (n : ℕ). HoldsIn g.C.Checksum.sum_of (log_parts size (record { place = c.in-Ok.beginning.place; slot = c.in-Ok.beginning.slot }) now None c.in-Ok.buffer.bytes.items n c.in-Ok.buffer.sealed.items c.in-Ok.buffer.reserved.items) [] H) (sym first.from)
+    (subst (λ (l : List Sealed). HoldsIn g.C.Checksum.sum_of (log_parts size (record { place = c.in-Ok.beginning.place; slot = c.in-Ok.beginning.slot }) now None c.in-Ok.buffer.bytes.items c.in-Ok.beginning.offset l c.in-Ok.buffer.reserved.items) [] H) (sym first.sealed)
+    (subst (λ (r : List Reserved). HoldsIn g.C.Checksum.sum_of (log_parts size (record { place = c.in-Ok.beginning.place; slot = c.in-Ok.beginning.slot }) now None c.in-Ok.buffer.bytes.items c.in-Ok.beginning.offset [] r) [] H) (sym first.reserved) holds)))
 
 pub returns-in-Ok-clause-crash : goal.returns-in-Ok-clause-crash
 returns-in-Ok-clause-crash g c = λ H A f ready. started_throughout g.C.Checksum.sum_of c.args.config.config.segment_size (model_of c.args.snapshot.now) H A f c.args.config.config.least
@@ -80,7 +80,7 @@ returns-in-Ok-clause-fits g c = λ H A f ready.
     let same : c.begin.new.config.config.segment_size ≡ size = ap (λ (x : Config). x.segment_size) c.begin.ensures.config in
     let site : SegmentPosition = record { place = c.in-Ok.beginning.place; slot = c.in-Ok.beginning.slot } in
     let first = c.in-Ok.ensures.buffer in
-    subst (λ n. FitsIn g.C.Checksum.sum_of (log_parts n site now None c.in-Ok.buffer.bytes.items c.in-Ok.buffer.written_len c.in-Ok.buffer.sealed.items c.in-Ok.buffer.reserved.items) 0 H A f []) (sym same)
+    subst (λ n. FitsIn g.C.Checksum.sum_of (log_parts n site now None c.in-Ok.buffer.bytes.items c.in-Ok.buffer.written_len c.in-Ok.buffer.sealed.items c.in-Ok.buffer.reserved.items) [] 0 H A f []) (sym same)
     (start_fits g.C.Checksum.sum_of size (state_of old) now s H A f c.args.config.config.least ready c.in-Ok.ensures.answers.0
     (started_log size some s old (g.D.Device.trace c.begin.new.config.device) c.in-Ok.ensures.made ready.ready.log ready.ready.settled) (ap (λ (t : Trace). (state_of t).blobs) c.in-Ok.ensures.made ∙ started-blobs size some (state_of old).log.bytes s old) (ap (λ (t : Trace). (state_of t).snapshots) c.in-Ok.ensures.made ∙ started-snapshots size some (state_of old).log.bytes s old)
     c.in-Ok.beginning c.in-Ok.ensures.beginning c.in-Ok.buffer.bytes.items c.in-Ok.buffer.written_len c.in-Ok.buffer.sealed.items c.in-Ok.buffer.reserved.items first.header first.resumed first.from first.sealed first.reserved)
