@@ -1,5 +1,5 @@
 -- What a read answers and asks for, by whether its place was brought to the device; and the record of a message there.
-use Rattle.std.proofs.Common.{◌≡◌, ◌∙◌, ◌⊎◌, ◌≤◌, ◌≤ℤ◌, ◌<ℤ◌, ℕ, ℤ, pos, unsigned_abs, Option, None, List, Result, Ok, Err, arith, inl, inr, OnOk, ap, ◌-◌, []}
+use Rattle.std.proofs.Common.{◌≡◌, ◌∙◌, ◌⊎◌, ◌≤◌, ◌≤ℤ◌, ◌<ℤ◌, ℕ, ℤ, pos, unsigned_abs, Option, None, List, Result, Ok, Err, arith, inl, inr, OnOk, ap, ◌-◌, [], subst}
 use Rattle.std.specs.declared.io.Error.{Error as IoError}
 use Rattle.std.proofs.lemmas.Int.{ints}
 use Rattle.sled_codec.specs.declared.result.Error.{Error}
