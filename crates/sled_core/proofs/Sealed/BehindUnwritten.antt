@@ -40,7 +40,7 @@ plain_room sum size number bytes from some begins rs x xs are stand plain = head
   room k d lt = (reserved_in sum size number bytes (get_or rs k d) (plain k d lt) (stand k d lt)).room
 
 -- and where the buffer ends before the segment.
-below_room : (size from : ℕ) → 256 ≤ size → (from ≡ 0) ⊎ (20 ≤ from) → (rs : List Reserved) (x : Sealed) (xs : List Sealed) → AreSealed from rs (x ∷ xs) → All (HasSpace size) rs → x.end < size → from + 32 ≤ size
+pub below_room : (size from : ℕ) → 256 ≤ size → (from ≡ 0) ⊎ (20 ≤ from) → (rs : List Reserved) (x : Sealed) (xs : List Sealed) → AreSealed from rs (x ∷ xs) → All (HasSpace size) rs → x.end < size → from + 32 ≤ size
 below_room size from some begins rs x xs are space low = head_room size from some begins rs x xs are room where
   room : (r : Reserved) (more : List Reserved) → take x.count rs ≡ r ∷ more → r.from + 32 ≤ size
   room r more is =
