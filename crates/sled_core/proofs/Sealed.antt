@@ -15,6 +15,7 @@ pub mod LaidCalls
 pub mod LaidLemmas
 pub mod Marked
 pub mod OneWritten
+pub mod OtherBehind
 pub mod OtherSealed
 pub mod OtherWritten
 pub mod Progress
