@@ -1,5 +1,6 @@
 pub mod Appended
 pub mod Around
+pub mod BehindRead
 pub mod BehindUnwritten
 pub mod Clear
 pub mod Covering
@@ -14,9 +15,13 @@ pub mod LaidCalls
 pub mod LaidLemmas
 pub mod Marked
 pub mod OneWritten
+pub mod OtherBehind
+pub mod OtherSealed
 pub mod OtherWritten
 pub mod Progress
 pub mod RecordsEnd
+pub mod RestWritten
+pub mod RunPath
 pub mod Runs
 pub mod SealedCalls
 pub mod SealedCounts

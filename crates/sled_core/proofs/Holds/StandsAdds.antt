@@ -1,4 +1,4 @@
--- A log file that stands up to a place does so for the history with one more message, which is to lie behind the written end of the current segment.
+-- A log file that stands up to a place does so for the history with one more message, which is to lie behind what is written of one of the segments that were begun.
 use Rattle.std.proofs.Common.{⊎_elim, ◌≡◌, ◌⊎◌, ◌∙◌, ◌+◌, ◌<◌, ◌<ℤ◌, ◌%◌, ◌≤◌, ℕ, pos, List, sym, ap, subst, arith, inl, inr}
 use Rattle.std.specs.List.{Contains}
 use Rattle.std.proofs.lemmas.Bool.{cases_lt, cases_order}
@@ -11,13 +11,13 @@ use Rattle.sled_core.specs.declared.iobuf.SegmentPosition.{SegmentPosition}
 use Rattle.sled_core.specs.declared.iterator.Segment.{Segment}
 use Rattle.sled_core.specs.declared.iterator.scan.ScannedRecord.{ScannedRecord}
 use Rattle.sled_core.specs.declared.iterator.scan.ScanEnd.TheVariants.{Capped, Broken}
-use Rattle.sled_core.specs.Reached.{BegunSegment, GoesOnIn, ReachesIn, StandsAmong, StandsTo}
+use Rattle.sled_core.specs.Reached.{BegunSegment, GoesOnIn, ReachesIn, StandsAmong, StandsIn, StandsTo}
 use Rattle.sled_core.specs.Recoverable.{NoHeaderOfZeros, NoMessageBegins, NoBatchBegins, StandsInline, IsMarkBelow, IsOfHistory, IsSegmentOf, LiesInSegment}
 use Rattle.sled_core.specs.Scan.{IsFoundSegment, IsScan}
 use Rattle.sled_core.specs.SealedBuffers.{AreZeros}
 use Rattle.sled_core.specs.Tail.{Scanned, IsScanned, least_place}
 use Rattle.sled_core.proofs.Reached.Recoverable.{less_than}
-use Rattle.sled_core.proofs.Reached.SegmentsBeside.{going_in}
+use Rattle.sled_core.proofs.Reached.SegmentsBeside.{follows, going_in}
 use Rattle.sled_core.proofs.Tail.OneTail.{place_aligned, segment_there}
 use Rattle.sled_core.proofs.Sealed.HeadWritten.{reached_near}
 use Rattle.sled_core.proofs.Tail.GreatestMark.{mark_below}
@@ -32,12 +32,11 @@ use Rattle.sled_core.proofs.Holds.BegunLemmas.{entry_stays}
 abbrev LiesBeside : ℕ → Scanned → Message → Type 0
 LiesBeside size t m = (m.place < t.segment.place) ⊎ (t.segment.place + size ≤ m.place) ⊎ ((t.segment.place + t.stop ≤ m.place) × (t.why ≡ Broken))
 
--- One that is to lie behind the written end of the current segment, where this has room, lies beside all that is found.
-alone_beside : (sum : List ℕ → ℕ) (size : ℕ) (log : List ℕ) (site : SegmentPosition) (from reach : ℕ) (H : History) (first : SnapshotModel) → 256 ≤ size → NoHeaderOfZeros sum → site.place % size ≡ 0
-    → (from ≡ 0 → AreZeros log site.slot (site.slot + 20)) → {others : List BegunSegment} (alone : StandsAmong sum size log site from others reach H first) → from + 32 ≤ size → (m : Message) → site.place + from ≤ m.place → m.place < site.place + size
-    → (t : Scanned) → Contains alone.stands.scanned t → LiesBeside size t m
-alone_beside sum size log site from reach H first some none place_begins clean alone room m above inside t there =
-    let is = alone.stands in
+-- One that is to lie behind what is written of a segment that was begun, where this has room, lies beside all that is found.
+lies_beside : (sum : List ℕ → ℕ) (size : ℕ) (log : List ℕ) (H : History) (A : ℕ) (first : SnapshotModel) (reach : ℕ) (is : StandsTo sum size log H A first reach) (site : SegmentPosition) (from : ℕ) → 256 ≤ size → NoHeaderOfZeros sum → site.place % size ≡ 0
+    → (from ≡ 0 → AreZeros log site.slot (site.slot + 20)) → StandsIn sum size log (least_place size first) is.scanned site from → from + 32 ≤ size → (m : Message) → site.place + from ≤ m.place → m.place < site.place + size
+    → (t : Scanned) → Contains is.scanned t → LiesBeside size t m
+lies_beside sum size log H A first reach is site from some none place_begins clean its room m above inside t there =
     let least : ℕ = least_place size first in
     let known = segment_there sum size log is.ordering is.scanned is.reads t there in
     let found : IsFoundSegment sum size log least t.segment = (is.numbers.found t.segment).0 known.0 in
@@ -45,12 +44,12 @@ alone_beside sum size log site from reach H first some none place_begins clean a
     elim (cases_order t.segment.place site.place) [
       | inl same ↦ elim (cases_lt 0 from) [
         | inl begun ↦ (
-            let going : GoesOnIn is.scanned site.slot from site.place = going_in sum size log least is.scanned site from alone.here begun room in
+            let going : GoesOnIn is.scanned site.slot from site.place = going_in sum size log least is.scanned site from its begun room in
             let one : t ≡ going.scan = one_reading sum size log some least is.ordering is.numbers is.scanned is.reads t going.scan there going.there (same ∙ sym going.at_place) in
             let stop = going.ended in
             inr (inr (omega (arith, same, stop, ap (λ (y : Scanned). y.stop) one, above), ap (λ (y : Scanned). y.why) one ∙ going.broken)))
         | inr begins ↦ absurd (none_in_zeros sum 20 none (omega arith) log site.slot (clean (omega (arith, begins))) (pos t.segment.place) t.segment.mark
-            (subst (λ n. IsHeader sum (part log n 20) (pos t.segment.place) t.segment.mark) (alone.here.only t.segment found same) found.header))
+            (subst (λ n. IsHeader sum (part log n 20) (pos t.segment.place) t.segment.mark) (its.only t.segment found same) found.header))
       ]
       | inr (inl lower) ↦ (let far = apart size (omega (arith, some)) t.segment.place site.place aligned place_begins lower in inr (inl (omega (arith, far, above))))
       | inr (inr higher) ↦ (let far = apart size (omega (arith, some)) site.place t.segment.place place_begins aligned higher in inl (omega (arith, far, inside)))
@@ -150,23 +149,41 @@ module _ (sum : List ℕ → ℕ) (size : ℕ) (log : List ℕ) (some : 256 ≤ 
     needed = needed_new;
   }
 
--- And a write goes on in the current segment where it did.
-pub alone-adds : (sum : List ℕ → ℕ) (size : ℕ) (log : List ℕ) (site : SegmentPosition) (from reach : ℕ) (H H' : History) (first : SnapshotModel) → 256 ≤ size → NoHeaderOfZeros sum → site.place % size ≡ 0
-    → (from ≡ 0 → AreZeros log site.slot (site.slot + 20)) → (m : Message) → AddsMessage H m H' → site.place + from ≤ m.place → m.place < site.place + size → from + 32 ≤ size → LiesInSegment size m
-    → {others : List BegunSegment} → StandsAmong sum size log site from others reach H first → StandsAmong sum size log site from others reach H' first
+-- A segment that begins behind the first one begins behind all that is written of that.
+first_below : (sum : List ℕ → ℕ) (size : ℕ) (log : List ℕ) (site : SegmentPosition) (from : ℕ) (others : List BegunSegment) (reach : ℕ) (H : History) (first : SnapshotModel) → 256 ≤ size → StandsAmong sum size log site from others reach H first
+    → (place : ℕ) → place % size ≡ 0 → site.place < place → site.place + from ≤ place
+unfolding IsScan
+first_below sum size log site from others reach H first some had place begins higher = elim (cases_lt 0 from) [
+  | inl later ↦ (
+      let is = had.stands in
+      let r = had.here.read later in
+      let t : Scanned = r.2.scan in
+      let at = r.2.at_place in
+      let ended = r.2.ended in
+      let known = segment_there sum size log is.ordering is.scanned is.reads t r.2.there in
+      let aligned : t.segment.place % size ≡ 0 = place_aligned sum size log (least_place size first) is.ordering is.numbers t.segment known.0 in
+      let far = apart size (omega (arith, some)) t.segment.place place aligned begins (omega (arith, at, higher)) in
+      let within = path_within sum size log t.segment.slot t.segment.place ((is.numbers.found t.segment).0 known.0).slot 20 t.met t.stop (omega (arith, some)) known.1.0 in
+      elim r.3 [ inl (stops, broken) ↦ omega (arith, far, at, within, ended, stops) | inr (whole, goes) ↦ omega (arith, far, at, whole) ])
+  | inr none ↦ omega (arith, none, higher)
+]
+
+-- And a write goes on in each segment that was begun where it did, where the message is to lie behind what is written of the first one, and beside all that is found.
+among-adds : (sum : List ℕ → ℕ) (size : ℕ) (log : List ℕ) (site : SegmentPosition) (from reach : ℕ) (H H' : History) (first : SnapshotModel) → 256 ≤ size → (m : Message) → AddsMessage H m H' → site.place + from ≤ m.place → LiesInSegment size m
+    → {others : List BegunSegment} (had : StandsAmong sum size log site from others reach H first) → ((t : Scanned) → Contains had.stands.scanned t → LiesBeside size t m) → StandsAmong sum size log site from others reach H' first
 unfolding stands-adds
-alone-adds sum size log site from reach H H' first some none place_begins clean m adds above inside room lies alone =
-    let near : reach ≤ site.place + from = reached_near size H site.place from reach alone.reached in
-    let marks : (s : Segment) → Contains alone.stands.ordering s → s.mark <ℤ pos m.place = λ s there. less_than s.mark (site.place + from) m.place above (alone.below s ((alone.stands.numbers.found s).0 there)) in
+among-adds sum size log site from reach H H' first some m adds above lies had beside =
+    let near : reach ≤ site.place + from = reached_near size H site.place from reach had.reached in
+    let marks : (s : Segment) → Contains had.stands.ordering s → s.mark <ℤ pos m.place = λ s there. less_than s.mark (site.place + from) m.place above (had.below s ((had.stands.numbers.found s).0 there)) in
     record {
-      stands = stands-adds sum size log some H H' reach first reach alone.stands m (alone_beside sum size log site from reach H first some none place_begins clean alone room m above inside) marks adds (omega (arith, near, above)) lies;
-      reached = reached_adds alone.reached;
-      led = alone.led;
-      here = alone.here;
-      behind = alone.behind;
-      apart = alone.apart;
-      last = alone.last;
-      below = alone.below;
+      stands = stands-adds sum size log some H H' reach first reach had.stands m beside marks adds (omega (arith, near, above)) lies;
+      reached = reached_adds had.reached;
+      led = had.led;
+      here = had.here;
+      behind = had.behind;
+      apart = had.apart;
+      last = had.last;
+      below = had.below;
     }
   where
     reached_adds : ReachesIn size H site.place from reach → ReachesIn size H' site.place from reach
@@ -181,3 +198,19 @@ alone-adds sum size log site from reach H H' first some none place_begins clean 
         no_end = λ b there. next.no_end b (subst (λ (l : List Batch). Contains l b) adds.batches there);
       },
     )
+
+-- So it is where the message is to lie in the first one,
+pub alone-adds : (sum : List ℕ → ℕ) (size : ℕ) (log : List ℕ) (site : SegmentPosition) (from reach : ℕ) (H H' : History) (first : SnapshotModel) → 256 ≤ size → NoHeaderOfZeros sum → site.place % size ≡ 0
+    → (from ≡ 0 → AreZeros log site.slot (site.slot + 20)) → (m : Message) → AddsMessage H m H' → site.place + from ≤ m.place → m.place < site.place + size → from + 32 ≤ size → LiesInSegment size m
+    → {others : List BegunSegment} → StandsAmong sum size log site from others reach H first → StandsAmong sum size log site from others reach H' first
+alone-adds sum size log site from reach H H' first some none place_begins clean m adds above inside room lies alone =
+    among-adds sum size log site from reach H H' first some m adds above lies alone (lies_beside sum size log H reach first reach alone.stands site from some none place_begins clean alone.here room m above inside)
+
+-- and where it is to lie in one behind it, behind what is written of that.
+pub other_adds : (sum : List ℕ → ℕ) (size : ℕ) (log : List ℕ) (site : SegmentPosition) (from reach : ℕ) (H H' : History) (first : SnapshotModel) → 256 ≤ size → NoHeaderOfZeros sum → {others : List BegunSegment} (y : BegunSegment) → Contains others y → y.site.place % size ≡ 0
+    → (y.from ≡ 0 → AreZeros log y.site.slot (y.site.slot + 20)) → (m : Message) → AddsMessage H m H' → y.site.place + y.from ≤ m.place → m.place < y.site.place + size → y.from + 32 ≤ size → LiesInSegment size m
+    → StandsAmong sum size log site from others reach H first → StandsAmong sum size log site from others reach H' first
+other_adds sum size log site from reach H H' first some none {others} y known place_begins clean m adds above inside room lies had =
+    let under = first_below sum size log site from others reach H first some had y.site.place place_begins (follows site others had.apart y known).0 in
+    among-adds sum size log site from reach H H' first some m adds (omega (arith, under, above)) lies had
+    (lies_beside sum size log H reach first reach had.stands y.site y.from some none place_begins clean (had.behind y known) room m above inside)

@@ -48,7 +48,7 @@ caps_met sum size new left H slot place from more stop why w caps capped = elim 
 module _ (sum : List ℕ → ℕ) (size : ℕ) (some : 256 ≤ size) (old : List ℕ) (slot from : ℕ) (asked now left : List ℕ) (inside : from + length asked ≤ size) (no_more : length now ≤ length asked)
     (leaves : LeavesLog (after_write old (slot * size + from) asked now) left) (same : IsSameBeside sum size old left (slot * size))
     (H : History) (A : ℕ) (first : SnapshotModel) (reach : ℕ) (is : StandsTo sum size old H A first reach)
-    (z : Scanned) (known : Contains is.scanned z) (in_slot : z.segment.slot ≡ slot * size) (e : ℕ) (low : e ≤ from) (ended : z.stop ≡ e) (broken : z.why ≡ Broken) where
+    (z : Scanned) (known : Contains is.scanned z) (in_slot : z.segment.slot ≡ slot * size) (e : ℕ) (low : e ≤ from) (ended : z.stop ≡ e) where
   abbrev at : ℕ
   at = slot * size + from
 
@@ -137,9 +137,9 @@ module _ (sum : List ℕ → ℕ) (size : ℕ) (some : 256 ≤ size) (old : List
     | inr other ↦ elim (beside sum size some old slot from asked now left inside no_more leaves s.slot found.slot other) [ inl before ↦ inl (omega (arith, before)) | inr past ↦ inr past ]
   ]
 
-  -- What is met of the write.
+  -- What is met of the write. The segment leads on where it did.
   module _ (more : List ScannedRecord) (stop : ℕ) (why : ScanEnd) (truth : (x : ScannedRecord) → Contains more x → IsOfHistory sum size new H x)
-      (caps : why ≡ Capped → NoMessageBegins H (place + stop) (place + size) × NoBatchBegins H (place + stop) (place + size)) (w : MeetsFirst sum size new left (slot * size) place e more stop why) where
+      (caps : why ≡ Capped → NoMessageBegins H (place + stop) (place + size) × NoBatchBegins H (place + stop) (place + size)) (w : MeetsFirst sum size new left (slot * size) place e more stop why) (goes : z.why ≢ Broken → w.ending ≢ Broken) where
     abbrev y : Scanned
     y = record { segment = z.segment; met = z.met ++ take w.count more; stop = w.end; why = w.ending }
 
@@ -177,7 +177,7 @@ module _ (sum : List ℕ → ℕ) (size : ℕ) (some : 256 ≤ size) (old : List
         there = z_known.0;
         read = y_scan;
         far = let within = meets_within sum size new left (slot * size) place e more stop why w in omega (arith, within.0, ended);
-        leads = λ other. absurd (other broken);
+        leads = goes;
       })
       | inr other ↦ (
           let had = segment_there sum size old is.ordering is.scanned is.reads t there in
@@ -206,8 +206,8 @@ pub torn_behind : (sum : List ℕ → ℕ) (size : ℕ) (some : 256 ≤ size) (o
     → (why ≡ Capped → NoMessageBegins H (z.segment.place + stop) (z.segment.place + size) × NoBatchBegins H (z.segment.place + stop) (z.segment.place + size)) → StandsTo sum size left H A first reach
 torn_behind sum size some old slot from asked now left inside no_more leaves until covers clean only_own H A first reach is z known in_slot ended broken more stop why clear path end truth caps =
     let same = same_beside sum size some old slot from asked now left inside no_more leaves only_own in
-    let far = behind sum size some old slot from asked now left inside no_more leaves same H A first reach is z known in_slot from (omega arith) ended broken in
-    let its = header sum size some old slot from asked now left inside no_more leaves same H A first reach is z known in_slot from (omega arith) ended broken in
-    let met = stood sum size some old slot from asked now left inside no_more leaves same H A first reach is z known in_slot from (omega arith) ended broken in
+    let far = behind sum size some old slot from asked now left inside no_more leaves same H A first reach is z known in_slot from (omega arith) ended in
+    let its = header sum size some old slot from asked now left inside no_more leaves same H A first reach is z known in_slot from (omega arith) ended in
+    let met = stood sum size some old slot from asked now left inside no_more leaves same H A first reach is z known in_slot from (omega arith) ended in
     let w = meets_on sum size old slot from asked now left no_more leaves far only_own until covers clean z.segment.place z.segment.mark its z.met met more stop why clear path end in
-    stands_behind sum size some old slot from asked now left inside no_more leaves same H A first reach is z known in_slot from (omega arith) ended broken more stop why truth caps w
+    stands_behind sum size some old slot from asked now left inside no_more leaves same H A first reach is z known in_slot from (omega arith) ended more stop why truth caps w (λ other. absurd (other broken))

@@ -52,11 +52,11 @@ module _ (sum : List ℕ → ℕ) (size : ℕ) (some : 256 ≤ size) (old : List
 
     -- All is read up to the same place as before, and this segment up to where the path ends.
     pub stands : StandsTo sum size new H A first reach
-    stands = behind.stands_behind sum size some old slot from asked asked new inside done leaves same H A first reach is z known in_slot from (omega arith) ended broken more stop why truth caps
-        (meets_whole sum size new (slot * size) z.segment.place from more stop why path end)
+    stands = behind.stands_behind sum size some old slot from asked asked new inside done leaves same H A first reach is z known in_slot from (omega arith) ended more stop why truth caps
+        (meets_whole sum size new (slot * size) z.segment.place from more stop why path end) (λ other. absurd (other broken))
 
     all_found : (s : Segment) → IsFoundSegment sum size old least s → IsFoundSegment sum size new least s
-    all_found = behind.all_found sum size some old slot from asked asked new inside done leaves same H A first reach is z known in_slot from (omega arith) ended broken least
+    all_found = behind.all_found sum size some old slot from asked asked new inside done leaves same H A first reach is z known in_slot from (omega arith) ended least
 
     abbrev pub y : Scanned
     y = record { segment = z.segment; met = z.met ++ more; stop = stop; why = why }
@@ -64,7 +64,7 @@ module _ (sum : List ℕ → ℕ) (size : ℕ) (some : 256 ≤ size) (old : List
     y_scan : IsScanned sum size new y
     unfolding IsScan
     y_scan =
-        let stood = behind.before_left sum size some old slot from asked asked new inside done leaves same H A first reach is z known in_slot from (omega arith) ended broken in
+        let stood = behind.before_left sum size some old slot from asked asked new inside done leaves same H A first reach is z known in_slot from (omega arith) ended in
         subst (λ n. IsScan sum size new n z.segment.place y.met y.stop y.why) (sym in_slot) (paths_joined sum size new (slot * size) z.segment.place 20 z.met from more stop stood path, end)
 
     pub y_known : Contains stands.scanned y
@@ -72,7 +72,7 @@ module _ (sum : List ℕ → ℕ) (size : ℕ) (some : 256 ≤ size) (old : List
 
     -- one that leads on is another one, and is read as before
     stays : (t : Scanned) → Contains is.scanned t → t.why ≢ Broken → Contains stands.scanned t
-    stays t at_t goes = elim (behind.which sum size some old slot from asked asked new inside done leaves same H A first reach is z known in_slot from (omega arith) ended broken t at_t) [
+    stays t at_t goes = elim (behind.which sum size some old slot from asked asked new inside done leaves same H A first reach is z known in_slot from (omega arith) ended t at_t) [
       | inl one ↦ absurd (goes (ap (λ (u : Scanned). u.why) one ∙ broken))
       | inr other ↦ (
           let had = segment_there sum size old is.ordering is.scanned is.reads t at_t in

@@ -1,4 +1,4 @@
--- A write that no reader comes to, behind a gap of its segment or in a slot without a header, changes nothing of what stands in a log file, torn or whole.
+-- A write that no reader comes to, behind a gap of its segment, behind the end of a full one, or in a slot without a header, changes nothing of what stands in a log file, torn or whole.
 use Rattle.std.proofs.Common.{◌≡◌, ◌≤◌, ◌<◌, ◌+◌, ◌-◌, ◌*◌, ◌/◌, ◌∙◌, ℕ, ℤ, pos, List, [], ◌∷◌, ◌++◌, length, take, drop, replicate, get_or, refl, sym, subst, arith, inl, inr, length-append, length-take}
 use Rattle.std.specs.List.{Contains}
 use Rattle.std.proofs.Math.Nat.{mul-mod_left}
@@ -12,7 +12,8 @@ use Rattle.sled_store.specs.Device.{overwritten, LeavesLog}
 use Rattle.sled_store.specs.Foreign.{at_first, NoForeignLog}
 use Rattle.sled_store.proofs.LogFile.OverwrittenLemmas.{overwritten-below}
 use Rattle.sled_store.proofs.Segments.Elements.{in_nothing}
-use Rattle.sled_core.specs.declared.iterator.scan.ScanEnd.TheVariants.{Capped, Broken}
+use Rattle.sled_core.specs.declared.iterator.scan.ScanEnd.{ScanEnd}
+use Rattle.sled_core.specs.declared.iterator.scan.ScanEnd.TheVariants.{Full, Capped, Broken}
 use Rattle.sled_core.specs.Recoverable.{NoHeaderOfZeros}
 use Rattle.sled_core.specs.Scan.{IsScan, IsEnd, EndsThere}
 use Rattle.sled_core.specs.Tail.{Scanned}
@@ -48,8 +49,8 @@ zero_below bytes at (x ∷ xs) i low zero = elim (cases_lt i (length bytes)) [
 ]
 
 -- no record was met
-none_met : (new left : List ℕ) (sum : List ℕ → ℕ) (size slot place e : ℕ) → IsEnd sum size left slot place e Broken → MeetsFirst sum size new left slot place e [] e Broken
-none_met new left sum size slot place e ends = record { count = 0; end = e; ending = Broken; path = refl; ends = ends; alike = tt; rest = refl; how = inl (refl, refl, inl refl) }
+abbrev none_met : (new left : List ℕ) (sum : List ℕ → ℕ) (size slot place e : ℕ) (why : ScanEnd) → IsEnd sum size left slot place e why → MeetsFirst sum size new left slot place e [] e why
+none_met new left sum size slot place e why ends = record { count = 0; end = e; ending = why; path = refl; ends = ends; alike = tt; rest = refl; how = inl (refl, refl, inl refl) }
 
 module _ (sum : List ℕ → ℕ) (size : ℕ) (some : 256 ≤ size) (old : List ℕ) (slot from : ℕ) (asked : List ℕ) (inside : from + length asked ≤ size) (H : History) (A : ℕ) (first : SnapshotModel) (reach : ℕ)
     (is : StandsTo sum size old H A first reach) where
@@ -70,8 +71,8 @@ module _ (sum : List ℕ → ℕ) (size : ℕ) (some : 256 ≤ size) (old : List
         (ends : IsEnd sum size left (slot * size) place z.stop Broken) where
       stands_unread : StandsTo sum size left H A first reach
       stands_unread =
-          behind.stands_behind sum size some old slot from asked now left inside no_more leaves same H A first reach is z known in_slot z.stop (omega (arith, before)) refl broken
-          [] z.stop Broken (λ x none. absurd (in_nothing x none)) (λ capped. absurd (let never : Broken ≡ Capped = capped in cc)) (none_met new left sum size (slot * size) place z.stop ends)
+          behind.stands_behind sum size some old slot from asked now left inside no_more leaves same H A first reach is z known in_slot z.stop (omega (arith, before)) refl
+          [] z.stop Broken (λ x none. absurd (in_nothing x none)) (λ capped. absurd (let never : Broken ≡ Capped = capped in cc)) (none_met new left sum size (slot * size) place z.stop Broken ends) (λ other. absurd (other broken))
 
     -- What a crash leaves of it.
     pub torn_unread : (now left : List ℕ) → length now ≤ length asked → LeavesLog (after_write old (slot * size + from) asked now) left → {placed : List (ℕ × List ℕ)}
@@ -80,9 +81,9 @@ module _ (sum : List ℕ → ℕ) (size : ℕ) (some : 256 ≤ size) (old : List
     torn_unread now left no_more leaves {placed} own =
         let same = same_beside sum size some old slot from asked now left inside no_more leaves {placed = placed} own in
         let low : z.stop ≤ from = omega (arith, before) in
-        let far = behind.behind sum size some old slot from asked now left inside no_more leaves same H A first reach is z known in_slot z.stop low refl broken in
-        let its = behind.header sum size some old slot from asked now left inside no_more leaves same H A first reach is z known in_slot z.stop low refl broken in
-        let path = behind.before_left sum size some old slot from asked now left inside no_more leaves same H A first reach is z known in_slot z.stop low refl broken in
+        let far = behind.behind sum size some old slot from asked now left inside no_more leaves same H A first reach is z known in_slot z.stop low refl in
+        let its = behind.header sum size some old slot from asked now left inside no_more leaves same H A first reach is z known in_slot z.stop low refl in
+        let path = behind.before_left sum size some old slot from asked now left inside no_more leaves same H A first reach is z known in_slot z.stop low refl in
         let comes = comes_along sum size left (slot * size) (mul-mod_left slot size) place 20 z.met z.stop path at_first in
         let room = ends_old.0 in
         stands_unread now left no_more leaves same (
@@ -107,6 +108,23 @@ module _ (sum : List ℕ → ℕ) (size : ℕ) (some : 256 ≤ size) (old : List
           ends_old.0,
           zeros_empty sum size new (slot * size + z.stop) (place / size) (zero_below old (slot * size + from) asked (slot * size + z.stop + 4) (omega (arith, gap)) zero),
         )
+
+  -- Behind the end of a segment in which no header has room any more: the reading ended in front of the write, whatever that is.
+  module _ (z : Scanned) (known : Contains is.scanned z) (in_slot : z.segment.slot ≡ slot * size) (before : z.stop ≤ from) (full : size < z.stop + 32) where
+    stands_full : (now left : List ℕ) → length now ≤ length asked → LeavesLog (after_write old (slot * size + from) asked now) left → IsSameBeside sum size old left (slot * size) → StandsTo sum size left H A first reach
+    stands_full now left no_more leaves same =
+        behind.stands_behind sum size some old slot from asked now left inside no_more leaves same H A first reach is z known in_slot z.stop before refl
+        [] z.stop Full (λ x none. absurd (in_nothing x none)) (λ capped. absurd (let never : Full ≡ Capped = capped in cc)) (none_met new left sum size (slot * size) z.segment.place z.stop Full full) (λ goes broken. cc)
+
+    -- What a crash leaves of it.
+    pub torn_full : (now left : List ℕ) → length now ≤ length asked → LeavesLog (after_write old (slot * size + from) asked now) left → {placed : List (ℕ × List ℕ)}
+        → NoForeignLog sum size (after_write old (slot * size + from) asked now) placed left → StandsTo sum size left H A first reach
+    torn_full now left no_more leaves {placed} own = stands_full now left no_more leaves (same_beside sum size some old slot from asked now left inside no_more leaves {placed = placed} own)
+
+    -- All of it.
+    pub written_full : slot * size ≤ length old → StandsTo sum size new H A first reach
+    written_full there =
+        stands_full asked new (all_done sum size some old slot from asked inside there) (leaves_new sum size some old slot from asked inside there) (same_whole sum size some old slot from asked inside there)
 
   -- In a slot of which the first bytes are zeros no segment is found.
   module _ (zeros : NoHeaderOfZeros sum) (far : 20 ≤ from) (clean : (i : ℕ) → slot * size ≤ i → i < slot * size + 20 → get_or old i 0 ≡ 0) where

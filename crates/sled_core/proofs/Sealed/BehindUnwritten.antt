@@ -9,12 +9,14 @@ use Rattle.sled_core.specs.declared.iobuf.Reserved.{Reserved}
 use Rattle.sled_core.specs.declared.iobuf.Sealed.{Sealed}
 use Rattle.sled_core.specs.declared.iobuf.SegmentPosition.{SegmentPosition}
 use Rattle.sled_core.specs.Buffers.{IsChain, NoPadding, Stands}
-use Rattle.sled_core.specs.Reached.{BegunSegment, StandsAmong}
+use Rattle.sled_core.specs.Reached.{BegunSegment, StandsAmong, StandsIn}
 use Rattle.sled_core.specs.Recoverable.{NoHeaderOfZeros}
 use Rattle.sled_core.specs.SealedBuffers.{AreSealed, sealed_end, LaidOne, Laid, bytes_between}
+use Rattle.sled_core.specs.Tail.{least_place}
 use Rattle.sled_core.proofs.Reached.StandsTo.{StandsTo}
 use Rattle.sled_core.proofs.Reserve.Entries.{HasSpace, IsLong, all_long, all_space, reserved_in}
 use Rattle.sled_core.proofs.Reserve.Ranges.{chain_grows, chain_within}
+use Rattle.sled_core.proofs.Sealed.BehindRead.{StandsAfter}
 use Rattle.sled_core.proofs.Sealed.Clear.{first_of, own_long}
 use Rattle.sled_core.proofs.Sealed.GapWritten.{gap_stands, gap_written, torn_gap}
 use Rattle.sled_core.proofs.Sealed.LaidLemmas.{EndsRise}
@@ -40,7 +42,7 @@ plain_room sum size number bytes from some begins rs x xs are stand plain = head
   room k d lt = (reserved_in sum size number bytes (get_or rs k d) (plain k d lt) (stand k d lt)).room
 
 -- and where the buffer ends before the segment.
-below_room : (size from : ℕ) → 256 ≤ size → (from ≡ 0) ⊎ (20 ≤ from) → (rs : List Reserved) (x : Sealed) (xs : List Sealed) → AreSealed from rs (x ∷ xs) → All (HasSpace size) rs → x.end < size → from + 32 ≤ size
+pub below_room : (size from : ℕ) → 256 ≤ size → (from ≡ 0) ⊎ (20 ≤ from) → (rs : List Reserved) (x : Sealed) (xs : List Sealed) → AreSealed from rs (x ∷ xs) → All (HasSpace size) rs → x.end < size → from + 32 ≤ size
 below_room size from some begins rs x xs are space low = head_room size from some begins rs x xs are room where
   room : (r : Reserved) (more : List Reserved) → take x.count rs ≡ r ∷ more → r.from + 32 ≤ size
   room r more is =
@@ -82,13 +84,23 @@ module _ (sum : List ℕ → ℕ) (none : NoHeaderOfZeros sum) (size : ℕ) (som
     gap : from + 5 ≤ x.end
     gap = head_long size from has_room begins rs x (xs ++ b ∷ rest) are (all_long sum size number bytes rs stand)
 
-    -- What a crash leaves of it.
+    -- What a crash leaves of it, in any segment that stands so far.
+    pub torn_in_gap : (is : StandsTo sum size file H reach first reach) → StandsIn sum size file (least_place size first) is.scanned site from → (now left : List ℕ) → length now ≤ length asked → LeavesLog (after_write file (site.slot + at) asked now) left
+        → {placed : List (ℕ × List ℕ)} → NoForeignLog sum size (after_write file (site.slot + at) asked now) placed left → StandsTo sum size left H reach first reach
+    torn_in_gap is its now left no_more leaves {placed} only_own =
+        torn_gap sum none size some file site from at asked fits slot_begins has_room x.end gap lies.0 (head_headed from rs x (xs ++ b ∷ rest) are) clean reach H first is its now left no_more leaves {placed = placed} only_own
+
+    -- All of it, in any segment that stands so far, where the file reaches up to the slot.
+    pub stands_in_gap : (is : StandsTo sum size file H reach first reach) → StandsIn sum size file (least_place size first) is.scanned site from → site.slot ≤ length file
+        → StandsAfter sum size file (overwritten file (site.slot + at) asked) site from reach H first
+    stands_in_gap is its there =
+        gap_stands sum none size some file site from at asked fits slot_begins has_room x.end gap lies.0 (head_headed from rs x (xs ++ b ∷ rest) are) clean reach H first is its there
+
+    -- What a crash leaves of it, in the first segment.
     pub torn_behind_unwritten : {others : List BegunSegment} → StandsAmong sum size file site from others reach H first → (now left : List ℕ) → length now ≤ length asked → LeavesLog (after_write file (site.slot + at) asked now) left → {placed : List (ℕ × List ℕ)}
         → NoForeignLog sum size (after_write file (site.slot + at) asked now) placed left → StandsTo sum size left H reach first reach
-    torn_behind_unwritten alone now left no_more leaves {placed} only_own =
-        torn_gap sum none size some file site from at asked fits slot_begins has_room x.end gap lies.0 (head_headed from rs x (xs ++ b ∷ rest) are) clean reach H first alone.stands alone.here now left no_more leaves {placed = placed} only_own
+    torn_behind_unwritten alone now left no_more leaves {placed} only_own = torn_in_gap alone.stands alone.here now left no_more leaves {placed = placed} only_own
 
-    -- All of it, where the file reaches up to the slot.
+    -- All of it, in the first segment.
     pub written_behind_unwritten : {others : List BegunSegment} → StandsAmong sum size file site from others reach H first → site.slot ≤ length file → StandsAmong sum size (overwritten file (site.slot + at) asked) site from others reach H first
-    written_behind_unwritten {others} alone there = gap_written sum size some file site from others reach H first alone site at asked fits slot_begins there refl
-        (gap_stands sum none size some file site from at asked fits slot_begins has_room x.end gap lies.0 (head_headed from rs x (xs ++ b ∷ rest) are) clean reach H first alone.stands alone.here there)
+    written_behind_unwritten {others} alone there = gap_written sum size some file site from others reach H first alone site at asked fits slot_begins there refl (stands_in_gap alone.stands alone.here there)

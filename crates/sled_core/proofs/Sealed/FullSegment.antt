@@ -1,5 +1,5 @@
 -- Where no header has room behind what was written of a segment, that is full, without a byte behind its records: the next one begins, in a slot of zeros.
-use Rattle.std.proofs.Common.{◌≡◌, ◌≢◌, ◌≤◌, ◌<◌, ◌+◌, ◌-◌, ◌%◌, ℕ, List, get_or, arith, inl, inr}
+use Rattle.std.proofs.Common.{◌≡◌, ◌≤◌, ◌<◌, ◌+◌, ◌-◌, ◌%◌, ◌∙◌, ℕ, List, get_or, refl, sym, arith, inl, inr}
 use Rattle.sled_codec.specs.Coords.{raised}
 use Rattle.sled_codec.specs.History.{History}
 use Rattle.sled_codec.specs.Snapshots.{SnapshotModel}
@@ -17,11 +17,11 @@ use Rattle.sled_core.proofs.Reached.Recoverable.{less_than}
 use Rattle.sled_core.proofs.Tail.Multiples.{next_multiple, one_multiple}
 use Rattle.sled_core.proofs.Tail.OneTail.{segment_there}
 
--- where no header has room the reading doesn't end for want of a record
-not_broken : (sum : List ℕ → ℕ) (size : ℕ) (log : List ℕ) (slot place at : ℕ) (why : ScanEnd) → size < at + 32 → IsEnd sum size log slot place at why → why ≢ Broken
-not_broken sum size log slot place at Full full end = λ same. cc
-not_broken sum size log slot place at Capped full end = λ same. cc
-not_broken sum size log slot place at Broken full end = absurd (let room = end.0 in omega (arith, room, full))
+-- where no header has room, that is why the reading ends
+pub full_why : (sum : List ℕ → ℕ) (size : ℕ) (log : List ℕ) (slot place at : ℕ) (why : ScanEnd) → size < at + 32 → IsEnd sum size log slot place at why → why ≡ Full
+full_why sum size log slot place at Full full end = refl
+full_why sum size log slot place at Capped full end = absurd (let room = end.0 in omega (arith, room, full))
+full_why sum size log slot place at Broken full end = absurd (let room = end.0 in omega (arith, room, full))
 
 module _ (sum : List ℕ → ℕ) (none : NoHeaderOfZeros sum) (size : ℕ) (some : 256 ≤ size) (log : List ℕ) (site : SegmentPosition) (place_begins : site.place % size ≡ 0)
     (from : ℕ) (begun : 0 < from) (within : from ≤ size) (full : size < from + 32) (H : History) (first : SnapshotModel) (low : least_place size first ≤ site.place)
@@ -43,7 +43,7 @@ module _ (sum : List ℕ → ℕ) (none : NoHeaderOfZeros sum) (size : ℕ) (som
           found = (alone.stands.numbers.found t.segment).0 known.0;
           read = known.1;
           next = omega (arith, at);
-          goes = not_broken sum size log t.segment.slot t.segment.place t.stop t.why (omega (arith, far, full)) known.1.1;
+          goes = λ broken. (let never : Full ≡ Broken = sym (full_why sum size log t.segment.slot t.segment.place t.stop t.why (omega (arith, far, full)) known.1.1) ∙ broken in cc);
           below = omega (arith, at, begun);
         }
         | inr on ↦ absurd (

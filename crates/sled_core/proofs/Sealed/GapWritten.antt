@@ -1,5 +1,5 @@
 -- The write of a sealed buffer behind one that isn't written, where no other segment that is found has the number of the current one: torn or whole, a reader finds what he found before.
-use Rattle.std.proofs.Common.{◌≡◌, ◌≢◌, ◌⊎◌, ◌≤◌, ◌<◌, ◌<ℤ◌, ◌+◌, ◌*◌, ◌/◌, ◌%◌, ℕ, pos, List, length, get_or, refl, sym, ap, ◌∙◌, subst, arith, inl, inr}
+use Rattle.std.proofs.Common.{◌≡◌, ◌≢◌, ◌⊎◌, ◌≤◌, ◌<◌, ◌<ℤ◌, ◌+◌, ◌*◌, ◌/◌, ◌%◌, ℕ, pos, List, length, get_or, sym, ap, ◌∙◌, subst, arith, inl, inr}
 use Rattle.std.proofs.Math.Nat.{mod-add-div'}
 use Rattle.std.proofs.lemmas.Bool.{cases_eq, cases_lt}
 use Rattle.std.specs.List.{Contains}
@@ -14,28 +14,18 @@ use Rattle.sled_core.specs.declared.iterator.scan.ScanEnd.TheVariants.{Broken}
 use Rattle.sled_core.specs.Reached.{BeginsOne, BegunSegment, GoesOnIn, IsLed, StandsAmong, StandsIn}
 use Rattle.sled_core.specs.Recoverable.{NoHeaderOfZeros}
 use Rattle.sled_core.specs.Scan.{IsFoundSegment, IsEnd, EndsThere, IsScan}
-use Rattle.sled_core.specs.Tail.{Scanned, IsScanned, least_place}
-use Rattle.sled_core.proofs.Flush.LogFileLemmas.{part_kept}
+use Rattle.sled_core.specs.Tail.{Scanned, least_place}
 use Rattle.sled_core.proofs.Read.PathLemmas.{zeros_empty}
 use Rattle.sled_codec.specs.Places.{part}
-use Rattle.sled_codec.proofs.Segments.{one_header}
-use Rattle.sled_core.proofs.Read.FoundLemmas.{pos_injective}
 use Rattle.sled_core.proofs.Torn.WrittenBegun.{none_in_zeros}
-use Rattle.sled_core.proofs.Reached.Higher.{known_in}
 use Rattle.sled_core.proofs.Reached.LeftBeside.{IsSameBeside}
 use Rattle.sled_core.proofs.Reached.SegmentsBeside.{follows, going_in, one_place, one_slot, segment_stays, still_found}
 use Rattle.sled_core.proofs.Reached.StandsTo.{StandsTo}
 use Rattle.sled_core.proofs.Reached.WrittenUnread.{torn_headless, torn_unread, written_headless, written_unread, zero_below}
 use Rattle.sled_core.proofs.Reached.WrittenWhole.{same_whole}
+use Rattle.sled_core.proofs.Sealed.BehindRead.{StandsAfter, only, stands_after}
 use Rattle.sled_core.proofs.Tail.OneTail.{segment_there}
 use Rattle.sled_core.proofs.Torn.TornLemmas.{after_write}
-use Rattle.sled_core.proofs.Torn.WrittenParts.{in_this_file, path_rises, path_whole, twenty}
-
--- A file stands as far as another one, and so does a segment in it, with no other mark in its slot.
-pub record StandsAfter (sum : List ℕ → ℕ) (size : ℕ) (old new : List ℕ) (site : SegmentPosition) (from reach : ℕ) (H : History) (first : SnapshotModel) : Type 0 where
-  pub stands : StandsTo sum size new H reach first reach
-  pub here : StandsIn sum size new (least_place size first) stands.scanned site from
-  pub marks : (s : Segment) → IsFoundSegment sum size new (least_place size first) s → s.slot ≡ site.slot → (t : Segment) × IsFoundSegment sum size old (least_place size first) t × (s.mark ≡ t.mark)
 
 module _ (sum : List ℕ → ℕ) (none : NoHeaderOfZeros sum) (size : ℕ) (some : 256 ≤ size) (old : List ℕ) (site : SegmentPosition) (from at : ℕ) (asked : List ℕ) (inside : at + length asked ≤ size)
     (slot_begins : site.slot % size ≡ 0) (has_room : from + 32 ≤ size) (to : ℕ) (gap : from + 5 ≤ to) (before : to ≤ at) (headed : from ≡ 0 → 20 ≤ to)
@@ -79,12 +69,6 @@ module _ (sum : List ℕ → ℕ) (none : NoHeaderOfZeros sum) (size : ℕ) (som
     there_too : slot * size ≤ length old
     there_too = omega (arith, its_slot, there)
 
-    beside : IsSameBeside sum size old new site.slot
-    beside = subst (λ n. IsSameBeside sum size old (overwritten old (n + at) asked) n) its_slot (same_whole sum size some old slot at asked inside there_too)
-
-    only : (s : Segment) → IsFoundSegment sum size new (least_place size first) s → s.place ≡ site.place → s.slot ≡ site.slot
-    only s found same = elim (cases_eq s.slot site.slot) [ inl here ↦ here | inr other ↦ its.only s (beside.found (least_place size first) s other found) same ]
-
     -- What stands then: the file as far as before, the segment as far as before, and no other mark in its slot.
     abbrev pub GapStands : Type 0
     GapStands = StandsAfter sum size old new site from reach H first
@@ -101,7 +85,7 @@ module _ (sum : List ℕ → ℕ) (none : NoHeaderOfZeros sum) (size : ℕ) (som
         λ s found here. none_in_zeros sum 20 none (omega arith) new site.slot zeros (pos s.place) s.mark (subst (λ n. IsHeader sum (part new n 20) (pos s.place) s.mark) here found.header) in
         record {
           stands = stands;
-          here = record { only = only; own = λ s found here. absurd (none_here s found here); read = λ later. absurd (omega (arith, begins, later)) };
+          here = record { only = only sum size some old site from at asked inside slot_begins there reach H first is its; own = λ s found here. absurd (none_here s found here); read = λ later. absurd (omega (arith, begins, later)) };
           marks = λ s found here. absurd (none_here s found here);
         }
 
@@ -117,57 +101,24 @@ module _ (sum : List ℕ → ℕ) (none : NoHeaderOfZeros sum) (size : ℕ) (som
           (written_unread sum size some old slot at asked inside H reach first reach is g.scan g.there (g.in_slot ∙ sym its_slot) (omega (arith, ended, gap, before)) g.broken there_too (omega (arith, ended, gap, before))
           (clean (slot * size + g.scan.stop + 4) (omega (arith, its_slot, ended)) (omega (arith, its_slot, ended, gap))))
 
-      y_scan : IsScanned sum size new g.scan
+      ends : IsEnd sum size new g.scan.segment.slot g.scan.segment.place g.scan.stop Broken
       unfolding IsScan EndsThere
-      y_scan =
+      ends =
           let y : Scanned = g.scan in
           let ended = g.ended in
           let in_slot = g.in_slot in
           let scan = (segment_there sum size old is.ordering is.scanned is.reads y g.there).1 in
-          let was : IsEnd sum size old y.segment.slot y.segment.place y.stop Broken = subst (λ w. IsEnd sum size old y.segment.slot y.segment.place y.stop w) g.broken scan.1 in
-          let here : IsEnd sum size new y.segment.slot y.segment.place y.stop Broken = (
+          let was : IsEnd sum size old y.segment.slot y.segment.place y.stop Broken = subst (λ w. IsEnd sum size old y.segment.slot y.segment.place y.stop w) g.broken scan.1 in (
             was.0,
             zeros_empty sum size new (y.segment.slot + y.stop) (y.segment.place / size)
                 (zero_below old (site.slot + at) asked (y.segment.slot + y.stop + 4) (omega (arith, in_slot, ended, gap, before)) (clean (y.segment.slot + y.stop + 4) (omega (arith, in_slot, ended)) (omega (arith, in_slot, ended, gap)))),
-          ) in (
-            path_whole sum size old (site.slot + at) asked y.segment.slot y.segment.place (ap (λ n. n % size) in_slot ∙ slot_begins) 20 y.met y.stop (inl (omega (arith, in_slot, ended, gap, before))) scan.0,
-            subst (λ w. IsEnd sum size new y.segment.slot y.segment.place y.stop w) (sym g.broken) here,
           )
 
-      y_found : IsFoundSegment sum size new (least_place size first) g.scan.segment
-      unfolding IsScan
-      y_found =
-          let y : Scanned = g.scan in
-          let known = segment_there sum size old is.ordering is.scanned is.reads y g.there in
-          let found = (is.numbers.found y.segment).0 known.0 in
-          let rises = path_rises sum size old y.segment.slot y.segment.place 20 y.met y.stop known.1.0 in
-          let in_slot = g.in_slot in
-          let ended = g.ended in
-          let in_file = in_this_file sum size old old y.segment.slot 20 (omega arith) (twenty sum size old y.segment.slot (pos y.segment.place) y.segment.mark found.header) refl in
-          let same = part_kept sum size old (site.slot + at) asked y.segment.slot 20 in_file (inl (omega (arith, in_slot, rises, ended, gap, before))) in
-          record { slot = found.slot; header = subst (λ (l : List ℕ). IsHeader sum l (pos y.segment.place) y.segment.mark) (sym same) found.header; not_below = found.not_below }
-
-      -- its header is as it was
-      its_header : (s : Segment) → IsFoundSegment sum size new (least_place size first) s → s.slot ≡ site.slot → (pos s.place ≡ pos g.scan.segment.place) × (s.mark ≡ g.scan.segment.mark)
-      its_header s found here =
-          one_header sum (part new g.scan.segment.slot 20) (pos s.place) s.mark (pos g.scan.segment.place) g.scan.segment.mark (subst (λ n. IsHeader sum (part new n 20) (pos s.place) s.mark) (here ∙ sym g.in_slot) found.header) y_found.header
-
-      was_found : IsFoundSegment sum size old (least_place size first) g.scan.segment
-      was_found = (is.numbers.found g.scan.segment).0 (segment_there sum size old is.ordering is.scanned is.reads g.scan g.there).0
-
-      own_place : (s : Segment) → IsFoundSegment sum size new (least_place size first) s → s.slot ≡ site.slot → s.place ≡ site.place
-      own_place s found here = pos_injective s.place g.scan.segment.place (its_header s found here).0 ∙ g.at_place
-
       behind : GapStands
-      behind = record {
-        stands = stands;
-        here = record {
-          only = only;
-          own = own_place;
-          read = λ some_more. (from, Broken, record { scan = g.scan; there = known_in sum size new H reach first reach stands g.scan y_found y_scan; in_slot = g.in_slot; at_place = g.at_place; ended = g.ended; ends = g.broken }, inl (refl, λ room. refl));
-        };
-        marks = λ s found here. (g.scan.segment, was_found, (its_header s found here).1);
-      }
+      behind =
+          let ended = g.ended in
+          stands_after sum size some old site from at asked inside slot_begins there reach H first is its g.scan g.there g.in_slot g.at_place (omega (arith, ended, gap, before)) (inl (ended, λ room. g.broken)) stands
+          (subst (λ w. IsEnd sum size new g.scan.segment.slot g.scan.segment.place g.scan.stop w) (sym g.broken) ends)
 
     pub gap_stands : GapStands
     gap_stands = elim (cases_lt 0 from) [ inl later ↦ behind later | inr first_one ↦ headless (omega (arith, first_one)) ]

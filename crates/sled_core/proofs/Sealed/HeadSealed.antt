@@ -1,12 +1,8 @@
 -- The first sealed buffer is written, behind what was written of its segment or at the beginning of it: what a crash leaves of it stands as before, and all of it up to the end of those behind it that were written before it. Where the last of these fills the segment, the next one begins.
-use Rattle.std.proofs.Common.{◌≡◌, ◌≢◌, ◌≤◌, ◌<◌, ◌+◌, ◌-◌, ◌/◌, ◌%◌, ◌^◌, ◌⊎◌, ◌∙◌, ℕ, max, Bool, true, false, nat_lt, if◌then◌else◌, List, [], ◌∷◌, ◌++◌, length, take, drop, get_or, sym, ap, refl, subst, arith, inl, inr}
+use Rattle.std.proofs.Common.{◌≡◌, ◌≤◌, ◌<◌, ◌+◌, ◌/◌, ◌%◌, ◌^◌, ◌⊎◌, ◌∙◌, ℕ, max, Bool, false, nat_lt, if◌then◌else◌, List, [], ◌∷◌, length, take, get_or, sym, ap, subst, arith, inl, inr}
 use Rattle.std.specs.List.{All, Contains}
-use Rattle.std.proofs.Math.Nat.{div-le_self}
 use Rattle.std.proofs.lemmas.Bool.Decides.{nat_tests}
-use Rattle.std.proofs.lemmas.List.{take-take}
-use Rattle.std.proofs.lemmas.List.Elements.{All-contains, All-drop, All-take}
-use Rattle.sled_codec.specs.History.{Message, Batch, History}
-use Rattle.sled_codec.specs.Places.{part}
+use Rattle.sled_codec.specs.History.{Batch, History}
 use Rattle.sled_codec.specs.Snapshots.{SnapshotModel}
 use Rattle.sled_store.specs.Device.{overwritten, LeavesLog}
 use Rattle.sled_store.specs.Foreign.{NoForeignLog}
@@ -14,60 +10,24 @@ use Rattle.sled_store.proofs.Histories.Ascending.{Ascends}
 use Rattle.sled_core.specs.declared.iobuf.Reserved.{Reserved}
 use Rattle.sled_core.specs.declared.iobuf.Sealed.{Sealed}
 use Rattle.sled_core.specs.declared.iobuf.SegmentPosition.{SegmentPosition}
-use Rattle.sled_core.specs.declared.iterator.scan.ScannedRecord.{ScannedRecord}
 use Rattle.sled_core.specs.declared.iterator.scan.ScanEnd.{ScanEnd}
-use Rattle.sled_core.specs.declared.iterator.scan.ScanEnd.TheVariants.{Full, Capped, Broken}
-use Rattle.sled_core.specs.Buffers.{IsChain, completed_in, message_in, none_open, records_end, records_of, NoPadding, Stands}
-use Rattle.sled_core.specs.Caps.{rest_why, segment_rest}
+use Rattle.sled_core.specs.declared.iterator.scan.ScanEnd.TheVariants.{Full, Broken}
+use Rattle.sled_core.specs.Buffers.{completed_in, records_end, records_of, NoPadding, Stands}
 use Rattle.sled_core.specs.Fits.{HasMark}
 use Rattle.sled_core.specs.LogFile.{HasHeader}
 use Rattle.sled_core.specs.Reached.{BegunSegment, StandsAlone, StandsAmong}
-use Rattle.sled_core.specs.Recoverable.{NoBatchBegins, NoBatchEnds, NoHeaderOfZeros, NoMessageBegins, IsOfHistory}
-use Rattle.sled_core.specs.Scan.{IsPath, IsEnd}
-use Rattle.sled_core.specs.SealedBuffers.{Agrees, AreSealed, sealed_end, LaidOne, Laid, now_written, run_end, run_count, behind_run, bytes_between}
+use Rattle.sled_core.specs.Recoverable.{NoBatchEnds, NoHeaderOfZeros}
+use Rattle.sled_core.specs.SealedBuffers.{AreSealed, Laid, run_end, run_count, bytes_between}
 use Rattle.sled_core.specs.Tail.{least_place}
-use Rattle.sled_core.proofs.Reached.BufferPath.{HasOnly, ending_at, never_capped, path_to, truth_to}
-use Rattle.sled_core.proofs.Reached.BufferStands.{met_as, met_in, same_part}
-use Rattle.sled_core.proofs.Reached.CapStands.{rest_ends}
+use Rattle.sled_core.proofs.Reached.BufferPath.{HasOnly, ending_at}
+use Rattle.sled_core.proofs.Reached.BufferStands.{met_in}
 use Rattle.sled_core.proofs.Reached.StandsTo.{StandsTo}
-use Rattle.sled_core.proofs.Reserve.Entries.{IsLong, all_long, some_long}
-use Rattle.sled_core.proofs.Reserve.Ranges.{chain_grows, completed_between}
-use Rattle.sled_core.proofs.Sealed.BehindUnwritten.{head_headed}
-use Rattle.sled_core.proofs.Sealed.Clear.{clear_behind, clear_on, run_ends}
 use Rattle.sled_core.proofs.Sealed.HeadWritten.{head_written, next_alone, torn_head}
-use Rattle.sled_core.proofs.Sealed.LaidLemmas.{EndsRise, ends_below}
-use Rattle.sled_core.proofs.Sealed.OneWritten.{laid_new, long, sealed_written}
-use Rattle.sled_core.proofs.Sealed.RecordsEnd.{AreRecords, IsFilled, records_in, records_on, records_why}
-use Rattle.sled_core.proofs.Sealed.Runs.{IsRun, run_laid, run_of, run_stops, run_there, take_more, written_ended}
+use Rattle.sled_core.proofs.Sealed.LaidLemmas.{EndsRise}
+use Rattle.sled_core.proofs.Sealed.RecordsEnd.{records_why}
+pub use Rattle.sled_core.proofs.Sealed.RunPath.{run_below}
+use Rattle.sled_core.proofs.Sealed.RunPath.{MeetsRun, front_mark, meets_run, never_broken}
 use Rattle.sled_core.proofs.Torn.TornLemmas.{after_write}
-use Rattle.sled_core.proofs.Torn.WrittenRecords.{AreClear, all_clear}
-
--- what is met of two parts
-met_on : (site : SegmentPosition) (bytes : List ℕ) (xs ys : List Reserved) → met_in site bytes (xs ++ ys) ≡ met_in site bytes xs ++ met_in site bytes ys
-met_on site bytes [] ys = refl
-met_on site bytes (x ∷ xs) ys = ap (λ (ms : List ScannedRecord). met_as x.state (message_in site bytes x) ∷ ms) (met_on site bytes xs ys)
-
--- those at the front end below where all do
-pub run_below : (at : ℕ) (cs : List Sealed) (to : ℕ) → EndsRise at cs to → run_end at cs ≤ to
-run_below at [] to up = up
-run_below at (c ∷ cs) to up = by_test (run_below c.end cs to up.1) (ends_below c.end cs to up.1) c.is_written where
-  by_test : run_end c.end cs ≤ to → (c.end ≤ sealed_end c.end cs) × (sealed_end c.end cs ≤ to) → (o : Bool) → (if o then run_end c.end cs else at) ≤ to
-  by_test on below true = on
-  by_test on below false = let here = up.0 in omega (arith, here, below.0, below.1)
-
--- a file that has the bytes up to an offset has them up to a lower one
-less_agrees : (log : List ℕ) (slot : ℕ) (bytes : List ℕ) (from to less : ℕ) → less ≤ to → Agrees log slot bytes from to → Agrees log slot bytes from less
-less_agrees log slot bytes from to less low agrees =
-    let in_file = agrees.in_file in
-    let in_bytes = agrees.in_bytes in
-    record { same = λ i above below. agrees.same i above (omega (arith, below, low)); in_file = omega (arith, in_file, low); in_bytes = omega (arith, in_bytes, low) }
-
--- the reading of a segment that was filled ends not for want of a record
-never_broken : (size stop : ℕ) → rest_why size stop ≢ Broken
-never_broken size stop = by_test (nat_lt size (stop + 32)) where
-  by_test : (o : Bool) → (if o then Full else Capped) ≢ Broken
-  by_test false is = cc
-  by_test true is = cc
 
 -- Where the first buffer isn't written, and a record has room where it begins. The last entry of the segment may be what fills it.
 module _ (sum : List ℕ → ℕ) (none : NoHeaderOfZeros sum) (size : ℕ) (some : 256 ≤ size) (file : List ℕ) (site : SegmentPosition)
@@ -82,9 +42,6 @@ module _ (sum : List ℕ → ℕ) (none : NoHeaderOfZeros sum) (size : ℕ) (som
 
   abbrev new : List ℕ
   new = overwritten file (site.slot + from) asked
-
-  abbrev bs : List Sealed
-  bs = now_written b ∷ rest
 
   -- where those end that are written now
   abbrev pub stop : ℕ
@@ -104,189 +61,40 @@ module _ (sum : List ℕ → ℕ) (none : NoHeaderOfZeros sum) (size : ℕ) (som
   abbrev why : ScanEnd
   why = records_why size done stop
 
-  are_new : AreSealed from rs bs
-  are_new = sealed_written from rs [] b rest closed are
+  run : MeetsRun sum size file new site bytes from b.end done stop
+  run = meets_run sum size file site place_begins slot_begins place_small slot_small bytes from rs b rest fresh closed are rise inside stand laid
 
-  laid_now : Laid new site.slot bytes from bs size
-  laid_now = laid_new file site.slot bytes from [] b rest size rise inside laid
-
-  run : IsRun from rs bs
-  run = run_of from rs bs are_new
-
-  rest_run : IsRun b.end (drop b.count rs) rest
-  rest_run = run_of b.end (drop b.count rs) rest are.1
-
-  begun : 20 ≤ b.end
-  begun = let grows = chain_grows (max 20 from) b.end (take b.count rs) are.0.chain in omega (arith, grows)
-
-  far : b.end ≤ stop
-  far = rest_run.rises
-
-  low : stop ≤ size
-  low = run_below b.end rest size rise.1
-
-  up : from < b.end
-  up = rise.0
-
-  agrees : Agrees new site.slot bytes from stop
-  agrees = run_there new site.slot bytes from rs bs size are_new laid_now (omega (arith, up, far))
-
-  stand_own : All (Stands sum size (site.place / size) bytes) (take b.count rs)
-  stand_own = All-take (Stands sum size (site.place / size) bytes) b.count rs stand
-
-  stand_done : All (Stands sum size (site.place / size) bytes) done
-  stand_done = All-take (Stands sum size (site.place / size) bytes) (b.count + run_count rest) rs stand
-
-  chain_done : IsChain (max 20 from) done stop
-  chain_done = let same : max 20 stop ≡ stop = omega (arith, begun, far) in subst (λ n. IsChain (max 20 from) done n) same run.chain
-
-  its : AreRecords sum size (site.place / size) bytes (max 20 from) done stop records last why
-  its = records_in sum size (site.place / size) bytes (max 20 from) done stop chain_done low stand_done
-
-  behind_from : max 20 from ≤ last
-  behind_from = chain_grows (max 20 from) last records its.chain
-
-  last_low : last ≤ stop
-  last_low = its.low
-
-  agrees_last : Agrees new site.slot bytes from last
-  agrees_last = less_agrees new site.slot bytes from stop last last_low agrees
-
-  path : IsPath sum size new site.slot site.place (max 20 from) (met_in site bytes records) last
-  path = path_to sum size site new bytes from last agrees_last (omega (arith, last_low, low)) place_begins slot_begins place_small slot_small records its.chain its.stand its.plain (its.closed run.ended)
-
-  -- Behind the last record a zero is in place of the next kind,
-  ends_behind : IsEnd sum size new site.slot site.place stop (ending_at size stop)
-  ends_behind = run_ends sum new site bytes size stop (drop (b.count + run_count rest) rs) (behind_run rest) (omega (arith, begun, far)) (All-drop (IsLong size) (b.count + run_count rest) rs (all_long sum size (site.place / size) bytes rs stand))
-      (run_stops rest) run.rest (run_laid new site.slot bytes from bs size laid_now)
-
-  -- or there stands what fills the segment.
-  ends_filled : IsFilled sum size (site.place / size) bytes done stop last why → IsEnd sum size new site.slot site.place last (rest_why size last)
-  ends_filled f =
-      let p : Reserved = f.padding in
-      let full = f.full in
-      let at = f.begins in
-      let to_end = f.fills.to_end in
-      let in_file = agrees.in_file in
-      let count : p.len ≡ size - last = omega (arith, at, to_end) in
-      let text : part bytes last (size - last) ≡ segment_rest sum size (site.place / size) last =
-      sym (λ i. part bytes (at i) (count i)) ∙ f.fills.is ∙ ap (λ n. segment_rest sum size (site.place / size) n) at in
-      rest_ends sum size new site.slot site.place last slot_begins (omega (arith, last_low, low)) (omega (arith, in_file, full)) slot_small (omega (arith, div-le_self site.place size, place_small))
-      (same_part new site.slot bytes from stop agrees last (size - last) (omega (arith, behind_from)) (omega (arith, last_low, full)) ∙ text)
-
-  ends : IsEnd sum size new site.slot site.place last why
-  ends = elim its.last [
-    | inl l ↦ subst (λ (w : ScanEnd). IsEnd sum size new site.slot site.place last w) (sym l.2) (subst (λ n. IsEnd sum size new site.slot site.place n (ending_at size stop)) (sym l.1) ends_behind)
-    | inr f ↦ subst (λ (w : ScanEnd). IsEnd sum size new site.slot site.place last w) (sym f.reason) (ends_filled f)
-  ]
-
-  own_closed : none_open (take b.count rs) ≡ true
-  own_closed = written_ended from (take b.count rs) (now_written b) are_new.0 refl
-
-  -- A record begins up to the end of the buffer, or behind it.
-  clear_plain : All NoPadding (take b.count rs) → AreClear size b.end (max 20 from) (met_in site bytes records)
-  clear_plain plain =
-      let own : List Reserved = take b.count rs in
-      let more : List Reserved = take (run_count rest) (drop b.count rs) in
-      let two : done ≡ own ++ more = take_more b.count (run_count rest) rs in
-      let on = records_on own more stop plain in
-      let same : max 20 b.end ≡ b.end = omega (arith, begun) in
-      let also : max 20 stop ≡ stop = omega (arith, begun, far) in
-      let in_file = agrees.in_file in
-      let in_bytes = agrees.in_bytes in
-      let all : records ≡ own ++ records_of more = ap records_of two ∙ on.0 in
-      let stand_more : All (Stands sum size (site.place / size) bytes) more =
-      All-take (Stands sum size (site.place / size) bytes) (run_count rest) (drop b.count rs) (All-drop (Stands sum size (site.place / size) bytes) b.count rs stand) in
-      let theirs : AreRecords sum size (site.place / size) bytes (max 20 b.end) more stop (records_of more) (records_end more stop) (records_why size more stop) =
-      records_in sum size (site.place / size) bytes (max 20 b.end) more stop (subst (λ n. IsChain (max 20 b.end) more n) also rest_run.chain) low stand_more in
-      let under = theirs.low in
-      let here : Agrees new site.slot bytes from b.end = less_agrees new site.slot bytes from stop b.end far agrees in
-      let behind : Agrees new site.slot bytes b.end (records_end more stop) =
-      record { same = λ i above below. agrees.same i (omega (arith, above, up)) (omega (arith, below, under)); in_file = omega (arith, in_file, under); in_bytes = omega (arith, in_bytes, under) } in
-      let path_own = path_to sum size site new bytes from b.end here (omega (arith, far, low)) place_begins slot_begins place_small slot_small own are.0.chain stand_own plain own_closed in
-      let path_more = path_to sum size site new bytes b.end (records_end more stop) behind (omega (arith, under, low)) place_begins slot_begins place_small slot_small (records_of more) theirs.chain theirs.stand theirs.plain (theirs.closed rest_run.ended) in
-      let path_on = subst (λ n. IsPath sum size new site.slot site.place n (met_in site bytes (records_of more)) (records_end more stop)) same path_more in
-      subst (λ (ms : List ScannedRecord). AreClear size b.end (max 20 from) ms) (sym (ap (met_in site bytes) all ∙ met_on site bytes own (records_of more)))
-      (clear_on sum size new site.slot site.place b.end (max 20 from) (met_in site bytes own) (met_in site bytes (records_of more)) path_own
-      (clear_behind sum size new site.slot site.place b.end b.end (met_in site bytes (records_of more)) (records_end more stop) (omega arith) path_on))
-
-  clear : AreClear size b.end (max 20 from) (met_in site bytes records)
-  clear = elim (records_in sum size (site.place / size) bytes (max 20 from) (take b.count rs) b.end are.0.chain (omega (arith, far, low)) stand_own).last [
-    | inl l ↦ clear_plain (subst (All NoPadding) l.0 (records_in sum size (site.place / size) bytes (max 20 from) (take b.count rs) b.end are.0.chain (omega (arith, far, low)) stand_own).plain)
-    | inr f ↦ subst (λ n. AreClear size n (max 20 from) (met_in site bytes records)) (sym f.full) (all_clear size (max 20 from) (met_in site bytes records))
-  ]
-
-  headed : from ≡ 0 → HasMark sum site asked H
-  headed is = let m = header is in record { mark = m.mark; is = ap (λ n. take 20 (drop n (take b.end bytes))) is ∙ take-take 20 b.end bytes begun ∙ m.is; of_history = m.of_history }
-
-  clean : (i : ℕ) → site.slot + from ≤ i → i < site.slot + b.end → get_or file i 0 ≡ 0
-  clean = let zeros : LaidOne file site.slot bytes from false b.end = subst (λ (o : Bool). LaidOne file site.slot bytes from o b.end) fresh laid.0 in zeros
-
-  covers : from + length asked ≤ b.end
-  covers = let l = long file site.slot bytes from [] b rest size rise inside in omega (arith, l)
+  its_mark : from ≡ 0 → HasMark sum site asked H
+  its_mark none_yet = front_mark sum site bytes H from b.end none_yet (run.headed none_yet) (header none_yet)
 
   module _ (has : HasOnly H (completed_in site bytes done) (site.place + max 20 from) (site.place + stop)) where
-    same_messages : completed_in site bytes records ≡ completed_in site bytes done
-    same_messages = its.messages site
-
-    has_records : HasOnly H (completed_in site bytes records) (site.place + max 20 from) (site.place + last)
-    has_records = record {
-      there = λ m among. has.there m (subst (λ (ms : List Message). Contains ms m) same_messages among);
-      only = λ m there. elim (has.only m there) [
-        | inl among ↦ inl (subst (λ (ms : List Message). Contains ms m) (sym same_messages) among)
-        | inr (inl before) ↦ inr (inl before)
-        | inr (inr after) ↦ inr (inr (omega (arith, after, last_low)))
-      ];
-      no_batch = λ c there. elim (has.no_batch c there) [ inl before ↦ inl before | inr after ↦ inr (omega (arith, after, last_low)) ];
-    }
-
-    truth : (x : ScannedRecord) → Contains (met_in site bytes records) x → IsOfHistory sum size new H x
-    truth = truth_to sum size site new bytes from last agrees_last (omega (arith, last_low, low)) place_begins slot_begins place_small slot_small H records its.chain its.stand its.plain (its.closed run.ended) has_records
-
-    -- In what fills the segment nothing of the history begins.
-    none_filled : IsFilled sum size (site.place / size) bytes done stop last why → NoMessageBegins H (site.place + last) (site.place + size) × NoBatchBegins H (site.place + last) (site.place + size)
-    none_filled f =
-        let full = f.full in
-        let Between : Message → Type 0 = λ m. (site.place + max 20 from ≤ m.place) × (m.place < site.place + last) × (m.place + m.size ≤ site.place + last) in
-        let all : All Between (completed_in site bytes records) = completed_between site bytes (max 20 from) last records its.chain (some_long sum size (site.place / size) bytes records its.stand) in (
-          (λ m there. elim (has.only m there) [
-            | inl among ↦ (let lies = All-contains Between (completed_in site bytes records) m all (subst (λ (ms : List Message). Contains ms m) (sym same_messages) among) in inl lies.1)
-            | inr (inl before) ↦ inl (omega (arith, before, behind_from))
-            | inr (inr after) ↦ inr (omega (arith, after, full))
-          ]),
-          (λ c there. elim (has.no_batch c there) [ inl before ↦ inl (omega (arith, before, behind_from)) | inr after ↦ inr (omega (arith, after, full)) ]),
-        )
-
-    caps : why ≡ Capped → NoMessageBegins H (site.place + last) (site.place + size) × NoBatchBegins H (site.place + last) (site.place + size)
-    caps capped = elim its.last [ inl l ↦ absurd (never_capped size stop (sym l.2 ∙ capped)) | inr f ↦ none_filled f ]
-
     -- What a crash leaves of it.
     pub torn_head_sealed : (now left : List ℕ) → length now ≤ length asked → LeavesLog (after_write file (site.slot + from) asked now) left → {placed : List (ℕ × List ℕ)}
         → NoForeignLog sum size (after_write file (site.slot + from) asked now) placed left → StandsTo sum size left H reach first reach
     torn_head_sealed now left no_more leaves {placed} only_own =
-        torn_head sum none size some file site from asked b.end covers (omega (arith, far, low)) (head_headed from rs b rest are) has_room place_begins slot_begins place_small headed clean
-        reach first alone (met_in site bytes records) last why clear path ends truth caps now left no_more leaves {placed = placed} only_own
+        torn_head sum none size some file site from asked b.end run.covers run.reaches run.headed has_room place_begins slot_begins place_small its_mark run.clean
+        reach first alone (met_in site bytes records) last why run.clear run.path run.ends (run.truth H has) (run.caps H has) now left no_more leaves {placed = placed} only_own
 
     -- All of it, where the file reaches up to the slot.
     module _ (ordered : Ascends H.messages) (there : site.slot ≤ length file) (low_enough : least_place size first ≤ site.place) (has_header : HasHeader sum new site) where
       -- Where nothing fills the segment, it goes on behind the buffers that are written now.
       pub head_sealed_written : All NoPadding done → ((c : Batch) → Contains H.batches c → c.low < site.place + stop → c.peg < site.place + stop) → StandsAmong sum size new site stop others (site.place + stop) H first
       head_sealed_written plain ended =
-          let at : last ≡ stop = elim its.last [ inl l ↦ l.1 | inr f ↦ absurd (f.unlike plain) ] in
-          let reason : why ≡ ending_at size stop = elim its.last [ inl l ↦ l.2 | inr f ↦ absurd (f.unlike plain) ] in
+          let at : last ≡ stop = elim run.records.last [ inl l ↦ l.1 | inr f ↦ absurd (f.unlike plain) ] in
+          let reason : why ≡ ending_at size stop = elim run.records.last [ inl l ↦ l.2 | inr f ↦ absurd (f.unlike plain) ] in
           subst (λ n. StandsAmong sum size new site n others (site.place + n) H first) at
-          (head_written sum none size some file site from asked b.end covers (omega (arith, far, low)) (head_headed from rs b rest are) has_room place_begins slot_begins place_small headed clean
-          reach first alone (met_in site bytes records) last why clear path ends truth caps ordered there low_enough (λ c at_c lower. let peg = ended c at_c (omega (arith, lower, at)) in omega (arith, peg, at)) has_header
+          (head_written sum none size some file site from asked b.end run.covers run.reaches run.headed has_room place_begins slot_begins place_small its_mark run.clean
+          reach first alone (met_in site bytes records) last why run.clear run.path run.ends (run.truth H has) (run.caps H has) ordered there low_enough (λ c at_c lower. let peg = ended c at_c (omega (arith, lower, at)) in omega (arith, peg, at)) has_header
           (λ more. let test : nat_lt size (stop + 32) ≡ false = grind (arith, nat_tests, more, at) in reason ∙ ap (λ (o : Bool). if o then Full else Broken) test))
 
       -- Where something does, the next segment begins behind it, in a slot of zeros: what was reached ends with the records.
       pub head_sealed_full : others ≡ [] → last < stop → ((c : Batch) → Contains H.batches c → c.low < site.place + last → c.peg < site.place + last) → NoBatchEnds H (site.place + last) (site.place + size)
           → (slot' : ℕ) → ((i : ℕ) → slot' ≤ i → i < slot' + 20 → get_or new i 0 ≡ 0) → StandsAlone sum size new (record { place = site.place + size; slot = slot' }) 0 (site.place + last) H first
-      head_sealed_full no_others filled ended no_end slot' zeros = elim its.last [
+      head_sealed_full no_others filled ended no_end slot' zeros = elim run.records.last [
         | inl l ↦ absurd (let at = l.1 in omega (arith, at, filled))
         | inr f ↦ (
-            let nothing = none_filled f in
-            next_alone sum none size some file site from asked b.end covers (omega (arith, far, low)) (head_headed from rs b rest are) has_room place_begins slot_begins place_small headed clean
-            reach first alone (met_in site bytes records) last why clear path ends truth caps ordered there low_enough ended has_header no_others
-            (λ broken. never_broken size last (sym f.reason ∙ broken)) (omega (arith, last_low, low)) nothing.0 nothing.1 no_end slot' zeros)
+            let nothing = run.none_filled H has f in
+            next_alone sum none size some file site from asked b.end run.covers run.reaches run.headed has_room place_begins slot_begins place_small its_mark run.clean
+            reach first alone (met_in site bytes records) last why run.clear run.path run.ends (run.truth H has) (run.caps H has) ordered there low_enough ended has_header no_others
+            (λ broken. never_broken size last (sym f.reason ∙ broken)) (let end = run.records.low in let low = run.low in omega (arith, end, low)) nothing.0 nothing.1 no_end slot' zeros)
       ]
