@@ -15,6 +15,7 @@ pub mod ReadSeals
 pub mod RunningLemmas
 pub mod SealedCalls
 pub mod Settling
+pub mod SlotLemmas
 pub mod StandsAdds
 pub mod Writes
 pub mod WrittenRecords
