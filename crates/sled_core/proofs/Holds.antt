@@ -16,6 +16,7 @@ pub mod ReadSeals
 pub mod RunningLemmas
 pub mod SealedCalls
 pub mod Settling
+pub mod SlotLemmas
 pub mod StandsAdds
 pub mod WholeHistory
 pub mod WholeLemmas

@@ -1,3 +1,4 @@
+pub mod BegunSlots
 pub mod Entries
 pub mod FreeSlots
 pub mod FreshLemmas

@@ -18,6 +18,7 @@ use Rattle.sled_core.specs.declared.iobuf.SegmentPosition.{SegmentPosition}
 use Rattle.sled_core.specs.declared.reservation.Reservation.{Reservation}
 use Rattle.sled_core.specs.declared.logger.Log.{Log}
 use Rattle.sled_store.specs.declared.config.RunningConfig.{RunningConfig}
+use Rattle.sled_store.specs.declared.segment.accountant.SegmentAccountant.{SegmentAccountant}
 use Rattle.sled_core.specs.Buffers.{NoPadding, Stands, IsChain, completed_in, message_in, none_open, open_in, first_open_in, end_reserved, record_size}
 use Rattle.sled_core.specs.LogFile.{IsLogFile, StaysBelow, StaysFrom}
 use Rattle.sled_core.specs.Reached.{BegunSegment, FollowApart}
@@ -378,6 +379,7 @@ pub record IsUnchanged {D C : Type 0} (old new : Log D C) : Type 0 where
   pub fault : new.fault ≡ old.fault
   pub pins : new.pins ≡ old.pins
   pub site : new.site ≡ old.site
+  pub accountant : new.accountant ≡ old.accountant
   pub config : new.config ≡ old.config
 
 -- what the log runs on
@@ -388,10 +390,15 @@ config_of log = log.config
 abbrev pub device_of : {D C : Type 0} → Log D C → D
 device_of log = log.config.device
 
--- what runs the log, what is written of it, its failure and its pins stay
+-- the accountant of segments
+abbrev pub accountant_of : {D C : Type 0} → Log D C → SegmentAccountant
+accountant_of log = log.accountant
+
+-- what runs the log, what is written of it, its failure, its pins and its accountant stay
 pub record KeepsAll {D C : Type 0} (old new : Log D C) : Type 0 where
   pub config : config_of new ≡ config_of old
   pub synced : synced_end new ≡ synced_end old
   pub fault : fault_of new ≡ fault_of old
   pub pins : pins_of new ≡ pins_of old
   pub site : site_of new ≡ site_of old
+  pub accountant : accountant_of new ≡ accountant_of old

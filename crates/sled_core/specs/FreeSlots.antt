@@ -1,8 +1,29 @@
--- What stands in the slots that an accountant may still hand out.
-use Rattle.std.specs.Prelude.{◌≡◌, ◌+◌, ◌*◌, ℕ, true, List}
-use Rattle.sled_store.specs.SegmentStates.{Machine, is_free, slot_at}
+-- Which slots an accountant may still hand out once a log has begun, and what stands in them.
+use Rattle.std.specs.Prelude.{◌≡◌, ◌+◌, ◌*◌, ℕ, true, false, List, Option, None, Some}
+use Rattle.std.specs.declared.io.Error.{Error as IoError}
+use Rattle.sled_codec.specs.Snapshots.{SnapshotModel, stable_place}
+use Rattle.sled_store.specs.Begin.{place_at}
+use Rattle.sled_store.specs.SegmentStates.{Machine, handed_out, is_free, slot_at}
+use Rattle.sled_store.specs.Started.{started}
 use Rattle.sled_core.specs.SealedBuffers.{AreZeros}
+
+-- the segment in which a log begins has a slot: that of the active one, or else the next one is handed out for it
+abbrev pub with_current : ℕ → Option ℕ → Machine → Machine
+with_current place None m = handed_out place m
+with_current place (Some active) m = m
+
+-- what an accountant has once a log has begun on a snapshot, on a file of this length
+abbrev pub begun_machine : ℕ → ℕ → SnapshotModel → Machine
+begun_machine size len s = with_current (place_at size (stable_place s.stable) s.active) s.active (started size len s).machine
 
 -- Each slot that is free has zeros in the log file, as far as that goes; so a segment that is begun there is all that a reader finds of it.
 abbrev pub FreeAreZeros : ℕ → List ℕ → Machine → Type 0
 FreeAreZeros size log m = (k : ℕ) → is_free (slot_at m k).state ≡ true → AreZeros log (k * size) (k * size + size)
+
+-- A log whose current segment lies at an offset of its file: where it keeps no failure the free slots have zeros, and the slot of that segment isn't free, so that a write to it leaves them alone.
+pub record HasSlots (size slot : ℕ) (log : List ℕ) (fault : Option IoError) (m : Machine) : Type 0 where
+  -- the slot, counted from 0
+  pub number : ℕ
+  pub lies : slot ≡ number * size
+  pub taken : is_free (slot_at m number).state ≡ false
+  pub zeros : fault ≡ None → FreeAreZeros size log m

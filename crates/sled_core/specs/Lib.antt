@@ -1,3 +1,4 @@
+pub mod AccountProps
 pub mod Buffers
 pub mod Canceled
 pub mod Caps

@@ -3,12 +3,15 @@ use Rattle.std.specs.Prelude.{◌≡◌, ◌≢◌, ◌≤◌, ◌<◌, ◌+◌,
 use Rattle.sled_codec.specs.declared.serialization.message.MessageKind.{MessageKind}
 use Rattle.sled_codec.specs.History.{Message, History}
 use Rattle.sled_codec.specs.Snapshots.{SnapshotModel, stable_place}
+use Rattle.sled_store.specs.Accounts.{machine_of}
 use Rattle.sled_store.specs.Blobs.{IsBlob}
 use Rattle.sled_store.specs.Device.{Trace, NamesState, State, LeavesName}
 use Rattle.sled_store.specs.Foreign.{NoForeignNames}
+use Rattle.sled_store.specs.SegmentStates.{Machine}
 use Rattle.sled_store.specs.SnapshotFiles.{IsSnapshotFile}
 use Rattle.sled_core.specs.declared.logger.Log.{Log}
 use Rattle.sled_core.specs.Fits.{LogParts, SegmentParts, begun_segment, parts_of, HoldsIn}
+use Rattle.sled_core.specs.FreeSlots.{HasSlots}
 use Rattle.sled_core.specs.Recoverable.{ActiveFits, AreRecoverableSnapshots, AreRecoverableBlobs, NoHeaderOfZeros, LeavesRecoverable}
 use Rattle.sled_core.specs.Reached.{StandsAmong, StandsActive}
 use Rattle.sled_core.specs.LogFile.{padded}
@@ -39,9 +42,14 @@ pub record FitsIn (sum : List ℕ → ℕ) (parts : LogParts) (behind : List Seg
   -- what a crash leaves now can be recovered, with all that is written counted as acknowledged
   pub left : LeavesRecoverable sum parts.size H (parts.site.place + parts.written_len) f parts.device
 
+-- What a log of these parts, with an accountant of this machine, has to do with them: it fits them, and the free slots have zeros.
+pub record FitsWith (sum : List ℕ → ℕ) (log : LogParts) (behind : List SegmentParts) (pins : ℕ) (m : Machine) (H : History) (A f : ℕ) (U : List Message) : Type 0 where
+  pub parts : FitsIn sum log behind pins H A f U
+  pub slots : HasSlots log.size log.site.slot log.device.log.bytes log.fault m
+
 -- The log fits this history, the end of what was acknowledged, the floor and the messages that were not marked yet.
 unfoldable pub Fits : {D C : Type 0} → (D → Trace) → (List ℕ → ℕ) → Log D C → History → ℕ → ℕ → List Message → Type 0
-Fits trace sum log H A f U = FitsIn sum (parts_of trace log) [] log.pins H A f U
+Fits trace sum log H A f U = FitsWith sum (parts_of trace log) [] log.pins (machine_of log.accountant) H A f U
 
 -- Snapshot and device are ready for a log that fits this history, the end of what was acknowledged and the floor.
 pub record IsReadyFor (sum : List ℕ → ℕ) (size : ℕ) (device : State) (s : SnapshotModel) (H : History) (A f : ℕ) : Type 0 where

@@ -1,7 +1,7 @@
 //! The log: what its callers reserve, complete, flush and read.
 //!
-//! A log keeps the bytes of its segment, the reservations in them, the count of pins, and the first
-//! failure of its device, which it answers from then on. `specs/Fits.antt` says which history it holds.
+//! A log keeps the bytes of its segment, the reservations in them, the accountant of all segments, the count of pins,
+//! and the first failure of its device, which it answers from then on. `specs/Fits.antt` says which history it holds.
 ghost use Rattle.std.specs.Prelude.{List, ◌≡◌, ◌≢◌, ◌↔◌, ◌+◌, ◌-◌, ◌<◌, ◌≤◌, ◌^◌, ◌∷◌, ◌-ℤ◌, ◌<ℤ◌, ◌≤ℤ◌, pos, [], ℕ, length, drop, false, IsTrue, IfOk, IfErr, OnOk, OnErr, Contains, None, Some, ◌⊎◌, ◌/◌, unsigned_abs, ℤ};
 ghost use Rattle.std.specs.declared.io.Error.{Error as IoError};
 ghost use Rattle.sled_codec.specs.Kinds.{kind_written};
@@ -19,9 +19,11 @@ ghost use Rattle.sled_core.specs.Buffers.{record_size};
 ghost use Rattle.sled_codec.specs.Snapshots.{model_of};
 ghost use Rattle.sled_store.specs.Script.{after_all, Performs};
 ghost use Rattle.sled_store.specs.Moments.{IsLater, LeavesOnly};
+ghost use Rattle.sled_store.specs.Accounts.{IsAccountant};
 ghost use Rattle.sled_store.specs.Begin.{IsStartable, IsInReach};
 ghost use Rattle.sled_store.specs.Started.{started};
 ghost use Rattle.sled_core.specs.Recoverable.{LeavesRecoverable, RecoverableIfOwn};
+ghost use Rattle.sled_core.specs.AccountProps.{IsAccountant-prop};
 ghost use Rattle.sled_core.specs.Causes.{FaultAnswers, RecordAnswers, ReserveAnswers, failure_in};
 
 mod abort;
@@ -40,6 +42,7 @@ use crate::reservation::{Guard, Reservation};
 use sled_codec::result::{DiskPtr, Error, LogOffset, Lsn, PageId, Result};
 use sled_codec::serialization::message::message_kind;
 use sled_codec::serialization::{Checksum, LogKind, SegmentNumber, Serialize, Snapshot};
+use sled_store::segment::accountant::SegmentAccountant;
 use sled_store::segment::may_begin;
 use sled_store::{Device, RunningConfig};
 use std::io;
@@ -50,12 +53,15 @@ pub struct Log<D, C> {
     /// Where the current segment lies.
     site: SegmentPosition,
     buffer: IoBuf,
+    /// Which slot each segment has. The free slots have zeros in the log file (`specs/FreeSlots.antt`).
+    accountant: SegmentAccountant,
     /// The first failure of the device in this log.
     fault: Option<io::Error>,
     pins: u32,
     ghost in_segment: { length buffer.bytes.items ≤ config.config.segment_size },
     ghost place_in_reach: { site.place + config.config.segment_size < 2 ^ 63 },
     ghost slot_in_reach: { site.slot + config.config.segment_size < 2 ^ 63 },
+    ghost account: { IsAccountant config.config.segment_size accountant } by { IsAccountant-prop config.config.segment_size accountant },
 }
 
 impl<D: Device, C: Checksum> Log<D, C> {
@@ -102,13 +108,14 @@ impl<D: Device, C: Checksum> Log<D, C> {
     {
         let mut config = config;
         match begin(&mut config, snapshot) {
-            Ok((beginning, buffer)) => Ok(Log {
+            Ok((beginning, buffer, accountant)) => Ok(Log {
                 config,
                 site: SegmentPosition {
                     place: beginning.place,
                     slot: beginning.slot,
                 },
                 buffer,
+                accountant,
                 fault: None,
                 pins: 0,
             }),
@@ -364,6 +371,7 @@ impl<D: Device, C: Checksum> Log<D, C> {
             config,
             site: _,
             buffer: _,
+            accountant: _,
             fault: _,
             pins: _,
         } = self;

@@ -1,7 +1,8 @@
 -- A log fits its history at each moment of a flush, and behind it with all that was written for what was acknowledged.
-use Rattle.std.proofs.Common.{◌≡◌, ◌≤◌, ◌<◌, ◌+◌, ℕ, List, [], ◌∷◌, length, drop, Option, None, sym, refl, subst, arith}
+use Rattle.std.proofs.Common.{◌≡◌, ◌≤◌, ◌<◌, ◌+◌, ℕ, List, [], ◌∷◌, length, length-drop, drop, Option, None, ap, sym, refl, subst, arith}
 use Rattle.std.specs.declared.io.Error.{Error as IoError}
 use Rattle.sled_codec.specs.History.{Message, History}
+use Rattle.sled_store.specs.Accounts.{machine_of}
 use Rattle.sled_store.specs.Device.{Event, Trace, State, Wrote, Synced, state_of, step}
 use Rattle.sled_store.specs.Moments.{Throughout}
 use Rattle.sled_store.specs.Script.{Performs, Along, after_all}
@@ -11,11 +12,13 @@ use Rattle.sled_core.specs.declared.iobuf.Reserved.{Reserved}
 use Rattle.sled_core.specs.declared.iobuf.Sealed.{Sealed}
 use Rattle.sled_core.specs.declared.logger.Log.{Log}
 use Rattle.sled_core.specs.Fits.{NoneOpen, NoneSealed, fault_of, device_of, segment_size_of, log_parts}
+use Rattle.sled_core.specs.FreeSlots.{HasSlots}
 use Rattle.sled_core.specs.Recoverable.{LeavesRecoverable}
 use Rattle.sled_core.specs.Running.{FitsIn, Fits}
 use Rattle.sled_core.proofs.Flush.Settled.{leaves_less}
 use Rattle.sled_core.proofs.Holds.BufferEnds.{written_behind}
 use Rattle.sled_core.proofs.Flush.FlushCalls.{flush_along, fits_flushed}
+use Rattle.sled_core.proofs.Holds.SlotLemmas.{slots_written}
 pub use Rattle.sled_core.proofs.Flush.SameFits.{fits_answered, fits_faulty, fits_same_buffer, fits_same_device}
 
 -- A log whose device has not failed, with something to write.
@@ -45,7 +48,11 @@ module _ {D C : Type 0} (trace : D → Trace) (sum : List ℕ → ℕ) (log : Lo
 
   parts_fit : FitsIn sum (log_parts size log.site (state_of before) log.fault bytes from [] rs) [] log.pins H A f U
   unfolding Fits
-  parts_fit = subst (λ (bs : List Sealed). FitsIn sum (log_parts size log.site (state_of before) log.fault bytes from bs rs) [] log.pins H A f U) none_sealed fits
+  parts_fit = subst (λ (bs : List Sealed). FitsIn sum (log_parts size log.site (state_of before) log.fault bytes from bs rs) [] log.pins H A f U) none_sealed fits.parts
+
+  slots_fit : HasSlots size log.site.slot (state_of before).log.bytes log.fault (machine_of log.accountant)
+  unfolding Fits
+  slots_fit = fits.slots
 
   -- at each moment of the calls, with all that was written before counted as acknowledged
   pub flush_left : (new : Trace) → Performs calls before new → Throughout (LeavesRecoverable sum size H (log.site.place + from) f) before new
@@ -67,6 +74,14 @@ module _ {D C : Type 0} (trace : D → Trace) (sum : List ℕ → ℕ) (log : Lo
       fits_same_buffer sum size log.site (state_of new) log.fault bytes bytes' (length bytes) from' [] bs' [] rs' log.pins H A' f U is_bytes is_from is_bs is_rs
       (subst (λ (o : Option IoError). FitsIn sum (log_parts size log.site (state_of new) o bytes (length bytes) [] []) [] log.pins H A' f U) (sym whole)
       (subst (λ (t : Trace). FitsIn sum (log_parts size log.site (state_of t) None bytes (length bytes) [] []) [] log.pins H A' f U) (sym came) after))
+
+  -- The free slots have zeros as before.
+  pub slots_flushed : (new : Trace) → new ≡ after_all calls before → (now : Option IoError) → HasSlots size log.site.slot (state_of new).log.bytes now (machine_of log.accountant)
+  slots_flushed new came now =
+      let low = behind in
+      let short = log.in_segment in
+      slots_written size log.site.slot (state_of before).log.bytes (state_of new).log.bytes log.fault now (machine_of log.accountant) (log.site.slot + from) (drop from bytes) whole
+      (ap (λ (t : Trace). (state_of t).log.bytes) came) (omega arith) (omega (arith, length-drop from bytes, low, short)) slots_fit
 
 -- A write and a sync of the log file leave blobs and snapshots as they were.
 pub flush_names : (at : ℕ) (xs : List ℕ) (old new : Trace) → Performs (Wrote at xs xs ∷ Synced ∷ []) old new → ((state_of new).blobs ≡ (state_of old).blobs) × ((state_of new).snapshots ≡ (state_of old).snapshots)

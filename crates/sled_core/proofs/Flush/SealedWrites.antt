@@ -4,6 +4,7 @@ use Rattle.std.specs.List.{slice_get}
 use Rattle.std.proofs.lemmas.Option.{slice_get-get_or}
 use Rattle.std.specs.declared.io.Error.{Error as IoError}
 use Rattle.sled_codec.specs.History.{Message, History}
+use Rattle.sled_store.specs.Accounts.{machine_of}
 use Rattle.sled_store.specs.Device.{Event, Trace, Wrote, Synced, state_of}
 use Rattle.sled_store.specs.Moments.{Throughout}
 use Rattle.sled_store.specs.Script.{Along, Performs, after_all}
@@ -14,6 +15,7 @@ use Rattle.sled_core.specs.declared.iobuf.Sealed.{Sealed}
 use Rattle.sled_core.specs.declared.logger.Log.{Log}
 use Rattle.sled_core.specs.Buffers.{none_open}
 use Rattle.sled_core.specs.Fits.{Holds, HoldsIn, IsWrittenAt, device_of, fault_of, log_parts, segment_size_of, writing_buffer}
+use Rattle.sled_core.specs.FreeSlots.{HasSlots}
 use Rattle.sled_core.specs.Recoverable.{LeavesRecoverable}
 use Rattle.sled_core.specs.Running.{Fits, FitsIn}
 use Rattle.sled_core.specs.SealedBuffers.{behind_run, bytes_between, is_ready, run_count, run_end, sealed_end, writing, written_at}
@@ -24,7 +26,9 @@ use Rattle.sled_core.proofs.Holds.BufferEnds.{sealed_rise}
 use Rattle.sled_core.proofs.Holds.WholeLemmas.{holds-same}
 use Rattle.sled_core.proofs.Sealed.Marked.{ready_closed, written_are}
 use Rattle.sled_core.proofs.Sealed.Runs.{run_of}
-use Rattle.sled_core.proofs.Sealed.Slices.{end_to}
+use Rattle.sled_core.proofs.Holds.SlotLemmas.{slots_written}
+use Rattle.sled_core.proofs.Sealed.OneWritten.{length-between}
+use Rattle.sled_core.proofs.Sealed.Slices.{end_to, span_within}
 
 -- A log has a sealed buffer at this index, and it can be written.
 pub record ReadyAt {D C : Type 0} (log : Log D C) (k : ℕ) : Type 0 where
@@ -82,7 +86,11 @@ module _ {D C : Type 0} (trace : D → Trace) (sum : List ℕ → ℕ) (log : Lo
   module _ (H : History) (A f : ℕ) (U : List Message) (fits : Fits trace sum log H A f U) where
     parts_fit : FitsIn sum (log_parts size log.site (state_of before) log.fault old.bytes.items old.written_len old.sealed.items old.reserved.items) [] log.pins H A f U
     unfolding Fits
-    parts_fit = fits
+    parts_fit = fits.parts
+
+    slots_fit : HasSlots size log.site.slot (state_of before).log.bytes log.fault (machine_of log.accountant)
+    unfolding Fits
+    slots_fit = fits.slots
 
     -- At each moment of the calls a crash leaves what can be recovered, with all that was written before counted as acknowledged.
     pub buffer_left : (new : Trace) → Performs (writing_buffer log k) before new → Throughout (LeavesRecoverable sum size H (log.site.place + old.written_len) f) before new
@@ -107,3 +115,14 @@ module _ {D C : Type 0} (trace : D → Trace) (sum : List ℕ → ℕ) (log : Lo
         (subst (λ (t : Trace). FitsIn sum (log_parts size log.site (state_of t) None old.bytes.items (run_end old.written_len now) (behind_run now) (drop (run_count now) old.reserved.items)) [] log.pins H A' f U) (sym made)
         (fits_written_one sum size log.site (state_of before) log.fault old.bytes.items old.written_len old.sealed.items old.reserved.items log.pins H A f U parts_fit log.in_segment log.config.config.least log.place_in_reach log.slot_in_reach
         old.are old.head (sealed_rise old) whole k b there ready A' (omega (arith, passes, is.from)))))
+
+    -- The free slots have zeros as before.
+    pub slots_buffer : (new : Trace) → new ≡ after_all (writing_buffer log k) before → (now : Option IoError) → HasSlots size log.site.slot (state_of new).log.bytes now (machine_of log.accountant)
+    slots_buffer new came now =
+        let from : ℕ = sealed_end old.written_len (take k old.sealed.items) in
+        let to : ℕ = sealed_end old.written_len (take (k + 1) old.sealed.items) in
+        let span = span_within old.written_len old.sealed.items k (length old.bytes.items) (sealed_rise old) in
+        let long = length-between old.bytes.items from to span.1 in
+        let short = log.in_segment in
+        slots_written size log.site.slot (state_of before).log.bytes (state_of new).log.bytes log.fault now (machine_of log.accountant) (log.site.slot + from) (bytes_between old.bytes.items from to) whole
+        (ap (λ (t : Trace). (state_of t).log.bytes) came) (omega arith) (omega (arith, long, span.0, span.1, short)) slots_fit

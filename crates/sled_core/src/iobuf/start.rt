@@ -1,14 +1,17 @@
-//! The buffer that a log begins with, and where that lies (`specs/Begin.antt`, in sled_store).
-ghost use Rattle.std.specs.Prelude.{◌≡◌, length, IfOk, IfErr, OnOk};
+//! The buffer that a log begins with, and where that lies (`specs/Begin.antt`, in sled_store), with the accountant of
+//! its segments.
+ghost use Rattle.std.specs.Prelude.{◌≡◌, length, IfOk, IfErr, OnOk, IsOkUnless};
 ghost use Rattle.sled_codec.specs.Snapshots.{model_of, stable_place};
 ghost use Rattle.sled_store.specs.Device.{state_of};
 ghost use Rattle.sled_store.specs.Script.{Performs, after_all};
+ghost use Rattle.sled_store.specs.Accounts.{IsAccountant, MayHandOut, machine_of};
 ghost use Rattle.sled_store.specs.Begin.{IsStartable, IsInReach, place_at, offset_at, beginning_of};
 ghost use Rattle.sled_store.specs.Started.{started, FoundOrRefuses};
 ghost use Rattle.sled_core.specs.FirstBuffer.{IsFirstBuffer, RefusesBuffer};
+ghost use Rattle.sled_core.specs.FreeSlots.{begun_machine, with_current};
 
 use crate::iobuf::IoBuf;
-use sled_codec::result::{Error, Result};
+use sled_codec::result::{Error, Lsn, Result};
 use sled_codec::serialization::snapshot::Snapshot;
 use sled_codec::serialization::{Checksum, SegmentHeader};
 use sled_store::segment::SEG_HEADER_LEN;
@@ -19,7 +22,7 @@ use sled_store::{Device, RunningConfig};
 /// Where a log begins on the log file, from a snapshot: behind the stable place in the active segment, or else
 /// a segment in the slot that the accountant of segments hands out next; and the buffer of that segment. Once it has
 /// all memory, the accountant starts: it fills the slots that are not used with zeros, syncs them, and cuts free ones
-/// off the end of the file but for one.
+/// off the end of the file but for one. A segment that is begun has taken its slot from the accountant, which the log keeps.
 ///
 /// `Corruption` comes where no log can begin from the snapshot, `PlacesUsedUp` where one more slot of the
 /// file or the segment of the log would not end below 2^63; nothing was written then. `Io` comes where the device
@@ -27,10 +30,13 @@ use sled_store::{Device, RunningConfig};
 pub(crate) fn begin<D: Device, C: Checksum>(
     config: &mut RunningConfig<D, C>,
     snapshot: &Snapshot,
-) -> Result<(Beginning, IoBuf)>
+) -> Result<(Beginning, IoBuf, SegmentAccountant)>
     ensures beginning { IfOk result (λ b. b.0 ≡ beginning_of config.old.config.segment_size (length (state_of (D.trace config.old.device)).log.bytes)
         (model_of snapshot.now)) }
     ensures buffer { IfOk result (λ b. IsFirstBuffer C.sum_of b.0.place b.0.offset b.1) }
+    ensures machine { IfOk result (λ b. machine_of b.2 ≡ begun_machine config.old.config.segment_size
+        (length (state_of (D.trace config.old.device)).log.bytes) (model_of snapshot.now)) }
+    ensures account { IfOk result (λ b. IsAccountant config.old.config.segment_size b.2) }
     ensures made { let size = config.old.config.segment_size in
         OnOk result (D.trace config.new.device ≡ after_all
         (started size (length (state_of (D.trace config.old.device)).log.bytes) (model_of snapshot.now)).calls (D.trace config.old.device)) }
@@ -47,16 +53,41 @@ pub(crate) fn begin<D: Device, C: Checksum>(
         Ok(buffer) => buffer,
         Err(e) => return Err(e),
     };
-    match SegmentAccountant::start(config, snapshot) {
-        Ok(accountant) => {
-            let next = accountant.next_slot();
-            Ok((
-                beginning_at(config.config.segment_size, next, snapshot),
-                buffer,
-            ))
-        }
+    let mut accountant = match SegmentAccountant::start(config, snapshot) {
+        Ok(accountant) => accountant,
+        Err(e) => return Err(e),
+    };
+    let next = accountant.next_slot();
+    let beginning = beginning_at(config.config.segment_size, next, snapshot);
+    match take_slot(config, &mut accountant, snapshot) {
+        Ok(()) => Ok((beginning, buffer, accountant)),
         Err(e) => Err(e),
     }
+}
+
+/// Takes the next slot from the accountant for the segment in which a log begins, unless that one is active already.
+///
+/// `OutOfMemory` comes only where no slot of the file is free, and then the accountant's start wrote nothing.
+fn take_slot<D: Device, C: Checksum>(
+    config: &mut RunningConfig<D, C>,
+    accountant: &mut SegmentAccountant,
+    snapshot: &Snapshot,
+) -> Result<()>
+    requires account { IsAccountant config.old.config.segment_size accountant.old }
+    requires may { let s = model_of snapshot.now in let size = config.old.config.segment_size in
+        MayHandOut size (place_at size (stable_place s.stable) s.active) (machine_of accountant.old) }
+    ensures taken { let s = model_of snapshot.now in let size = config.old.config.segment_size in
+        OnOk result (machine_of accountant.new ≡ with_current (place_at size (stable_place s.stable) s.active) s.active (machine_of accountant.old)) }
+    ensures memory { IsOkUnless result Error.OutOfMemory }
+    ensures account { IsAccountant config.old.config.segment_size accountant.new }
+    ensures config { config.new ≡ config.old }
+{
+    if snapshot.active_segment.is_some() {
+        return Ok(());
+    }
+    let place = place_at(config.config.segment_size, snapshot);
+    accountant.next(config, place as Lsn)?;
+    Ok(())
 }
 
 /// The buffer of the segment in which a log goes on: with its header where it is begun, else with none of what is

@@ -52,8 +52,12 @@ returns-clause-keeps g c =
     record {
       goes_on = goes_on_quietly g.D.Device.trace g.C.Checksum.sum_of c.args.self.now _ (record { config = refl; checksum = refl }) refl (omega (arith, c.abort.ensures.from));
       history = λ H holds. holds-aborted g.C.Checksum.sum_of _ _ _ _ old.bytes.items old.written_len old.sealed.items old.reserved.items H holds (c.index-index.result - c.args.self.now.buffer.gone) r there own.own.open_yet (written_behind old) old.are _ _ _ _ bytes c.abort.ensures.from c.abort.ensures.sealed reserved;
-      fits = λ H A f U fits. fits-moved _ _ _ _ _ _ _ _ _ _ H A f U fits _ _ _ _ c.abort.ensures.from
-          (holds-aborted g.C.Checksum.sum_of _ _ _ _ old.bytes.items old.written_len old.sealed.items old.reserved.items H fits.holds (c.index-index.result - c.args.self.now.buffer.gone) r there own.own.open_yet (written_behind old) old.are _ _ _ _ bytes c.abort.ensures.from c.abort.ensures.sealed reserved);
+      fits = λ H A f U fits.
+          record {
+            parts = fits-moved _ _ _ _ _ _ _ _ _ _ H A f U fits.parts _ _ _ _ c.abort.ensures.from
+                (holds-aborted g.C.Checksum.sum_of _ _ _ _ old.bytes.items old.written_len old.sealed.items old.reserved.items H fits.parts.holds (c.index-index.result - c.args.self.now.buffer.gone) r there own.own.open_yet (written_behind old) old.are _ _ _ _ bytes c.abort.ensures.from c.abort.ensures.sealed reserved);
+            slots = fits.slots;
+          };
     }
 
 pub returns-clause-others : goal.returns-clause-others

@@ -82,12 +82,15 @@ pub returns-clause-fits : goal.returns-clause-fits
 unfolding Fits Holds Step
 returns-clause-fits g c = λ H A f U m fits awaits out.
     let old = c.args.self.now in
-    let done = returns-clause-history g c H m fits.holds awaits in
+    let done = returns-clause-history g c H m fits.parts.holds awaits in
     let inside = at_there (λ x. (max 20 old.buffer.written_len ≤ x.from) × (x.from + x.len ≤ length old.buffer.bytes.items)) old.buffer.reserved.items (index_of c.args.ticket - old.buffer.gone) awaits.reserved awaits.there
-    (chain_within (max 20 old.buffer.written_len) (length old.buffer.bytes.items) old.buffer.reserved.items fits.holds.own.chain) in
+    (chain_within (max 20 old.buffer.written_len) (length old.buffer.bytes.items) old.buffer.reserved.items fits.parts.holds.own.chain) in
     let place : m.place ≡ old.site.place + awaits.reserved.from = ap (λ (x : Message). x.place) awaits.message in (
       done.0,
       done.1,
-      fits-completed g.C.Checksum.sum_of old.config.config.segment_size old.site _ old.fault old.buffer.bytes.items old.buffer.written_len old.buffer.sealed.items old.buffer.reserved.items old.pins H A f U fits _ _ _ _ done.0 m c.complete.ensures.from
-          old.config.config.least (omega (arith, c.complete.ensures.len, old.in_segment)) c.in_default.is done.2 done.1 (subst (λ (ms : List Message). Contains ms m) (of_one g.C.Checksum.sum_of _ _ _ _ _ _ _ _ done.0 done.2) (added_there H done.0 m done.1)) (omega (arith, inside.0, place)) old.buffer.head old.buffer.are out,
+      record {
+        parts = fits-completed g.C.Checksum.sum_of old.config.config.segment_size old.site _ old.fault old.buffer.bytes.items old.buffer.written_len old.buffer.sealed.items old.buffer.reserved.items old.pins H A f U fits.parts _ _ _ _ done.0 m c.complete.ensures.from
+            old.config.config.least (omega (arith, c.complete.ensures.len, old.in_segment)) c.in_default.is done.2 done.1 (subst (λ (ms : List Message). Contains ms m) (of_one g.C.Checksum.sum_of _ _ _ _ _ _ _ _ done.0 done.2) (added_there H done.0 m done.1)) (omega (arith, inside.0, place)) old.buffer.head old.buffer.are out;
+        slots = fits.slots;
+      },
     )

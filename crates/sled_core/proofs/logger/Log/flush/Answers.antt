@@ -35,4 +35,5 @@ returns-clause-records g c = λ H holds.
 pub returns-clause-acknowledges : goal.returns-clause-acknowledges
 unfolding Fits
 returns-clause-acknowledges g c = λ H A f U fits.
-    fits-synced g.C.Checksum.sum_of _ _ _ _ _ _ _ _ _ H A f U (c.write_below.ensures.keeps.fits H A f U fits) (synced_end c.write_below.new.self) refl
+    let later = c.write_below.ensures.keeps.fits H A f U fits in
+    record { parts = fits-synced g.C.Checksum.sum_of _ _ _ _ _ _ _ _ _ H A f U later.parts (synced_end c.write_below.new.self) refl; slots = later.slots }

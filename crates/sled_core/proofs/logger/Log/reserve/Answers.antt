@@ -142,7 +142,7 @@ pub invariant_of-self-4 : goal.invariant_of-self-4
 invariant_of-self-4 g c =
     let tail = length-short_header_tail c.in-Some-message_kind.message_kind c.serialized_size-item_len.result (c.args.self.now.site.place / c.args.self.now.config.config.segment_size) c.args.pid in
     let item_long = ap (λ n. length (short_number n)) c.serialized_size-item_len.ensures in
-    record { in_segment = omega (arith, c.append.ensures.len, ap length c.make_room.ensures.bytes, c.head_of-head.ensures.len, tail, item_long, c.serialized_size-item_len.ensures, c.requires.room.record_fits); place_in_reach = c.args.self.now.place_in_reach; slot_in_reach = c.args.self.now.slot_in_reach }
+    record { in_segment = omega (arith, c.append.ensures.len, ap length c.make_room.ensures.bytes, c.head_of-head.ensures.len, tail, item_long, c.serialized_size-item_len.ensures, c.requires.room.record_fits); place_in_reach = c.args.self.now.place_in_reach; slot_in_reach = c.args.self.now.slot_in_reach; account = c.args.self.now.account }
 
 -- It goes on fitting its history, and nothing is written.
 
@@ -185,7 +185,11 @@ returns-in_err-make_room-clause-keeps g c =
     record {
       goes_on = goes_on_quietly g.D.Device.trace g.C.Checksum.sum_of c.args.self.now _ (record { config = refl; checksum = refl }) refl (omega (arith, same.from));
       history = λ H holds. holds-same g.C.Checksum.sum_of _ _ _ _ old.bytes.items _ old.written_len _ old.sealed.items _ old.reserved.items _ H same.bytes same.from same.sealed same.reserved holds;
-      fits = λ H A f U fits. fits-moved _ _ _ _ _ _ _ _ _ _ H A f U fits _ _ _ _ same.from (holds-same g.C.Checksum.sum_of _ _ _ _ old.bytes.items _ old.written_len _ old.sealed.items _ old.reserved.items _ H same.bytes same.from same.sealed same.reserved fits.holds);
+      fits = λ H A f U fits.
+          record {
+            parts = fits-moved _ _ _ _ _ _ _ _ _ _ H A f U fits.parts _ _ _ _ same.from (holds-same g.C.Checksum.sum_of _ _ _ _ old.bytes.items _ old.written_len _ old.sealed.items _ old.reserved.items _ H same.bytes same.from same.sealed same.reserved fits.parts.holds);
+            slots = fits.slots;
+          };
     }
 
 pub returns-clause-keeps : goal.returns-clause-keeps
@@ -193,7 +197,7 @@ unfolding Fits Holds
 returns-clause-keeps g c = record {
   goes_on = goes_on_quietly g.D.Device.trace g.C.Checksum.sum_of c.args.self.now _ (record { config = refl; checksum = refl }) refl (omega (arith, c.append.ensures.from, c.make_room.ensures.from));
   history = held_still g c;
-  fits = λ H A f U fits. fits-moved _ _ _ _ _ _ _ _ _ _ H A f U fits _ _ _ _ (c.append.ensures.from ∙ c.make_room.ensures.from) (held_still g c H fits.holds);
+  fits = λ H A f U fits. record { parts = fits-moved _ _ _ _ _ _ _ _ _ _ H A f U fits.parts _ _ _ _ (c.append.ensures.from ∙ c.make_room.ensures.from) (held_still g c H fits.parts.holds); slots = fits.slots };
 }
 
 -- where none was open, the new reservation is the only one

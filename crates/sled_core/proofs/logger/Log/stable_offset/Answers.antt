@@ -6,7 +6,7 @@ use Rattle.sled_core.proofs.logger.Log.stable_offset.Goals as goal
 
 pub returns-clause-acknowledges : goal.returns-clause-acknowledges
 unfolding Fits
-returns-clause-acknowledges g c = λ H A f U fits. fits-synced _ _ _ _ _ _ _ _ _ _ H A f U fits _ refl
+returns-clause-acknowledges g c = λ H A f U fits. record { parts = fits-synced _ _ _ _ _ _ _ _ _ _ H A f U fits.parts _ refl; slots = fits.slots }
 
 pub returns-clause-reserved : goal.returns-clause-reserved
 returns-clause-reserved g c = reserved_past c.args.self.now

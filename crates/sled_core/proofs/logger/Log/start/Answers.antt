@@ -3,6 +3,7 @@ use Rattle.sled_codec.specs.declared.result.Error.{Error}
 use Rattle.sled_codec.specs.declared.result.Error.TheVariants.{Corruption}
 use Rattle.sled_codec.specs.Errors.{IsCorrupt}
 use Rattle.sled_codec.specs.Snapshots.{SnapshotModel, model_of, stable_place}
+use Rattle.sled_store.specs.Accounts.{IsAccountant}
 use Rattle.sled_store.specs.Causes.{StartRefuses}
 use Rattle.sled_store.specs.declared.config.Config.{Config}
 use Rattle.sled_store.specs.Device.{State, LogState, NamesState, Trace, state_of, at_rest}
@@ -17,6 +18,8 @@ use Rattle.sled_core.specs.Fits.{Holds, HoldsIn}
 use Rattle.sled_core.specs.declared.iobuf.SegmentPosition.{SegmentPosition}
 use Rattle.sled_core.specs.Running.{Ready, Fits, FitsIn}
 use Rattle.sled_store.proofs.Segments.StartedFile.{started_file, started-log, started-snapshots, started-blobs}
+use Rattle.sled_core.proofs.Holds.SlotLemmas.{slots_at}
+use Rattle.sled_core.proofs.Start.BegunSlots.{begun_slots}
 use Rattle.sled_core.proofs.Start.StartedMoments.{started_throughout}
 use Rattle.sled_core.proofs.Start.ReadyStarts.{ready_starts}
 use Rattle.sled_core.proofs.Start.StartFits.{start_fits}
@@ -35,7 +38,12 @@ invariant_of-result g c =
     let inside = in_segment c.args.config.config.segment_size len s c.in-Ok.beginning c.in-Ok.ensures.beginning c.in-Ok.ensures.answers.0 c.in-Ok.ensures.answers.1 g.C.Checksum.sum_of c.in-Ok.buffer long c.in-Ok.ensures.buffer in
     let place = place_in_reach c.args.config.config.segment_size len s c.in-Ok.beginning c.in-Ok.ensures.beginning c.in-Ok.ensures.answers.0 c.in-Ok.ensures.answers.1 in
     let slot = slot_in_reach c.args.config.config.segment_size len s c.in-Ok.beginning c.in-Ok.ensures.beginning c.in-Ok.ensures.answers.0 c.in-Ok.ensures.answers.1 in
-    record { in_segment = omega (arith, same, inside); place_in_reach = omega (arith, same, place); slot_in_reach = omega (arith, same, slot) }
+    record {
+      in_segment = omega (arith, same, inside);
+      place_in_reach = omega (arith, same, place);
+      slot_in_reach = omega (arith, same, slot);
+      account = subst (λ n. IsAccountant n c.in-Ok.accountant) (sym same) c.in-Ok.ensures.account;
+    }
 
 -- the log file, once the log is started
 started_log : (size : ℕ) → 0 < size → (s : SnapshotModel) (old new : Trace) → new ≡ after_all (started size (length (state_of old).log.bytes) s).calls old → (log : List ℕ) → (state_of old).log ≡ at_rest log
@@ -80,10 +88,14 @@ returns-in-Ok-clause-fits g c = λ H A f ready.
     let same : c.begin.new.config.config.segment_size ≡ size = ap (λ (x : Config). x.segment_size) c.begin.ensures.config in
     let site : SegmentPosition = record { place = c.in-Ok.beginning.place; slot = c.in-Ok.beginning.slot } in
     let first = c.in-Ok.ensures.buffer in
-    subst (λ n. FitsIn g.C.Checksum.sum_of (log_parts n site now None c.in-Ok.buffer.bytes.items c.in-Ok.buffer.written_len c.in-Ok.buffer.sealed.items c.in-Ok.buffer.reserved.items) [] 0 H A f []) (sym same)
-    (start_fits g.C.Checksum.sum_of size (state_of old) now s H A f c.args.config.config.least ready c.in-Ok.ensures.answers.0
-    (started_log size some s old (g.D.Device.trace c.begin.new.config.device) c.in-Ok.ensures.made ready.ready.log ready.ready.settled) (ap (λ (t : Trace). (state_of t).blobs) c.in-Ok.ensures.made ∙ started-blobs size some (state_of old).log.bytes s old) (ap (λ (t : Trace). (state_of t).snapshots) c.in-Ok.ensures.made ∙ started-snapshots size some (state_of old).log.bytes s old)
-    c.in-Ok.beginning c.in-Ok.ensures.beginning c.in-Ok.buffer.bytes.items c.in-Ok.buffer.written_len c.in-Ok.buffer.sealed.items c.in-Ok.buffer.reserved.items first.header first.resumed first.from first.sealed first.reserved)
+    let log_now = started_log size some s old (g.D.Device.trace c.begin.new.config.device) c.in-Ok.ensures.made ready.ready.log ready.ready.settled in
+    record {
+      parts = subst (λ n. FitsIn g.C.Checksum.sum_of (log_parts n site now None c.in-Ok.buffer.bytes.items c.in-Ok.buffer.written_len c.in-Ok.buffer.sealed.items c.in-Ok.buffer.reserved.items) [] 0 H A f []) (sym same)
+          (start_fits g.C.Checksum.sum_of size (state_of old) now s H A f c.args.config.config.least ready c.in-Ok.ensures.answers.0
+          log_now (ap (λ (t : Trace). (state_of t).blobs) c.in-Ok.ensures.made ∙ started-blobs size some (state_of old).log.bytes s old) (ap (λ (t : Trace). (state_of t).snapshots) c.in-Ok.ensures.made ∙ started-snapshots size some (state_of old).log.bytes s old)
+          c.in-Ok.beginning c.in-Ok.ensures.beginning c.in-Ok.buffer.bytes.items c.in-Ok.buffer.written_len c.in-Ok.buffer.sealed.items c.in-Ok.buffer.reserved.items first.header first.resumed first.from first.sealed first.reserved);
+      slots = slots_at size _ _ _ _ _ None _ _ same (ap (λ (x : Beginning). x.slot) c.in-Ok.ensures.beginning) (ap (λ (l : LogState). l.bytes) log_now) c.in-Ok.ensures.machine (begun_slots size some (state_of old).log.bytes s None c.in-Ok.ensures.answers.0);
+    }
 
 -- damage comes only where a log can't begin
 not_damaged : (e : Error) (startable in_reach unwritten : Type 0) (before after : ℕ) → StartRefuses e startable in_reach unwritten before after → IsCorrupt e → startable → ⊥

@@ -9,8 +9,9 @@ use Rattle.sled_core.specs.Running.{Fits}
 use Rattle.sled_core.specs.SealedBuffers.{bytes_between, run_count, sealed_end, writing, written_at}
 use Rattle.sled_core.proofs.Flush.FlushFits.{fits_faulty, fits_same_device, flush_names}
 use Rattle.sled_core.proofs.Flush.FlushLemmas.{holds-faulty, holds-moved, memory_or_fault}
-use Rattle.sled_core.proofs.Flush.SealedWrites.{ReadyAt, buffer_crash, buffer_left, fits_buffer, holds_buffer, ready_at, run_ended, run_grows}
+use Rattle.sled_core.proofs.Flush.SealedWrites.{ReadyAt, buffer_crash, buffer_left, fits_buffer, holds_buffer, ready_at, run_ended, run_grows, slots_buffer}
 use Rattle.sled_core.proofs.Holds.KeptTickets.{tickets_behind}
+use Rattle.sled_core.proofs.Holds.SlotLemmas.{slots_faulty, slots_same}
 use Rattle.sled_core.proofs.Sealed.Slices.{slice_between}
 use Rattle.sled_core.proofs.logger.Log.write_buffer.Goals as goal
 
@@ -54,9 +55,15 @@ returns-in-Err-clause-keeps g c =
       fits = λ H A f U fits.
           let names = flush_names _ _ _ _ c.write_out.ensures.calls in
           elim (memory_or_fault c.in-Err.e c.in-Err.ensures.error) [
-            | inl memory ↦ fits_same_device g.C.Checksum.sum_of _ _ _ _ _ _ _ _ _ H A f U fits _ c.keep_fault.new.fault (ap state_of (c.in-Err.ensures.refused memory)) (c.keep_fault.ensures.memory memory ∙ sym c.requires.fault)
-            | inr fault ↦ fits_faulty g.C.Checksum.sum_of _ _ _ _ _ _ _ _ _ H A f U fits _ c.in-Err.e c.keep_fault.new.fault (c.keep_fault.ensures.kept fault) names.0 names.1
-                (at_last _ _ _ (buffer_left g.D.Device.trace g.C.Checksum.sum_of old c.args.k b.buffer b.there b.ready c.requires.fault H A f U fits _ came))
+            | inl memory ↦ record {
+              parts = fits_same_device g.C.Checksum.sum_of _ _ _ _ _ _ _ _ _ H A f U fits.parts _ c.keep_fault.new.fault (ap state_of (c.in-Err.ensures.refused memory)) (c.keep_fault.ensures.memory memory ∙ sym c.requires.fault);
+              slots = slots_same _ _ _ _ _ _ _ (ap (λ (t : Trace). (state_of t).log.bytes) (c.in-Err.ensures.refused memory)) (c.keep_fault.ensures.memory memory ∙ sym c.requires.fault) fits.slots;
+            }
+            | inr fault ↦ record {
+              parts = fits_faulty g.C.Checksum.sum_of _ _ _ _ _ _ _ _ _ H A f U fits.parts _ c.in-Err.e c.keep_fault.new.fault (c.keep_fault.ensures.kept fault) names.0 names.1
+                  (at_last _ _ _ (buffer_left g.D.Device.trace g.C.Checksum.sum_of old c.args.k b.buffer b.there b.ready c.requires.fault H A f U fits _ came));
+              slots = slots_faulty _ _ _ _ _ _ _ c.in-Err.e (c.keep_fault.ensures.kept fault) fits.slots;
+            }
           ];
     }
 
@@ -86,7 +93,11 @@ returns-clause-keeps g c =
         crash = λ H A f U fits. buffer_crash g.D.Device.trace g.C.Checksum.sum_of old c.args.k b.buffer b.there b.ready c.requires.fault H A f U fits _ came;
       };
       history = λ H holds. holds_buffer g.D.Device.trace g.C.Checksum.sum_of old c.args.k b.buffer b.there b.ready c.requires.fault H holds _ made c.mark_written.new.self is;
-      fits = λ H A f U fits. fits_buffer g.D.Device.trace g.C.Checksum.sum_of old c.args.k b.buffer b.there b.ready c.requires.fault H A f U fits _ made c.mark_written.new.self is A (omega (arith, fits.passes, grows, is.from));
+      fits = λ H A f U fits.
+          record {
+            parts = fits_buffer g.D.Device.trace g.C.Checksum.sum_of old c.args.k b.buffer b.there b.ready c.requires.fault H A f U fits _ made c.mark_written.new.self is A (omega (arith, fits.parts.passes, grows, is.from));
+            slots = slots_buffer g.D.Device.trace g.C.Checksum.sum_of old c.args.k b.buffer b.there b.ready c.requires.fault H A f U fits _ made _;
+          };
     }
 
 pub returns-clause-tickets : goal.returns-clause-tickets

@@ -7,12 +7,13 @@ use Rattle.sled_core.specs.Buffers.{none_open}
 use Rattle.sled_core.specs.declared.iobuf.Sealed.{Sealed}
 use Rattle.sled_core.specs.Fits.{Holds, HoldsIn, log_parts, writing_current}
 use Rattle.sled_core.specs.Running.{Fits}
-use Rattle.sled_core.proofs.Flush.FlushFits.{fits_faulty, fits_same_device, flush_crash, flush_left, fits_written, flush_names}
+use Rattle.sled_core.proofs.Flush.FlushFits.{fits_faulty, fits_same_device, flush_crash, flush_left, fits_written, flush_names, slots_flushed}
 use Rattle.sled_core.proofs.Flush.FlushCalls.{holds-flush}
 use Rattle.sled_core.proofs.Flush.FlushLemmas.{holds-faulty, holds-moved, memory_or_fault}
 use Rattle.sled_core.proofs.Holds.BufferEnds.{written_behind}
 use Rattle.sled_core.proofs.Holds.WholeLemmas.{holds-same}
 use Rattle.sled_core.proofs.Holds.KeptTickets.{tickets_ended}
+use Rattle.sled_core.proofs.Holds.SlotLemmas.{slots_faulty, slots_same}
 use Rattle.sled_core.proofs.Sealed.Slices.{on_bytes, slice_behind}
 use Rattle.sled_core.proofs.logger.Log.write_current.Goals as goal
 
@@ -49,9 +50,15 @@ returns-in-Err-clause-keeps g c =
       fits = λ H A f U fits.
           let names = flush_names _ _ _ _ c.write_out.ensures.calls in
           elim (memory_or_fault c.in-Err.e c.in-Err.ensures.error) [
-            | inl memory ↦ fits_same_device g.C.Checksum.sum_of _ _ _ _ _ _ _ _ _ H A f U fits _ c.keep_fault.new.fault (ap state_of (c.in-Err.ensures.refused memory)) (c.keep_fault.ensures.memory memory ∙ sym c.requires.fault)
-            | inr fault ↦ fits_faulty g.C.Checksum.sum_of _ _ _ _ _ _ _ _ _ H A f U fits _ c.in-Err.e c.keep_fault.new.fault (c.keep_fault.ensures.kept fault) names.0 names.1
-                (at_last _ _ _ (flush_left g.D.Device.trace g.C.Checksum.sum_of old H A f U fits c.requires.unsealed c.requires.ended c.requires.some c.requires.fault _ came))
+            | inl memory ↦ record {
+              parts = fits_same_device g.C.Checksum.sum_of _ _ _ _ _ _ _ _ _ H A f U fits.parts _ c.keep_fault.new.fault (ap state_of (c.in-Err.ensures.refused memory)) (c.keep_fault.ensures.memory memory ∙ sym c.requires.fault);
+              slots = slots_same _ _ _ _ _ _ _ (ap (λ (t : Trace). (state_of t).log.bytes) (c.in-Err.ensures.refused memory)) (c.keep_fault.ensures.memory memory ∙ sym c.requires.fault) fits.slots;
+            }
+            | inr fault ↦ record {
+              parts = fits_faulty g.C.Checksum.sum_of _ _ _ _ _ _ _ _ _ H A f U fits.parts _ c.in-Err.e c.keep_fault.new.fault (c.keep_fault.ensures.kept fault) names.0 names.1
+                  (at_last _ _ _ (flush_left g.D.Device.trace g.C.Checksum.sum_of old H A f U fits c.requires.unsealed c.requires.ended c.requires.some c.requires.fault _ came));
+              slots = slots_faulty _ _ _ _ _ _ _ c.in-Err.e (c.keep_fault.ensures.kept fault) fits.slots;
+            }
           ];
     }
 
@@ -77,6 +84,9 @@ returns-clause-keeps g c =
           (holds-flush g.C.Checksum.sum_of _ _ _ _ _ _ _ H here behind old.in_segment old.config.config.least old.place_in_reach old.slot_in_reach c.requires.ended c.requires.some c.requires.fault _
           (ap (λ (t : Trace). (state_of t).log) made) (ap (λ (s : NamesState). s.file) c.write_out.ensures.names));
       fits = λ H A f U fits.
-          fits_written g.D.Device.trace g.C.Checksum.sum_of old H A f U fits c.requires.unsealed c.requires.ended c.requires.some c.requires.fault _ made
-          _ _ _ _ c.advance.ensures.bytes c.advance.ensures.from c.advance.ensures.sealed c.advance.ensures.reserved A (omega (arith, fits.passes, behind, c.advance.ensures.from));
+          record {
+            parts = fits_written g.D.Device.trace g.C.Checksum.sum_of old H A f U fits c.requires.unsealed c.requires.ended c.requires.some c.requires.fault _ made
+                _ _ _ _ c.advance.ensures.bytes c.advance.ensures.from c.advance.ensures.sealed c.advance.ensures.reserved A (omega (arith, fits.parts.passes, behind, c.advance.ensures.from));
+            slots = slots_flushed g.D.Device.trace g.C.Checksum.sum_of old H A f U fits c.requires.unsealed c.requires.ended c.requires.some c.requires.fault _ made _;
+          };
     }
