@@ -152,13 +152,13 @@ pub record IsOnDevice (sum : List ℕ → ℕ) (size : ℕ) (device : LogState) 
   pub settled : device ≡ at_rest log
   pub file : IsLogFile sum size log site from messages stays
 
--- The newest snapshot on the device is the table of the history below its own place. That is where the current segment begins, or in it.
+-- The newest snapshot on the device is the table of the history below its own place, which is where the segment at this site begins, or in it, or in an earlier one.
 pub record IsBegunFrom (sum : List ℕ → ℕ) (size : ℕ) (snapshots : ℤ → Option (List ℕ)) (site : SegmentPosition) (from : ℕ) (H : History) : Type 0 where
   pub first : SnapshotModel
   pub begins : BeginsFrom sum snapshots first
   pub table : IsTable first.pages H (stable_place first.stable)
   pub fits : CutFits H (stable_place first.stable)
-  pub least : stable_place first.stable / size * size ≡ site.place
+  pub least : stable_place first.stable / size * size ≤ site.place
   pub reached : stable_place first.stable ≤ site.place + from
 
 -- messages lie below a place, and end there at most

@@ -62,7 +62,7 @@ module _ (sum : List ℕ → ℕ) (size : ℕ) (device now : State) (s : Snapsho
     begins = subst (λ (f : ℤ → Option (List ℕ)). BeginsFrom sum f ready.first) (sym same_names) ready.begins;
     table = first_table;
     fits = subst (CutFits H) (sym same_stable) (cut_fits H stable ready.below ready.batches);
-    least = ap (λ n. n / size * size) same_stable ∙ least;
+    least = (let same = ap (λ n. n / size * size) same_stable in omega (arith, same, least));
     reached = omega (arith, end, same_stable);
   }
 
