@@ -188,8 +188,6 @@ pub record HoldsSegment (sum : List ℕ → ℕ) (parts : LogParts) (stays : Mes
   pub header : parts.written_len ≡ 0 → HasMark sum parts.site parts.bytes H
   pub chain : IsChain (max 20 parts.written_len) parts.reserved (length parts.bytes)
   pub stand : All (Stands sum parts.size (parts.site.place / parts.size) parts.bytes) parts.reserved
-  -- none fills the segment, until a log begins further segments
-  pub plain : All NoPadding parts.reserved
   pub written : parts.fault ≡ None → IsOnDevice sum parts.size parts.device.log parts.site parts.written_len earlier stays
   -- what the log file has of the sealed buffers, and zeros behind them
   pub laid : parts.fault ≡ None → Laid parts.device.log.bytes parts.site.slot parts.bytes parts.written_len parts.sealed parts.size
@@ -236,6 +234,8 @@ pub record HoldsIn (sum : List ℕ → ℕ) (parts : LogParts) (behind : List Se
   pub own : HoldsSegment sum parts (StaysFrom H (stable_place begun.first.stable)) (record { messages = head; batches = H.batches })
   pub others : HoldBehind sum parts.size parts.device parts.fault (parts.site.place + parts.size) behind (StaysBelow H (stable_place begun.first.stable) parts.site.place) H.batches later
   pub apart : FollowApart parts.site (map begun_segment behind)
+  -- nothing fills the first segment, until a log begins further ones
+  pub plain : All NoPadding parts.reserved
 
 -- The log holds this history.
 unfoldable pub Holds : {D C : Type 0} → (D → Trace) → (List ℕ → ℕ) → Log D C → History → Type 0

@@ -49,21 +49,11 @@ chain_some sum size number bytes from end (r ∷ rs) some stand chain =
     let rest = chain_grows (max 20 from + r.len) end rs chain.1 in
     omega (arith, long, rest)
 
--- where something is reserved a record has room behind what was written
-chain_room : (sum : List ℕ → ℕ) (size number : ℕ) (bytes : List ℕ) (from end : ℕ) (rs : List Reserved) → 0 < length rs → All (Stands sum size number bytes) rs → All NoPadding rs → IsChain (max 20 from) rs end → from + 32 ≤ size
-chain_room sum size number bytes from end [] some stand plain chain = absurd (omega (arith, some))
-chain_room sum size number bytes from end (r ∷ rs) some stand plain chain =
-    let fits = (reserved_in sum size number bytes r (plain 0 r (omega arith)) (stand 0 r (omega arith))).room in omega (arith, fits, chain.0)
-
 module _ (sum : List ℕ → ℕ) (size : ℕ) (site : SegmentPosition) (device : State) (fault : Option IoError) (bytes : List ℕ) (from : ℕ) (bs : List Sealed) (rs : List Reserved) (H : History)
     {stays : Message → Type 0} (holds : HoldsSegment sum (log_parts size site device fault bytes from bs rs) stays H) where
-  -- Something was reserved, so there is something to write, and room where it begins.
-
+  -- Something was reserved, so there is something to write.
   pub grown : 0 < length rs → from < length bytes
   grown some = chain_some sum size (site.place / size) bytes from (length bytes) rs some holds.stand holds.chain
-
-  pub has_room : 0 < length rs → from + 32 ≤ size
-  has_room some = chain_room sum size (site.place / size) bytes from (length bytes) rs some holds.stand holds.plain holds.chain
 
   -- In a log that keeps a failure of its device it holds what it held, whatever the log file is now.
   pub segment-faulty : (new : State) (e : IoError) (now : Option IoError) → now ≡ Some e → HoldsSegment sum (log_parts size site new now bytes from bs rs) stays H
@@ -78,7 +68,6 @@ module _ (sum : List ℕ → ℕ) (size : ℕ) (site : SegmentPosition) (device 
     header = holds.header;
     chain = holds.chain;
     stand = holds.stand;
-    plain = holds.plain;
     written = λ none. cc;
     laid = λ none. cc;
   }
@@ -88,8 +77,8 @@ abbrev pub holds_over : (sum : List ℕ → ℕ) (size : ℕ) (site : SegmentPos
     (holds : HoldsIn sum (log_parts size site device fault bytes from bs rs) behind H)
     (new : State) (now : Option IoError) (bytes' : List ℕ) (from' : ℕ) (bs' : List Sealed) (rs' : List Reserved) → new.snapshots.file ≡ device.snapshots.file → from ≤ from'
     → HoldsSegment sum (log_parts size site new now bytes' from' bs' rs') (StaysFrom H (stable_place holds.begun.first.stable)) (record { messages = holds.head; batches = H.batches })
-    → HoldBehind sum size new now (site.place + size) behind (StaysBelow H (stable_place holds.begun.first.stable) site.place) H.batches holds.later → HoldsIn sum (log_parts size site new now bytes' from' bs' rs') behind H
-holds_over sum size site device fault bytes from bs rs behind H holds new now bytes' from' bs' rs' names more own others = record {
+    → HoldBehind sum size new now (site.place + size) behind (StaysBelow H (stable_place holds.begun.first.stable) site.place) H.batches holds.later → All NoPadding rs' → HoldsIn sum (log_parts size site new now bytes' from' bs' rs') behind H
+holds_over sum size site device fault bytes from bs rs behind H holds new now bytes' from' bs' rs' names more own others plain = record {
   begun = begun-more sum size device.snapshots.file new.snapshots.file site from from' H names more holds.begun;
   head = holds.head;
   later = holds.later;
@@ -97,6 +86,7 @@ holds_over sum size site device fault bytes from bs rs behind H holds new now by
   own = own;
   others = others;
   apart = holds.apart;
+  plain = plain;
 }
 
 -- The segments behind the first one, in a log that keeps a failure of its device.
@@ -127,7 +117,7 @@ module _ (sum : List ℕ → ℕ) (size : ℕ) (site : SegmentPosition) (device 
   holds-faulty new e now is names =
       holds_over sum size site device fault bytes from bs rs behind H holds new now bytes from bs rs names (omega arith)
       (segment-faulty sum size site device fault bytes from bs rs (record { messages = holds.head; batches = H.batches }) holds.own new e now is)
-      (behind_faulty sum size device fault (site.place + size) behind (StaysBelow H (stable_place holds.begun.first.stable) site.place) H.batches holds.later holds.others new e now is)
+      (behind_faulty sum size device fault (site.place + size) behind (StaysBelow H (stable_place holds.begun.first.stable) site.place) H.batches holds.later holds.others new e now is) holds.plain
 
   -- The same device and the same failure hold the same.
   pub holds-moved : (after : State) (now : Option IoError) → after ≡ device → now ≡ fault → HoldsIn sum (log_parts size site after now bytes from bs rs) behind H

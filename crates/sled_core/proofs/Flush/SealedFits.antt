@@ -191,7 +191,6 @@ module _ (sum : List ℕ → ℕ) (size : ℕ) (site : SegmentPosition) (device 
     header = λ none. absurd (let some = up.1 in omega (arith, none, some));
     chain = let some = up.1 in let same : stop ≡ max 20 stop = omega (arith, some) in subst (λ n. IsChain n others (length bytes)) same chain_others;
     stand = All-drop (Stands sum size (site.place / size) bytes) count rs holds.stand;
-    plain = All-drop NoPadding count rs holds.plain;
     written = λ none. record {
       log = new_log;
       settled = is;
@@ -261,7 +260,7 @@ module _ (sum : List ℕ → ℕ) (size : ℕ) (site : SegmentPosition) (device 
       (let low = run_below b.end rest size rise_whole.1 in omega (arith, low)) (has_first sum size site device fault bytes from b rest rs own_history holds.own short big place_small slot_small are fresh closed rise whole)
 
   room_whole : from + 32 ≤ size
-  room_whole = plain_room sum size (site.place / size) bytes from big begins_whole rs b rest are holds.own.stand holds.own.plain
+  room_whole = plain_room sum size (site.place / size) bytes from big begins_whole rs b rest are holds.own.stand holds.plain
 
   -- What a crash leaves of the write.
   torn_first : NoHeaderOfZeros sum → {others : List BegunSegment} → StandsAmong sum size old_whole site from others (site.place + from) H holds.begun.first → (now left : List ℕ) → length now ≤ length asked_whole
@@ -276,7 +275,7 @@ module _ (sum : List ℕ → ℕ) (size : ℕ) (site : SegmentPosition) (device 
       → StandsAmong sum size (padded end (overwritten old_whole (site.slot + from) asked_whole)) site stop_whole others (site.place + stop_whole) H holds.begun.first
   alone_first zeros end far {others} =
       first_alone sum size big old_whole site holds.own.place_begins holds.own.slot_begins place_small slot_small bytes from begins_whole rs b rest fresh closed are rise_whole inside_whole header_whole file_whole.header (holds.own.laid whole)
-      holds.own.stand holds.own.plain zeros (site.place + from) holds.begun.first has_whole (whole_ascends sum size site device fault bytes from (b ∷ rest) rs H holds short) (let least = holds.begun.least in omega (arith, least))
+      holds.own.stand holds.plain zeros (site.place + from) holds.begun.first has_whole (whole_ascends sum size site device fault bytes from (b ∷ rest) rs H holds short) (let least = holds.begun.least in omega (arith, least))
       (none_crosses sum size site device fault bytes from (b ∷ rest) rs own_history holds.own (site.place + stop_whole) (let above = (stop_up from rs b rest closed are).0 in omega (arith, above))) end far {others = others}
 
   -- so the file reaches its slot
@@ -329,7 +328,6 @@ module _ (sum : List ℕ → ℕ) (size : ℕ) (site : SegmentPosition) (device 
     header = holds.header;
     chain = holds.chain;
     stand = holds.stand;
-    plain = holds.plain;
     written = λ none. record { log = new_later; settled = is; file = file_beside sum size site old_later at asked_later from holds.earlier stays file_later lies.0 covers };
     laid = λ none. subst (λ (s : LogState). Laid s.bytes site.slot bytes from (x ∷ xs ++ now_written b ∷ rest) size) (sym is)
         (laid_new old_later site.slot bytes from (x ∷ xs) b rest size rise_later lies.2 (holds.laid whole));
@@ -413,7 +411,7 @@ module _ (sum : List ℕ → ℕ) (size : ℕ) (site : SegmentPosition) (device 
       (reaches_first sum size site device fault bytes from b rest rs H fits.holds short big place_small slot_small are fresh closed rise whole) (behind_run rest) (drop (b.count + run_count rest) rs)
       (holds_over sum size site device fault bytes from (b ∷ rest) rs behind H fits.holds (after_behind []) fault bytes (run_end b.end rest) (behind_run rest) (drop (b.count + run_count rest) rs) refl (stop_up from rs b rest closed are).0
       (segment_first sum size site device fault bytes from b rest rs (own_of fits.holds.head) fits.holds.own short big place_small slot_small are fresh closed rise whole (after_behind []) refl)
-      (others_written sum size site device fault bytes from (b ∷ rest) rs H fits.holds (omega (arith, big)) whole (site.slot + from) (asked_behind []) range.0 (omega arith) (omega (arith, range.2)) (after_behind []) refl)) refl A'
+      (others_written sum size site device fault bytes from (b ∷ rest) rs H fits.holds (omega (arith, big)) whole (site.slot + from) (asked_behind []) range.0 (omega arith) (omega (arith, range.2)) (after_behind []) refl) (All-drop NoPadding (b.count + run_count rest) rs fits.holds.plain)) refl A'
   fits_around (x ∷ xs) fits are fresh rise A' =
       let range = asked_range (x ∷ xs) are rise in
       no_run (λ n cs others. A' ≤ site.place + n → FitsIn sum (log_parts size site (after_behind (x ∷ xs)) fault bytes n cs others) behind pins H A' f U) from x (xs ++ now_written b ∷ rest) rs fresh
@@ -424,7 +422,7 @@ module _ (sum : List ℕ → ℕ) (size : ℕ) (site : SegmentPosition) (device 
       (reaches_later sum size site device fault bytes from x xs b rest rs (own_of fits.holds.head) fits.holds.own short big place_small slot_small are rise whole) (x ∷ xs ++ now_written b ∷ rest) rs
       (holds_over sum size site device fault bytes from (x ∷ xs ++ b ∷ rest) rs behind H fits.holds (after_behind (x ∷ xs)) fault bytes from (x ∷ xs ++ now_written b ∷ rest) rs refl (omega arith)
       (segment_later sum size site device fault bytes from x xs b rest rs (own_of fits.holds.head) fits.holds.own short big place_small slot_small are rise whole (after_behind (x ∷ xs)) refl)
-      (others_written sum size site device fault bytes from (x ∷ xs ++ b ∷ rest) rs H fits.holds (omega (arith, big)) whole (site.slot + sealed_end x.end xs) (asked_behind (x ∷ xs)) range.0 (omega (arith, range.1)) (omega (arith, range.2)) (after_behind (x ∷ xs)) refl)) refl A')
+      (others_written sum size site device fault bytes from (x ∷ xs ++ b ∷ rest) rs H fits.holds (omega (arith, big)) whole (site.slot + sealed_end x.end xs) (asked_behind (x ∷ xs)) range.0 (omega (arith, range.1)) (omega (arith, range.2)) (after_behind (x ∷ xs)) refl) fits.holds.plain) refl A')
 
 -- a list once the one at an index is written, and around it
 written_split : (k : ℕ) (bs : List Sealed) (b : Sealed) → slice_get bs k ≡ Some b → written_at k bs ≡ take k bs ++ now_written b ∷ drop (suc k) bs
@@ -479,6 +477,7 @@ holds_written_one sum size site device fault bytes from bs rs H {behind} holds s
     holds_over sum size site device fault bytes from bs rs behind H holds new fault bytes (run_end from now) (behind_run now) (drop (run_count now) rs) names grows
     (segment_written_one sum size site device fault bytes from bs rs (record { messages = holds.head; batches = H.batches }) holds.own short big place_small slot_small are fresh rise whole k b there ready new is)
     (others_written sum size site device fault bytes from bs rs H holds (omega (arith, big)) whole (site.slot + sealed_end from (take k bs)) (bytes_between bytes (sealed_end from (take k bs)) b.end) range.0 (omega (arith, range.1)) (omega (arith, range.2)) new is)
+    (All-drop NoPadding (run_count now) rs holds.plain)
 
 module _ (sum : List ℕ → ℕ) (size : ℕ) (site : SegmentPosition) (device : State) (fault : Option IoError) (bytes : List ℕ) (from : ℕ) (bs : List Sealed) (rs : List Reserved) (pins : ℕ) (H : History) (A f : ℕ) (U : List Message)
     {behind : List SegmentParts} (fits : FitsIn sum (log_parts size site device fault bytes from bs rs) behind pins H A f U)

@@ -105,7 +105,6 @@ segment_beside sum size site device fault bytes from bs rs H {stays} holds are l
   header = holds.header;
   chain = holds.chain;
   stand = holds.stand;
-  plain = holds.plain;
   written = λ none. record {
     log = overwritten device.log.bytes at xs;
     settled = is;

@@ -92,7 +92,6 @@ module _ (sum : List ℕ → ℕ) (size : ℕ) (site : SegmentPosition) (device 
     holds_new bs' H' messages same on_device laid =
         let fit = fits sum number bytes r ends its.text word k in
         let long : length new ≡ length bytes = length-written bytes (ending word k) r.from fit in
-        let others = all_split NoPadding xs ys r holds.plain in
         record {
           earlier = holds.earlier;
           messages = messages ∙ ap (λ (ms : List Message). holds.earlier ++ ms) (sym messages_new);
@@ -104,7 +103,6 @@ module _ (sum : List ℕ → ℕ) (size : ℕ) (site : SegmentPosition) (device 
           header = λ first. let m = holds.header first in record { mark = m.mark; is = part-written_before bytes (ending word k) r.from 0 20 (omega (arith, begins)) fit ∙ m.is; of_history = mark_same H H' (record { place = site.place; slot = site.slot; mark = m.mark }) same m.of_history };
           chain = subst (λ n. IsChain (max 20 from) (xs ++ ended state r ∷ ys) n) (sym long) (chain-joined (max 20 from) (length bytes) xs ys (ended state r) chains.0 chains.1);
           stand = stand_new;
-          plain = all_joined NoPadding xs ys (ended state r) others.0 plain others.2;
           written = on_device;
           laid = laid;
         }
@@ -176,7 +174,6 @@ segment-fewer sum size site device fault bytes from bs rs H stays stays' fewer h
   header = holds.header;
   chain = holds.chain;
   stand = holds.stand;
-  plain = holds.plain;
   written = λ ok. fewer_stay sum size device.log site from holds.earlier stays stays' fewer (holds.written ok);
   laid = holds.laid;
 }

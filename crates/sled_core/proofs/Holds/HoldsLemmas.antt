@@ -69,7 +69,6 @@ module _ (sum : List ℕ → ℕ) (size : ℕ) (site : SegmentPosition) (device 
         chain = subst (λ (n : ℕ). IsChain (max 20 from) (rs ++ r ∷ []) n) end (chain-append (max 20 from) (length bytes) rs r holds.chain at);
         stand = All-append (Stands sum size number new) rs (r ∷ []) (λ k d lt. stands-append sum size number bytes more (get_or rs k d) (within k d lt) (holds.stand k d lt))
             (one (Stands sum size number new) r (in_reserved sum size number new r (open_plain r.state is_open) (record { room = has_room; text = stands })));
-        plain = All-append NoPadding rs (r ∷ []) holds.plain (one NoPadding r (open_plain r.state is_open));
         written = holds.written;
         laid = λ ok. laid_append device.log.bytes site.slot bytes more from bs size rise (holds.laid ok);
       }

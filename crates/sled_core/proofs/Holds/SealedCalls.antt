@@ -26,7 +26,6 @@ segment-sealed sum size site device fault bytes from bs rs own H short inside ho
   header = holds.header;
   chain = holds.chain;
   stand = holds.stand;
-  plain = holds.plain;
   written = holds.written;
   laid = λ ok. laid_sealed device.log.bytes site.slot bytes from bs (seal_at (length bytes) own) size refl short inside (holds.laid ok);
 }

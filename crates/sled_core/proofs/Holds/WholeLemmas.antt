@@ -2,7 +2,7 @@
 use Rattle.std.proofs.Common.{◌≡◌, ◌≤◌, ◌<◌, ◌+◌, ◌-◌, ◌/◌, ◌∙◌, ℕ, List, [], ◌∷◌, ◌++◌, length, set, Option, Some, refl, sym, ap, subst, arith, append_assoc, inl, inr}
 use Rattle.std.specs.List.{All, Contains, slice_get}
 use Rattle.std.specs.declared.io.Error.{Error as IoError}
-use Rattle.std.proofs.lemmas.List.Elements.{All-contains, Contains-append_cases}
+use Rattle.std.proofs.lemmas.List.Elements.{All-append, All-contains, All-set, Contains-append_cases}
 use Rattle.sled_codec.specs.Snapshots.{stable_place}
 use Rattle.sled_codec.specs.Written.{written}
 use Rattle.sled_codec.specs.History.{Message, Batch, History, AddsMessage}
@@ -11,7 +11,8 @@ use Rattle.sled_core.specs.declared.iobuf.ReservationState.TheVariants.{Open, Co
 use Rattle.sled_core.specs.declared.iobuf.Reserved.{Reserved}
 use Rattle.sled_core.specs.declared.iobuf.Sealed.{Sealed}
 use Rattle.sled_core.specs.declared.iobuf.SegmentPosition.{SegmentPosition}
-use Rattle.sled_core.specs.Buffers.{canceling, completing, ended, message_in, HasText}
+use Rattle.sled_core.specs.Buffers.{canceling, completing, ended, message_in, HasText, NoPadding}
+use Rattle.sled_core.proofs.Reserve.Entries.{open_plain}
 use Rattle.sled_core.specs.Fits.{log_parts, HoldBehind, HoldsIn, HoldsSegment, SegmentParts}
 use Rattle.sled_core.specs.LogFile.{StaysBelow, StaysFrom}
 use Rattle.sled_core.specs.SealedBuffers.{AreSealed, one_ended, seal_at, sealed_end}
@@ -20,7 +21,7 @@ use Rattle.sled_core.proofs.Holds.BegunLemmas.{begun-adds, stays_adds}
 use Rattle.sled_core.proofs.Holds.BehindKept.{behind_fewer}
 use Rattle.sled_core.proofs.Holds.CanceledLemmas.{segment-aborted}
 use Rattle.sled_core.proofs.Holds.CompletedLemmas.{behind_written, ends_within, segment-complete}
-use Rattle.sled_core.proofs.Holds.HoldsLemmas.{segment-append, segment-same}
+use Rattle.sled_core.proofs.Holds.HoldsLemmas.{one, segment-append, segment-same}
 use Rattle.sled_core.proofs.Holds.SealedCalls.{segment-sealed}
 use Rattle.sled_core.proofs.Holds.WholeHistory.{behind_above}
 use Rattle.sled_core.proofs.Sealed.LaidLemmas.{EndsRise}
@@ -30,7 +31,7 @@ pub holds-same : (sum : List ℕ → ℕ) (size : ℕ) (site : SegmentPosition) 
     → bytes' ≡ bytes → from' ≡ from → bs' ≡ bs → rs' ≡ rs → HoldsIn sum (log_parts size site device fault bytes from bs rs) behind H → HoldsIn sum (log_parts size site device fault bytes' from' bs' rs') behind H
 holds-same sum size site device fault bytes bytes' from from' bs bs' rs rs' H {behind} b f e r holds =
     holds_over sum size site device fault bytes from bs rs behind H holds device fault bytes' from' bs' rs' refl (omega (arith, f))
-    (segment-same sum size site device fault bytes bytes' from from' bs bs' rs rs' (record { messages = holds.head; batches = H.batches }) b f e r holds.own) holds.others
+    (segment-same sum size site device fault bytes bytes' from from' bs bs' rs rs' (record { messages = holds.head; batches = H.batches }) b f e r holds.own) holds.others (subst (All NoPadding) (sym r) holds.plain)
 
 module _ (sum : List ℕ → ℕ) (size : ℕ) (site : SegmentPosition) (device : State) (fault : Option IoError) (bytes : List ℕ) (from : ℕ) (bs : List Sealed) (rs : List Reserved) (H : History)
     {behind : List SegmentParts} (holds : HoldsIn sum (log_parts size site device fault bytes from bs rs) behind H) where
@@ -47,12 +48,12 @@ module _ (sum : List ℕ → ℕ) (size : ℕ) (site : SegmentPosition) (device 
       → HoldsIn sum (log_parts size site device fault (bytes ++ more) from bs (rs ++ r ∷ [])) behind H
   holds-append more r begun within at long is_open has_room rise stands =
       holds_over sum size site device fault bytes from bs rs behind H holds device fault (bytes ++ more) from bs (rs ++ r ∷ []) refl (omega arith)
-      (segment-append sum size site device fault bytes from bs rs of_first holds.own more r begun within at long is_open has_room rise stands) holds.others
+      (segment-append sum size site device fault bytes from bs rs of_first holds.own more r begun within at long is_open has_room rise stands) holds.others (All-append NoPadding rs (r ∷ []) holds.plain (one NoPadding r (open_plain r.state is_open)))
 
   -- The current buffer is sealed.
   pub holds-sealed : (own : List Reserved) → length bytes ≤ size → sealed_end from bs ≤ length bytes → HoldsIn sum (log_parts size site device fault bytes from (bs ++ seal_at (length bytes) own ∷ []) rs) behind H
   holds-sealed own short inside = holds_over sum size site device fault bytes from bs rs behind H holds device fault bytes from (bs ++ seal_at (length bytes) own ∷ []) rs refl (omega arith)
-      (segment-sealed sum size site device fault bytes from bs rs own of_first short inside holds.own) holds.others
+      (segment-sealed sum size site device fault bytes from bs rs own of_first short inside holds.own) holds.others holds.plain
 
   module _ (i : ℕ) (r : Reserved) (there : slice_get rs i ≡ Some r) (is_open : r.state ≡ Open) (written_low : from ≤ length bytes) (are : AreSealed from rs bs) where
     -- One that is aborted leaves the history as it was.
@@ -60,7 +61,7 @@ module _ (sum : List ℕ → ℕ) (size : ℕ) (site : SegmentPosition) (device 
         → HoldsIn sum (log_parts size site device fault bytes' from' bs' rs') behind H
     holds-aborted bytes' from' bs' rs' is_bytes is_from is_bs is_rs =
         holds_over sum size site device fault bytes from bs rs behind H holds device fault bytes' from' bs' rs' refl (omega (arith, is_from))
-        (segment-aborted sum size site device fault bytes bytes' from from' bs bs' rs rs' i r of_first is_bytes is_from is_bs is_rs holds.own there is_open written_low are) holds.others
+        (segment-aborted sum size site device fault bytes bytes' from from' bs bs' rs rs' i r of_first is_bytes is_from is_bs is_rs holds.own there is_open written_low are) holds.others (subst (All NoPadding) (sym is_rs) (All-set NoPadding rs i (ended Canceled r) (λ same. cc) holds.plain))
 
     -- The message of an open reservation is added at its place, in front of those of the segments behind.
     module _ (inside : length bytes ≤ size) where
@@ -115,5 +116,6 @@ module _ (sum : List ℕ → ℕ) (size : ℕ) (site : SegmentPosition) (device 
               (behind_fewer sum size device fault (site.place + size) behind (StaysBelow H stable site.place) (StaysBelow now stable site.place) H.batches holds.later
               (λ x its. let low = its.1 in (stays_adds H now m adds stable past x (omega (arith, low, above)) its.0, its.1)) holds.others);
           apart = holds.apart;
+          plain = All-set NoPadding rs i (ended Completed r) (λ same. cc) holds.plain;
         },
       )

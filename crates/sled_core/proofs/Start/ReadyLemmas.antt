@@ -82,6 +82,7 @@ module _ (sum : List ℕ → ℕ) (size : ℕ) (device now : State) (s : Snapsho
       messages = sym (append-nil H.messages);
       others = refl;
       apart = tt;
+      plain = λ k d lt. absurd (omega (arith, lt));
       own = record {
       earlier = H.messages;
       messages = sym (append-nil H.messages);
@@ -102,7 +103,6 @@ module _ (sum : List ℕ → ℕ) (size : ℕ) (device now : State) (s : Snapsho
         | inr start ↦ (let is : from ≡ 0 = omega (arith, start) in let header = first is in omega (arith, is, ap length header, length-short_header sum (pos site.place) (pos site.place -ℤ pos 1)))
       ];
       stand = λ k d lt. absurd (omega (arith, lt));
-      plain = λ k d lt. absurd (omega (arith, lt));
       written = λ none. record { log = now_log; settled = started_now; file = subst (λ n. IsLogFile sum size now_log site from H.messages (StaysFrom H n)) (sym same_stable) file };
       laid = λ none. subst (λ (l : LogState). AreZeros l.bytes (site.slot + from) (site.slot + size)) (sym started_now) clean;
       };
