@@ -121,7 +121,7 @@ module _ {D C : Type 0} (opened : Opened D C) where
         let place : ℕ = log.site.place in
         let from : ℕ = log.buffer.written_len in
         let end : ℕ = length log.buffer.bytes.items in
-        ap (λ n. place + n) (chain_pending sum (segment_size_of log) (place / segment_size_of log) log.buffer.bytes.items from end log.buffer.reserved.items fits.holds.chain fits.holds.stand)
+        ap (λ n. place + n) (chain_pending sum (segment_size_of log) (place / segment_size_of log) log.buffer.bytes.items from end log.buffer.reserved.items fits.parts.holds.chain fits.parts.holds.stand)
         ∙ end_at place from end (nat_lt (max 20 from) end)
         ∙ ap (λ (b : Bool). if b then place + end else place + from) (pending_at place from end)
 
@@ -135,7 +135,7 @@ module _ {D C : Type 0} (opened : Opened D C) where
         let bytes : List ℕ = drop from log.buffer.bytes.items in (
           bytes,
           length-drop from log.buffer.bytes.items ∙ omega arith,
-          flushing_alone log none ended ∙ chain_flushing sum (segment_size_of log) (place / segment_size_of log) bytes log.buffer.bytes.items (log.site.slot + from) from end log.buffer.reserved.items fits.holds.chain fits.holds.stand
+          flushing_alone log none ended ∙ chain_flushing sum (segment_size_of log) (place / segment_size_of log) bytes log.buffer.bytes.items (log.site.slot + from) from end log.buffer.reserved.items fits.parts.holds.chain fits.parts.holds.stand
               ∙ (λ i. if pending_at place from end i then Wrote (log.site.slot + sym stable_is i) bytes bytes ∷ Synced ∷ [] else []),
         )
 
