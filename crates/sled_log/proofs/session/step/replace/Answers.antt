@@ -86,6 +86,21 @@ returns-in-Ok-clause-step g c = λ k at.
       );
     }
 
+-- Its reservation is the only one that is open.
+pub returns-in-Ok-clause-on : goal.returns-in-Ok-clause-on
+returns-in-Ok-clause-on g c =
+    let goes_on = c.reserve.ensures.keeps.goes_on in
+    record {
+      runs_on = record { later = goes_on.later; kept = goes_on.config };
+      can_go_on = record {
+        open_yet = (message_for c.args.opened.log Replace c.args.page (short_bytes c.args.item.now.items), c.in-Ok.ensures.ticket);
+        only = c.in-Ok.ensures.open c.requires.no_open_batch.0;
+        page = let less : c.args.page < 2 ^ 64 - 1 = search rules in less;
+        fault = c.reserve.ensures.same.fault ∙ c.in-Ok.ensures.answers.0;
+        unsealed = c.reserve.ensures.unsealed c.requires.no_open_batch.1;
+      };
+    }
+
 -- A reservation that failed leaves the log as it was.
 pub returns-in-Err-clause-step : goal.returns-in-Err-clause-step
 returns-in-Err-clause-step g c = λ k at.
