@@ -1,5 +1,5 @@
 -- The invariant of a running log, and what a recovery leaves for it: over a history, the end of what was acknowledged, the floor, and the completed messages that were not marked yet.
-use Rattle.std.specs.Prelude.{◌≡◌, ◌≢◌, ◌≤◌, ◌<◌, ◌+◌, ℕ, ℤ, List, [], map, Option, None}
+use Rattle.std.specs.Prelude.{◌≡◌, ◌≢◌, ◌≤◌, ◌<◌, ◌+◌, nat_lt, max, if◌then◌else◌, ℕ, ℤ, List, [], ◌∷◌, map, Option, None, Contains}
 use Rattle.sled_codec.specs.declared.serialization.message.MessageKind.{MessageKind}
 use Rattle.sled_codec.specs.History.{Message, History}
 use Rattle.sled_codec.specs.Snapshots.{SnapshotModel, stable_place}
@@ -27,24 +27,33 @@ abbrev pub BlobsFit : (List ℕ → ℕ) → NamesState → History → ℕ → 
 BlobsFit sum blobs H reach =
     (left : ℤ → Option (List ℕ)) → ((n : ℤ) → LeavesName blobs n (left n)) → NoForeignNames (λ bytes. (k : MessageKind) × (item : List ℕ) × IsBlob sum bytes k item) blobs left → AreRecoverableBlobs sum left H reach
 
+-- The greatest end of messages that begin below a place: what is acknowledged once all below it is durable. (Behind the last message what fills a segment may be durable too, and a recovery doesn't count that.)
+abbrev pub end_below : ℕ → List Message → ℕ
+end_below place [] = 0
+end_below place (m ∷ ms) = if nat_lt m.place place then max (m.place + m.size) (end_below place ms) else end_below place ms
+
 -- What a log of these bytes and reservations over a device, with these segments behind, has to do with a history, the end of what was acknowledged, the floor and the messages that were not marked yet.
-pub record FitsIn (sum : List ℕ → ℕ) (parts : LogParts) (behind : List SegmentParts) (pins : ℕ) (H : History) (A f : ℕ) (U : List Message) : Type 0 where
+pub record FitsIn (sum : List ℕ → ℕ) (parts : LogParts) (behind : List SegmentParts) (reach pins : ℕ) (H : History) (A f : ℕ) (U : List Message) : Type 0 where
   pub holds : HoldsIn sum parts behind H
-  pub among : parts.fault ≡ None → NoHeaderOfZeros sum → StandsAmong sum parts.size parts.device.log.bytes parts.site parts.written_len (map begun_segment behind) (parts.site.place + parts.written_len) H holds.begun.first
+  -- a reader comes up to there in what is written, behind all messages that are
+  pub near : reach ≤ parts.site.place + parts.written_len
+  pub ends : (m : Message) → Contains H.messages m → m.place < parts.site.place + parts.written_len → (m.place < reach) × (m.place + m.size ≤ reach)
+  pub among : parts.fault ≡ None → NoHeaderOfZeros sum → StandsAmong sum parts.size parts.device.log.bytes parts.site parts.written_len (map begun_segment behind) reach H holds.begun.first
   -- and so does the file with zeros behind its end, as a write there makes it
-  pub beyond : (to : ℕ) → parts.site.slot ≤ to → parts.fault ≡ None → NoHeaderOfZeros sum → StandsAmong sum parts.size (padded to parts.device.log.bytes) parts.site parts.written_len (map begun_segment behind) (parts.site.place + parts.written_len) H holds.begun.first
-  pub blobs : BlobsFit sum parts.device.blobs H (parts.site.place + parts.written_len)
+  pub beyond : (to : ℕ) → parts.site.slot ≤ to → parts.fault ≡ None → NoHeaderOfZeros sum → StandsAmong sum parts.size (padded to parts.device.log.bytes) parts.site parts.written_len (map begun_segment behind) reach H holds.begun.first
+  pub blobs : BlobsFit sum parts.device.blobs H reach
   pub names : NamesFit sum parts.size parts.device.snapshots H f holds.begun.first
   -- all that was acknowledged is written
-  pub passes : A ≤ parts.site.place + parts.written_len
+  pub passes : A ≤ reach
   -- a pin is out while a completed message is not marked
   pub pinned : U ≢ [] → 0 < pins
   -- what a crash leaves now can be recovered, with all that is written counted as acknowledged
-  pub left : LeavesRecoverable sum parts.size H (parts.site.place + parts.written_len) f parts.device
+  pub left : LeavesRecoverable sum parts.size H reach f parts.device
 
--- What a log of these parts, with an accountant of this machine, has to do with them: it fits them, and the free slots have zeros.
+-- What a log of these parts, with an accountant of this machine, has to do with them: up to where a reader comes it fits them, and the free slots have zeros.
 pub record FitsWith (sum : List ℕ → ℕ) (log : LogParts) (behind : List SegmentParts) (pins : ℕ) (m : Machine) (H : History) (A f : ℕ) (U : List Message) : Type 0 where
-  pub parts : FitsIn sum log behind pins H A f U
+  pub reach : ℕ
+  pub parts : FitsIn sum log behind reach pins H A f U
   pub slots : HasSlots log.size log.site.slot log.device.log.bytes log.fault m
 
 -- The log fits this history, the end of what was acknowledged, the floor and the messages that were not marked yet.

@@ -2,7 +2,7 @@
 //!
 //! A log keeps the bytes of its segment, the reservations in them, the accountant of all segments, the count of pins,
 //! and the first failure of its device, which it answers from then on. `specs/Fits.antt` says which history it holds.
-ghost use Rattle.std.specs.Prelude.{List, ◌≡◌, ◌≢◌, ◌↔◌, ◌+◌, ◌-◌, ◌<◌, ◌≤◌, ◌^◌, ◌∷◌, ◌-ℤ◌, ◌<ℤ◌, ◌≤ℤ◌, pos, [], ℕ, length, drop, false, IsTrue, IfOk, IfErr, OnOk, OnErr, Contains, None, Some, ◌⊎◌, ◌/◌, unsigned_abs, ℤ};
+ghost use Rattle.std.specs.Prelude.{List, ◌≡◌, ◌≢◌, ◌↔◌, ◌+◌, ◌-◌, ◌<◌, ◌≤◌, ◌^◌, ◌∷◌, ◌-ℤ◌, ◌<ℤ◌, ◌≤ℤ◌, pos, [], ℕ, length, drop, false, IsTrue, IfOk, IfErr, OnOk, OnErr, Contains, None, Some, ◌⊎◌, ◌/◌, unsigned_abs, ℤ, max};
 ghost use Rattle.std.specs.declared.io.Error.{Error as IoError};
 ghost use Rattle.sled_codec.specs.Kinds.{kind_written};
 ghost use Rattle.sled_codec.specs.History.{History, Message, Completed, Step};
@@ -69,7 +69,7 @@ impl<D: Device, C: Checksum> Log<D, C> {
     ghost use Rattle.sled_core.specs.Keeps.{ConfigKept, GoesOn, Preserves, SamePosition};
     ghost use Rattle.sled_core.specs.ReadBuffer.{ReadAnswers, RefusesPlace, SealsAround, Settles, held_at};
     ghost use Rattle.sled_core.specs.Ready.{IsReady};
-    ghost use Rattle.sled_core.specs.Running.{Fits, Ready};
+    ghost use Rattle.sled_core.specs.Running.{Fits, Ready, end_below};
     ghost use Rattle.sled_core.specs.Starts.{BeginsBehind, StartsOrRefuses, config_left};
 
     /// Begins a log on what a recovery left: it goes on at the snapshot's stable place. First it fills the
@@ -157,7 +157,7 @@ impl<D: Device, C: Checksum> Log<D, C> {
         ensures place { result ≡ pos (synced_end self.now) -ℤ pos 1 }
         ensures reserved { synced_end self.now ≤ reserved_end self.now }
         ensures acknowledges { (H : History) (A f : ℕ) (U : List Message) → Fits D.trace C.sum_of self.now H A f U
-            → Fits D.trace C.sum_of self.now H (synced_end self.now) f U }
+            → Fits D.trace C.sum_of self.now H (max A (end_below (synced_end self.now) H.messages)) f U }
     {
         (self.site.place + self.buffer.synced_len() as u64) as i64 - 1
     }

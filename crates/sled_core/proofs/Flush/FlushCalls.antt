@@ -62,23 +62,23 @@ module _ (sum : List ℕ → ℕ) (size : ℕ) (site : SegmentPosition) (device 
       (holds_written_one sum size site device fault bytes from (one ∷ []) rs H sealed short big place_small slot_small are refl rise whole 0 one refl ready new
       (subst (λ (xs : List ℕ). new.log ≡ at_rest (overwritten device.log.bytes (site.slot + from) xs)) (sym all_of) is) names)
 
-  module _ (pins A f : ℕ) (U : List Message) (fits : FitsIn sum (log_parts size site device fault bytes from [] rs) behind pins H A f U) where
+  module _ {reach : ℕ} (pins A f : ℕ) (U : List Message) (fits : FitsIn sum (log_parts size site device fault bytes from [] rs) behind reach pins H A f U) where
     -- the state once it is written and synced
     abbrev after_sync : List ℕ → State
     after_sync xs = step Synced (step (Wrote (site.slot + from) xs xs) device)
 
-    fits_sealed : FitsIn sum (log_parts size site device fault bytes from (one ∷ []) rs) behind pins H A f U
+    fits_sealed : FitsIn sum (log_parts size site device fault bytes from (one ∷ []) rs) behind reach pins H A f U
     fits_sealed = fits-moved sum size site device fault bytes from [] rs pins H A f U fits bytes from (one ∷ []) rs refl sealed
 
     -- each content that a crash leaves on the way can be recovered
-    pub flush_along : Along (LeavesRecoverable sum size H (site.place + from) f) (Wrote (site.slot + from) asked asked ∷ Synced ∷ []) device
+    pub flush_along : Along (LeavesRecoverable sum size H reach f) (Wrote (site.slot + from) asked asked ∷ Synced ∷ []) device
     flush_along =
-        subst (λ (xs : List ℕ). Along (LeavesRecoverable sum size H (site.place + from) f) (Wrote (site.slot + from) xs xs ∷ Synced ∷ []) device) all_of
+        subst (λ (xs : List ℕ). Along (LeavesRecoverable sum size H reach f) (Wrote (site.slot + from) xs xs ∷ Synced ∷ []) device) all_of
         (write_along sum size site device fault bytes from (one ∷ []) rs pins H A f U fits_sealed short big place_small slot_small are refl rise whole 0 one refl ready)
 
-    -- The log fits with all that was written for what was acknowledged.
-    pub fits_flushed : (A' : ℕ) → A' ≤ site.place + length bytes → FitsIn sum (log_parts size site (after_sync asked) None bytes (length bytes) [] []) behind pins H A' f U
-    fits_flushed A' passes =
-        subst (λ (xs : List ℕ). FitsIn sum (log_parts size site (after_sync xs) None bytes (length bytes) [] []) behind pins H A' f U) all_of
-        (subst (λ (l : List Reserved). FitsIn sum (log_parts size site (after_sync (drop from (take (length bytes) bytes))) None bytes (length bytes) [] l) behind pins H A' f U) none_left
-        (fits_written_one sum size site device fault bytes from (one ∷ []) rs pins H A f U fits_sealed short big place_small slot_small are refl rise whole 0 one refl ready A' passes))
+    -- The log fits.
+    pub fits_flushed : (now : ℕ) × FitsIn sum (log_parts size site (after_sync asked) None bytes (length bytes) [] []) behind now pins H A f U
+    fits_flushed =
+        subst (λ (xs : List ℕ). (now : ℕ) × FitsIn sum (log_parts size site (after_sync xs) None bytes (length bytes) [] []) behind now pins H A f U) all_of
+        (subst (λ (l : List Reserved). (now : ℕ) × FitsIn sum (log_parts size site (after_sync (drop from (take (length bytes) bytes))) None bytes (length bytes) [] l) behind now pins H A f U) none_left
+        (fits_written_one sum size site device fault bytes from (one ∷ []) rs pins H A f U fits_sealed short big place_small slot_small are refl rise whole 0 one refl ready))

@@ -22,7 +22,8 @@ use Rattle.sled_core.proofs.Holds.SlotLemmas.{slots_written}
 pub use Rattle.sled_core.proofs.Flush.SameFits.{fits_answered, fits_faulty, fits_same_buffer, fits_same_device}
 
 -- A log whose device has not failed, with something to write.
-module _ {D C : Type 0} (trace : D → Trace) (sum : List ℕ → ℕ) (log : Log D C) (H : History) (A f : ℕ) (U : List Message) (fits : Fits trace sum log H A f U)
+module _ {D C : Type 0} (trace : D → Trace) (sum : List ℕ → ℕ) (log : Log D C) (H : History) (A f : ℕ) (U : List Message) {reach : ℕ}
+    (fits : FitsIn sum (log_parts log.config.config.segment_size log.site (state_of (trace log.config.device)) log.fault log.buffer.bytes.items log.buffer.written_len log.buffer.sealed.items log.buffer.reserved.items) [] reach log.pins H A f U)
     (none_sealed : NoneSealed log) (ended : NoneOpen log) (some : 0 < length log.buffer.reserved.items) (whole : fault_of log ≡ None) where
   abbrev before : Trace
   before = trace (device_of log)
@@ -46,42 +47,38 @@ module _ {D C : Type 0} (trace : D → Trace) (sum : List ℕ → ℕ) (log : Lo
   behind : from ≤ length bytes
   behind = written_behind log.buffer
 
-  parts_fit : FitsIn sum (log_parts size log.site (state_of before) log.fault bytes from [] rs) [] log.pins H A f U
-  unfolding Fits
-  parts_fit = subst (λ (bs : List Sealed). FitsIn sum (log_parts size log.site (state_of before) log.fault bytes from bs rs) [] log.pins H A f U) none_sealed fits.parts
-
-  slots_fit : HasSlots size log.site.slot (state_of before).log.bytes log.fault (machine_of log.accountant)
-  unfolding Fits
-  slots_fit = fits.slots
+  parts_fit : FitsIn sum (log_parts size log.site (state_of before) log.fault bytes from [] rs) [] reach log.pins H A f U
+  parts_fit = subst (λ (bs : List Sealed). FitsIn sum (log_parts size log.site (state_of before) log.fault bytes from bs rs) [] reach log.pins H A f U) none_sealed fits
 
   -- at each moment of the calls, with all that was written before counted as acknowledged
-  pub flush_left : (new : Trace) → Performs calls before new → Throughout (LeavesRecoverable sum size H (log.site.place + from) f) before new
+  pub flush_left : (new : Trace) → Performs calls before new → Throughout (LeavesRecoverable sum size H reach f) before new
   flush_left new came =
-      performs_throughout (LeavesRecoverable sum size H (log.site.place + from) f) calls before new came
+      performs_throughout (LeavesRecoverable sum size H reach f) calls before new came
       (flush_along sum size log.site (state_of before) log.fault bytes from rs H parts_fit.holds behind log.in_segment log.config.config.least log.place_in_reach log.slot_in_reach ended some whole log.pins A f U parts_fit)
 
   pub flush_crash : (new : Trace) → Performs calls before new → Throughout (LeavesRecoverable sum size H A f) before new
   flush_crash new came =
-      weaker (LeavesRecoverable sum size H (log.site.place + from) f) (LeavesRecoverable sum size H A f) (λ s. leaves_less sum size H A (log.site.place + from) f s parts_fit.passes) before new (flush_left new came)
+      weaker (LeavesRecoverable sum size H reach f) (LeavesRecoverable sum size H A f) (λ s. leaves_less sum size H A reach f s fits.passes) before new (flush_left new came)
 
-  -- behind both, with all that was written for what was acknowledged
-  pub fits_written : (new : Trace) → new ≡ after_all calls before → (bytes' : List ℕ) (from' : ℕ) (bs' : List Sealed) (rs' : List Reserved) → bytes' ≡ bytes → from' ≡ length bytes → bs' ≡ [] → rs' ≡ [] → (A' : ℕ) → A' ≤ log.site.place + from'
-      → FitsIn sum (log_parts size log.site (state_of new) log.fault bytes' from' bs' rs') [] log.pins H A' f U
-  fits_written new came bytes' from' bs' rs' is_bytes is_from is_bs is_rs A' passes =
-      let after : FitsIn sum (log_parts size log.site (state_of (after_all calls before)) None bytes (length bytes) [] []) [] log.pins H A' f U =
-      fits_flushed sum size log.site (state_of before) log.fault bytes from rs H parts_fit.holds behind log.in_segment log.config.config.least log.place_in_reach log.slot_in_reach ended some whole log.pins A f U parts_fit A'
-      (omega (arith, passes, is_from)) in
-      fits_same_buffer sum size log.site (state_of new) log.fault bytes bytes' (length bytes) from' [] bs' [] rs' log.pins H A' f U is_bytes is_from is_bs is_rs
-      (subst (λ (o : Option IoError). FitsIn sum (log_parts size log.site (state_of new) o bytes (length bytes) [] []) [] log.pins H A' f U) (sym whole)
-      (subst (λ (t : Trace). FitsIn sum (log_parts size log.site (state_of t) None bytes (length bytes) [] []) [] log.pins H A' f U) (sym came) after))
+  -- behind both
+  pub fits_written : (new : Trace) → new ≡ after_all calls before → (bytes' : List ℕ) (from' : ℕ) (bs' : List Sealed) (rs' : List Reserved) → bytes' ≡ bytes → from' ≡ length bytes → bs' ≡ [] → rs' ≡ []
+      → (now : ℕ) × FitsIn sum (log_parts size log.site (state_of new) log.fault bytes' from' bs' rs') [] now log.pins H A f U
+  fits_written new came bytes' from' bs' rs' is_bytes is_from is_bs is_rs =
+      let after : (now : ℕ) × FitsIn sum (log_parts size log.site (state_of new) log.fault bytes (length bytes) [] []) [] now log.pins H A f U =
+      subst (λ (o : Option IoError). (now : ℕ) × FitsIn sum (log_parts size log.site (state_of new) o bytes (length bytes) [] []) [] now log.pins H A f U) (sym whole)
+      (subst (λ (t : Trace). (now : ℕ) × FitsIn sum (log_parts size log.site (state_of t) None bytes (length bytes) [] []) [] now log.pins H A f U) (sym came)
+      (fits_flushed sum size log.site (state_of before) log.fault bytes from rs H parts_fit.holds behind log.in_segment log.config.config.least log.place_in_reach log.slot_in_reach ended some whole log.pins A f U parts_fit)) in (
+        after.0,
+        fits_same_buffer sum size log.site (state_of new) log.fault bytes bytes' (length bytes) from' [] bs' [] rs' log.pins H A f U is_bytes is_from is_bs is_rs after.1,
+      )
 
   -- The free slots have zeros as before.
-  pub slots_flushed : (new : Trace) → new ≡ after_all calls before → (now : Option IoError) → HasSlots size log.site.slot (state_of new).log.bytes now (machine_of log.accountant)
-  slots_flushed new came now =
+  pub slots_flushed : HasSlots size log.site.slot (state_of before).log.bytes log.fault (machine_of log.accountant) → (new : Trace) → new ≡ after_all calls before → (now : Option IoError) → HasSlots size log.site.slot (state_of new).log.bytes now (machine_of log.accountant)
+  slots_flushed slots new came now =
       let low = behind in
       let short = log.in_segment in
       slots_written size log.site.slot (state_of before).log.bytes (state_of new).log.bytes log.fault now (machine_of log.accountant) (log.site.slot + from) (drop from bytes) whole
-      (ap (λ (t : Trace). (state_of t).log.bytes) came) (omega arith) (omega (arith, length-drop from bytes, low, short)) slots_fit
+      (ap (λ (t : Trace). (state_of t).log.bytes) came) (omega arith) (omega (arith, length-drop from bytes, low, short)) slots
 
 -- A write and a sync of the log file leave blobs and snapshots as they were.
 pub flush_names : (at : ℕ) (xs : List ℕ) (old new : Trace) → Performs (Wrote at xs xs ∷ Synced ∷ []) old new → ((state_of new).blobs ≡ (state_of old).blobs) × ((state_of new).snapshots ≡ (state_of old).snapshots)

@@ -12,16 +12,18 @@ use Rattle.sled_core.specs.Running.{BlobsFit, FitsIn, NamesFit}
 use Rattle.sled_core.proofs.Flush.FlushLemmas.{fault_or_none, holds-faulty}
 
 module _ (sum : List ℕ → ℕ) (size : ℕ) (site : SegmentPosition) (device : State) (fault : Option IoError) (bytes : List ℕ) (from : ℕ) (bs : List Sealed) (rs : List Reserved) (pins : ℕ) (H : History) (A f : ℕ) (U : List Message)
-    {behind : List SegmentParts} (fits : FitsIn sum (log_parts size site device fault bytes from bs rs) behind pins H A f U) where
+    {behind : List SegmentParts} {reach : ℕ} (fits : FitsIn sum (log_parts size site device fault bytes from bs rs) behind reach pins H A f U) where
   -- A log that keeps a failure of its device fits what it fitted, where a crash leaves what can be recovered.
-  pub fits_faulty : (new : State) (e : IoError) (now : Option IoError) → now ≡ Some e → new.blobs ≡ device.blobs → new.snapshots ≡ device.snapshots → LeavesRecoverable sum size H (site.place + from) f new
-      → FitsIn sum (log_parts size site new now bytes from bs rs) behind pins H A f U
+  pub fits_faulty : (new : State) (e : IoError) (now : Option IoError) → now ≡ Some e → new.blobs ≡ device.blobs → new.snapshots ≡ device.snapshots → LeavesRecoverable sum size H reach f new
+      → FitsIn sum (log_parts size site new now bytes from bs rs) behind reach pins H A f U
   unfolding holds-faulty
   fits_faulty new e now is blobs snapshots left = record {
+    near = fits.near;
+    ends = fits.ends;
     holds = holds-faulty sum size site device fault bytes from bs rs H fits.holds new e now is (ap (λ (s : NamesState). s.file) snapshots);
     among = λ none. cc;
     beyond = λ to far none. cc;
-    blobs = subst (λ (s : NamesState). BlobsFit sum s H (site.place + from)) (sym blobs) fits.blobs;
+    blobs = subst (λ (s : NamesState). BlobsFit sum s H reach) (sym blobs) fits.blobs;
     names = subst (λ (s : NamesState). NamesFit sum size s H f fits.holds.begun.first) (sym snapshots) fits.names;
     passes = fits.passes;
     pinned = fits.pinned;
@@ -29,24 +31,24 @@ module _ (sum : List ℕ → ℕ) (size : ℕ) (site : SegmentPosition) (device 
   }
 
   -- The same device and the same failure fit the same.
-  pub fits_same_device : (after : State) (now : Option IoError) → after ≡ device → now ≡ fault → FitsIn sum (log_parts size site after now bytes from bs rs) behind pins H A f U
-  fits_same_device after now d o = subst (λ (s : State). FitsIn sum (log_parts size site s now bytes from bs rs) behind pins H A f U) (sym d) (subst (λ (x : Option IoError). FitsIn sum (log_parts size site device x bytes from bs rs) behind pins H A f U) (sym o) fits)
+  pub fits_same_device : (after : State) (now : Option IoError) → after ≡ device → now ≡ fault → FitsIn sum (log_parts size site after now bytes from bs rs) behind reach pins H A f U
+  fits_same_device after now d o = subst (λ (s : State). FitsIn sum (log_parts size site s now bytes from bs rs) behind reach pins H A f U) (sym d) (subst (λ (x : Option IoError). FitsIn sum (log_parts size site device x bytes from bs rs) behind reach pins H A f U) (sym o) fits)
 
   -- A call that changed nothing of the device fits the same, whether or not the device failed in it.
-  pub fits_answered : (size' : ℕ) (after : State) (now : Option IoError) → size' ≡ size → after ≡ device → fault ≡ None → FitsIn sum (log_parts size' site after now bytes from bs rs) behind pins H A f U
+  pub fits_answered : (size' : ℕ) (after : State) (now : Option IoError) → size' ≡ size → after ≡ device → fault ≡ None → FitsIn sum (log_parts size' site after now bytes from bs rs) behind reach pins H A f U
   fits_answered size' after now sizes same none =
-      let here : FitsIn sum (log_parts size site after now bytes from bs rs) behind pins H A f U = elim (fault_or_none now) [
+      let here : FitsIn sum (log_parts size site after now bytes from bs rs) behind reach pins H A f U = elim (fault_or_none now) [
         | inl is ↦ fits_same_device after now same (is ∙ sym none)
         | inr is ↦ fits_faulty after is.0 now is.1 (ap (λ (s : State). s.blobs) same) (ap (λ (s : State). s.snapshots) same)
-            (subst (λ (s : State). LeavesRecoverable sum size H (site.place + from) f s) (sym same) fits.left)
+            (subst (λ (s : State). LeavesRecoverable sum size H reach f s) (sym same) fits.left)
       ] in
-      subst (λ n. FitsIn sum (log_parts n site after now bytes from bs rs) behind pins H A f U) (sym sizes) here
+      subst (λ n. FitsIn sum (log_parts n site after now bytes from bs rs) behind reach pins H A f U) (sym sizes) here
 
 -- The same bytes, from the same offset, and the same reservations fit the same.
-pub fits_same_buffer : (sum : List ℕ → ℕ) (size : ℕ) (site : SegmentPosition) (device : State) (fault : Option IoError) (bytes bytes' : List ℕ) (from from' : ℕ) (bs bs' : List Sealed) (rs rs' : List Reserved) (pins : ℕ) (H : History) (A f : ℕ) (U : List Message) {behind : List SegmentParts}
-    → bytes' ≡ bytes → from' ≡ from → bs' ≡ bs → rs' ≡ rs → FitsIn sum (log_parts size site device fault bytes from bs rs) behind pins H A f U → FitsIn sum (log_parts size site device fault bytes' from' bs' rs') behind pins H A f U
-fits_same_buffer sum size site device fault bytes bytes' from from' bs bs' rs rs' pins H A f U {behind} b n e r fits =
-    subst (λ (l : List ℕ). FitsIn sum (log_parts size site device fault l from' bs' rs') behind pins H A f U) (sym b)
-    (subst (λ k. FitsIn sum (log_parts size site device fault bytes k bs' rs') behind pins H A f U) (sym n)
-    (subst (λ (l : List Sealed). FitsIn sum (log_parts size site device fault bytes from l rs') behind pins H A f U) (sym e)
-    (subst (λ (l : List Reserved). FitsIn sum (log_parts size site device fault bytes from bs l) behind pins H A f U) (sym r) fits)))
+pub fits_same_buffer : (sum : List ℕ → ℕ) (size : ℕ) (site : SegmentPosition) (device : State) (fault : Option IoError) (bytes bytes' : List ℕ) (from from' : ℕ) (bs bs' : List Sealed) (rs rs' : List Reserved) (pins : ℕ) (H : History) (A f : ℕ) (U : List Message) {behind : List SegmentParts} {reach : ℕ}
+    → bytes' ≡ bytes → from' ≡ from → bs' ≡ bs → rs' ≡ rs → FitsIn sum (log_parts size site device fault bytes from bs rs) behind reach pins H A f U → FitsIn sum (log_parts size site device fault bytes' from' bs' rs') behind reach pins H A f U
+fits_same_buffer sum size site device fault bytes bytes' from from' bs bs' rs rs' pins H A f U {behind} {reach} b n e r fits =
+    subst (λ (l : List ℕ). FitsIn sum (log_parts size site device fault l from' bs' rs') behind reach pins H A f U) (sym b)
+    (subst (λ k. FitsIn sum (log_parts size site device fault bytes k bs' rs') behind reach pins H A f U) (sym n)
+    (subst (λ (l : List Sealed). FitsIn sum (log_parts size site device fault bytes from l rs') behind reach pins H A f U) (sym e)
+    (subst (λ (l : List Reserved). FitsIn sum (log_parts size site device fault bytes from bs l) behind reach pins H A f U) (sym r) fits)))

@@ -32,7 +32,8 @@ use Rattle.sled_core.proofs.Flush.Padded.{padded_none}
 use Rattle.sled_core.proofs.Flush.Settled.{InlineFrom, rests}
 use Rattle.sled_core.proofs.Flush.SealedFile.{chain_done, file_beside, first_file, stop_up}
 use Rattle.sled_core.proofs.Holds.BehindKept.{others_written}
-use Rattle.sled_core.proofs.Holds.WholeHistory.{of_first, whole_ascends, whole_inline, whole_only}
+use Rattle.sled_core.proofs.Holds.ReachLemmas.{written_before}
+use Rattle.sled_core.proofs.Holds.WholeHistory.{later_above, of_first, which_part, whole_ascends, whole_inline, whole_only}
 use Rattle.sled_core.proofs.Reached.BufferPath.{HasOnly, mark_same}
 use Rattle.sled_core.proofs.Reached.StandsTo.{StandsTo}
 use Rattle.sled_core.proofs.Sealed.BehindUnwritten.{plain_room, torn_behind_unwritten}
@@ -65,13 +66,14 @@ no_run : (P : ℕ → List Sealed → List Reserved → Type 0) (from : ℕ) (x 
 no_run P from x xs rs fresh all =
     subst (λ (o : Bool). P (if o then run_end x.end xs else from) (if o then behind_run xs else x ∷ xs) (drop (if o then x.count + run_count xs else 0) rs)) (sym fresh) all
 
--- A write to a log that fits, and the sync behind it, where what a crash leaves of the write stands as before, and all of it up to a place no lower.
+-- A write to a log that fits, and the sync behind it, where what a crash leaves of the write stands as before, and all of it up to a place no lower, behind all messages that are written then.
 module _ (sum : List ℕ → ℕ) (size : ℕ) (site : SegmentPosition) (device : State) (fault : Option IoError) (bytes : List ℕ) (from : ℕ) (bs : List Sealed) (rs : List Reserved) (pins : ℕ) (H : History) (A f : ℕ) (U : List Message)
-    {behind : List SegmentParts} (fits : FitsIn sum (log_parts size site device fault bytes from bs rs) behind pins H A f U) (short : length bytes ≤ size) (big : 256 ≤ size) (whole : fault ≡ None) (to : ℕ) (up : from ≤ to) (at : ℕ) (asked : List ℕ)
-    (torn : NoHeaderOfZeros sum → StandsAmong sum size device.log.bytes site from (map begun_segment behind) (site.place + from) H fits.holds.begun.first → (now left : List ℕ) → length now ≤ length asked → LeavesLog (after_write device.log.bytes at asked now) left
-    → (placed : List (ℕ × List ℕ)) → NoForeignLog sum size (after_write device.log.bytes at asked now) placed left → StandsTo sum size left H (site.place + from) fits.holds.begun.first (site.place + from))
-    (alone : NoHeaderOfZeros sum → (end : ℕ) → site.slot ≤ end → StandsAmong sum size (padded end device.log.bytes) site from (map begun_segment behind) (site.place + from) H fits.holds.begun.first
-    → StandsAmong sum size (padded end (overwritten device.log.bytes at asked)) site to (map begun_segment behind) (site.place + to) H fits.holds.begun.first)
+    {behind : List SegmentParts} {reach : ℕ} (fits : FitsIn sum (log_parts size site device fault bytes from bs rs) behind reach pins H A f U) (short : length bytes ≤ size) (big : 256 ≤ size) (whole : fault ≡ None) (to : ℕ)
+    (reach' : ℕ) (up : reach ≤ reach') (near' : reach' ≤ site.place + to) (ends' : (m : Message) → Contains H.messages m → m.place < site.place + to → (m.place < reach') × (m.place + m.size ≤ reach')) (at : ℕ) (asked : List ℕ)
+    (torn : NoHeaderOfZeros sum → StandsAmong sum size device.log.bytes site from (map begun_segment behind) reach H fits.holds.begun.first → (now left : List ℕ) → length now ≤ length asked → LeavesLog (after_write device.log.bytes at asked now) left
+    → (placed : List (ℕ × List ℕ)) → NoForeignLog sum size (after_write device.log.bytes at asked now) placed left → StandsTo sum size left H reach fits.holds.begun.first reach)
+    (alone : NoHeaderOfZeros sum → (end : ℕ) → site.slot ≤ end → StandsAmong sum size (padded end device.log.bytes) site from (map begun_segment behind) reach H fits.holds.begun.first
+    → StandsAmong sum size (padded end (overwritten device.log.bytes at asked)) site to (map begun_segment behind) reach' H fits.holds.begun.first)
     (reaches : site.slot ≤ length (overwritten device.log.bytes at asked)) where
   abbrev after_sync : State
   after_sync = step Synced (step (Wrote at asked asked) device)
@@ -83,35 +85,41 @@ module _ (sum : List ℕ → ℕ) (size : ℕ) (site : SegmentPosition) (device 
   ordered : Ascends H.messages
   ordered = whole_ascends sum size site device fault bytes from bs rs H fits.holds short
 
-  inline : InlineFrom H (site.place + from)
-  inline = whole_inline sum size site device fault bytes from bs rs H fits.holds
+  inline : InlineFrom H reach
+  inline m there past = elim (cases_lt m.place (site.place + from)) [
+    | inl below ↦ absurd (let low = fits.ends m there below in omega (arith, low.0, past))
+    | inr over ↦ whole_inline sum size site device fault bytes from bs rs H fits.holds m there over
+  ]
 
   torn_now : NoHeaderOfZeros sum → (now left : List ℕ) → length now ≤ length asked → LeavesLog (after_write device.log.bytes at asked now) left → (placed : List (ℕ × List ℕ))
-      → NoForeignLog sum size (after_write device.log.bytes at asked now) placed left → StandsTo sum size left H (site.place + from) fits.holds.begun.first (site.place + from)
+      → NoForeignLog sum size (after_write device.log.bytes at asked now) placed left → StandsTo sum size left H reach fits.holds.begun.first reach
   torn_now zeros = torn zeros (fits.among whole zeros)
 
-  alone_now : NoHeaderOfZeros sum → StandsAmong sum size (overwritten device.log.bytes at asked) site to (map begun_segment behind) (site.place + to) H fits.holds.begun.first
-  alone_now zeros = subst (λ (l : List ℕ). StandsAmong sum size l site to (map begun_segment behind) (site.place + to) H fits.holds.begun.first) (padded_none site.slot (overwritten device.log.bytes at asked) reaches)
+  alone_now : NoHeaderOfZeros sum → StandsAmong sum size (overwritten device.log.bytes at asked) site to (map begun_segment behind) reach' H fits.holds.begun.first
+  alone_now zeros = subst (λ (l : List ℕ). StandsAmong sum size l site to (map begun_segment behind) reach' H fits.holds.begun.first) (padded_none site.slot (overwritten device.log.bytes at asked) reaches)
       (alone zeros site.slot (omega arith) (fits.beyond site.slot (omega arith) whole zeros))
 
-  along_behind : Along (LeavesRecoverable sum size H (site.place + from) f) (Wrote at asked asked ∷ Synced ∷ []) device
-  along_behind = moments.write_along sum size big device rest_now site from to up H f fits.holds.begun.first ordered inline fits.names fits.blobs fits.left at asked torn_now alone_now
+  stands_now : NoHeaderOfZeros sum → StandsTo sum size (overwritten device.log.bytes at asked) H reach' fits.holds.begun.first reach'
+  stands_now zeros = (alone_now zeros).stands
+
+  along_behind : Along (LeavesRecoverable sum size H reach f) (Wrote at asked asked ∷ Synced ∷ []) device
+  along_behind = moments.write_along sum size big device rest_now H f fits.holds.begun.first reach reach' up ordered inline fits.names fits.blobs fits.left at asked torn_now stands_now
 
   fits_behind : (cs : List Sealed) (others : List Reserved) (holds : HoldsIn sum (log_parts size site after_sync fault bytes to cs others) behind H)
-      → holds.begun.first ≡ fits.holds.begun.first → (A' : ℕ) → A' ≤ site.place + to → FitsIn sum (log_parts size site after_sync fault bytes to cs others) behind pins H A' f U
-  fits_behind cs others holds same A' passes =
+      → holds.begun.first ≡ fits.holds.begun.first → FitsIn sum (log_parts size site after_sync fault bytes to cs others) behind reach' pins H A f U
+  fits_behind cs others holds same =
       let new : List ℕ = overwritten device.log.bytes at asked in
-      let stands : NoHeaderOfZeros sum → StandsAmong sum size new site to (map begun_segment behind) (site.place + to) H holds.begun.first =
-      λ zeros. subst (λ (s : SnapshotModel). StandsAmong sum size new site to (map begun_segment behind) (site.place + to) H s) (sym same) (alone_now zeros) in
       record {
         holds = holds;
-        among = λ none zeros. stands zeros;
-        beyond = λ end far none zeros. subst (λ (s : SnapshotModel). StandsAmong sum size (padded end new) site to (map begun_segment behind) (site.place + to) H s) (sym same) (alone zeros end far (fits.beyond end far whole zeros));
-        blobs = moments.blobs_up sum size big device rest_now site from to up H f fits.holds.begun.first ordered inline fits.names fits.blobs fits.left at asked torn_now alone_now;
+        near = near';
+        ends = ends';
+        among = λ none zeros. subst (λ (s : SnapshotModel). StandsAmong sum size new site to (map begun_segment behind) reach' H s) (sym same) (alone_now zeros);
+        beyond = λ end far none zeros. subst (λ (s : SnapshotModel). StandsAmong sum size (padded end new) site to (map begun_segment behind) reach' H s) (sym same) (alone zeros end far (fits.beyond end far whole zeros));
+        blobs = moments.blobs_up sum size big device rest_now H f fits.holds.begun.first reach reach' up ordered inline fits.names fits.blobs fits.left at asked torn_now stands_now;
         names = subst (λ (s : SnapshotModel). NamesFit sum size device.snapshots H f s) (sym same) fits.names;
-        passes = passes;
+        passes = let old = fits.passes in omega (arith, old, up);
         pinned = fits.pinned;
-        left = moments.synced_leaves sum size big device rest_now site from to up H f fits.holds.begun.first ordered inline fits.names fits.blobs fits.left at asked torn_now alone_now;
+        left = moments.synced_leaves sum size big device rest_now H f fits.holds.begun.first reach reach' up ordered inline fits.names fits.blobs fits.left at asked torn_now stands_now;
       }
 
 -- The first buffer is written.
@@ -252,6 +260,9 @@ module _ (sum : List ℕ → ℕ) (size : ℕ) (site : SegmentPosition) (device 
   begins_whole : (from ≡ 0) ⊎ (20 ≤ from)
   begins_whole = none_or_begun sum size old_whole site from holds.own.earlier (StaysFrom H (stable_place holds.begun.first.stable)) file_whole
 
+  abbrev after_first : State
+  after_first = step Synced (step (Wrote (site.slot + from) asked_whole asked_whole) device)
+
   header_whole : from ≡ 0 → HasMark sum site bytes H
   header_whole none = let m = holds.own.header none in record { mark = m.mark; is = m.is; of_history = mark_same own_history H (record { place = site.place; slot = site.slot; mark = m.mark }) refl m.of_history }
 
@@ -262,20 +273,33 @@ module _ (sum : List ℕ → ℕ) (size : ℕ) (site : SegmentPosition) (device 
   room_whole : from + 32 ≤ size
   room_whole = plain_room sum size (site.place / size) bytes from big begins_whole rs b rest are holds.own.stand holds.plain
 
+  -- all that is written then ends where that does
+  ends_first : (m : Message) → Contains H.messages m → m.place < site.place + stop_whole → (m.place < site.place + stop_whole) × (m.place + m.size ≤ site.place + stop_whole)
+  ends_first m there below = elim (which_part sum size site device fault bytes from (b ∷ rest) rs H holds m there) [
+    | inl first ↦ (
+        let now = segment_first sum size site device fault bytes from b rest rs own_history holds.own short big place_small slot_small are fresh closed rise whole after_first refl in
+        All-contains (λ (x : Message). (x.place < site.place + stop_whole) × (x.place + x.size ≤ site.place + stop_whole)) now.earlier m now.below
+        (written_before sum size site after_first fault bytes stop_whole (behind_run rest) (drop (b.count + run_count rest) rs) own_history now m first below))
+    | inr later ↦ absurd (
+        let far = All-contains (λ (x : Message). site.place + size ≤ x.place) holds.later m (later_above sum size site device fault bytes from (b ∷ rest) rs H holds) later in
+        let low = run_below b.end rest size rise_whole.1 in
+        omega (arith, far, low, below))
+  ]
+
   -- What a crash leaves of the write.
-  torn_first : NoHeaderOfZeros sum → {others : List BegunSegment} → StandsAmong sum size old_whole site from others (site.place + from) H holds.begun.first → (now left : List ℕ) → length now ≤ length asked_whole
+  torn_first : (reach : ℕ) → NoHeaderOfZeros sum → {others : List BegunSegment} → StandsAmong sum size old_whole site from others reach H holds.begun.first → (now left : List ℕ) → length now ≤ length asked_whole
       → LeavesLog (after_write old_whole (site.slot + from) asked_whole now) left → (placed : List (ℕ × List ℕ))
-      → NoForeignLog sum size (after_write old_whole (site.slot + from) asked_whole now) placed left → StandsTo sum size left H (site.place + from) holds.begun.first (site.place + from)
-  torn_first zeros alone now left no_more leaves placed only_own =
+      → NoForeignLog sum size (after_write old_whole (site.slot + from) asked_whole now) placed left → StandsTo sum size left H reach holds.begun.first reach
+  torn_first reach zeros alone now left no_more leaves placed only_own =
       torn_head_sealed sum zeros size big old_whole site holds.own.place_begins holds.own.slot_begins place_small slot_small bytes from begins_whole rs b rest fresh closed are rise_whole inside_whole holds.own.stand
-      room_whole header_whole (holds.own.laid whole) (site.place + from) holds.begun.first alone has_whole now left no_more leaves {placed = placed} only_own
+      room_whole header_whole (holds.own.laid whole) reach holds.begun.first alone has_whole now left no_more leaves {placed = placed} only_own
 
   -- All of it.
-  alone_first : NoHeaderOfZeros sum → (end : ℕ) → site.slot ≤ end → {others : List BegunSegment} → StandsAmong sum size (padded end old_whole) site from others (site.place + from) H holds.begun.first
+  alone_first : (reach : ℕ) → NoHeaderOfZeros sum → (end : ℕ) → site.slot ≤ end → {others : List BegunSegment} → StandsAmong sum size (padded end old_whole) site from others reach H holds.begun.first
       → StandsAmong sum size (padded end (overwritten old_whole (site.slot + from) asked_whole)) site stop_whole others (site.place + stop_whole) H holds.begun.first
-  alone_first zeros end far {others} =
+  alone_first reach zeros end far {others} =
       first_alone sum size big old_whole site holds.own.place_begins holds.own.slot_begins place_small slot_small bytes from begins_whole rs b rest fresh closed are rise_whole inside_whole header_whole file_whole.header (holds.own.laid whole)
-      holds.own.stand holds.plain zeros (site.place + from) holds.begun.first has_whole (whole_ascends sum size site device fault bytes from (b ∷ rest) rs H holds short) (let least = holds.begun.least in omega (arith, least))
+      holds.own.stand holds.plain zeros reach holds.begun.first has_whole (whole_ascends sum size site device fault bytes from (b ∷ rest) rs H holds short) (let least = holds.begun.least in omega (arith, least))
       (none_crosses sum size site device fault bytes from (b ∷ rest) rs own_history holds.own (site.place + stop_whole) (let above = (stop_up from rs b rest closed are).0 in omega (arith, above))) end far {others = others}
 
   -- so the file reaches its slot
@@ -334,18 +358,18 @@ module _ (sum : List ℕ → ℕ) (size : ℕ) (site : SegmentPosition) (device 
   }
 
   -- What a crash leaves of the write.
-  torn_later : x.is_written ≡ false → (W : History) (first : SnapshotModel) → NoHeaderOfZeros sum → {others : List BegunSegment} → StandsAmong sum size old_later site from others (site.place + from) W first → (now left : List ℕ) → length now ≤ length asked_later
+  torn_later : x.is_written ≡ false → (W : History) (first : SnapshotModel) (reach : ℕ) → NoHeaderOfZeros sum → {others : List BegunSegment} → StandsAmong sum size old_later site from others reach W first → (now left : List ℕ) → length now ≤ length asked_later
       → LeavesLog (after_write old_later (site.slot + at) asked_later now) left → (placed : List (ℕ × List ℕ)) → NoForeignLog sum size (after_write old_later (site.slot + at) asked_later now) placed left
-      → StandsTo sum size left W (site.place + from) first (site.place + from)
-  torn_later fresh W first zeros alone now left no_more leaves placed only_own =
-      torn_behind_unwritten sum zeros size big old_later site holds.slot_begins bytes from later_begins rs x xs b rest fresh are rise_later lies.2 (site.place / size) holds.stand (site.place + from) W first old_later (holds.laid whole)
+      → StandsTo sum size left W reach first reach
+  torn_later fresh W first reach zeros alone now left no_more leaves placed only_own =
+      torn_behind_unwritten sum zeros size big old_later site holds.slot_begins bytes from later_begins rs x xs b rest fresh are rise_later lies.2 (site.place / size) holds.stand reach W first old_later (holds.laid whole)
       alone now left no_more leaves {placed = placed} only_own
 
   -- All of it.
-  alone_later : x.is_written ≡ false → (W : History) (first : SnapshotModel) → NoHeaderOfZeros sum → (end : ℕ) → site.slot ≤ end → {others : List BegunSegment} → StandsAmong sum size (padded end old_later) site from others (site.place + from) W first
-      → StandsAmong sum size (padded end new_later) site from others (site.place + from) W first
-  alone_later fresh W first zeros = later_alone sum size big old_later site holds.place_begins holds.slot_begins place_small slot_small bytes from later_begins rs x xs b rest fresh are rise_later lies.2 (site.place / size) holds.stand (holds.laid whole)
-      zeros (site.place + from) W first
+  alone_later : x.is_written ≡ false → (W : History) (first : SnapshotModel) (reach : ℕ) → NoHeaderOfZeros sum → (end : ℕ) → site.slot ≤ end → {others : List BegunSegment} → StandsAmong sum size (padded end old_later) site from others reach W first
+      → StandsAmong sum size (padded end new_later) site from others reach W first
+  alone_later fresh W first reach zeros = later_alone sum size big old_later site holds.place_begins holds.slot_begins place_small slot_small bytes from later_begins rs x xs b rest fresh are rise_later lies.2 (site.place / size) holds.stand (holds.laid whole)
+      zeros reach W first
 
   -- so the file reaches its slot
   reaches_later : site.slot ≤ length new_later
@@ -363,7 +387,7 @@ segment_around sum size site device fault bytes from (x ∷ xs) b rest rs H {sta
     no_run (λ n cs l. HoldsSegment sum (log_parts size site new fault bytes n cs l) stays H) from x (xs ++ now_written b ∷ rest) rs fresh
     (segment_later sum size site device fault bytes from x xs b rest rs H holds short big place_small slot_small are rise whole new is)
 
-module _ (sum : List ℕ → ℕ) (size : ℕ) (site : SegmentPosition) (device : State) (fault : Option IoError) (bytes : List ℕ) (from : ℕ) (b : Sealed) (rest : List Sealed) (rs : List Reserved) (behind : List SegmentParts) (pins : ℕ) (H : History) (A f : ℕ) (U : List Message)
+module _ (sum : List ℕ → ℕ) (size : ℕ) (site : SegmentPosition) (device : State) (fault : Option IoError) (bytes : List ℕ) (from : ℕ) (b : Sealed) (rest : List Sealed) (rs : List Reserved) (behind : List SegmentParts) (reach pins : ℕ) (H : History) (A f : ℕ) (U : List Message)
     (short : length bytes ≤ size) (big : 256 ≤ size) (place_small : site.place + size < 2 ^ 63) (slot_small : site.slot + size < 2 ^ 63) (closed : b.open_count ≡ 0) (whole : fault ≡ None) where
   -- its bytes, behind others
   abbrev asked_behind : List Sealed → List ℕ
@@ -382,47 +406,48 @@ module _ (sum : List ℕ → ℕ) (size : ℕ) (site : SegmentPosition) (device 
       (omega (arith, l, lies.1), lies.0, omega (arith, l, lies.2, short))
 
   -- At each moment of the two calls a crash leaves what can be recovered.
-  along_around : (front : List Sealed) → FitsIn sum (log_parts size site device fault bytes from (front ++ b ∷ rest) rs) behind pins H A f U → AreSealed from rs (front ++ b ∷ rest) → FirstUnwritten (front ++ b ∷ rest) → EndsRise from (front ++ b ∷ rest) (length bytes)
-      → Along (LeavesRecoverable sum size H (site.place + from) f) (Wrote (site.slot + sealed_end from front) (asked_behind front) (asked_behind front) ∷ Synced ∷ []) device
+  along_around : (front : List Sealed) (fits : FitsIn sum (log_parts size site device fault bytes from (front ++ b ∷ rest) rs) behind reach pins H A f U) → AreSealed from rs (front ++ b ∷ rest) → FirstUnwritten (front ++ b ∷ rest) → EndsRise from (front ++ b ∷ rest) (length bytes)
+      → Along (LeavesRecoverable sum size H reach f) (Wrote (site.slot + sealed_end from front) (asked_behind front) (asked_behind front) ∷ Synced ∷ []) device
   along_around [] fits are fresh rise =
-      along_behind sum size site device fault bytes from (b ∷ rest) rs pins H A f U fits short big whole (run_end b.end rest) (stop_up from rs b rest closed are).0
-      (site.slot + from) (asked_behind []) (λ zeros. torn_first sum size site device fault bytes from b rest rs H fits.holds short big place_small slot_small are fresh closed rise whole zeros)
-      (λ zeros end far. alone_first sum size site device fault bytes from b rest rs H fits.holds short big place_small slot_small are fresh closed rise whole zeros end far)
+      along_behind sum size site device fault bytes from (b ∷ rest) rs pins H A f U fits short big whole (run_end b.end rest) (site.place + run_end b.end rest) (let near = fits.near in let above = (stop_up from rs b rest closed are).0 in omega (arith, near, above)) (omega arith)
+      (ends_first sum size site device fault bytes from b rest rs H fits.holds short big place_small slot_small are fresh closed rise whole)
+      (site.slot + from) (asked_behind []) (λ zeros. torn_first sum size site device fault bytes from b rest rs H fits.holds short big place_small slot_small are fresh closed rise whole reach zeros)
+      (λ zeros end far. alone_first sum size site device fault bytes from b rest rs H fits.holds short big place_small slot_small are fresh closed rise whole reach zeros end far)
       (reaches_first sum size site device fault bytes from b rest rs H fits.holds short big place_small slot_small are fresh closed rise whole)
   along_around (x ∷ xs) fits are fresh rise =
-      along_behind sum size site device fault bytes from (x ∷ xs ++ b ∷ rest) rs pins H A f U fits short big whole from (omega arith)
+      along_behind sum size site device fault bytes from (x ∷ xs ++ b ∷ rest) rs pins H A f U fits short big whole from reach (omega arith) fits.near fits.ends
       (site.slot + sealed_end x.end xs) (asked_behind (x ∷ xs))
-      (λ zeros. torn_later sum size site device fault bytes from x xs b rest rs (own_of fits.holds.head) fits.holds.own short big place_small slot_small are rise whole fresh H fits.holds.begun.first zeros)
-      (λ zeros end far. alone_later sum size site device fault bytes from x xs b rest rs (own_of fits.holds.head) fits.holds.own short big place_small slot_small are rise whole fresh H fits.holds.begun.first zeros end far)
+      (λ zeros. torn_later sum size site device fault bytes from x xs b rest rs (own_of fits.holds.head) fits.holds.own short big place_small slot_small are rise whole fresh H fits.holds.begun.first reach zeros)
+      (λ zeros end far. alone_later sum size site device fault bytes from x xs b rest rs (own_of fits.holds.head) fits.holds.own short big place_small slot_small are rise whole fresh H fits.holds.begun.first reach zeros end far)
       (reaches_later sum size site device fault bytes from x xs b rest rs (own_of fits.holds.head) fits.holds.own short big place_small slot_small are rise whole)
 
   abbrev after_behind : List Sealed → State
   after_behind front = step Synced (step (Wrote (site.slot + sealed_end from front) (asked_behind front) (asked_behind front)) device)
 
   -- Behind them the log fits.
-  fits_around : (front : List Sealed) → FitsIn sum (log_parts size site device fault bytes from (front ++ b ∷ rest) rs) behind pins H A f U → AreSealed from rs (front ++ b ∷ rest) → FirstUnwritten (front ++ b ∷ rest) → EndsRise from (front ++ b ∷ rest) (length bytes)
-      → (A' : ℕ) → A' ≤ site.place + run_end from (front ++ now_written b ∷ rest)
-      → FitsIn sum (log_parts size site (after_behind front) fault bytes (run_end from (front ++ now_written b ∷ rest)) (behind_run (front ++ now_written b ∷ rest)) (drop (run_count (front ++ now_written b ∷ rest)) rs)) behind pins H A' f U
-  fits_around [] fits are fresh rise A' =
+  fits_around : (front : List Sealed) → FitsIn sum (log_parts size site device fault bytes from (front ++ b ∷ rest) rs) behind reach pins H A f U → AreSealed from rs (front ++ b ∷ rest) → FirstUnwritten (front ++ b ∷ rest) → EndsRise from (front ++ b ∷ rest) (length bytes)
+      → (now : ℕ) × FitsIn sum (log_parts size site (after_behind front) fault bytes (run_end from (front ++ now_written b ∷ rest)) (behind_run (front ++ now_written b ∷ rest)) (drop (run_count (front ++ now_written b ∷ rest)) rs)) behind now pins H A f U
+  fits_around [] fits are fresh rise =
       let range = asked_range [] are rise in
-      fits_behind sum size site device fault bytes from (b ∷ rest) rs pins H A f U fits short big whole (run_end b.end rest) (stop_up from rs b rest closed are).0
-      (site.slot + from) (asked_behind []) (λ zeros. torn_first sum size site device fault bytes from b rest rs H fits.holds short big place_small slot_small are fresh closed rise whole zeros)
-      (λ zeros end far. alone_first sum size site device fault bytes from b rest rs H fits.holds short big place_small slot_small are fresh closed rise whole zeros end far)
+      (site.place + run_end b.end rest, fits_behind sum size site device fault bytes from (b ∷ rest) rs pins H A f U fits short big whole (run_end b.end rest) (site.place + run_end b.end rest) (let near = fits.near in let above = (stop_up from rs b rest closed are).0 in omega (arith, near, above)) (omega arith)
+      (ends_first sum size site device fault bytes from b rest rs H fits.holds short big place_small slot_small are fresh closed rise whole)
+      (site.slot + from) (asked_behind []) (λ zeros. torn_first sum size site device fault bytes from b rest rs H fits.holds short big place_small slot_small are fresh closed rise whole reach zeros)
+      (λ zeros end far. alone_first sum size site device fault bytes from b rest rs H fits.holds short big place_small slot_small are fresh closed rise whole reach zeros end far)
       (reaches_first sum size site device fault bytes from b rest rs H fits.holds short big place_small slot_small are fresh closed rise whole) (behind_run rest) (drop (b.count + run_count rest) rs)
       (holds_over sum size site device fault bytes from (b ∷ rest) rs behind H fits.holds (after_behind []) fault bytes (run_end b.end rest) (behind_run rest) (drop (b.count + run_count rest) rs) refl (stop_up from rs b rest closed are).0
       (segment_first sum size site device fault bytes from b rest rs (own_of fits.holds.head) fits.holds.own short big place_small slot_small are fresh closed rise whole (after_behind []) refl)
-      (others_written sum size site device fault bytes from (b ∷ rest) rs H fits.holds (omega (arith, big)) whole (site.slot + from) (asked_behind []) range.0 (omega arith) (omega (arith, range.2)) (after_behind []) refl) (All-drop NoPadding (b.count + run_count rest) rs fits.holds.plain)) refl A'
-  fits_around (x ∷ xs) fits are fresh rise A' =
+      (others_written sum size site device fault bytes from (b ∷ rest) rs H fits.holds (omega (arith, big)) whole (site.slot + from) (asked_behind []) range.0 (omega arith) (omega (arith, range.2)) (after_behind []) refl) (All-drop NoPadding (b.count + run_count rest) rs fits.holds.plain)) refl)
+  fits_around (x ∷ xs) fits are fresh rise =
       let range = asked_range (x ∷ xs) are rise in
-      no_run (λ n cs others. A' ≤ site.place + n → FitsIn sum (log_parts size site (after_behind (x ∷ xs)) fault bytes n cs others) behind pins H A' f U) from x (xs ++ now_written b ∷ rest) rs fresh
-      (fits_behind sum size site device fault bytes from (x ∷ xs ++ b ∷ rest) rs pins H A f U fits short big whole from (omega arith)
+      no_run (λ n cs others. (now : ℕ) × FitsIn sum (log_parts size site (after_behind (x ∷ xs)) fault bytes n cs others) behind now pins H A f U) from x (xs ++ now_written b ∷ rest) rs fresh
+      (reach, fits_behind sum size site device fault bytes from (x ∷ xs ++ b ∷ rest) rs pins H A f U fits short big whole from reach (omega arith) fits.near fits.ends
       (site.slot + sealed_end x.end xs) (asked_behind (x ∷ xs))
-      (λ zeros. torn_later sum size site device fault bytes from x xs b rest rs (own_of fits.holds.head) fits.holds.own short big place_small slot_small are rise whole fresh H fits.holds.begun.first zeros)
-      (λ zeros end far. alone_later sum size site device fault bytes from x xs b rest rs (own_of fits.holds.head) fits.holds.own short big place_small slot_small are rise whole fresh H fits.holds.begun.first zeros end far)
+      (λ zeros. torn_later sum size site device fault bytes from x xs b rest rs (own_of fits.holds.head) fits.holds.own short big place_small slot_small are rise whole fresh H fits.holds.begun.first reach zeros)
+      (λ zeros end far. alone_later sum size site device fault bytes from x xs b rest rs (own_of fits.holds.head) fits.holds.own short big place_small slot_small are rise whole fresh H fits.holds.begun.first reach zeros end far)
       (reaches_later sum size site device fault bytes from x xs b rest rs (own_of fits.holds.head) fits.holds.own short big place_small slot_small are rise whole) (x ∷ xs ++ now_written b ∷ rest) rs
       (holds_over sum size site device fault bytes from (x ∷ xs ++ b ∷ rest) rs behind H fits.holds (after_behind (x ∷ xs)) fault bytes from (x ∷ xs ++ now_written b ∷ rest) rs refl (omega arith)
       (segment_later sum size site device fault bytes from x xs b rest rs (own_of fits.holds.head) fits.holds.own short big place_small slot_small are rise whole (after_behind (x ∷ xs)) refl)
-      (others_written sum size site device fault bytes from (x ∷ xs ++ b ∷ rest) rs H fits.holds (omega (arith, big)) whole (site.slot + sealed_end x.end xs) (asked_behind (x ∷ xs)) range.0 (omega (arith, range.1)) (omega (arith, range.2)) (after_behind (x ∷ xs)) refl) fits.holds.plain) refl A')
+      (others_written sum size site device fault bytes from (x ∷ xs ++ b ∷ rest) rs H fits.holds (omega (arith, big)) whole (site.slot + sealed_end x.end xs) (asked_behind (x ∷ xs)) range.0 (omega (arith, range.1)) (omega (arith, range.2)) (after_behind (x ∷ xs)) refl) fits.holds.plain) refl)
 
 -- a list once the one at an index is written, and around it
 written_split : (k : ℕ) (bs : List Sealed) (b : Sealed) → slice_get bs k ≡ Some b → written_at k bs ≡ take k bs ++ now_written b ∷ drop (suc k) bs
@@ -472,7 +497,7 @@ holds_written_one sum size site device fault bytes from bs rs H {behind} holds s
     let now : List Sealed = written_at k bs in
     let grows = (run_of from rs now (written_are from rs bs k b there (ready_closed b ready) are)).rises in
     let split : bs ≡ take k bs ++ b ∷ drop (suc k) bs = there_split bs k b there in
-    let range = asked_range sum size site device fault bytes from b (drop (suc k) bs) rs behind 0 H 0 0 [] short big place_small slot_small (ready_closed b ready) whole (take k bs)
+    let range = asked_range sum size site device fault bytes from b (drop (suc k) bs) rs behind 0 0 H 0 0 [] short big place_small slot_small (ready_closed b ready) whole (take k bs)
     (subst (λ (cs : List Sealed). AreSealed from rs cs) split are) (subst (λ (cs : List Sealed). EndsRise from cs (length bytes)) split rise) in
     holds_over sum size site device fault bytes from bs rs behind H holds new fault bytes (run_end from now) (behind_run now) (drop (run_count now) rs) names grows
     (segment_written_one sum size site device fault bytes from bs rs (record { messages = holds.head; batches = H.batches }) holds.own short big place_small slot_small are fresh rise whole k b there ready new is)
@@ -480,7 +505,7 @@ holds_written_one sum size site device fault bytes from bs rs H {behind} holds s
     (All-drop NoPadding (run_count now) rs holds.plain)
 
 module _ (sum : List ℕ → ℕ) (size : ℕ) (site : SegmentPosition) (device : State) (fault : Option IoError) (bytes : List ℕ) (from : ℕ) (bs : List Sealed) (rs : List Reserved) (pins : ℕ) (H : History) (A f : ℕ) (U : List Message)
-    {behind : List SegmentParts} (fits : FitsIn sum (log_parts size site device fault bytes from bs rs) behind pins H A f U)
+    {behind : List SegmentParts} {reach : ℕ} (fits : FitsIn sum (log_parts size site device fault bytes from bs rs) behind reach pins H A f U)
     (short : length bytes ≤ size) (big : 256 ≤ size) (place_small : site.place + size < 2 ^ 63) (slot_small : site.slot + size < 2 ^ 63)
     (are : AreSealed from rs bs) (fresh : FirstUnwritten bs) (rise : EndsRise from bs (length bytes)) (whole : fault ≡ None) (k : ℕ) (b : Sealed) (there : slice_get bs k ≡ Some b) (ready : is_ready b ≡ true) where
   abbrev at_one : ℕ
@@ -498,8 +523,8 @@ module _ (sum : List ℕ → ℕ) (size : ℕ) (site : SegmentPosition) (device 
   split_one : bs ≡ take k bs ++ b ∷ drop (suc k) bs
   split_one = there_split bs k b there
 
-  fits_split : FitsIn sum (log_parts size site device fault bytes from (take k bs ++ b ∷ drop (suc k) bs) rs) behind pins H A f U
-  fits_split = subst (λ (cs : List Sealed). FitsIn sum (log_parts size site device fault bytes from cs rs) behind pins H A f U) split_one fits
+  fits_split : FitsIn sum (log_parts size site device fault bytes from (take k bs ++ b ∷ drop (suc k) bs) rs) behind reach pins H A f U
+  fits_split = subst (λ (cs : List Sealed). FitsIn sum (log_parts size site device fault bytes from cs rs) behind reach pins H A f U) split_one fits
 
   are_split : AreSealed from rs (take k bs ++ b ∷ drop (suc k) bs)
   are_split = subst (λ (cs : List Sealed). AreSealed from rs cs) split_one are
@@ -508,12 +533,12 @@ module _ (sum : List ℕ → ℕ) (size : ℕ) (site : SegmentPosition) (device 
   rise_split = subst (λ (cs : List Sealed). EndsRise from cs (length bytes)) split_one rise
 
   -- At each moment of the write of one that is ready, and of the sync, a crash leaves what can be recovered.
-  pub write_along : Along (LeavesRecoverable sum size H (site.place + from) f) (Wrote (site.slot + at_one) asked_one asked_one ∷ Synced ∷ []) device
-  write_along = along_around sum size site device fault bytes from b (drop (suc k) bs) rs behind pins H A f U short big place_small slot_small (ready_closed b ready) whole (take k bs) fits_split are_split (subst FirstUnwritten split_one fresh) rise_split
+  pub write_along : Along (LeavesRecoverable sum size H reach f) (Wrote (site.slot + at_one) asked_one asked_one ∷ Synced ∷ []) device
+  write_along = along_around sum size site device fault bytes from b (drop (suc k) bs) rs behind reach pins H A f U short big place_small slot_small (ready_closed b ready) whole (take k bs) fits_split are_split (subst FirstUnwritten split_one fresh) rise_split
 
-  -- Behind them the log fits, with all that is written up to the end of the run for what was acknowledged.
-  pub fits_written_one : (A' : ℕ) → A' ≤ site.place + run_end from now_one → FitsIn sum (log_parts size site synced_one None bytes (run_end from now_one) (behind_run now_one) (drop (run_count now_one) rs)) behind pins H A' f U
-  fits_written_one A' =
-      subst (λ (o : Option IoError). A' ≤ site.place + run_end from now_one → FitsIn sum (log_parts size site synced_one o bytes (run_end from now_one) (behind_run now_one) (drop (run_count now_one) rs)) behind pins H A' f U) whole
-      (subst (λ (cs : List Sealed). A' ≤ site.place + run_end from cs → FitsIn sum (log_parts size site synced_one fault bytes (run_end from cs) (behind_run cs) (drop (run_count cs) rs)) behind pins H A' f U) (sym (written_split k bs b there))
-      (fits_around sum size site device fault bytes from b (drop (suc k) bs) rs behind pins H A f U short big place_small slot_small (ready_closed b ready) whole (take k bs) fits_split are_split (subst FirstUnwritten split_one fresh) rise_split A'))
+  -- Behind them the log fits.
+  pub fits_written_one : (now : ℕ) × FitsIn sum (log_parts size site synced_one None bytes (run_end from now_one) (behind_run now_one) (drop (run_count now_one) rs)) behind now pins H A f U
+  fits_written_one =
+      subst (λ (o : Option IoError). (now : ℕ) × FitsIn sum (log_parts size site synced_one o bytes (run_end from now_one) (behind_run now_one) (drop (run_count now_one) rs)) behind now pins H A f U) whole
+      (subst (λ (cs : List Sealed). (now : ℕ) × FitsIn sum (log_parts size site synced_one fault bytes (run_end from cs) (behind_run cs) (drop (run_count cs) rs)) behind now pins H A f U) (sym (written_split k bs b there))
+      (fits_around sum size site device fault bytes from b (drop (suc k) bs) rs behind reach pins H A f U short big place_small slot_small (ready_closed b ready) whole (take k bs) fits_split are_split (subst FirstUnwritten split_one fresh) rise_split))

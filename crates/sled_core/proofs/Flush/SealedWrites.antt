@@ -83,46 +83,42 @@ module _ {D C : Type 0} (trace : D → Trace) (sum : List ℕ → ℕ) (log : Lo
       (holds_written_one sum size log.site (state_of before) log.fault old.bytes.items old.written_len old.sealed.items old.reserved.items H holds log.in_segment log.config.config.least log.place_in_reach log.slot_in_reach
       old.are old.head (sealed_rise old) whole k b there ready (state_of new) (ap (λ (t : Trace). (state_of t).log) made) (ap (λ (t : Trace). (state_of t).snapshots.file) made))
 
-  module _ (H : History) (A f : ℕ) (U : List Message) (fits : Fits trace sum log H A f U) where
-    parts_fit : FitsIn sum (log_parts size log.site (state_of before) log.fault old.bytes.items old.written_len old.sealed.items old.reserved.items) [] log.pins H A f U
-    unfolding Fits
-    parts_fit = fits.parts
-
-    slots_fit : HasSlots size log.site.slot (state_of before).log.bytes log.fault (machine_of log.accountant)
-    unfolding Fits
-    slots_fit = fits.slots
-
+  module _ (H : History) (A f : ℕ) (U : List Message) {reach : ℕ}
+      (fits : FitsIn sum (log_parts size log.site (state_of before) log.fault old.bytes.items old.written_len old.sealed.items old.reserved.items) [] reach log.pins H A f U) where
     -- At each moment of the calls a crash leaves what can be recovered, with all that was written before counted as acknowledged.
-    pub buffer_left : (new : Trace) → Performs (writing_buffer log k) before new → Throughout (LeavesRecoverable sum size H (log.site.place + old.written_len) f) before new
+    pub buffer_left : (new : Trace) → Performs (writing_buffer log k) before new → Throughout (LeavesRecoverable sum size H reach f) before new
     buffer_left new came =
-        performs_throughout (LeavesRecoverable sum size H (log.site.place + old.written_len) f) (writing_buffer log k) before new came
-        (subst (λ (es : List Event). Along (LeavesRecoverable sum size H (log.site.place + old.written_len) f) es (state_of before)) (sym (calls_are log k b there))
-        (write_along sum size log.site (state_of before) log.fault old.bytes.items old.written_len old.sealed.items old.reserved.items log.pins H A f U parts_fit log.in_segment log.config.config.least log.place_in_reach log.slot_in_reach
+        performs_throughout (LeavesRecoverable sum size H reach f) (writing_buffer log k) before new came
+        (subst (λ (es : List Event). Along (LeavesRecoverable sum size H reach f) es (state_of before)) (sym (calls_are log k b there))
+        (write_along sum size log.site (state_of before) log.fault old.bytes.items old.written_len old.sealed.items old.reserved.items log.pins H A f U fits log.in_segment log.config.config.least log.place_in_reach log.slot_in_reach
         old.are old.head (sealed_rise old) whole k b there ready))
 
     pub buffer_crash : (new : Trace) → Performs (writing_buffer log k) before new → Throughout (LeavesRecoverable sum size H A f) before new
     buffer_crash new came =
-        weaker (LeavesRecoverable sum size H (log.site.place + old.written_len) f) (LeavesRecoverable sum size H A f) (λ s. leaves_less sum size H A (log.site.place + old.written_len) f s parts_fit.passes) before new (buffer_left new came)
+        weaker (LeavesRecoverable sum size H reach f) (LeavesRecoverable sum size H A f) (λ s. leaves_less sum size H A reach f s fits.passes) before new (buffer_left new came)
 
-    -- Behind them it fits, with all that was written for what was acknowledged.
-    pub fits_buffer : (new : Trace) → new ≡ after_all (writing_buffer log k) before → (later : IoBuf) → IsWrittenAt k old later → (A' : ℕ) → A' ≤ log.site.place + later.written_len
-        → FitsIn sum (log_parts size log.site (state_of new) log.fault later.bytes.items later.written_len later.sealed.items later.reserved.items) [] log.pins H A' f U
-    fits_buffer new came later is A' passes =
+    -- Behind them it fits.
+    pub fits_buffer : (new : Trace) → new ≡ after_all (writing_buffer log k) before → (later : IoBuf) → IsWrittenAt k old later
+        → (up_to : ℕ) × FitsIn sum (log_parts size log.site (state_of new) log.fault later.bytes.items later.written_len later.sealed.items later.reserved.items) [] up_to log.pins H A f U
+    fits_buffer new came later is =
         let made = came ∙ ap (λ (es : List Event). after_all es before) (calls_are log k b there) in
-        fits_same_buffer sum size log.site (state_of new) log.fault old.bytes.items later.bytes.items (run_end old.written_len now) later.written_len (behind_run now) later.sealed.items (drop (run_count now) old.reserved.items) later.reserved.items log.pins H A' f U
-        is.bytes is.from is.sealed is.reserved
-        (subst (λ (o : Option IoError). FitsIn sum (log_parts size log.site (state_of new) o old.bytes.items (run_end old.written_len now) (behind_run now) (drop (run_count now) old.reserved.items)) [] log.pins H A' f U) (sym whole)
-        (subst (λ (t : Trace). FitsIn sum (log_parts size log.site (state_of t) None old.bytes.items (run_end old.written_len now) (behind_run now) (drop (run_count now) old.reserved.items)) [] log.pins H A' f U) (sym made)
-        (fits_written_one sum size log.site (state_of before) log.fault old.bytes.items old.written_len old.sealed.items old.reserved.items log.pins H A f U parts_fit log.in_segment log.config.config.least log.place_in_reach log.slot_in_reach
-        old.are old.head (sealed_rise old) whole k b there ready A' (omega (arith, passes, is.from)))))
+        let after : (up_to : ℕ) × FitsIn sum (log_parts size log.site (state_of new) log.fault old.bytes.items (run_end old.written_len now) (behind_run now) (drop (run_count now) old.reserved.items)) [] up_to log.pins H A f U =
+        subst (λ (o : Option IoError). (up_to : ℕ) × FitsIn sum (log_parts size log.site (state_of new) o old.bytes.items (run_end old.written_len now) (behind_run now) (drop (run_count now) old.reserved.items)) [] up_to log.pins H A f U) (sym whole)
+        (subst (λ (t : Trace). (up_to : ℕ) × FitsIn sum (log_parts size log.site (state_of t) None old.bytes.items (run_end old.written_len now) (behind_run now) (drop (run_count now) old.reserved.items)) [] up_to log.pins H A f U) (sym made)
+        (fits_written_one sum size log.site (state_of before) log.fault old.bytes.items old.written_len old.sealed.items old.reserved.items log.pins H A f U fits log.in_segment log.config.config.least log.place_in_reach log.slot_in_reach
+        old.are old.head (sealed_rise old) whole k b there ready)) in (
+          after.0,
+          fits_same_buffer sum size log.site (state_of new) log.fault old.bytes.items later.bytes.items (run_end old.written_len now) later.written_len (behind_run now) later.sealed.items (drop (run_count now) old.reserved.items) later.reserved.items log.pins H A f U
+              is.bytes is.from is.sealed is.reserved after.1,
+        )
 
     -- The free slots have zeros as before.
-    pub slots_buffer : (new : Trace) → new ≡ after_all (writing_buffer log k) before → (now : Option IoError) → HasSlots size log.site.slot (state_of new).log.bytes now (machine_of log.accountant)
-    slots_buffer new came now =
+    pub slots_buffer : HasSlots size log.site.slot (state_of before).log.bytes log.fault (machine_of log.accountant) → (new : Trace) → new ≡ after_all (writing_buffer log k) before → (now : Option IoError) → HasSlots size log.site.slot (state_of new).log.bytes now (machine_of log.accountant)
+    slots_buffer slots new came now =
         let from : ℕ = sealed_end old.written_len (take k old.sealed.items) in
         let to : ℕ = sealed_end old.written_len (take (k + 1) old.sealed.items) in
         let span = span_within old.written_len old.sealed.items k (length old.bytes.items) (sealed_rise old) in
         let long = length-between old.bytes.items from to span.1 in
         let short = log.in_segment in
         slots_written size log.site.slot (state_of before).log.bytes (state_of new).log.bytes log.fault now (machine_of log.accountant) (log.site.slot + from) (bytes_between old.bytes.items from to) whole
-        (ap (λ (t : Trace). (state_of t).log.bytes) came) (omega arith) (omega (arith, long, span.0, span.1, short)) slots_fit
+        (ap (λ (t : Trace). (state_of t).log.bytes) came) (omega arith) (omega (arith, long, span.0, span.1, short)) slots

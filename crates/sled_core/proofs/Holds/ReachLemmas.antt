@@ -113,7 +113,7 @@ fits_holds trace sum log H A f U fits = fits.parts.holds
 -- what was acknowledged is written
 pub fits_acknowledged : {D C : Type 0} (trace : D → Trace) (sum : List ℕ → ℕ) (log : Log D C) (H : History) (A f : ℕ) (U : List Message) → Fits trace sum log H A f U → A ≤ synced_end log
 unfolding Fits
-fits_acknowledged trace sum log H A f U fits = fits.parts.passes
+fits_acknowledged trace sum log H A f U fits = let passes = fits.parts.passes in let near = fits.parts.near in omega (arith, passes, near)
 
 -- Of tickets and places.
 

@@ -1,21 +1,25 @@
 -- How a running log goes on fitting its history at the calls that write nothing.
-use Rattle.std.proofs.Common.{◌≡◌, ◌≢◌, ◌≤◌, ◌<◌, ◌+◌, ◌∙◌, ℕ, List, [], ◌∷◌, length, map, Option, None, sym, arith, subst}
+use Rattle.std.proofs.Common.{◌≡◌, ◌≢◌, ◌≤◌, ◌<◌, ◌+◌, ◌∙◌, nat_lt, max, if◌then◌else◌, Bool, true, false, ℕ, List, [], ◌∷◌, length, map, Option, None, refl, sym, ap, arith, subst, inl, inr}
 use Rattle.std.specs.List.{Contains}
 use Rattle.std.specs.declared.io.Error.{Error as IoError}
+use Rattle.std.proofs.lemmas.Bool.{cases_lt}
+use Rattle.std.proofs.lemmas.Bool.Decides.{nat_tests}
 use Rattle.sled_codec.specs.History.{Message, History, AddsMessage}
 use Rattle.sled_codec.specs.Snapshots.{SnapshotModel}
 use Rattle.sled_store.specs.Device.{State, Trace, state_of}
 use Rattle.sled_store.proofs.Names.OneBegin.{one_begin}
+use Rattle.sled_store.proofs.Segments.Elements.{in_first, in_rest}
 use Rattle.sled_core.specs.declared.iobuf.Reserved.{Reserved}
 use Rattle.sled_core.specs.declared.iobuf.Sealed.{Sealed}
 use Rattle.sled_core.specs.declared.iobuf.SegmentPosition.{SegmentPosition}
 use Rattle.sled_core.specs.declared.logger.Log.{Log}
 use Rattle.sled_core.specs.Fits.{HoldsIn, SegmentParts, begun_segment, device_of, log_parts, segment_size_of}
 use Rattle.sled_core.specs.LogFile.{padded}
-use Rattle.sled_core.specs.Running.{BlobsFit, NamesFit, Fits, FitsIn}
+use Rattle.sled_core.specs.Running.{BlobsFit, NamesFit, Fits, FitsIn, end_below}
 use Rattle.sled_core.specs.Reached.{BegunSegment, StandsAmong}
 use Rattle.sled_core.specs.Recoverable.{LeavesRecoverable, NoHeaderOfZeros}
 use Rattle.sled_core.specs.SealedBuffers.{AreSealed, AreZeros, FirstUnwritten}
+use Rattle.sled_core.proofs.Holds.Added.{was_or_added}
 use Rattle.sled_core.proofs.Holds.BegunLemmas.{names-adds, blobs-adds}
 use Rattle.sled_core.proofs.Flush.Padded.{padded_get}
 use Rattle.sled_core.proofs.Holds.ReachLemmas.{LiesBehind, completed_behind}
@@ -25,7 +29,7 @@ use Rattle.sled_core.proofs.Holds.WholeHistory.{of_first, whole_ascends, whole_i
 use Rattle.sled_core.proofs.Sealed.Zeros.{begin_zeros}
 
 module _ (sum : List ℕ → ℕ) (size : ℕ) (site : SegmentPosition) (device : State) (fault : Option IoError) (bytes : List ℕ) (from : ℕ) (bs : List Sealed) (rs : List Reserved) (pins : ℕ) (H : History) (A f : ℕ) (U : List Message)
-    {behind : List SegmentParts} (fits : FitsIn sum (log_parts size site device fault bytes from bs rs) behind pins H A f U) where
+    {behind : List SegmentParts} {reach : ℕ} (fits : FitsIn sum (log_parts size site device fault bytes from bs rs) behind reach pins H A f U) where
   abbrev first : SnapshotModel
   first = fits.holds.begun.first
 
@@ -37,42 +41,60 @@ module _ (sum : List ℕ → ℕ) (size : ℕ) (site : SegmentPosition) (device 
   first_same bytes' from' bs' rs' H' holds = one_begin sum device.snapshots.file first holds.begun.first fits.holds.begun.begins holds.begun.begins
 
   -- Other bytes and reservations behind what was written fit the history, where they hold it.
-  pub fits-moved : (bytes' : List ℕ) (from' : ℕ) (bs' : List Sealed) (rs' : List Reserved) → from' ≡ from → HoldsIn sum (log_parts size site device fault bytes' from' bs' rs') behind H → FitsIn sum (log_parts size site device fault bytes' from' bs' rs') behind pins H A f U
+  pub fits-moved : (bytes' : List ℕ) (from' : ℕ) (bs' : List Sealed) (rs' : List Reserved) → from' ≡ from → HoldsIn sum (log_parts size site device fault bytes' from' bs' rs') behind H → FitsIn sum (log_parts size site device fault bytes' from' bs' rs') behind reach pins H A f U
   fits-moved bytes' from' bs' rs' is holds =
       let same : first ≡ holds.begun.first = first_same bytes' from' bs' rs' H holds in
       record {
         holds = holds;
-        among = λ ok none. subst (λ (s : SnapshotModel). StandsAmong sum size device.log.bytes site from' others (site.place + from') H s) same (subst (λ n. StandsAmong sum size device.log.bytes site n others (site.place + n) H first) (sym is) (fits.among ok none));
-        beyond = λ to far ok none. subst (λ (s : SnapshotModel). StandsAmong sum size (padded to device.log.bytes) site from' others (site.place + from') H s) same
-            (subst (λ n. StandsAmong sum size (padded to device.log.bytes) site n others (site.place + n) H first) (sym is) (fits.beyond to far ok none));
-        blobs = subst (λ n. BlobsFit sum device.blobs H (site.place + n)) (sym is) fits.blobs;
+        near = let near = fits.near in omega (arith, near, is);
+        ends = λ m there below. fits.ends m there (omega (arith, below, is));
+        among = λ ok none. subst (λ (s : SnapshotModel). StandsAmong sum size device.log.bytes site from' others reach H s) same (subst (λ n. StandsAmong sum size device.log.bytes site n others reach H first) (sym is) (fits.among ok none));
+        beyond = λ to far ok none. subst (λ (s : SnapshotModel). StandsAmong sum size (padded to device.log.bytes) site from' others reach H s) same
+            (subst (λ n. StandsAmong sum size (padded to device.log.bytes) site n others reach H first) (sym is) (fits.beyond to far ok none));
+        blobs = fits.blobs;
         names = subst (λ (s : SnapshotModel). NamesFit sum size device.snapshots H f s) same fits.names;
-        passes = let le = fits.passes in omega (arith, le, is);
+        passes = fits.passes;
         pinned = fits.pinned;
-        left = subst (λ n. LeavesRecoverable sum size H (site.place + n) f device) (sym is) fits.left;
+        left = fits.left;
       }
 
   -- A crash leaves what can be recovered with no more counted as acknowledged than was.
   pub fits-leaves : LeavesRecoverable sum size H A f device
-  fits-leaves = leaves_less sum size H A (site.place + from) f device fits.passes fits.left
+  fits-leaves = leaves_less sum size H A reach f device fits.passes fits.left
 
-  -- All that is written may count as acknowledged.
-  pub fits-synced : (end : ℕ) → end ≡ site.place + from → FitsIn sum (log_parts size site device fault bytes from bs rs) behind pins H end f U
-  fits-synced end is = record {
+  -- Up to where a reader comes all may count as acknowledged,
+  pub fits-synced : (end : ℕ) → end ≤ reach → FitsIn sum (log_parts size site device fault bytes from bs rs) behind reach pins H end f U
+  fits-synced end passes = record {
     holds = fits.holds;
+    near = fits.near;
+    ends = fits.ends;
     among = fits.among;
     beyond = fits.beyond;
     blobs = fits.blobs;
     names = fits.names;
-    passes = omega (arith, is);
+    passes = passes;
     pinned = fits.pinned;
     left = fits.left;
   }
 
+  -- and so each message that is written.
+  written_ends : (ms : List Message) → ((m : Message) → Contains ms m → Contains H.messages m) → end_below (site.place + from) ms ≤ reach
+  written_ends [] among = omega arith
+  written_ends (m ∷ ms) among = by (written_ends ms (λ x there. among x (in_rest m x ms there))) (nat_lt m.place (site.place + from)) refl where
+    by : end_below (site.place + from) ms ≤ reach → (b : Bool) → nat_lt m.place (site.place + from) ≡ b
+        → (if b then max (m.place + m.size) (end_below (site.place + from) ms) else end_below (site.place + from) ms) ≤ reach
+    by rest false is = rest
+    by rest true is = let below : m.place < site.place + from = grind (arith, nat_tests, is) in let end = fits.ends m (among m (in_first m ms)) below in omega (arith, end.1, rest)
+
+  pub fits-acknowledged : FitsIn sum (log_parts size site device fault bytes from bs rs) behind reach pins H (max A (end_below (site.place + from) H.messages)) f U
+  fits-acknowledged = let old = fits.passes in fits-synced (max A (end_below (site.place + from) H.messages)) (omega (arith, old, written_ends H.messages (λ m there. there)))
+
   -- Another count of pins fits, where one is out while a completed message is not marked.
-  pub fits-pinned : (pins' : ℕ) → (U ≢ [] → 0 < pins') → FitsIn sum (log_parts size site device fault bytes from bs rs) behind pins' H A f U
+  pub fits-pinned : (pins' : ℕ) → (U ≢ [] → 0 < pins') → FitsIn sum (log_parts size site device fault bytes from bs rs) behind reach pins' H A f U
   fits-pinned pins' pinned = record {
     holds = fits.holds;
+    near = fits.near;
+    ends = fits.ends;
     among = fits.among;
     beyond = fits.beyond;
     blobs = fits.blobs;
@@ -85,8 +107,8 @@ module _ (sum : List ℕ → ℕ) (size : ℕ) (site : SegmentPosition) (device 
   -- With one more message, which lies behind what was written, it fits the history that has that message.
   module _ (bytes' : List ℕ) (from' : ℕ) (bs' : List Sealed) (rs' : List Reserved) (H' : History) (m : Message) (is : from' ≡ from) (least : 256 ≤ size) (in_segment : length bytes' ≤ size) (ok : fault ≡ None)
       (holds : HoldsIn sum (log_parts size site device fault bytes' from' bs' rs') behind H') (adds : AddsMessage H m H') (of_head : Contains holds.head m) (above : site.place + from ≤ m.place) (fresh : FirstUnwritten bs) (are : AreSealed from rs bs) where
-    abbrev reach : ℕ
-    reach = site.place + from
+    reached : reach ≤ m.place
+    reached = let near = fits.near in omega (arith, near, above)
 
     lies : LiesBehind size site m
     lies = completed_behind sum size site device fault bytes' from' bs' rs' (of_first sum size site device fault bytes' from' bs' rs' H' holds) holds.own in_segment m of_head (omega (arith, is, above))
@@ -108,32 +130,44 @@ module _ (sum : List ℕ → ℕ) (size : ℕ) (site : SegmentPosition) (device 
     beyond_new to far none = alone-adds sum size (padded to device.log.bytes) site from reach H H' first least none holds.own.place_begins (λ first_one i low high. padded_get to device.log.bytes i ∙ clean first_one i low high) m adds above inside_segment room lies.lies (fits.beyond to far ok none)
 
     names_new : NamesFit sum size device.snapshots H' f first
-    names_new = let reached = fits.holds.begun.reached in names-adds H H' m adds sum size device.snapshots f first (omega (arith, reached, above)) fits.names
+    names_new = let begun = fits.holds.begun.reached in names-adds H H' m adds sum size device.snapshots f first (omega (arith, begun, above)) fits.names
 
     blobs_new : BlobsFit sum device.blobs H' reach
-    blobs_new = blobs-adds H H' m adds sum device.blobs reach lies.lid above lies.pointer fits.blobs
+    blobs_new = blobs-adds H H' m adds sum device.blobs reach lies.lid reached lies.pointer fits.blobs
+
+    -- what is written still ends there
+    ends_new : (x : Message) → Contains H'.messages x → x.place < site.place + from → (x.place < reach) × (x.place + x.size ≤ reach)
+    ends_new x there below = elim (was_or_added H H' m adds x there) [
+      | inl was ↦ fits.ends x was below
+      | inr own ↦ absurd (let same = ap (λ (y : Message). y.place) own in omega (arith, same, above, below))
+    ]
 
     inline_behind : InlineFrom H' reach
-    inline_behind x there behind = whole_inline sum size site device fault bytes' from' bs' rs' H' holds x there (omega (arith, is, behind))
+    inline_behind x there past = elim (cases_lt x.place (site.place + from)) [
+      | inl below ↦ absurd (let low = ends_new x there below in omega (arith, low.0, past))
+      | inr over ↦ whole_inline sum size site device fault bytes' from' bs' rs' H' holds x there (omega (arith, is, over))
+    ]
 
     left_new : LeavesRecoverable sum size H' reach f device
     left_new =
         let on = fits.holds.own.written ok in
         settled_recoverable sum size least device H' reach f first reach (whole_ascends sum size site device fault bytes' from' bs' rs' H' holds in_segment) inline_behind (rests device.log on.log on.settled) names_new blobs_new (λ none. (alone_new none).stands)
 
-    pub fits-completed : 0 < pins → FitsIn sum (log_parts size site device fault bytes' from' bs' rs') behind pins H' A f (m ∷ U)
+    pub fits-completed : 0 < pins → FitsIn sum (log_parts size site device fault bytes' from' bs' rs') behind reach pins H' A f (m ∷ U)
     fits-completed out =
         let same : first ≡ holds.begun.first = first_same bytes' from' bs' rs' H' holds in
         record {
           holds = holds;
-          among = λ fine none. subst (λ (s : SnapshotModel). StandsAmong sum size device.log.bytes site from' others (site.place + from') H' s) same (subst (λ n. StandsAmong sum size device.log.bytes site n others (site.place + n) H' first) (sym is) (alone_new none));
-          beyond = λ to far fine none. subst (λ (s : SnapshotModel). StandsAmong sum size (padded to device.log.bytes) site from' others (site.place + from') H' s) same
-              (subst (λ n. StandsAmong sum size (padded to device.log.bytes) site n others (site.place + n) H' first) (sym is) (beyond_new to far none));
-          blobs = subst (λ n. BlobsFit sum device.blobs H' (site.place + n)) (sym is) blobs_new;
+            near = let near = fits.near in omega (arith, near, is);
+          ends = λ x there below. ends_new x there (omega (arith, below, is));
+          among = λ fine none. subst (λ (s : SnapshotModel). StandsAmong sum size device.log.bytes site from' others reach H' s) same (subst (λ n. StandsAmong sum size device.log.bytes site n others reach H' first) (sym is) (alone_new none));
+          beyond = λ to far fine none. subst (λ (s : SnapshotModel). StandsAmong sum size (padded to device.log.bytes) site from' others reach H' s) same
+              (subst (λ n. StandsAmong sum size (padded to device.log.bytes) site n others reach H' first) (sym is) (beyond_new to far none));
+          blobs = blobs_new;
           names = subst (λ (s : SnapshotModel). NamesFit sum size device.snapshots H' f s) same names_new;
-          passes = let le = fits.passes in omega (arith, le, is);
+          passes = fits.passes;
           pinned = λ some. out;
-          left = subst (λ n. LeavesRecoverable sum size H' (site.place + n) f device) (sym is) left_new;
+          left = left_new;
         }
 
 -- What a crash leaves of the device of a log can be recovered.

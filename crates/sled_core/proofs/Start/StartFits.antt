@@ -1,9 +1,11 @@
 -- A log that begins on what a recovery left fits the history.
 use Rattle.std.proofs.Common.{◌≡◌, ◌≤◌, ◌<◌, ◌+◌, ◌*◌, ◌/◌, ◌%◌, ◌∙◌, ◌-ℤ◌, ℕ, pos, List, [], length, Option, Some, None, IfSome, refl, sym, ap, subst, arith}
+use Rattle.std.specs.List.{Contains}
 use Rattle.std.proofs.Math.Nat.{mod-add-div'}
+use Rattle.std.proofs.lemmas.List.Elements.{All-contains}
 use Rattle.sled_codec.specs.Coords.{raised}
 use Rattle.sled_codec.specs.Record.{short_header}
-use Rattle.sled_codec.specs.History.{History}
+use Rattle.sled_codec.specs.History.{Message, History}
 use Rattle.sled_codec.specs.Snapshots.{SnapshotModel, stable_place}
 use Rattle.sled_store.specs.Device.{LogState, NamesState, State, at_rest}
 use Rattle.sled_store.specs.declared.segment.start.Beginning.{Beginning}
@@ -64,12 +66,14 @@ module _ (sum : List ℕ → ℕ) (size : ℕ) (device now : State) (s : Snapsho
   -- Where it begins at a site.
   module _ (site : SegmentPosition) (from : ℕ) (end : site.place + from ≡ stable) (begins : site.place ≡ stable / size * size) (own : (slot : ℕ) → s.active ≡ Some slot → slot ≡ site.slot)
       (behind : 0 < from → (s.active ≡ Some site.slot) × (from ≡ stable % size)) (beyond : AreZeros new (site.slot + from) (site.slot + size) → (to : ℕ) → NoHeaderOfZeros sum → StandsActive sum size (padded to new) s H) where
-    fits_at : (bytes : List ℕ) (holds : HoldsIn sum (log_parts size site now None bytes from [] []) [] H) → holds.begun.first ≡ ready.ready.first → FitsIn sum (log_parts size site now None bytes from [] []) [] 0 H A f []
+    fits_at : (bytes : List ℕ) (holds : HoldsIn sum (log_parts size site now None bytes from [] []) [] H) → holds.begun.first ≡ ready.ready.first → FitsIn sum (log_parts size site now None bytes from [] []) [] (site.place + from) 0 H A f []
     fits_at bytes holds first =
         let same : stable_place holds.begun.first.stable ≡ stable = ap (λ (x : SnapshotModel). stable_place x.stable) first ∙ same_stable in
         let clean : AreZeros new (site.slot + from) (site.slot + size) = subst (λ (l : List ℕ). AreZeros l (site.slot + from) (site.slot + size)) bytes_now (holds.own.laid refl) in
         record {
           holds = holds;
+          near = omega arith;
+          ends = λ m there below. let low = All-contains (λ (x : Message). (x.place < stable) × (x.place + x.size ≤ stable)) H.messages m ready.ready.below there in (omega (arith, low.0, end), omega (arith, low.1, end));
           among = λ none zeros. subst (λ (l : List ℕ). StandsAlone sum size l site from (site.place + from) H holds.begun.first) (sym bytes_now) (begins_alone sum size new s holds.begun.first H site from same end begins own behind (active_now zeros));
           beyond = λ to far none zeros. subst (λ (l : List ℕ). StandsAlone sum size (padded to l) site from (site.place + from) H holds.begun.first) (sym bytes_now)
               (begins_alone sum size (padded to new) s holds.begun.first H site from same end begins own behind (beyond clean to zeros));
@@ -83,7 +87,7 @@ module _ (sum : List ℕ → ℕ) (size : ℕ) (device now : State) (s : Snapsho
   -- It fits where it begins.
   FitsAt : List ℕ → Beginning → Type 0
   FitsAt bytes b = (holds : HoldsIn sum (log_parts size (record { place = b.place; slot = b.slot }) now None bytes b.offset [] []) [] H) → holds.begun.first ≡ ready.ready.first
-      → FitsIn sum (log_parts size (record { place = b.place; slot = b.slot }) now None bytes b.offset [] []) [] 0 H A f []
+      → FitsIn sum (log_parts size (record { place = b.place; slot = b.slot }) now None bytes b.offset [] []) [] (b.place + b.offset) 0 H A f []
 
   fits_from : (bytes : List ℕ) → FitsAt bytes (beginning_of size (length log) s)
   unfolding FitsAt
@@ -106,11 +110,11 @@ module _ (sum : List ℕ → ℕ) (size : ℕ) (device now : State) (s : Snapsho
 
   -- The log fits the history that it holds.
   pub start_fits : (b : Beginning) → b ≡ beginning_of size (length log) s → (bytes : List ℕ) (from : ℕ) (sealed : List Sealed) (reserved : List Reserved) → (b.offset ≡ 0 → bytes ≡ short_header sum (pos b.place) (pos b.place -ℤ pos 1)) → (0 < b.offset → length bytes ≡ b.offset)
-      → from ≡ b.offset → sealed ≡ [] → reserved ≡ [] → FitsIn sum (log_parts size (record { place = b.place; slot = b.slot }) now None bytes from sealed reserved) [] 0 H A f []
+      → from ≡ b.offset → sealed ≡ [] → reserved ≡ [] → FitsIn sum (log_parts size (record { place = b.place; slot = b.slot }) now None bytes from sealed reserved) [] (b.place + b.offset) 0 H A f []
   unfolding FitsAt
   start_fits b is bytes from sealed reserved header more offset none_sealed none =
       let begun = begins_from sum size device now s H bytes long ready.ready startable log_is (ap (λ (n : NamesState). n.file) same_names) b is header more in
       let fits : FitsAt bytes b = subst (FitsAt bytes) (sym is) (fits_from bytes) in
-      subst (λ n. FitsIn sum (log_parts size (record { place = b.place; slot = b.slot }) now None bytes n sealed reserved) [] 0 H A f []) (sym offset)
-      (subst (λ (l : List Sealed). FitsIn sum (log_parts size (record { place = b.place; slot = b.slot }) now None bytes b.offset l reserved) [] 0 H A f []) (sym none_sealed)
-      (subst (λ (r : List Reserved). FitsIn sum (log_parts size (record { place = b.place; slot = b.slot }) now None bytes b.offset [] r) [] 0 H A f []) (sym none) (fits begun.0 begun.1)))
+      subst (λ n. FitsIn sum (log_parts size (record { place = b.place; slot = b.slot }) now None bytes n sealed reserved) [] (b.place + b.offset) 0 H A f []) (sym offset)
+      (subst (λ (l : List Sealed). FitsIn sum (log_parts size (record { place = b.place; slot = b.slot }) now None bytes b.offset l reserved) [] (b.place + b.offset) 0 H A f []) (sym none_sealed)
+      (subst (λ (r : List Reserved). FitsIn sum (log_parts size (record { place = b.place; slot = b.slot }) now None bytes b.offset [] r) [] (b.place + b.offset) 0 H A f []) (sym none) (fits begun.0 begun.1)))

@@ -1,7 +1,7 @@
 //! Making what was reserved durable up to a place, and closing a log.
 //!
 //! Both write buffers as `Log::flush` does (`specs/Stable.antt`).
-ghost use Rattle.std.specs.Prelude.{List, ℕ, ◌≡◌, ◌+◌, ◌^◌, ◌<◌, ◌<ℤ◌, pos, IfOk, OnOk, OnErr, Some};
+ghost use Rattle.std.specs.Prelude.{List, ℕ, ◌≡◌, ◌+◌, ◌^◌, ◌<◌, ◌<ℤ◌, pos, IfOk, OnOk, OnErr, Some, max};
 ghost use Rattle.std.specs.declared.io.Error.{Error as IoError};
 ghost use Rattle.sled_codec.specs.History.{History, Message};
 ghost use Rattle.sled_store.specs.Device.{state_of};
@@ -11,7 +11,7 @@ ghost use Rattle.sled_core.specs.Causes.{OnDone};
 ghost use Rattle.sled_core.specs.Fits.{KeepsTickets, config_of, device_of, fault_of, flushing, held_below, reserved_end, reserved_len, segment_size_of, site_of, synced_end};
 ghost use Rattle.sled_core.specs.Keeps.{ConfigKept, Preserves, SamePosition, SealsBelow};
 ghost use Rattle.sled_core.specs.Recoverable.{LeavesRecoverable, RecoverableIfOwn};
-ghost use Rattle.sled_core.specs.Running.{Fits};
+ghost use Rattle.sled_core.specs.Running.{Fits, end_below};
 ghost use Rattle.sled_core.specs.Stable.{held_for, length_to, stabilizing, IsNotReserved, StableAnswers, CloseAnswers};
 
 use crate::logger::Log;
@@ -36,7 +36,7 @@ impl<D: Device, C: Checksum> Log<D, C> {
         ensures at_most { Performs (stabilizing self.old lsn) (D.trace (device_of self.old)) (D.trace (device_of self.new)) }
         ensures keeps { Preserves D.trace C.sum_of self.old self.new }
         ensures acknowledges { (H : History) (A f : ℕ) (U : List Message) → Fits D.trace C.sum_of self.old H A f U
-            → OnOk result (Fits D.trace C.sum_of self.new H (synced_end self.new) f U) }
+            → OnOk result (Fits D.trace C.sum_of self.new H (max A (end_below (synced_end self.new) H.messages)) f U) }
         ensures tickets { KeepsTickets self.old self.new }
         ensures position { SamePosition self.old self.new }
         ensures answers { StableAnswers result lsn (reserved_end self.old) (site_of self.old).place (held_for self.old lsn)
@@ -81,7 +81,7 @@ impl<D: Device, C: Checksum> Log<D, C> {
         ensures made { OnDone result.1 (D.trace result.0.device ≡ after_all (flushing self) (D.trace (device_of self))) }
         ensures at_most { Performs (flushing self) (D.trace (device_of self)) (D.trace result.0.device) }
         ensures acknowledges { (H : History) (A f : ℕ) (U : List Message) → Fits D.trace C.sum_of self H A f U
-            → OnOk result.1 (LeavesRecoverable C.sum_of (segment_size_of self) H (reserved_end self) f (state_of (D.trace result.0.device))) }
+            → OnOk result.1 (LeavesRecoverable C.sum_of (segment_size_of self) H (max A (end_below (reserved_end self) H.messages)) f (state_of (D.trace result.0.device))) }
         ensures crash { (H : History) (A f : ℕ) (U : List Message) → Fits D.trace C.sum_of self H A f U
             → LeavesOnly (RecoverableIfOwn C.sum_of (segment_size_of self) H A f) (D.trace (device_of self)) (D.trace result.0.device) }
         ensures answers { CloseAnswers result.1 (site_of self).place (held_below self (reserved_len self)) (fault_of self)

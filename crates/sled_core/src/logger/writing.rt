@@ -2,7 +2,7 @@
 //!
 //! A sealed buffer is written as a whole, by one write and one sync, in any order. The stable end lies behind those at the
 //! front that are written (`specs/SealedBuffers.antt`).
-ghost use Rattle.std.specs.Prelude.{List, ℕ, ◌≡◌, ◌≢◌, ◌+◌, ◌-◌, ◌<◌, ◌≤◌, ◌^◌, ◌∷◌, ◌++◌, ◌⊎◌, [], pos, None, Some, false, true, length, slice_get, IfOk, IfErr, IsOkUnless, OnOk, OnErr};
+ghost use Rattle.std.specs.Prelude.{List, ℕ, ◌≡◌, ◌≢◌, ◌+◌, ◌-◌, ◌<◌, ◌≤◌, ◌^◌, ◌∷◌, ◌++◌, ◌⊎◌, [], pos, None, Some, false, true, length, slice_get, IfOk, IfErr, IsOkUnless, OnOk, OnErr, max};
 ghost use Rattle.std.specs.declared.io.Error.{Error as IoError};
 ghost use Rattle.std.specs.IoError.{error_kind};
 ghost use Rattle.std.specs.declared.io.ErrorKind.TheVariants.{OutOfMemory};
@@ -16,7 +16,7 @@ ghost use Rattle.sled_core.specs.Buffers.{open_in};
 ghost use Rattle.sled_core.specs.Causes.{Answers, FaultOrMemory, HeldAnswers, HeldOrMemory, OnDone};
 ghost use Rattle.sled_core.specs.Fits.{HasWrittenPending, Holds, IsLeastOpenOf, KeepsReserved, current_reserved, IsUnchanged, IsWritten, IsWrittenAt, KeepsAll, KeepsTickets, NoneOpen, NoneSealed, SameBuffer, device_of, fault_of, flushing, held_below, held_len, next_place, pending_of, ready_below, reserved_end, reserved_len, sealed_len, sealed_of, sealed_with_current, site_of, synced_end, synced_len, writing_below, writing_buffer, writing_current, writing_pending};
 ghost use Rattle.sled_core.specs.Keeps.{Preserves, SamePosition, SealsBelow};
-ghost use Rattle.sled_core.specs.Running.{Fits};
+ghost use Rattle.sled_core.specs.Running.{Fits, end_below};
 ghost use Rattle.sled_core.specs.SealedBuffers.{is_ready, seal_at};
 
 use crate::logger::Log;
@@ -121,7 +121,7 @@ impl<D: Device, C: Checksum> Log<D, C> {
         ensures at_most { Performs (flushing self.old) (D.trace (device_of self.old)) (D.trace (device_of self.new)) }
         ensures keeps { Preserves D.trace C.sum_of self.old self.new }
         ensures acknowledges { (H : History) (A f : ℕ) (U : List Message) → Fits D.trace C.sum_of self.old H A f U
-            → OnOk result (Fits D.trace C.sum_of self.new H (synced_end self.new) f U) }
+            → OnOk result (Fits D.trace C.sum_of self.new H (max A (end_below (synced_end self.new) H.messages)) f U) }
         ensures tickets { KeepsTickets self.old self.new }
         ensures position { SamePosition self.old self.new }
         ensures answers { HeldAnswers result (site_of self.old).place (held_below self.old (reserved_len self.old)) (fault_of self.old) (fault_of self.new)

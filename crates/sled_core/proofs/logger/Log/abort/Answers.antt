@@ -54,6 +54,7 @@ returns-clause-keeps g c =
       history = λ H holds. holds-aborted g.C.Checksum.sum_of _ _ _ _ old.bytes.items old.written_len old.sealed.items old.reserved.items H holds (c.index-index.result - c.args.self.now.buffer.gone) r there own.own.open_yet (written_behind old) old.are _ _ _ _ bytes c.abort.ensures.from c.abort.ensures.sealed reserved;
       fits = λ H A f U fits.
           record {
+            reach = fits.reach;
             parts = fits-moved _ _ _ _ _ _ _ _ _ _ H A f U fits.parts _ _ _ _ c.abort.ensures.from
                 (holds-aborted g.C.Checksum.sum_of _ _ _ _ old.bytes.items old.written_len old.sealed.items old.reserved.items H fits.parts.holds (c.index-index.result - c.args.self.now.buffer.gone) r there own.own.open_yet (written_behind old) old.are _ _ _ _ bytes c.abort.ensures.from c.abort.ensures.sealed reserved);
             slots = fits.slots;

@@ -89,6 +89,7 @@ returns-clause-fits g c = λ H A f U m fits awaits out.
       done.0,
       done.1,
       record {
+        reach = fits.reach;
         parts = fits-completed g.C.Checksum.sum_of old.config.config.segment_size old.site _ old.fault old.buffer.bytes.items old.buffer.written_len old.buffer.sealed.items old.buffer.reserved.items old.pins H A f U fits.parts _ _ _ _ done.0 m c.complete.ensures.from
             old.config.config.least (omega (arith, c.complete.ensures.len, old.in_segment)) c.in_default.is done.2 done.1 (subst (λ (ms : List Message). Contains ms m) (of_one g.C.Checksum.sum_of _ _ _ _ _ _ _ _ done.0 done.2) (added_there H done.0 m done.1)) (omega (arith, inside.0, place)) old.buffer.head old.buffer.are out;
         slots = fits.slots;

@@ -5,7 +5,7 @@ use Rattle.sled_core.specs.Running.{Fits}
 use Rattle.sled_core.proofs.Flush.FlushLemmas.{all_kept}
 use Rattle.sled_core.proofs.Holds.BufferEnds.{written_behind}
 use Rattle.sled_core.proofs.Holds.KeptCalls.{kept_still}
-use Rattle.sled_core.proofs.Holds.RunningLemmas.{fits-synced}
+use Rattle.sled_core.proofs.Holds.RunningLemmas.{fits-acknowledged}
 use Rattle.sled_core.proofs.Holds.Writes.{flushed_end, flushed_none}
 use Rattle.sled_core.proofs.logger.Log.flush.Goals as goal
 
@@ -36,4 +36,4 @@ pub returns-clause-acknowledges : goal.returns-clause-acknowledges
 unfolding Fits
 returns-clause-acknowledges g c = λ H A f U fits.
     let later = c.write_below.ensures.keeps.fits H A f U fits in
-    record { parts = fits-synced g.C.Checksum.sum_of _ _ _ _ _ _ _ _ _ H A f U later.parts (synced_end c.write_below.new.self) refl; slots = later.slots }
+    record { reach = later.reach; parts = fits-acknowledged g.C.Checksum.sum_of _ _ _ _ _ _ _ _ _ H A f U later.parts; slots = later.slots }

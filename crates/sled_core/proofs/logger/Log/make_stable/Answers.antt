@@ -11,7 +11,7 @@ use Rattle.std.specs.declared.io.Error.{Error as IoError}
 use Rattle.sled_core.specs.Causes.{HeldAnswers}
 use Rattle.sled_core.specs.Stable.{StableAnswers, held_for, length_to}
 use Rattle.sled_core.proofs.Holds.KeptCalls.{kept_still}
-use Rattle.sled_core.proofs.Holds.RunningLemmas.{fits-synced}
+use Rattle.sled_core.proofs.Holds.RunningLemmas.{fits-acknowledged}
 use Rattle.sled_core.proofs.Holds.Writes.{reserved_past}
 use Rattle.sled_core.proofs.Stable.Places.{done_as, held_up, holds_none, seals_as, stable_answers, wrote_for}
 use Rattle.sled_core.proofs.logger.Log.make_stable.Given as given
@@ -101,4 +101,4 @@ pub returns-in-Ok-clause-acknowledges : goal.returns-in-Ok-clause-acknowledges
 unfolding Fits
 returns-in-Ok-clause-acknowledges g c = λ H A f U fits.
     let later = c.write_below.ensures.keeps.fits H A f U fits in
-    record { parts = fits-synced g.C.Checksum.sum_of _ _ _ _ _ _ _ _ _ H A f U later.parts (synced_end c.write_below.new.self) refl; slots = later.slots }
+    record { reach = later.reach; parts = fits-acknowledged g.C.Checksum.sum_of _ _ _ _ _ _ _ _ _ H A f U later.parts; slots = later.slots }

@@ -187,6 +187,7 @@ returns-in_err-make_room-clause-keeps g c =
       history = λ H holds. holds-same g.C.Checksum.sum_of _ _ _ _ old.bytes.items _ old.written_len _ old.sealed.items _ old.reserved.items _ H same.bytes same.from same.sealed same.reserved holds;
       fits = λ H A f U fits.
           record {
+            reach = fits.reach;
             parts = fits-moved _ _ _ _ _ _ _ _ _ _ H A f U fits.parts _ _ _ _ same.from (holds-same g.C.Checksum.sum_of _ _ _ _ old.bytes.items _ old.written_len _ old.sealed.items _ old.reserved.items _ H same.bytes same.from same.sealed same.reserved fits.parts.holds);
             slots = fits.slots;
           };
@@ -197,7 +198,7 @@ unfolding Fits Holds
 returns-clause-keeps g c = record {
   goes_on = goes_on_quietly g.D.Device.trace g.C.Checksum.sum_of c.args.self.now _ (record { config = refl; checksum = refl }) refl (omega (arith, c.append.ensures.from, c.make_room.ensures.from));
   history = held_still g c;
-  fits = λ H A f U fits. record { parts = fits-moved _ _ _ _ _ _ _ _ _ _ H A f U fits.parts _ _ _ _ (c.append.ensures.from ∙ c.make_room.ensures.from) (held_still g c H fits.parts.holds); slots = fits.slots };
+  fits = λ H A f U fits. record { reach = fits.reach; parts = fits-moved _ _ _ _ _ _ _ _ _ _ H A f U fits.parts _ _ _ _ (c.append.ensures.from ∙ c.make_room.ensures.from) (held_still g c H fits.parts.holds); slots = fits.slots };
 }
 
 -- where none was open, the new reservation is the only one

@@ -21,6 +21,7 @@ returns-in_err-seal-clause-keeps g c =
       history = λ H holds. holds-same g.C.Checksum.sum_of _ _ _ _ old.bytes.items _ old.written_len _ old.sealed.items _ old.reserved.items _ H same.bytes same.from c.in_err-seal.ensures.unsealed same.reserved holds;
       fits = λ H A f U fits.
           record {
+            reach = fits.reach;
             parts = fits-moved _ _ _ _ _ _ _ _ _ _ H A f U fits.parts _ _ _ _ same.from
                 (holds-same g.C.Checksum.sum_of _ _ _ _ old.bytes.items _ old.written_len _ old.sealed.items _ old.reserved.items _ H same.bytes same.from c.in_err-seal.ensures.unsealed same.reserved fits.parts.holds);
             slots = fits.slots;
@@ -42,7 +43,7 @@ returns-clause-keeps g c =
     record {
       goes_on = goes_on_quietly g.D.Device.trace g.C.Checksum.sum_of log _ (record { config = refl; checksum = refl }) refl (omega (arith, same.from));
       history = held;
-      fits = λ H A f U fits. record { parts = fits-moved _ _ _ _ _ _ _ _ _ _ H A f U fits.parts _ _ _ _ same.from (held H fits.parts.holds); slots = fits.slots };
+      fits = λ H A f U fits. record { reach = fits.reach; parts = fits-moved _ _ _ _ _ _ _ _ _ _ H A f U fits.parts _ _ _ _ same.from (held H fits.parts.holds); slots = fits.slots };
     }
 
 pub returns-in_err-seal-clause-tickets : goal.returns-in_err-seal-clause-tickets

@@ -90,7 +90,8 @@ returns-in-Ok-clause-fits g c = λ H A f ready.
     let first = c.in-Ok.ensures.buffer in
     let log_now = started_log size some s old (g.D.Device.trace c.begin.new.config.device) c.in-Ok.ensures.made ready.ready.log ready.ready.settled in
     record {
-      parts = subst (λ n. FitsIn g.C.Checksum.sum_of (log_parts n site now None c.in-Ok.buffer.bytes.items c.in-Ok.buffer.written_len c.in-Ok.buffer.sealed.items c.in-Ok.buffer.reserved.items) [] 0 H A f []) (sym same)
+      reach = c.in-Ok.beginning.place + c.in-Ok.beginning.offset;
+      parts = subst (λ n. FitsIn g.C.Checksum.sum_of (log_parts n site now None c.in-Ok.buffer.bytes.items c.in-Ok.buffer.written_len c.in-Ok.buffer.sealed.items c.in-Ok.buffer.reserved.items) [] (c.in-Ok.beginning.place + c.in-Ok.beginning.offset) 0 H A f []) (sym same)
           (start_fits g.C.Checksum.sum_of size (state_of old) now s H A f c.args.config.config.least ready c.in-Ok.ensures.answers.0
           log_now (ap (λ (t : Trace). (state_of t).blobs) c.in-Ok.ensures.made ∙ started-blobs size some (state_of old).log.bytes s old) (ap (λ (t : Trace). (state_of t).snapshots) c.in-Ok.ensures.made ∙ started-snapshots size some (state_of old).log.bytes s old)
           c.in-Ok.beginning c.in-Ok.ensures.beginning c.in-Ok.buffer.bytes.items c.in-Ok.buffer.written_len c.in-Ok.buffer.sealed.items c.in-Ok.buffer.reserved.items first.header first.resumed first.from first.sealed first.reserved);

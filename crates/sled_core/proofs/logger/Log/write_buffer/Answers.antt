@@ -45,7 +45,7 @@ returns-in-Err-clause-keeps g c =
         config = record { config = refl; checksum = refl };
         later = later_performed _ _ _ came;
         stable = omega arith;
-        crash = λ H A f U fits. buffer_crash g.D.Device.trace g.C.Checksum.sum_of old c.args.k b.buffer b.there b.ready c.requires.fault H A f U fits _ came;
+        crash = λ H A f U fits. buffer_crash g.D.Device.trace g.C.Checksum.sum_of old c.args.k b.buffer b.there b.ready c.requires.fault H A f U fits.parts _ came;
       };
       history = λ H holds.
           elim (memory_or_fault c.in-Err.e c.in-Err.ensures.error) [
@@ -56,12 +56,14 @@ returns-in-Err-clause-keeps g c =
           let names = flush_names _ _ _ _ c.write_out.ensures.calls in
           elim (memory_or_fault c.in-Err.e c.in-Err.ensures.error) [
             | inl memory ↦ record {
+              reach = fits.reach;
               parts = fits_same_device g.C.Checksum.sum_of _ _ _ _ _ _ _ _ _ H A f U fits.parts _ c.keep_fault.new.fault (ap state_of (c.in-Err.ensures.refused memory)) (c.keep_fault.ensures.memory memory ∙ sym c.requires.fault);
               slots = slots_same _ _ _ _ _ _ _ (ap (λ (t : Trace). (state_of t).log.bytes) (c.in-Err.ensures.refused memory)) (c.keep_fault.ensures.memory memory ∙ sym c.requires.fault) fits.slots;
             }
             | inr fault ↦ record {
+              reach = fits.reach;
               parts = fits_faulty g.C.Checksum.sum_of _ _ _ _ _ _ _ _ _ H A f U fits.parts _ c.in-Err.e c.keep_fault.new.fault (c.keep_fault.ensures.kept fault) names.0 names.1
-                  (at_last _ _ _ (buffer_left g.D.Device.trace g.C.Checksum.sum_of old c.args.k b.buffer b.there b.ready c.requires.fault H A f U fits _ came));
+                  (at_last _ _ _ (buffer_left g.D.Device.trace g.C.Checksum.sum_of old c.args.k b.buffer b.there b.ready c.requires.fault H A f U fits.parts _ came));
               slots = slots_faulty _ _ _ _ _ _ _ c.in-Err.e (c.keep_fault.ensures.kept fault) fits.slots;
             }
           ];
@@ -90,13 +92,15 @@ returns-clause-keeps g c =
         config = record { config = refl; checksum = refl };
         later = later_performed _ _ _ came;
         stable = omega (arith, grows, is.from);
-        crash = λ H A f U fits. buffer_crash g.D.Device.trace g.C.Checksum.sum_of old c.args.k b.buffer b.there b.ready c.requires.fault H A f U fits _ came;
+        crash = λ H A f U fits. buffer_crash g.D.Device.trace g.C.Checksum.sum_of old c.args.k b.buffer b.there b.ready c.requires.fault H A f U fits.parts _ came;
       };
       history = λ H holds. holds_buffer g.D.Device.trace g.C.Checksum.sum_of old c.args.k b.buffer b.there b.ready c.requires.fault H holds _ made c.mark_written.new.self is;
       fits = λ H A f U fits.
+          let after = fits_buffer g.D.Device.trace g.C.Checksum.sum_of old c.args.k b.buffer b.there b.ready c.requires.fault H A f U fits.parts _ made c.mark_written.new.self is in
           record {
-            parts = fits_buffer g.D.Device.trace g.C.Checksum.sum_of old c.args.k b.buffer b.there b.ready c.requires.fault H A f U fits _ made c.mark_written.new.self is A (omega (arith, fits.parts.passes, grows, is.from));
-            slots = slots_buffer g.D.Device.trace g.C.Checksum.sum_of old c.args.k b.buffer b.there b.ready c.requires.fault H A f U fits _ made _;
+            reach = after.0;
+            parts = after.1;
+            slots = slots_buffer g.D.Device.trace g.C.Checksum.sum_of old c.args.k b.buffer b.there b.ready c.requires.fault H A f U fits.parts fits.slots _ made _;
           };
     }
 

@@ -40,7 +40,7 @@ returns-in-Err-clause-keeps g c =
         config = record { config = refl; checksum = refl };
         later = later_performed _ _ _ came;
         stable = omega arith;
-        crash = λ H A f U fits. flush_crash g.D.Device.trace g.C.Checksum.sum_of old H A f U fits c.requires.unsealed c.requires.ended c.requires.some c.requires.fault _ came;
+        crash = λ H A f U fits. flush_crash g.D.Device.trace g.C.Checksum.sum_of old H A f U fits.parts c.requires.unsealed c.requires.ended c.requires.some c.requires.fault _ came;
       };
       history = λ H holds.
           elim (memory_or_fault c.in-Err.e c.in-Err.ensures.error) [
@@ -51,12 +51,14 @@ returns-in-Err-clause-keeps g c =
           let names = flush_names _ _ _ _ c.write_out.ensures.calls in
           elim (memory_or_fault c.in-Err.e c.in-Err.ensures.error) [
             | inl memory ↦ record {
+              reach = fits.reach;
               parts = fits_same_device g.C.Checksum.sum_of _ _ _ _ _ _ _ _ _ H A f U fits.parts _ c.keep_fault.new.fault (ap state_of (c.in-Err.ensures.refused memory)) (c.keep_fault.ensures.memory memory ∙ sym c.requires.fault);
               slots = slots_same _ _ _ _ _ _ _ (ap (λ (t : Trace). (state_of t).log.bytes) (c.in-Err.ensures.refused memory)) (c.keep_fault.ensures.memory memory ∙ sym c.requires.fault) fits.slots;
             }
             | inr fault ↦ record {
+              reach = fits.reach;
               parts = fits_faulty g.C.Checksum.sum_of _ _ _ _ _ _ _ _ _ H A f U fits.parts _ c.in-Err.e c.keep_fault.new.fault (c.keep_fault.ensures.kept fault) names.0 names.1
-                  (at_last _ _ _ (flush_left g.D.Device.trace g.C.Checksum.sum_of old H A f U fits c.requires.unsealed c.requires.ended c.requires.some c.requires.fault _ came));
+                  (at_last _ _ _ (flush_left g.D.Device.trace g.C.Checksum.sum_of old H A f U fits.parts c.requires.unsealed c.requires.ended c.requires.some c.requires.fault _ came));
               slots = slots_faulty _ _ _ _ _ _ _ c.in-Err.e (c.keep_fault.ensures.kept fault) fits.slots;
             }
           ];
@@ -76,7 +78,7 @@ returns-clause-keeps g c =
         config = record { config = refl; checksum = refl };
         later = later_performed _ _ _ came;
         stable = omega (arith, behind, c.advance.ensures.from);
-        crash = λ H A f U fits. flush_crash g.D.Device.trace g.C.Checksum.sum_of old H A f U fits c.requires.unsealed c.requires.ended c.requires.some c.requires.fault _ came;
+        crash = λ H A f U fits. flush_crash g.D.Device.trace g.C.Checksum.sum_of old H A f U fits.parts c.requires.unsealed c.requires.ended c.requires.some c.requires.fault _ came;
       };
       history = λ H holds.
           let here = subst (λ (l : List Sealed). HoldsIn g.C.Checksum.sum_of (log_parts old.config.config.segment_size old.site (state_of (g.D.Device.trace old.config.device)) old.fault old.buffer.bytes.items old.buffer.written_len l old.buffer.reserved.items) [] H) c.requires.unsealed holds in
@@ -84,9 +86,11 @@ returns-clause-keeps g c =
           (holds-flush g.C.Checksum.sum_of _ _ _ _ _ _ _ H here behind old.in_segment old.config.config.least old.place_in_reach old.slot_in_reach c.requires.ended c.requires.some c.requires.fault _
           (ap (λ (t : Trace). (state_of t).log) made) (ap (λ (s : NamesState). s.file) c.write_out.ensures.names));
       fits = λ H A f U fits.
+          let after = fits_written g.D.Device.trace g.C.Checksum.sum_of old H A f U fits.parts c.requires.unsealed c.requires.ended c.requires.some c.requires.fault _ made
+          _ _ _ _ c.advance.ensures.bytes c.advance.ensures.from c.advance.ensures.sealed c.advance.ensures.reserved in
           record {
-            parts = fits_written g.D.Device.trace g.C.Checksum.sum_of old H A f U fits c.requires.unsealed c.requires.ended c.requires.some c.requires.fault _ made
-                _ _ _ _ c.advance.ensures.bytes c.advance.ensures.from c.advance.ensures.sealed c.advance.ensures.reserved A (omega (arith, fits.parts.passes, behind, c.advance.ensures.from));
-            slots = slots_flushed g.D.Device.trace g.C.Checksum.sum_of old H A f U fits c.requires.unsealed c.requires.ended c.requires.some c.requires.fault _ made _;
+            reach = after.0;
+            parts = after.1;
+            slots = slots_flushed g.D.Device.trace g.C.Checksum.sum_of old H A f U fits.parts c.requires.unsealed c.requires.ended c.requires.some c.requires.fault fits.slots _ made _;
           };
     }
