@@ -163,6 +163,6 @@ others_written sum size site device fault bytes from bs rs H {behind} holds some
     let file : IsLogFile sum size device.log.bytes site from holds.own.earlier stays = on_file sum size device.log site from holds.own.earlier stays (holds.own.written whole) in
     behind_beside sum size some site holds.own.slot_begins device fault whole at xs long low high new is (StaysBelow H (stable_place holds.begun.first.stable) site.place)
     (λ other m its lid inline stands.
-        let kept = elsewhere_kept sum size device.log.bytes at xs site lid m low high (file.elsewhere m its.0 its.1 lid inline) in
-        record { begins = stands.begins; stands = kept.stands; apart = stands.apart })
+    let kept = elsewhere_kept sum size device.log.bytes at xs site lid m low high (file.elsewhere m its.0 its.1 lid inline) in
+    record { begins = stands.begins; stands = kept.stands; apart = stands.apart })
     (site.place + size) behind H.batches holds.later (λ y among. (follows site (map begun_segment behind) holds.apart y among).1) holds.others
