@@ -10,6 +10,7 @@ pub mod HeldRecords
 pub mod HoldsLemmas
 pub mod KeptCalls
 pub mod KeptTickets
+pub mod LastEnds
 pub mod OpenTickets
 pub mod ReachLemmas
 pub mod ReadSeals

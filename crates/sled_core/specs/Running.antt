@@ -1,7 +1,7 @@
 -- The invariant of a running log, and what a recovery leaves for it: over a history, the end of what was acknowledged, the floor, and the completed messages that were not marked yet.
 use Rattle.std.specs.Prelude.{◌≡◌, ◌≢◌, ◌≤◌, ◌<◌, ◌+◌, nat_lt, max, if◌then◌else◌, ℕ, ℤ, List, [], ◌∷◌, map, Option, None, Contains}
 use Rattle.sled_codec.specs.declared.serialization.message.MessageKind.{MessageKind}
-use Rattle.sled_codec.specs.History.{Message, History}
+use Rattle.sled_codec.specs.History.{Message, Batch, History}
 use Rattle.sled_codec.specs.Snapshots.{SnapshotModel, stable_place}
 use Rattle.sled_store.specs.Accounts.{machine_of}
 use Rattle.sled_store.specs.Blobs.{IsBlob}
@@ -10,7 +10,7 @@ use Rattle.sled_store.specs.Foreign.{NoForeignNames}
 use Rattle.sled_store.specs.SegmentStates.{Machine}
 use Rattle.sled_store.specs.SnapshotFiles.{IsSnapshotFile}
 use Rattle.sled_core.specs.declared.logger.Log.{Log}
-use Rattle.sled_core.specs.Fits.{LogParts, SegmentParts, begun_segment, parts_of, HoldsIn}
+use Rattle.sled_core.specs.Fits.{CloseBelow, LogParts, SegmentParts, begun_segment, parts_of, HoldsIn}
 use Rattle.sled_core.specs.FreeSlots.{HasSlots}
 use Rattle.sled_core.specs.Recoverable.{ActiveFits, AreRecoverableSnapshots, AreRecoverableBlobs, NoHeaderOfZeros, LeavesRecoverable}
 use Rattle.sled_core.specs.Reached.{StandsAmong, StandsActive}
@@ -27,10 +27,19 @@ abbrev pub BlobsFit : (List ℕ → ℕ) → NamesState → History → ℕ → 
 BlobsFit sum blobs H reach =
     (left : ℤ → Option (List ℕ)) → ((n : ℤ) → LeavesName blobs n (left n)) → NoForeignNames (λ bytes. (k : MessageKind) × (item : List ℕ) × IsBlob sum bytes k item) blobs left → AreRecoverableBlobs sum left H reach
 
--- The greatest end of messages that begin below a place: what is acknowledged once all below it is durable. (Behind the last message what fills a segment may be durable too, and a recovery doesn't count that.)
-abbrev pub end_below : ℕ → List Message → ℕ
-end_below place [] = 0
-end_below place (m ∷ ms) = if nat_lt m.place place then max (m.place + m.size) (end_below place ms) else end_below place ms
+-- The greatest end of messages that begin below a place, and of batches.
+
+abbrev pub last_message : ℕ → List Message → ℕ
+last_message place [] = 0
+last_message place (m ∷ ms) = if nat_lt m.place place then max (m.place + m.size) (last_message place ms) else last_message place ms
+
+abbrev pub last_batch : ℕ → List Batch → ℕ
+last_batch place [] = 0
+last_batch place (b ∷ bs) = if nat_lt b.low place then max (max b.low b.peg + 1) (last_batch place bs) else last_batch place bs
+
+-- What is acknowledged of a history once all below a place is durable. (Behind its last record what fills a segment may be durable too, which a recovery doesn't count.)
+abbrev pub end_below : ℕ → History → ℕ
+end_below place H = max (last_message place H.messages) (last_batch place H.batches)
 
 -- What a log of these bytes and reservations over a device, with these segments behind, has to do with a history, the end of what was acknowledged, the floor and the messages that were not marked yet.
 pub record FitsIn (sum : List ℕ → ℕ) (parts : LogParts) (behind : List SegmentParts) (reach pins : ℕ) (H : History) (A f : ℕ) (U : List Message) : Type 0 where
@@ -38,6 +47,7 @@ pub record FitsIn (sum : List ℕ → ℕ) (parts : LogParts) (behind : List Seg
   -- a reader comes up to there in what is written, behind all messages that are
   pub near : reach ≤ parts.site.place + parts.written_len
   pub ends : (m : Message) → Contains H.messages m → m.place < parts.site.place + parts.written_len → (m.place < reach) × (m.place + m.size ≤ reach)
+  pub closes : CloseBelow reach H.batches
   pub among : parts.fault ≡ None → NoHeaderOfZeros sum → StandsAmong sum parts.size parts.device.log.bytes parts.site parts.written_len (map begun_segment behind) reach H holds.begun.first
   -- and so does the file with zeros behind its end, as a write there makes it
   pub beyond : (to : ℕ) → parts.site.slot ≤ to → parts.fault ≡ None → NoHeaderOfZeros sum → StandsAmong sum parts.size (padded to parts.device.log.bytes) parts.site parts.written_len (map begun_segment behind) reach H holds.begun.first

@@ -157,7 +157,7 @@ impl<D: Device, C: Checksum> Log<D, C> {
         ensures place { result ≡ pos (synced_end self.now) -ℤ pos 1 }
         ensures reserved { synced_end self.now ≤ reserved_end self.now }
         ensures acknowledges { (H : History) (A f : ℕ) (U : List Message) → Fits D.trace C.sum_of self.now H A f U
-            → Fits D.trace C.sum_of self.now H (max A (end_below (synced_end self.now) H.messages)) f U }
+            → Fits D.trace C.sum_of self.now H (max A (end_below (synced_end self.now) H)) f U }
     {
         (self.site.place + self.buffer.synced_len() as u64) as i64 - 1
     }

@@ -1,5 +1,5 @@
 -- What runs of commands come to: what each command does to the device, what it is answered, and where the run stands then.
-use Rattle.std.specs.Prelude.{◌≡◌, ◌⊎◌, ◌↔◌, ◌+◌, ◌-◌, ◌%◌, ◌^◌, ◌==◌, ◌<◌, ◌≤◌, ◌∷◌, ℕ, ℤ, pos, if◌then◌else◌, IsTrue, IsSome, List, [], length, Option, None, Some, false}
+use Rattle.std.specs.Prelude.{◌≡◌, ◌⊎◌, ◌↔◌, ◌+◌, ◌-◌, ◌%◌, ◌^◌, ◌==◌, ◌<◌, ◌≤◌, ◌∷◌, ℕ, ℤ, pos, max, if◌then◌else◌, IsTrue, IsSome, List, [], length, Option, None, Some, false}
 use Rattle.std.specs.List.{All}
 use Rattle.std.specs.declared.io.Error.{Error as IoError}
 use Rattle.sled_codec.specs.declared.result.DiskPtr.{DiskPtr}
@@ -21,6 +21,7 @@ use Rattle.sled_core.specs.Causes.{IsFault}
 use Rattle.sled_core.specs.Fits.{IsKept}
 use Rattle.sled_core.specs.Good.{IsGood}
 use Rattle.sled_core.specs.Recoverable.{NoForeign}
+use Rattle.sled_core.specs.Running.{end_below}
 use Rattle.sled_log.specs.declared.session.command.Command.{Command}
 use Rattle.sled_log.specs.declared.session.command.Command.TheVariants as command
 use Rattle.sled_log.specs.declared.session.command.Reply.{Reply}
@@ -207,7 +208,7 @@ pub record HasFlushed (sum : List ℕ → ℕ) (size : ℕ) (a : RunState) (l : 
   pub more : a.acknowledged ≤ end_reserved l
   pub all : All (λ m. m.place + m.size ≤ end_reserved l) a.history.messages
   pub kept : IsKept sum size l.site (offset_in l (end_reserved l)) (state_of new.trace) a.history
-  pub leads : b ≡ record { device = new; history = a.history; acknowledged = end_reserved l; floor = a.floor; log = Some (flushed l (end_reserved l) None) }
+  pub leads : b ≡ record { device = new; history = a.history; acknowledged = max a.acknowledged (end_below (end_reserved l) a.history); floor = a.floor; log = Some (flushed l (end_reserved l) None) }
 
 abbrev pub FlushStep : (List ℕ → ℕ) → ℕ → RunState → LogView → Reply → DeviceView → RunState → Type 0
 FlushStep sum size a l (reply.Flushed n) new b = HasFlushed sum size a l n new b

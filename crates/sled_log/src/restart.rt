@@ -2,7 +2,7 @@
 //!
 //! What a flush left is what a recovery reads: its table is that of the whole history, and a log that begins on
 //! it holds that history again (`specs/Recovery.antt`; `Log::start`).
-ghost use Rattle.std.specs.Prelude.{◌+◌, ◌≤◌, ℕ, List, IfOk};
+ghost use Rattle.std.specs.Prelude.{◌+◌, ◌≤◌, ℕ, List, IfOk, max};
 ghost use Rattle.std.specs.List.{All};
 ghost use Rattle.sled_codec.specs.History.{History, Message};
 ghost use Rattle.sled_codec.specs.PageTables.{IsTable};
@@ -12,7 +12,7 @@ ghost use Rattle.sled_store.specs.Moments.{LeavesOnly};
 ghost use Rattle.sled_core.specs.Fits.{NoneOpen, config_of, device_of, fault_of, flushing, reserved_end, segment_size_of};
 ghost use Rattle.sled_core.specs.Keeps.{ConfigKept};
 ghost use Rattle.sled_core.specs.Recoverable.{RecoverableIfOwn};
-ghost use Rattle.sled_core.specs.Running.{Ready};
+ghost use Rattle.sled_core.specs.Running.{Ready, end_below};
 ghost use Rattle.sled_log.specs.Restarts.{CanRestart, Restarts};
 
 use crate::snapshot::{Snapshot, read_snapshot_or_default};
@@ -37,8 +37,8 @@ pub fn restart<D: Device, C: Checksum>(log: Log<D, C>) -> (RunningConfig<D, C>, 
     ensures past { (H : History) (A f : ℕ) (U : List Message) → CanRestart D.trace C.sum_of log H A f U
         → IfOk result.1 (λ s. All (λ m. m.place + m.size ≤ stable_place s.stable_lsn) H.messages) }
     ensures ready { (H : History) (A f : ℕ) (U : List Message) → CanRestart D.trace C.sum_of log H A f U
-        → IfOk result.1 (λ s. Ready C.sum_of (segment_size_of log) (state_of (D.trace result.0.device)) (model_of s) H (reserved_end log)
-        (stable_place s.stable_lsn)) }
+        → IfOk result.1 (λ s. Ready C.sum_of (segment_size_of log) (state_of (D.trace result.0.device)) (model_of s) H
+        (max A (end_below (reserved_end log) H)) (stable_place s.stable_lsn)) }
     ensures did { let old = device_of log in let new = result.0.device in
         Restarts C.sum_of (segment_size_of log) (flushing log) (fault_of log) result.1 (D.trace old) (D.trace new) (D.faults old) (D.faults new) }
     ensures crash { (H : History) (A f : ℕ) (U : List Message) → CanRestart D.trace C.sum_of log H A f U

@@ -18,7 +18,7 @@ use Rattle.sled_core.specs.declared.iobuf.Reserved.{Reserved}
 use Rattle.sled_core.specs.declared.iobuf.Sealed.{Sealed}
 use Rattle.sled_core.specs.declared.iobuf.SegmentPosition.{SegmentPosition}
 use Rattle.sled_core.specs.Buffers.{IsChain, NoPadding, Stands, completed_in}
-use Rattle.sled_core.specs.Fits.{log_parts, begun_segment, HasMark, HoldsIn, HoldsSegment, EndBelow, SegmentParts}
+use Rattle.sled_core.specs.Fits.{log_parts, begun_segment, CloseBelow, HasMark, HoldsIn, HoldsSegment, EndBelow, SegmentParts}
 use Rattle.sled_core.specs.LogFile.{IsLogFile, StaysFrom, padded}
 use Rattle.sled_core.specs.Reached.{BegunSegment, StandsAmong}
 use Rattle.sled_core.specs.Recoverable.{LeavesRecoverable, NoHeaderOfZeros}
@@ -69,7 +69,7 @@ no_run P from x xs rs fresh all =
 -- A write to a log that fits, and the sync behind it, where what a crash leaves of the write stands as before, and all of it up to a place no lower, behind all messages that are written then.
 module _ (sum : List ℕ → ℕ) (size : ℕ) (site : SegmentPosition) (device : State) (fault : Option IoError) (bytes : List ℕ) (from : ℕ) (bs : List Sealed) (rs : List Reserved) (pins : ℕ) (H : History) (A f : ℕ) (U : List Message)
     {behind : List SegmentParts} {reach : ℕ} (fits : FitsIn sum (log_parts size site device fault bytes from bs rs) behind reach pins H A f U) (short : length bytes ≤ size) (big : 256 ≤ size) (whole : fault ≡ None) (to : ℕ)
-    (reach' : ℕ) (up : reach ≤ reach') (near' : reach' ≤ site.place + to) (ends' : (m : Message) → Contains H.messages m → m.place < site.place + to → (m.place < reach') × (m.place + m.size ≤ reach')) (at : ℕ) (asked : List ℕ)
+    (reach' : ℕ) (up : reach ≤ reach') (near' : reach' ≤ site.place + to) (ends' : (m : Message) → Contains H.messages m → m.place < site.place + to → (m.place < reach') × (m.place + m.size ≤ reach')) (closes' : CloseBelow reach' H.batches) (at : ℕ) (asked : List ℕ)
     (torn : NoHeaderOfZeros sum → StandsAmong sum size device.log.bytes site from (map begun_segment behind) reach H fits.holds.begun.first → (now left : List ℕ) → length now ≤ length asked → LeavesLog (after_write device.log.bytes at asked now) left
     → (placed : List (ℕ × List ℕ)) → NoForeignLog sum size (after_write device.log.bytes at asked now) placed left → StandsTo sum size left H reach fits.holds.begun.first reach)
     (alone : NoHeaderOfZeros sum → (end : ℕ) → site.slot ≤ end → StandsAmong sum size (padded end device.log.bytes) site from (map begun_segment behind) reach H fits.holds.begun.first
@@ -113,6 +113,7 @@ module _ (sum : List ℕ → ℕ) (size : ℕ) (site : SegmentPosition) (device 
         holds = holds;
         near = near';
         ends = ends';
+        closes = closes';
         among = λ none zeros. subst (λ (s : SnapshotModel). StandsAmong sum size new site to (map begun_segment behind) reach' H s) (sym same) (alone_now zeros);
         beyond = λ end far none zeros. subst (λ (s : SnapshotModel). StandsAmong sum size (padded end new) site to (map begun_segment behind) reach' H s) (sym same) (alone zeros end far (fits.beyond end far whole zeros));
         blobs = moments.blobs_up sum size big device rest_now H f fits.holds.begun.first reach reach' up ordered inline fits.names fits.blobs fits.left at asked torn_now stands_now;
@@ -411,11 +412,12 @@ module _ (sum : List ℕ → ℕ) (size : ℕ) (site : SegmentPosition) (device 
   along_around [] fits are fresh rise =
       along_behind sum size site device fault bytes from (b ∷ rest) rs pins H A f U fits short big whole (run_end b.end rest) (site.place + run_end b.end rest) (let near = fits.near in let above = (stop_up from rs b rest closed are).0 in omega (arith, near, above)) (omega arith)
       (ends_first sum size site device fault bytes from b rest rs H fits.holds short big place_small slot_small are fresh closed rise whole)
+      (batches_to sum size site device fault bytes from (b ∷ rest) rs (own_of fits.holds.head) fits.holds.own (site.place + run_end b.end rest) (let above = (stop_up from rs b rest closed are).0 in omega (arith, above)))
       (site.slot + from) (asked_behind []) (λ zeros. torn_first sum size site device fault bytes from b rest rs H fits.holds short big place_small slot_small are fresh closed rise whole reach zeros)
       (λ zeros end far. alone_first sum size site device fault bytes from b rest rs H fits.holds short big place_small slot_small are fresh closed rise whole reach zeros end far)
       (reaches_first sum size site device fault bytes from b rest rs H fits.holds short big place_small slot_small are fresh closed rise whole)
   along_around (x ∷ xs) fits are fresh rise =
-      along_behind sum size site device fault bytes from (x ∷ xs ++ b ∷ rest) rs pins H A f U fits short big whole from reach (omega arith) fits.near fits.ends
+      along_behind sum size site device fault bytes from (x ∷ xs ++ b ∷ rest) rs pins H A f U fits short big whole from reach (omega arith) fits.near fits.ends fits.closes
       (site.slot + sealed_end x.end xs) (asked_behind (x ∷ xs))
       (λ zeros. torn_later sum size site device fault bytes from x xs b rest rs (own_of fits.holds.head) fits.holds.own short big place_small slot_small are rise whole fresh H fits.holds.begun.first reach zeros)
       (λ zeros end far. alone_later sum size site device fault bytes from x xs b rest rs (own_of fits.holds.head) fits.holds.own short big place_small slot_small are rise whole fresh H fits.holds.begun.first reach zeros end far)
@@ -428,26 +430,31 @@ module _ (sum : List ℕ → ℕ) (size : ℕ) (site : SegmentPosition) (device 
   fits_around : (front : List Sealed) → FitsIn sum (log_parts size site device fault bytes from (front ++ b ∷ rest) rs) behind reach pins H A f U → AreSealed from rs (front ++ b ∷ rest) → FirstUnwritten (front ++ b ∷ rest) → EndsRise from (front ++ b ∷ rest) (length bytes)
       → (now : ℕ) × FitsIn sum (log_parts size site (after_behind front) fault bytes (run_end from (front ++ now_written b ∷ rest)) (behind_run (front ++ now_written b ∷ rest)) (drop (run_count (front ++ now_written b ∷ rest)) rs)) behind now pins H A f U
   fits_around [] fits are fresh rise =
-      let range = asked_range [] are rise in
-      (site.place + run_end b.end rest, fits_behind sum size site device fault bytes from (b ∷ rest) rs pins H A f U fits short big whole (run_end b.end rest) (site.place + run_end b.end rest) (let near = fits.near in let above = (stop_up from rs b rest closed are).0 in omega (arith, near, above)) (omega arith)
-      (ends_first sum size site device fault bytes from b rest rs H fits.holds short big place_small slot_small are fresh closed rise whole)
-      (site.slot + from) (asked_behind []) (λ zeros. torn_first sum size site device fault bytes from b rest rs H fits.holds short big place_small slot_small are fresh closed rise whole reach zeros)
-      (λ zeros end far. alone_first sum size site device fault bytes from b rest rs H fits.holds short big place_small slot_small are fresh closed rise whole reach zeros end far)
-      (reaches_first sum size site device fault bytes from b rest rs H fits.holds short big place_small slot_small are fresh closed rise whole) (behind_run rest) (drop (b.count + run_count rest) rs)
-      (holds_over sum size site device fault bytes from (b ∷ rest) rs behind H fits.holds (after_behind []) fault bytes (run_end b.end rest) (behind_run rest) (drop (b.count + run_count rest) rs) refl (stop_up from rs b rest closed are).0
-      (segment_first sum size site device fault bytes from b rest rs (own_of fits.holds.head) fits.holds.own short big place_small slot_small are fresh closed rise whole (after_behind []) refl)
-      (others_written sum size site device fault bytes from (b ∷ rest) rs H fits.holds (omega (arith, big)) whole (site.slot + from) (asked_behind []) range.0 (omega arith) (omega (arith, range.2)) (after_behind []) refl) (All-drop NoPadding (b.count + run_count rest) rs fits.holds.plain)) refl)
+      let range = asked_range [] are rise in (
+        site.place + run_end b.end rest,
+        fits_behind sum size site device fault bytes from (b ∷ rest) rs pins H A f U fits short big whole (run_end b.end rest) (site.place + run_end b.end rest) (let near = fits.near in let above = (stop_up from rs b rest closed are).0 in omega (arith, near, above)) (omega arith)
+            (ends_first sum size site device fault bytes from b rest rs H fits.holds short big place_small slot_small are fresh closed rise whole)
+            (batches_to sum size site device fault bytes from (b ∷ rest) rs (own_of fits.holds.head) fits.holds.own (site.place + run_end b.end rest) (let above = (stop_up from rs b rest closed are).0 in omega (arith, above)))
+            (site.slot + from) (asked_behind []) (λ zeros. torn_first sum size site device fault bytes from b rest rs H fits.holds short big place_small slot_small are fresh closed rise whole reach zeros)
+            (λ zeros end far. alone_first sum size site device fault bytes from b rest rs H fits.holds short big place_small slot_small are fresh closed rise whole reach zeros end far)
+            (reaches_first sum size site device fault bytes from b rest rs H fits.holds short big place_small slot_small are fresh closed rise whole) (behind_run rest) (drop (b.count + run_count rest) rs)
+            (holds_over sum size site device fault bytes from (b ∷ rest) rs behind H fits.holds (after_behind []) fault bytes (run_end b.end rest) (behind_run rest) (drop (b.count + run_count rest) rs) refl (stop_up from rs b rest closed are).0
+            (segment_first sum size site device fault bytes from b rest rs (own_of fits.holds.head) fits.holds.own short big place_small slot_small are fresh closed rise whole (after_behind []) refl)
+            (others_written sum size site device fault bytes from (b ∷ rest) rs H fits.holds (omega (arith, big)) whole (site.slot + from) (asked_behind []) range.0 (omega arith) (omega (arith, range.2)) (after_behind []) refl) (All-drop NoPadding (b.count + run_count rest) rs fits.holds.plain)) refl,
+      )
   fits_around (x ∷ xs) fits are fresh rise =
       let range = asked_range (x ∷ xs) are rise in
-      no_run (λ n cs others. (now : ℕ) × FitsIn sum (log_parts size site (after_behind (x ∷ xs)) fault bytes n cs others) behind now pins H A f U) from x (xs ++ now_written b ∷ rest) rs fresh
-      (reach, fits_behind sum size site device fault bytes from (x ∷ xs ++ b ∷ rest) rs pins H A f U fits short big whole from reach (omega arith) fits.near fits.ends
-      (site.slot + sealed_end x.end xs) (asked_behind (x ∷ xs))
-      (λ zeros. torn_later sum size site device fault bytes from x xs b rest rs (own_of fits.holds.head) fits.holds.own short big place_small slot_small are rise whole fresh H fits.holds.begun.first reach zeros)
-      (λ zeros end far. alone_later sum size site device fault bytes from x xs b rest rs (own_of fits.holds.head) fits.holds.own short big place_small slot_small are rise whole fresh H fits.holds.begun.first reach zeros end far)
-      (reaches_later sum size site device fault bytes from x xs b rest rs (own_of fits.holds.head) fits.holds.own short big place_small slot_small are rise whole) (x ∷ xs ++ now_written b ∷ rest) rs
-      (holds_over sum size site device fault bytes from (x ∷ xs ++ b ∷ rest) rs behind H fits.holds (after_behind (x ∷ xs)) fault bytes from (x ∷ xs ++ now_written b ∷ rest) rs refl (omega arith)
-      (segment_later sum size site device fault bytes from x xs b rest rs (own_of fits.holds.head) fits.holds.own short big place_small slot_small are rise whole (after_behind (x ∷ xs)) refl)
-      (others_written sum size site device fault bytes from (x ∷ xs ++ b ∷ rest) rs H fits.holds (omega (arith, big)) whole (site.slot + sealed_end x.end xs) (asked_behind (x ∷ xs)) range.0 (omega (arith, range.1)) (omega (arith, range.2)) (after_behind (x ∷ xs)) refl) fits.holds.plain) refl)
+      no_run (λ n cs others. (now : ℕ) × FitsIn sum (log_parts size site (after_behind (x ∷ xs)) fault bytes n cs others) behind now pins H A f U) from x (xs ++ now_written b ∷ rest) rs fresh (
+        reach,
+        fits_behind sum size site device fault bytes from (x ∷ xs ++ b ∷ rest) rs pins H A f U fits short big whole from reach (omega arith) fits.near fits.ends fits.closes
+            (site.slot + sealed_end x.end xs) (asked_behind (x ∷ xs))
+            (λ zeros. torn_later sum size site device fault bytes from x xs b rest rs (own_of fits.holds.head) fits.holds.own short big place_small slot_small are rise whole fresh H fits.holds.begun.first reach zeros)
+            (λ zeros end far. alone_later sum size site device fault bytes from x xs b rest rs (own_of fits.holds.head) fits.holds.own short big place_small slot_small are rise whole fresh H fits.holds.begun.first reach zeros end far)
+            (reaches_later sum size site device fault bytes from x xs b rest rs (own_of fits.holds.head) fits.holds.own short big place_small slot_small are rise whole) (x ∷ xs ++ now_written b ∷ rest) rs
+            (holds_over sum size site device fault bytes from (x ∷ xs ++ b ∷ rest) rs behind H fits.holds (after_behind (x ∷ xs)) fault bytes from (x ∷ xs ++ now_written b ∷ rest) rs refl (omega arith)
+            (segment_later sum size site device fault bytes from x xs b rest rs (own_of fits.holds.head) fits.holds.own short big place_small slot_small are rise whole (after_behind (x ∷ xs)) refl)
+            (others_written sum size site device fault bytes from (x ∷ xs ++ b ∷ rest) rs H fits.holds (omega (arith, big)) whole (site.slot + sealed_end x.end xs) (asked_behind (x ∷ xs)) range.0 (omega (arith, range.1)) (omega (arith, range.2)) (after_behind (x ∷ xs)) refl) fits.holds.plain) refl,
+      )
 
 -- a list once the one at an index is written, and around it
 written_split : (k : ℕ) (bs : List Sealed) (b : Sealed) → slice_get bs k ≡ Some b → written_at k bs ≡ take k bs ++ now_written b ∷ drop (suc k) bs

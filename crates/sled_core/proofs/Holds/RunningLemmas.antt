@@ -4,7 +4,8 @@ use Rattle.std.specs.List.{Contains}
 use Rattle.std.specs.declared.io.Error.{Error as IoError}
 use Rattle.std.proofs.lemmas.Bool.{cases_lt}
 use Rattle.std.proofs.lemmas.Bool.Decides.{nat_tests}
-use Rattle.sled_codec.specs.History.{Message, History, AddsMessage}
+use Rattle.std.proofs.lemmas.List.Elements.{All-tail}
+use Rattle.sled_codec.specs.History.{Message, Batch, History, AddsMessage}
 use Rattle.sled_codec.specs.Snapshots.{SnapshotModel}
 use Rattle.sled_store.specs.Device.{State, Trace, state_of}
 use Rattle.sled_store.proofs.Names.OneBegin.{one_begin}
@@ -13,9 +14,9 @@ use Rattle.sled_core.specs.declared.iobuf.Reserved.{Reserved}
 use Rattle.sled_core.specs.declared.iobuf.Sealed.{Sealed}
 use Rattle.sled_core.specs.declared.iobuf.SegmentPosition.{SegmentPosition}
 use Rattle.sled_core.specs.declared.logger.Log.{Log}
-use Rattle.sled_core.specs.Fits.{HoldsIn, SegmentParts, begun_segment, device_of, log_parts, segment_size_of}
+use Rattle.sled_core.specs.Fits.{CloseBelow, HoldsIn, SegmentParts, begun_segment, device_of, log_parts, segment_size_of}
 use Rattle.sled_core.specs.LogFile.{padded}
-use Rattle.sled_core.specs.Running.{BlobsFit, NamesFit, Fits, FitsIn, end_below}
+use Rattle.sled_core.specs.Running.{BlobsFit, NamesFit, Fits, FitsIn, end_below, last_batch, last_message}
 use Rattle.sled_core.specs.Reached.{BegunSegment, StandsAmong}
 use Rattle.sled_core.specs.Recoverable.{LeavesRecoverable, NoHeaderOfZeros}
 use Rattle.sled_core.specs.SealedBuffers.{AreSealed, AreZeros, FirstUnwritten}
@@ -48,6 +49,7 @@ module _ (sum : List ℕ → ℕ) (size : ℕ) (site : SegmentPosition) (device 
         holds = holds;
         near = let near = fits.near in omega (arith, near, is);
         ends = λ m there below. fits.ends m there (omega (arith, below, is));
+        closes = fits.closes;
         among = λ ok none. subst (λ (s : SnapshotModel). StandsAmong sum size device.log.bytes site from' others reach H s) same (subst (λ n. StandsAmong sum size device.log.bytes site n others reach H first) (sym is) (fits.among ok none));
         beyond = λ to far ok none. subst (λ (s : SnapshotModel). StandsAmong sum size (padded to device.log.bytes) site from' others reach H s) same
             (subst (λ n. StandsAmong sum size (padded to device.log.bytes) site n others reach H first) (sym is) (fits.beyond to far ok none));
@@ -68,6 +70,7 @@ module _ (sum : List ℕ → ℕ) (size : ℕ) (site : SegmentPosition) (device 
     holds = fits.holds;
     near = fits.near;
     ends = fits.ends;
+    closes = fits.closes;
     among = fits.among;
     beyond = fits.beyond;
     blobs = fits.blobs;
@@ -77,17 +80,29 @@ module _ (sum : List ℕ → ℕ) (size : ℕ) (site : SegmentPosition) (device 
     left = fits.left;
   }
 
-  -- and so each message that is written.
-  written_ends : (ms : List Message) → ((m : Message) → Contains ms m → Contains H.messages m) → end_below (site.place + from) ms ≤ reach
-  written_ends [] among = omega arith
-  written_ends (m ∷ ms) among = by (written_ends ms (λ x there. among x (in_rest m x ms there))) (nat_lt m.place (site.place + from)) refl where
-    by : end_below (site.place + from) ms ≤ reach → (b : Bool) → nat_lt m.place (site.place + from) ≡ b
-        → (if b then max (m.place + m.size) (end_below (site.place + from) ms) else end_below (site.place + from) ms) ≤ reach
+  -- and so each message that is written, and each batch.
+
+  message_ends : (ms : List Message) → ((m : Message) → Contains ms m → Contains H.messages m) → last_message (site.place + from) ms ≤ reach
+  message_ends [] among = omega arith
+  message_ends (m ∷ ms) among = by (message_ends ms (λ x there. among x (in_rest m x ms there))) (nat_lt m.place (site.place + from)) refl where
+    by : last_message (site.place + from) ms ≤ reach → (b : Bool) → nat_lt m.place (site.place + from) ≡ b
+        → (if b then max (m.place + m.size) (last_message (site.place + from) ms) else last_message (site.place + from) ms) ≤ reach
     by rest false is = rest
     by rest true is = let below : m.place < site.place + from = grind (arith, nat_tests, is) in let end = fits.ends m (among m (in_first m ms)) below in omega (arith, end.1, rest)
 
-  pub fits-acknowledged : FitsIn sum (log_parts size site device fault bytes from bs rs) behind reach pins H (max A (end_below (site.place + from) H.messages)) f U
-  fits-acknowledged = let old = fits.passes in fits-synced (max A (end_below (site.place + from) H.messages)) (omega (arith, old, written_ends H.messages (λ m there. there)))
+  batch_ends : (bs : List Batch) → CloseBelow reach bs → last_batch (site.place + from) bs ≤ reach
+  batch_ends [] close = omega arith
+  batch_ends (b ∷ bs) close = by (batch_ends bs (All-tail (λ x. (x.low < reach) × (x.peg < reach)) b bs close)) (nat_lt b.low (site.place + from)) where
+    by : last_batch (site.place + from) bs ≤ reach → (o : Bool) → (if o then max (max b.low b.peg + 1) (last_batch (site.place + from) bs) else last_batch (site.place + from) bs) ≤ reach
+    by rest false = rest
+    by rest true = let here = close 0 b (omega arith) in omega (arith, here.0, here.1, rest)
+
+  pub fits-acknowledged : FitsIn sum (log_parts size site device fault bytes from bs rs) behind reach pins H (max A (end_below (site.place + from) H)) f U
+  fits-acknowledged =
+      let old = fits.passes in
+      let messages = message_ends H.messages (λ m there. there) in
+      let batches = batch_ends H.batches fits.closes in
+      fits-synced (max A (end_below (site.place + from) H)) (omega (arith, old, messages, batches))
 
   -- Another count of pins fits, where one is out while a completed message is not marked.
   pub fits-pinned : (pins' : ℕ) → (U ≢ [] → 0 < pins') → FitsIn sum (log_parts size site device fault bytes from bs rs) behind reach pins' H A f U
@@ -95,6 +110,7 @@ module _ (sum : List ℕ → ℕ) (size : ℕ) (site : SegmentPosition) (device 
     holds = fits.holds;
     near = fits.near;
     ends = fits.ends;
+    closes = fits.closes;
     among = fits.among;
     beyond = fits.beyond;
     blobs = fits.blobs;
@@ -158,8 +174,9 @@ module _ (sum : List ℕ → ℕ) (size : ℕ) (site : SegmentPosition) (device 
         let same : first ≡ holds.begun.first = first_same bytes' from' bs' rs' H' holds in
         record {
           holds = holds;
-            near = let near = fits.near in omega (arith, near, is);
+          near = let near = fits.near in omega (arith, near, is);
           ends = λ x there below. ends_new x there (omega (arith, below, is));
+          closes = subst (CloseBelow reach) (sym adds.batches) fits.closes;
           among = λ fine none. subst (λ (s : SnapshotModel). StandsAmong sum size device.log.bytes site from' others reach H' s) same (subst (λ n. StandsAmong sum size device.log.bytes site n others reach H' first) (sym is) (alone_new none));
           beyond = λ to far fine none. subst (λ (s : SnapshotModel). StandsAmong sum size (padded to device.log.bytes) site from' others reach H' s) same
               (subst (λ n. StandsAmong sum size (padded to device.log.bytes) site n others reach H' first) (sym is) (beyond_new to far none));

@@ -14,7 +14,7 @@ use Rattle.sled_core.specs.declared.iobuf.Sealed.{Sealed}
 use Rattle.sled_core.specs.declared.iobuf.SegmentPosition.{SegmentPosition}
 use Rattle.sled_store.specs.Begin.{slots_of, unused, first_or, beginning_at, beginning_of, MayBeActive, IsStartable}
 use Rattle.sled_store.proofs.Segments.StartedFile.{started_file}
-use Rattle.sled_core.specs.Fits.{log_parts, HoldsIn}
+use Rattle.sled_core.specs.Fits.{CloseBelow, log_parts, HoldsIn}
 use Rattle.sled_core.specs.LogFile.{padded}
 use Rattle.sled_core.specs.Ready.{HasFile}
 use Rattle.sled_core.specs.Recoverable.{LeavesRecoverable, NoHeaderOfZeros}
@@ -74,6 +74,7 @@ module _ (sum : List ℕ → ℕ) (size : ℕ) (device now : State) (s : Snapsho
           holds = holds;
           near = omega arith;
           ends = λ m there below. let low = All-contains (λ (x : Message). (x.place < stable) × (x.place + x.size ≤ stable)) H.messages m ready.ready.below there in (omega (arith, low.0, end), omega (arith, low.1, end));
+          closes = subst (λ n. CloseBelow n H.batches) (sym end) ready.ready.batches;
           among = λ none zeros. subst (λ (l : List ℕ). StandsAlone sum size l site from (site.place + from) H holds.begun.first) (sym bytes_now) (begins_alone sum size new s holds.begun.first H site from same end begins own behind (active_now zeros));
           beyond = λ to far none zeros. subst (λ (l : List ℕ). StandsAlone sum size (padded to l) site from (site.place + from) H holds.begun.first) (sym bytes_now)
               (begins_alone sum size (padded to new) s holds.begun.first H site from same end begins own behind (beyond clean to zeros));

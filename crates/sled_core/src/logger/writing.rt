@@ -121,7 +121,7 @@ impl<D: Device, C: Checksum> Log<D, C> {
         ensures at_most { Performs (flushing self.old) (D.trace (device_of self.old)) (D.trace (device_of self.new)) }
         ensures keeps { Preserves D.trace C.sum_of self.old self.new }
         ensures acknowledges { (H : History) (A f : ℕ) (U : List Message) → Fits D.trace C.sum_of self.old H A f U
-            → OnOk result (Fits D.trace C.sum_of self.new H (max A (end_below (synced_end self.new) H.messages)) f U) }
+            → OnOk result (Fits D.trace C.sum_of self.new H (max A (end_below (synced_end self.new) H)) f U) }
         ensures tickets { KeepsTickets self.old self.new }
         ensures position { SamePosition self.old self.new }
         ensures answers { HeldAnswers result (site_of self.old).place (held_below self.old (reserved_len self.old)) (fault_of self.old) (fault_of self.new)

@@ -1,4 +1,4 @@
-use Rattle.std.proofs.Common.{◌≡◌, ◌∙◌, ◌≤◌, ◌+◌, ℕ, sym, ap, subst, inl, inr, arith}
+use Rattle.std.proofs.Common.{◌≡◌, ◌∙◌, ◌≤◌, ◌+◌, max, ℕ, sym, ap, subst, inl, inr, arith}
 use Rattle.std.specs.Prelude.{Ok, Err, IfOk}
 use Rattle.std.specs.List.{All}
 use Rattle.sled_codec.specs.declared.serialization.snapshot.Snapshot.{Snapshot}
@@ -14,7 +14,7 @@ use Rattle.sled_store.proofs.Traces.MomentLemmas.{joined}
 use Rattle.sled_core.specs.Fits.{IsKept, device_of, fault_of, flushing, held_below, reserved_len, segment_size_of, synced_end}
 use Rattle.sled_core.proofs.Holds.Writes.{none_held, not_held}
 use Rattle.sled_core.specs.Recoverable.{LeavesRecoverable, NoForeign, RecoverableIfOwn}
-use Rattle.sled_core.specs.Running.{Ready}
+use Rattle.sled_core.specs.Running.{Ready, end_below}
 use Rattle.sled_core.proofs.Holds.ReachLemmas.{fits_holds}
 use Rattle.sled_core.proofs.Holds.RunningLemmas.{fits_leaves}
 use Rattle.sled_core.proofs.Read.ReadingLemmas.{if_ok}
@@ -35,7 +35,7 @@ returns-in-Ok-clause-ready g c = λ H A f U can.
     let old : Trace = trace config.device in
     let is = c.halt-config.ensures.config in
     let size : ℕ = segment_size_of c.args.log in
-    let end : ℕ = synced_end log in
+    let end : ℕ = max A (end_below (synced_end log) H) in
     let now_size : segment_size_of log ≡ size = c.flush-flushed.ensures.position.size in
     let sizes : config.config.segment_size ≡ size = ap (λ (x : RunningConfig _ _). x.config.segment_size) is ∙ now_size in
     let same : old ≡ trace (device_of log) = ap (λ (x : RunningConfig _ _). trace x.device) is in
@@ -48,9 +48,9 @@ returns-in-Ok-clause-ready g c = λ H A f U can.
     subst (λ (t : Trace). IsKept sum size log.site log.buffer.written_len (state_of t) H) (sym same)
     (subst (λ n. IsKept sum n log.site log.buffer.written_len (state_of (trace (device_of log))) H) now_size (c.in-Ok.ensures.records H (fits_holds trace sum c.args.log H A f U can.fits))) in
     let long : 256 ≤ size = (let least = config.config.least in omega (arith, least, sizes)) in
-    subst (λ n. IfOk c.read_snapshot_or_default-snapshot.result (λ s. Ready sum size (state_of new) (model_of s) H n (stable_place s.stable_lsn))) c.in-Ok.ensures.whole
+    subst (λ n. IfOk c.read_snapshot_or_default-snapshot.result (λ s. Ready sum size (state_of new) (model_of s) H (max A (end_below n H)) (stable_place s.stable_lsn))) c.in-Ok.ensures.whole
     (if_ok c.read_snapshot_or_default-snapshot.result _ (λ s. Ready sum size (state_of new) (model_of s) H end (stable_place s.stable_lsn))
-    (λ s ok. ready_kept sum size log.site log.buffer.written_len old new H f long kept there (model_of s) (subst (λ n. Restores sum n old new (model_of s)) sizes ok))
+    (λ s ok. ready_kept sum size log.site log.buffer.written_len old new H end f long kept (omega arith) there (model_of s) (subst (λ n. Restores sum n old new (model_of s)) sizes ok))
     c.read_snapshot_or_default-snapshot.ensures.ok)
 
 pub returns-in-Ok-clause-table : goal.returns-in-Ok-clause-table

@@ -18,9 +18,9 @@ returns-clause-acknowledges g c = λ H A f U fits.
     let old = c.args.self in
     let new = c.flush-flushed.new.self in
     let left = state_of (g.D.Device.trace c.halt.result.device) in
-    both_on c.flush-flushed.result _ _ (LeavesRecoverable sum (segment_size_of old) H (max A (end_below (reserved_end old) H.messages)) f left)
+    both_on c.flush-flushed.result _ _ (LeavesRecoverable sum (segment_size_of old) H (max A (end_below (reserved_end old) H)) f left)
     (λ flushed whole.
-        subst (λ n. LeavesRecoverable sum n H (max A (end_below (reserved_end old) H.messages)) f left) c.flush-flushed.ensures.position.size
-        (subst (λ n. LeavesRecoverable sum (segment_size_of new) H (max A (end_below n H.messages)) f left) whole
-        (c.halt.ensures.recoverable H (max A (end_below (synced_end new) H.messages)) f U flushed)))
+    subst (λ n. LeavesRecoverable sum n H (max A (end_below (reserved_end old) H)) f left) c.flush-flushed.ensures.position.size
+    (subst (λ n. LeavesRecoverable sum (segment_size_of new) H (max A (end_below n H)) f left) whole
+    (c.halt.ensures.recoverable H (max A (end_below (synced_end new) H)) f U flushed)))
     (c.flush-flushed.ensures.acknowledges H A f U fits) c.flush-flushed.ensures.whole

@@ -1,8 +1,9 @@
 -- All that was reserved is written and synced, and all completed messages are acknowledged, unless memory is refused, the device fails, or the log keeps a failure.
-use Rattle.std.proofs.Common.{◌≡◌, ◌<◌, ◌+◌, ◌∙◌, ℕ, List, arith, subst, sym, ap, None, Some, Ok, Err}
+use Rattle.std.proofs.Common.{◌≡◌, ◌<◌, ◌+◌, ◌∙◌, max, ℕ, List, arith, subst, sym, ap, None, Some, Ok, Err}
 use Rattle.sled_store.specs.Device.{Event, state_of}
 use Rattle.sled_store.specs.Script.{Performs, after_all}
 use Rattle.sled_core.specs.Fits.{IsKept, held_below, reserved_len, synced_end, fault_of, segment_size_of, device_of}
+use Rattle.sled_core.specs.Running.{end_below}
 use Rattle.sled_core.proofs.Holds.Writes.{none_held, not_held}
 use Rattle.sled_core.proofs.Holds.ReachLemmas.{kept_past, fits_holds, fits_acknowledged}
 use Rattle.sled_log.specs.RunStates.{LogView, end_reserved, offset_in}
@@ -30,7 +31,7 @@ returns-in-Ok-clause-step g c = λ k at.
     let kept = written_kept trace sum new H l.site end c.flush.ensures.position.site ends (c.in-Ok.ensures.records H holds) in
     let asked = fits_flushing c.args.opened trace sum H k.acknowledged k.floor at.unmarked at.fits c.requires.no_open_batch.1 c.requires.no_open_batch.0 in
     let answers = not_held old.site.place (held_below old (reserved_len old)) (Ok c.in-Ok.grown) (fault_of old) (fault_of new) _ _ (none_held old (reserved_len old) c.requires.no_open_batch.0) c.in-Ok.ensures.answers in
-    let m : Unstored = record { history = H; acknowledged = synced_end new; floor = k.floor; reserved = None } in
+    let m : Unstored = record { history = H; acknowledged = max k.acknowledged (end_below (synced_end new) H); floor = k.floor; reserved = None } in
     let growth : synced_end old + c.in-Ok.grown ≡ end = sym c.in-Ok.ensures.answer ∙ ends in
     record {
       turn = λ out. cc;
@@ -46,7 +47,7 @@ returns-in-Ok-clause-step g c = λ k at.
           leads = λ i. record {
             device = view new.config.device;
             history = H;
-            acknowledged = ends i;
+            acknowledged = max k.acknowledged (end_below (ends i) H);
             floor = k.floor;
             log = Some (record { site = c.flush.ensures.position.site i; next = c.flush.ensures.position.next i; stable = ends i; begun = c.args.opened.begun; fault = answers.1 i; reserved = None });
           };
