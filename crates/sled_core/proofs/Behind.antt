@@ -1,3 +1,4 @@
 pub mod Around
 pub mod Calls
 pub mod Completes
+pub mod Writes
