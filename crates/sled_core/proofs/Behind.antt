@@ -1,4 +1,6 @@
 pub mod Around
 pub mod Calls
 pub mod Completes
+pub mod Promoted
+pub mod Stays
 pub mod Writes
