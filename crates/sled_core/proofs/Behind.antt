@@ -1,4 +1,5 @@
 pub mod Around
+pub mod Begins
 pub mod Calls
 pub mod Completes
 pub mod Promoted
