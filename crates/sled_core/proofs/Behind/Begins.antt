@@ -1,6 +1,6 @@
 -- A further segment begins behind all that were begun, in a slot that has zeros: it holds no message yet, and the log holds what it held.
 use Rattle.std.proofs.Common.{◌≡◌, ◌≢◌, ◌⊎◌, ◌∙◌, ◌≤◌, ◌<◌, ◌+◌, ◌*◌, ◌/◌, ◌%◌, ℕ, List, [], ◌∷◌, ◌++◌, length, map, Option, None, refl, sym, ap, subst, arith, inl, inr}
-use Rattle.std.specs.List.{All, Contains}
+use Rattle.std.specs.List.{Contains}
 use Rattle.std.specs.declared.io.Error.{Error as IoError}
 use Rattle.std.proofs.lemmas.Bool.{cases_order}
 use Rattle.std.proofs.lemmas.List.{append-nil, map-append}
@@ -12,7 +12,7 @@ use Rattle.sled_store.proofs.Segments.Elements.{in_cases, in_first, in_nothing, 
 use Rattle.sled_core.specs.declared.iobuf.Reserved.{Reserved}
 use Rattle.sled_core.specs.declared.iobuf.Sealed.{Sealed}
 use Rattle.sled_core.specs.declared.iobuf.SegmentPosition.{SegmentPosition}
-use Rattle.sled_core.specs.Fits.{HasInline, HasMark, HoldBehind, HoldsIn, HoldsNext, HoldsSegment, SegmentParts, begun_segment, log_parts}
+use Rattle.sled_core.specs.Fits.{HasInline, HasMark, HoldBehind, HoldsIn, HoldsNext, SegmentParts, begun_segment, log_parts}
 use Rattle.sled_core.specs.LogFile.{IsLogFile, MessageStands, StandsElsewhere, StaysBelow, StaysFrom}
 use Rattle.sled_core.specs.Reached.{BegunSegment, FollowApart}
 use Rattle.sled_core.specs.SealedBuffers.{AreZeros}
@@ -60,10 +60,13 @@ places_below sum size some device fault place (s ∷ ss) stays batches ms (own, 
 -- One more follows, which lies behind all of them, in another slot.
 pub follow_one : (site : SegmentPosition) (others : List BegunSegment) (z : BegunSegment) → FollowApart site others → site.place < z.site.place → z.site.slot ≢ site.slot
     → ((y : BegunSegment) → Contains others y → (y.site.place < z.site.place) × (z.site.slot ≢ y.site.slot)) → FollowApart site (others ++ z ∷ [])
-follow_one site [] z apart low other all = (λ y among. elim (in_cases z y [] among) [
-  | inl same ↦ subst (λ (w : BegunSegment). (site.place < w.site.place) × (w.site.slot ≢ site.slot)) same (low, other)
-  | inr never ↦ absurd (in_nothing y never)
-], tt)
+follow_one site [] z apart low other all = (
+  λ y among. elim (in_cases z y [] among) [
+    | inl same ↦ subst (λ (w : BegunSegment). (site.place < w.site.place) × (w.site.slot ≢ site.slot)) same (low, other)
+    | inr never ↦ absurd (in_nothing y never)
+  ],
+  tt,
+)
 follow_one site (x ∷ xs) z apart low other all = (
   λ y among. elim (Contains-append_cases (x ∷ xs) (z ∷ []) y among) [
     | inl had ↦ apart.0 y had

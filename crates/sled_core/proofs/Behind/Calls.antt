@@ -1,6 +1,6 @@
 -- What a log holds where the current buffer of a segment behind the first one is sealed, where a place is reserved in it or it is filled to its end, and where one of its reservations is aborted: the messages are the same.
-use Rattle.std.proofs.Common.{◌≡◌, ◌≤◌, ◌<◌, ◌+◌, ◌-◌, ◌/◌, ◌^◌, ◌∙◌, ℕ, max, false, List, [], ◌∷◌, ◌++◌, length, drop, take, set, Option, Some, refl, sym, ap, subst, arith, length-append}
-use Rattle.std.specs.List.{All, slice_get}
+use Rattle.std.proofs.Common.{◌≡◌, ◌≤◌, ◌<◌, ◌+◌, ◌-◌, ◌/◌, ◌^◌, ◌∙◌, ℕ, max, false, List, [], ◌∷◌, ◌++◌, length, drop, set, Option, Some, refl, sym, ap, subst, arith, length-append}
+use Rattle.std.specs.List.{slice_get}
 use Rattle.std.specs.declared.io.Error.{Error as IoError}
 use Rattle.std.proofs.lemmas.List.{take-append-le, take_all}
 use Rattle.sled_codec.specs.Written.{written}

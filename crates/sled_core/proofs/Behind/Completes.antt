@@ -1,5 +1,5 @@
 -- A message is completed in a segment behind the first one: it is added between those of the segments before it and those of the segments behind it, and the log holds the history with it.
-use Rattle.std.proofs.Common.{◌≡◌, ◌≤◌, ◌<◌, ◌+◌, ◌/◌, ◌∙◌, ℕ, max, List, [], ◌∷◌, ◌++◌, length, set, Option, Some, refl, sym, ap, subst, arith, append_assoc, inl, inr}
+use Rattle.std.proofs.Common.{◌≡◌, ◌≤◌, ◌<◌, ◌+◌, ◌∙◌, ℕ, List, ◌∷◌, ◌++◌, length, set, Option, Some, refl, sym, ap, subst, arith, append_assoc, inl, inr}
 use Rattle.std.specs.List.{All, Contains, slice_get}
 use Rattle.std.specs.declared.io.Error.{Error as IoError}
 use Rattle.std.proofs.lemmas.List.Elements.{All-contains, Contains-append_cases}
@@ -13,7 +13,7 @@ use Rattle.sled_core.specs.declared.iobuf.Reserved.{Reserved}
 use Rattle.sled_core.specs.declared.iobuf.Sealed.{Sealed}
 use Rattle.sled_core.specs.declared.iobuf.SegmentPosition.{SegmentPosition}
 use Rattle.sled_core.specs.Buffers.{completing, ended, message_in}
-use Rattle.sled_core.specs.Fits.{EndBelow, HasInline, HoldBehind, HoldsIn, HoldsNext, HoldsSegment, SegmentParts, log_parts}
+use Rattle.sled_core.specs.Fits.{HasInline, HoldBehind, HoldsIn, HoldsNext, HoldsSegment, SegmentParts, log_parts}
 use Rattle.sled_core.specs.LogFile.{StaysBelow, StaysFrom}
 use Rattle.sled_core.specs.SealedBuffers.{one_ended}
 use Rattle.sled_core.proofs.Behind.Around.{HoldAround, apart_with, behind_below, behind_place, held_around, now_with, stays_below, together}
@@ -170,10 +170,10 @@ module _ (sum : List ℕ → ℕ) (size : ℕ) (site : SegmentPosition) (device 
       let stays' : Message → Type 0 = StaysBelow completed_history stable site.place in
       together sum size device fault (site.place + size) pre (now_with s completed s.written_len (one_ended i s.sealed) (set s.reserved i (ended Completed r))) post stays' done_here.0.batches parts.before done_here.0.messages parts.after
       (subst (λ (b : List Batch). HoldBehind sum size device fault (site.place + size) pre stays' b parts.before) (sym done_here.1.batches)
-          (behind_fewer sum size device fault (site.place + size) pre stays stays' H.batches parts.before stayed parts.front))
+      (behind_fewer sum size device fault (site.place + size) pre stays stays' H.batches parts.before stayed parts.front))
       next_completed
       (subst (λ (b : List Batch). HoldBehind sum size device fault (begins + size) post stays' b parts.after) (sym done_here.1.batches)
-          (behind_fewer sum size device fault (begins + size) post stays stays' H.batches parts.after stayed parts.rest))
+      (behind_fewer sum size device fault (begins + size) post stays stays' H.batches parts.after stayed parts.rest))
 
   -- What the first segment holds it holds still.
   pub first_completed : HoldsSegment sum (log_parts size site device fault bytes from bs rs) (StaysFrom completed_history stable) (record { messages = holds.head; batches = done_here.0.batches })

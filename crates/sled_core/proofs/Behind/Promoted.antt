@@ -6,7 +6,7 @@ use Rattle.std.proofs.lemmas.Bool.{cases_lt}
 use Rattle.std.proofs.lemmas.List.{append-nil}
 use Rattle.std.proofs.lemmas.List.Elements.{All-contains, Contains-append_cases}
 use Rattle.sled_codec.specs.declared.result.DiskPtr.TheVariants.{Inline}
-use Rattle.sled_codec.specs.History.{Batch, History, Message}
+use Rattle.sled_codec.specs.History.{History, Message}
 use Rattle.sled_codec.specs.Snapshots.{stable_place}
 use Rattle.sled_store.specs.Device.{State}
 use Rattle.sled_store.proofs.Segments.Elements.{in_first, in_rest}
@@ -17,7 +17,7 @@ use Rattle.sled_core.specs.Buffers.{IsChain, NoPadding, completed_in}
 use Rattle.sled_core.specs.Fits.{EndBelow, HoldBehind, HoldsIn, HoldsNext, HoldsSegment, IsBegunFrom, SegmentParts, begun_segment, log_parts}
 use Rattle.sled_core.specs.LogFile.{IsLogFile, StandsElsewhere, StaysBelow, StaysFrom}
 use Rattle.sled_core.specs.Reached.{BegunSegment}
-use Rattle.sled_core.proofs.Behind.Stays.{StayOrStand, behind_stays, elsewhere_of, segment-earlier, segment-stays, stays_among}
+use Rattle.sled_core.proofs.Behind.Stays.{behind_stays, elsewhere_of, segment-earlier, segment-stays, stays_among}
 use Rattle.sled_core.proofs.Flush.Completed.{all_apart, all_below}
 use Rattle.sled_core.proofs.Flush.FlushLemmas.{on_file}
 use Rattle.sled_core.proofs.Holds.WholeHistory.{behind_above}

@@ -1,6 +1,6 @@
 -- A sealed buffer of a segment behind the first one is written at its place, and synced: the log holds what it held, since each other segment lies in another slot, and what stays of earlier ones too.
-use Rattle.std.proofs.Common.{◌≡◌, ◌⊎◌, ◌∙◌, ◌≤◌, ◌<◌, ◌+◌, ◌-◌, ◌^◌, ℕ, true, suc, List, [], ◌∷◌, ◌++◌, length, map, take, drop, Option, None, Some, sym, ap, subst, arith, inl, inr}
-use Rattle.std.specs.List.{All, Contains, slice_get}
+use Rattle.std.proofs.Common.{◌≡◌, ◌⊎◌, ◌∙◌, ◌≤◌, ◌<◌, ◌+◌, ◌^◌, ℕ, true, suc, List, ◌∷◌, ◌++◌, length, map, take, drop, Option, None, Some, sym, ap, subst, arith, inl, inr}
+use Rattle.std.specs.List.{slice_get}
 use Rattle.std.specs.declared.io.Error.{Error as IoError}
 use Rattle.sled_codec.specs.declared.result.DiskPtr.TheVariants.{Inline}
 use Rattle.sled_codec.specs.History.{History, Message}
