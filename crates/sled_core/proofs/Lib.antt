@@ -1,3 +1,4 @@
+pub mod Behind
 pub mod Crash
 pub mod Flush
 pub mod Holds

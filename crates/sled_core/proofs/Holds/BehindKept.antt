@@ -89,7 +89,7 @@ module _ (sum : List ℕ → ℕ) (size : ℕ) (old : List ℕ) (at : ℕ) (xs :
       }) laid
 
 -- A segment holds what it held behind a write beside its slot, where what stays of earlier ones stands there still.
-segment_beside : (sum : List ℕ → ℕ) (size : ℕ) (site : SegmentPosition) (device : State) (fault : Option IoError) (bytes : List ℕ) (from : ℕ) (bs : List Sealed) (rs : List Reserved) (H : History) {stays : Message → Type 0}
+pub segment_beside : (sum : List ℕ → ℕ) (size : ℕ) (site : SegmentPosition) (device : State) (fault : Option IoError) (bytes : List ℕ) (from : ℕ) (bs : List Sealed) (rs : List Reserved) (H : History) {stays : Message → Type 0}
     → HoldsSegment sum (log_parts size site device fault bytes from bs rs) stays H → AreSealed from rs bs → from ≤ size → sealed_end from bs ≤ size → fault ≡ None
     → (at : ℕ) (xs : List ℕ) → 0 < length xs → (at + length xs ≤ site.slot) ⊎ (site.slot + size ≤ at) → (new : State) → new.log ≡ at_rest (overwritten device.log.bytes at xs)
     → ((m : Message) → stays m → (lid : ℕ) → m.pointer ≡ Inline lid → StandsElsewhere sum size device.log.bytes site lid m → StandsElsewhere sum size (overwritten device.log.bytes at xs) site lid m)
@@ -114,7 +114,7 @@ segment_beside sum size site device fault bytes from bs rs H {stays} holds are l
 }
 
 -- slots that are apart don't overlap
-slots_apart : (size : ℕ) → 0 < size → (a b : ℕ) → a % size ≡ 0 → b % size ≡ 0 → a ≢ b → (a + size ≤ b) ⊎ (b + size ≤ a)
+pub slots_apart : (size : ℕ) → 0 < size → (a b : ℕ) → a % size ≡ 0 → b % size ≡ 0 → a ≢ b → (a + size ≤ b) ⊎ (b + size ≤ a)
 slots_apart size some a b at_a at_b other = elim (cases_order a b) [
   | inl same ↦ absurd (other same)
   | inr (inl lower) ↦ inl (apart size some a b at_a at_b lower)

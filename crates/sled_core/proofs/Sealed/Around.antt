@@ -41,7 +41,7 @@ from_in_order from end (r ∷ rs) chain (suc i) zero d le lt = absurd (omega (ar
 from_in_order from end (r ∷ rs) chain (suc i) (suc j) d le lt = from_in_order (from + r.len) end rs chain.1 i j d (omega (arith, le)) (omega (arith, lt))
 
 -- Those of the first k buffers, and the others.
-parts_at : (from : ℕ) (rs : List Reserved) (bs : List Sealed) (k end : ℕ) → AreSealed from rs bs → IsChain (max 20 from) rs end
+pub parts_at : (from : ℕ) (rs : List Reserved) (bs : List Sealed) (k end : ℕ) → AreSealed from rs bs → IsChain (max 20 from) rs end
     → IsChain (max 20 from) (take (sealed_count (take k bs)) rs) (max 20 (sealed_end from (take k bs))) × IsChain (max 20 (sealed_end from (take k bs))) (drop (sealed_count (take k bs)) rs) end
 parts_at from rs bs zero end are chain = (refl, chain)
 parts_at from rs [] (suc k) end are chain = (refl, chain)

@@ -1,0 +1,7 @@
+pub mod Around
+pub mod Begins
+pub mod Calls
+pub mod Completes
+pub mod Promoted
+pub mod Stays
+pub mod Writes

@@ -1,0 +1,156 @@
+-- What the segments behind the first one hold around one of them: those before it, it and those behind it; and what a log holds where something happens to that one alone.
+use Rattle.std.proofs.Common.{◌≡◌, ◌≢◌, ◌∙◌, ◌≤◌, ◌<◌, ◌+◌, ◌*◌, ℕ, List, [], ◌∷◌, ◌++◌, length, map, Option, refl, sym, ap, subst, arith, append_assoc, inl, inr}
+use Rattle.std.proofs.Math.Nat.{suc-mul}
+use Rattle.std.specs.List.{All, Contains}
+use Rattle.std.specs.declared.io.Error.{Error as IoError}
+use Rattle.std.proofs.lemmas.List.{map-append}
+use Rattle.std.proofs.lemmas.List.Elements.{All-append, Contains-append_right}
+use Rattle.sled_codec.specs.History.{Message, Batch, History}
+use Rattle.sled_codec.specs.Snapshots.{stable_place}
+use Rattle.sled_store.specs.Device.{State}
+use Rattle.sled_store.proofs.Segments.Elements.{in_cases, in_first, in_nothing}
+use Rattle.sled_core.specs.declared.iobuf.Reserved.{Reserved}
+use Rattle.sled_core.specs.declared.iobuf.Sealed.{Sealed}
+use Rattle.sled_core.specs.declared.iobuf.SegmentPosition.{SegmentPosition}
+use Rattle.sled_core.specs.Fits.{HoldBehind, HoldsIn, HoldsNext, HoldsSegment, SegmentParts, begun_segment, log_parts}
+use Rattle.sled_core.specs.LogFile.{StaysBelow}
+use Rattle.sled_core.specs.Reached.{BegunSegment, FollowApart}
+use Rattle.sled_core.specs.SealedBuffers.{AreSealed, sealed_end}
+use Rattle.sled_core.proofs.Flush.Completed.{all_below}
+use Rattle.sled_core.proofs.Reached.SegmentsBeside.{follow_still, follows}
+
+-- where the next segment begins behind these, the first of which begins at a place
+abbrev pub behind_place : ℕ → ℕ → List SegmentParts → ℕ
+behind_place size place [] = place
+behind_place size place (s ∷ ss) = behind_place size (place + size) ss
+
+-- that is so many sizes further
+pub behind_place_is : (size place : ℕ) (ss : List SegmentParts) → behind_place size place ss ≡ place + length ss * size
+behind_place_is size place [] = omega arith
+behind_place_is size place (s ∷ ss) = behind_place_is size (place + size) ss ∙ omega (arith, suc-mul (length ss) size)
+
+-- What segments hold around one of them: these are the messages before it, its own and those behind it.
+pub record HoldAround (sum : List ℕ → ℕ) (size : ℕ) (device : State) (fault : Option IoError) (place : ℕ) (pre : List SegmentParts) (s : SegmentParts) (post : List SegmentParts) (stays : Message → Type 0) (batches : List Batch) (ms : List Message) : Type 0 where
+  pub before : List Message
+  pub own : List Message
+  pub after : List Message
+  pub messages : ms ≡ before ++ (own ++ after)
+  pub front : HoldBehind sum size device fault place pre stays batches before
+  pub here : HoldsNext sum size device fault (behind_place size place pre) s stays batches own
+  pub rest : HoldBehind sum size device fault (behind_place size place pre + size) post stays batches after
+
+-- What they hold is parted so,
+pub around : (sum : List ℕ → ℕ) (size : ℕ) (device : State) (fault : Option IoError) (place : ℕ) (pre : List SegmentParts) (s : SegmentParts) (post : List SegmentParts) (stays : Message → Type 0) (batches : List Batch) (ms : List Message)
+    → HoldBehind sum size device fault place (pre ++ s ∷ post) stays batches ms → HoldAround sum size device fault place pre s post stays batches ms
+around sum size device fault place [] s post stays batches ms (own, later, all, here, rest) = record { before = []; own = own; after = later; messages = all; front = refl; here = here; rest = rest }
+around sum size device fault place (x ∷ xs) s post stays batches ms (own, later, all, here, rest) =
+    let r : HoldAround sum size device fault (place + size) xs s post stays batches later = around sum size device fault (place + size) xs s post stays batches later rest in
+    record {
+      before = own ++ r.before;
+      own = r.own;
+      after = r.after;
+      messages = all ∙ ap (λ (l : List Message). own ++ l) r.messages ∙ sym (append_assoc own r.before (r.own ++ r.after));
+      front = (own, r.before, refl, here, r.front);
+      here = r.here;
+      rest = r.rest;
+    }
+
+-- and the parts hold it together.
+pub together : (sum : List ℕ → ℕ) (size : ℕ) (device : State) (fault : Option IoError) (place : ℕ) (pre : List SegmentParts) (s : SegmentParts) (post : List SegmentParts) (stays : Message → Type 0) (batches : List Batch) (before own after : List Message)
+    → HoldBehind sum size device fault place pre stays batches before → HoldsNext sum size device fault (behind_place size place pre) s stays batches own → HoldBehind sum size device fault (behind_place size place pre + size) post stays batches after
+    → HoldBehind sum size device fault place (pre ++ s ∷ post) stays batches (before ++ (own ++ after))
+together sum size device fault place [] s post stays batches before own after front here rest =
+    subst (λ (l : List Message). HoldBehind sum size device fault place (s ∷ post) stays batches (l ++ (own ++ after))) (sym front) (own, after, refl, here, rest)
+together sum size device fault place (x ∷ xs) s post stays batches before own after (mine, later, all, first, front) here rest = (
+  mine,
+  later ++ (own ++ after),
+  ap (λ (l : List Message). l ++ (own ++ after)) all ∙ append_assoc mine later (own ++ after),
+  first,
+  together sum size device fault (place + size) xs s post stays batches later own after front here rest,
+)
+
+-- The messages of segments lie below the place where the next one begins.
+pub behind_below : (sum : List ℕ → ℕ) (size : ℕ) (device : State) (fault : Option IoError) (place : ℕ) (ss : List SegmentParts) (stays : Message → Type 0) (batches : List Batch) (ms : List Message)
+    → HoldBehind sum size device fault place ss stays batches ms → (place ≤ behind_place size place ss) × All (λ m. m.place < behind_place size place ss) ms
+behind_below sum size device fault place [] stays batches ms is = (omega arith, λ k d lt. absurd (omega (arith, ap length is, lt)))
+behind_below sum size device fault place (s ∷ ss) stays batches ms (own, later, all, here, rest) =
+    let far = behind_below sum size device fault (place + size) ss stays batches later rest in
+    let end = behind_place size (place + size) ss in
+    let up = far.0 in
+    let next = here.next in
+    let inside = here.inside in
+    let below = all_below sum size s.site device fault s.bytes s.written_len s.sealed s.reserved (record { messages = own; batches = batches }) here.segment in
+    (omega (arith, up), subst (All (λ (m : Message). m.place < end)) (sym all) (All-append (λ (m : Message). m.place < end) own later (λ k d lt. let b = below k d lt in omega (arith, b.0, next, inside, up)) far.1))
+
+-- Segments that follow lie in slots apart from that of one of them: the ones before it, and the ones behind it.
+
+pub apart_before : (site : SegmentPosition) (pre : List BegunSegment) (y : BegunSegment) (post : List BegunSegment) → FollowApart site (pre ++ y ∷ post) → (x : BegunSegment) → Contains pre x → x.site.slot ≢ y.site.slot
+apart_before site [] y post apart x among = absurd (in_nothing x among)
+apart_before site (z ∷ zs) y post apart x among = elim (in_cases z x zs among) [
+  | inl same ↦ (let f = follows z.site (zs ++ y ∷ post) apart.1 y (Contains-append_right zs (y ∷ post) y (in_first y post)) in λ at. f.1 (sym at ∙ ap (λ (w : BegunSegment). w.site.slot) (sym same)))
+  | inr later ↦ apart_before z.site zs y post apart.1 x later
+]
+
+pub apart_behind : (site : SegmentPosition) (pre : List BegunSegment) (y : BegunSegment) (post : List BegunSegment) → FollowApart site (pre ++ y ∷ post) → (x : BegunSegment) → Contains post x → x.site.slot ≢ y.site.slot
+apart_behind site [] y post apart x among = (follows y.site post apart.1 x among).1
+apart_behind site (z ∷ zs) y post apart x among = apart_behind z.site zs y post apart.1 x among
+
+-- the segment with these bytes, so many of them written, and with these buffers and reservations
+abbrev pub now_with : SegmentParts → List ℕ → ℕ → List Sealed → List Reserved → SegmentParts
+now_with s bytes from bs rs = record { site = s.site; bytes = bytes; written_len = from; sealed = bs; reserved = rs }
+
+-- What a segment holds it holds with other bytes and buffers, where these keep to it.
+abbrev pub next_with : (sum : List ℕ → ℕ) (size : ℕ) (device : State) (fault : Option IoError) (place : ℕ) (s : SegmentParts) (stays : Message → Type 0) (batches : List Batch) (own : List Message) → HoldsNext sum size device fault place s stays batches own
+    → (new : State) (now : Option IoError) (bytes : List ℕ) (from : ℕ) (bs : List Sealed) (rs : List Reserved) → length bytes ≤ size → AreSealed from rs bs → sealed_end from bs ≤ length bytes → from ≤ length bytes
+    → HoldsSegment sum (log_parts size s.site new now bytes from bs rs) stays (record { messages = own; batches = batches }) → HoldsNext sum size new now place (now_with s bytes from bs rs) stays batches own
+next_with sum size device fault place s stays batches own holds new now bytes from bs rs inside are held behind segment = record {
+  next = holds.next;
+  inside = inside;
+  are = are;
+  held = held;
+  behind = behind;
+  segment = segment;
+  above = holds.above;
+  inline = holds.inline;
+}
+
+module _ (pre : List SegmentParts) (s : SegmentParts) (post : List SegmentParts) where
+  -- that one among the segments that were begun
+  abbrev begun_around : List BegunSegment
+  begun_around = map begun_segment pre ++ begun_segment s ∷ map begun_segment post
+
+  pub begun_is : map begun_segment (pre ++ s ∷ post) ≡ begun_around
+  begun_is = map-append begun_segment pre (s ∷ post)
+
+  pub apart_around : (site : SegmentPosition) → FollowApart site (map begun_segment (pre ++ s ∷ post)) → FollowApart site begun_around
+  apart_around site apart = subst (FollowApart site) begun_is apart
+
+  -- They lie as they did, whatever that one has now.
+  pub apart_with : (site : SegmentPosition) (bytes : List ℕ) (from : ℕ) (bs : List Sealed) (rs : List Reserved) → FollowApart site (map begun_segment (pre ++ s ∷ post)) → FollowApart site (map begun_segment (pre ++ now_with s bytes from bs rs ∷ post))
+  apart_with site bytes from bs rs apart =
+      subst (FollowApart site) (sym (map-append begun_segment pre (now_with s bytes from bs rs ∷ post)))
+      (follow_still site (map begun_segment pre) (begun_segment s) (map begun_segment post) from (apart_around site apart))
+
+module _ (sum : List ℕ → ℕ) (size : ℕ) (site : SegmentPosition) (device : State) (fault : Option IoError) (bytes : List ℕ) (from : ℕ) (bs : List Sealed) (rs : List Reserved) (H : History)
+    (pre : List SegmentParts) (s : SegmentParts) (post : List SegmentParts) (holds : HoldsIn sum (log_parts size site device fault bytes from bs rs) (pre ++ s ∷ post) H) where
+  -- what stays of the segments before the first one
+  abbrev pub stays_below : Message → Type 0
+  stays_below = StaysBelow H (stable_place holds.begun.first.stable) site.place
+
+  -- what is held behind the first one, around this one
+  pub held_around : HoldAround sum size device fault (site.place + size) pre s post stays_below H.batches holds.later
+  held_around = around sum size device fault (site.place + size) pre s post stays_below H.batches holds.later holds.others
+
+  -- Where that one holds its messages with other bytes and buffers, the log holds what it held, begun from the same snapshot.
+  abbrev pub holds_with : (bytes' : List ℕ) (from' : ℕ) (bs' : List Sealed) (rs' : List Reserved)
+      → HoldsNext sum size device fault (behind_place size (site.place + size) pre) (now_with s bytes' from' bs' rs') stays_below H.batches held_around.own → HoldsIn sum (log_parts size site device fault bytes from bs rs) (pre ++ now_with s bytes' from' bs' rs' ∷ post) H
+  holds_with bytes' from' bs' rs' here = record {
+    begun = holds.begun;
+    head = holds.head;
+    later = held_around.before ++ (held_around.own ++ held_around.after);
+    messages = holds.messages ∙ ap (λ (l : List Message). holds.head ++ l) held_around.messages;
+    own = holds.own;
+    others = together sum size device fault (site.place + size) pre (now_with s bytes' from' bs' rs') post stays_below H.batches held_around.before held_around.own held_around.after held_around.front here held_around.rest;
+    apart = apart_with pre s post site bytes' from' bs' rs' holds.apart;
+    plain = holds.plain;
+  }
