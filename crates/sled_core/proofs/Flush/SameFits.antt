@@ -21,6 +21,7 @@ module _ (sum : List ℕ → ℕ) (size : ℕ) (site : SegmentPosition) (device 
     near = fits.near;
     ends = fits.ends;
     closes = fits.closes;
+    marked = fits.marked;
     holds = holds-faulty sum size site device fault bytes from bs rs H fits.holds new e now is (ap (λ (s : NamesState). s.file) snapshots);
     among = λ none. cc;
     beyond = λ to far none. cc;

@@ -1,5 +1,5 @@
 -- How a running log goes on fitting its history at the calls that write nothing.
-use Rattle.std.proofs.Common.{◌≡◌, ◌≢◌, ◌≤◌, ◌<◌, ◌+◌, ◌∙◌, nat_lt, max, if◌then◌else◌, Bool, true, false, ℕ, List, [], ◌∷◌, length, map, Option, None, refl, sym, ap, arith, subst, inl, inr}
+use Rattle.std.proofs.Common.{◌≡◌, ◌≢◌, ◌≤◌, ◌<◌, ◌<ℤ◌, pos, ◌+◌, ◌∙◌, nat_lt, max, if◌then◌else◌, Bool, true, false, ℕ, List, [], ◌∷◌, length, map, Option, None, refl, sym, ap, arith, subst, inl, inr}
 use Rattle.std.specs.List.{Contains}
 use Rattle.std.specs.declared.io.Error.{Error as IoError}
 use Rattle.std.proofs.lemmas.Bool.{cases_lt}
@@ -50,6 +50,7 @@ module _ (sum : List ℕ → ℕ) (size : ℕ) (site : SegmentPosition) (device 
         near = let near = fits.near in omega (arith, near, is);
         ends = λ m there below. fits.ends m there (omega (arith, below, is));
         closes = fits.closes;
+        marked = λ s there none mark header. subst (λ n. mark <ℤ pos (site.place + n)) (sym is) (fits.marked s there none mark header);
         among = λ ok none. subst (λ (s : SnapshotModel). StandsAmong sum size device.log.bytes site from' others reach H s) same (subst (λ n. StandsAmong sum size device.log.bytes site n others reach H first) (sym is) (fits.among ok none));
         beyond = λ to far ok none. subst (λ (s : SnapshotModel). StandsAmong sum size (padded to device.log.bytes) site from' others reach H s) same
             (subst (λ n. StandsAmong sum size (padded to device.log.bytes) site n others reach H first) (sym is) (fits.beyond to far ok none));
@@ -71,6 +72,7 @@ module _ (sum : List ℕ → ℕ) (size : ℕ) (site : SegmentPosition) (device 
     near = fits.near;
     ends = fits.ends;
     closes = fits.closes;
+    marked = fits.marked;
     among = fits.among;
     beyond = fits.beyond;
     blobs = fits.blobs;
@@ -111,6 +113,7 @@ module _ (sum : List ℕ → ℕ) (size : ℕ) (site : SegmentPosition) (device 
     near = fits.near;
     ends = fits.ends;
     closes = fits.closes;
+    marked = fits.marked;
     among = fits.among;
     beyond = fits.beyond;
     blobs = fits.blobs;
@@ -177,6 +180,7 @@ module _ (sum : List ℕ → ℕ) (size : ℕ) (site : SegmentPosition) (device 
           near = let near = fits.near in omega (arith, near, is);
           ends = λ x there below. ends_new x there (omega (arith, below, is));
           closes = subst (CloseBelow reach) (sym adds.batches) fits.closes;
+          marked = λ s there none mark header. subst (λ n. mark <ℤ pos (site.place + n)) (sym is) (fits.marked s there none mark header);
           among = λ fine none. subst (λ (s : SnapshotModel). StandsAmong sum size device.log.bytes site from' others reach H' s) same (subst (λ n. StandsAmong sum size device.log.bytes site n others reach H' first) (sym is) (alone_new none));
           beyond = λ to far fine none. subst (λ (s : SnapshotModel). StandsAmong sum size (padded to device.log.bytes) site from' others reach H' s) same
               (subst (λ n. StandsAmong sum size (padded to device.log.bytes) site n others reach H' first) (sym is) (beyond_new to far none));
