@@ -9,12 +9,6 @@ use Rattle.sled_core.specs.declared.iobuf.SegmentPosition.{SegmentPosition}
 use Rattle.sled_core.specs.LogFile.{StandsHere, StandsElsewhere, HasHeader}
 use Rattle.sled_core.proofs.Flush.LogFileLemmas.{part_kept, message_kept}
 
--- the header of a segment lies in the file
-pub header_there : (sum : List ℕ → ℕ) (log : List ℕ) (site : SegmentPosition) → HasHeader sum log site → site.slot + 20 ≤ length log
-header_there sum log site h =
-    let long : length (part log site.slot 20) ≡ 20 = ap length h.header.is ∙ length-short_header sum (pos site.place) h.mark in
-    omega (arith, long, length-take 20 (drop site.slot log), length-drop site.slot log)
-
 -- a record that stands below an offset stands below a higher one
 pub here_below : (sum : List ℕ → ℕ) (size : ℕ) (log : List ℕ) (site : SegmentPosition) (from to lid : ℕ) (m : Message) → from ≤ to → StandsHere sum size log site from lid m → StandsHere sum size log site to lid m
 here_below sum size log site from to lid m more s =
@@ -45,9 +39,3 @@ module _ (sum : List ℕ → ℕ) (size : ℕ) (old : List ℕ) (at : ℕ) (xs :
     stands = message_kept sum size old at xs lid (m.place / size) m (elim s.apart [ inl below ↦ inl (omega (arith, below, begins)) | inr above ↦ inr (omega (arith, above, ends)) ]) s.stands;
     apart = s.apart;
   }
-
-  -- a header before the write
-  pub header_kept : (site : SegmentPosition) → site.slot + 20 ≤ at → HasHeader sum old site → HasHeader sum new site
-  header_kept site before h =
-      let there : site.slot + 20 ≤ length old = header_there sum old site h in
-      record { mark = h.mark; header = subst (λ (l : List ℕ). IsHeader sum l (pos site.place) h.mark) (sym (part_kept sum size old at xs site.slot 20 there (inl before))) h.header; below = h.below }
