@@ -11,6 +11,7 @@ pub mod HoldsLemmas
 pub mod KeptCalls
 pub mod KeptTickets
 pub mod LastEnds
+pub mod NoneBehind
 pub mod OpenTickets
 pub mod ReachLemmas
 pub mod ReadSeals

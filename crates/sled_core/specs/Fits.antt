@@ -17,6 +17,7 @@ use Rattle.sled_core.specs.declared.iobuf.Sealed.{Sealed}
 use Rattle.sled_core.specs.declared.iobuf.SegmentPosition.{SegmentPosition}
 use Rattle.sled_core.specs.declared.reservation.Reservation.{Reservation}
 use Rattle.sled_core.specs.declared.logger.Log.{Log}
+use Rattle.sled_core.specs.declared.logger.segments.SegmentBuffer.{SegmentBuffer}
 use Rattle.sled_store.specs.declared.config.RunningConfig.{RunningConfig}
 use Rattle.sled_store.specs.declared.segment.accountant.SegmentAccountant.{SegmentAccountant}
 use Rattle.sled_core.specs.Buffers.{NoPadding, Stands, IsChain, completed_in, message_in, none_open, open_in, first_open_in, end_reserved, record_size}
@@ -142,6 +143,22 @@ log_parts size site device fault bytes written_len sealed reserved = record {
   reserved = reserved;
 }
 
+-- What a log has of a segment that was begun behind the first one: where it lies, its bytes, how many of them were written without a gap, the buffers that were sealed since, and the reservations since.
+pub record SegmentParts : Type 0 where
+  pub site : SegmentPosition
+  pub bytes : List ℕ
+  pub written_len : ℕ
+  pub sealed : List Sealed
+  pub reserved : List Reserved
+
+-- what it has of a segment that was begun behind the first one
+abbrev pub segment_parts : SegmentBuffer → SegmentParts
+segment_parts s = record { site = s.site; bytes = s.buffer.bytes.items; written_len = s.buffer.written_len; sealed = s.buffer.sealed.items; reserved = s.buffer.reserved.items }
+
+-- and of all of these
+abbrev pub behind_of : {D C : Type 0} → Log D C → List SegmentParts
+behind_of log = map segment_parts log.behind.items
+
 -- what a log has, where its device has this trace
 abbrev pub parts_of : {D C : Type 0} → (D → Trace) → Log D C → LogParts
 parts_of trace log = log_parts log.config.config.segment_size log.site (state_of (trace log.config.device)) log.fault log.buffer.bytes.items log.buffer.written_len log.buffer.sealed.items log.buffer.reserved.items
@@ -192,14 +209,6 @@ pub record HoldsSegment (sum : List ℕ → ℕ) (parts : LogParts) (stays : Mes
   -- what the log file has of the sealed buffers, and zeros behind them
   pub laid : parts.fault ≡ None → Laid parts.device.log.bytes parts.site.slot parts.bytes parts.written_len parts.sealed parts.size
 
--- What a log has of a segment that was begun behind the first one: where it lies, its bytes, how many of them were written without a gap, the buffers that were sealed since, and the reservations since.
-pub record SegmentParts : Type 0 where
-  pub site : SegmentPosition
-  pub bytes : List ℕ
-  pub written_len : ℕ
-  pub sealed : List Sealed
-  pub reserved : List Reserved
-
 -- where it lies, and how much of it is written
 abbrev pub begun_segment : SegmentParts → BegunSegment
 begun_segment s = record { site = s.site; from = s.written_len }
@@ -239,7 +248,7 @@ pub record HoldsIn (sum : List ℕ → ℕ) (parts : LogParts) (behind : List Se
 
 -- The log holds this history.
 unfoldable pub Holds : {D C : Type 0} → (D → Trace) → (List ℕ → ℕ) → Log D C → History → Type 0
-Holds trace sum log H = HoldsIn sum (parts_of trace log) [] H
+Holds trace sum log H = HoldsIn sum (parts_of trace log) (behind_of log) H
 
 -- A log has the record of a message: it is of the current segment, or an entry of the table of all that was written, or of that and more.
 abbrev pub HasRecordOf : {D C : Type 0} → Log D C → History → Message → Type 0

@@ -1,4 +1,5 @@
 pub mod AccountProps
+pub mod Begun
 pub mod Buffers
 pub mod Canceled
 pub mod Caps

@@ -11,7 +11,7 @@ use Rattle.sled_store.specs.Foreign.{NoForeignNames}
 use Rattle.sled_store.specs.SegmentStates.{Machine}
 use Rattle.sled_store.specs.SnapshotFiles.{IsSnapshotFile}
 use Rattle.sled_core.specs.declared.logger.Log.{Log}
-use Rattle.sled_core.specs.Fits.{CloseBelow, LogParts, SegmentParts, begun_segment, parts_of, HoldsIn}
+use Rattle.sled_core.specs.Fits.{CloseBelow, LogParts, SegmentParts, begun_segment, behind_of, parts_of, HoldsIn}
 use Rattle.sled_core.specs.FreeSlots.{HasSlots}
 use Rattle.sled_core.specs.Recoverable.{ActiveFits, AreRecoverableSnapshots, AreRecoverableBlobs, NoHeaderOfZeros, LeavesRecoverable}
 use Rattle.sled_core.specs.Reached.{StandsAmong, StandsActive}
@@ -71,7 +71,7 @@ pub record FitsWith (sum : List ℕ → ℕ) (log : LogParts) (behind : List Seg
 
 -- The log fits this history, the end of what was acknowledged, the floor and the messages that were not marked yet.
 unfoldable pub Fits : {D C : Type 0} → (D → Trace) → (List ℕ → ℕ) → Log D C → History → ℕ → ℕ → List Message → Type 0
-Fits trace sum log H A f U = FitsWith sum (parts_of trace log) [] log.pins (machine_of log.accountant) H A f U
+Fits trace sum log H A f U = FitsWith sum (parts_of trace log) (behind_of log) log.pins (machine_of log.accountant) H A f U
 
 -- Snapshot and device are ready for a log that fits this history, the end of what was acknowledged and the floor.
 pub record IsReadyFor (sum : List ℕ → ℕ) (size : ℕ) (device : State) (s : SnapshotModel) (H : History) (A f : ℕ) : Type 0 where

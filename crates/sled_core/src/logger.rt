@@ -24,11 +24,13 @@ ghost use Rattle.sled_store.specs.Begin.{IsStartable, IsInReach};
 ghost use Rattle.sled_store.specs.Started.{started};
 ghost use Rattle.sled_core.specs.Recoverable.{LeavesRecoverable, RecoverableIfOwn};
 ghost use Rattle.sled_core.specs.AccountProps.{IsAccountant-prop};
+ghost use Rattle.sled_core.specs.Begun.{FollowOn, FollowOn-prop};
 ghost use Rattle.sled_core.specs.Causes.{FaultAnswers, RecordAnswers, ReserveAnswers, failure_in};
 
 mod abort;
 pub mod read_at;
 pub mod read_message;
+mod segments;
 mod settle;
 mod stable;
 pub(crate) mod unverified_record;
@@ -38,6 +40,7 @@ use crate::iobuf::record::head_of;
 use crate::iobuf::start::begin;
 use crate::iobuf::{IoBuf, Purpose, Reserved, SegmentPosition};
 use crate::logger::read_message::{LogRead, read_message};
+use crate::logger::segments::SegmentBuffer;
 use crate::reservation::{Guard, Reservation};
 use sled_codec::result::{DiskPtr, Error, LogOffset, Lsn, PageId, Result};
 use sled_codec::serialization::message::message_kind;
@@ -45,6 +48,8 @@ use sled_codec::serialization::{Checksum, LogKind, SegmentNumber, Serialize, Sna
 use sled_store::segment::accountant::SegmentAccountant;
 use sled_store::segment::may_begin;
 use sled_store::{Device, RunningConfig};
+use std::alloc::Global;
+use std::collections::VecDeque;
 use std::io;
 
 /// A log over a device. It is given up by `halt`, which hands its configuration back.
@@ -53,6 +58,8 @@ pub struct Log<D, C> {
     /// Where the current segment lies.
     site: SegmentPosition,
     buffer: IoBuf,
+    /// The segments that were begun behind it, by place.
+    behind: VecDeque<SegmentBuffer>,
     /// Which slot each segment has. The free slots have zeros in the log file (`specs/FreeSlots.antt`).
     accountant: SegmentAccountant,
     /// The first failure of the device in this log.
@@ -61,6 +68,8 @@ pub struct Log<D, C> {
     ghost in_segment: { length buffer.bytes.items ≤ config.config.segment_size },
     ghost place_in_reach: { site.place + config.config.segment_size < 2 ^ 63 },
     ghost slot_in_reach: { site.slot + config.config.segment_size < 2 ^ 63 },
+    ghost alone: { length behind.items ≡ 0 },
+    ghost follow: { FollowOn config.config.segment_size (site.place + config.config.segment_size) behind.items } by { FollowOn-prop _ _ _ },
     ghost account: { IsAccountant config.config.segment_size accountant } by { IsAccountant-prop config.config.segment_size accountant },
 }
 
@@ -109,6 +118,7 @@ impl<D: Device, C: Checksum> Log<D, C> {
         let mut config = config;
         match begin(&mut config, snapshot) {
             Ok((beginning, buffer, accountant)) => Ok(Log {
+                behind: no_segments(config.alloc()),
                 config,
                 site: SegmentPosition {
                     place: beginning.place,
@@ -371,12 +381,20 @@ impl<D: Device, C: Checksum> Log<D, C> {
             config,
             site: _,
             buffer: _,
+            behind: _,
             accountant: _,
             fault: _,
             pins: _,
         } = self;
         config
     }
+}
+
+/// No segment is begun behind the first one.
+fn no_segments(alloc: Global) -> VecDeque<SegmentBuffer>
+    ensures { result.items ≡ [] }
+{
+    VecDeque::new(alloc)
 }
 
 /// Whether a ticket is for this reservation in a segment, and it is open.

@@ -14,7 +14,7 @@ use Rattle.sled_core.specs.declared.iobuf.IoBuf.{IoBuf}
 use Rattle.sled_core.specs.declared.iobuf.Sealed.{Sealed}
 use Rattle.sled_core.specs.declared.logger.Log.{Log}
 use Rattle.sled_core.specs.Buffers.{none_open}
-use Rattle.sled_core.specs.Fits.{Holds, HoldsIn, IsWrittenAt, device_of, fault_of, log_parts, segment_size_of, writing_buffer}
+use Rattle.sled_core.specs.Fits.{Holds, HoldsIn, IsWrittenAt, SegmentParts, behind_of, device_of, fault_of, log_parts, segment_size_of, writing_buffer}
 use Rattle.sled_core.specs.FreeSlots.{HasSlots}
 use Rattle.sled_core.specs.Recoverable.{LeavesRecoverable}
 use Rattle.sled_core.specs.Running.{Fits, FitsIn}
@@ -74,7 +74,7 @@ module _ {D C : Type 0} (trace : D → Trace) (sum : List ℕ → ℕ) (log : Lo
 
   -- Behind the calls it holds what it held.
   pub holds_buffer : (H : History) → Holds trace sum log H → (new : Trace) → new ≡ after_all (writing_buffer log k) before → (later : IoBuf) → IsWrittenAt k old later
-      → HoldsIn sum (log_parts size log.site (state_of new) log.fault later.bytes.items later.written_len later.sealed.items later.reserved.items) [] H
+      → HoldsIn sum (log_parts size log.site (state_of new) log.fault later.bytes.items later.written_len later.sealed.items later.reserved.items) (behind_of log) H
   unfolding Holds
   holds_buffer H holds new came later is =
       let made = came ∙ ap (λ (es : List Event). after_all es before) (calls_are log k b there) in
@@ -83,8 +83,8 @@ module _ {D C : Type 0} (trace : D → Trace) (sum : List ℕ → ℕ) (log : Lo
       (holds_written_one sum size log.site (state_of before) log.fault old.bytes.items old.written_len old.sealed.items old.reserved.items H holds log.in_segment log.config.config.least log.place_in_reach log.slot_in_reach
       old.are old.head (sealed_rise old) whole k b there ready (state_of new) (ap (λ (t : Trace). (state_of t).log) made) (ap (λ (t : Trace). (state_of t).snapshots.file) made))
 
-  module _ (H : History) (A f : ℕ) (U : List Message) {reach : ℕ}
-      (fits : FitsIn sum (log_parts size log.site (state_of before) log.fault old.bytes.items old.written_len old.sealed.items old.reserved.items) [] reach log.pins H A f U) where
+  module _ (H : History) (A f : ℕ) (U : List Message) {behind : List SegmentParts} {reach : ℕ}
+      (fits : FitsIn sum (log_parts size log.site (state_of before) log.fault old.bytes.items old.written_len old.sealed.items old.reserved.items) behind reach log.pins H A f U) where
     -- At each moment of the calls a crash leaves what can be recovered, with all that was written before counted as acknowledged.
     pub buffer_left : (new : Trace) → Performs (writing_buffer log k) before new → Throughout (LeavesRecoverable sum size H reach f) before new
     buffer_left new came =
@@ -99,12 +99,12 @@ module _ {D C : Type 0} (trace : D → Trace) (sum : List ℕ → ℕ) (log : Lo
 
     -- Behind them it fits.
     pub fits_buffer : (new : Trace) → new ≡ after_all (writing_buffer log k) before → (later : IoBuf) → IsWrittenAt k old later
-        → (up_to : ℕ) × FitsIn sum (log_parts size log.site (state_of new) log.fault later.bytes.items later.written_len later.sealed.items later.reserved.items) [] up_to log.pins H A f U
+        → (up_to : ℕ) × FitsIn sum (log_parts size log.site (state_of new) log.fault later.bytes.items later.written_len later.sealed.items later.reserved.items) behind up_to log.pins H A f U
     fits_buffer new came later is =
         let made = came ∙ ap (λ (es : List Event). after_all es before) (calls_are log k b there) in
-        let after : (up_to : ℕ) × FitsIn sum (log_parts size log.site (state_of new) log.fault old.bytes.items (run_end old.written_len now) (behind_run now) (drop (run_count now) old.reserved.items)) [] up_to log.pins H A f U =
-        subst (λ (o : Option IoError). (up_to : ℕ) × FitsIn sum (log_parts size log.site (state_of new) o old.bytes.items (run_end old.written_len now) (behind_run now) (drop (run_count now) old.reserved.items)) [] up_to log.pins H A f U) (sym whole)
-        (subst (λ (t : Trace). (up_to : ℕ) × FitsIn sum (log_parts size log.site (state_of t) None old.bytes.items (run_end old.written_len now) (behind_run now) (drop (run_count now) old.reserved.items)) [] up_to log.pins H A f U) (sym made)
+        let after : (up_to : ℕ) × FitsIn sum (log_parts size log.site (state_of new) log.fault old.bytes.items (run_end old.written_len now) (behind_run now) (drop (run_count now) old.reserved.items)) behind up_to log.pins H A f U =
+        subst (λ (o : Option IoError). (up_to : ℕ) × FitsIn sum (log_parts size log.site (state_of new) o old.bytes.items (run_end old.written_len now) (behind_run now) (drop (run_count now) old.reserved.items)) behind up_to log.pins H A f U) (sym whole)
+        (subst (λ (t : Trace). (up_to : ℕ) × FitsIn sum (log_parts size log.site (state_of t) None old.bytes.items (run_end old.written_len now) (behind_run now) (drop (run_count now) old.reserved.items)) behind up_to log.pins H A f U) (sym made)
         (fits_written_one sum size log.site (state_of before) log.fault old.bytes.items old.written_len old.sealed.items old.reserved.items log.pins H A f U fits log.in_segment log.config.config.least log.place_in_reach log.slot_in_reach
         old.are old.head (sealed_rise old) whole k b there ready)) in (
           after.0,

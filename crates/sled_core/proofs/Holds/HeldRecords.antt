@@ -20,6 +20,7 @@ use Rattle.sled_core.specs.LogFile.{MessageStands, StaysFrom}
 use Rattle.sled_core.specs.Reading.{IsInline}
 use Rattle.sled_core.specs.Running.{Fits}
 use Rattle.sled_core.proofs.Holds.ReachLemmas.{completed_behind, written_before}
+use Rattle.sled_core.proofs.Holds.NoneBehind.{holds_alone}
 use Rattle.sled_core.proofs.Holds.WholeHistory.{of_one, whole_ascends}
 
 -- an inline pointer is one to its offset
@@ -68,7 +69,7 @@ fits_begins trace sum log H A f U fits none m there has lid pointer =
     let device : State = state_of (trace log.config.device) in
     let bytes : List ℕ = log.buffer.bytes.items in
     let holds : HoldsIn sum (log_parts size log.site device None bytes log.buffer.written_len log.buffer.sealed.items log.buffer.reserved.items) [] H =
-    subst (λ (o : Option IoError). HoldsIn sum (log_parts size log.site device o bytes log.buffer.written_len log.buffer.sealed.items log.buffer.reserved.items) [] H) none fits.parts.holds in
+    subst (λ (o : Option IoError). HoldsIn sum (log_parts size log.site device o bytes log.buffer.written_len log.buffer.sealed.items log.buffer.reserved.items) [] H) none (holds_alone log sum _ H fits.parts.holds) in
     let reached = holds.begun.reached in
     elim (cases_lt m.place (log.site.place + log.buffer.written_len)) [
       | inl written ↦ (held_record sum size log.site device bytes log.buffer.written_len log.buffer.sealed.items log.buffer.reserved.items H holds m there written (elim has [ inl above ↦ inl above | inr (cut, far, entry) ↦ inr (cut, omega (arith, reached, far), entry) ]) log.in_segment lid pointer).begins

@@ -22,6 +22,7 @@ use Rattle.sled_core.specs.Recoverable.{LiesInSegment}
 use Rattle.sled_core.proofs.Reserve.Ranges.{all_own, completed_between, chain_grows}
 use Rattle.sled_core.proofs.Reserve.Entries.{completed_plain, reserved_in, some_long}
 use Rattle.sled_core.proofs.Flush.Completed.{all_below, which}
+use Rattle.sled_core.proofs.Holds.NoneBehind.{holds_alone}
 use Rattle.sled_core.proofs.Holds.WholeHistory.{of_one, whole_apart, whole_inline}
 use Rattle.sled_core.proofs.Read.ScanLemmas.{aligned_offset}
 
@@ -89,9 +90,10 @@ kept_past sum size site from device H kept = λ k d lt. (kept.below k d lt).1
 pub fits_reach : {D C : Type 0} (trace : D → Trace) (sum : List ℕ → ℕ) (log : Log D C) (H : History) (A f : ℕ) (U : List Message) → Fits trace sum log H A f U → All (λ m. m.place < next_place log) H.messages
 unfolding Fits
 fits_reach trace sum log H A f U fits =
-    let one = of_one sum log.config.config.segment_size log.site _ log.fault log.buffer.bytes.items log.buffer.written_len log.buffer.sealed.items log.buffer.reserved.items H fits.parts.holds in
+    let holds = holds_alone log sum _ H fits.parts.holds in
+    let one = of_one sum log.config.config.segment_size log.site _ log.fault log.buffer.bytes.items log.buffer.written_len log.buffer.sealed.items log.buffer.reserved.items H holds in
     subst (All (λ (m : Message). m.place < next_place log)) (sym one)
-    (λ k d lt. (all_below sum log.config.config.segment_size log.site _ log.fault log.buffer.bytes.items log.buffer.written_len log.buffer.sealed.items log.buffer.reserved.items (record { messages = fits.parts.holds.head; batches = H.batches }) fits.parts.holds.own k d lt).0)
+    (λ k d lt. (all_below sum log.config.config.segment_size log.site _ log.fault log.buffer.bytes.items log.buffer.written_len log.buffer.sealed.items log.buffer.reserved.items (record { messages = holds.head; batches = H.batches }) holds.own k d lt).0)
 
 -- the messages lie one behind another
 pub fits_apart : {D C : Type 0} (trace : D → Trace) (sum : List ℕ → ℕ) (log : Log D C) (H : History) (A f : ℕ) (U : List Message) → Fits trace sum log H A f U → LieApart H.messages

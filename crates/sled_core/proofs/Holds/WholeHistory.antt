@@ -57,6 +57,13 @@ module _ (sum : List ℕ → ℕ) (size : ℕ) (site : SegmentPosition) (device 
   pub later_above : All (λ m. site.place + size ≤ m.place) holds.later
   later_above = behind_above sum size device fault (site.place + size) behind _ H.batches holds.later holds.others
 
+  -- one below the end of the first segment is none of those behind it
+  pub of_head : (m : Message) → Contains H.messages m → m.place < site.place + size → Contains holds.head m
+  of_head m there low = elim (which_part m there) [
+    | inl head ↦ head
+    | inr later ↦ absurd (let far = All-contains (λ (x : Message). site.place + size ≤ x.place) holds.later m later_above later in omega (arith, far, low))
+  ]
+
   -- All messages lie one behind another.
   pub whole_apart : length bytes ≤ size → LieApart H.messages
   whole_apart inside =

@@ -1,4 +1,4 @@
-use Rattle.std.proofs.Common.{◌≡◌, ◌∙◌, ◌≤◌, ◌+◌, ◌-◌, ap, sym, subst, refl, arith, rules, length, max, List, ℕ, pos, Some}
+use Rattle.std.proofs.Common.{◌≡◌, ◌∙◌, ◌≤◌, ◌<◌, ◌+◌, ◌-◌, ap, sym, subst, refl, arith, rules, length, max, List, ℕ, pos, Some}
 use Rattle.std.specs.VecDeque.{deque_len}
 use Rattle.std.proofs.lemmas.Option.{slice_get_within}
 use Rattle.std.specs.List.{Contains, slice_get}
@@ -16,9 +16,9 @@ use Rattle.sled_core.proofs.Holds.WholeLemmas.{holds-same}
 use Rattle.sled_core.proofs.Holds.KeptCalls.{goes_on_still, goes_on_quietly}
 use Rattle.sled_core.proofs.Holds.BufferEnds.{written_behind}
 use Rattle.sled_core.proofs.Holds.OpenTickets.{only_closed}
-use Rattle.sled_core.proofs.Holds.CompletedLemmas.{others_stay}
+use Rattle.sled_core.proofs.Holds.CompletedLemmas.{ends_within, others_stay}
 use Rattle.sled_core.proofs.Holds.Added.{added_there}
-use Rattle.sled_core.proofs.Holds.WholeHistory.{of_one}
+use Rattle.sled_core.proofs.Holds.WholeHistory.{of_head}
 use Rattle.sled_core.proofs.Holds.WholeLemmas.{holds-complete}
 use Rattle.sled_core.proofs.logger.Log.complete.Goals as goal
 
@@ -85,13 +85,15 @@ returns-clause-fits g c = λ H A f U m fits awaits out.
     let done = returns-clause-history g c H m fits.parts.holds awaits in
     let inside = at_there (λ x. (max 20 old.buffer.written_len ≤ x.from) × (x.from + x.len ≤ length old.buffer.bytes.items)) old.buffer.reserved.items (index_of c.args.ticket - old.buffer.gone) awaits.reserved awaits.there
     (chain_within (max 20 old.buffer.written_len) (length old.buffer.bytes.items) old.buffer.reserved.items fits.parts.holds.own.chain) in
-    let place : m.place ≡ old.site.place + awaits.reserved.from = ap (λ (x : Message). x.place) awaits.message in (
+    let place : m.place ≡ old.site.place + awaits.reserved.from = ap (λ (x : Message). x.place) awaits.message in
+    let within = ends_within g.C.Checksum.sum_of old.config.config.segment_size old.site _ old.fault old.buffer.bytes.items old.buffer.written_len old.buffer.sealed.items old.buffer.reserved.items (index_of c.args.ticket - old.buffer.gone) awaits.reserved _ fits.parts.holds.own awaits.there awaits.own.open_yet in
+    let low : m.place < old.site.place + old.config.config.segment_size = omega (arith, within, place, old.in_segment) in (
       done.0,
       done.1,
       record {
         reach = fits.reach;
         parts = fits-completed g.C.Checksum.sum_of old.config.config.segment_size old.site _ old.fault old.buffer.bytes.items old.buffer.written_len old.buffer.sealed.items old.buffer.reserved.items old.pins H A f U fits.parts _ _ _ _ done.0 m c.complete.ensures.from
-            old.config.config.least (omega (arith, c.complete.ensures.len, old.in_segment)) c.in_default.is done.2 done.1 (subst (λ (ms : List Message). Contains ms m) (of_one g.C.Checksum.sum_of _ _ _ _ _ _ _ _ done.0 done.2) (added_there H done.0 m done.1)) (omega (arith, inside.0, place)) old.buffer.head old.buffer.are out;
+            old.config.config.least (omega (arith, c.complete.ensures.len, old.in_segment)) c.in_default.is done.2 done.1 (of_head g.C.Checksum.sum_of _ _ _ _ _ _ _ _ done.0 done.2 m (added_there H done.0 m done.1) low) (omega (arith, inside.0, place)) old.buffer.head old.buffer.are out;
         slots = fits.slots;
       },
     )

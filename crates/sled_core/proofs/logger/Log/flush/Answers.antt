@@ -5,6 +5,7 @@ use Rattle.sled_core.specs.Running.{Fits}
 use Rattle.sled_core.proofs.Flush.FlushLemmas.{all_kept}
 use Rattle.sled_core.proofs.Holds.BufferEnds.{written_behind}
 use Rattle.sled_core.proofs.Holds.KeptCalls.{kept_still}
+use Rattle.sled_core.proofs.Holds.NoneBehind.{holds_alone}
 use Rattle.sled_core.proofs.Holds.RunningLemmas.{fits-acknowledged}
 use Rattle.sled_core.proofs.Holds.Writes.{flushed_end, flushed_none}
 use Rattle.sled_core.proofs.logger.Log.flush.Goals as goal
@@ -30,7 +31,7 @@ returns-clause-records g c = λ H holds.
     flushed_none g.D.Device.trace g.C.Checksum.sum_of c.args.self.now new c.write_below.ensures.position (omega (arith, c.reserved_len-to.ensures, c.in_ok-write_below.ensures.written))
     (λ past. c.write_below.ensures.none (omega (arith, c.reserved_len-to.ensures, past))) H later in
     let inside = written_behind new.buffer in
-    all_kept g.C.Checksum.sum_of _ _ _ _ _ _ _ _ H later left c.in_ok-write_below.ensures.answers.2 new.place_in_reach (omega (arith, inside, new.in_segment)) new.buffer.head new.buffer.are
+    all_kept g.C.Checksum.sum_of _ _ _ _ _ _ _ _ H (holds_alone new g.C.Checksum.sum_of _ H later) left c.in_ok-write_below.ensures.answers.2 new.place_in_reach (omega (arith, inside, new.in_segment)) new.buffer.head new.buffer.are
 
 pub returns-clause-acknowledges : goal.returns-clause-acknowledges
 unfolding Fits

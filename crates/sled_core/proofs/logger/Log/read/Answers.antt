@@ -27,6 +27,7 @@ use Rattle.sled_core.proofs.Read.ReadingLemmas.{if_ok}
 use Rattle.sled_core.proofs.Read.GivesLemmas.{gives}
 use Rattle.sled_core.proofs.Holds.HeldRecords.{fits_begins, inline_is}
 use Rattle.sled_core.proofs.Holds.ReadSeals.{seals_err, seals_none, seals_read}
+use Rattle.sled_core.proofs.Holds.NoneBehind.{holds_alone}
 use Rattle.sled_core.proofs.Holds.Settling.{err_reserved, err_settles, pos_abs, read_answers, read_reserved, read_settles, refuses_none, settled_record, written_still}
 use Rattle.sled_store.specs.Script.{Performs, after_all}
 use Rattle.sled_store.proofs.Traces.ScriptLemmas.{performs_nothing}
@@ -71,7 +72,7 @@ held_there g c H m holds there has at pointer =
     let device : State = state_of (g.D.Device.trace log.config.device) in
     let size : ℕ = log.config.config.segment_size in
     let place : c.unsigned_abs-place.result ≡ m.place = place_is g c ∙ ap unsigned_abs (sym at) in
-    let after = subst (λ (o : Option IoError). HoldsIn g.C.Checksum.sum_of (log_parts size log.site device o log.buffer.bytes.items log.buffer.written_len log.buffer.sealed.items log.buffer.reserved.items) [] H) c.in_ok-settle.ensures.answers.2 (c.in_ok-settle.ensures.keeps.history H holds) in
+    let after = subst (λ (o : Option IoError). HoldsIn g.C.Checksum.sum_of (log_parts size log.site device o log.buffer.bytes.items log.buffer.written_len log.buffer.sealed.items log.buffer.reserved.items) [] H) c.in_ok-settle.ensures.answers.2 (holds_alone log g.C.Checksum.sum_of _ H (c.in_ok-settle.ensures.keeps.history H holds)) in
     let written : IsWrittenPlace log m.place = subst (IsWrittenPlace log) place c.in_ok-settle.ensures.written in
     let here : log.site.place ≡ old.site.place = ap (λ (x : SegmentPosition). x.place) c.in_ok-settle.ensures.position.site in
     let still : (log.site.place ≤ m.place) ⊎ ((cut : ℕ) × (stable_place after.begun.first.stable ≤ cut) × Contains (table H cut m.page) m) = elim (cases_lt m.place old.site.place) [

@@ -10,7 +10,7 @@ use Rattle.sled_core.specs.Buffers.{IsHeaded, first_open_in, placeholder_head, r
 use Rattle.sled_core.specs.SealedBuffers.{sealed_count}
 use Rattle.sled_core.specs.Tickets.{place_of, index_of}
 use Rattle.sled_codec.specs.History.{History}
-use Rattle.sled_core.specs.Fits.{Holds, HoldsIn, current_reserved, log_parts}
+use Rattle.sled_core.specs.Fits.{Holds, HoldsIn, behind_of, current_reserved, log_parts}
 use Rattle.sled_core.specs.Running.{Fits}
 use Rattle.sled_core.proofs.Holds.RunningLemmas.{fits-moved}
 use Rattle.sled_core.proofs.Holds.KeptCalls.{kept_still, goes_on_quietly}
@@ -96,8 +96,8 @@ returns-clause-next g c =
 
 -- what the log held it still holds
 held_still : (g : given.Over) (c : goal.After-new-2 g) (H : History)
-    → HoldsIn g.C.Checksum.sum_of (log_parts c.args.self.now.config.config.segment_size c.args.self.now.site (state_of (g.D.Device.trace c.args.self.now.config.device)) c.args.self.now.fault c.args.self.now.buffer.bytes.items c.args.self.now.buffer.written_len c.args.self.now.buffer.sealed.items c.args.self.now.buffer.reserved.items) [] H
-    → HoldsIn g.C.Checksum.sum_of (log_parts c.args.self.now.config.config.segment_size c.args.self.now.site (state_of (g.D.Device.trace c.args.self.now.config.device)) c.args.self.now.fault c.append.new.self.bytes.items c.append.new.self.written_len c.append.new.self.sealed.items c.append.new.self.reserved.items) [] H
+    → HoldsIn g.C.Checksum.sum_of (log_parts c.args.self.now.config.config.segment_size c.args.self.now.site (state_of (g.D.Device.trace c.args.self.now.config.device)) c.args.self.now.fault c.args.self.now.buffer.bytes.items c.args.self.now.buffer.written_len c.args.self.now.buffer.sealed.items c.args.self.now.buffer.reserved.items) (behind_of c.args.self.now) H
+    → HoldsIn g.C.Checksum.sum_of (log_parts c.args.self.now.config.config.segment_size c.args.self.now.site (state_of (g.D.Device.trace c.args.self.now.config.device)) c.args.self.now.fault c.append.new.self.bytes.items c.append.new.self.written_len c.append.new.self.sealed.items c.append.new.self.reserved.items) (behind_of c.args.self.now) H
 held_still g c H holds =
     let old = c.args.self.now.buffer in
     let more : List ℕ = placeholder_head (head g c) ++ item g c in
@@ -142,7 +142,7 @@ pub invariant_of-self-4 : goal.invariant_of-self-4
 invariant_of-self-4 g c =
     let tail = length-short_header_tail c.in-Some-message_kind.message_kind c.serialized_size-item_len.result (c.args.self.now.site.place / c.args.self.now.config.config.segment_size) c.args.pid in
     let item_long = ap (λ n. length (short_number n)) c.serialized_size-item_len.ensures in
-    record { in_segment = omega (arith, c.append.ensures.len, ap length c.make_room.ensures.bytes, c.head_of-head.ensures.len, tail, item_long, c.serialized_size-item_len.ensures, c.requires.room.record_fits); place_in_reach = c.args.self.now.place_in_reach; slot_in_reach = c.args.self.now.slot_in_reach; account = c.args.self.now.account }
+    record { in_segment = omega (arith, c.append.ensures.len, ap length c.make_room.ensures.bytes, c.head_of-head.ensures.len, tail, item_long, c.serialized_size-item_len.ensures, c.requires.room.record_fits); place_in_reach = c.args.self.now.place_in_reach; slot_in_reach = c.args.self.now.slot_in_reach; alone = c.args.self.now.alone; follow = c.args.self.now.follow; account = c.args.self.now.account }
 
 -- It goes on fitting its history, and nothing is written.
 

@@ -1,7 +1,7 @@
 use Rattle.std.proofs.Common.{◌∷◌, ◌++◌, [], refl, arith, length}
 use Rattle.sled_codec.specs.History.{History}
 use Rattle.sled_store.specs.Device.{state_of}
-use Rattle.sled_core.specs.Fits.{Holds, HoldsIn, current_reserved, log_parts}
+use Rattle.sled_core.specs.Fits.{Holds, HoldsIn, behind_of, current_reserved, log_parts}
 use Rattle.sled_core.specs.Running.{Fits}
 use Rattle.sled_core.specs.SealedBuffers.{seal_at}
 use Rattle.sled_core.proofs.Holds.WholeLemmas.{holds-same}
@@ -36,8 +36,8 @@ returns-clause-keeps g c =
     let same = c.seal.ensures in
     let inside = old.behind in
     let begins = old.begins in
-    let held : (H : History) → HoldsIn g.C.Checksum.sum_of (log_parts log.config.config.segment_size log.site (state_of (g.D.Device.trace log.config.device)) log.fault old.bytes.items old.written_len old.sealed.items old.reserved.items) [] H
-    → HoldsIn g.C.Checksum.sum_of (log_parts log.config.config.segment_size log.site (state_of (g.D.Device.trace log.config.device)) log.fault c.seal.new.self.bytes.items c.seal.new.self.written_len c.seal.new.self.sealed.items c.seal.new.self.reserved.items) [] H =
+    let held : (H : History) → HoldsIn g.C.Checksum.sum_of (log_parts log.config.config.segment_size log.site (state_of (g.D.Device.trace log.config.device)) log.fault old.bytes.items old.written_len old.sealed.items old.reserved.items) (behind_of log) H
+    → HoldsIn g.C.Checksum.sum_of (log_parts log.config.config.segment_size log.site (state_of (g.D.Device.trace log.config.device)) log.fault c.seal.new.self.bytes.items c.seal.new.self.written_len c.seal.new.self.sealed.items c.seal.new.self.reserved.items) (behind_of log) H =
     λ H holds. holds-same g.C.Checksum.sum_of _ _ _ _ old.bytes.items _ old.written_len _ (old.sealed.items ++ seal_at (length old.bytes.items) (current_reserved log) ∷ []) _ old.reserved.items _ H same.bytes same.from c.in_ok-seal.ensures.sealed same.reserved
     (holds-sealed g.C.Checksum.sum_of _ _ _ _ old.bytes.items old.written_len old.sealed.items old.reserved.items H holds (current_reserved log) log.in_segment (omega (arith, inside, begins))) in
     record {

@@ -5,7 +5,7 @@ use Rattle.sled_store.proofs.Traces.MomentLemmas.{at_last}
 use Rattle.sled_store.proofs.Traces.ScriptLemmas.{later_performed}
 use Rattle.sled_core.specs.Buffers.{none_open}
 use Rattle.sled_core.specs.declared.iobuf.Sealed.{Sealed}
-use Rattle.sled_core.specs.Fits.{Holds, HoldsIn, log_parts, writing_current}
+use Rattle.sled_core.specs.Fits.{Holds, HoldsIn, behind_of, log_parts, writing_current}
 use Rattle.sled_core.specs.Running.{Fits}
 use Rattle.sled_core.proofs.Flush.FlushFits.{fits_faulty, fits_same_device, flush_crash, flush_left, fits_written, flush_names, slots_flushed}
 use Rattle.sled_core.proofs.Flush.FlushCalls.{holds-flush}
@@ -81,7 +81,7 @@ returns-clause-keeps g c =
         crash = λ H A f U fits. flush_crash g.D.Device.trace g.C.Checksum.sum_of old H A f U fits.parts c.requires.unsealed c.requires.ended c.requires.some c.requires.fault _ came;
       };
       history = λ H holds.
-          let here = subst (λ (l : List Sealed). HoldsIn g.C.Checksum.sum_of (log_parts old.config.config.segment_size old.site (state_of (g.D.Device.trace old.config.device)) old.fault old.buffer.bytes.items old.buffer.written_len l old.buffer.reserved.items) [] H) c.requires.unsealed holds in
+          let here = subst (λ (l : List Sealed). HoldsIn g.C.Checksum.sum_of (log_parts old.config.config.segment_size old.site (state_of (g.D.Device.trace old.config.device)) old.fault old.buffer.bytes.items old.buffer.written_len l old.buffer.reserved.items) (behind_of old) H) c.requires.unsealed holds in
           holds-same g.C.Checksum.sum_of _ _ _ _ _ _ _ _ _ _ _ _ H c.advance.ensures.bytes c.advance.ensures.from c.advance.ensures.sealed c.advance.ensures.reserved
           (holds-flush g.C.Checksum.sum_of _ _ _ _ _ _ _ H here behind old.in_segment old.config.config.least old.place_in_reach old.slot_in_reach c.requires.ended c.requires.some c.requires.fault _
           (ap (λ (t : Trace). (state_of t).log) made) (ap (λ (s : NamesState). s.file) c.write_out.ensures.names));
