@@ -2,6 +2,7 @@ pub mod Around
 pub mod Begins
 pub mod Calls
 pub mod Completes
+pub mod FitsBegun
 pub mod FitsMoved
 pub mod Promoted
 pub mod Stays
