@@ -6,5 +6,6 @@ pub mod FitsBegun
 pub mod FitsCompleted
 pub mod FitsMoved
 pub mod Promoted
+pub mod Shorter
 pub mod Stays
 pub mod Writes
