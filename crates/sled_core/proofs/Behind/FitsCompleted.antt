@@ -168,7 +168,7 @@ module _ (sum : List ℕ → ℕ) (size : ℕ) (site : SegmentPosition) (device 
         near = fits.near;
         ends = ends_new;
         closes = subst (CloseBelow reach) (sym adds.batches) fits.closes;
-        marked = marks_same sum (site.place + from) pre s s' post its_site so_far head fits.marked;
+        marked = marks_same sum (site.place + from) pre s s' post its_site (λ none. let was : s.written_len ≡ 0 = sym so_far ∙ none in (was, head was)) fits.marked;
         among = λ fine none. subst (λ (z : SnapshotModel). StandsAmong sum size device.log.bytes site from others' reach H' z) same (alone_new none);
         beyond = λ to far fine none. subst (λ (z : SnapshotModel). StandsAmong sum size (padded to device.log.bytes) site from others' reach H' z) same (beyond_new to far none);
         blobs = blobs_new;

@@ -28,16 +28,16 @@ begun_same pre s s' post site so_far =
     let one : begun_segment s' ≡ begun_segment s = cc in
     map-append begun_segment pre (s' ∷ post) ∙ ap (λ (y : BegunSegment). map begun_segment pre ++ y ∷ map begun_segment post) one ∙ sym (map-append begun_segment pre (s ∷ post))
 
--- Their marks lie below the same place, where nothing is written of it and its header is the same.
-pub marks_same : (sum : List ℕ → ℕ) (end : ℕ) (pre : List SegmentParts) (s s' : SegmentParts) (post : List SegmentParts) → s'.site ≡ s.site → s'.written_len ≡ s.written_len → (s.written_len ≡ 0 → take 20 s'.bytes ≡ take 20 s.bytes)
+-- Their marks lie below the same place, where so it was with that one too if nothing of it is written now, and its header is the same.
+pub marks_same : (sum : List ℕ → ℕ) (end : ℕ) (pre : List SegmentParts) (s s' : SegmentParts) (post : List SegmentParts) → s'.site ≡ s.site → (s'.written_len ≡ 0 → (s.written_len ≡ 0) × (take 20 s'.bytes ≡ take 20 s.bytes))
     → MarksBelow sum end (pre ++ s ∷ post) → MarksBelow sum end (pre ++ s' ∷ post)
-marks_same sum end pre s s' post site so_far head marked x among none mark header = elim (Contains-append_cases pre (s' ∷ post) x among) [
+marks_same sum end pre s s' post site head marked x among none mark header = elim (Contains-append_cases pre (s' ∷ post) x among) [
   | inl before ↦ marked x (Contains-append_left pre (s ∷ post) x before) none mark header
   | inr from_here ↦ elim (in_cases s' x post from_here) [
     | inl same ↦ (
-        let none_yet : s.written_len ≡ 0 = sym so_far ∙ ap (λ (w : SegmentParts). w.written_len) same ∙ none in
+        let was = head (ap (λ (w : SegmentParts). w.written_len) same ∙ none) in
         let is : take 20 s'.bytes ≡ short_header sum (pos s'.site.place) mark = subst (λ (w : SegmentParts). take 20 w.bytes ≡ short_header sum (pos w.site.place) mark) (sym same) header in
-        marked s (Contains-append_right pre (s ∷ post) s (in_first s post)) none_yet mark (sym (head none_yet) ∙ is ∙ ap (λ (p : SegmentPosition). short_header sum (pos p.place) mark) site))
+        marked s (Contains-append_right pre (s ∷ post) s (in_first s post)) was.0 mark (sym was.1 ∙ is ∙ ap (λ (p : SegmentPosition). short_header sum (pos p.place) mark) site))
     | inr behind ↦ marked x (Contains-append_right pre (s ∷ post) x (in_rest s x post behind)) none mark header
   ]
 ]
@@ -61,7 +61,7 @@ module _ (sum : List ℕ → ℕ) (size : ℕ) (site : SegmentPosition) (device 
         near = fits.near;
         ends = fits.ends;
         closes = fits.closes;
-        marked = marks_same sum (site.place + from) pre s s' post its_site so_far head fits.marked;
+        marked = marks_same sum (site.place + from) pre s s' post its_site (λ none. let was : s.written_len ≡ 0 = sym so_far ∙ none in (was, head was)) fits.marked;
         among = λ ok none. subst (λ (first : SnapshotModel). StandsAmong sum size device.log.bytes site from others' reach H first) same (subst (λ (l : List BegunSegment). StandsAmong sum size device.log.bytes site from l reach H fits.holds.begun.first) lie (fits.among ok none));
         beyond = λ to far ok none. subst (λ (first : SnapshotModel). StandsAmong sum size (padded to device.log.bytes) site from others' reach H first) same
             (subst (λ (l : List BegunSegment). StandsAmong sum size (padded to device.log.bytes) site from l reach H fits.holds.begun.first) lie (fits.beyond to far ok none));
