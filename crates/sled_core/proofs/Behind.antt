@@ -5,6 +5,7 @@ pub mod Completes
 pub mod FitsBegun
 pub mod FitsCompleted
 pub mod FitsMoved
+pub mod FitsWritten
 pub mod OneWrite
 pub mod Promoted
 pub mod Shorter

@@ -194,7 +194,7 @@ module _ (sum : List ℕ → ℕ) (size : ℕ) (site : SegmentPosition) (device 
       (are_split (x ∷ xs) split) (rise_split (x ∷ xs) split) (lies (x ∷ xs) split).2 (s.site.place / size) here.segment.stand (laid_old (x ∷ xs) split) reach H first among now left no_more leaves {placed = placed} only_own
 
   -- All of it, with zeros behind the end of the file, where this reaches its slot.
-  whole_one : (front : List Sealed) → s.sealed ≡ front ++ b ∷ rest → NoHeaderOfZeros sum → (reach : ℕ) (first : SnapshotModel) → least_place size first ≤ site.place → (to : ℕ) → s.site.slot ≤ length (padded to old)
+  pub whole_one : (front : List Sealed) → s.sealed ≡ front ++ b ∷ rest → NoHeaderOfZeros sum → (reach : ℕ) (first : SnapshotModel) → least_place size first ≤ site.place → (to : ℕ) → s.site.slot ≤ length (padded to old)
       → StandsAmong sum size (padded to old) site from (before ++ y ∷ after) reach H first
       → StandsAmong sum size (overwritten (padded to old) (s.site.slot + at front) (asked front)) site from (before ++ grown_one y (stop front) ∷ after) reach H first
   whole_one [] split none reach first least to there among =
