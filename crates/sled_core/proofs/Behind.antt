@@ -3,6 +3,7 @@ pub mod Begins
 pub mod Calls
 pub mod Completes
 pub mod FitsBegun
+pub mod FitsCalls
 pub mod FitsCompleted
 pub mod FitsMoved
 pub mod FitsWritten
