@@ -80,7 +80,7 @@ module _ (sum : List ℕ → ℕ) (size : ℕ) (site : SegmentPosition) (device 
     -- or its message is completed.
     pub behind-fits-completed : 256 ≤ size → (short : length bytes ≤ size) → fault ≡ None → FirstUnwritten s.sealed → 0 < pins
         → FitsIn sum (log_parts size site device fault bytes from bs rs) (pre ++ now_with s (written s.bytes r.from (completing r)) s.written_len (one_ended i s.sealed) (set s.reserved i (ended Completed r)) ∷ post) reach pins
-            (completed_history sum size site device fault bytes from bs rs H pre s post its.holds short i r there is_open) A f (message_in s.site s.bytes r ∷ U)
+        (completed_history sum size site device fault bytes from bs rs H pre s post its.holds short i r there is_open) A f (message_in s.site s.bytes r ∷ U)
     behind-fits-completed big short whole fresh out =
         let inside = here.inside in
         behind-completed sum size site device fault bytes from bs rs pins H A f U pre s post its (now_with s (written s.bytes r.from (completing r)) s.written_len (one_ended i s.sealed) (set s.reserved i (ended Completed r))) refl refl (λ none. head_kept r.sum r.kind)

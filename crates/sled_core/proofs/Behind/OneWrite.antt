@@ -203,9 +203,9 @@ module _ (sum : List ℕ → ℕ) (size : ℕ) (site : SegmentPosition) (device 
       (let up = (front_low sum size site device fault bytes from bs rs H pre s post holds short).0 in omega (arith, least, up))
   whole_one (x ∷ xs) split none reach first least to there among =
       by x.is_written (fresh_split (x ∷ xs) split)
-      where
-        by : (o : Bool) → o ≡ false → StandsAmong sum size (overwritten (padded to old) (s.site.slot + at (x ∷ xs)) (asked (x ∷ xs))) site from (before ++ grown_one y (if o then run_end x.end (xs ++ now_written b ∷ rest) else s.written_len) ∷ after) reach H first
-        by true is = absurd (let never : ⊥ = cc in never)
-        by false is =
-            other_behind_written sum none size big (padded to old) site from (before ++ y ∷ after) y (Contains-append_right before (y ∷ after) y (in_first y after)) here.segment.slot_begins s.bytes begins s.reserved x xs b rest (fresh_split (x ∷ xs) split)
-            (are_split (x ∷ xs) split) (rise_split (x ∷ xs) split) (lies (x ∷ xs) split).2 (s.site.place / size) here.segment.stand (laid_split (x ∷ xs) split to) reach H first among there
+    where
+      by : (o : Bool) → o ≡ false → StandsAmong sum size (overwritten (padded to old) (s.site.slot + at (x ∷ xs)) (asked (x ∷ xs))) site from (before ++ grown_one y (if o then run_end x.end (xs ++ now_written b ∷ rest) else s.written_len) ∷ after) reach H first
+      by true is = absurd (let never : ⊥ = cc in never)
+      by false is =
+          other_behind_written sum none size big (padded to old) site from (before ++ y ∷ after) y (Contains-append_right before (y ∷ after) y (in_first y after)) here.segment.slot_begins s.bytes begins s.reserved x xs b rest (fresh_split (x ∷ xs) split)
+          (are_split (x ∷ xs) split) (rise_split (x ∷ xs) split) (lies (x ∷ xs) split).2 (s.site.place / size) here.segment.stand (laid_split (x ∷ xs) split to) reach H first among there
