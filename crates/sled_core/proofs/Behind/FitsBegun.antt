@@ -1,12 +1,11 @@
 -- A further segment begins behind all that were begun, in a slot that has zeros: the log fits the history that it fitted.
-use Rattle.std.proofs.Common.{◌≡◌, ◌≢◌, ◌∙◌, ◌≤◌, ◌+◌, ◌<ℤ◌, ◌%◌, ℕ, ℤ, pos, List, [], ◌∷◌, ◌++◌, get_or, length, map, take, Option, None, sym, ap, subst, arith, inl, inr}
+use Rattle.std.proofs.Common.{◌≡◌, ◌≢◌, ◌∙◌, ◌≤◌, ◌+◌, ◌<ℤ◌, ◌%◌, ℕ, ℤ, pos, List, [], ◌∷◌, ◌++◌, length, map, take, Option, None, sym, subst, arith, inl, inr}
 use Rattle.std.specs.List.{Contains}
 use Rattle.std.specs.declared.io.Error.{Error as IoError}
 use Rattle.std.proofs.lemmas.List.{map-append}
 use Rattle.std.proofs.lemmas.List.Elements.{Contains-append_cases}
 use Rattle.sled_codec.specs.History.{Message, History}
 use Rattle.sled_codec.specs.Record.{short_header}
-use Rattle.sled_codec.specs.Snapshots.{SnapshotModel}
 use Rattle.sled_store.specs.Device.{State}
 use Rattle.sled_store.proofs.Segments.Elements.{in_cases, in_nothing}
 use Rattle.sled_core.specs.declared.iobuf.Reserved.{Reserved}
@@ -20,7 +19,6 @@ use Rattle.sled_core.specs.Running.{FitsIn}
 use Rattle.sled_core.specs.SealedBuffers.{AreZeros}
 use Rattle.sled_core.proofs.Behind.Around.{behind_place}
 use Rattle.sled_core.proofs.Behind.Begins.{begun_with, behind-begins, far, next_above, next_apart}
-use Rattle.sled_core.proofs.Behind.FitsMoved.{MarksBelow}
 use Rattle.sled_core.proofs.Flush.Padded.{padded_get}
 use Rattle.sled_core.proofs.Reached.NextSegment.{begins_behind}
 

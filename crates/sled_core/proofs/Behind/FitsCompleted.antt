@@ -1,11 +1,11 @@
 -- A message is completed in a segment behind the first one: the log fits the history with it, and a reader finds what he found.
-use Rattle.std.proofs.Common.{◌≡◌, ◌≢◌, ◌∙◌, ◌⊎◌, ◌≤◌, ◌<◌, ◌+◌, ℕ, pos, List, [], ◌∷◌, ◌++◌, length, map, take, Option, None, refl, sym, ap, subst, arith, inl, inr}
+use Rattle.std.proofs.Common.{◌≡◌, ◌∙◌, ◌≤◌, ◌<◌, ◌+◌, ℕ, List, ◌∷◌, ◌++◌, length, map, take, Option, None, sym, ap, subst, arith, inl, inr}
 use Rattle.std.specs.List.{All, Contains}
 use Rattle.std.specs.declared.io.Error.{Error as IoError}
 use Rattle.std.proofs.lemmas.Bool.{cases_lt}
 use Rattle.std.proofs.lemmas.List.Elements.{All-contains, Contains-append_cases, Contains-append_right}
 use Rattle.sled_codec.specs.History.{AddsMessage, History, Message}
-use Rattle.sled_codec.specs.Snapshots.{SnapshotModel, stable_place}
+use Rattle.sled_codec.specs.Snapshots.{SnapshotModel}
 use Rattle.sled_store.specs.Device.{State}
 use Rattle.sled_store.proofs.Names.OneBegin.{one_begin}
 use Rattle.sled_store.proofs.Segments.Elements.{in_first}

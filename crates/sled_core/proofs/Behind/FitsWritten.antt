@@ -1,11 +1,11 @@
 -- A sealed buffer of a segment behind the first one is written, and synced: at each moment a crash leaves what can be recovered, and behind it the log fits the history that it fitted, with that segment as far as it is written then.
 use Rattle.std.proofs.Common.{◌≡◌, ◌∙◌, ◌≤◌, ◌<◌, ◌+◌, ◌-◌, ◌%◌, ◌^◌, ℕ, max, suc, true, List, [], ◌∷◌, ◌++◌, length, map, replicate, take, drop, Option, None, Some, refl, sym, ap, subst, arith, inl, inr}
-use Rattle.std.specs.List.{Contains, slice_get}
+use Rattle.std.specs.List.{slice_get}
 use Rattle.std.specs.declared.io.Error.{Error as IoError}
 use Rattle.std.proofs.lemmas.Bool.{cases_lt}
 use Rattle.std.proofs.lemmas.Grind.{same_number_lists}
 use Rattle.sled_codec.specs.History.{History, Message}
-use Rattle.sled_codec.specs.Snapshots.{SnapshotModel, stable_place}
+use Rattle.sled_codec.specs.Snapshots.{SnapshotModel}
 use Rattle.sled_store.specs.Device.{LeavesLog, State, Synced, Wrote, at_rest, overwritten, step}
 use Rattle.sled_store.specs.Foreign.{NoForeignLog}
 use Rattle.sled_store.specs.Script.{Along}
@@ -13,14 +13,13 @@ use Rattle.sled_store.proofs.Histories.Ascending.{Ascends}
 use Rattle.sled_core.specs.declared.iobuf.Reserved.{Reserved}
 use Rattle.sled_core.specs.declared.iobuf.Sealed.{Sealed}
 use Rattle.sled_core.specs.declared.iobuf.SegmentPosition.{SegmentPosition}
-use Rattle.sled_core.specs.Fits.{HoldsIn, HoldsNext, SegmentParts, begun_segment, log_parts}
+use Rattle.sled_core.specs.Fits.{HoldsIn, SegmentParts, begun_segment, log_parts}
 use Rattle.sled_core.specs.LogFile.{padded}
 use Rattle.sled_core.specs.Reached.{BegunSegment, StandsAmong}
 use Rattle.sled_core.specs.Recoverable.{LeavesRecoverable, NoHeaderOfZeros}
 use Rattle.sled_core.specs.Running.{FitsIn}
 use Rattle.sled_core.specs.SealedBuffers.{AreSealed, FirstUnwritten, behind_run, bytes_between, is_ready, now_written, run_count, run_end, sealed_end, written_at}
-use Rattle.sled_core.specs.Tail.{least_place}
-use Rattle.sled_core.proofs.Behind.Around.{begun_is, behind_place, held_around, now_with, stays_below}
+use Rattle.sled_core.proofs.Behind.Around.{begun_is, now_with}
 use Rattle.sled_core.proofs.Behind.Calls.{held_here}
 use Rattle.sled_core.proofs.Behind.FitsMoved.{marks_same}
 use Rattle.sled_core.proofs.Behind.OneWrite.{reaches, some_asked, torn_one, whole_one}
@@ -33,7 +32,7 @@ use Rattle.sled_core.proofs.Reached.SegmentsBeside.{grown_one}
 use Rattle.sled_core.proofs.Reached.StandsTo.{StandsTo}
 use Rattle.sled_core.proofs.Reserve.Ranges.{there_split}
 use Rattle.sled_core.proofs.Sealed.Marked.{ready_closed, written_are, written_around}
-use Rattle.sled_core.proofs.Sealed.Runs.{IsRun, run_of}
+use Rattle.sled_core.proofs.Sealed.Runs.{run_of}
 use Rattle.sled_core.proofs.Sealed.WriteMoments as moments
 use Rattle.sled_core.proofs.Torn.TornLemmas.{after_write}
 

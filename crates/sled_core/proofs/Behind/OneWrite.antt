@@ -1,21 +1,20 @@
 -- A sealed buffer of a segment behind the first one is written, the first one that isn't or another: what a crash leaves of it stands as before, and so does the file behind it, with that segment as far as it is written then.
-use Rattle.std.proofs.Common.{◌≡◌, ◌⊎◌, ◌∙◌, ◌≤◌, ◌<◌, ◌<ℤ◌, ◌+◌, ◌-◌, ◌*◌, ◌/◌, ◌^◌, ℕ, pos, max, Bool, true, false, if◌then◌else◌, List, [], ◌∷◌, ◌++◌, length, map, take, drop, Option, None, refl, sym, ap, subst, arith, inl, inr}
+use Rattle.std.proofs.Common.{◌≡◌, ◌⊎◌, ◌∙◌, ◌≤◌, ◌<◌, ◌<ℤ◌, ◌+◌, ◌/◌, ◌^◌, ℕ, pos, max, Bool, true, false, if◌then◌else◌, List, [], ◌∷◌, ◌++◌, length, map, take, drop, Option, None, refl, sym, ap, subst, arith, inl, inr}
 use Rattle.std.specs.List.{All, Contains}
 use Rattle.std.specs.declared.io.Error.{Error as IoError}
 use Rattle.std.proofs.lemmas.Bool.{cases_lt}
 use Rattle.std.proofs.lemmas.List.{take-append-drop}
 use Rattle.std.proofs.lemmas.List.Elements.{All-contains, All-drop, Contains-append_cases, Contains-append_left, Contains-append_right}
 use Rattle.sled_codec.specs.History.{History, Message}
-use Rattle.sled_codec.specs.Snapshots.{SnapshotModel, stable_place}
+use Rattle.sled_codec.specs.Snapshots.{SnapshotModel}
 use Rattle.sled_store.specs.Device.{State, LeavesLog, overwritten}
 use Rattle.sled_store.specs.Foreign.{NoForeignLog}
-use Rattle.sled_store.proofs.Histories.Ascending.{Ascends}
 use Rattle.sled_store.proofs.Segments.Elements.{in_first}
 use Rattle.sled_core.specs.declared.iobuf.Reserved.{Reserved}
 use Rattle.sled_core.specs.declared.iobuf.Sealed.{Sealed}
 use Rattle.sled_core.specs.declared.iobuf.SegmentPosition.{SegmentPosition}
 use Rattle.sled_core.specs.Buffers.{IsChain, completed_in}
-use Rattle.sled_core.specs.Fits.{HasMark, HoldsIn, HoldsNext, HoldsSegment, SegmentParts, begun_segment, log_parts}
+use Rattle.sled_core.specs.Fits.{HasMark, HoldsIn, HoldsNext, SegmentParts, begun_segment, log_parts}
 use Rattle.sled_core.specs.LogFile.{IsLogFile, padded}
 use Rattle.sled_core.specs.Reached.{BegunSegment, StandsAmong}
 use Rattle.sled_core.specs.Recoverable.{NoHeaderOfZeros}
@@ -27,8 +26,8 @@ use Rattle.sled_core.proofs.Behind.FitsCompleted.{front_low, of_segment}
 use Rattle.sled_core.proofs.Behind.FitsMoved.{MarksBelow}
 use Rattle.sled_core.proofs.Flush.Completed.{has_only}
 use Rattle.sled_core.proofs.Flush.FlushLemmas.{on_file}
-use Rattle.sled_core.proofs.Flush.Padded.{length-padded, overwritten-further, padded_get, padded_long, padded_none}
-use Rattle.sled_core.proofs.Flush.SealedFile.{chain_done, stop_up}
+use Rattle.sled_core.proofs.Flush.Padded.{length-padded, padded_get}
+use Rattle.sled_core.proofs.Flush.SealedFile.{chain_done}
 use Rattle.sled_core.proofs.Holds.WholeHistory.{whole_ascends}
 use Rattle.sled_core.proofs.Reached.BufferPath.{HasOnly, mark_same}
 use Rattle.sled_core.proofs.Reached.SegmentsBeside.{grown_one}

@@ -1,9 +1,8 @@
 -- Zeros behind the end of a log file can be left out, where it ends with a slot: the file stands as it did with them.
-use Rattle.std.proofs.Common.{◌≡◌, ◌∙◌, ◌+◌, ◌*◌, ◌/◌, ◌%◌, ◌≤◌, ◌<◌, ◌-◌, ℕ, pos, List, ◌++◌, length, replicate, get_or, sym, arith, inl, inr}
-use Rattle.std.specs.List.{Contains}
+use Rattle.std.proofs.Common.{◌≡◌, ◌∙◌, ◌+◌, ◌*◌, ◌/◌, ◌%◌, ◌≤◌, ◌-◌, ℕ, pos, List, length, replicate, sym, arith, inl, inr}
 use Rattle.std.proofs.lemmas.Bool.{cases_lt}
 use Rattle.std.proofs.lemmas.List.{get_or_past}
-use Rattle.sled_codec.specs.History.{History, Message, table}
+use Rattle.sled_codec.specs.History.{History}
 use Rattle.sled_codec.specs.Places.{part}
 use Rattle.sled_codec.specs.Snapshots.{SnapshotModel}
 use Rattle.sled_core.specs.declared.iobuf.SegmentPosition.{SegmentPosition}
