@@ -52,6 +52,7 @@ module _ (sum : List ℕ → ℕ) (size : ℕ) (site : SegmentPosition) (device 
       (next_apart sum size site device fault bytes from bs rs H behind fits.holds big short next text at aligned header_long mark other others zeros)
       (λ i low high. clean i low (omega (arith, high, big))) among)
 
+  -- The log fits the history, with that segment behind the others.
   pub behind-fits-begun : FitsIn sum (log_parts size site device fault bytes from bs rs) (behind ++ begun ∷ []) reach pins H A f U
   behind-fits-begun = record {
     holds = holds_begun;

@@ -38,7 +38,7 @@ module _ (sum : List ℕ → ℕ) (size : ℕ) (site : SegmentPosition) (device 
   abbrev here : HoldsNext sum size device fault (behind_place size (site.place + size) pre) s (stays_below sum size site device fault bytes from bs rs H pre s post its.holds) H.batches own_history.messages
   here = held_here sum size site device fault bytes from bs rs H pre s post its.holds
 
-  -- Behind its bytes its header is the same,
+  -- its header is the same with more behind its bytes
   head_more : (more : List ℕ) → take 20 (s.bytes ++ more) ≡ take 20 s.bytes
   head_more more = let begun = grows sum size s.site device fault s.bytes s.written_len s.sealed s.reserved own_history here.segment in take-append-le 20 s.bytes more (omega (arith, begun))
 
