@@ -2,6 +2,13 @@ pub mod Around
 pub mod Begins
 pub mod Calls
 pub mod Completes
+pub mod FitsBegun
+pub mod FitsCalls
+pub mod FitsCompleted
+pub mod FitsMoved
+pub mod FitsWritten
+pub mod OneWrite
 pub mod Promoted
+pub mod Shorter
 pub mod Stays
 pub mod Writes

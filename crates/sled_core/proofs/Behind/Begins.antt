@@ -98,7 +98,7 @@ module _ (sum : List ℕ → ℕ) (size : ℕ) (site : SegmentPosition) (device 
   abbrev none : History
   none = record { messages = []; batches = H.batches }
 
-  far : site.place + size ≤ next.place
+  pub far : site.place + size ≤ next.place
   far = let up = (behind_below sum size device fault (site.place + size) behind stays H.batches holds.later holds.others).0 in omega (arith, up, at)
 
   -- It lies behind all that were begun, and apart from them.

@@ -1,0 +1,210 @@
+-- A sealed buffer of a segment behind the first one is written, the first one that isn't or another: what a crash leaves of it stands as before, and so does the file behind it, with that segment as far as it is written then.
+use Rattle.std.proofs.Common.{◌≡◌, ◌⊎◌, ◌∙◌, ◌≤◌, ◌<◌, ◌<ℤ◌, ◌+◌, ◌/◌, ◌^◌, ℕ, pos, max, Bool, true, false, if◌then◌else◌, List, [], ◌∷◌, ◌++◌, length, map, take, drop, Option, None, refl, sym, ap, subst, arith, inl, inr}
+use Rattle.std.specs.List.{All, Contains}
+use Rattle.std.specs.declared.io.Error.{Error as IoError}
+use Rattle.std.proofs.lemmas.Bool.{cases_lt}
+use Rattle.std.proofs.lemmas.List.{take-append-drop}
+use Rattle.std.proofs.lemmas.List.Elements.{All-contains, All-drop, Contains-append_cases, Contains-append_left, Contains-append_right}
+use Rattle.sled_codec.specs.History.{History, Message}
+use Rattle.sled_codec.specs.Snapshots.{SnapshotModel}
+use Rattle.sled_store.specs.Device.{State, LeavesLog, overwritten}
+use Rattle.sled_store.specs.Foreign.{NoForeignLog}
+use Rattle.sled_store.proofs.Segments.Elements.{in_first}
+use Rattle.sled_core.specs.declared.iobuf.Reserved.{Reserved}
+use Rattle.sled_core.specs.declared.iobuf.Sealed.{Sealed}
+use Rattle.sled_core.specs.declared.iobuf.SegmentPosition.{SegmentPosition}
+use Rattle.sled_core.specs.Buffers.{IsChain, completed_in}
+use Rattle.sled_core.specs.Fits.{HasMark, HoldsIn, HoldsNext, SegmentParts, begun_segment, log_parts}
+use Rattle.sled_core.specs.LogFile.{IsLogFile, padded}
+use Rattle.sled_core.specs.Reached.{BegunSegment, StandsAmong}
+use Rattle.sled_core.specs.Recoverable.{NoHeaderOfZeros}
+use Rattle.sled_core.specs.SealedBuffers.{AreSealed, FirstUnwritten, Laid, bytes_between, now_written, run_count, run_end, sealed_end}
+use Rattle.sled_core.specs.Tail.{least_place}
+use Rattle.sled_core.proofs.Behind.Around.{HoldAround, behind_place, held_around, stays_below}
+use Rattle.sled_core.proofs.Behind.Calls.{held_here}
+use Rattle.sled_core.proofs.Behind.FitsCompleted.{front_low, of_segment}
+use Rattle.sled_core.proofs.Behind.FitsMoved.{MarksBelow}
+use Rattle.sled_core.proofs.Flush.Completed.{has_only}
+use Rattle.sled_core.proofs.Flush.FlushLemmas.{on_file}
+use Rattle.sled_core.proofs.Flush.Padded.{length-padded, padded_get}
+use Rattle.sled_core.proofs.Flush.SealedFile.{chain_done}
+use Rattle.sled_core.proofs.Holds.WholeHistory.{whole_ascends}
+use Rattle.sled_core.proofs.Reached.BufferPath.{HasOnly, mark_same}
+use Rattle.sled_core.proofs.Reached.SegmentsBeside.{grown_one}
+use Rattle.sled_core.proofs.Reached.StandsTo.{StandsTo}
+use Rattle.sled_core.proofs.Reserve.Entries.{some_long}
+use Rattle.sled_core.proofs.Reserve.Ranges.{chain_grows, completed-append, completed_between}
+use Rattle.sled_core.proofs.Sealed.Ended.{chain_rest, ends_rise}
+use Rattle.sled_core.proofs.Sealed.HeadSealed.{run_below}
+use Rattle.sled_core.proofs.Sealed.LaidLemmas.{EndsRise, laid_same}
+use Rattle.sled_core.proofs.Sealed.OneWritten.{has_written, length-between, rises_at}
+use Rattle.sled_core.proofs.Sealed.OtherBehind.{other_behind_written, torn_other_behind}
+use Rattle.sled_core.proofs.Sealed.OtherSealed.{other_sealed_written, torn_other_sealed}
+use Rattle.sled_core.proofs.Torn.TornLemmas.{after_write}
+
+-- Of what begins in a buffer the messages of the reservations at its front are all that begins in their part of it.
+front_only : (site : SegmentPosition) (bytes : List ℕ) (H : History) (rs : List Reserved) (n low stop end : ℕ) → IsChain stop (drop n rs) end → All (λ r. 0 < r.len) (drop n rs)
+    → HasOnly H (completed_in site bytes rs) low (site.place + end) → HasOnly H (completed_in site bytes (take n rs)) low (site.place + stop)
+front_only site bytes H rs n low stop end chain some all =
+    let far = chain_grows stop end (drop n rs) chain in
+    let mine : List Message = completed_in site bytes (take n rs) in
+    let others : List Message = completed_in site bytes (drop n rs) in
+    let parts : completed_in site bytes rs ≡ mine ++ others = ap (λ (l : List Reserved). completed_in site bytes l) (sym (take-append-drop n rs)) ∙ completed-append site bytes (take n rs) (drop n rs) in
+    let behind = completed_between site bytes stop end (drop n rs) chain some in
+    record {
+      there = λ m among. all.there m (subst (λ (ms : List Message). Contains ms m) (sym parts) (Contains-append_left mine others m among));
+      only = λ m among. elim (all.only m among) [
+        | inl one ↦ elim (Contains-append_cases mine others m (subst (λ (ms : List Message). Contains ms m) parts one)) [
+          | inl here ↦ inl here
+          | inr later ↦ (let b = All-contains (λ (y : Message). (site.place + stop ≤ y.place) × (y.place < site.place + end) × (y.place + y.size ≤ site.place + end)) others m behind later in inr (inr b.0))
+        ]
+        | inr (inl before) ↦ inr (inl before)
+        | inr (inr after) ↦ inr (inr (omega (arith, after, far)))
+      ];
+      no_batch = λ c among. elim (all.no_batch c among) [ inl before ↦ inl before | inr after ↦ inr (omega (arith, after, far)) ];
+    }
+
+-- nothing is written of a segment, or its header is
+none_or_header : (sum : List ℕ → ℕ) (size : ℕ) (log : List ℕ) (site : SegmentPosition) (from : ℕ) (messages : List Message) (stays : Message → Type 0) → IsLogFile sum size log site from messages stays → (from ≡ 0) ⊎ (20 ≤ from)
+none_or_header sum size log site from messages stays file = elim (cases_lt 0 from) [ inl some ↦ inr (file.begun some) | inr none ↦ inl (omega (arith, none)) ]
+
+module _ (sum : List ℕ → ℕ) (size : ℕ) (site : SegmentPosition) (device : State) (fault : Option IoError) (bytes : List ℕ) (from : ℕ) (bs : List Sealed) (rs : List Reserved) (H : History)
+    (pre : List SegmentParts) (s : SegmentParts) (post : List SegmentParts) (holds : HoldsIn sum (log_parts size site device fault bytes from bs rs) (pre ++ s ∷ post) H) (marked : MarksBelow sum (site.place + from) (pre ++ s ∷ post))
+    (big : 256 ≤ size) (whole : fault ≡ None) (short : length bytes ≤ size) (place_small : s.site.place + size < 2 ^ 63) (slot_small : s.site.slot + size < 2 ^ 63) (fresh : FirstUnwritten s.sealed)
+    (b : Sealed) (rest : List Sealed) (closed : b.open_count ≡ 0) where
+  abbrev stays : Message → Type 0
+  stays = stays_below sum size site device fault bytes from bs rs H pre s post holds
+
+  abbrev parts : HoldAround sum size device fault (site.place + size) pre s post stays H.batches holds.later
+  parts = held_around sum size site device fault bytes from bs rs H pre s post holds
+
+  abbrev here : HoldsNext sum size device fault (behind_place size (site.place + size) pre) s stays H.batches parts.own
+  here = held_here sum size site device fault bytes from bs rs H pre s post holds
+
+  abbrev own_history : History
+  own_history = record { messages = parts.own; batches = H.batches }
+
+  abbrev y : BegunSegment
+  y = begun_segment s
+
+  abbrev before : List BegunSegment
+  before = map begun_segment pre
+
+  abbrev after : List BegunSegment
+  after = map begun_segment post
+
+  abbrev old : List ℕ
+  old = device.log.bytes
+
+  -- where the buffer begins behind others, and its bytes
+  abbrev at : List Sealed → ℕ
+  at front = sealed_end s.written_len front
+
+  abbrev asked : List Sealed → List ℕ
+  asked front = bytes_between s.bytes (at front) b.end
+
+  -- and how much of the segment is written then
+  abbrev stop : List Sealed → ℕ
+  stop front = run_end s.written_len (front ++ now_written b ∷ rest)
+
+  header : s.written_len ≡ 0 → (m : HasMark sum s.site s.bytes H) × (m.mark <ℤ pos (site.place + from))
+  header none =
+      let m = here.segment.header none in (
+        record { mark = m.mark; is = m.is; of_history = mark_same own_history H (record { place = s.site.place; slot = s.site.slot; mark = m.mark }) refl m.of_history },
+        marked s (Contains-append_right pre (s ∷ post) s (in_first s post)) none m.mark m.is,
+      )
+
+  begins : (s.written_len ≡ 0) ⊎ (20 ≤ s.written_len)
+  begins = none_or_header sum size old s.site s.written_len here.segment.earlier stays (on_file sum size device.log s.site s.written_len here.segment.earlier stays (here.segment.written whole))
+
+  rise_all : EndsRise s.written_len s.sealed (length s.bytes)
+  rise_all = ends_rise s.written_len s.reserved s.sealed (length s.bytes) here.are here.behind here.held
+
+  rise_size : EndsRise s.written_len s.sealed size
+  rise_size = let in_text = here.held in let behind = here.behind in let inside = here.inside in ends_rise s.written_len s.reserved s.sealed size here.are (omega (arith, behind, inside)) (omega (arith, in_text, inside))
+
+  -- the file has of it what it has with zeros behind its end
+  laid_in : (to : ℕ) → Laid (padded to old) s.site.slot s.bytes s.written_len s.sealed size
+  laid_in to = laid_same s.site.slot old (padded to old) s.bytes s.written_len s.sealed size rise_size (record { grows = omega (arith, length-padded to old); same = λ i above below. padded_get to old (s.site.slot + i) }) (here.segment.laid whole)
+
+  -- Of the history these are all that begins in a part of the segment.
+  own_only : (ms : List Message) (low high : ℕ) → s.site.place ≤ low → high ≤ s.site.place + size → HasOnly own_history ms low high → HasOnly H ms low high
+  own_only ms low high above inside only = record {
+    there = λ m its. subst (λ (l : List Message). Contains l m) (sym holds.messages)
+        (Contains-append_right holds.head holds.later m (subst (λ (l : List Message). Contains l m) (sym parts.messages) (Contains-append_right parts.before (parts.own ++ parts.after) m (Contains-append_left parts.own parts.after m (only.there m its)))));
+    only = λ m among. elim (cases_lt m.place low) [
+      | inl lower ↦ inr (inl lower)
+      | inr over ↦ elim (cases_lt m.place high) [
+        | inl under ↦ only.only m (of_segment sum size site device fault bytes from bs rs H pre s post holds short m among (omega (arith, above, over)) (omega (arith, under, inside)))
+        | inr past ↦ inr (inr past)
+      ]
+    ];
+    no_batch = only.no_batch;
+  }
+
+  -- At these buffers.
+  module _ (front : List Sealed) (split : s.sealed ≡ front ++ b ∷ rest) where
+    are_split : AreSealed s.written_len s.reserved (front ++ b ∷ rest)
+    are_split = subst (λ (cs : List Sealed). AreSealed s.written_len s.reserved cs) split here.are
+
+    rise_split : EndsRise s.written_len (front ++ b ∷ rest) size
+    rise_split = subst (λ (cs : List Sealed). EndsRise s.written_len cs size) split rise_size
+
+    fresh_split : FirstUnwritten (front ++ b ∷ rest)
+    fresh_split = subst FirstUnwritten split fresh
+
+    laid_split : (to : ℕ) → Laid (padded to old) s.site.slot s.bytes s.written_len (front ++ b ∷ rest) size
+    laid_split to = subst (λ (cs : List Sealed). Laid (padded to old) s.site.slot s.bytes s.written_len cs size) split (laid_in to)
+
+    laid_old : Laid old s.site.slot s.bytes s.written_len (front ++ b ∷ rest) size
+    laid_old = subst (λ (cs : List Sealed). Laid old s.site.slot s.bytes s.written_len cs size) split (here.segment.laid whole)
+
+    pub lies : (s.written_len ≤ at front) × (at front < b.end) × (b.end ≤ length s.bytes)
+    lies = rises_at s.written_len front b rest (length s.bytes) (subst (λ (cs : List Sealed). EndsRise s.written_len cs (length s.bytes)) split rise_all)
+
+    pub some_asked : 0 < length (asked front)
+    some_asked = let l = lies in omega (arith, l.1, length-between s.bytes (at front) b.end l.2)
+
+    -- the file reaches its slot then
+    pub reaches : s.site.slot ≤ length (overwritten old (s.site.slot + at front) (asked front))
+    reaches = let agrees = has_written old s.site.slot s.bytes s.written_len front b rest size rise_split lies.2 in let in_file = agrees.in_file in omega (arith, in_file)
+
+  -- Of the first one: it is all of the history that begins in what is written then.
+  has_first : s.sealed ≡ b ∷ rest → HasOnly H (completed_in s.site s.bytes (take (b.count + run_count rest) s.reserved)) (s.site.place + max 20 s.written_len) (s.site.place + run_end b.end rest)
+  has_first split =
+      let are = are_split [] split in
+      let count : ℕ = b.count + run_count rest in
+      let chain : IsChain (run_end b.end rest) (drop count s.reserved) (length s.bytes) =
+      chain_rest (max 20 s.written_len) (length s.bytes) s.reserved count (run_end b.end rest) here.segment.chain (chain_done s.written_len s.reserved b rest closed are) in
+      let low = run_below b.end rest size (rise_split [] split).1 in
+      own_only (completed_in s.site s.bytes (take count s.reserved)) (s.site.place + max 20 s.written_len) (s.site.place + run_end b.end rest) (omega arith) (omega (arith, low))
+      (front_only s.site s.bytes own_history s.reserved count (s.site.place + max 20 s.written_len) (run_end b.end rest) (length s.bytes) chain
+      (All-drop (λ (r : Reserved). 0 < r.len) count s.reserved (some_long sum size (s.site.place / size) s.bytes s.reserved here.segment.stand))
+      (has_only sum size s.site device fault s.bytes s.written_len s.sealed s.reserved own_history here.segment))
+
+  -- What a crash leaves of the write.
+  pub torn_one : (front : List Sealed) → s.sealed ≡ front ++ b ∷ rest → NoHeaderOfZeros sum → (reach : ℕ) (first : SnapshotModel) → StandsAmong sum size old site from (before ++ y ∷ after) reach H first → (now left : List ℕ) → length now ≤ length (asked front)
+      → LeavesLog (after_write old (s.site.slot + at front) (asked front) now) left → (placed : List (ℕ × List ℕ)) → NoForeignLog sum size (after_write old (s.site.slot + at front) (asked front) now) placed left → StandsTo sum size left H reach first reach
+  torn_one [] split none reach first among now left no_more leaves placed only_own =
+      torn_other_sealed sum none size big old site from before y after here.segment.place_begins here.segment.slot_begins place_small slot_small s.bytes begins s.reserved b rest (fresh_split [] split) closed (are_split [] split) (rise_split [] split)
+      (lies [] split).2 here.segment.stand header (laid_old [] split) reach first among (has_first split) now left no_more leaves {placed = placed} only_own
+  torn_one (x ∷ xs) split none reach first among now left no_more leaves placed only_own =
+      torn_other_behind sum none size big old site from (before ++ y ∷ after) y (Contains-append_right before (y ∷ after) y (in_first y after)) here.segment.slot_begins s.bytes begins s.reserved x xs b rest (fresh_split (x ∷ xs) split)
+      (are_split (x ∷ xs) split) (rise_split (x ∷ xs) split) (lies (x ∷ xs) split).2 (s.site.place / size) here.segment.stand (laid_old (x ∷ xs) split) reach H first among now left no_more leaves {placed = placed} only_own
+
+  -- All of it, with zeros behind the end of the file, where this reaches its slot.
+  pub whole_one : (front : List Sealed) → s.sealed ≡ front ++ b ∷ rest → NoHeaderOfZeros sum → (reach : ℕ) (first : SnapshotModel) → least_place size first ≤ site.place → (to : ℕ) → s.site.slot ≤ length (padded to old)
+      → StandsAmong sum size (padded to old) site from (before ++ y ∷ after) reach H first
+      → StandsAmong sum size (overwritten (padded to old) (s.site.slot + at front) (asked front)) site from (before ++ grown_one y (stop front) ∷ after) reach H first
+  whole_one [] split none reach first least to there among =
+      other_sealed_written sum none size big (padded to old) site from before y after here.segment.place_begins here.segment.slot_begins place_small slot_small s.bytes begins s.reserved b rest (fresh_split [] split) closed (are_split [] split) (rise_split [] split)
+      (lies [] split).2 here.segment.stand header (laid_split [] split to) reach first among (has_first split) (whole_ascends sum size site device fault bytes from bs rs H holds short) there
+      (let up = (front_low sum size site device fault bytes from bs rs H pre s post holds short).0 in omega (arith, least, up))
+  whole_one (x ∷ xs) split none reach first least to there among =
+      by x.is_written (fresh_split (x ∷ xs) split)
+    where
+      by : (o : Bool) → o ≡ false → StandsAmong sum size (overwritten (padded to old) (s.site.slot + at (x ∷ xs)) (asked (x ∷ xs))) site from (before ++ grown_one y (if o then run_end x.end (xs ++ now_written b ∷ rest) else s.written_len) ∷ after) reach H first
+      by true is = absurd (let never : ⊥ = cc in never)
+      by false is =
+          other_behind_written sum none size big (padded to old) site from (before ++ y ∷ after) y (Contains-append_right before (y ∷ after) y (in_first y after)) here.segment.slot_begins s.bytes begins s.reserved x xs b rest (fresh_split (x ∷ xs) split)
+          (are_split (x ∷ xs) split) (rise_split (x ∷ xs) split) (lies (x ∷ xs) split).2 (s.site.place / size) here.segment.stand (laid_split (x ∷ xs) split to) reach H first among there
