@@ -20,7 +20,7 @@ use Rattle.sled_core.specs.SealedBuffers.{AreSealed, Laid, run_end, run_count, b
 use Rattle.sled_core.specs.Tail.{least_place}
 use Rattle.sled_core.proofs.Flush.Padded.{padded_long}
 use Rattle.sled_core.proofs.Reached.BufferPath.{HasOnly}
-use Rattle.sled_core.proofs.Reached.NextSegment.{StandsFull}
+use Rattle.sled_core.specs.Full.{StandsFull}
 use Rattle.sled_core.proofs.Reached.StandsTo.{StandsTo}
 use Rattle.sled_core.proofs.Reserve.Entries.{reserved_in}
 use Rattle.sled_core.proofs.Reserve.Ranges.{chain_grows}

@@ -10,7 +10,8 @@ use Rattle.sled_core.specs.Reached.{BegunSegment, LeadsTo, StandsAlone, StandsAm
 use Rattle.sled_core.specs.Recoverable.{NoHeaderOfZeros, NoMessageBegins, NoBatchBegins, NoBatchEnds}
 use Rattle.sled_core.specs.Scan.{IsEnd, IsScan}
 use Rattle.sled_core.specs.Tail.{Scanned, least_place}
-use Rattle.sled_core.proofs.Reached.NextSegment.{StandsFull, begins_alone}
+use Rattle.sled_core.specs.Full.{StandsFull}
+use Rattle.sled_core.proofs.Reached.NextSegment.{begins_alone}
 use Rattle.sled_core.proofs.Reached.Recoverable.{less_than}
 use Rattle.sled_core.proofs.Tail.Multiples.{next_multiple, one_multiple}
 use Rattle.sled_core.proofs.Tail.OneTail.{segment_there}

@@ -23,7 +23,8 @@ use Rattle.sled_core.specs.SealedBuffers.{AreSealed, Laid, run_end, run_count, b
 use Rattle.sled_core.specs.Tail.{least_place}
 use Rattle.sled_core.proofs.Reached.BufferPath.{HasOnly, ending_at}
 use Rattle.sled_core.proofs.Reached.BufferStands.{met_in}
-use Rattle.sled_core.proofs.Reached.NextSegment.{StandsFull, begins_alone}
+use Rattle.sled_core.specs.Full.{StandsFull}
+use Rattle.sled_core.proofs.Reached.NextSegment.{begins_alone}
 use Rattle.sled_core.proofs.Reached.StandsTo.{StandsTo}
 use Rattle.sled_core.proofs.Sealed.HeadWritten.{head_filled, head_written, torn_head}
 use Rattle.sled_core.proofs.Sealed.LaidLemmas.{EndsRise}
