@@ -3,6 +3,7 @@ pub mod Begins
 pub mod Calls
 pub mod Completes
 pub mod FullHead
+pub mod FullNext
 pub mod Promoted
 pub mod Stays
 pub mod Writes
