@@ -2,8 +2,12 @@ pub mod Around
 pub mod Begins
 pub mod Calls
 pub mod Completes
+pub mod FullFurther
 pub mod FullHead
+pub mod FullHolds
 pub mod FullNext
+pub mod FullRead
+pub mod FullZeros
 pub mod Promoted
 pub mod Stays
 pub mod Writes

@@ -54,7 +54,7 @@ module _ (sum : List ℕ → ℕ) (size : ℕ) (device : State) (fault : Option 
   pub rest : device.log ≡ at_rest device.log.bytes
   rest = let on_device = fits.holds.own.written whole in rests device.log on_device.log on_device.settled
 
-  follow : FollowApart s.site (map begun_segment ss)
+  pub follow : FollowApart s.site (map begun_segment ss)
   follow = fits.holds.apart.1
 
   -- the file itself stands as with nothing behind its end
