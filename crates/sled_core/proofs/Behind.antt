@@ -8,6 +8,12 @@ pub mod FitsCompleted
 pub mod FitsMoved
 pub mod FitsWritten
 pub mod OneWrite
+pub mod FullFurther
+pub mod FullHead
+pub mod FullHolds
+pub mod FullNext
+pub mod FullRead
+pub mod FullZeros
 pub mod Promoted
 pub mod Shorter
 pub mod Stays

@@ -7,6 +7,7 @@ pub mod Causes
 pub mod FirstBuffer
 pub mod Fits
 pub mod FreeSlots
+pub mod Full
 pub mod Good
 pub mod Keeps
 pub mod LogFile

@@ -14,7 +14,7 @@ use Rattle.sled_core.specs.declared.logger.Log.{Log}
 use Rattle.sled_core.specs.Fits.{NoneOpen, NoneSealed, SegmentParts, fault_of, device_of, segment_size_of, log_parts}
 use Rattle.sled_core.specs.FreeSlots.{HasSlots}
 use Rattle.sled_core.specs.Recoverable.{LeavesRecoverable}
-use Rattle.sled_core.specs.Running.{FitsIn, Fits}
+use Rattle.sled_core.specs.Running.{FitsIn}
 use Rattle.sled_core.proofs.Flush.Settled.{leaves_less}
 use Rattle.sled_core.proofs.Holds.BufferEnds.{written_behind}
 use Rattle.sled_core.proofs.Flush.FlushCalls.{flush_along, fits_flushed}

@@ -19,7 +19,7 @@ use Rattle.sled_core.specs.declared.iobuf.SegmentPosition.{SegmentPosition}
 use Rattle.sled_core.specs.Buffers.{IsChain, NoPadding, Stands, completed_in}
 use Rattle.sled_core.specs.Fits.{log_parts, HoldBehind, HoldsIn, HoldsSegment, IsOnDevice, IsBegunFrom, IsKept, EndBelow, SegmentParts}
 use Rattle.sled_core.specs.LogFile.{IsLogFile, StaysBelow, StaysFrom}
-use Rattle.sled_core.proofs.Reserve.Entries.{reserved_in, some_in}
+use Rattle.sled_core.proofs.Reserve.Entries.{some_in}
 use Rattle.sled_core.proofs.Reserve.Ranges.{chain_grows}
 use Rattle.sled_core.specs.SealedBuffers.{AreSealed, FirstUnwritten}
 use Rattle.sled_core.proofs.Sealed.Zeros.{rest_zeros}

@@ -17,7 +17,7 @@ use Rattle.sled_core.specs.Buffers.{none_open}
 use Rattle.sled_core.specs.Fits.{Holds, HoldsIn, IsWrittenAt, SegmentParts, behind_of, device_of, fault_of, log_parts, segment_size_of, writing_buffer}
 use Rattle.sled_core.specs.FreeSlots.{HasSlots}
 use Rattle.sled_core.specs.Recoverable.{LeavesRecoverable}
-use Rattle.sled_core.specs.Running.{Fits, FitsIn}
+use Rattle.sled_core.specs.Running.{FitsIn}
 use Rattle.sled_core.specs.SealedBuffers.{behind_run, bytes_between, is_ready, run_count, run_end, sealed_end, writing, written_at}
 use Rattle.sled_core.proofs.Flush.SameFits.{fits_same_buffer}
 use Rattle.sled_core.proofs.Flush.SealedFits.{fits_written_one, holds_written_one, write_along}

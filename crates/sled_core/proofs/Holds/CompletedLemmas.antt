@@ -17,7 +17,7 @@ use Rattle.sled_core.specs.declared.iobuf.ReservationState.TheVariants.{Open, Co
 use Rattle.sled_core.specs.declared.iobuf.Reserved.{Reserved}
 use Rattle.sled_core.specs.declared.iobuf.Sealed.{Sealed}
 use Rattle.sled_core.specs.declared.iobuf.SegmentPosition.{SegmentPosition}
-use Rattle.sled_core.specs.Buffers.{body_in, message_in, IsChain, completed_in, with_own, ending, completing, canceling, ended, open_state, HasText, NoPadding, Stands, StandsReserved}
+use Rattle.sled_core.specs.Buffers.{body_in, message_in, IsChain, completed_in, with_own, ending, completing, canceling, ended, open_state, HasText, Stands, StandsReserved}
 use Rattle.sled_core.specs.Fits.{log_parts, HoldsSegment, CloseBelow, IsOnDevice}
 use Rattle.sled_core.proofs.Reached.BufferPath.{mark_same}
 use Rattle.sled_core.proofs.Reserve.Ranges.{part-written_before, length-written, completed-same, completed-append, completed_between, chain-split, chain-joined, chain_grows, chain_within, there_split, all_split, all_joined, at_there, there-set_other, chain_apart}

@@ -11,7 +11,7 @@ use Rattle.sled_core.specs.declared.iobuf.ReservationState.TheVariants.{Complete
 use Rattle.sled_core.specs.declared.iobuf.Reserved.{Reserved}
 use Rattle.sled_core.specs.declared.iobuf.Sealed.{Sealed}
 use Rattle.sled_core.specs.declared.iobuf.SegmentPosition.{SegmentPosition}
-use Rattle.sled_core.specs.Buffers.{body_in, message_in, IsChain, completed_in, with_own, HasText, NoPadding, Stands}
+use Rattle.sled_core.specs.Buffers.{body_in, message_in, IsChain, completed_in, with_own, HasText, Stands}
 use Rattle.sled_core.specs.Fits.{log_parts, HoldsSegment}
 use Rattle.sled_core.proofs.Sealed.LaidCalls.{laid_append}
 use Rattle.sled_core.proofs.Sealed.LaidLemmas.{EndsRise}

@@ -1,6 +1,6 @@
 -- What a log holds it goes on holding, where its first segment does, over the same device.
-use Rattle.std.proofs.Common.{◌≡◌, ◌≤◌, ◌<◌, ◌+◌, ◌-◌, ◌/◌, ◌∙◌, ℕ, List, [], ◌∷◌, ◌++◌, length, set, Option, Some, refl, sym, ap, subst, arith, append_assoc, inl, inr}
-use Rattle.std.specs.List.{All, Contains, slice_get}
+use Rattle.std.proofs.Common.{◌≡◌, ◌≤◌, ◌<◌, ◌+◌, ◌/◌, ◌∙◌, ℕ, List, [], ◌∷◌, ◌++◌, length, set, Option, Some, refl, sym, ap, subst, arith, append_assoc, inl, inr}
+use Rattle.std.specs.List.{All, slice_get}
 use Rattle.std.specs.declared.io.Error.{Error as IoError}
 use Rattle.std.proofs.lemmas.List.Elements.{All-append, All-contains, All-set, Contains-append_cases}
 use Rattle.sled_codec.specs.Snapshots.{stable_place}

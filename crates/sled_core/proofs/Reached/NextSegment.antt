@@ -12,6 +12,7 @@ use Rattle.sled_core.specs.declared.iobuf.SegmentPosition.{SegmentPosition}
 use Rattle.sled_core.specs.declared.iterator.Segment.{Segment}
 use Rattle.sled_core.specs.declared.iterator.scan.ScanEnd.{ScanEnd}
 use Rattle.sled_core.specs.declared.iterator.scan.ScanEnd.TheVariants.{Broken}
+use Rattle.sled_core.specs.Full.{StandsFull}
 use Rattle.sled_core.specs.Reached.{BeginsNext, BeginsOne, BegunSegment, FollowApart, IsReadTo, IsSoFar, LeadsTo, StandsAlone, StandsAmong, StandsIn}
 use Rattle.sled_core.specs.Recoverable.{NoHeaderOfZeros, NoMessageBegins}
 use Rattle.sled_core.specs.Scan.{IsFoundSegment}
@@ -21,15 +22,6 @@ use Rattle.sled_core.proofs.Reached.Recoverable.{less_than}
 use Rattle.sled_core.proofs.Reached.StandsTo.{StandsTo}
 use Rattle.sled_core.proofs.Tail.OneTail.{segment_there}
 use Rattle.sled_core.proofs.Torn.WrittenBegun.{none_in_zeros}
-
--- The segment before one at this place is full and read to its end; behind it come these, each as far as it is written.
-pub record StandsFull (sum : List ℕ → ℕ) (size : ℕ) (log : List ℕ) (place : ℕ) (others : List BegunSegment) (reach : ℕ) (H : History) (first : SnapshotModel) : Type 0 where
-  pub stands : StandsTo sum size log H reach first reach
-  pub leads : LeadsTo sum size log (least_place size first) reach place
-  pub near : BeginsNext size H reach place
-  pub behind : (x : BegunSegment) → Contains others x → StandsIn sum size log (least_place size first) stands.scanned x.site x.from
-  pub last : (s : Segment) → IsFoundSegment sum size log (least_place size first) s → (s.place < place) ⊎ BeginsOne others s.place
-  pub below : (s : Segment) → IsFoundSegment sum size log (least_place size first) s → s.mark <ℤ pos place
 
 -- What is read of a segment is so wherever the same file stands.
 pub stands_anew : (sum : List ℕ → ℕ) (size : ℕ) (log : List ℕ) (H : History) (A reach A' reach' : ℕ) (first : SnapshotModel) (is : StandsTo sum size log H A first reach) (now : StandsTo sum size log H A' first reach') (site : SegmentPosition) (from : ℕ)

@@ -1,17 +1,16 @@
--- Where no header has room behind what was written of a segment, that is full, without a byte behind its records: the next one begins, in a slot of zeros.
+-- Where no header has room behind what was written of a segment, that is full, without a byte behind its records: the next one begins, in a slot of zeros, or goes on as far as it was written before.
 use Rattle.std.proofs.Common.{◌≡◌, ◌≤◌, ◌<◌, ◌+◌, ◌-◌, ◌%◌, ◌∙◌, ℕ, List, get_or, refl, sym, arith, inl, inr}
 use Rattle.sled_codec.specs.Coords.{raised}
 use Rattle.sled_codec.specs.History.{History}
 use Rattle.sled_codec.specs.Snapshots.{SnapshotModel}
-use Rattle.sled_store.proofs.Segments.Elements.{in_nothing}
 use Rattle.sled_core.specs.declared.iobuf.SegmentPosition.{SegmentPosition}
-use Rattle.sled_core.specs.declared.iterator.Segment.{Segment}
 use Rattle.sled_core.specs.declared.iterator.scan.ScanEnd.{ScanEnd}
 use Rattle.sled_core.specs.declared.iterator.scan.ScanEnd.TheVariants.{Full, Capped, Broken}
-use Rattle.sled_core.specs.Reached.{LeadsTo, StandsAlone}
+use Rattle.sled_core.specs.Reached.{BegunSegment, LeadsTo, StandsAlone, StandsAmong}
 use Rattle.sled_core.specs.Recoverable.{NoHeaderOfZeros, NoMessageBegins, NoBatchBegins, NoBatchEnds}
-use Rattle.sled_core.specs.Scan.{IsEnd, IsFoundSegment, IsScan}
+use Rattle.sled_core.specs.Scan.{IsEnd, IsScan}
 use Rattle.sled_core.specs.Tail.{Scanned, least_place}
+use Rattle.sled_core.specs.Full.{StandsFull}
 use Rattle.sled_core.proofs.Reached.NextSegment.{begins_alone}
 use Rattle.sled_core.proofs.Reached.Recoverable.{less_than}
 use Rattle.sled_core.proofs.Tail.Multiples.{next_multiple, one_multiple}
@@ -23,48 +22,49 @@ full_why sum size log slot place at Full full end = refl
 full_why sum size log slot place at Capped full end = absurd (let room = end.0 in omega (arith, room, full))
 full_why sum size log slot place at Broken full end = absurd (let room = end.0 in omega (arith, room, full))
 
-module _ (sum : List ℕ → ℕ) (none : NoHeaderOfZeros sum) (size : ℕ) (some : 256 ≤ size) (log : List ℕ) (site : SegmentPosition) (place_begins : site.place % size ≡ 0)
+module _ (sum : List ℕ → ℕ) (size : ℕ) (some : 256 ≤ size) (log : List ℕ) (site : SegmentPosition) (place_begins : site.place % size ≡ 0)
     (from : ℕ) (begun : 0 < from) (within : from ≤ size) (full : size < from + 32) (H : History) (first : SnapshotModel) (low : least_place size first ≤ site.place)
-    (alone : StandsAlone sum size log site from (site.place + from) H first) where
-  low_all : (s : Segment) → IsFoundSegment sum size log (least_place size first) s → s.place ≤ site.place
-  low_all s found = elim (alone.last s found) [ inl low_one ↦ low_one | inr (x, among, at) ↦ absurd (in_nothing x among) ]
-
-  -- What was reached ends in the segment, so it is read up to there.
+    {others : List BegunSegment} (among : StandsAmong sum size log site from others (site.place + from) H first) where
+  -- What was reached ends in the segment, so it is read up to there, or leads on.
   leads : LeadsTo sum size log (least_place size first) (site.place + from) (site.place + size)
   unfolding IsScan
   leads =
-      let g = alone.stands.gapless site.place place_begins low (omega (arith, begun)) in
+      let g = among.stands.gapless site.place place_begins low (omega (arith, begun)) in
       let t : Scanned = g.0 in
-      let known = segment_there sum size log alone.stands.ordering alone.stands.scanned alone.stands.reads t g.1 in
+      let known = segment_there sum size log among.stands.ordering among.stands.scanned among.stands.reads t g.1 in
       let at : t.segment.place ≡ site.place = g.2 in
-      elim g.3 [
-        | inl far ↦ record {
-          scan = t;
-          found = (alone.stands.numbers.found t.segment).0 known.0;
-          read = known.1;
-          next = omega (arith, at);
-          goes = λ broken. (let never : Full ≡ Broken = sym (full_why sum size log t.segment.slot t.segment.place t.stop t.why (omega (arith, far, full)) known.1.1) ∙ broken in cc);
-          below = omega (arith, at, begun);
-        }
-        | inr on ↦ absurd (
-            let u = on.1 in
-            let behind = low_all u ((alone.stands.numbers.found u).0 on.2) in
-            let next = on.3 in
-            omega (arith, behind, next, some))
-      ]
+      record {
+        scan = t;
+        found = (among.stands.numbers.found t.segment).0 known.0;
+        read = known.1;
+        next = omega (arith, at);
+        goes = elim g.3 [
+          | inl far ↦ λ broken. (let never : Full ≡ Broken = sym (full_why sum size log t.segment.slot t.segment.place t.stop t.why (omega (arith, far, full)) known.1.1) ∙ broken in cc)
+          | inr on ↦ on.0
+        ];
+        below = omega (arith, at, begun);
+      }
 
   further : raised size (site.place + from) ≡ site.place + size
   further = one_multiple size some (site.place + size) (site.place + from + (size - 1)) (next_multiple size site.place place_begins) (omega (arith, begun, some)) (omega (arith, within, some))
 
-  pub full_alone : NoMessageBegins H (site.place + from) (site.place + size) → NoBatchBegins H (site.place + from) (site.place + size) → NoBatchEnds H (site.place + from) (site.place + size)
-      → (slot' : ℕ) → ((i : ℕ) → slot' ≤ i → i < slot' + 20 → get_or log i 0 ≡ 0) → StandsAlone sum size log (record { place = site.place + size; slot = slot' }) 0 (site.place + from) H first
-  full_alone no_message no_batch no_end slot' zeros =
-      begins_alone sum none size log (site.place + size) (site.place + from) H first slot' zeros
-      (record {
-        stands = alone.stands;
-        leads = leads;
-        near = record { above = omega (arith, within); next = omega (arith, further); no_message = no_message; no_batch = no_batch; no_end = no_end };
-        behind = λ x among. absurd (in_nothing x among);
-        last = λ s found. inl (let at = low_all s found in omega (arith, at, some));
-        below = λ s found. less_than s.mark (site.place + from) (site.place + size) (omega (arith, within)) (alone.below s found);
-      })
+  -- The reading goes on behind it, in those that were begun there.
+  pub full_among : NoMessageBegins H (site.place + from) (site.place + size) → NoBatchBegins H (site.place + from) (site.place + size) → NoBatchEnds H (site.place + from) (site.place + size)
+      → StandsFull sum size log (site.place + size) others (site.place + from) H first
+  full_among no_message no_batch no_end = record {
+    stands = among.stands;
+    leads = leads;
+    near = record { above = omega (arith, within); next = omega (arith, further); no_message = no_message; no_batch = no_batch; no_end = no_end };
+    behind = among.behind;
+    last = λ s found. elim (among.last s found) [ inl under ↦ inl (omega (arith, under, some)) | inr one ↦ inr one ];
+    below = λ s found. less_than s.mark (site.place + from) (site.place + size) (omega (arith, within)) (among.below s found);
+  }
+
+-- Where none was begun, the next one is to begin in a slot of zeros.
+pub full_alone : (sum : List ℕ → ℕ) (none : NoHeaderOfZeros sum) (size : ℕ) (some : 256 ≤ size) (log : List ℕ) (site : SegmentPosition) (place_begins : site.place % size ≡ 0)
+    (from : ℕ) (begun : 0 < from) (within : from ≤ size) (full : size < from + 32) (H : History) (first : SnapshotModel) (low : least_place size first ≤ site.place) (alone : StandsAlone sum size log site from (site.place + from) H first)
+    → NoMessageBegins H (site.place + from) (site.place + size) → NoBatchBegins H (site.place + from) (site.place + size) → NoBatchEnds H (site.place + from) (site.place + size)
+    → (slot' : ℕ) → ((i : ℕ) → slot' ≤ i → i < slot' + 20 → get_or log i 0 ≡ 0) → StandsAlone sum size log (record { place = site.place + size; slot = slot' }) 0 (site.place + from) H first
+full_alone sum none size some log site place_begins from begun within full H first low alone no_message no_batch no_end slot' zeros =
+    begins_alone sum none size log (site.place + size) (site.place + from) H first slot' zeros
+    (full_among sum size some log site place_begins from begun within full H first low alone no_message no_batch no_end)

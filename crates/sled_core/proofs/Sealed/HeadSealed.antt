@@ -1,6 +1,7 @@
 -- The first sealed buffer is written, behind what was written of its segment or at the beginning of it: what a crash leaves of it stands as before, and all of it up to the end of those behind it that were written before it. Where the last of these fills the segment, the next one begins.
-use Rattle.std.proofs.Common.{◌≡◌, ◌≤◌, ◌<◌, ◌+◌, ◌/◌, ◌%◌, ◌^◌, ◌⊎◌, ◌∙◌, ℕ, max, Bool, false, nat_lt, if◌then◌else◌, List, [], ◌∷◌, length, take, get_or, sym, ap, subst, arith, inl, inr}
+use Rattle.std.proofs.Common.{◌≡◌, ◌≤◌, ◌<◌, ◌+◌, ◌/◌, ◌%◌, ◌^◌, ◌⊎◌, ◌∙◌, ℕ, max, Bool, true, false, nat_lt, if◌then◌else◌, List, [], ◌∷◌, length, take, get_or, sym, ap, subst, arith, inl, inr}
 use Rattle.std.specs.List.{All, Contains}
+use Rattle.std.proofs.lemmas.Bool.{cases_lt}
 use Rattle.std.proofs.lemmas.Bool.Decides.{nat_tests}
 use Rattle.sled_codec.specs.History.{Batch, History}
 use Rattle.sled_codec.specs.Snapshots.{SnapshotModel}
@@ -11,7 +12,8 @@ use Rattle.sled_core.specs.declared.iobuf.Reserved.{Reserved}
 use Rattle.sled_core.specs.declared.iobuf.Sealed.{Sealed}
 use Rattle.sled_core.specs.declared.iobuf.SegmentPosition.{SegmentPosition}
 use Rattle.sled_core.specs.declared.iterator.scan.ScanEnd.{ScanEnd}
-use Rattle.sled_core.specs.declared.iterator.scan.ScanEnd.TheVariants.{Full, Broken}
+use Rattle.sled_core.specs.declared.iterator.scan.ScanEnd.TheVariants.{Full, Capped, Broken}
+use Rattle.sled_core.specs.Caps.{rest_why}
 use Rattle.sled_core.specs.Buffers.{completed_in, records_end, records_of, NoPadding, Stands}
 use Rattle.sled_core.specs.Fits.{HasMark}
 use Rattle.sled_core.specs.LogFile.{HasHeader}
@@ -21,8 +23,10 @@ use Rattle.sled_core.specs.SealedBuffers.{AreSealed, Laid, run_end, run_count, b
 use Rattle.sled_core.specs.Tail.{least_place}
 use Rattle.sled_core.proofs.Reached.BufferPath.{HasOnly, ending_at}
 use Rattle.sled_core.proofs.Reached.BufferStands.{met_in}
+use Rattle.sled_core.specs.Full.{StandsFull}
+use Rattle.sled_core.proofs.Reached.NextSegment.{begins_alone}
 use Rattle.sled_core.proofs.Reached.StandsTo.{StandsTo}
-use Rattle.sled_core.proofs.Sealed.HeadWritten.{head_written, next_alone, torn_head}
+use Rattle.sled_core.proofs.Sealed.HeadWritten.{head_filled, head_written, torn_head}
 use Rattle.sled_core.proofs.Sealed.LaidLemmas.{EndsRise}
 use Rattle.sled_core.proofs.Sealed.RecordsEnd.{records_why}
 pub use Rattle.sled_core.proofs.Sealed.RunPath.{run_below}
@@ -87,14 +91,29 @@ module _ (sum : List ℕ → ℕ) (none : NoHeaderOfZeros sum) (size : ℕ) (som
           reach first alone (met_in site bytes records) last why run.clear run.path run.ends (run.truth H has) (run.caps H has) ordered there low_enough (λ c at_c lower. let peg = ended c at_c (omega (arith, lower, at)) in omega (arith, peg, at)) has_header
           (λ more. let test : nat_lt size (stop + 32) ≡ false = grind (arith, nat_tests, more, at) in reason ∙ ap (λ (o : Bool). if o then Full else Broken) test))
 
-      -- Where something does, the next segment begins behind it, in a slot of zeros: what was reached ends with the records.
+      -- Where the last of them ends with the segment, the reading goes on in the next one: what was reached ends with the records.
+      pub head_sealed_filled : stop ≡ size → ((c : Batch) → Contains H.batches c → c.low < site.place + last → c.peg < site.place + last) → NoBatchEnds H (site.place + last) (site.place + size)
+          → StandsFull sum size new (site.place + size) others (site.place + last) H first
+      head_sealed_filled full ended no_end =
+          let within : last ≤ size = let end = run.records.low in let low = run.low in omega (arith, end, low) in
+          head_filled sum none size some file site from asked b.end run.covers run.reaches run.headed has_room place_begins slot_begins place_small its_mark run.clean
+          reach first alone (met_in site bytes records) last why run.clear run.path run.ends (run.truth H has) (run.caps H has) ordered there low_enough ended has_header
+          (elim run.records.last [ inl l ↦ λ broken. never_broken size stop (sym (full_ending l.2) ∙ broken) | inr f ↦ λ broken. never_broken size last (sym f.reason ∙ broken) ]) within
+          (elim run.records.last [ inl l ↦ λ m at_m. none_between l.1 m.place | inr f ↦ (run.none_filled H has f).0 ])
+          (elim run.records.last [ inl l ↦ λ c at_c. none_between l.1 c.low | inr f ↦ (run.none_filled H has f).1 ])
+          no_end
+        where
+          full_ending : why ≡ ending_at size stop → why ≡ rest_why size stop
+          full_ending is = let test : nat_lt size (stop + 32) ≡ true = grind (arith, nat_tests, full) in is ∙ ap (λ (o : Bool). if o then Full else Broken) test ∙ sym (ap (λ (o : Bool). if o then Full else Capped) test)
+
+          none_between : last ≡ stop → (n : ℕ) → (n < site.place + last) ⊎ (site.place + size ≤ n)
+          none_between at n = elim (cases_lt n (site.place + last)) [ inl below ↦ inl below | inr above ↦ inr (omega (arith, above, at, full)) ]
+
+      -- Where no other one was begun, the next one is to begin behind what fills the segment, in a slot of zeros.
       pub head_sealed_full : others ≡ [] → last < stop → ((c : Batch) → Contains H.batches c → c.low < site.place + last → c.peg < site.place + last) → NoBatchEnds H (site.place + last) (site.place + size)
           → (slot' : ℕ) → ((i : ℕ) → slot' ≤ i → i < slot' + 20 → get_or new i 0 ≡ 0) → StandsAlone sum size new (record { place = site.place + size; slot = slot' }) 0 (site.place + last) H first
       head_sealed_full no_others filled ended no_end slot' zeros = elim run.records.last [
         | inl l ↦ absurd (let at = l.1 in omega (arith, at, filled))
-        | inr f ↦ (
-            let nothing = run.none_filled H has f in
-            next_alone sum none size some file site from asked b.end run.covers run.reaches run.headed has_room place_begins slot_begins place_small its_mark run.clean
-            reach first alone (met_in site bytes records) last why run.clear run.path run.ends (run.truth H has) (run.caps H has) ordered there low_enough ended has_header no_others
-            (λ broken. never_broken size last (sym f.reason ∙ broken)) (let end = run.records.low in let low = run.low in omega (arith, end, low)) nothing.0 nothing.1 no_end slot' zeros)
+        | inr f ↦ begins_alone sum none size new (site.place + size) (site.place + last) H first slot' zeros
+            (subst (λ (xs : List BegunSegment). StandsFull sum size new (site.place + size) xs (site.place + last) H first) no_others (head_sealed_filled f.full ended no_end))
       ]

@@ -17,7 +17,7 @@ use Rattle.sled_core.specs.declared.iterator.scan.ScanEnd.{ScanEnd}
 use Rattle.sled_core.specs.declared.iterator.scan.ScanEnd.TheVariants.{Capped, Broken}
 use Rattle.sled_core.specs.Fits.{HasMark}
 use Rattle.sled_core.specs.LogFile.{HasHeader}
-use Rattle.sled_core.specs.Reached.{BeginsNext, BeginsOne, BegunSegment, GoesOnIn, IsReadTo, IsSoFar, ReachesIn, StandsAlone, StandsAmong, StandsIn}
+use Rattle.sled_core.specs.Reached.{BeginsNext, BeginsOne, BegunSegment, GoesOnIn, IsReadTo, IsSoFar, ReachesIn, StandsAmong, StandsIn}
 use Rattle.sled_core.specs.Recoverable.{NoHeaderOfZeros, NoMessageBegins, NoBatchBegins, NoBatchEnds, IsOfHistory}
 use Rattle.sled_core.specs.Scan.{IsFoundSegment, IsPath, IsEnd, IsScan}
 use Rattle.sled_core.specs.Tail.{Scanned, IsScanned, least_place}
@@ -27,7 +27,7 @@ use Rattle.sled_core.proofs.Reached.Higher.{IsBegunOrLedTo, known_in}
 use Rattle.sled_core.proofs.Reached.LeftBeside.{IsSameBeside}
 use Rattle.sled_core.proofs.Reached.OneWrite.{BeginsSegment, torn_stands, written_stands}
 use Rattle.sled_core.proofs.Reached.Recoverable.{less_than}
-use Rattle.sled_core.proofs.Reached.NextSegment.{StandsFull, begins_alone}
+use Rattle.sled_core.specs.Full.{StandsFull}
 use Rattle.sled_core.proofs.Reached.SegmentsBeside.{follows, going_in, its_header, its_place_now, segment_grown, segment_stays}
 use Rattle.sled_core.proofs.Reached.StandsTo.{StandsTo}
 use Rattle.sled_core.proofs.Reached.WrittenWhole.{same_whole}
@@ -245,10 +245,3 @@ module _ (sum : List ℕ → ℕ) (none : NoHeaderOfZeros sum) (size : ℕ) (som
       where
         further : raised size (site.place + stop) ≡ site.place + size
         further = one_multiple size some (site.place + size) (site.place + stop + (size - 1)) (next_multiple size site.place place_begins) (omega (arith, rises, some)) (omega (arith, within, some))
-
-    -- The next segment begins in a slot of zeros, and nothing of it is written; where it is none of the others, there are none.
-    pub next_alone : others ≡ [] → why ≢ Broken → stop ≤ size → NoMessageBegins H (site.place + stop) (site.place + size) → NoBatchBegins H (site.place + stop) (site.place + size) → NoBatchEnds H (site.place + stop) (site.place + size)
-        → (slot' : ℕ) → ((i : ℕ) → slot' ≤ i → i < slot' + 20 → get_or new i 0 ≡ 0) → StandsAlone sum size new (record { place = site.place + size; slot = slot' }) 0 (site.place + stop) H first
-    next_alone no_others goes within no_message no_batch no_end slot' zeros =
-        begins_alone sum none size new (site.place + size) (site.place + stop) H first slot' zeros
-        (subst (λ (xs : List BegunSegment). StandsFull sum size new (site.place + size) xs (site.place + stop) H first) no_others (head_filled goes within no_message no_batch no_end))

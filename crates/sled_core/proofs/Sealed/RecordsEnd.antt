@@ -35,7 +35,7 @@ state_plain Canceled plain = refl
 state_plain Padding plain = absurd (plain refl)
 
 -- no entry lies behind the end of a chain
-none_behind : (from : ℕ) (rs : List Reserved) (end : ℕ) → IsChain from rs end → end ≤ from → All (λ r. 0 < r.len) rs → rs ≡ []
+pub none_behind : (from : ℕ) (rs : List Reserved) (end : ℕ) → IsChain from rs end → end ≤ from → All (λ r. 0 < r.len) rs → rs ≡ []
 none_behind from [] end chain far some = refl
 none_behind from (r ∷ rs) end chain far some =
     let long = some 0 r (omega arith) in

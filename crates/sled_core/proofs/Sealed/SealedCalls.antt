@@ -51,10 +51,10 @@ module _ (sum : List ℕ → ℕ) (size : ℕ) (some : 256 ≤ size) (old : List
     length_asked : from + length asked ≡ b.end
     length_asked = long old site.slot bytes from [] b rest size rise inside
 
-    same_file : (to : ℕ) → overwritten (filled to) (site.slot + from) asked ≡ padded to new
+    pub same_file : (to : ℕ) → overwritten (filled to) (site.slot + from) asked ≡ padded to new
     same_file to = let l = length_asked in overwritten-further to old (site.slot + from) asked (omega (arith, l, up))
 
-    laid_filled : (to : ℕ) → Laid (filled to) site.slot bytes from (b ∷ rest) size
+    pub laid_filled : (to : ℕ) → Laid (filled to) site.slot bytes from (b ∷ rest) size
     laid_filled to = laid_same site.slot old (filled to) bytes from (b ∷ rest) size rise (record { grows = omega (arith, length-padded to old); same = λ i above below. padded_get to old (site.slot + i) }) laid
 
     -- The header of its segment is there.
@@ -71,7 +71,7 @@ module _ (sum : List ℕ → ℕ) (size : ℕ) (some : 256 ≤ size) (old : List
     begun = elim begins [ inl none ↦ head_headed from rs b rest are none | inr far ↦ omega (arith, far, up) ]
 
     -- and stays there with zeros behind the end of the file
-    padded_header : (to : ℕ) → HasHeader sum (padded to new) site
+    pub padded_header : (to : ℕ) → HasHeader sum (padded to new) site
     padded_header to =
         let h = first_header in
         let agrees = has_written old site.slot bytes from [] b rest size rise inside in

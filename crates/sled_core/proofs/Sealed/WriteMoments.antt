@@ -1,5 +1,5 @@
 -- At each moment of the write of one buffer, and of the sync behind it, a crash leaves what can be recovered, where what a crash leaves of the write stands as before, and all of it up to a place no lower.
-use Rattle.std.proofs.Common.{◌≡◌, ◌≤◌, ◌+◌, ℕ, List, [], ◌∷◌, length, sym, refl, subst, arith}
+use Rattle.std.proofs.Common.{◌≡◌, ◌≤◌, ℕ, List, [], ◌∷◌, length, sym, refl, subst, arith}
 use Rattle.sled_codec.specs.History.{History}
 use Rattle.sled_codec.specs.Snapshots.{SnapshotModel}
 use Rattle.sled_store.specs.Device.{Event, LogState, State, Wrote, Synced, LeavesLog, at_rest, log_step, overwritten, step}

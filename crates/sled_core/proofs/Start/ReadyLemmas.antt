@@ -8,7 +8,7 @@ use Rattle.std.proofs.lemmas.List.Elements.{All-contains}
 use Rattle.std.proofs.lemmas.Nat.{div-mul-add}
 use Rattle.sled_codec.specs.Coords.{raised}
 use Rattle.sled_codec.specs.Record.{short_header}
-use Rattle.sled_codec.specs.History.{Message, Batch, History, CutFits, table}
+use Rattle.sled_codec.specs.History.{Message, Batch, History, CutFits}
 use Rattle.sled_codec.specs.PageTables.{IsTable}
 use Rattle.sled_codec.specs.Snapshots.{Entry, Page, SnapshotModel, stable_place}
 use Rattle.sled_codec.proofs.Segments.{length-short_header}

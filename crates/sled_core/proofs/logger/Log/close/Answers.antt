@@ -1,4 +1,4 @@
-use Rattle.std.proofs.Common.{◌≡◌, ◌∙◌, ℕ, max, sym, ap, subst, Result, Ok, Err, OnOk}
+use Rattle.std.proofs.Common.{max, subst, Result, Ok, Err, OnOk}
 use Rattle.sled_codec.specs.declared.result.Error.{Error}
 use Rattle.sled_store.specs.Device.{state_of}
 use Rattle.sled_core.specs.Fits.{reserved_end, segment_size_of, synced_end}

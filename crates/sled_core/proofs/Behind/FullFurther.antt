@@ -1,0 +1,208 @@
+-- All segments of a log before a place are wholly on the device, and so is the one that begins there: so are all before the next place. A reader comes up to where its records end.
+use Rattle.std.proofs.Common.{◌≡◌, ◌≢◌, ◌≤◌, ◌<◌, ◌+◌, ◌-◌, ◌∙◌, ℕ, List, [], ◌∷◌, length, map, replicate, Option, None, refl, sym, ap, subst, arith, inl, inr}
+use Rattle.std.specs.List.{All, Contains}
+use Rattle.std.specs.declared.io.Error.{Error as IoError}
+use Rattle.std.proofs.lemmas.Bool.{cases_lt}
+use Rattle.std.proofs.lemmas.List.Elements.{All-contains}
+use Rattle.sled_codec.specs.Coords.{raised}
+use Rattle.sled_codec.specs.History.{Batch, History, Message}
+use Rattle.sled_store.specs.Device.{State}
+use Rattle.sled_store.proofs.Histories.Ascending.{Ascends}
+use Rattle.sled_store.proofs.Segments.Elements.{in_rest}
+use Rattle.sled_core.specs.declared.iterator.scan.ScannedRecord.{ScannedRecord}
+use Rattle.sled_core.specs.declared.iterator.scan.ScanEnd.{ScanEnd}
+use Rattle.sled_core.specs.declared.iterator.scan.ScanEnd.TheVariants.{Full, Broken}
+use Rattle.sled_core.specs.Buffers.{NoPadding}
+use Rattle.sled_core.specs.Fits.{HoldsIn, SegmentParts, begun_segment, log_parts}
+use Rattle.sled_core.specs.Full.{FitsFull, StandsFull}
+use Rattle.sled_core.specs.LogFile.{padded}
+use Rattle.sled_core.specs.Reached.{BeginsNext, IsReadTo, IsSoFar}
+use Rattle.sled_core.specs.Recoverable.{NoHeaderOfZeros}
+use Rattle.sled_core.specs.Running.{BlobsFit}
+use Rattle.sled_core.specs.Scan.{IsScan}
+use Rattle.sled_core.specs.Tail.{Scanned}
+use Rattle.sled_core.proofs.Behind.FullHolds.{emptied, none_reserved, none_sealed}
+use Rattle.sled_core.proofs.Behind.FullNext.{at_place, first, follow, full_file, full_here, here, holds_now, inline, ordered, rest}
+use Rattle.sled_core.proofs.Behind.FullRead.{ends_read, inside, none_behind, same_stop}
+use Rattle.sled_core.proofs.Behind.FullZeros.{zeros_or_not}
+use Rattle.sled_core.proofs.Flush.Padded.{padded_none}
+use Rattle.sled_core.proofs.Flush.Settled.{InlineFrom, blobs_higher, settled_recoverable}
+use Rattle.sled_core.proofs.Holds.WholeHistory.{later_above, of_first, which_part}
+use Rattle.sled_core.proofs.Flush.Completed.{all_below}
+use Rattle.sled_core.proofs.Reached.NextSegment.{next_full, read}
+use Rattle.sled_core.proofs.Reached.Recoverable.{less_than}
+use Rattle.sled_core.proofs.Sealed.Ended.{ends_rise}
+use Rattle.sled_core.proofs.Sealed.FullSegment.{full_why}
+use Rattle.sled_core.proofs.Tail.Multiples.{next_multiple, one_multiple}
+use Rattle.sled_core.proofs.Tail.OneTail.{segment_there}
+use Rattle.sled_core.proofs.Torn.WrittenParts.{path_rises}
+
+module _ (sum : List ℕ → ℕ) (size : ℕ) (device : State) (fault : Option IoError) (place : ℕ) (s : SegmentParts) (ss : List SegmentParts) {reach pins : ℕ} {H : History} {A f : ℕ} {U : List Message}
+    (fits : FitsFull sum size device fault place (s ∷ ss) reach pins H A f U) (big : 256 ≤ size) (whole : fault ≡ None) (plain : All NoPadding s.reserved) (full : s.written_len ≡ size) where
+  begins : s.site.place ≡ place
+  begins = at_place sum size device fault place s ss fits big whole plain
+
+  ascends : Ascends H.messages
+  ascends = ordered sum size device fault place s ss fits big whole plain
+
+  low_end : length s.bytes ≤ s.written_len
+  low_end = let within = (here sum size device fault place s ss fits big whole plain).inside in omega (arith, within, full)
+
+  some_written : 0 < s.written_len
+  some_written = omega (arith, full, big)
+
+  abbrev holds_full : HoldsIn sum (log_parts size s.site device fault s.bytes size [] []) ss H
+  holds_full =
+      let next = here sum size device fault place s ss fits big whole plain in
+      emptied sum size s.site device fault s.bytes s.written_len s.sealed s.reserved ss H (holds_now sum size device fault place s ss fits big whole plain) full
+      (none_sealed s.written_len s.sealed (length s.bytes) (ends_rise s.written_len s.reserved s.sealed (length s.bytes) next.are next.behind next.held) low_end)
+      (none_reserved sum size s.site device fault s.bytes s.written_len s.sealed s.reserved _ (holds_now sum size device fault place s ss fits big whole plain).own low_end)
+
+  -- Where it stands so, up to a place no lower, behind all messages of the segment.
+  module _ (reach' : ℕ) (up : reach ≤ reach') (near' : reach' ≤ s.site.place + size) (ends' : (m : Message) → Contains H.messages m → m.place < s.site.place + size → (m.place < reach') × (m.place + m.size ≤ reach'))
+      (stands : (to : ℕ) → NoHeaderOfZeros sum → StandsFull sum size (padded to device.log.bytes) (s.site.place + size) (map begun_segment ss) reach' H fits.holds.begun.first) where
+    inline_before : InlineFrom H reach
+    inline_before = inline sum size device fault place s ss fits big whole plain
+
+    inline_now : InlineFrom H reach'
+    inline_now m there past = inline_before m there (omega (arith, up, past))
+
+    blobs_now : BlobsFit sum device.blobs H reach'
+    blobs_now = blobs_higher sum device.blobs H reach reach' ascends up inline_before fits.blobs
+
+    fits_further : FitsFull sum size device fault (s.site.place + size) ss reach' pins H A f U
+    fits_further = record {
+      site = s.site;
+      bytes = s.bytes;
+      next = refl;
+      holds = holds_full;
+      near = near';
+      ends = ends';
+      closes = λ k d lt. let b = fits.closes k d lt in (omega (arith, b.0, up), omega (arith, b.1, up));
+      marked = λ x there none mark header. less_than mark place (s.site.place + size) (let at = begins in omega (arith, at)) (fits.marked x (in_rest s x ss there) none mark header);
+      beyond = λ to none zeros. stands to zeros;
+      blobs = blobs_now;
+      names = fits.names;
+      passes = let passes = fits.passes in omega (arith, passes, up);
+      pinned = fits.pinned;
+      left = settled_recoverable sum size big device H reach' f fits.holds.begun.first reach' ascends inline_now (rest sum size device fault place s ss fits big whole plain) fits.names blobs_now
+          (λ zeros. (subst (λ (l : List ℕ). StandsFull sum size l (s.site.place + size) (map begun_segment ss) reach' H fits.holds.begun.first) (padded_none 0 device.log.bytes (omega arith)) (stands 0 zeros)).stands);
+    }
+
+  -- How it is read in a file where all before it is.
+  module _ (log : List ℕ) (is : StandsFull sum size log place (map begun_segment (s ∷ ss)) reach H fits.holds.begun.first) where
+    abbrev full_now : StandsFull sum size log s.site.place (map begun_segment (s ∷ ss)) reach H fits.holds.begun.first
+    full_now = full_here sum size device fault place s ss fits big whole plain log is
+
+    abbrev its_read : (stop : ℕ) × (why : ScanEnd) × IsReadTo full_now.stands.scanned s.site.slot s.site.place stop why × IsSoFar size s.written_len stop why
+    its_read = read sum size big log (begun_segment s) (map begun_segment ss) reach H fits.holds.begun.first full_now (follow sum size device fault place s ss fits big whole plain) ascends some_written
+
+    abbrev stop : ℕ
+    stop = its_read.0
+
+    its_scan : (met : List ScannedRecord) × IsScan sum size log s.site.slot s.site.place met stop its_read.1
+    its_scan =
+        let r = its_read.2 in
+        let t : Scanned = r.scan in
+        let had = (segment_there sum size log full_now.stands.ordering full_now.stands.scanned full_now.stands.reads t r.there).1 in
+        (t.met, subst (λ (w : ScanEnd). IsScan sum size log s.site.slot s.site.place t.met stop w) r.ends
+        (subst (λ n. IsScan sum size log s.site.slot s.site.place t.met n t.why) r.ended
+        (subst (λ n. IsScan sum size log s.site.slot n t.met t.stop t.why) r.at_place
+        (subst (λ n. IsScan sum size log n t.segment.place t.met t.stop t.why) r.in_slot had))))
+
+    goes : its_read.1 ≢ Broken
+    unfolding IsScan
+    goes = elim its_read.3 [
+      | inl ends ↦ (λ broken.
+          let at = ends.0 in
+          let never : Full ≡ Broken = sym (full_why sum size log s.site.slot s.site.place stop its_read.1 (omega (arith, at, full)) its_scan.1.1) ∙ broken in cc)
+      | inr ends ↦ ends.1
+    ]
+
+    scan_goes : its_read.2.scan.why ≢ Broken
+    scan_goes broken = goes (sym its_read.2.ends ∙ broken)
+
+    behind_header : 20 ≤ stop
+    unfolding IsScan
+    behind_header = path_rises sum size log s.site.slot s.site.place 20 its_scan.0 stop its_scan.1.0
+
+    within : stop ≤ size
+    within =
+        let r = its_read.2 in
+        let short = inside sum size log big H reach fits.holds.begun.first reach full_now.stands ascends r.scan r.there scan_goes in
+        let ended = r.ended in
+        omega (arith, short, ended)
+
+    -- a message of the segment ends below where the reading does
+    ends_here : (m : Message) → Contains H.messages m → m.place < s.site.place + size → (m.place < s.site.place + stop) × (m.place + m.size ≤ s.site.place + stop)
+    ends_here m there under = elim (cases_lt m.place place) [
+      | inl before ↦ (let low = fits.ends m there before in let near = fits.near in let at = begins in (omega (arith, low.0, near, at), omega (arith, low.1, near, at)))
+      | inr behind ↦ (
+          let r = its_read.2 in
+          let at = r.at_place in
+          let ended = r.ended in
+          let low = ends_read sum size log big H reach fits.holds.begun.first reach full_now.stands ascends r.scan r.there scan_goes m there (let b = begins in omega (arith, behind, at, b)) (omega (arith, under, at)) in
+          (omega (arith, low.0, at, ended), omega (arith, low.1, at, ended)))
+    ]
+
+    closed_low : (b : Batch) → Contains H.batches b → (b.low < place) × (b.peg < place)
+    closed_low b there = let its = All-contains (λ (c : Batch). (c.low < reach) × (c.peg < reach)) H.batches b fits.closes there in let near = fits.near in (omega (arith, its.0, near), omega (arith, its.1, near))
+
+    -- The next one begins behind it, with nothing of the history between.
+    begins_next : BeginsNext size H (s.site.place + stop) (s.site.place + size)
+    begins_next =
+        let r = its_read.2 in
+        let at = r.at_place in
+        let ended = r.ended in
+        let header = behind_header in
+        let short = within in
+        let b = begins in
+        let further : raised size (s.site.place + stop) ≡ s.site.place + size =
+        one_multiple size big (s.site.place + size) (s.site.place + stop + (size - 1)) (next_multiple size s.site.place holds_full.own.place_begins) (omega (arith, header, big)) (omega (arith, short, big)) in
+        record {
+          above = omega (arith, short);
+          next = omega (arith, further);
+          no_message = λ m there. elim (none_behind sum size log big H reach fits.holds.begun.first reach full_now.stands ascends r.scan r.there scan_goes m there) [ inl low ↦ inl (omega (arith, low, at, ended)) | inr past ↦ inr (omega (arith, past, at)) ];
+          no_batch = λ c there. let low = closed_low c there in inl (omega (arith, low.0, b));
+          no_end = λ c there. let low = closed_low c there in inl (omega (arith, low.1, b));
+        }
+
+    stands_further : StandsFull sum size log (s.site.place + size) (map begun_segment ss) (s.site.place + stop) H fits.holds.begun.first
+    stands_further = next_full sum size big log (begun_segment s) (map begun_segment ss) reach H fits.holds.begun.first full_now (follow sum size device fault place s ss fits big whole plain) ascends some_written
+        (λ c there lower. let low = closed_low c there in let b = begins in omega (arith, low.1, b)) goes (let header = behind_header in omega (arith, header)) begins_next
+
+  -- With any number of zeros behind its end the file is read to the same place.
+  same_end : (zeros : NoHeaderOfZeros sum) (to : ℕ) → stop (padded to device.log.bytes) (fits.beyond to whole zeros) ≡ stop device.log.bytes (full_file sum size device fault place s ss fits big whole plain zeros)
+  same_end zeros to =
+      let here_file = full_file sum size device fault place s ss fits big whole plain zeros in
+      let a = its_scan device.log.bytes here_file in
+      let b = its_scan (padded to device.log.bytes) (fits.beyond to whole zeros) in
+      same_stop sum size device.log.bytes (replicate (to - length device.log.bytes) 0) s.site.slot s.site.place holds_full.own.slot_begins a.0 (its_read device.log.bytes here_file).0 (its_read device.log.bytes here_file).1 (goes device.log.bytes here_file) a.1
+      b.0 (its_read (padded to device.log.bytes) (fits.beyond to whole zeros)).0 (its_read (padded to device.log.bytes) (fits.beyond to whole zeros)).1 b.1
+
+  -- all messages of the segments so far end below the next place
+  ends_all : (m : Message) → Contains H.messages m → m.place < s.site.place + size → (m.place < s.site.place + size) × (m.place + m.size ≤ s.site.place + size)
+  ends_all m there under = elim (which_part sum size s.site device fault s.bytes size [] [] H holds_full m there) [
+    | inl mine ↦ (
+        let low = All-contains (λ (x : Message). (x.place < s.site.place + length s.bytes) × (x.place + x.size ≤ s.site.place + length s.bytes)) holds_full.head m
+        (all_below sum size s.site device fault s.bytes size [] [] (of_first sum size s.site device fault s.bytes size [] [] H holds_full) holds_full.own) mine in
+        let end = low_end in
+        (under, omega (arith, low.1, end, full)))
+    | inr later ↦ absurd (let far = All-contains (λ (x : Message). s.site.place + size ≤ x.place) holds_full.later m (later_above sum size s.site device fault s.bytes size [] [] H holds_full) later in omega (arith, far, under))
+  ]
+
+  -- So all before the next place is on the device.
+  pub full_further : (now : ℕ) × FitsFull sum size device fault (place + size) ss now pins H A f U
+  full_further = subst (λ n. (now : ℕ) × FitsFull sum size device fault (n + size) ss now pins H A f U) begins (elim (zeros_or_not sum) [
+    | inl zeros ↦ (
+        let here_file = full_file sum size device fault place s ss fits big whole plain zeros in
+        let near = fits.near in
+        let at = begins in
+        let short = within device.log.bytes here_file in (
+          s.site.place + stop device.log.bytes here_file,
+          fits_further (s.site.place + stop device.log.bytes here_file) (omega (arith, near, at)) (omega (arith, short)) (ends_here device.log.bytes here_file)
+              (λ to none. subst (λ n. StandsFull sum size (padded to device.log.bytes) (s.site.place + size) (map begun_segment ss) (s.site.place + n) H fits.holds.begun.first) (same_end zeros to)
+              (stands_further (padded to device.log.bytes) (fits.beyond to whole zeros))),
+        ))
+    | inr never ↦ (let near = fits.near in let at = begins in (s.site.place + size, fits_further (s.site.place + size) (omega (arith, near, at)) (omega arith) ends_all (λ to none. absurd (never none))))
+  ])

@@ -1,0 +1,47 @@
+-- All of a segment is written: it has no sealed buffers and no reservations any more.
+use Rattle.std.proofs.Common.{◌≡◌, ◌≤◌, ◌<◌, ◌+◌, ◌/◌, ℕ, max, List, [], ◌∷◌, length, Option, refl, subst, arith}
+use Rattle.std.specs.declared.io.Error.{Error as IoError}
+use Rattle.sled_codec.specs.History.{History, Message}
+use Rattle.sled_codec.specs.Snapshots.{stable_place}
+use Rattle.sled_store.specs.Device.{State}
+use Rattle.sled_core.specs.declared.iobuf.Reserved.{Reserved}
+use Rattle.sled_core.specs.declared.iobuf.Sealed.{Sealed}
+use Rattle.sled_core.specs.declared.iobuf.SegmentPosition.{SegmentPosition}
+use Rattle.sled_core.specs.Fits.{HoldsIn, HoldsSegment, SegmentParts, log_parts}
+use Rattle.sled_core.specs.LogFile.{StaysFrom}
+use Rattle.sled_core.proofs.Reserve.Entries.{some_long}
+use Rattle.sled_core.proofs.Sealed.LaidLemmas.{EndsRise, ends_below}
+use Rattle.sled_core.proofs.Sealed.RecordsEnd.{none_behind}
+
+-- buffers that end no higher than they begin are none
+pub none_sealed : (from : ℕ) (bs : List Sealed) (to : ℕ) → EndsRise from bs to → to ≤ from → bs ≡ []
+none_sealed from [] to rise low = refl
+none_sealed from (b ∷ bs) to rise low = let below = ends_below b.end bs to rise.1 in absurd (omega (arith, rise.0, below.0, below.1, low))
+
+-- nothing is reserved behind what is written
+pub none_reserved : (sum : List ℕ → ℕ) (size : ℕ) (site : SegmentPosition) (device : State) (fault : Option IoError) (bytes : List ℕ) (from : ℕ) (bs : List Sealed) (rs : List Reserved) (H : History) {stays : Message → Type 0}
+    → HoldsSegment sum (log_parts size site device fault bytes from bs rs) stays H → length bytes ≤ from → rs ≡ []
+none_reserved sum size site device fault bytes from bs rs H holds low = none_behind (max 20 from) rs (length bytes) holds.chain (omega (arith, low)) (some_long sum size (site.place / size) bytes rs holds.stand)
+
+-- The log holds the same where that is said of its first segment.
+abbrev pub emptied : (sum : List ℕ → ℕ) (size : ℕ) (site : SegmentPosition) (device : State) (fault : Option IoError) (bytes : List ℕ) (from : ℕ) (bs : List Sealed) (rs : List Reserved) (behind : List SegmentParts) (H : History)
+    → HoldsIn sum (log_parts size site device fault bytes from bs rs) behind H → from ≡ size → bs ≡ [] → rs ≡ [] → HoldsIn sum (log_parts size site device fault bytes size [] []) behind H
+emptied sum size site device fault bytes from bs rs behind H holds full unsealed unreserved = record {
+  begun = record {
+    first = holds.begun.first;
+    begins = holds.begun.begins;
+    table = holds.begun.table;
+    fits = holds.begun.fits;
+    least = holds.begun.least;
+    reached = (let reached = holds.begun.reached in omega (arith, reached, full));
+  };
+  head = holds.head;
+  later = holds.later;
+  messages = holds.messages;
+  own = (
+      let Holds : ℕ → List Sealed → List Reserved → Type 0 = λ n cs l. HoldsSegment sum (log_parts size site device fault bytes n cs l) (StaysFrom H (stable_place holds.begun.first.stable)) (record { messages = holds.head; batches = H.batches }) in
+      subst (λ n. Holds n [] []) full (subst (λ (cs : List Sealed). Holds from cs []) unsealed (subst (λ (l : List Reserved). Holds from bs l) unreserved holds.own)));
+  others = holds.others;
+  apart = holds.apart;
+  plain = λ k d lt. absurd (omega (arith, lt));
+}

@@ -1,0 +1,125 @@
+-- All segments of a log before a place are wholly on the device, and the one that begins there isn't: it is the first one of a log that fits the same history, as far as it was written before.
+use Rattle.std.proofs.Common.{◌≡◌, ◌≤◌, ◌<◌, ◌+◌, ◌∙◌, ℕ, List, [], ◌∷◌, length, map, Option, None, refl, sym, subst, arith, inl, inr}
+use Rattle.std.specs.List.{All, Contains}
+use Rattle.std.specs.declared.io.Error.{Error as IoError}
+use Rattle.std.proofs.lemmas.Bool.{cases_lt}
+use Rattle.std.proofs.lemmas.List.Elements.{All-contains}
+use Rattle.sled_codec.specs.History.{History, Message}
+use Rattle.sled_codec.specs.Snapshots.{SnapshotModel, stable_place}
+use Rattle.sled_store.specs.Device.{State, at_rest}
+use Rattle.sled_store.proofs.Histories.Ascending.{Ascends}
+use Rattle.sled_store.proofs.Segments.Elements.{in_rest}
+use Rattle.sled_core.specs.Buffers.{NoPadding}
+use Rattle.sled_core.specs.Fits.{CloseBelow, HoldsIn, HoldsNext, SegmentParts, begun_segment, log_parts}
+use Rattle.sled_core.specs.Full.{FitsFull, StandsFull}
+use Rattle.sled_core.specs.LogFile.{StaysBelow, padded}
+use Rattle.sled_core.specs.Reached.{FollowApart, StandsAmong}
+use Rattle.sled_core.specs.Recoverable.{NoHeaderOfZeros}
+use Rattle.sled_core.specs.Running.{BlobsFit, FitsIn}
+use Rattle.sled_core.proofs.Behind.Promoted.{promoted}
+use Rattle.sled_core.proofs.Flush.Padded.{padded_none}
+use Rattle.sled_core.proofs.Flush.Settled.{InlineFrom, blobs_higher, rests, settled_recoverable}
+use Rattle.sled_core.proofs.Holds.ReachLemmas.{written_before}
+use Rattle.sled_core.proofs.Holds.WholeHistory.{later_above, of_first, which_part, whole_ascends, whole_inline}
+use Rattle.sled_core.proofs.Reached.NextSegment.{next_begins, next_goes, read}
+use Rattle.sled_core.proofs.Reached.Recoverable.{less_than}
+
+module _ (sum : List ℕ → ℕ) (size : ℕ) (device : State) (fault : Option IoError) (place : ℕ) (s : SegmentParts) (ss : List SegmentParts) {reach pins : ℕ} {H : History} {A f : ℕ} {U : List Message}
+    (fits : FitsFull sum size device fault place (s ∷ ss) reach pins H A f U) (big : 256 ≤ size) (whole : fault ≡ None) (plain : All NoPadding s.reserved) where
+  abbrev pub first : SnapshotModel
+  first = fits.holds.begun.first
+
+  abbrev pub here : HoldsNext sum size device fault (fits.site.place + size) s (StaysBelow H (stable_place first.stable) fits.site.place) H.batches fits.holds.others.0
+  here = fits.holds.others.3
+
+  -- it begins at the place
+  pub at_place : s.site.place ≡ place
+  at_place = here.next ∙ fits.next
+
+  -- what the log holds with it as the first one
+  abbrev pub holds_now : HoldsIn sum (log_parts size s.site device fault s.bytes s.written_len s.sealed s.reserved) ss H
+  holds_now = promoted sum size fits.site device fault fits.bytes size [] [] H s ss fits.holds big refl refl plain
+
+  pub ordered : Ascends H.messages
+  ordered = whole_ascends sum size s.site device fault s.bytes s.written_len s.sealed s.reserved H holds_now here.inside
+
+  -- Messages from what was reached on have their items in their records,
+  pub inline : InlineFrom H reach
+  inline m there past = elim (cases_lt m.place place) [
+    | inl below ↦ absurd (let low = fits.ends m there below in omega (arith, low.0, past))
+    | inr over ↦ whole_inline sum size fits.site device fault fits.bytes size [] [] H fits.holds m there (let next = fits.next in omega (arith, over, next))
+  ]
+
+  -- and the log file is at rest.
+  pub rest : device.log ≡ at_rest device.log.bytes
+  rest = let on_device = fits.holds.own.written whole in rests device.log on_device.log on_device.settled
+
+  pub follow : FollowApart s.site (map begun_segment ss)
+  follow = fits.holds.apart.1
+
+  -- the file itself stands as with nothing behind its end
+  pub full_file : NoHeaderOfZeros sum → StandsFull sum size device.log.bytes place (map begun_segment (s ∷ ss)) reach H first
+  full_file zeros = subst (λ (l : List ℕ). StandsFull sum size l place (map begun_segment (s ∷ ss)) reach H first) (padded_none 0 device.log.bytes (omega arith)) (fits.beyond 0 whole zeros)
+
+  -- Where it stands as far as it was written, up to a place no lower, behind all messages that are written then.
+  module _ (reach' : ℕ) (up : reach ≤ reach') (near' : reach' ≤ s.site.place + s.written_len) (ends' : (m : Message) → Contains H.messages m → m.place < s.site.place + s.written_len → (m.place < reach') × (m.place + m.size ≤ reach'))
+      (stands : (log : List ℕ) → StandsFull sum size log place (map begun_segment (s ∷ ss)) reach H first → StandsAmong sum size log s.site s.written_len (map begun_segment ss) reach' H first) where
+    inline_now : InlineFrom H reach'
+    inline_now m there past = inline m there (omega (arith, up, past))
+
+    blobs_now : BlobsFit sum device.blobs H reach'
+    blobs_now = blobs_higher sum device.blobs H reach reach' ordered up inline fits.blobs
+
+    fits_now : FitsIn sum (log_parts size s.site device fault s.bytes s.written_len s.sealed s.reserved) ss reach' pins H A f U
+    fits_now = record {
+      holds = holds_now;
+      near = near';
+      ends = ends';
+      closes = λ k d lt. let b = fits.closes k d lt in (omega (arith, b.0, up), omega (arith, b.1, up));
+      marked = λ x there none mark header. less_than mark place (s.site.place + s.written_len) (let at = at_place in omega (arith, at)) (fits.marked x (in_rest s x ss there) none mark header);
+      among = λ none zeros. stands device.log.bytes (full_file zeros);
+      beyond = λ to far none zeros. stands (padded to device.log.bytes) (fits.beyond to none zeros);
+      blobs = blobs_now;
+      names = fits.names;
+      passes = let passes = fits.passes in omega (arith, passes, up);
+      pinned = fits.pinned;
+      left = settled_recoverable sum size big device H reach' f first reach' ordered inline_now rest fits.names blobs_now (λ zeros. (stands device.log.bytes (full_file zeros)).stands);
+    }
+
+  -- The messages below what is written of it end there.
+  ends_written : s.written_len < size → (m : Message) → Contains H.messages m → m.place < s.site.place + s.written_len → (m.place < s.site.place + s.written_len) × (m.place + m.size ≤ s.site.place + s.written_len)
+  ends_written left_over m there below = elim (which_part sum size s.site device fault s.bytes s.written_len s.sealed s.reserved H holds_now m there) [
+    | inl mine ↦ All-contains (λ (x : Message). (x.place < s.site.place + s.written_len) × (x.place + x.size ≤ s.site.place + s.written_len)) holds_now.own.earlier m holds_now.own.below
+        (written_before sum size s.site device fault s.bytes s.written_len s.sealed s.reserved (of_first sum size s.site device fault s.bytes s.written_len s.sealed s.reserved H holds_now) holds_now.own m mine below)
+    | inr later ↦ absurd (
+        let far = All-contains (λ (x : Message). s.site.place + size ≤ x.place) holds_now.later m (later_above sum size s.site device fault s.bytes s.written_len s.sealed s.reserved H holds_now) later in
+        omega (arith, far, left_over, below))
+  ]
+
+  -- it stands behind the full one in a file
+  pub full_here : (log : List ℕ) → StandsFull sum size log place (map begun_segment (s ∷ ss)) reach H first → StandsFull sum size log s.site.place (map begun_segment (s ∷ ss)) reach H first
+  full_here log full = subst (λ n. StandsFull sum size log n (map begun_segment (s ∷ ss)) reach H first) (sym at_place) full
+
+  goes_on : 0 < s.written_len → s.written_len < size → (log : List ℕ) → StandsFull sum size log place (map begun_segment (s ∷ ss)) reach H first
+      → StandsAmong sum size log s.site s.written_len (map begun_segment ss) (s.site.place + s.written_len) H first
+  goes_on some left_over log full =
+      let is : StandsFull sum size log s.site.place (map begun_segment (s ∷ ss)) reach H first = full_here log full in
+      let r = read sum size big log (begun_segment s) (map begun_segment ss) reach H first is follow ordered some in
+      let at : r.0 ≡ s.written_len = elim r.3 [ inl ends ↦ ends.0 | inr ends ↦ absurd (let all = ends.0 in omega (arith, all, left_over)) ] in
+      subst (λ n. StandsAmong sum size log s.site s.written_len (map begun_segment ss) (s.site.place + n) H first) at
+      (next_goes sum size big log (begun_segment s) (map begun_segment ss) reach H first is follow ordered some
+      (λ b there lower. let closed = All-contains (λ c. (c.low < reach) × (c.peg < reach)) H.batches b fits.closes there in let near = fits.near in let begins = at_place in omega (arith, closed.1, near, begins)) at)
+
+  -- So the log fits the history, with that one as its first segment.
+  pub full_next : s.written_len < size → (now : ℕ) × FitsIn sum (log_parts size s.site device fault s.bytes s.written_len s.sealed s.reserved) ss now pins H A f U
+  full_next left_over = elim (cases_lt 0 s.written_len) [
+    | inl some ↦ (s.site.place + s.written_len, fits_now (s.site.place + s.written_len) (let near = fits.near in let at = at_place in omega (arith, near, at)) (omega arith) (ends_written left_over) (goes_on some left_over))
+    | inr first_one ↦ (
+        let none : s.written_len ≡ 0 = omega (arith, first_one) in
+        let at = at_place in (
+          reach,
+          fits_now reach (omega arith) (let near = fits.near in omega (arith, near, at)) (λ m there below. fits.ends m there (omega (arith, below, none, at)))
+              (λ log full. subst (λ n. StandsAmong sum size log s.site n (map begun_segment ss) reach H first) (sym none)
+              (next_begins sum size big log (begun_segment s) (map begun_segment ss) reach H first (full_here log full) follow none)),
+        ))
+  ]

@@ -1,0 +1,50 @@
+-- A log whose first segments are wholly on the device: what the segments that were begun behind them have to do with a history, until one of them is the first that isn't.
+use Rattle.std.specs.Prelude.{◌≡◌, ◌≢◌, ◌⊎◌, ◌+◌, ◌≤◌, ◌<◌, ◌<ℤ◌, ℕ, ℤ, pos, List, [], map, take, Option, None, Contains}
+use Rattle.std.specs.declared.io.Error.{Error as IoError}
+use Rattle.sled_codec.specs.History.{Message, History}
+use Rattle.sled_codec.specs.Record.{short_header}
+use Rattle.sled_codec.specs.Snapshots.{SnapshotModel}
+use Rattle.sled_store.specs.Device.{State}
+use Rattle.sled_core.specs.declared.iobuf.SegmentPosition.{SegmentPosition}
+use Rattle.sled_core.specs.declared.iterator.Segment.{Segment}
+use Rattle.sled_core.specs.Fits.{CloseBelow, HoldsIn, SegmentParts, begun_segment, log_parts}
+use Rattle.sled_core.specs.LogFile.{padded}
+use Rattle.sled_core.specs.Reached.{BeginsNext, BeginsOne, BegunSegment, LeadsTo, StandsIn, StandsTo}
+use Rattle.sled_core.specs.Recoverable.{LeavesRecoverable, NoHeaderOfZeros}
+use Rattle.sled_core.specs.Running.{BlobsFit, NamesFit}
+use Rattle.sled_core.specs.Scan.{IsFoundSegment}
+use Rattle.sled_core.specs.Tail.{least_place}
+
+-- The segment before one at this place is full and read to its end; behind it come these, each as far as it is written.
+pub record StandsFull (sum : List ℕ → ℕ) (size : ℕ) (log : List ℕ) (place : ℕ) (others : List BegunSegment) (reach : ℕ) (H : History) (first : SnapshotModel) : Type 0 where
+  pub stands : StandsTo sum size log H reach first reach
+  pub leads : LeadsTo sum size log (least_place size first) reach place
+  pub near : BeginsNext size H reach place
+  pub behind : (x : BegunSegment) → Contains others x → StandsIn sum size log (least_place size first) stands.scanned x.site x.from
+  pub last : (s : Segment) → IsFoundSegment sum size log (least_place size first) s → (s.place < place) ⊎ BeginsOne others s.place
+  pub below : (s : Segment) → IsFoundSegment sum size log (least_place size first) s → s.mark <ℤ pos place
+
+-- What a log has to do with a history, the end of what was acknowledged, the floor and the messages that were not marked yet, where all its segments before a place are wholly on the device, and these were begun from there on.
+pub record FitsFull (sum : List ℕ → ℕ) (size : ℕ) (device : State) (fault : Option IoError) (place : ℕ) (behind : List SegmentParts) (reach pins : ℕ) (H : History) (A f : ℕ) (U : List Message) : Type 0 where
+  -- the last one of those before the place, and its bytes
+  pub site : SegmentPosition
+  pub bytes : List ℕ
+  pub next : site.place + size ≡ place
+  -- it holds all messages before the place, and those behind it the later ones
+  pub holds : HoldsIn sum (log_parts size site device fault bytes size [] []) behind H
+  -- a reader comes up to there, behind all messages before the place
+  pub near : reach ≤ place
+  pub ends : (m : Message) → Contains H.messages m → m.place < place → (m.place < reach) × (m.place + m.size ≤ reach)
+  pub closes : CloseBelow reach H.batches
+  -- the header of a segment of which nothing is written has a mark below the place
+  pub marked : (s : SegmentParts) → Contains behind s → s.written_len ≡ 0 → (mark : ℤ) → take 20 s.bytes ≡ short_header sum (pos s.site.place) mark → mark <ℤ pos place
+  -- so stands the file, with any number of zeros behind its end
+  pub beyond : (to : ℕ) → fault ≡ None → NoHeaderOfZeros sum → StandsFull sum size (padded to device.log.bytes) place (map begun_segment behind) reach H holds.begun.first
+  pub blobs : BlobsFit sum device.blobs H reach
+  pub names : NamesFit sum size device.snapshots H f holds.begun.first
+  -- all that was acknowledged is written
+  pub passes : A ≤ reach
+  -- a pin is out while a completed message is not marked
+  pub pinned : U ≢ [] → 0 < pins
+  -- what a crash leaves now can be recovered, with all that is written counted as acknowledged
+  pub left : LeavesRecoverable sum size H reach f device
