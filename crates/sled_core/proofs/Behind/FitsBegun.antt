@@ -1,11 +1,11 @@
 -- A further segment begins behind all that were begun, in a slot that has zeros: the log fits the history that it fitted.
-use Rattle.std.proofs.Common.{◌≡◌, ◌≢◌, ◌∙◌, ◌≤◌, ◌+◌, ◌<ℤ◌, ◌%◌, ℕ, ℤ, pos, List, [], ◌∷◌, ◌++◌, length, map, take, Option, None, sym, subst, arith, inl, inr}
+use Rattle.std.proofs.Common.{◌≡◌, ◌≢◌, ◌∙◌, ◌≤◌, ◌<◌, ◌+◌, ◌<ℤ◌, ◌%◌, ◌^◌, ℕ, ℤ, pos, List, [], ◌∷◌, ◌++◌, length, map, take, Option, None, sym, subst, arith, inl, inr}
 use Rattle.std.specs.List.{Contains}
 use Rattle.std.specs.declared.io.Error.{Error as IoError}
 use Rattle.std.proofs.lemmas.List.{map-append}
 use Rattle.std.proofs.lemmas.List.Elements.{Contains-append_cases}
 use Rattle.sled_codec.specs.History.{Message, History}
-use Rattle.sled_codec.specs.Record.{short_header}
+use Rattle.sled_codec.specs.Record.{IsHeader}
 use Rattle.sled_store.specs.Device.{State}
 use Rattle.sled_store.proofs.Segments.Elements.{in_cases, in_nothing}
 use Rattle.sled_core.specs.declared.iobuf.Reserved.{Reserved}
@@ -20,13 +20,15 @@ use Rattle.sled_core.specs.SealedBuffers.{AreZeros}
 use Rattle.sled_core.proofs.Behind.Around.{behind_place}
 use Rattle.sled_core.proofs.Behind.Begins.{begun_with, behind-begins, far, next_above, next_apart}
 use Rattle.sled_core.proofs.Flush.Padded.{padded_get}
+use Rattle.sled_codec.proofs.Segments.{one_header}
+use Rattle.sled_core.proofs.Reached.BufferPath.{buffer_header}
 use Rattle.sled_core.proofs.Reached.NextSegment.{begins_behind}
 
 module _ (sum : List ℕ → ℕ) (size : ℕ) (site : SegmentPosition) (device : State) (fault : Option IoError) (bytes : List ℕ) (from : ℕ) (bs : List Sealed) (rs : List Reserved) (pins : ℕ) (H : History) (A f : ℕ) (U : List Message)
     (behind : List SegmentParts) {reach : ℕ} (fits : FitsIn sum (log_parts size site device fault bytes from bs rs) behind reach pins H A f U) (big : 256 ≤ size) (short : length bytes ≤ size)
     (next : SegmentPosition) (text : List ℕ) (at : next.place ≡ behind_place size (site.place + size) behind) (aligned : next.slot % size ≡ 0) (header_long : length text ≡ 20) (mark : HasMark sum next text H)
     (other : next.slot ≢ site.slot) (others : (y : BegunSegment) → Contains (map begun_segment behind) y → next.slot ≢ y.site.slot) (zeros : fault ≡ None → AreZeros device.log.bytes next.slot (next.slot + size))
-    (low_mark : (m : ℤ) → take 20 text ≡ short_header sum (pos next.place) m → m <ℤ pos (site.place + from)) where
+    (low_mark : mark.mark <ℤ pos (site.place + from)) (place_small : next.place < 2 ^ 63) where
   abbrev begun : SegmentParts
   begun = begun_with next text
 
@@ -62,7 +64,10 @@ module _ (sum : List ℕ → ℕ) (size : ℕ) (site : SegmentPosition) (device 
     marked = λ x among unwritten m header. elim (Contains-append_cases behind (begun ∷ []) x among) [
       | inl had ↦ fits.marked x had unwritten m header
       | inr added ↦ elim (in_cases begun x [] added) [
-        | inl same ↦ low_mark m (subst (λ (w : SegmentParts). take 20 w.bytes ≡ short_header sum (pos w.site.place) m) (sym same) header)
+        | inl same ↦ (
+            let here : IsHeader sum (take 20 text) (pos next.place) m = subst (λ (w : SegmentParts). IsHeader sum (take 20 w.bytes) (pos w.site.place) m) (sym same) header in
+            let one = one_header sum (take 20 text) (pos next.place) mark.mark (pos next.place) m (buffer_header sum next text H mark place_small) here in
+            subst (λ z. z <ℤ pos (site.place + from)) one.1 low_mark)
         | inr never ↦ absurd (in_nothing x never)
       ]
     ];

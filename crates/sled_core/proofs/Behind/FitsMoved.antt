@@ -5,7 +5,7 @@ use Rattle.std.specs.declared.io.Error.{Error as IoError}
 use Rattle.std.proofs.lemmas.List.{map-append}
 use Rattle.std.proofs.lemmas.List.Elements.{Contains-append_cases, Contains-append_left, Contains-append_right}
 use Rattle.sled_codec.specs.History.{Message, History}
-use Rattle.sled_codec.specs.Record.{short_header}
+use Rattle.sled_codec.specs.Record.{IsHeader}
 use Rattle.sled_codec.specs.Snapshots.{SnapshotModel}
 use Rattle.sled_store.specs.Device.{State}
 use Rattle.sled_store.proofs.Segments.Elements.{in_cases, in_first, in_rest}
@@ -20,7 +20,7 @@ use Rattle.sled_store.proofs.Names.OneBegin.{one_begin}
 
 -- Segments of which nothing is written have such marks in their headers, if any.
 abbrev pub MarksBelow : (List ℕ → ℕ) → ℕ → List SegmentParts → Type 0
-MarksBelow sum end behind = (x : SegmentParts) → Contains behind x → x.written_len ≡ 0 → (mark : ℤ) → take 20 x.bytes ≡ short_header sum (pos x.site.place) mark → mark <ℤ pos end
+MarksBelow sum end behind = (x : SegmentParts) → Contains behind x → x.written_len ≡ 0 → (mark : ℤ) → IsHeader sum (take 20 x.bytes) (pos x.site.place) mark → mark <ℤ pos end
 
 -- The segments lie as they did where one of them has its place and as much of it is written.
 pub begun_same : (pre : List SegmentParts) (s s' : SegmentParts) (post : List SegmentParts) → s'.site ≡ s.site → s'.written_len ≡ s.written_len → map begun_segment (pre ++ s' ∷ post) ≡ map begun_segment (pre ++ s ∷ post)
@@ -36,8 +36,8 @@ marks_same sum end pre s s' post site head marked x among none mark header = eli
   | inr from_here ↦ elim (in_cases s' x post from_here) [
     | inl same ↦ (
         let was = head (ap (λ (w : SegmentParts). w.written_len) same ∙ none) in
-        let is : take 20 s'.bytes ≡ short_header sum (pos s'.site.place) mark = subst (λ (w : SegmentParts). take 20 w.bytes ≡ short_header sum (pos w.site.place) mark) (sym same) header in
-        marked s (Contains-append_right pre (s ∷ post) s (in_first s post)) was.0 mark (sym was.1 ∙ is ∙ ap (λ (p : SegmentPosition). short_header sum (pos p.place) mark) site))
+        let is : IsHeader sum (take 20 s'.bytes) (pos s'.site.place) mark = subst (λ (w : SegmentParts). IsHeader sum (take 20 w.bytes) (pos w.site.place) mark) (sym same) header in
+        marked s (Contains-append_right pre (s ∷ post) s (in_first s post)) was.0 mark (subst (λ (l : List ℕ). IsHeader sum l (pos s.site.place) mark) was.1 (subst (λ (p : SegmentPosition). IsHeader sum (take 20 s'.bytes) (pos p.place) mark) site is)))
     | inr behind ↦ marked x (Contains-append_right pre (s ∷ post) x (in_rest s x post behind)) none mark header
   ]
 ]

@@ -29,7 +29,7 @@ use Rattle.sled_core.proofs.Flush.FlushLemmas.{on_file}
 use Rattle.sled_core.proofs.Flush.Padded.{length-padded, padded_get}
 use Rattle.sled_core.proofs.Flush.SealedFile.{chain_done}
 use Rattle.sled_core.proofs.Holds.WholeHistory.{whole_ascends}
-use Rattle.sled_core.proofs.Reached.BufferPath.{HasOnly, mark_same}
+use Rattle.sled_core.proofs.Reached.BufferPath.{HasOnly, buffer_header, mark_same}
 use Rattle.sled_core.proofs.Reached.SegmentsBeside.{grown_one}
 use Rattle.sled_core.proofs.Reached.StandsTo.{StandsTo}
 use Rattle.sled_core.proofs.Reserve.Entries.{some_long}
@@ -111,7 +111,7 @@ module _ (sum : List ℕ → ℕ) (size : ℕ) (site : SegmentPosition) (device 
   header none =
       let m = here.segment.header none in (
         record { mark = m.mark; is = m.is; of_history = mark_same own_history H (record { place = s.site.place; slot = s.site.slot; mark = m.mark }) refl m.of_history },
-        marked s (Contains-append_right pre (s ∷ post) s (in_first s post)) none m.mark m.is,
+        marked s (Contains-append_right pre (s ∷ post) s (in_first s post)) none m.mark (buffer_header sum s.site s.bytes own_history m (omega (arith, place_small))),
       )
 
   begins : (s.written_len ≡ 0) ⊎ (20 ≤ s.written_len)
