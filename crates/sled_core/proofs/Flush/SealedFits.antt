@@ -25,7 +25,7 @@ use Rattle.sled_core.specs.Reached.{BegunSegment, StandsAmong}
 use Rattle.sled_core.specs.Recoverable.{LeavesRecoverable, NoHeaderOfZeros}
 use Rattle.sled_core.specs.Running.{BlobsFit, FitsIn, NamesFit}
 use Rattle.sled_core.specs.SealedBuffers.{AreSealed, FirstUnwritten, Laid, sealed_end, now_written, written_at, run_end, run_count, behind_run, bytes_between, is_ready}
-use Rattle.sled_core.proofs.Behind.FullHead.{first_full, torn_head_any}
+use Rattle.sled_core.proofs.Behind.FullHead.{first_full, plain_run, torn_head_any}
 use Rattle.sled_core.proofs.Reserve.Entries.{padding_in, some_long}
 use Rattle.sled_core.proofs.Reserve.Ranges.{chain_grows, chain_within, completed-append, completed_between, there_split}
 use Rattle.sled_core.proofs.Flush.Completed.{all_apart, batches_to, has_only, none_crosses}
@@ -228,7 +228,7 @@ module _ (sum : List ℕ → ℕ) (size : ℕ) (site : SegmentPosition) (device 
   first_begins = none_or_begun sum size old site from holds.earlier stays file_old
 
   -- Once it is synced the segment holds the same.
-  segment_first : (new : State) → new.log ≡ at_rest new_log → HoldsSegment sum (log_parts size site new fault bytes stop (behind_run rest) others) stays H
+  pub segment_first : (new : State) → new.log ≡ at_rest new_log → HoldsSegment sum (log_parts size site new fault bytes stop (behind_run rest) others) stays H
   segment_first new is = record {
     earlier = earlier_now;
     messages = messages_now;
@@ -329,11 +329,8 @@ module _ (sum : List ℕ → ℕ) (size : ℕ) (site : SegmentPosition) (device 
 
   -- where the segment isn't filled then, none of them fills it
   plain_below : stop_whole < size → All NoPadding done_whole
-  plain_below below k d lt is =
-      let fills = padding_in sum size (site.place / size) bytes (get_or done_whole k d) is (All-take (Stands sum size (site.place / size) bytes) (b.count + run_count rest) rs holds.own.stand k d lt) in
-      let within = (chain_within (max 20 from) stop_whole done_whole (chain_done from rs b rest closed are) k d lt).1 in
-      let end = fills.to_end in
-      omega (arith, end, within, below)
+  plain_below below =
+      plain_run sum size (site.place / size) bytes (max 20 from) stop_whole done_whole (chain_done from rs b rest closed are) below (All-take (Stands sum size (site.place / size) bytes) (b.count + run_count rest) rs holds.own.stand)
 
   -- all that is written then ends where that does
   ends_first : (m : Message) → Contains H.messages m → m.place < site.place + stop_whole → (m.place < site.place + stop_whole) × (m.place + m.size ≤ site.place + stop_whole)
@@ -367,7 +364,7 @@ module _ (sum : List ℕ → ℕ) (size : ℕ) (site : SegmentPosition) (device 
   ]
 
   -- What a crash leaves of the write.
-  torn_first : (reach : ℕ) → NoHeaderOfZeros sum → {others : List BegunSegment} → StandsAmong sum size old_whole site from others reach H holds.begun.first → (now left : List ℕ) → length now ≤ length asked_whole
+  pub torn_first : (reach : ℕ) → NoHeaderOfZeros sum → {others : List BegunSegment} → StandsAmong sum size old_whole site from others reach H holds.begun.first → (now left : List ℕ) → length now ≤ length asked_whole
       → LeavesLog (after_write old_whole (site.slot + from) asked_whole now) left → (placed : List (ℕ × List ℕ))
       → NoForeignLog sum size (after_write old_whole (site.slot + from) asked_whole now) placed left → StandsTo sum size left H reach holds.begun.first reach
   torn_first reach zeros alone now left no_more leaves placed only_own =
@@ -390,7 +387,7 @@ module _ (sum : List ℕ → ℕ) (size : ℕ) (site : SegmentPosition) (device 
       holds.own.stand zeros reach holds.begun.first has_whole (whole_ascends sum size site device fault bytes from (b ∷ rest) rs H holds short) (let least = holds.begun.least in omega (arith, least)) holds.own.batches filled end far {others = others} among
 
   -- so the file reaches its slot
-  reaches_first : site.slot ≤ length (overwritten old_whole (site.slot + from) asked_whole)
+  pub reaches_first : site.slot ≤ length (overwritten old_whole (site.slot + from) asked_whole)
   reaches_first = let agrees = has_written old_whole site.slot bytes from [] b rest size rise_whole inside_whole in let in_file = agrees.in_file in omega (arith, in_file)
 
 -- Another one is written, behind a first one that isn't.
@@ -485,7 +482,7 @@ module _ (sum : List ℕ → ℕ) (size : ℕ) (site : SegmentPosition) (device 
   own_of head = record { messages = head; batches = H.batches }
 
   -- They lie behind what was written of the segment, and in it.
-  asked_range : (front : List Sealed) → AreSealed from rs (front ++ b ∷ rest) → EndsRise from (front ++ b ∷ rest) (length bytes)
+  pub asked_range : (front : List Sealed) → AreSealed from rs (front ++ b ∷ rest) → EndsRise from (front ++ b ∷ rest) (length bytes)
       → (0 < length (asked_behind front)) × (from ≤ sealed_end from front) × (sealed_end from front + length (asked_behind front) ≤ size)
   asked_range front are rise =
       let lies = rises_at from front b rest (length bytes) rise in
@@ -554,14 +551,14 @@ module _ (sum : List ℕ → ℕ) (size : ℕ) (site : SegmentPosition) (device 
       )
 
 -- a list once the one at an index is written, and around it
-written_split : (k : ℕ) (bs : List Sealed) (b : Sealed) → slice_get bs k ≡ Some b → written_at k bs ≡ take k bs ++ now_written b ∷ drop (suc k) bs
+pub written_split : (k : ℕ) (bs : List Sealed) (b : Sealed) → slice_get bs k ≡ Some b → written_at k bs ≡ take k bs ++ now_written b ∷ drop (suc k) bs
 written_split zero [] b there = cc
 written_split (suc k) [] b there = cc
 written_split zero (x ∷ xs) b there = let same : x ≡ b = cc in ap (λ y. now_written y ∷ xs) same
 written_split (suc k) (x ∷ xs) b there = ap (λ (l : List Sealed). x ∷ l) (written_split k xs b there)
 
 -- one that is ready has no open reservation
-ready_closed : (b : Sealed) → is_ready b ≡ true → b.open_count ≡ 0
+pub ready_closed : (b : Sealed) → is_ready b ≡ true → b.open_count ≡ 0
 ready_closed b ready = by_test b.is_written ready where
   by_test : (o : Bool) → (if o then false else b.open_count == 0) ≡ true → b.open_count ≡ 0
   by_test true is = absurd (let never : ⊥ = cc in never)
