@@ -13,6 +13,7 @@ pub mod FullHead
 pub mod FullHolds
 pub mod FullNext
 pub mod FullRead
+pub mod FullWrites
 pub mod FullZeros
 pub mod Promoted
 pub mod Shorter

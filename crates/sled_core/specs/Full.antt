@@ -2,7 +2,7 @@
 use Rattle.std.specs.Prelude.{◌≡◌, ◌≢◌, ◌⊎◌, ◌+◌, ◌≤◌, ◌<◌, ◌<ℤ◌, ℕ, ℤ, pos, List, [], map, take, Option, None, Contains}
 use Rattle.std.specs.declared.io.Error.{Error as IoError}
 use Rattle.sled_codec.specs.History.{Message, History}
-use Rattle.sled_codec.specs.Record.{short_header}
+use Rattle.sled_codec.specs.Record.{IsHeader}
 use Rattle.sled_codec.specs.Snapshots.{SnapshotModel}
 use Rattle.sled_store.specs.Device.{State}
 use Rattle.sled_core.specs.declared.iobuf.SegmentPosition.{SegmentPosition}
@@ -37,7 +37,7 @@ pub record FitsFull (sum : List ℕ → ℕ) (size : ℕ) (device : State) (faul
   pub ends : (m : Message) → Contains H.messages m → m.place < place → (m.place < reach) × (m.place + m.size ≤ reach)
   pub closes : CloseBelow reach H.batches
   -- the header of a segment of which nothing is written has a mark below the place
-  pub marked : (s : SegmentParts) → Contains behind s → s.written_len ≡ 0 → (mark : ℤ) → take 20 s.bytes ≡ short_header sum (pos s.site.place) mark → mark <ℤ pos place
+  pub marked : (s : SegmentParts) → Contains behind s → s.written_len ≡ 0 → (mark : ℤ) → IsHeader sum (take 20 s.bytes) (pos s.site.place) mark → mark <ℤ pos place
   -- so stands the file, with any number of zeros behind its end
   pub beyond : (to : ℕ) → fault ≡ None → NoHeaderOfZeros sum → StandsFull sum size (padded to device.log.bytes) place (map begun_segment behind) reach H holds.begun.first
   pub blobs : BlobsFit sum device.blobs H reach

@@ -1,5 +1,5 @@
 -- The first sealed buffer is written, and the run of those that are written then ends with the segment: the reading goes on behind it, in those that were begun there. What was reached ends with the records; where no header had room, that is what was reached before.
-use Rattle.std.proofs.Common.{◌≡◌, ◌≤◌, ◌<◌, ◌+◌, ◌/◌, ◌%◌, ◌^◌, ◌⊎◌, ◌∙◌, ℕ, max, false, List, [], ◌∷◌, length, take, sym, ap, refl, subst, arith, inl, inr}
+use Rattle.std.proofs.Common.{◌≡◌, ◌≤◌, ◌<◌, ◌+◌, ◌/◌, ◌%◌, ◌^◌, ◌⊎◌, ◌∙◌, ℕ, max, false, List, [], ◌∷◌, length, take, get_or, sym, ap, refl, subst, arith, inl, inr}
 use Rattle.std.specs.List.{All, Contains}
 use Rattle.std.proofs.lemmas.Bool.{cases_lt}
 use Rattle.std.proofs.lemmas.List.Elements.{All-contains}
@@ -22,8 +22,8 @@ use Rattle.sled_core.proofs.Flush.Padded.{padded_long}
 use Rattle.sled_core.proofs.Reached.BufferPath.{HasOnly}
 use Rattle.sled_core.specs.Full.{StandsFull}
 use Rattle.sled_core.proofs.Reached.StandsTo.{StandsTo}
-use Rattle.sled_core.proofs.Reserve.Entries.{reserved_in}
-use Rattle.sled_core.proofs.Reserve.Ranges.{chain_grows}
+use Rattle.sled_core.proofs.Reserve.Entries.{padding_in, reserved_in}
+use Rattle.sled_core.proofs.Reserve.Ranges.{chain_grows, chain_within}
 use Rattle.sled_core.proofs.Sealed.FullSegment.{full_among}
 use Rattle.sled_core.proofs.Sealed.GapWritten.{gap_written}
 use Rattle.sled_core.proofs.Sealed.HeadSealed.{head_sealed_filled, torn_head_sealed}
@@ -38,6 +38,13 @@ no_records : (sum : List ℕ → ℕ) (size number : ℕ) (bytes : List ℕ) (fr
 no_records sum size number bytes from last [] full chain stand plain = sym chain
 no_records sum size number bytes from last (r ∷ rs) full chain stand plain =
     absurd (let room = (reserved_in sum size number bytes r (plain 0 r (omega arith)) (stand 0 r (omega arith))).room in let at = chain.0 in omega (arith, room, at, full))
+
+-- Where entries end before the segment does none of them fills it.
+pub plain_run : (sum : List ℕ → ℕ) (size number : ℕ) (bytes : List ℕ) (from end : ℕ) (rs : List Reserved) → IsChain from rs end → end < size → All (Stands sum size number bytes) rs → All NoPadding rs
+plain_run sum size number bytes from end rs chain below stand k d lt is =
+    let to_end = (padding_in sum size number bytes (get_or rs k d) is (stand k d lt)).to_end in
+    let within = (chain_within from end rs chain k d lt).1 in
+    omega (arith, to_end, within, below)
 
 -- batches that close below a place close below a higher one,
 closed_at : (H : History) (low high : ℕ) → low ≤ high → CloseBelow low H.batches → (c : Batch) → Contains H.batches c → c.low < high → c.peg < high

@@ -1,5 +1,5 @@
 -- All of a segment is written: it has no sealed buffers and no reservations any more.
-use Rattle.std.proofs.Common.{◌≡◌, ◌≤◌, ◌<◌, ◌+◌, ◌/◌, ℕ, max, List, [], ◌∷◌, length, Option, refl, subst, arith}
+use Rattle.std.proofs.Common.{◌≡◌, ◌≤◌, ◌<◌, ◌+◌, ◌/◌, ℕ, max, Bool, true, false, if◌then◌else◌, List, [], ◌∷◌, length, Option, refl, subst, arith}
 use Rattle.std.specs.declared.io.Error.{Error as IoError}
 use Rattle.sled_codec.specs.History.{History, Message}
 use Rattle.sled_codec.specs.Snapshots.{stable_place}
@@ -9,6 +9,7 @@ use Rattle.sled_core.specs.declared.iobuf.Sealed.{Sealed}
 use Rattle.sled_core.specs.declared.iobuf.SegmentPosition.{SegmentPosition}
 use Rattle.sled_core.specs.Fits.{HoldsIn, HoldsSegment, SegmentParts, log_parts}
 use Rattle.sled_core.specs.LogFile.{StaysFrom}
+use Rattle.sled_core.specs.SealedBuffers.{behind_run, run_end}
 use Rattle.sled_core.proofs.Reserve.Entries.{some_long}
 use Rattle.sled_core.proofs.Sealed.LaidLemmas.{EndsRise, ends_below}
 use Rattle.sled_core.proofs.Sealed.RecordsEnd.{none_behind}
@@ -17,6 +18,14 @@ use Rattle.sled_core.proofs.Sealed.RecordsEnd.{none_behind}
 pub none_sealed : (from : ℕ) (bs : List Sealed) (to : ℕ) → EndsRise from bs to → to ≤ from → bs ≡ []
 none_sealed from [] to rise low = refl
 none_sealed from (b ∷ bs) to rise low = let below = ends_below b.end bs to rise.1 in absurd (omega (arith, rise.0, below.0, below.1, low))
+
+-- those behind the ones at the front that are written rise as all do
+pub rise_behind : (from : ℕ) (bs : List Sealed) (to : ℕ) → EndsRise from bs to → EndsRise (run_end from bs) (behind_run bs) to
+rise_behind from [] to rise = rise
+rise_behind from (b ∷ bs) to rise = by_test b.is_written (rise_behind b.end bs to rise.1) where
+  by_test : (o : Bool) → EndsRise (run_end b.end bs) (behind_run bs) to → EndsRise (if o then run_end b.end bs else from) (if o then behind_run bs else b ∷ bs) to
+  by_test true on = on
+  by_test false on = rise
 
 -- nothing is reserved behind what is written
 pub none_reserved : (sum : List ℕ → ℕ) (size : ℕ) (site : SegmentPosition) (device : State) (fault : Option IoError) (bytes : List ℕ) (from : ℕ) (bs : List Sealed) (rs : List Reserved) (H : History) {stays : Message → Type 0}

@@ -1,6 +1,7 @@
 -- Where no buffer is sealed, all that was reserved is written as the one buffer that it would be once it is sealed: at each moment of the calls a crash leaves what can be recovered, and behind them the log holds and fits what it did, with all that was written for what was acknowledged.
 use Rattle.std.proofs.Common.{◌≡◌, ◌==◌, ◌≤◌, ◌<◌, ◌+◌, ◌^◌, true, List, [], ◌∷◌, ℕ, length, take, drop, Option, None, ap, sym, refl, subst, arith}
 use Rattle.std.proofs.lemmas.List.{take_all, drop_all}
+use Rattle.std.proofs.lemmas.List.Elements.{All-take}
 use Rattle.std.specs.declared.io.Error.{Error as IoError}
 use Rattle.sled_codec.specs.History.{Message, History}
 use Rattle.sled_store.specs.Device.{State, Wrote, Synced, at_rest, overwritten, step}
@@ -8,7 +9,7 @@ use Rattle.sled_store.specs.Script.{Along}
 use Rattle.sled_core.specs.declared.iobuf.Reserved.{Reserved}
 use Rattle.sled_core.specs.declared.iobuf.Sealed.{Sealed}
 use Rattle.sled_core.specs.declared.iobuf.SegmentPosition.{SegmentPosition}
-use Rattle.sled_core.specs.Buffers.{none_open}
+use Rattle.sled_core.specs.Buffers.{NoPadding, none_open}
 use Rattle.sled_core.specs.Fits.{log_parts, HoldsIn, SegmentParts}
 use Rattle.sled_core.specs.Recoverable.{LeavesRecoverable}
 use Rattle.sled_core.specs.Running.{FitsIn}
@@ -81,4 +82,4 @@ module _ (sum : List ℕ → ℕ) (size : ℕ) (site : SegmentPosition) (device 
     fits_flushed =
         subst (λ (xs : List ℕ). (now : ℕ) × FitsIn sum (log_parts size site (after_sync xs) None bytes (length bytes) [] []) behind now pins H A f U) all_of
         (subst (λ (l : List Reserved). (now : ℕ) × FitsIn sum (log_parts size site (after_sync (drop from (take (length bytes) bytes))) None bytes (length bytes) [] l) behind now pins H A f U) none_left
-        (fits_written_one sum size site device fault bytes from (one ∷ []) rs pins H A f U fits_sealed short big place_small slot_small are refl rise whole 0 one refl ready))
+        (fits_written_one sum size site device fault bytes from (one ∷ []) rs pins H A f U fits_sealed short big place_small slot_small are refl rise whole 0 one refl ready (All-take NoPadding (length rs + 0) rs fits.holds.plain)))

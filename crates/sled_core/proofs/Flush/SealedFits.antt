@@ -1,5 +1,5 @@
 -- One of the sealed buffers of a log is written at its place, and synced: at each moment a crash leaves what can be recovered, and behind it the log fits the same history. The buffers at the front that are written leave the list.
-use Rattle.std.proofs.Common.{◌≡◌, ◌==◌, ◌⊎◌, ◌≤◌, ◌<◌, ◌+◌, ◌/◌, ◌^◌, ◌∙◌, ℕ, zero, suc, max, Bool, true, false, if◌then◌else◌, List, [], ◌∷◌, ◌++◌, length, map, take, drop, sym, ap, arith, refl, subst, inl, inr, Option, None, Some, append_assoc}
+use Rattle.std.proofs.Common.{◌≡◌, ◌==◌, ◌⊎◌, ◌≤◌, ◌<◌, ◌+◌, ◌/◌, ◌^◌, ◌∙◌, ℕ, zero, suc, max, Bool, true, false, if◌then◌else◌, List, [], ◌∷◌, ◌++◌, length, map, take, drop, get_or, sym, ap, arith, refl, subst, inl, inr, Option, None, Some, append_assoc}
 use Rattle.std.specs.List.{All, Contains, slice_get}
 use Rattle.std.specs.declared.io.Error.{Error as IoError}
 use Rattle.std.proofs.lemmas.Bool.{cases_lt}
@@ -17,15 +17,17 @@ use Rattle.sled_store.proofs.Segments.FitLemmas.{all_front}
 use Rattle.sled_core.specs.declared.iobuf.Reserved.{Reserved}
 use Rattle.sled_core.specs.declared.iobuf.Sealed.{Sealed}
 use Rattle.sled_core.specs.declared.iobuf.SegmentPosition.{SegmentPosition}
-use Rattle.sled_core.specs.Buffers.{IsChain, NoPadding, Stands, completed_in}
+use Rattle.sled_core.specs.Buffers.{IsChain, NoPadding, Stands, completed_in, records_end, records_of}
 use Rattle.sled_core.specs.Fits.{log_parts, begun_segment, CloseBelow, HasMark, HoldsIn, HoldsSegment, EndBelow, SegmentParts}
+use Rattle.sled_core.specs.Full.{FitsFull, StandsFull}
 use Rattle.sled_core.specs.LogFile.{IsLogFile, StaysFrom, padded}
 use Rattle.sled_core.specs.Reached.{BegunSegment, StandsAmong}
 use Rattle.sled_core.specs.Recoverable.{LeavesRecoverable, NoHeaderOfZeros}
-use Rattle.sled_core.specs.Running.{FitsIn, NamesFit}
+use Rattle.sled_core.specs.Running.{BlobsFit, FitsIn, NamesFit}
 use Rattle.sled_core.specs.SealedBuffers.{AreSealed, FirstUnwritten, Laid, sealed_end, now_written, written_at, run_end, run_count, behind_run, bytes_between, is_ready}
-use Rattle.sled_core.proofs.Reserve.Entries.{some_long}
-use Rattle.sled_core.proofs.Reserve.Ranges.{chain_grows, completed-append, completed_between, there_split}
+use Rattle.sled_core.proofs.Behind.FullHead.{first_full, plain_run, torn_head_any}
+use Rattle.sled_core.proofs.Reserve.Entries.{padding_in, some_long}
+use Rattle.sled_core.proofs.Reserve.Ranges.{chain_grows, chain_within, completed-append, completed_between, there_split}
 use Rattle.sled_core.proofs.Flush.Completed.{all_apart, batches_to, has_only, none_crosses}
 use Rattle.sled_core.proofs.Flush.FlushLemmas.{holds_over, on_file}
 use Rattle.sled_core.proofs.Flush.Padded.{padded_none}
@@ -39,9 +41,10 @@ use Rattle.sled_core.proofs.Reached.Recoverable.{less_than}
 use Rattle.sled_core.proofs.Reached.StandsTo.{StandsTo}
 use Rattle.sled_core.proofs.Sealed.BehindUnwritten.{plain_room, torn_behind_unwritten}
 use Rattle.sled_core.proofs.Sealed.Ended.{chain_rest, ends_rise}
-use Rattle.sled_core.proofs.Sealed.HeadSealed.{run_below, torn_head_sealed}
+use Rattle.sled_core.proofs.Sealed.HeadSealed.{run_below}
 use Rattle.sled_core.proofs.Sealed.LaidLemmas.{EndsRise, ends_below}
 use Rattle.sled_core.proofs.Sealed.OneWritten.{has_written, laid_new, long, rises_at}
+use Rattle.sled_core.proofs.Sealed.RecordsEnd.{AreRecords, records_in, records_why}
 use Rattle.sled_core.proofs.Sealed.Marked.{written_are}
 use Rattle.sled_core.proofs.Sealed.Runs.{run_laid, run_of}
 use Rattle.sled_core.proofs.Sealed.SealedCalls.{first_alone, later_alone}
@@ -73,8 +76,9 @@ module _ (sum : List ℕ → ℕ) (size : ℕ) (site : SegmentPosition) (device 
     (reach' : ℕ) (up : reach ≤ reach') (near' : reach' ≤ site.place + to) (ends' : (m : Message) → Contains H.messages m → m.place < site.place + to → (m.place < reach') × (m.place + m.size ≤ reach')) (closes' : CloseBelow reach' H.batches) (at : ℕ) (asked : List ℕ)
     (torn : NoHeaderOfZeros sum → StandsAmong sum size device.log.bytes site from (map begun_segment behind) reach H fits.holds.begun.first → (now left : List ℕ) → length now ≤ length asked → LeavesLog (after_write device.log.bytes at asked now) left
     → (placed : List (ℕ × List ℕ)) → NoForeignLog sum size (after_write device.log.bytes at asked now) placed left → StandsTo sum size left H reach fits.holds.begun.first reach)
+    {Standing : List ℕ → Type 0} (standing : (l : List ℕ) → Standing l → StandsTo sum size l H reach' fits.holds.begun.first reach')
     (alone : NoHeaderOfZeros sum → (end : ℕ) → site.slot ≤ end → StandsAmong sum size (padded end device.log.bytes) site from (map begun_segment behind) reach H fits.holds.begun.first
-    → StandsAmong sum size (padded end (overwritten device.log.bytes at asked)) site to (map begun_segment behind) reach' H fits.holds.begun.first)
+    → Standing (padded end (overwritten device.log.bytes at asked)))
     (reaches : site.slot ≤ length (overwritten device.log.bytes at asked)) where
   abbrev after_sync : State
   after_sync = step Synced (step (Wrote at asked asked) device)
@@ -96,34 +100,68 @@ module _ (sum : List ℕ → ℕ) (size : ℕ) (site : SegmentPosition) (device 
       → NoForeignLog sum size (after_write device.log.bytes at asked now) placed left → StandsTo sum size left H reach fits.holds.begun.first reach
   torn_now zeros = torn zeros (fits.among whole zeros)
 
-  alone_now : NoHeaderOfZeros sum → StandsAmong sum size (overwritten device.log.bytes at asked) site to (map begun_segment behind) reach' H fits.holds.begun.first
-  alone_now zeros = subst (λ (l : List ℕ). StandsAmong sum size l site to (map begun_segment behind) reach' H fits.holds.begun.first) (padded_none site.slot (overwritten device.log.bytes at asked) reaches)
+  alone_now : NoHeaderOfZeros sum → Standing (overwritten device.log.bytes at asked)
+  alone_now zeros = subst Standing (padded_none site.slot (overwritten device.log.bytes at asked) reaches)
       (alone zeros site.slot (omega arith) (fits.beyond site.slot (omega arith) whole zeros))
 
   stands_now : NoHeaderOfZeros sum → StandsTo sum size (overwritten device.log.bytes at asked) H reach' fits.holds.begun.first reach'
-  stands_now zeros = (alone_now zeros).stands
+  stands_now zeros = standing (overwritten device.log.bytes at asked) (alone_now zeros)
 
   along_behind : Along (LeavesRecoverable sum size H reach f) (Wrote at asked asked ∷ Synced ∷ []) device
   along_behind = moments.write_along sum size big device rest_now H f fits.holds.begun.first reach reach' up ordered inline fits.names fits.blobs fits.left at asked torn_now stands_now
 
+  -- With zeros behind its end the file stands too, any number of them.
+  padded_now : NoHeaderOfZeros sum → (end : ℕ) → Standing (padded end (overwritten device.log.bytes at asked))
+  padded_now zeros end = elim (cases_lt end site.slot) [
+    | inl short ↦ subst Standing (sym (padded_none end (overwritten device.log.bytes at asked) (omega (arith, short, reaches)))) (alone_now zeros)
+    | inr far ↦ alone zeros end far (fits.beyond end far whole zeros)
+  ]
+
+  blobs_now : BlobsFit sum device.blobs H reach'
+  blobs_now = moments.blobs_up sum size big device rest_now H f fits.holds.begun.first reach reach' up ordered inline fits.names fits.blobs fits.left at asked torn_now stands_now
+
+  left_now : LeavesRecoverable sum size H reach' f after_sync
+  left_now = moments.synced_leaves sum size big device rest_now H f fits.holds.begun.first reach reach' up ordered inline fits.names fits.blobs fits.left at asked torn_now stands_now
+
+  -- Where it stands up to there in the first segment.
   fits_behind : (cs : List Sealed) (others : List Reserved) (holds : HoldsIn sum (log_parts size site after_sync fault bytes to cs others) behind H)
-      → holds.begun.first ≡ fits.holds.begun.first → FitsIn sum (log_parts size site after_sync fault bytes to cs others) behind reach' pins H A f U
-  fits_behind cs others holds same =
-      let new : List ℕ = overwritten device.log.bytes at asked in
-      record {
-        holds = holds;
-        near = near';
-        ends = ends';
-        closes = closes';
-        marked = λ x there none mark header. less_than mark (site.place + from) (site.place + to) (omega (arith, grown)) (fits.marked x there none mark header);
-        among = λ none zeros. subst (λ (s : SnapshotModel). StandsAmong sum size new site to (map begun_segment behind) reach' H s) (sym same) (alone_now zeros);
-        beyond = λ end far none zeros. subst (λ (s : SnapshotModel). StandsAmong sum size (padded end new) site to (map begun_segment behind) reach' H s) (sym same) (alone zeros end far (fits.beyond end far whole zeros));
-        blobs = moments.blobs_up sum size big device rest_now H f fits.holds.begun.first reach reach' up ordered inline fits.names fits.blobs fits.left at asked torn_now stands_now;
-        names = subst (λ (s : SnapshotModel). NamesFit sum size device.snapshots H f s) (sym same) fits.names;
-        passes = let old = fits.passes in omega (arith, old, up);
-        pinned = fits.pinned;
-        left = moments.synced_leaves sum size big device rest_now H f fits.holds.begun.first reach reach' up ordered inline fits.names fits.blobs fits.left at asked torn_now stands_now;
-      }
+      → holds.begun.first ≡ fits.holds.begun.first → ((l : List ℕ) → Standing l → StandsAmong sum size l site to (map begun_segment behind) reach' H fits.holds.begun.first)
+      → FitsIn sum (log_parts size site after_sync fault bytes to cs others) behind reach' pins H A f U
+  fits_behind cs others holds same among = record {
+    holds = holds;
+    near = near';
+    ends = ends';
+    closes = closes';
+    marked = λ x there none mark header. less_than mark (site.place + from) (site.place + to) (omega (arith, grown)) (fits.marked x there none mark header);
+    among = λ none zeros. subst (λ (s : SnapshotModel). StandsAmong sum size (overwritten device.log.bytes at asked) site to (map begun_segment behind) reach' H s) (sym same) (among (overwritten device.log.bytes at asked) (alone_now zeros));
+    beyond = λ end far none zeros. subst (λ (s : SnapshotModel). StandsAmong sum size (padded end (overwritten device.log.bytes at asked)) site to (map begun_segment behind) reach' H s) (sym same) (among (padded end (overwritten device.log.bytes at asked)) (padded_now zeros end));
+    blobs = blobs_now;
+    names = subst (λ (s : SnapshotModel). NamesFit sum size device.snapshots H f s) (sym same) fits.names;
+    passes = let old = fits.passes in omega (arith, old, up);
+    pinned = fits.pinned;
+    left = left_now;
+  }
+
+  -- Where it stands behind it, as all of it is written.
+  pub fits_filled : (filled : to ≡ size) (holds : HoldsIn sum (log_parts size site after_sync fault bytes size [] []) behind H)
+      → holds.begun.first ≡ fits.holds.begun.first → ((l : List ℕ) → Standing l → StandsFull sum size l (site.place + size) (map begun_segment behind) reach' H fits.holds.begun.first)
+      → FitsFull sum size after_sync fault (site.place + size) behind reach' pins H A f U
+  fits_filled filled holds same full = record {
+    site = site;
+    bytes = bytes;
+    next = refl;
+    holds = holds;
+    near = omega (arith, near', filled);
+    ends = λ m there under. ends' m there (omega (arith, under, filled));
+    closes = closes';
+    marked = λ x there none mark header. less_than mark (site.place + from) (site.place + size) (omega (arith, grown, filled)) (fits.marked x there none mark header);
+    beyond = λ end none zeros. subst (λ (s : SnapshotModel). StandsFull sum size (padded end (overwritten device.log.bytes at asked)) (site.place + size) (map begun_segment behind) reach' H s) (sym same) (full (padded end (overwritten device.log.bytes at asked)) (padded_now zeros end));
+    blobs = blobs_now;
+    names = subst (λ (s : SnapshotModel). NamesFit sum size device.snapshots H f s) (sym same) fits.names;
+    passes = let old = fits.passes in omega (arith, old, up);
+    pinned = fits.pinned;
+    left = left_now;
+  }
 
 -- The first buffer is written.
 module _ (sum : List ℕ → ℕ) (size : ℕ) (site : SegmentPosition) (device : State) (fault : Option IoError) (bytes : List ℕ) (from : ℕ) (b : Sealed) (rest : List Sealed) (rs : List Reserved) (H : History)
@@ -190,7 +228,7 @@ module _ (sum : List ℕ → ℕ) (size : ℕ) (site : SegmentPosition) (device 
   first_begins = none_or_begun sum size old site from holds.earlier stays file_old
 
   -- Once it is synced the segment holds the same.
-  segment_first : (new : State) → new.log ≡ at_rest new_log → HoldsSegment sum (log_parts size site new fault bytes stop (behind_run rest) others) stays H
+  pub segment_first : (new : State) → new.log ≡ at_rest new_log → HoldsSegment sum (log_parts size site new fault bytes stop (behind_run rest) others) stays H
   segment_first new is = record {
     earlier = earlier_now;
     messages = messages_now;
@@ -273,8 +311,26 @@ module _ (sum : List ℕ → ℕ) (size : ℕ) (site : SegmentPosition) (device 
   has_whole = whole_only sum size site device fault bytes from (b ∷ rest) rs H holds (completed_in site bytes (take (b.count + run_count rest) rs)) (site.place + max 20 from) (site.place + stop_whole)
       (let low = run_below b.end rest size rise_whole.1 in omega (arith, low)) (has_first sum size site device fault bytes from b rest rs own_history holds.own short big place_small slot_small are fresh closed rise whole)
 
-  room_whole : from + 32 ≤ size
-  room_whole = plain_room sum size (site.place / size) bytes from big begins_whole rs b rest are holds.own.stand holds.plain
+  -- its entries that are written then, of which the last one may fill the segment, and where their records end
+  abbrev pub done_whole : List Reserved
+  done_whole = take (b.count + run_count rest) rs
+
+  abbrev pub last_whole : ℕ
+  last_whole = records_end done_whole stop_whole
+
+  records_whole : AreRecords sum size (site.place / size) bytes (max 20 from) done_whole stop_whole (records_of done_whole) last_whole (records_why size done_whole stop_whole)
+  records_whole = records_in sum size (site.place / size) bytes (max 20 from) done_whole stop_whole (chain_done from rs b rest closed are) (run_below b.end rest size rise_whole.1) (All-take (Stands sum size (site.place / size) bytes) (b.count + run_count rest) rs holds.own.stand)
+
+  pub last_up : from ≤ last_whole
+  last_up = let grows = chain_grows (max 20 from) last_whole (records_of done_whole) records_whole.chain in omega (arith, grows)
+
+  pub last_low : last_whole ≤ stop_whole
+  last_low = records_whole.low
+
+  -- where the segment isn't filled then, none of them fills it
+  plain_below : stop_whole < size → All NoPadding done_whole
+  plain_below below =
+      plain_run sum size (site.place / size) bytes (max 20 from) stop_whole done_whole (chain_done from rs b rest closed are) below (All-take (Stands sum size (site.place / size) bytes) (b.count + run_count rest) rs holds.own.stand)
 
   -- all that is written then ends where that does
   ends_first : (m : Message) → Contains H.messages m → m.place < site.place + stop_whole → (m.place < site.place + stop_whole) × (m.place + m.size ≤ site.place + stop_whole)
@@ -289,24 +345,49 @@ module _ (sum : List ℕ → ℕ) (size : ℕ) (site : SegmentPosition) (device 
         omega (arith, far, low, below))
   ]
 
+  -- and, where the segment is filled, where the records do
+  pub ends_full : stop_whole ≡ size → (m : Message) → Contains H.messages m → m.place < site.place + stop_whole → (m.place < site.place + last_whole) × (m.place + m.size ≤ site.place + last_whole)
+  unfolding segment_first
+  ends_full filled m there below = elim (which_part sum size site device fault bytes from (b ∷ rest) rs H holds m there) [
+    | inl first ↦ (
+        let now = segment_first sum size site device fault bytes from b rest rs own_history holds.own short big place_small slot_small are fresh closed rise whole after_first refl in
+        let far = last_up in
+        let Between : Message → Type 0 = λ x. (site.place + max 20 from ≤ x.place) × (x.place < site.place + last_whole) × (x.place + x.size ≤ site.place + last_whole) in
+        elim (Contains-append_cases holds.own.earlier (completed_in site bytes done_whole) m (written_before sum size site after_first fault bytes stop_whole (behind_run rest) (drop (b.count + run_count rest) rs) own_history now m first below)) [
+          | inl early ↦ (let low = All-contains (λ (x : Message). (x.place < site.place + from) × (x.place + x.size ≤ site.place + from)) holds.own.earlier m holds.own.below early in (omega (arith, low.0, far), omega (arith, low.1, far)))
+          | inr mine ↦ (let lies = All-contains Between (completed_in site bytes (records_of done_whole)) m (completed_between site bytes (max 20 from) last_whole (records_of done_whole) records_whole.chain (some_long sum size (site.place / size) bytes (records_of done_whole) records_whole.stand))
+              (subst (λ (ms : List Message). Contains ms m) (sym (records_whole.messages site)) mine) in (lies.1, lies.2))
+        ])
+    | inr later ↦ absurd (
+        let far = All-contains (λ (x : Message). site.place + size ≤ x.place) holds.later m (later_above sum size site device fault bytes from (b ∷ rest) rs H holds) later in
+        omega (arith, far, filled, below))
+  ]
+
   -- What a crash leaves of the write.
-  torn_first : (reach : ℕ) → NoHeaderOfZeros sum → {others : List BegunSegment} → StandsAmong sum size old_whole site from others reach H holds.begun.first → (now left : List ℕ) → length now ≤ length asked_whole
+  pub torn_first : (reach : ℕ) → NoHeaderOfZeros sum → {others : List BegunSegment} → StandsAmong sum size old_whole site from others reach H holds.begun.first → (now left : List ℕ) → length now ≤ length asked_whole
       → LeavesLog (after_write old_whole (site.slot + from) asked_whole now) left → (placed : List (ℕ × List ℕ))
       → NoForeignLog sum size (after_write old_whole (site.slot + from) asked_whole now) placed left → StandsTo sum size left H reach holds.begun.first reach
   torn_first reach zeros alone now left no_more leaves placed only_own =
-      torn_head_sealed sum zeros size big old_whole site holds.own.place_begins holds.own.slot_begins place_small slot_small bytes from begins_whole rs b rest fresh closed are rise_whole inside_whole holds.own.stand
-      room_whole header_whole (holds.own.laid whole) reach holds.begun.first alone has_whole now left no_more leaves {placed = placed} only_own
+      torn_head_any sum zeros size big old_whole site holds.own.place_begins holds.own.slot_begins place_small slot_small bytes from begins_whole rs b rest fresh closed are rise_whole inside_whole holds.own.stand
+      header_whole (holds.own.laid whole) reach holds.begun.first alone has_whole now left no_more leaves {placed = placed} only_own
 
-  -- All of it.
-  alone_first : (reach : ℕ) → NoHeaderOfZeros sum → (end : ℕ) → site.slot ≤ end → {others : List BegunSegment} → StandsAmong sum size (padded end old_whole) site from others reach H holds.begun.first
+  -- All of it, where nothing fills the segment.
+  alone_first : All NoPadding done_whole → (reach : ℕ) → NoHeaderOfZeros sum → (end : ℕ) → site.slot ≤ end → {others : List BegunSegment} → StandsAmong sum size (padded end old_whole) site from others reach H holds.begun.first
       → StandsAmong sum size (padded end (overwritten old_whole (site.slot + from) asked_whole)) site stop_whole others (site.place + stop_whole) H holds.begun.first
-  alone_first reach zeros end far {others} =
+  alone_first plain reach zeros end far {others} =
       first_alone sum size big old_whole site holds.own.place_begins holds.own.slot_begins place_small slot_small bytes from begins_whole rs b rest fresh closed are rise_whole inside_whole header_whole file_whole.header (holds.own.laid whole)
-      holds.own.stand holds.plain zeros reach holds.begun.first has_whole (whole_ascends sum size site device fault bytes from (b ∷ rest) rs H holds short) (let least = holds.begun.least in omega (arith, least))
+      holds.own.stand (plain_room sum size (site.place / size) bytes from big begins_whole rs b rest are holds.own.stand (run_count rest) plain) plain zeros reach holds.begun.first has_whole (whole_ascends sum size site device fault bytes from (b ∷ rest) rs H holds short) (let least = holds.begun.least in omega (arith, least))
       (none_crosses sum size site device fault bytes from (b ∷ rest) rs own_history holds.own (site.place + stop_whole) (let above = (stop_up from rs b rest closed are).0 in omega (arith, above))) end far {others = others}
 
+  -- where it is filled
+  pub full_first : stop_whole ≡ size → (reach : ℕ) → NoHeaderOfZeros sum → (end : ℕ) → site.slot ≤ end → {others : List BegunSegment} → StandsAmong sum size (padded end old_whole) site from others reach H holds.begun.first
+      → StandsFull sum size (padded end (overwritten old_whole (site.slot + from) asked_whole)) (site.place + size) others (site.place + last_whole) H holds.begun.first
+  full_first filled reach zeros end far {others} among =
+      first_full sum size big old_whole site holds.own.place_begins holds.own.slot_begins place_small slot_small bytes from begins_whole rs b rest fresh closed are rise_whole inside_whole {H = H} header_whole file_whole.header (holds.own.laid whole)
+      holds.own.stand zeros reach holds.begun.first has_whole (whole_ascends sum size site device fault bytes from (b ∷ rest) rs H holds short) (let least = holds.begun.least in omega (arith, least)) holds.own.batches filled end far {others = others} among
+
   -- so the file reaches its slot
-  reaches_first : site.slot ≤ length (overwritten old_whole (site.slot + from) asked_whole)
+  pub reaches_first : site.slot ≤ length (overwritten old_whole (site.slot + from) asked_whole)
   reaches_first = let agrees = has_written old_whole site.slot bytes from [] b rest size rise_whole inside_whole in let in_file = agrees.in_file in omega (arith, in_file)
 
 -- Another one is written, behind a first one that isn't.
@@ -401,7 +482,7 @@ module _ (sum : List ℕ → ℕ) (size : ℕ) (site : SegmentPosition) (device 
   own_of head = record { messages = head; batches = H.batches }
 
   -- They lie behind what was written of the segment, and in it.
-  asked_range : (front : List Sealed) → AreSealed from rs (front ++ b ∷ rest) → EndsRise from (front ++ b ∷ rest) (length bytes)
+  pub asked_range : (front : List Sealed) → AreSealed from rs (front ++ b ∷ rest) → EndsRise from (front ++ b ∷ rest) (length bytes)
       → (0 < length (asked_behind front)) × (from ≤ sealed_end from front) × (sealed_end from front + length (asked_behind front) ≤ size)
   asked_range front are rise =
       let lies = rises_at from front b rest (length bytes) rise in
@@ -411,62 +492,73 @@ module _ (sum : List ℕ → ℕ) (size : ℕ) (site : SegmentPosition) (device 
   -- At each moment of the two calls a crash leaves what can be recovered.
   along_around : (front : List Sealed) (fits : FitsIn sum (log_parts size site device fault bytes from (front ++ b ∷ rest) rs) behind reach pins H A f U) → AreSealed from rs (front ++ b ∷ rest) → FirstUnwritten (front ++ b ∷ rest) → EndsRise from (front ++ b ∷ rest) (length bytes)
       → Along (LeavesRecoverable sum size H reach f) (Wrote (site.slot + sealed_end from front) (asked_behind front) (asked_behind front) ∷ Synced ∷ []) device
-  along_around [] fits are fresh rise =
-      along_behind sum size site device fault bytes from (b ∷ rest) rs pins H A f U fits short big whole (run_end b.end rest) (stop_up from rs b rest closed are).0 (site.place + run_end b.end rest) (let near = fits.near in let above = (stop_up from rs b rest closed are).0 in omega (arith, near, above)) (omega arith)
-      (ends_first sum size site device fault bytes from b rest rs H fits.holds short big place_small slot_small are fresh closed rise whole)
-      (batches_to sum size site device fault bytes from (b ∷ rest) rs (own_of fits.holds.head) fits.holds.own (site.place + run_end b.end rest) (let above = (stop_up from rs b rest closed are).0 in omega (arith, above)))
-      (site.slot + from) (asked_behind []) (λ zeros. torn_first sum size site device fault bytes from b rest rs H fits.holds short big place_small slot_small are fresh closed rise whole reach zeros)
-      (λ zeros end far. alone_first sum size site device fault bytes from b rest rs H fits.holds short big place_small slot_small are fresh closed rise whole reach zeros end far)
-      (reaches_first sum size site device fault bytes from b rest rs H fits.holds short big place_small slot_small are fresh closed rise whole)
+  along_around [] fits are fresh rise = elim (cases_lt (run_end b.end rest) size) [
+    | inl below ↦ along_behind sum size site device fault bytes from (b ∷ rest) rs pins H A f U fits short big whole (run_end b.end rest) (stop_up from rs b rest closed are).0 (site.place + run_end b.end rest) (let near = fits.near in let above = (stop_up from rs b rest closed are).0 in omega (arith, near, above)) (omega arith)
+        (ends_first sum size site device fault bytes from b rest rs H fits.holds short big place_small slot_small are fresh closed rise whole)
+        (batches_to sum size site device fault bytes from (b ∷ rest) rs (own_of fits.holds.head) fits.holds.own (site.place + run_end b.end rest) (let above = (stop_up from rs b rest closed are).0 in omega (arith, above)))
+        (site.slot + from) (asked_behind []) (λ zeros. torn_first sum size site device fault bytes from b rest rs H fits.holds short big place_small slot_small are fresh closed rise whole reach zeros)
+        (λ (l : List ℕ) (is : StandsAmong sum size l site (run_end b.end rest) (map begun_segment behind) (site.place + run_end b.end rest) H fits.holds.begun.first). is.stands) (λ zeros end far. alone_first sum size site device fault bytes from b rest rs H fits.holds short big place_small slot_small are fresh closed rise whole (plain_below sum size site device fault bytes from b rest rs H fits.holds short big place_small slot_small are fresh closed rise whole below) reach zeros end far)
+        (reaches_first sum size site device fault bytes from b rest rs H fits.holds short big place_small slot_small are fresh closed rise whole)
+    | inr above ↦ (
+        let filled : run_end b.end rest ≡ size = let low = run_below b.end rest (length bytes) rise.1 in omega (arith, above, low, short) in
+        let from_up = last_up sum size site device fault bytes from b rest rs H fits.holds short big place_small slot_small are fresh closed rise whole in
+        along_behind sum size site device fault bytes from (b ∷ rest) rs pins H A f U fits short big whole (run_end b.end rest) (stop_up from rs b rest closed are).0 (site.place + last_whole sum size site device fault bytes from b rest rs H fits.holds short big place_small slot_small are fresh closed rise whole) (let near = fits.near in omega (arith, near, from_up))
+        (let low = last_low sum size site device fault bytes from b rest rs H fits.holds short big place_small slot_small are fresh closed rise whole in omega (arith, low))
+        (ends_full sum size site device fault bytes from b rest rs H fits.holds short big place_small slot_small are fresh closed rise whole filled)
+        (batches_to sum size site device fault bytes from (b ∷ rest) rs (own_of fits.holds.head) fits.holds.own (site.place + last_whole sum size site device fault bytes from b rest rs H fits.holds short big place_small slot_small are fresh closed rise whole) (omega (arith, from_up)))
+        (site.slot + from) (asked_behind []) (λ zeros. torn_first sum size site device fault bytes from b rest rs H fits.holds short big place_small slot_small are fresh closed rise whole reach zeros)
+        (λ (l : List ℕ) (is : StandsFull sum size l (site.place + size) (map begun_segment behind) (site.place + last_whole sum size site device fault bytes from b rest rs H fits.holds short big place_small slot_small are fresh closed rise whole) H fits.holds.begun.first). is.stands) (λ zeros end far. full_first sum size site device fault bytes from b rest rs H fits.holds short big place_small slot_small are fresh closed rise whole filled reach zeros end far)
+        (reaches_first sum size site device fault bytes from b rest rs H fits.holds short big place_small slot_small are fresh closed rise whole))
+  ]
   along_around (x ∷ xs) fits are fresh rise =
       along_behind sum size site device fault bytes from (x ∷ xs ++ b ∷ rest) rs pins H A f U fits short big whole from (omega arith) reach (omega arith) fits.near fits.ends fits.closes
       (site.slot + sealed_end x.end xs) (asked_behind (x ∷ xs))
       (λ zeros. torn_later sum size site device fault bytes from x xs b rest rs (own_of fits.holds.head) fits.holds.own short big place_small slot_small are rise whole fresh H fits.holds.begun.first reach zeros)
-      (λ zeros end far. alone_later sum size site device fault bytes from x xs b rest rs (own_of fits.holds.head) fits.holds.own short big place_small slot_small are rise whole fresh H fits.holds.begun.first reach zeros end far)
+      (λ (l : List ℕ) (is : StandsAmong sum size l site from (map begun_segment behind) reach H fits.holds.begun.first). is.stands) (λ zeros end far. alone_later sum size site device fault bytes from x xs b rest rs (own_of fits.holds.head) fits.holds.own short big place_small slot_small are rise whole fresh H fits.holds.begun.first reach zeros end far)
       (reaches_later sum size site device fault bytes from x xs b rest rs (own_of fits.holds.head) fits.holds.own short big place_small slot_small are rise whole)
 
   abbrev after_behind : List Sealed → State
   after_behind front = step Synced (step (Wrote (site.slot + sealed_end from front) (asked_behind front) (asked_behind front)) device)
 
-  -- Behind them the log fits.
-  fits_around : (front : List Sealed) → FitsIn sum (log_parts size site device fault bytes from (front ++ b ∷ rest) rs) behind reach pins H A f U → AreSealed from rs (front ++ b ∷ rest) → FirstUnwritten (front ++ b ∷ rest) → EndsRise from (front ++ b ∷ rest) (length bytes)
+  -- Behind them the log fits, where nothing fills the segment.
+  fits_around : (front : List Sealed) → FitsIn sum (log_parts size site device fault bytes from (front ++ b ∷ rest) rs) behind reach pins H A f U → AreSealed from rs (front ++ b ∷ rest) → FirstUnwritten (front ++ b ∷ rest) → EndsRise from (front ++ b ∷ rest) (length bytes) → All NoPadding (take (run_count (front ++ now_written b ∷ rest)) rs)
       → (now : ℕ) × FitsIn sum (log_parts size site (after_behind front) fault bytes (run_end from (front ++ now_written b ∷ rest)) (behind_run (front ++ now_written b ∷ rest)) (drop (run_count (front ++ now_written b ∷ rest)) rs)) behind now pins H A f U
-  fits_around [] fits are fresh rise =
+  fits_around [] fits are fresh rise plain =
       let range = asked_range [] are rise in (
         site.place + run_end b.end rest,
         fits_behind sum size site device fault bytes from (b ∷ rest) rs pins H A f U fits short big whole (run_end b.end rest) (stop_up from rs b rest closed are).0 (site.place + run_end b.end rest) (let near = fits.near in let above = (stop_up from rs b rest closed are).0 in omega (arith, near, above)) (omega arith)
             (ends_first sum size site device fault bytes from b rest rs H fits.holds short big place_small slot_small are fresh closed rise whole)
             (batches_to sum size site device fault bytes from (b ∷ rest) rs (own_of fits.holds.head) fits.holds.own (site.place + run_end b.end rest) (let above = (stop_up from rs b rest closed are).0 in omega (arith, above)))
             (site.slot + from) (asked_behind []) (λ zeros. torn_first sum size site device fault bytes from b rest rs H fits.holds short big place_small slot_small are fresh closed rise whole reach zeros)
-            (λ zeros end far. alone_first sum size site device fault bytes from b rest rs H fits.holds short big place_small slot_small are fresh closed rise whole reach zeros end far)
+            (λ (l : List ℕ) (is : StandsAmong sum size l site (run_end b.end rest) (map begun_segment behind) (site.place + run_end b.end rest) H fits.holds.begun.first). is.stands) (λ zeros end far. alone_first sum size site device fault bytes from b rest rs H fits.holds short big place_small slot_small are fresh closed rise whole plain reach zeros end far)
             (reaches_first sum size site device fault bytes from b rest rs H fits.holds short big place_small slot_small are fresh closed rise whole) (behind_run rest) (drop (b.count + run_count rest) rs)
             (holds_over sum size site device fault bytes from (b ∷ rest) rs behind H fits.holds (after_behind []) fault bytes (run_end b.end rest) (behind_run rest) (drop (b.count + run_count rest) rs) refl (stop_up from rs b rest closed are).0
             (segment_first sum size site device fault bytes from b rest rs (own_of fits.holds.head) fits.holds.own short big place_small slot_small are fresh closed rise whole (after_behind []) refl)
-            (others_written sum size site device fault bytes from (b ∷ rest) rs H fits.holds (omega (arith, big)) whole (site.slot + from) (asked_behind []) range.0 (omega arith) (omega (arith, range.2)) (after_behind []) refl) (All-drop NoPadding (b.count + run_count rest) rs fits.holds.plain)) refl,
+            (others_written sum size site device fault bytes from (b ∷ rest) rs H fits.holds (omega (arith, big)) whole (site.slot + from) (asked_behind []) range.0 (omega arith) (omega (arith, range.2)) (after_behind []) refl) (All-drop NoPadding (b.count + run_count rest) rs fits.holds.plain)) refl (λ l is. is),
       )
-  fits_around (x ∷ xs) fits are fresh rise =
+  fits_around (x ∷ xs) fits are fresh rise plain =
       let range = asked_range (x ∷ xs) are rise in
       no_run (λ n cs others. (now : ℕ) × FitsIn sum (log_parts size site (after_behind (x ∷ xs)) fault bytes n cs others) behind now pins H A f U) from x (xs ++ now_written b ∷ rest) rs fresh (
         reach,
         fits_behind sum size site device fault bytes from (x ∷ xs ++ b ∷ rest) rs pins H A f U fits short big whole from (omega arith) reach (omega arith) fits.near fits.ends fits.closes
             (site.slot + sealed_end x.end xs) (asked_behind (x ∷ xs))
             (λ zeros. torn_later sum size site device fault bytes from x xs b rest rs (own_of fits.holds.head) fits.holds.own short big place_small slot_small are rise whole fresh H fits.holds.begun.first reach zeros)
-            (λ zeros end far. alone_later sum size site device fault bytes from x xs b rest rs (own_of fits.holds.head) fits.holds.own short big place_small slot_small are rise whole fresh H fits.holds.begun.first reach zeros end far)
+            (λ (l : List ℕ) (is : StandsAmong sum size l site from (map begun_segment behind) reach H fits.holds.begun.first). is.stands) (λ zeros end far. alone_later sum size site device fault bytes from x xs b rest rs (own_of fits.holds.head) fits.holds.own short big place_small slot_small are rise whole fresh H fits.holds.begun.first reach zeros end far)
             (reaches_later sum size site device fault bytes from x xs b rest rs (own_of fits.holds.head) fits.holds.own short big place_small slot_small are rise whole) (x ∷ xs ++ now_written b ∷ rest) rs
             (holds_over sum size site device fault bytes from (x ∷ xs ++ b ∷ rest) rs behind H fits.holds (after_behind (x ∷ xs)) fault bytes from (x ∷ xs ++ now_written b ∷ rest) rs refl (omega arith)
             (segment_later sum size site device fault bytes from x xs b rest rs (own_of fits.holds.head) fits.holds.own short big place_small slot_small are rise whole (after_behind (x ∷ xs)) refl)
-            (others_written sum size site device fault bytes from (x ∷ xs ++ b ∷ rest) rs H fits.holds (omega (arith, big)) whole (site.slot + sealed_end x.end xs) (asked_behind (x ∷ xs)) range.0 (omega (arith, range.1)) (omega (arith, range.2)) (after_behind (x ∷ xs)) refl) fits.holds.plain) refl,
+            (others_written sum size site device fault bytes from (x ∷ xs ++ b ∷ rest) rs H fits.holds (omega (arith, big)) whole (site.slot + sealed_end x.end xs) (asked_behind (x ∷ xs)) range.0 (omega (arith, range.1)) (omega (arith, range.2)) (after_behind (x ∷ xs)) refl) fits.holds.plain) refl (λ l is. is),
       )
 
 -- a list once the one at an index is written, and around it
-written_split : (k : ℕ) (bs : List Sealed) (b : Sealed) → slice_get bs k ≡ Some b → written_at k bs ≡ take k bs ++ now_written b ∷ drop (suc k) bs
+pub written_split : (k : ℕ) (bs : List Sealed) (b : Sealed) → slice_get bs k ≡ Some b → written_at k bs ≡ take k bs ++ now_written b ∷ drop (suc k) bs
 written_split zero [] b there = cc
 written_split (suc k) [] b there = cc
 written_split zero (x ∷ xs) b there = let same : x ≡ b = cc in ap (λ y. now_written y ∷ xs) same
 written_split (suc k) (x ∷ xs) b there = ap (λ (l : List Sealed). x ∷ l) (written_split k xs b there)
 
 -- one that is ready has no open reservation
-ready_closed : (b : Sealed) → is_ready b ≡ true → b.open_count ≡ 0
+pub ready_closed : (b : Sealed) → is_ready b ≡ true → b.open_count ≡ 0
 ready_closed b ready = by_test b.is_written ready where
   by_test : (o : Bool) → (if o then false else b.open_count == 0) ≡ true → b.open_count ≡ 0
   by_test true is = absurd (let never : ⊥ = cc in never)
@@ -545,9 +637,10 @@ module _ (sum : List ℕ → ℕ) (size : ℕ) (site : SegmentPosition) (device 
   pub write_along : Along (LeavesRecoverable sum size H reach f) (Wrote (site.slot + at_one) asked_one asked_one ∷ Synced ∷ []) device
   write_along = along_around sum size site device fault bytes from b (drop (suc k) bs) rs behind reach pins H A f U short big place_small slot_small (ready_closed b ready) whole (take k bs) fits_split are_split (subst FirstUnwritten split_one fresh) rise_split
 
-  -- Behind them the log fits.
-  pub fits_written_one : (now : ℕ) × FitsIn sum (log_parts size site synced_one None bytes (run_end from now_one) (behind_run now_one) (drop (run_count now_one) rs)) behind now pins H A f U
-  fits_written_one =
+  -- Behind them the log fits, where nothing fills its first segment.
+  pub fits_written_one : All NoPadding (take (run_count now_one) rs) → (now : ℕ) × FitsIn sum (log_parts size site synced_one None bytes (run_end from now_one) (behind_run now_one) (drop (run_count now_one) rs)) behind now pins H A f U
+  fits_written_one plain =
       subst (λ (o : Option IoError). (now : ℕ) × FitsIn sum (log_parts size site synced_one o bytes (run_end from now_one) (behind_run now_one) (drop (run_count now_one) rs)) behind now pins H A f U) whole
       (subst (λ (cs : List Sealed). (now : ℕ) × FitsIn sum (log_parts size site synced_one fault bytes (run_end from cs) (behind_run cs) (drop (run_count cs) rs)) behind now pins H A f U) (sym (written_split k bs b there))
-      (fits_around sum size site device fault bytes from b (drop (suc k) bs) rs behind reach pins H A f U short big place_small slot_small (ready_closed b ready) whole (take k bs) fits_split are_split (subst FirstUnwritten split_one fresh) rise_split))
+      (fits_around sum size site device fault bytes from b (drop (suc k) bs) rs behind reach pins H A f U short big place_small slot_small (ready_closed b ready) whole (take k bs) fits_split are_split (subst FirstUnwritten split_one fresh) rise_split
+      (subst (λ (cs : List Sealed). All NoPadding (take (run_count cs) rs)) (written_split k bs b there) plain)))

@@ -13,7 +13,8 @@ use Rattle.sled_store.proofs.Traces.ScriptLemmas.{performs_throughout}
 use Rattle.sled_core.specs.declared.iobuf.IoBuf.{IoBuf}
 use Rattle.sled_core.specs.declared.iobuf.Sealed.{Sealed}
 use Rattle.sled_core.specs.declared.logger.Log.{Log}
-use Rattle.sled_core.specs.Buffers.{none_open}
+use Rattle.std.proofs.lemmas.List.Elements.{All-take}
+use Rattle.sled_core.specs.Buffers.{NoPadding, none_open}
 use Rattle.sled_core.specs.Fits.{Holds, HoldsIn, IsWrittenAt, SegmentParts, behind_of, device_of, fault_of, log_parts, segment_size_of, writing_buffer}
 use Rattle.sled_core.specs.FreeSlots.{HasSlots}
 use Rattle.sled_core.specs.Recoverable.{LeavesRecoverable}
@@ -106,7 +107,7 @@ module _ {D C : Type 0} (trace : D → Trace) (sum : List ℕ → ℕ) (log : Lo
         subst (λ (o : Option IoError). (up_to : ℕ) × FitsIn sum (log_parts size log.site (state_of new) o old.bytes.items (run_end old.written_len now) (behind_run now) (drop (run_count now) old.reserved.items)) behind up_to log.pins H A f U) (sym whole)
         (subst (λ (t : Trace). (up_to : ℕ) × FitsIn sum (log_parts size log.site (state_of t) None old.bytes.items (run_end old.written_len now) (behind_run now) (drop (run_count now) old.reserved.items)) behind up_to log.pins H A f U) (sym made)
         (fits_written_one sum size log.site (state_of before) log.fault old.bytes.items old.written_len old.sealed.items old.reserved.items log.pins H A f U fits log.in_segment log.config.config.least log.place_in_reach log.slot_in_reach
-        old.are old.head (sealed_rise old) whole k b there ready)) in (
+        old.are old.head (sealed_rise old) whole k b there ready (All-take NoPadding (run_count now) old.reserved.items fits.holds.plain))) in (
           after.0,
           fits_same_buffer sum size log.site (state_of new) log.fault old.bytes.items later.bytes.items (run_end old.written_len now) later.written_len (behind_run now) later.sealed.items (drop (run_count now) old.reserved.items) later.reserved.items log.pins H A f U
               is.bytes is.from is.sealed is.reserved after.1,

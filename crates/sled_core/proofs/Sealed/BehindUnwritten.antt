@@ -1,10 +1,11 @@
 -- A sealed buffer is written behind one that isn't: torn or whole, a reader finds what he found before.
-use Rattle.std.proofs.Common.{◌≡◌, ◌≤◌, ◌<◌, ◌+◌, ◌%◌, ◌⊎◌, ℕ, max, Bool, false, List, [], ◌∷◌, ◌++◌, length, take, get_or, refl, subst, arith, inl, inr}
+use Rattle.std.proofs.Common.{◌≡◌, ◌≤◌, ◌<◌, ◌+◌, ◌%◌, ◌⊎◌, ℕ, max, Bool, false, List, [], ◌∷◌, ◌++◌, length, take, drop, get_or, refl, subst, arith, inl, inr}
 use Rattle.std.specs.List.{All}
 use Rattle.sled_codec.specs.History.{History}
 use Rattle.sled_codec.specs.Snapshots.{SnapshotModel}
 use Rattle.sled_store.specs.Device.{overwritten, LeavesLog}
 use Rattle.sled_store.specs.Foreign.{NoForeignLog}
+use Rattle.sled_store.proofs.Segments.FitLemmas.{all_front}
 use Rattle.sled_core.specs.declared.iobuf.Reserved.{Reserved}
 use Rattle.sled_core.specs.declared.iobuf.Sealed.{Sealed}
 use Rattle.sled_core.specs.declared.iobuf.SegmentPosition.{SegmentPosition}
@@ -21,6 +22,7 @@ use Rattle.sled_core.proofs.Sealed.Clear.{first_of, own_long}
 use Rattle.sled_core.proofs.Sealed.GapWritten.{gap_stands, gap_written, torn_gap}
 use Rattle.sled_core.proofs.Sealed.LaidLemmas.{EndsRise}
 use Rattle.sled_core.proofs.Sealed.OneWritten.{long, rises_at}
+use Rattle.sled_core.proofs.Sealed.Runs.{take_more}
 use Rattle.sled_core.proofs.Torn.TornLemmas.{after_write}
 
 -- the first buffer begins where a record has room
@@ -34,12 +36,12 @@ pub head_room : (size from : ℕ) → 256 ≤ size → (from ≡ 0) ⊎ (20 ≤ 
 head_room size from some (inl none) rs x xs are room = omega (arith, none, some)
 head_room size from some (inr begun) rs x xs are room = first_room size from (take x.count rs) x.end begun are.0.rises are.0.chain room
 
--- It does where no entry fills the segment,
+-- It does where none of the entries that are written with it fills the segment,
 pub plain_room : (sum : List ℕ → ℕ) (size number : ℕ) (bytes : List ℕ) (from : ℕ) → 256 ≤ size → (from ≡ 0) ⊎ (20 ≤ from) → (rs : List Reserved) (x : Sealed) (xs : List Sealed) → AreSealed from rs (x ∷ xs)
-    → All (Stands sum size number bytes) rs → All NoPadding rs → from + 32 ≤ size
-plain_room sum size number bytes from some begins rs x xs are stand plain = head_room size from some begins rs x xs are (λ r more is. first_of (λ y. y.from + 32 ≤ size) x.count rs r more is room) where
-  room : All (λ (r : Reserved). r.from + 32 ≤ size) rs
-  room k d lt = (reserved_in sum size number bytes (get_or rs k d) (plain k d lt) (stand k d lt)).room
+    → All (Stands sum size number bytes) rs → (more : ℕ) → All NoPadding (take (x.count + more) rs) → from + 32 ≤ size
+plain_room sum size number bytes from some begins rs x xs are stand more plain = head_room size from some begins rs x xs are (λ r others is.
+    let own : All NoPadding (take x.count rs) = all_front NoPadding (take x.count rs) (take more (drop x.count rs)) (subst (All NoPadding) (take_more x.count more rs) plain) in
+    (reserved_in sum size number bytes r (subst (All NoPadding) is own 0 r (omega arith)) (first_of (Stands sum size number bytes) x.count rs r others is stand)).room)
 
 -- and where the buffer ends before the segment.
 pub below_room : (size from : ℕ) → 256 ≤ size → (from ≡ 0) ⊎ (20 ≤ from) → (rs : List Reserved) (x : Sealed) (xs : List Sealed) → AreSealed from rs (x ∷ xs) → All (HasSpace size) rs → x.end < size → from + 32 ≤ size

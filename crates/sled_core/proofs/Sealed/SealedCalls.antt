@@ -79,13 +79,13 @@ module _ (sum : List ℕ → ℕ) (size : ℕ) (some : 256 ≤ size) (old : List
         let long : site.slot + 20 ≤ length new = omega (arith, there, begun) in
         record { mark = h.mark; header = subst (λ (l : List ℕ). IsHeader sum l (pos site.place) h.mark) (sym (part-append new (replicate (to - length new) 0) site.slot 20 long)) h.header; below = h.below }
 
-    -- A reader reads up to the end of those that are written now.
-    pub first_alone : All (Stands sum size (site.place / size) bytes) rs → All NoPadding rs → NoHeaderOfZeros sum → (reach : ℕ) (first : SnapshotModel) → HasOnly H (completed_in site bytes (take (b.count + run_count rest) rs)) (site.place + max 20 from) (site.place + run_end b.end rest)
+    -- A reader reads up to the end of those that are written now, where nothing fills the segment.
+    pub first_alone : All (Stands sum size (site.place / size) bytes) rs → from + 32 ≤ size → All NoPadding (take (b.count + run_count rest) rs) → NoHeaderOfZeros sum → (reach : ℕ) (first : SnapshotModel) → HasOnly H (completed_in site bytes (take (b.count + run_count rest) rs)) (site.place + max 20 from) (site.place + run_end b.end rest)
         → Ascends H.messages → least_place size first ≤ site.place → ((c : Batch) → Contains H.batches c → c.low < site.place + run_end b.end rest → c.peg < site.place + run_end b.end rest)
         → (to : ℕ) → site.slot ≤ to → {others : List BegunSegment} → StandsAmong sum size (filled to) site from others reach H first → StandsAmong sum size (padded to new) site (run_end b.end rest) others (site.place + run_end b.end rest) H first
-    first_alone stand plain zeros reach first has ordered low ended to far {others} alone = subst (λ (l : List ℕ). StandsAmong sum size l site (run_end b.end rest) others (site.place + run_end b.end rest) H first) (same_file to)
-        (head_sealed_written sum zeros size some (filled to) site place_begins slot_begins place_small slot_small bytes from begins rs b rest fresh closed are rise inside stand (plain_room sum size (site.place / size) bytes from some begins rs b rest are stand plain) header (laid_filled to) reach first alone has
-        ordered (omega (arith, padded_long to old, far)) low (subst (λ (l : List ℕ). HasHeader sum l site) (sym (same_file to)) (padded_header to)) (All-take NoPadding (b.count + run_count rest) rs plain) ended)
+    first_alone stand room plain zeros reach first has ordered low ended to far {others} alone = subst (λ (l : List ℕ). StandsAmong sum size l site (run_end b.end rest) others (site.place + run_end b.end rest) H first) (same_file to)
+        (head_sealed_written sum zeros size some (filled to) site place_begins slot_begins place_small slot_small bytes from begins rs b rest fresh closed are rise inside stand room header (laid_filled to) reach first alone has
+        ordered (omega (arith, padded_long to old, far)) low (subst (λ (l : List ℕ). HasHeader sum l site) (sym (same_file to)) (padded_header to)) plain ended)
 
   -- Another one, behind a first one that isn't written.
   module _ (x : Sealed) (xs : List Sealed) (b : Sealed) (rest : List Sealed) (fresh : x.is_written ≡ false) (are : AreSealed from rs (x ∷ xs ++ b ∷ rest)) (rise : EndsRise from (x ∷ xs ++ b ∷ rest) size) (inside : b.end ≤ length bytes)
