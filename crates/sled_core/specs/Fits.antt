@@ -234,8 +234,6 @@ pub record HoldsIn (sum : List ℕ → ℕ) (parts : LogParts) (behind : List Se
   pub own : HoldsSegment sum parts (StaysFrom H (stable_place begun.first.stable)) (record { messages = head; batches = H.batches })
   pub others : HoldBehind sum parts.size parts.device parts.fault (parts.site.place + parts.size) behind (StaysBelow H (stable_place begun.first.stable) parts.site.place) H.batches later
   pub apart : FollowApart parts.site (map begun_segment behind)
-  -- nothing fills the first segment, until a log begins further ones
-  pub plain : All NoPadding parts.reserved
 
 -- The log holds this history.
 unfoldable pub Holds : {D C : Type 0} → (D → Trace) → (List ℕ → ℕ) → Log D C → History → Type 0

@@ -52,5 +52,4 @@ emptied sum size site device fault bytes from bs rs behind H holds full unsealed
       subst (λ n. Holds n [] []) full (subst (λ (cs : List Sealed). Holds from cs []) unsealed (subst (λ (l : List Reserved). Holds from bs l) unreserved holds.own)));
   others = holds.others;
   apart = holds.apart;
-  plain = λ k d lt. absurd (omega (arith, lt));
 }

@@ -25,7 +25,7 @@ use Rattle.sled_core.proofs.Reached.NextSegment.{next_begins, next_goes, read}
 use Rattle.sled_core.proofs.Reached.Recoverable.{less_than}
 
 module _ (sum : List ℕ → ℕ) (size : ℕ) (device : State) (fault : Option IoError) (place : ℕ) (s : SegmentParts) (ss : List SegmentParts) {reach pins : ℕ} {H : History} {A f : ℕ} {U : List Message}
-    (fits : FitsFull sum size device fault place (s ∷ ss) reach pins H A f U) (big : 256 ≤ size) (whole : fault ≡ None) (plain : All NoPadding s.reserved) where
+    (fits : FitsFull sum size device fault place (s ∷ ss) reach pins H A f U) (big : 256 ≤ size) (whole : fault ≡ None) where
   abbrev pub first : SnapshotModel
   first = fits.holds.begun.first
 
@@ -38,7 +38,7 @@ module _ (sum : List ℕ → ℕ) (size : ℕ) (device : State) (fault : Option 
 
   -- what the log holds with it as the first one
   abbrev pub holds_now : HoldsIn sum (log_parts size s.site device fault s.bytes s.written_len s.sealed s.reserved) ss H
-  holds_now = promoted sum size fits.site device fault fits.bytes size [] [] H s ss fits.holds big refl refl plain
+  holds_now = promoted sum size fits.site device fault fits.bytes size [] [] H s ss fits.holds big refl refl
 
   pub ordered : Ascends H.messages
   ordered = whole_ascends sum size s.site device fault s.bytes s.written_len s.sealed s.reserved H holds_now here.inside

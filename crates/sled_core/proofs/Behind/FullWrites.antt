@@ -55,7 +55,7 @@ module _ (sum : List ℕ → ℕ) (size : ℕ) (site : SegmentPosition) (device 
             (reaches_first sum size site device fault bytes from b rest rs H fits.holds short big place_small slot_small are fresh closed rise whole) filled
             (emptied sum size site (after []) fault bytes (run_end b.end rest) (behind_run rest) (drop (b.count + run_count rest) rs) behind H
             (holds_over sum size site device fault bytes from (b ∷ rest) rs behind H fits.holds (after []) fault bytes (run_end b.end rest) (behind_run rest) (drop (b.count + run_count rest) rs) refl above now
-            (others_written sum size site device fault bytes from (b ∷ rest) rs H fits.holds (omega (arith, big)) whole (site.slot + from) (asked []) range.0 (omega arith) (omega (arith, range.2)) (after []) refl) (All-drop NoPadding (b.count + run_count rest) rs fits.holds.plain))
+            (others_written sum size site device fault bytes from (b ∷ rest) rs H fits.holds (omega (arith, big)) whole (site.slot + from) (asked []) range.0 (omega arith) (omega (arith, range.2)) (after []) refl))
             filled (none_sealed (run_end b.end rest) (behind_run rest) (length bytes) (rise_behind b.end rest (length bytes) rise.1) (omega (arith, filled, short)))
             (none_reserved sum size site (after []) fault bytes (run_end b.end rest) (behind_run rest) (drop (b.count + run_count rest) rs) (record { messages = fits.holds.head; batches = H.batches }) now (omega (arith, filled, short))))
             refl (λ l is. is),
