@@ -19,7 +19,7 @@ use Rattle.sled_core.specs.declared.reservation.Reservation.{Reservation}
 use Rattle.sled_core.specs.declared.logger.Log.{Log}
 use Rattle.sled_store.specs.declared.config.RunningConfig.{RunningConfig}
 use Rattle.sled_store.specs.declared.segment.accountant.SegmentAccountant.{SegmentAccountant}
-use Rattle.sled_core.specs.Buffers.{NoPadding, Stands, IsChain, completed_in, message_in, none_open, open_in, first_open_in, end_reserved, record_size}
+use Rattle.sled_core.specs.Buffers.{Stands, IsChain, completed_in, message_in, none_open, open_in, first_open_in, end_reserved, record_size}
 use Rattle.sled_core.specs.LogFile.{IsLogFile, StaysBelow, StaysFrom}
 use Rattle.sled_core.specs.Reached.{BegunSegment, FollowApart}
 use Rattle.sled_core.specs.Recoverable.{IsMarkOf}

@@ -1,6 +1,6 @@
 -- All segments of a log before a place are wholly on the device, and so is the one that begins there: so are all before the next place. A reader comes up to where its records end.
-use Rattle.std.proofs.Common.{◌≡◌, ◌≢◌, ◌≤◌, ◌<◌, ◌+◌, ◌-◌, ◌∙◌, ℕ, List, [], ◌∷◌, length, map, replicate, Option, None, refl, sym, ap, subst, arith, inl, inr}
-use Rattle.std.specs.List.{All, Contains}
+use Rattle.std.proofs.Common.{◌≡◌, ◌≢◌, ◌≤◌, ◌<◌, ◌+◌, ◌-◌, ◌∙◌, ℕ, List, [], ◌∷◌, length, map, replicate, Option, None, refl, sym, subst, arith, inl, inr}
+use Rattle.std.specs.List.{Contains}
 use Rattle.std.specs.declared.io.Error.{Error as IoError}
 use Rattle.std.proofs.lemmas.Bool.{cases_lt}
 use Rattle.std.proofs.lemmas.List.Elements.{All-contains}
@@ -12,7 +12,6 @@ use Rattle.sled_store.proofs.Segments.Elements.{in_rest}
 use Rattle.sled_core.specs.declared.iterator.scan.ScannedRecord.{ScannedRecord}
 use Rattle.sled_core.specs.declared.iterator.scan.ScanEnd.{ScanEnd}
 use Rattle.sled_core.specs.declared.iterator.scan.ScanEnd.TheVariants.{Full, Broken}
-use Rattle.sled_core.specs.Buffers.{NoPadding}
 use Rattle.sled_core.specs.Fits.{HoldsIn, SegmentParts, begun_segment, log_parts}
 use Rattle.sled_core.specs.Full.{FitsFull, StandsFull}
 use Rattle.sled_core.specs.LogFile.{padded}
@@ -22,7 +21,7 @@ use Rattle.sled_core.specs.Running.{BlobsFit}
 use Rattle.sled_core.specs.Scan.{IsScan}
 use Rattle.sled_core.specs.Tail.{Scanned}
 use Rattle.sled_core.proofs.Behind.FullHolds.{emptied, none_reserved, none_sealed}
-use Rattle.sled_core.proofs.Behind.FullNext.{at_place, first, follow, full_file, full_here, here, holds_now, inline, ordered, rest}
+use Rattle.sled_core.proofs.Behind.FullNext.{at_place, follow, full_file, full_here, here, holds_now, inline, ordered, rest}
 use Rattle.sled_core.proofs.Behind.FullRead.{ends_read, inside, none_behind, same_stop}
 use Rattle.sled_core.proofs.Behind.FullZeros.{zeros_or_not}
 use Rattle.sled_core.proofs.Flush.Padded.{padded_none}
@@ -104,11 +103,13 @@ module _ (sum : List ℕ → ℕ) (size : ℕ) (device : State) (fault : Option 
     its_scan =
         let r = its_read.2 in
         let t : Scanned = r.scan in
-        let had = (segment_there sum size log full_now.stands.ordering full_now.stands.scanned full_now.stands.reads t r.there).1 in
-        (t.met, subst (λ (w : ScanEnd). IsScan sum size log s.site.slot s.site.place t.met stop w) r.ends
-        (subst (λ n. IsScan sum size log s.site.slot s.site.place t.met n t.why) r.ended
-        (subst (λ n. IsScan sum size log s.site.slot n t.met t.stop t.why) r.at_place
-        (subst (λ n. IsScan sum size log n t.segment.place t.met t.stop t.why) r.in_slot had))))
+        let had = (segment_there sum size log full_now.stands.ordering full_now.stands.scanned full_now.stands.reads t r.there).1 in (
+          t.met,
+          subst (λ (w : ScanEnd). IsScan sum size log s.site.slot s.site.place t.met stop w) r.ends
+              (subst (λ n. IsScan sum size log s.site.slot s.site.place t.met n t.why) r.ended
+              (subst (λ n. IsScan sum size log s.site.slot n t.met t.stop t.why) r.at_place
+              (subst (λ n. IsScan sum size log n t.segment.place t.met t.stop t.why) r.in_slot had))),
+        )
 
     goes : its_read.1 ≢ Broken
     unfolding IsScan

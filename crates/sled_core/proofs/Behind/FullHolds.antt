@@ -1,5 +1,5 @@
 -- All of a segment is written: it has no sealed buffers and no reservations any more.
-use Rattle.std.proofs.Common.{◌≡◌, ◌≤◌, ◌<◌, ◌+◌, ◌/◌, ℕ, max, Bool, true, false, if◌then◌else◌, List, [], ◌∷◌, length, Option, refl, subst, arith}
+use Rattle.std.proofs.Common.{◌≡◌, ◌≤◌, ◌/◌, ℕ, max, Bool, true, false, if◌then◌else◌, List, [], ◌∷◌, length, Option, refl, subst, arith}
 use Rattle.std.specs.declared.io.Error.{Error as IoError}
 use Rattle.sled_codec.specs.History.{History, Message}
 use Rattle.sled_codec.specs.Snapshots.{stable_place}

@@ -1,8 +1,8 @@
 -- One of the sealed buffers of the first segment is written, and the run of those that are written then ends with the segment: all of it is on the device, and the log fits the same history with the segments behind it.
-use Rattle.std.proofs.Common.{◌≡◌, ◌≤◌, ◌<◌, ◌+◌, ◌/◌, ◌^◌, ◌∙◌, ℕ, suc, max, Bool, true, false, if◌then◌else◌, ap, List, [], ◌∷◌, ◌++◌, length, map, take, drop, refl, sym, subst, arith, Option, None, Some}
+use Rattle.std.proofs.Common.{◌≡◌, ◌≤◌, ◌<◌, ◌+◌, ◌/◌, ◌^◌, ℕ, suc, max, Bool, true, false, if◌then◌else◌, ap, List, [], ◌∷◌, ◌++◌, length, map, take, drop, refl, subst, arith, Option, None, Some}
 use Rattle.std.specs.List.{All, slice_get}
 use Rattle.std.specs.declared.io.Error.{Error as IoError}
-use Rattle.std.proofs.lemmas.List.Elements.{All-drop, All-take}
+use Rattle.std.proofs.lemmas.List.Elements.{All-take}
 use Rattle.sled_codec.specs.History.{Message, History}
 use Rattle.sled_codec.specs.Snapshots.{stable_place}
 use Rattle.sled_store.specs.Device.{State, Wrote, Synced, step}

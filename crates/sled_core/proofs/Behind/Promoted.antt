@@ -13,7 +13,7 @@ use Rattle.sled_store.proofs.Segments.Elements.{in_first, in_rest}
 use Rattle.sled_core.specs.declared.iobuf.Reserved.{Reserved}
 use Rattle.sled_core.specs.declared.iobuf.Sealed.{Sealed}
 use Rattle.sled_core.specs.declared.iobuf.SegmentPosition.{SegmentPosition}
-use Rattle.sled_core.specs.Buffers.{IsChain, NoPadding, completed_in}
+use Rattle.sled_core.specs.Buffers.{IsChain, completed_in}
 use Rattle.sled_core.specs.Fits.{EndBelow, HoldBehind, HoldsIn, HoldsNext, HoldsSegment, IsBegunFrom, SegmentParts, begun_segment, log_parts}
 use Rattle.sled_core.specs.LogFile.{IsLogFile, StandsElsewhere, StaysBelow, StaysFrom}
 use Rattle.sled_core.specs.Reached.{BegunSegment}

@@ -16,7 +16,7 @@ use Rattle.sled_store.specs.SnapshotFiles.{BeginsFrom}
 use Rattle.sled_core.specs.declared.iobuf.Reserved.{Reserved}
 use Rattle.sled_core.specs.declared.iobuf.Sealed.{Sealed}
 use Rattle.sled_core.specs.declared.iobuf.SegmentPosition.{SegmentPosition}
-use Rattle.sled_core.specs.Buffers.{IsChain, NoPadding, Stands, completed_in}
+use Rattle.sled_core.specs.Buffers.{IsChain, Stands, completed_in}
 use Rattle.sled_core.specs.Fits.{log_parts, HoldBehind, HoldsIn, HoldsSegment, IsOnDevice, IsBegunFrom, IsKept, EndBelow, SegmentParts}
 use Rattle.sled_core.specs.LogFile.{IsLogFile, StaysBelow, StaysFrom}
 use Rattle.sled_core.proofs.Reserve.Entries.{some_in}

@@ -1,5 +1,5 @@
 -- One of the sealed buffers of a log is written at its place, and synced: at each moment a crash leaves what can be recovered, and behind it the log fits the same history. The buffers at the front that are written leave the list.
-use Rattle.std.proofs.Common.{◌≡◌, ◌==◌, ◌⊎◌, ◌≤◌, ◌<◌, ◌+◌, ◌/◌, ◌^◌, ◌∙◌, ℕ, zero, suc, max, Bool, true, false, if◌then◌else◌, List, [], ◌∷◌, ◌++◌, length, map, take, drop, get_or, sym, ap, arith, refl, subst, inl, inr, Option, None, Some, append_assoc}
+use Rattle.std.proofs.Common.{◌≡◌, ◌==◌, ◌⊎◌, ◌≤◌, ◌<◌, ◌+◌, ◌/◌, ◌^◌, ◌∙◌, ℕ, zero, suc, max, Bool, true, false, if◌then◌else◌, List, [], ◌∷◌, ◌++◌, length, map, take, drop, sym, ap, arith, refl, subst, inl, inr, Option, None, Some, append_assoc}
 use Rattle.std.specs.List.{All, Contains, slice_get}
 use Rattle.std.specs.declared.io.Error.{Error as IoError}
 use Rattle.std.proofs.lemmas.Bool.{cases_lt}
@@ -26,8 +26,8 @@ use Rattle.sled_core.specs.Recoverable.{LeavesRecoverable, NoHeaderOfZeros}
 use Rattle.sled_core.specs.Running.{BlobsFit, FitsIn, NamesFit}
 use Rattle.sled_core.specs.SealedBuffers.{AreSealed, FirstUnwritten, Laid, sealed_end, now_written, written_at, run_end, run_count, behind_run, bytes_between, is_ready}
 use Rattle.sled_core.proofs.Behind.FullHead.{first_full, plain_run, torn_head_any}
-use Rattle.sled_core.proofs.Reserve.Entries.{padding_in, some_long}
-use Rattle.sled_core.proofs.Reserve.Ranges.{chain_grows, chain_within, completed-append, completed_between, there_split}
+use Rattle.sled_core.proofs.Reserve.Entries.{some_long}
+use Rattle.sled_core.proofs.Reserve.Ranges.{chain_grows, completed-append, completed_between, there_split}
 use Rattle.sled_core.proofs.Flush.Completed.{all_apart, batches_to, has_only, none_crosses}
 use Rattle.sled_core.proofs.Flush.FlushLemmas.{holds_over, on_file}
 use Rattle.sled_core.proofs.Flush.Padded.{padded_none}
