@@ -20,7 +20,9 @@ use Rattle.sled_core.proofs.Behind.FullHolds.{emptied, none_reserved, none_seale
 use Rattle.sled_core.proofs.Flush.Completed.{batches_to}
 use Rattle.sled_core.proofs.Flush.FlushLemmas.{holds_over}
 use Rattle.sled_core.proofs.Flush.SealedFile.{stop_up}
-use Rattle.sled_core.proofs.Flush.SealedFits.{asked_range, ends_full, fits_filled, full_first, last_low, last_up, last_whole, ready_closed, reaches_first, segment_first, torn_first, written_split}
+use Rattle.sled_core.proofs.Flush.FirstWritten.{ends_full, full_first, last_low, last_up, last_whole, reaches_first, segment_first, torn_first}
+use Rattle.sled_core.proofs.Flush.SealedFits.{asked_range, ready_closed, written_split}
+use Rattle.sled_core.proofs.Flush.WriteFits.{fits_filled}
 use Rattle.sled_core.proofs.Holds.BehindKept.{others_written}
 use Rattle.sled_core.proofs.Reserve.Ranges.{there_split}
 use Rattle.sled_core.proofs.Sealed.LaidLemmas.{EndsRise, ends_below}
