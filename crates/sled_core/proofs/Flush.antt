@@ -1,4 +1,5 @@
 pub mod Completed
+pub mod FirstWritten
 pub mod FlushCalls
 pub mod FlushFits
 pub mod FlushLemmas
@@ -10,4 +11,5 @@ pub mod SealedFile
 pub mod SealedFits
 pub mod SealedWrites
 pub mod Settled
+pub mod WriteFits
 pub mod WrittenFile

@@ -1,5 +1,5 @@
 -- The invariant of a running log, and what a recovery leaves for it: over a history, the end of what was acknowledged, the floor, and the completed messages that were not marked yet.
-use Rattle.std.specs.Prelude.{◌≡◌, ◌≢◌, ◌≤◌, ◌<◌, ◌<ℤ◌, ◌+◌, nat_lt, max, if◌then◌else◌, ℕ, ℤ, pos, List, [], ◌∷◌, map, take, Option, None, Contains}
+use Rattle.std.specs.Prelude.{◌≡◌, ◌≢◌, ◌≤◌, ◌<◌, ◌<ℤ◌, ◌+◌, nat_lt, max, if◌then◌else◌, ℕ, ℤ, pos, List, [], ◌∷◌, map, take, All, Option, None, Contains}
 use Rattle.sled_codec.specs.declared.serialization.message.MessageKind.{MessageKind}
 use Rattle.sled_codec.specs.History.{Message, Batch, History}
 use Rattle.sled_codec.specs.Record.{IsHeader}
@@ -11,6 +11,7 @@ use Rattle.sled_store.specs.Foreign.{NoForeignNames}
 use Rattle.sled_store.specs.SegmentStates.{Machine}
 use Rattle.sled_store.specs.SnapshotFiles.{IsSnapshotFile}
 use Rattle.sled_core.specs.declared.logger.Log.{Log}
+use Rattle.sled_core.specs.Buffers.{NoPadding}
 use Rattle.sled_core.specs.Fits.{CloseBelow, LogParts, SegmentParts, begun_segment, behind_of, parts_of, HoldsIn}
 use Rattle.sled_core.specs.FreeSlots.{HasSlots}
 use Rattle.sled_core.specs.Recoverable.{ActiveFits, AreRecoverableSnapshots, AreRecoverableBlobs, NoHeaderOfZeros, LeavesRecoverable}
@@ -67,6 +68,8 @@ pub record FitsIn (sum : List ℕ → ℕ) (parts : LogParts) (behind : List Seg
 pub record FitsWith (sum : List ℕ → ℕ) (log : LogParts) (behind : List SegmentParts) (pins : ℕ) (m : Machine) (H : History) (A f : ℕ) (U : List Message) : Type 0 where
   pub reach : ℕ
   pub parts : FitsIn sum log behind reach pins H A f U
+  -- nothing fills the first segment, until a log begins further ones
+  pub plain : All NoPadding log.reserved
   pub slots : HasSlots log.size log.site.slot log.device.log.bytes log.fault m
 
 -- The log fits this history, the end of what was acknowledged, the floor and the messages that were not marked yet.

@@ -152,5 +152,4 @@ module _ (sum : List ℕ → ℕ) (size : ℕ) (site : SegmentPosition) (device 
     own = holds.own;
     others = together sum size device fault (site.place + size) pre (now_with s bytes' from' bs' rs') post stays_below H.batches held_around.before held_around.own held_around.after held_around.front here held_around.rest;
     apart = apart_with pre s post site bytes' from' bs' rs' holds.apart;
-    plain = holds.plain;
   }

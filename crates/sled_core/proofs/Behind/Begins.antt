@@ -161,5 +161,4 @@ module _ (sum : List ℕ → ℕ) (size : ℕ) (site : SegmentPosition) (device 
     own = holds.own;
     others = together sum size device fault (site.place + size) behind (begun_with next text) [] stays H.batches holds.later [] [] holds.others next_holds refl;
     apart = subst (FollowApart site) (sym (map-append begun_segment behind (begun_with next text ∷ []))) next_apart;
-    plain = holds.plain;
   }

@@ -192,5 +192,4 @@ module _ (sum : List ℕ → ℕ) (size : ℕ) (site : SegmentPosition) (device 
     own = first_completed;
     others = behind_completed;
     apart = apart_with pre s post site completed s.written_len (one_ended i s.sealed) (set s.reserved i (ended Completed r)) holds.apart;
-    plain = holds.plain;
   }

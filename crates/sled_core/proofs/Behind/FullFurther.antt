@@ -1,6 +1,6 @@
 -- All segments of a log before a place are wholly on the device, and so is the one that begins there: so are all before the next place. A reader comes up to where its records end.
-use Rattle.std.proofs.Common.{◌≡◌, ◌≢◌, ◌≤◌, ◌<◌, ◌+◌, ◌-◌, ◌∙◌, ℕ, List, [], ◌∷◌, length, map, replicate, Option, None, refl, sym, ap, subst, arith, inl, inr}
-use Rattle.std.specs.List.{All, Contains}
+use Rattle.std.proofs.Common.{◌≡◌, ◌≢◌, ◌≤◌, ◌<◌, ◌+◌, ◌-◌, ◌∙◌, ℕ, List, [], ◌∷◌, length, map, replicate, Option, None, refl, sym, subst, arith, inl, inr}
+use Rattle.std.specs.List.{Contains}
 use Rattle.std.specs.declared.io.Error.{Error as IoError}
 use Rattle.std.proofs.lemmas.Bool.{cases_lt}
 use Rattle.std.proofs.lemmas.List.Elements.{All-contains}
@@ -12,7 +12,6 @@ use Rattle.sled_store.proofs.Segments.Elements.{in_rest}
 use Rattle.sled_core.specs.declared.iterator.scan.ScannedRecord.{ScannedRecord}
 use Rattle.sled_core.specs.declared.iterator.scan.ScanEnd.{ScanEnd}
 use Rattle.sled_core.specs.declared.iterator.scan.ScanEnd.TheVariants.{Full, Broken}
-use Rattle.sled_core.specs.Buffers.{NoPadding}
 use Rattle.sled_core.specs.Fits.{HoldsIn, SegmentParts, begun_segment, log_parts}
 use Rattle.sled_core.specs.Full.{FitsFull, StandsFull}
 use Rattle.sled_core.specs.LogFile.{padded}
@@ -22,7 +21,7 @@ use Rattle.sled_core.specs.Running.{BlobsFit}
 use Rattle.sled_core.specs.Scan.{IsScan}
 use Rattle.sled_core.specs.Tail.{Scanned}
 use Rattle.sled_core.proofs.Behind.FullHolds.{emptied, none_reserved, none_sealed}
-use Rattle.sled_core.proofs.Behind.FullNext.{at_place, first, follow, full_file, full_here, here, holds_now, inline, ordered, rest}
+use Rattle.sled_core.proofs.Behind.FullNext.{at_place, follow, full_file, full_here, here, holds_now, inline, ordered, rest}
 use Rattle.sled_core.proofs.Behind.FullRead.{ends_read, inside, none_behind, same_stop}
 use Rattle.sled_core.proofs.Behind.FullZeros.{zeros_or_not}
 use Rattle.sled_core.proofs.Flush.Padded.{padded_none}
@@ -38,31 +37,31 @@ use Rattle.sled_core.proofs.Tail.OneTail.{segment_there}
 use Rattle.sled_core.proofs.Torn.WrittenParts.{path_rises}
 
 module _ (sum : List ℕ → ℕ) (size : ℕ) (device : State) (fault : Option IoError) (place : ℕ) (s : SegmentParts) (ss : List SegmentParts) {reach pins : ℕ} {H : History} {A f : ℕ} {U : List Message}
-    (fits : FitsFull sum size device fault place (s ∷ ss) reach pins H A f U) (big : 256 ≤ size) (whole : fault ≡ None) (plain : All NoPadding s.reserved) (full : s.written_len ≡ size) where
+    (fits : FitsFull sum size device fault place (s ∷ ss) reach pins H A f U) (big : 256 ≤ size) (whole : fault ≡ None) (full : s.written_len ≡ size) where
   begins : s.site.place ≡ place
-  begins = at_place sum size device fault place s ss fits big whole plain
+  begins = at_place sum size device fault place s ss fits big whole
 
   ascends : Ascends H.messages
-  ascends = ordered sum size device fault place s ss fits big whole plain
+  ascends = ordered sum size device fault place s ss fits big whole
 
   low_end : length s.bytes ≤ s.written_len
-  low_end = let within = (here sum size device fault place s ss fits big whole plain).inside in omega (arith, within, full)
+  low_end = let within = (here sum size device fault place s ss fits big whole).inside in omega (arith, within, full)
 
   some_written : 0 < s.written_len
   some_written = omega (arith, full, big)
 
   abbrev holds_full : HoldsIn sum (log_parts size s.site device fault s.bytes size [] []) ss H
   holds_full =
-      let next = here sum size device fault place s ss fits big whole plain in
-      emptied sum size s.site device fault s.bytes s.written_len s.sealed s.reserved ss H (holds_now sum size device fault place s ss fits big whole plain) full
+      let next = here sum size device fault place s ss fits big whole in
+      emptied sum size s.site device fault s.bytes s.written_len s.sealed s.reserved ss H (holds_now sum size device fault place s ss fits big whole) full
       (none_sealed s.written_len s.sealed (length s.bytes) (ends_rise s.written_len s.reserved s.sealed (length s.bytes) next.are next.behind next.held) low_end)
-      (none_reserved sum size s.site device fault s.bytes s.written_len s.sealed s.reserved _ (holds_now sum size device fault place s ss fits big whole plain).own low_end)
+      (none_reserved sum size s.site device fault s.bytes s.written_len s.sealed s.reserved _ (holds_now sum size device fault place s ss fits big whole).own low_end)
 
   -- Where it stands so, up to a place no lower, behind all messages of the segment.
   module _ (reach' : ℕ) (up : reach ≤ reach') (near' : reach' ≤ s.site.place + size) (ends' : (m : Message) → Contains H.messages m → m.place < s.site.place + size → (m.place < reach') × (m.place + m.size ≤ reach'))
       (stands : (to : ℕ) → NoHeaderOfZeros sum → StandsFull sum size (padded to device.log.bytes) (s.site.place + size) (map begun_segment ss) reach' H fits.holds.begun.first) where
     inline_before : InlineFrom H reach
-    inline_before = inline sum size device fault place s ss fits big whole plain
+    inline_before = inline sum size device fault place s ss fits big whole
 
     inline_now : InlineFrom H reach'
     inline_now m there past = inline_before m there (omega (arith, up, past))
@@ -85,17 +84,17 @@ module _ (sum : List ℕ → ℕ) (size : ℕ) (device : State) (fault : Option 
       names = fits.names;
       passes = let passes = fits.passes in omega (arith, passes, up);
       pinned = fits.pinned;
-      left = settled_recoverable sum size big device H reach' f fits.holds.begun.first reach' ascends inline_now (rest sum size device fault place s ss fits big whole plain) fits.names blobs_now
+      left = settled_recoverable sum size big device H reach' f fits.holds.begun.first reach' ascends inline_now (rest sum size device fault place s ss fits big whole) fits.names blobs_now
           (λ zeros. (subst (λ (l : List ℕ). StandsFull sum size l (s.site.place + size) (map begun_segment ss) reach' H fits.holds.begun.first) (padded_none 0 device.log.bytes (omega arith)) (stands 0 zeros)).stands);
     }
 
   -- How it is read in a file where all before it is.
   module _ (log : List ℕ) (is : StandsFull sum size log place (map begun_segment (s ∷ ss)) reach H fits.holds.begun.first) where
     abbrev full_now : StandsFull sum size log s.site.place (map begun_segment (s ∷ ss)) reach H fits.holds.begun.first
-    full_now = full_here sum size device fault place s ss fits big whole plain log is
+    full_now = full_here sum size device fault place s ss fits big whole log is
 
     abbrev its_read : (stop : ℕ) × (why : ScanEnd) × IsReadTo full_now.stands.scanned s.site.slot s.site.place stop why × IsSoFar size s.written_len stop why
-    its_read = read sum size big log (begun_segment s) (map begun_segment ss) reach H fits.holds.begun.first full_now (follow sum size device fault place s ss fits big whole plain) ascends some_written
+    its_read = read sum size big log (begun_segment s) (map begun_segment ss) reach H fits.holds.begun.first full_now (follow sum size device fault place s ss fits big whole) ascends some_written
 
     abbrev stop : ℕ
     stop = its_read.0
@@ -104,11 +103,13 @@ module _ (sum : List ℕ → ℕ) (size : ℕ) (device : State) (fault : Option 
     its_scan =
         let r = its_read.2 in
         let t : Scanned = r.scan in
-        let had = (segment_there sum size log full_now.stands.ordering full_now.stands.scanned full_now.stands.reads t r.there).1 in
-        (t.met, subst (λ (w : ScanEnd). IsScan sum size log s.site.slot s.site.place t.met stop w) r.ends
-        (subst (λ n. IsScan sum size log s.site.slot s.site.place t.met n t.why) r.ended
-        (subst (λ n. IsScan sum size log s.site.slot n t.met t.stop t.why) r.at_place
-        (subst (λ n. IsScan sum size log n t.segment.place t.met t.stop t.why) r.in_slot had))))
+        let had = (segment_there sum size log full_now.stands.ordering full_now.stands.scanned full_now.stands.reads t r.there).1 in (
+          t.met,
+          subst (λ (w : ScanEnd). IsScan sum size log s.site.slot s.site.place t.met stop w) r.ends
+              (subst (λ n. IsScan sum size log s.site.slot s.site.place t.met n t.why) r.ended
+              (subst (λ n. IsScan sum size log s.site.slot n t.met t.stop t.why) r.at_place
+              (subst (λ n. IsScan sum size log n t.segment.place t.met t.stop t.why) r.in_slot had))),
+        )
 
     goes : its_read.1 ≢ Broken
     unfolding IsScan
@@ -168,13 +169,13 @@ module _ (sum : List ℕ → ℕ) (size : ℕ) (device : State) (fault : Option 
         }
 
     stands_further : StandsFull sum size log (s.site.place + size) (map begun_segment ss) (s.site.place + stop) H fits.holds.begun.first
-    stands_further = next_full sum size big log (begun_segment s) (map begun_segment ss) reach H fits.holds.begun.first full_now (follow sum size device fault place s ss fits big whole plain) ascends some_written
+    stands_further = next_full sum size big log (begun_segment s) (map begun_segment ss) reach H fits.holds.begun.first full_now (follow sum size device fault place s ss fits big whole) ascends some_written
         (λ c there lower. let low = closed_low c there in let b = begins in omega (arith, low.1, b)) goes (let header = behind_header in omega (arith, header)) begins_next
 
   -- With any number of zeros behind its end the file is read to the same place.
-  same_end : (zeros : NoHeaderOfZeros sum) (to : ℕ) → stop (padded to device.log.bytes) (fits.beyond to whole zeros) ≡ stop device.log.bytes (full_file sum size device fault place s ss fits big whole plain zeros)
+  same_end : (zeros : NoHeaderOfZeros sum) (to : ℕ) → stop (padded to device.log.bytes) (fits.beyond to whole zeros) ≡ stop device.log.bytes (full_file sum size device fault place s ss fits big whole zeros)
   same_end zeros to =
-      let here_file = full_file sum size device fault place s ss fits big whole plain zeros in
+      let here_file = full_file sum size device fault place s ss fits big whole zeros in
       let a = its_scan device.log.bytes here_file in
       let b = its_scan (padded to device.log.bytes) (fits.beyond to whole zeros) in
       same_stop sum size device.log.bytes (replicate (to - length device.log.bytes) 0) s.site.slot s.site.place holds_full.own.slot_begins a.0 (its_read device.log.bytes here_file).0 (its_read device.log.bytes here_file).1 (goes device.log.bytes here_file) a.1
@@ -195,7 +196,7 @@ module _ (sum : List ℕ → ℕ) (size : ℕ) (device : State) (fault : Option 
   pub full_further : (now : ℕ) × FitsFull sum size device fault (place + size) ss now pins H A f U
   full_further = subst (λ n. (now : ℕ) × FitsFull sum size device fault (n + size) ss now pins H A f U) begins (elim (zeros_or_not sum) [
     | inl zeros ↦ (
-        let here_file = full_file sum size device fault place s ss fits big whole plain zeros in
+        let here_file = full_file sum size device fault place s ss fits big whole zeros in
         let near = fits.near in
         let at = begins in
         let short = within device.log.bytes here_file in (

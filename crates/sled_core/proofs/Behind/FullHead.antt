@@ -1,5 +1,5 @@
 -- The first sealed buffer is written, and the run of those that are written then ends with the segment: the reading goes on behind it, in those that were begun there. What was reached ends with the records; where no header had room, that is what was reached before.
-use Rattle.std.proofs.Common.{◌≡◌, ◌≤◌, ◌<◌, ◌+◌, ◌/◌, ◌%◌, ◌^◌, ◌⊎◌, ◌∙◌, ℕ, max, false, List, [], ◌∷◌, length, take, get_or, sym, ap, refl, subst, arith, inl, inr}
+use Rattle.std.proofs.Common.{◌≡◌, ◌≤◌, ◌<◌, ◌+◌, ◌/◌, ◌%◌, ◌^◌, ◌⊎◌, ℕ, max, false, List, [], ◌∷◌, length, take, get_or, sym, refl, subst, arith, inl, inr}
 use Rattle.std.specs.List.{All, Contains}
 use Rattle.std.proofs.lemmas.Bool.{cases_lt}
 use Rattle.std.proofs.lemmas.List.Elements.{All-contains}
@@ -14,7 +14,7 @@ use Rattle.sled_core.specs.declared.iobuf.SegmentPosition.{SegmentPosition}
 use Rattle.sled_core.specs.Buffers.{IsChain, NoPadding, Stands, completed_in, records_end, records_of}
 use Rattle.sled_core.specs.Fits.{CloseBelow, HasMark}
 use Rattle.sled_core.specs.LogFile.{HasHeader, padded}
-use Rattle.sled_core.specs.Reached.{BegunSegment, ReachesIn, StandsAmong}
+use Rattle.sled_core.specs.Reached.{BegunSegment, StandsAmong}
 use Rattle.sled_core.specs.Recoverable.{NoBatchBegins, NoBatchEnds, NoHeaderOfZeros, NoMessageBegins}
 use Rattle.sled_core.specs.SealedBuffers.{AreSealed, Laid, run_end, run_count, bytes_between}
 use Rattle.sled_core.specs.Tail.{least_place}

@@ -1,5 +1,5 @@
 -- All of a segment is written: it has no sealed buffers and no reservations any more.
-use Rattle.std.proofs.Common.{◌≡◌, ◌≤◌, ◌<◌, ◌+◌, ◌/◌, ℕ, max, Bool, true, false, if◌then◌else◌, List, [], ◌∷◌, length, Option, refl, subst, arith}
+use Rattle.std.proofs.Common.{◌≡◌, ◌≤◌, ◌/◌, ℕ, max, Bool, true, false, if◌then◌else◌, List, [], ◌∷◌, length, Option, refl, subst, arith}
 use Rattle.std.specs.declared.io.Error.{Error as IoError}
 use Rattle.sled_codec.specs.History.{History, Message}
 use Rattle.sled_codec.specs.Snapshots.{stable_place}
@@ -52,5 +52,4 @@ emptied sum size site device fault bytes from bs rs behind H holds full unsealed
       subst (λ n. Holds n [] []) full (subst (λ (cs : List Sealed). Holds from cs []) unsealed (subst (λ (l : List Reserved). Holds from bs l) unreserved holds.own)));
   others = holds.others;
   apart = holds.apart;
-  plain = λ k d lt. absurd (omega (arith, lt));
 }

@@ -1,6 +1,6 @@
 -- All segments of a log before a place are wholly on the device, and the one that begins there isn't: it is the first one of a log that fits the same history, as far as it was written before.
-use Rattle.std.proofs.Common.{◌≡◌, ◌≤◌, ◌<◌, ◌+◌, ◌∙◌, ℕ, List, [], ◌∷◌, length, map, Option, None, refl, sym, subst, arith, inl, inr}
-use Rattle.std.specs.List.{All, Contains}
+use Rattle.std.proofs.Common.{◌≡◌, ◌≤◌, ◌<◌, ◌+◌, ◌∙◌, ℕ, List, [], ◌∷◌, map, Option, None, refl, sym, subst, arith, inl, inr}
+use Rattle.std.specs.List.{Contains}
 use Rattle.std.specs.declared.io.Error.{Error as IoError}
 use Rattle.std.proofs.lemmas.Bool.{cases_lt}
 use Rattle.std.proofs.lemmas.List.Elements.{All-contains}
@@ -9,8 +9,7 @@ use Rattle.sled_codec.specs.Snapshots.{SnapshotModel, stable_place}
 use Rattle.sled_store.specs.Device.{State, at_rest}
 use Rattle.sled_store.proofs.Histories.Ascending.{Ascends}
 use Rattle.sled_store.proofs.Segments.Elements.{in_rest}
-use Rattle.sled_core.specs.Buffers.{NoPadding}
-use Rattle.sled_core.specs.Fits.{CloseBelow, HoldsIn, HoldsNext, SegmentParts, begun_segment, log_parts}
+use Rattle.sled_core.specs.Fits.{HoldsIn, HoldsNext, SegmentParts, begun_segment, log_parts}
 use Rattle.sled_core.specs.Full.{FitsFull, StandsFull}
 use Rattle.sled_core.specs.LogFile.{StaysBelow, padded}
 use Rattle.sled_core.specs.Reached.{FollowApart, StandsAmong}
@@ -25,7 +24,7 @@ use Rattle.sled_core.proofs.Reached.NextSegment.{next_begins, next_goes, read}
 use Rattle.sled_core.proofs.Reached.Recoverable.{less_than}
 
 module _ (sum : List ℕ → ℕ) (size : ℕ) (device : State) (fault : Option IoError) (place : ℕ) (s : SegmentParts) (ss : List SegmentParts) {reach pins : ℕ} {H : History} {A f : ℕ} {U : List Message}
-    (fits : FitsFull sum size device fault place (s ∷ ss) reach pins H A f U) (big : 256 ≤ size) (whole : fault ≡ None) (plain : All NoPadding s.reserved) where
+    (fits : FitsFull sum size device fault place (s ∷ ss) reach pins H A f U) (big : 256 ≤ size) (whole : fault ≡ None) where
   abbrev pub first : SnapshotModel
   first = fits.holds.begun.first
 
@@ -38,7 +37,7 @@ module _ (sum : List ℕ → ℕ) (size : ℕ) (device : State) (fault : Option 
 
   -- what the log holds with it as the first one
   abbrev pub holds_now : HoldsIn sum (log_parts size s.site device fault s.bytes s.written_len s.sealed s.reserved) ss H
-  holds_now = promoted sum size fits.site device fault fits.bytes size [] [] H s ss fits.holds big refl refl plain
+  holds_now = promoted sum size fits.site device fault fits.bytes size [] [] H s ss fits.holds big refl refl
 
   pub ordered : Ascends H.messages
   ordered = whole_ascends sum size s.site device fault s.bytes s.written_len s.sealed s.reserved H holds_now here.inside

@@ -1,8 +1,8 @@
 -- One of the sealed buffers of the first segment is written, and the run of those that are written then ends with the segment: all of it is on the device, and the log fits the same history with the segments behind it.
-use Rattle.std.proofs.Common.{◌≡◌, ◌≤◌, ◌<◌, ◌+◌, ◌/◌, ◌^◌, ◌∙◌, ℕ, suc, max, Bool, true, false, if◌then◌else◌, ap, List, [], ◌∷◌, ◌++◌, length, map, take, drop, refl, sym, subst, arith, Option, None, Some}
+use Rattle.std.proofs.Common.{◌≡◌, ◌≤◌, ◌<◌, ◌+◌, ◌/◌, ◌^◌, ℕ, suc, max, Bool, true, false, if◌then◌else◌, ap, List, [], ◌∷◌, ◌++◌, length, map, take, drop, refl, subst, arith, Option, None, Some}
 use Rattle.std.specs.List.{All, slice_get}
 use Rattle.std.specs.declared.io.Error.{Error as IoError}
-use Rattle.std.proofs.lemmas.List.Elements.{All-drop, All-take}
+use Rattle.std.proofs.lemmas.List.Elements.{All-take}
 use Rattle.sled_codec.specs.History.{Message, History}
 use Rattle.sled_codec.specs.Snapshots.{stable_place}
 use Rattle.sled_store.specs.Device.{State, Wrote, Synced, step}
@@ -20,7 +20,9 @@ use Rattle.sled_core.proofs.Behind.FullHolds.{emptied, none_reserved, none_seale
 use Rattle.sled_core.proofs.Flush.Completed.{batches_to}
 use Rattle.sled_core.proofs.Flush.FlushLemmas.{holds_over}
 use Rattle.sled_core.proofs.Flush.SealedFile.{stop_up}
-use Rattle.sled_core.proofs.Flush.SealedFits.{asked_range, ends_full, fits_filled, full_first, last_low, last_up, last_whole, ready_closed, reaches_first, segment_first, torn_first, written_split}
+use Rattle.sled_core.proofs.Flush.FirstWritten.{ends_full, full_first, last_low, last_up, last_whole, reaches_first, segment_first, torn_first}
+use Rattle.sled_core.proofs.Flush.SealedFits.{asked_range, ready_closed, written_split}
+use Rattle.sled_core.proofs.Flush.WriteFits.{fits_filled}
 use Rattle.sled_core.proofs.Holds.BehindKept.{others_written}
 use Rattle.sled_core.proofs.Reserve.Ranges.{there_split}
 use Rattle.sled_core.proofs.Sealed.LaidLemmas.{EndsRise, ends_below}
@@ -55,7 +57,7 @@ module _ (sum : List ℕ → ℕ) (size : ℕ) (site : SegmentPosition) (device 
             (reaches_first sum size site device fault bytes from b rest rs H fits.holds short big place_small slot_small are fresh closed rise whole) filled
             (emptied sum size site (after []) fault bytes (run_end b.end rest) (behind_run rest) (drop (b.count + run_count rest) rs) behind H
             (holds_over sum size site device fault bytes from (b ∷ rest) rs behind H fits.holds (after []) fault bytes (run_end b.end rest) (behind_run rest) (drop (b.count + run_count rest) rs) refl above now
-            (others_written sum size site device fault bytes from (b ∷ rest) rs H fits.holds (omega (arith, big)) whole (site.slot + from) (asked []) range.0 (omega arith) (omega (arith, range.2)) (after []) refl) (All-drop NoPadding (b.count + run_count rest) rs fits.holds.plain))
+            (others_written sum size site device fault bytes from (b ∷ rest) rs H fits.holds (omega (arith, big)) whole (site.slot + from) (asked []) range.0 (omega arith) (omega (arith, range.2)) (after []) refl))
             filled (none_sealed (run_end b.end rest) (behind_run rest) (length bytes) (rise_behind b.end rest (length bytes) rise.1) (omega (arith, filled, short)))
             (none_reserved sum size site (after []) fault bytes (run_end b.end rest) (behind_run rest) (drop (b.count + run_count rest) rs) (record { messages = fits.holds.head; batches = H.batches }) now (omega (arith, filled, short))))
             refl (λ l is. is),

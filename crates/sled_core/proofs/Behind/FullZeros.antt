@@ -1,5 +1,5 @@
 -- Whether zeros pass as a header is decided: the header would be that of the greatest place, with the greatest mark.
-use Rattle.std.proofs.Common.{◌≡◌, ◌≤◌, ◌<◌, ◌+◌, ◌-◌, ◌^◌, ◌∙◌, ◌⊎◌, FitsSigned, ℕ, ℤ, pos, Bool, true, false, List, take, drop, replicate, refl, sym, ap, arith, lit<, bit_xor, inl, inr}
+use Rattle.std.proofs.Common.{◌≡◌, ◌<◌, ◌-◌, ◌^◌, ◌∙◌, ◌⊎◌, FitsSigned, ℕ, ℤ, pos, Bool, true, false, List, take, drop, replicate, refl, sym, ap, arith, lit<, bit_xor, inl, inr}
 use Rattle.std.specs.Bool.{Decides}
 use Rattle.std.specs.Int.{w64, cast_unsigned}
 use Rattle.std.specs.Int.Bits.{xor_assoc, xor_self, xor_zero_l, xor_zero_r}

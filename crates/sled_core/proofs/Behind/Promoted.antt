@@ -13,7 +13,7 @@ use Rattle.sled_store.proofs.Segments.Elements.{in_first, in_rest}
 use Rattle.sled_core.specs.declared.iobuf.Reserved.{Reserved}
 use Rattle.sled_core.specs.declared.iobuf.Sealed.{Sealed}
 use Rattle.sled_core.specs.declared.iobuf.SegmentPosition.{SegmentPosition}
-use Rattle.sled_core.specs.Buffers.{IsChain, NoPadding, completed_in}
+use Rattle.sled_core.specs.Buffers.{IsChain, completed_in}
 use Rattle.sled_core.specs.Fits.{EndBelow, HoldBehind, HoldsIn, HoldsNext, HoldsSegment, IsBegunFrom, SegmentParts, begun_segment, log_parts}
 use Rattle.sled_core.specs.LogFile.{IsLogFile, StandsElsewhere, StaysBelow, StaysFrom}
 use Rattle.sled_core.specs.Reached.{BegunSegment}
@@ -107,8 +107,8 @@ module _ (sum : List ℕ → ℕ) (size : ℕ) (site : SegmentPosition) (device 
     reached = (let reached = holds.begun.reached in let next = here.next in omega (arith, reached, next, full));
   }
 
-  abbrev pub promoted : All NoPadding s.reserved → HoldsIn sum (log_parts size s.site device fault s.bytes s.written_len s.sealed s.reserved) ss H
-  promoted plain = record {
+  abbrev pub promoted : HoldsIn sum (log_parts size s.site device fault s.bytes s.written_len s.sealed s.reserved) ss H
+  promoted = record {
     begun = promoted_begun;
     head = holds.head ++ own;
     later = later;
@@ -116,5 +116,4 @@ module _ (sum : List ℕ → ℕ) (size : ℕ) (site : SegmentPosition) (device 
     own = promoted_own;
     others = promoted_others;
     apart = holds.apart.1;
-    plain = plain;
   }

@@ -157,5 +157,4 @@ module _ (sum : List ℕ → ℕ) (size : ℕ) (site : SegmentPosition) (device 
       own = first_written;
       others = together sum size new fault (site.place + size) pre (now_with s s.bytes (run_end s.written_len now) (behind_run now) left) post stays H.batches parts.before parts.own parts.after front_written next_written rest_written;
       apart = apart_with pre s post site s.bytes (run_end s.written_len now) (behind_run now) left holds.apart;
-      plain = holds.plain;
     }

@@ -1,5 +1,5 @@
 -- Where no buffer is sealed, all that was reserved is written as the one buffer that it would be once it is sealed: at each moment of the calls a crash leaves what can be recovered, and behind them the log holds and fits what it did, with all that was written for what was acknowledged.
-use Rattle.std.proofs.Common.{◌≡◌, ◌==◌, ◌≤◌, ◌<◌, ◌+◌, ◌^◌, true, List, [], ◌∷◌, ℕ, length, take, drop, Option, None, ap, sym, refl, subst, arith}
+use Rattle.std.proofs.Common.{All, ◌≡◌, ◌==◌, ◌≤◌, ◌<◌, ◌+◌, ◌^◌, true, List, [], ◌∷◌, ℕ, length, take, drop, Option, None, ap, sym, refl, subst, arith}
 use Rattle.std.proofs.lemmas.List.{take_all, drop_all}
 use Rattle.std.proofs.lemmas.List.Elements.{All-take}
 use Rattle.std.specs.declared.io.Error.{Error as IoError}
@@ -77,9 +77,9 @@ module _ (sum : List ℕ → ℕ) (size : ℕ) (site : SegmentPosition) (device 
         subst (λ (xs : List ℕ). Along (LeavesRecoverable sum size H reach f) (Wrote (site.slot + from) xs xs ∷ Synced ∷ []) device) all_of
         (write_along sum size site device fault bytes from (one ∷ []) rs pins H A f U fits_sealed short big place_small slot_small are refl rise whole 0 one refl ready)
 
-    -- The log fits.
-    pub fits_flushed : (now : ℕ) × FitsIn sum (log_parts size site (after_sync asked) None bytes (length bytes) [] []) behind now pins H A f U
-    fits_flushed =
+    -- The log fits, where nothing fills the segment.
+    pub fits_flushed : All NoPadding rs → (now : ℕ) × FitsIn sum (log_parts size site (after_sync asked) None bytes (length bytes) [] []) behind now pins H A f U
+    fits_flushed plain =
         subst (λ (xs : List ℕ). (now : ℕ) × FitsIn sum (log_parts size site (after_sync xs) None bytes (length bytes) [] []) behind now pins H A f U) all_of
         (subst (λ (l : List Reserved). (now : ℕ) × FitsIn sum (log_parts size site (after_sync (drop from (take (length bytes) bytes))) None bytes (length bytes) [] l) behind now pins H A f U) none_left
-        (fits_written_one sum size site device fault bytes from (one ∷ []) rs pins H A f U fits_sealed short big place_small slot_small are refl rise whole 0 one refl ready (All-take NoPadding (length rs + 0) rs fits.holds.plain)))
+        (fits_written_one sum size site device fault bytes from (one ∷ []) rs pins H A f U fits_sealed short big place_small slot_small are refl rise whole 0 one refl ready (All-take NoPadding (length rs + 0) rs plain)))

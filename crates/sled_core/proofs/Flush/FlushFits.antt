@@ -1,5 +1,5 @@
 -- A log fits its history at each moment of a flush, and behind it with all that was written for what was acknowledged.
-use Rattle.std.proofs.Common.{◌≡◌, ◌≤◌, ◌<◌, ◌+◌, ℕ, List, [], ◌∷◌, length, length-drop, drop, Option, None, ap, sym, refl, subst, arith}
+use Rattle.std.proofs.Common.{All, ◌≡◌, ◌≤◌, ◌<◌, ◌+◌, ℕ, List, [], ◌∷◌, length, length-drop, drop, Option, None, ap, sym, refl, subst, arith}
 use Rattle.std.specs.declared.io.Error.{Error as IoError}
 use Rattle.sled_codec.specs.History.{Message, History}
 use Rattle.sled_store.specs.Accounts.{machine_of}
@@ -11,6 +11,7 @@ use Rattle.sled_store.proofs.Traces.ScriptLemmas.{performs_throughout}
 use Rattle.sled_core.specs.declared.iobuf.Reserved.{Reserved}
 use Rattle.sled_core.specs.declared.iobuf.Sealed.{Sealed}
 use Rattle.sled_core.specs.declared.logger.Log.{Log}
+use Rattle.sled_core.specs.Buffers.{NoPadding}
 use Rattle.sled_core.specs.Fits.{NoneOpen, NoneSealed, SegmentParts, fault_of, device_of, segment_size_of, log_parts}
 use Rattle.sled_core.specs.FreeSlots.{HasSlots}
 use Rattle.sled_core.specs.Recoverable.{LeavesRecoverable}
@@ -61,13 +62,13 @@ module _ {D C : Type 0} (trace : D → Trace) (sum : List ℕ → ℕ) (log : Lo
       weaker (LeavesRecoverable sum size H reach f) (LeavesRecoverable sum size H A f) (λ s. leaves_less sum size H A reach f s fits.passes) before new (flush_left new came)
 
   -- behind both
-  pub fits_written : (new : Trace) → new ≡ after_all calls before → (bytes' : List ℕ) (from' : ℕ) (bs' : List Sealed) (rs' : List Reserved) → bytes' ≡ bytes → from' ≡ length bytes → bs' ≡ [] → rs' ≡ []
+  pub fits_written : All NoPadding rs → (new : Trace) → new ≡ after_all calls before → (bytes' : List ℕ) (from' : ℕ) (bs' : List Sealed) (rs' : List Reserved) → bytes' ≡ bytes → from' ≡ length bytes → bs' ≡ [] → rs' ≡ []
       → (now : ℕ) × FitsIn sum (log_parts size log.site (state_of new) log.fault bytes' from' bs' rs') behind now log.pins H A f U
-  fits_written new came bytes' from' bs' rs' is_bytes is_from is_bs is_rs =
+  fits_written plain new came bytes' from' bs' rs' is_bytes is_from is_bs is_rs =
       let after : (now : ℕ) × FitsIn sum (log_parts size log.site (state_of new) log.fault bytes (length bytes) [] []) behind now log.pins H A f U =
       subst (λ (o : Option IoError). (now : ℕ) × FitsIn sum (log_parts size log.site (state_of new) o bytes (length bytes) [] []) behind now log.pins H A f U) (sym whole)
       (subst (λ (t : Trace). (now : ℕ) × FitsIn sum (log_parts size log.site (state_of t) None bytes (length bytes) [] []) behind now log.pins H A f U) (sym came)
-      (fits_flushed sum size log.site (state_of before) log.fault bytes from rs H parts_fit.holds low log.in_segment log.config.config.least log.place_in_reach log.slot_in_reach ended some whole log.pins A f U parts_fit)) in (
+      (fits_flushed sum size log.site (state_of before) log.fault bytes from rs H parts_fit.holds low log.in_segment log.config.config.least log.place_in_reach log.slot_in_reach ended some whole log.pins A f U parts_fit plain)) in (
         after.0,
         fits_same_buffer sum size log.site (state_of new) log.fault bytes bytes' (length bytes) from' [] bs' [] rs' log.pins H A f U is_bytes is_from is_bs is_rs after.1,
       )

@@ -16,7 +16,7 @@ use Rattle.sled_store.specs.SnapshotFiles.{BeginsFrom}
 use Rattle.sled_core.specs.declared.iobuf.Reserved.{Reserved}
 use Rattle.sled_core.specs.declared.iobuf.Sealed.{Sealed}
 use Rattle.sled_core.specs.declared.iobuf.SegmentPosition.{SegmentPosition}
-use Rattle.sled_core.specs.Buffers.{IsChain, NoPadding, Stands, completed_in}
+use Rattle.sled_core.specs.Buffers.{IsChain, Stands, completed_in}
 use Rattle.sled_core.specs.Fits.{log_parts, HoldBehind, HoldsIn, HoldsSegment, IsOnDevice, IsBegunFrom, IsKept, EndBelow, SegmentParts}
 use Rattle.sled_core.specs.LogFile.{IsLogFile, StaysBelow, StaysFrom}
 use Rattle.sled_core.proofs.Reserve.Entries.{some_in}
@@ -77,8 +77,8 @@ abbrev pub holds_over : (sum : List ℕ → ℕ) (size : ℕ) (site : SegmentPos
     (holds : HoldsIn sum (log_parts size site device fault bytes from bs rs) behind H)
     (new : State) (now : Option IoError) (bytes' : List ℕ) (from' : ℕ) (bs' : List Sealed) (rs' : List Reserved) → new.snapshots.file ≡ device.snapshots.file → from ≤ from'
     → HoldsSegment sum (log_parts size site new now bytes' from' bs' rs') (StaysFrom H (stable_place holds.begun.first.stable)) (record { messages = holds.head; batches = H.batches })
-    → HoldBehind sum size new now (site.place + size) behind (StaysBelow H (stable_place holds.begun.first.stable) site.place) H.batches holds.later → All NoPadding rs' → HoldsIn sum (log_parts size site new now bytes' from' bs' rs') behind H
-holds_over sum size site device fault bytes from bs rs behind H holds new now bytes' from' bs' rs' names more own others plain = record {
+    → HoldBehind sum size new now (site.place + size) behind (StaysBelow H (stable_place holds.begun.first.stable) site.place) H.batches holds.later → HoldsIn sum (log_parts size site new now bytes' from' bs' rs') behind H
+holds_over sum size site device fault bytes from bs rs behind H holds new now bytes' from' bs' rs' names more own others = record {
   begun = begun-more sum size device.snapshots.file new.snapshots.file site from from' H names more holds.begun;
   head = holds.head;
   later = holds.later;
@@ -86,7 +86,6 @@ holds_over sum size site device fault bytes from bs rs behind H holds new now by
   own = own;
   others = others;
   apart = holds.apart;
-  plain = plain;
 }
 
 -- The segments behind the first one, in a log that keeps a failure of its device.
@@ -117,7 +116,7 @@ module _ (sum : List ℕ → ℕ) (size : ℕ) (site : SegmentPosition) (device 
   holds-faulty new e now is names =
       holds_over sum size site device fault bytes from bs rs behind H holds new now bytes from bs rs names (omega arith)
       (segment-faulty sum size site device fault bytes from bs rs (record { messages = holds.head; batches = H.batches }) holds.own new e now is)
-      (behind_faulty sum size device fault (site.place + size) behind (StaysBelow H (stable_place holds.begun.first.stable) site.place) H.batches holds.later holds.others new e now is) holds.plain
+      (behind_faulty sum size device fault (site.place + size) behind (StaysBelow H (stable_place holds.begun.first.stable) site.place) H.batches holds.later holds.others new e now is)
 
   -- The same device and the same failure hold the same.
   pub holds-moved : (after : State) (now : Option IoError) → after ≡ device → now ≡ fault → HoldsIn sum (log_parts size site after now bytes from bs rs) behind H

@@ -1,5 +1,5 @@
 -- A log holds and fits its history at each moment of the write of one of its sealed buffers, and behind it.
-use Rattle.std.proofs.Common.{◌≡◌, ◌∙◌, ◌≤◌, ◌<◌, ◌+◌, ◌∷◌, true, ℕ, List, [], length, take, drop, Option, None, Some, get_or, refl, ap, sym, subst, arith}
+use Rattle.std.proofs.Common.{All, ◌≡◌, ◌∙◌, ◌≤◌, ◌<◌, ◌+◌, ◌∷◌, true, ℕ, List, [], length, take, drop, Option, None, Some, get_or, refl, ap, sym, subst, arith}
 use Rattle.std.specs.List.{slice_get}
 use Rattle.std.proofs.lemmas.Option.{slice_get-get_or}
 use Rattle.std.specs.declared.io.Error.{Error as IoError}
@@ -98,16 +98,16 @@ module _ {D C : Type 0} (trace : D → Trace) (sum : List ℕ → ℕ) (log : Lo
     buffer_crash new came =
         weaker (LeavesRecoverable sum size H reach f) (LeavesRecoverable sum size H A f) (λ s. leaves_less sum size H A reach f s fits.passes) before new (buffer_left new came)
 
-    -- Behind them it fits.
-    pub fits_buffer : (new : Trace) → new ≡ after_all (writing_buffer log k) before → (later : IoBuf) → IsWrittenAt k old later
+    -- Behind them it fits, where nothing fills its segment.
+    pub fits_buffer : All NoPadding old.reserved.items → (new : Trace) → new ≡ after_all (writing_buffer log k) before → (later : IoBuf) → IsWrittenAt k old later
         → (up_to : ℕ) × FitsIn sum (log_parts size log.site (state_of new) log.fault later.bytes.items later.written_len later.sealed.items later.reserved.items) behind up_to log.pins H A f U
-    fits_buffer new came later is =
+    fits_buffer plain new came later is =
         let made = came ∙ ap (λ (es : List Event). after_all es before) (calls_are log k b there) in
         let after : (up_to : ℕ) × FitsIn sum (log_parts size log.site (state_of new) log.fault old.bytes.items (run_end old.written_len now) (behind_run now) (drop (run_count now) old.reserved.items)) behind up_to log.pins H A f U =
         subst (λ (o : Option IoError). (up_to : ℕ) × FitsIn sum (log_parts size log.site (state_of new) o old.bytes.items (run_end old.written_len now) (behind_run now) (drop (run_count now) old.reserved.items)) behind up_to log.pins H A f U) (sym whole)
         (subst (λ (t : Trace). (up_to : ℕ) × FitsIn sum (log_parts size log.site (state_of t) None old.bytes.items (run_end old.written_len now) (behind_run now) (drop (run_count now) old.reserved.items)) behind up_to log.pins H A f U) (sym made)
         (fits_written_one sum size log.site (state_of before) log.fault old.bytes.items old.written_len old.sealed.items old.reserved.items log.pins H A f U fits log.in_segment log.config.config.least log.place_in_reach log.slot_in_reach
-        old.are old.head (sealed_rise old) whole k b there ready (All-take NoPadding (run_count now) old.reserved.items fits.holds.plain))) in (
+        old.are old.head (sealed_rise old) whole k b there ready (All-take NoPadding (run_count now) old.reserved.items plain))) in (
           after.0,
           fits_same_buffer sum size log.site (state_of new) log.fault old.bytes.items later.bytes.items (run_end old.written_len now) later.written_len (behind_run now) later.sealed.items (drop (run_count now) old.reserved.items) later.reserved.items log.pins H A f U
               is.bytes is.from is.sealed is.reserved after.1,

@@ -1,13 +1,14 @@
 -- What a log holds it goes on holding, where its first segment does, over the same device.
-use Rattle.std.proofs.Common.{◌≡◌, ◌≤◌, ◌<◌, ◌+◌, ◌/◌, ◌∙◌, ℕ, List, [], ◌∷◌, ◌++◌, length, set, Option, Some, refl, sym, ap, subst, arith, append_assoc, inl, inr}
+use Rattle.std.proofs.Common.{◌≡◌, ◌≢◌, ◌≤◌, ◌<◌, ◌+◌, ◌/◌, ◌∙◌, ℕ, List, [], ◌∷◌, ◌++◌, length, set, drop, Option, Some, refl, sym, ap, subst, arith, append_assoc, inl, inr}
 use Rattle.std.specs.List.{All, slice_get}
 use Rattle.std.specs.declared.io.Error.{Error as IoError}
-use Rattle.std.proofs.lemmas.List.Elements.{All-append, All-contains, All-set, Contains-append_cases}
+use Rattle.std.proofs.lemmas.List.Elements.{All-append, All-contains, All-drop, All-set, Contains-append_cases}
 use Rattle.sled_codec.specs.Snapshots.{stable_place}
 use Rattle.sled_codec.specs.Written.{written}
 use Rattle.sled_codec.specs.History.{Message, Batch, History, AddsMessage}
 use Rattle.sled_store.specs.Device.{State}
-use Rattle.sled_core.specs.declared.iobuf.ReservationState.TheVariants.{Open, Completed, Canceled}
+use Rattle.sled_core.specs.declared.iobuf.ReservationState.{ReservationState}
+use Rattle.sled_core.specs.declared.iobuf.ReservationState.TheVariants.{Open, Completed, Canceled, Padding}
 use Rattle.sled_core.specs.declared.iobuf.Reserved.{Reserved}
 use Rattle.sled_core.specs.declared.iobuf.Sealed.{Sealed}
 use Rattle.sled_core.specs.declared.iobuf.SegmentPosition.{SegmentPosition}
@@ -31,7 +32,24 @@ pub holds-same : (sum : List ℕ → ℕ) (size : ℕ) (site : SegmentPosition) 
     → bytes' ≡ bytes → from' ≡ from → bs' ≡ bs → rs' ≡ rs → HoldsIn sum (log_parts size site device fault bytes from bs rs) behind H → HoldsIn sum (log_parts size site device fault bytes' from' bs' rs') behind H
 holds-same sum size site device fault bytes bytes' from from' bs bs' rs rs' H {behind} b f e r holds =
     holds_over sum size site device fault bytes from bs rs behind H holds device fault bytes' from' bs' rs' refl (omega (arith, f))
-    (segment-same sum size site device fault bytes bytes' from from' bs bs' rs rs' (record { messages = holds.head; batches = H.batches }) b f e r holds.own) holds.others (subst (All NoPadding) (sym r) holds.plain)
+    (segment-same sum size site device fault bytes bytes' from from' bs bs' rs rs' (record { messages = holds.head; batches = H.batches }) b f e r holds.own) holds.others
+
+-- Nothing fills a segment where nothing is reserved.
+pub plain_none : (rs : List Reserved) → rs ≡ [] → All NoPadding rs
+plain_none rs none = subst (All NoPadding) (sym none) (λ k d lt. absurd (omega (arith, lt)))
+
+-- Where nothing fills a segment, so it is with the same reservations, and with those at the front gone; once one more is reserved, and once one of them is completed or given up.
+pub plain_same : (rs rs' : List Reserved) → rs' ≡ rs → All NoPadding rs → All NoPadding rs'
+plain_same rs rs' same plain = subst (All NoPadding) (sym same) plain
+
+pub plain_behind : (rs : List Reserved) (n : ℕ) → All NoPadding rs → All NoPadding (drop n rs)
+plain_behind rs n plain = All-drop NoPadding n rs plain
+
+pub plain_more : (rs : List Reserved) (r : Reserved) → r.state ≡ Open → All NoPadding rs → All NoPadding (rs ++ r ∷ [])
+plain_more rs r is_open plain = All-append NoPadding rs (r ∷ []) plain (one NoPadding r (open_plain r.state is_open))
+
+pub plain_ended : (rs : List Reserved) (i : ℕ) (r : Reserved) (state : ReservationState) → state ≢ Padding → All NoPadding rs → All NoPadding (set rs i (ended state r))
+plain_ended rs i r state other plain = All-set NoPadding rs i (ended state r) other plain
 
 module _ (sum : List ℕ → ℕ) (size : ℕ) (site : SegmentPosition) (device : State) (fault : Option IoError) (bytes : List ℕ) (from : ℕ) (bs : List Sealed) (rs : List Reserved) (H : History)
     {behind : List SegmentParts} (holds : HoldsIn sum (log_parts size site device fault bytes from bs rs) behind H) where
@@ -48,12 +66,12 @@ module _ (sum : List ℕ → ℕ) (size : ℕ) (site : SegmentPosition) (device 
       → HoldsIn sum (log_parts size site device fault (bytes ++ more) from bs (rs ++ r ∷ [])) behind H
   holds-append more r begun within at long is_open has_room rise stands =
       holds_over sum size site device fault bytes from bs rs behind H holds device fault (bytes ++ more) from bs (rs ++ r ∷ []) refl (omega arith)
-      (segment-append sum size site device fault bytes from bs rs of_first holds.own more r begun within at long is_open has_room rise stands) holds.others (All-append NoPadding rs (r ∷ []) holds.plain (one NoPadding r (open_plain r.state is_open)))
+      (segment-append sum size site device fault bytes from bs rs of_first holds.own more r begun within at long is_open has_room rise stands) holds.others
 
   -- The current buffer is sealed.
   pub holds-sealed : (own : List Reserved) → length bytes ≤ size → sealed_end from bs ≤ length bytes → HoldsIn sum (log_parts size site device fault bytes from (bs ++ seal_at (length bytes) own ∷ []) rs) behind H
   holds-sealed own short inside = holds_over sum size site device fault bytes from bs rs behind H holds device fault bytes from (bs ++ seal_at (length bytes) own ∷ []) rs refl (omega arith)
-      (segment-sealed sum size site device fault bytes from bs rs own of_first short inside holds.own) holds.others holds.plain
+      (segment-sealed sum size site device fault bytes from bs rs own of_first short inside holds.own) holds.others
 
   module _ (i : ℕ) (r : Reserved) (there : slice_get rs i ≡ Some r) (is_open : r.state ≡ Open) (written_low : from ≤ length bytes) (are : AreSealed from rs bs) where
     -- One that is aborted leaves the history as it was.
@@ -61,7 +79,7 @@ module _ (sum : List ℕ → ℕ) (size : ℕ) (site : SegmentPosition) (device 
         → HoldsIn sum (log_parts size site device fault bytes' from' bs' rs') behind H
     holds-aborted bytes' from' bs' rs' is_bytes is_from is_bs is_rs =
         holds_over sum size site device fault bytes from bs rs behind H holds device fault bytes' from' bs' rs' refl (omega (arith, is_from))
-        (segment-aborted sum size site device fault bytes bytes' from from' bs bs' rs rs' i r of_first is_bytes is_from is_bs is_rs holds.own there is_open written_low are) holds.others (subst (All NoPadding) (sym is_rs) (All-set NoPadding rs i (ended Canceled r) (λ same. cc) holds.plain))
+        (segment-aborted sum size site device fault bytes bytes' from from' bs bs' rs rs' i r of_first is_bytes is_from is_bs is_rs holds.own there is_open written_low are) holds.others
 
     -- The message of an open reservation is added at its place, in front of those of the segments behind.
     module _ (inside : length bytes ≤ size) where
@@ -116,6 +134,5 @@ module _ (sum : List ℕ → ℕ) (size : ℕ) (site : SegmentPosition) (device 
               (behind_fewer sum size device fault (site.place + size) behind (StaysBelow H stable site.place) (StaysBelow now stable site.place) H.batches holds.later
               (λ x its. let low = its.1 in (stays_adds H now m adds stable past x (omega (arith, low, above)) its.0, its.1)) holds.others);
           apart = holds.apart;
-          plain = All-set NoPadding rs i (ended Completed r) (λ same. cc) holds.plain;
         },
       )

@@ -1,5 +1,5 @@
 -- A segment is full and on the device: the reading goes on in the next one, as far as that was written before.
-use Rattle.std.proofs.Common.{◌≡◌, ◌≢◌, ◌⊎◌, ◌≤◌, ◌<◌, ◌<ℤ◌, ◌+◌, ◌∙◌, ℕ, pos, List, [], ◌∷◌, ◌++◌, get_or, refl, sym, ap, subst, arith, inl, inr}
+use Rattle.std.proofs.Common.{◌≡◌, ◌≢◌, ◌⊎◌, ◌≤◌, ◌<◌, ◌+◌, ◌∙◌, ℕ, pos, List, [], ◌∷◌, ◌++◌, get_or, refl, sym, ap, subst, arith, inl, inr}
 use Rattle.std.specs.List.{Contains}
 use Rattle.std.proofs.lemmas.List.Elements.{Contains-append_cases, Contains-append_left}
 use Rattle.sled_codec.specs.Places.{part}
@@ -13,7 +13,7 @@ use Rattle.sled_core.specs.declared.iterator.Segment.{Segment}
 use Rattle.sled_core.specs.declared.iterator.scan.ScanEnd.{ScanEnd}
 use Rattle.sled_core.specs.declared.iterator.scan.ScanEnd.TheVariants.{Broken}
 use Rattle.sled_core.specs.Full.{StandsFull}
-use Rattle.sled_core.specs.Reached.{BeginsNext, BeginsOne, BegunSegment, FollowApart, IsReadTo, IsSoFar, LeadsTo, StandsAlone, StandsAmong, StandsIn}
+use Rattle.sled_core.specs.Reached.{BeginsNext, BeginsOne, BegunSegment, FollowApart, IsReadTo, IsSoFar, StandsAlone, StandsAmong, StandsIn}
 use Rattle.sled_core.specs.Recoverable.{NoHeaderOfZeros, NoMessageBegins}
 use Rattle.sled_core.specs.Scan.{IsFoundSegment}
 use Rattle.sled_core.specs.Tail.{Scanned, least_place}

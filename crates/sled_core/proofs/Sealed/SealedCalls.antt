@@ -2,7 +2,6 @@
 use Rattle.std.proofs.Common.{◌≡◌, ◌≤◌, ◌<◌, ◌+◌, ◌/◌, ◌%◌, ◌^◌, ◌-◌, ◌⊎◌, replicate, ℕ, pos, max, false, List, [], ◌∷◌, ◌++◌, length, take, sym, subst, arith, inl, inr}
 use Rattle.std.specs.List.{All, Contains}
 use Rattle.std.proofs.lemmas.Bool.{cases_lt}
-use Rattle.std.proofs.lemmas.List.Elements.{All-take}
 use Rattle.sled_codec.specs.History.{Batch, History}
 use Rattle.sled_codec.specs.Snapshots.{SnapshotModel}
 use Rattle.sled_store.specs.Device.{overwritten}
@@ -23,7 +22,7 @@ use Rattle.sled_core.proofs.Reserve.Ranges.{part-append}
 use Rattle.sled_codec.specs.Record.{IsHeader}
 use Rattle.sled_core.proofs.Flush.WrittenFile.{header_written}
 use Rattle.sled_core.proofs.Reached.BufferPath.{HasOnly}
-use Rattle.sled_core.proofs.Sealed.BehindUnwritten.{head_headed, plain_room, written_behind_unwritten}
+use Rattle.sled_core.proofs.Sealed.BehindUnwritten.{head_headed, written_behind_unwritten}
 use Rattle.sled_core.proofs.Sealed.HeadSealed.{head_sealed_written}
 use Rattle.sled_core.proofs.Sealed.LaidLemmas.{EndsRise, laid_same}
 use Rattle.sled_core.proofs.Sealed.OneWritten.{has_written, long, rises_at}

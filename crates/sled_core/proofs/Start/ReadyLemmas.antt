@@ -82,7 +82,6 @@ module _ (sum : List ℕ → ℕ) (size : ℕ) (device now : State) (s : Snapsho
       messages = sym (append-nil H.messages);
       others = refl;
       apart = tt;
-      plain = λ k d lt. absurd (omega (arith, lt));
       own = record {
         earlier = H.messages;
         messages = sym (append-nil H.messages);

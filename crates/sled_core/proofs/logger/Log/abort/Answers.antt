@@ -20,7 +20,7 @@ use Rattle.sled_core.specs.SealedBuffers.{buffer_writes, bytes_between, current_
 use Rattle.sled_core.proofs.Reserve.Entries.{open_plain, reserved_in}
 use Rattle.sled_core.proofs.Reserve.Ranges.{at_there, chain_within}
 use Rattle.sled_core.proofs.Holds.CanceledLemmas.{canceled_there, canceled_long}
-use Rattle.sled_core.proofs.Holds.WholeLemmas.{holds-aborted}
+use Rattle.sled_core.proofs.Holds.WholeLemmas.{holds-aborted, plain_ended, plain_same}
 use Rattle.sled_core.proofs.Holds.CompletedLemmas.{others_stay}
 use Rattle.sled_core.proofs.Holds.KeptCalls.{kept_still, goes_on_quietly}
 use Rattle.sled_core.proofs.Holds.BufferEnds.{written_behind}
@@ -57,6 +57,7 @@ returns-clause-keeps g c =
             reach = fits.reach;
             parts = fits-moved _ _ _ _ _ _ _ _ _ _ H A f U fits.parts _ _ _ _ c.abort.ensures.from
                 (holds-aborted g.C.Checksum.sum_of _ _ _ _ old.bytes.items old.written_len old.sealed.items old.reserved.items H fits.parts.holds (c.index-index.result - c.args.self.now.buffer.gone) r there own.own.open_yet (written_behind old) old.are _ _ _ _ bytes c.abort.ensures.from c.abort.ensures.sealed reserved);
+            plain = plain_same _ _ reserved (plain_ended old.reserved.items _ r Canceled (λ same. cc) fits.plain);
             slots = fits.slots;
           };
     }

@@ -12,7 +12,7 @@ use Rattle.sled_core.specs.Fits.{Holds}
 use Rattle.sled_core.specs.Running.{Fits}
 use Rattle.sled_core.proofs.Reserve.Ranges.{at_there, chain_within}
 use Rattle.sled_core.proofs.Holds.RunningLemmas.{fits-completed}
-use Rattle.sled_core.proofs.Holds.WholeLemmas.{holds-same}
+use Rattle.sled_core.proofs.Holds.WholeLemmas.{holds-same, plain_ended, plain_same}
 use Rattle.sled_core.proofs.Holds.KeptCalls.{goes_on_still, goes_on_quietly}
 use Rattle.sled_core.proofs.Holds.BufferEnds.{written_behind}
 use Rattle.sled_core.proofs.Holds.OpenTickets.{only_closed}
@@ -94,6 +94,10 @@ returns-clause-fits g c = λ H A f U m fits awaits out.
         reach = fits.reach;
         parts = fits-completed g.C.Checksum.sum_of old.config.config.segment_size old.site _ old.fault old.buffer.bytes.items old.buffer.written_len old.buffer.sealed.items old.buffer.reserved.items old.pins H A f U fits.parts _ _ _ _ done.0 m c.complete.ensures.from
             old.config.config.least (omega (arith, c.complete.ensures.len, old.in_segment)) c.in_default.is done.2 done.1 (of_head g.C.Checksum.sum_of _ _ _ _ _ _ _ _ done.0 done.2 m (added_there H done.0 m done.1) low) (omega (arith, inside.0, place)) old.buffer.head old.buffer.are out;
+        plain = (
+            let own = c.requires.1 in
+            let there : slice_get old.buffer.reserved.items (c.index-index.result - old.buffer.gone) ≡ Some own.reserved = ap (λ n. slice_get old.buffer.reserved.items (n - old.buffer.gone)) c.index-index.ensures ∙ own.there in
+            plain_same _ _ (c.complete.ensures.reserved own.reserved there) (plain_ended old.buffer.reserved.items _ own.reserved Completed (λ same. cc) fits.plain));
         slots = fits.slots;
       },
     )

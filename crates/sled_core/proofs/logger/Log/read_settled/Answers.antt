@@ -23,6 +23,7 @@ returns-clause-keeps g c =
           record {
             reach = fits.reach;
             parts = fits_answered g.C.Checksum.sum_of _ _ _ _ _ _ _ _ _ H A f U fits.parts _ _ _ size (ap state_of answer.trace) c.requires.fault;
+            plain = fits.plain;
             slots = slots_kept _ _ _ _ _ _ _ _ size (λ none. (c.requires.fault, ap (λ (t : Trace). (state_of t).log.bytes) answer.trace)) fits.slots;
           };
     }

@@ -17,7 +17,7 @@ use Rattle.sled_core.proofs.Holds.KeptCalls.{kept_still, goes_on_quietly}
 use Rattle.sled_core.proofs.Holds.BufferEnds.{sealed_rise}
 use Rattle.sled_core.proofs.Holds.OpenTickets.{only_new}
 use Rattle.sled_core.proofs.Holds.HoldsLemmas.{body-append}
-use Rattle.sled_core.proofs.Holds.WholeLemmas.{holds-same, holds-append}
+use Rattle.sled_core.proofs.Holds.WholeLemmas.{holds-same, holds-append, plain_more, plain_same}
 use Rattle.sled_core.proofs.Reserve.ReserveLemmas.{there_last, there_append, stands, message_is, more_long, head_whole}
 use Rattle.sled_core.proofs.Reserve.OpenCounts.{first_there}
 use Rattle.std.proofs.lemmas.Int.{to_z-of_z}
@@ -189,6 +189,7 @@ returns-in_err-make_room-clause-keeps g c =
           record {
             reach = fits.reach;
             parts = fits-moved _ _ _ _ _ _ _ _ _ _ H A f U fits.parts _ _ _ _ same.from (holds-same g.C.Checksum.sum_of _ _ _ _ old.bytes.items _ old.written_len _ old.sealed.items _ old.reserved.items _ H same.bytes same.from same.sealed same.reserved fits.parts.holds);
+            plain = plain_same _ _ same.reserved fits.plain;
             slots = fits.slots;
           };
     }
@@ -198,7 +199,7 @@ unfolding Fits Holds
 returns-clause-keeps g c = record {
   goes_on = goes_on_quietly g.D.Device.trace g.C.Checksum.sum_of c.args.self.now _ (record { config = refl; checksum = refl }) refl (omega (arith, c.append.ensures.from, c.make_room.ensures.from));
   history = held_still g c;
-  fits = λ H A f U fits. record { reach = fits.reach; parts = fits-moved _ _ _ _ _ _ _ _ _ _ H A f U fits.parts _ _ _ _ (c.append.ensures.from ∙ c.make_room.ensures.from) (held_still g c H fits.parts.holds); slots = fits.slots };
+  fits = λ H A f U fits. record { reach = fits.reach; parts = fits-moved _ _ _ _ _ _ _ _ _ _ H A f U fits.parts _ _ _ _ (c.append.ensures.from ∙ c.make_room.ensures.from) (held_still g c H fits.parts.holds); plain = plain_same _ _ (reserved_are g c) (plain_more _ (reserved g c) refl fits.plain); slots = fits.slots };
 }
 
 -- where none was open, the new reservation is the only one

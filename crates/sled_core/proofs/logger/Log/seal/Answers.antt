@@ -4,7 +4,7 @@ use Rattle.sled_store.specs.Device.{state_of}
 use Rattle.sled_core.specs.Fits.{Holds, HoldsIn, behind_of, current_reserved, log_parts}
 use Rattle.sled_core.specs.Running.{Fits}
 use Rattle.sled_core.specs.SealedBuffers.{seal_at}
-use Rattle.sled_core.proofs.Holds.WholeLemmas.{holds-same}
+use Rattle.sled_core.proofs.Holds.WholeLemmas.{holds-same, plain_same}
 use Rattle.sled_core.proofs.Holds.KeptCalls.{goes_on_quietly}
 use Rattle.sled_core.proofs.Holds.KeptTickets.{tickets_behind}
 use Rattle.sled_core.proofs.Holds.RunningLemmas.{fits-moved}
@@ -24,6 +24,7 @@ returns-in_err-seal-clause-keeps g c =
             reach = fits.reach;
             parts = fits-moved _ _ _ _ _ _ _ _ _ _ H A f U fits.parts _ _ _ _ same.from
                 (holds-same g.C.Checksum.sum_of _ _ _ _ old.bytes.items _ old.written_len _ old.sealed.items _ old.reserved.items _ H same.bytes same.from c.in_err-seal.ensures.unsealed same.reserved fits.parts.holds);
+            plain = plain_same _ _ same.reserved fits.plain;
             slots = fits.slots;
           };
     }
@@ -43,7 +44,7 @@ returns-clause-keeps g c =
     record {
       goes_on = goes_on_quietly g.D.Device.trace g.C.Checksum.sum_of log _ (record { config = refl; checksum = refl }) refl (omega (arith, same.from));
       history = held;
-      fits = λ H A f U fits. record { reach = fits.reach; parts = fits-moved _ _ _ _ _ _ _ _ _ _ H A f U fits.parts _ _ _ _ same.from (held H fits.parts.holds); slots = fits.slots };
+      fits = λ H A f U fits. record { reach = fits.reach; parts = fits-moved _ _ _ _ _ _ _ _ _ _ H A f U fits.parts _ _ _ _ same.from (held H fits.parts.holds); plain = plain_same _ _ same.reserved fits.plain; slots = fits.slots };
     }
 
 pub returns-in_err-seal-clause-tickets : goal.returns-in_err-seal-clause-tickets

@@ -27,6 +27,7 @@ use Rattle.sled_core.proofs.Start.StartFits.{start_fits}
 use Rattle.sled_core.proofs.Start.OpenLemmas.{in_segment, place_in_reach, slot_in_reach, first_next, begins_place}
 use Rattle.sled_core.proofs.Start.ReadyLemmas.{begins_ready}
 use Rattle.sled_store.proofs.Traces.ScriptLemmas.{later_performed}
+use Rattle.sled_core.proofs.Holds.WholeLemmas.{plain_none}
 use Rattle.sled_core.specs.Buffers.{none_open}
 use Rattle.sled_core.proofs.logger.Log.start.Goals as goal
 
@@ -101,6 +102,7 @@ returns-in-Ok-clause-fits g c = λ H A f ready.
           (start_fits g.C.Checksum.sum_of size (state_of old) now s H A f c.args.config.config.least ready c.in-Ok.ensures.answers.0
           log_now (ap (λ (t : Trace). (state_of t).blobs) c.in-Ok.ensures.made ∙ started-blobs size some (state_of old).log.bytes s old) (ap (λ (t : Trace). (state_of t).snapshots) c.in-Ok.ensures.made ∙ started-snapshots size some (state_of old).log.bytes s old)
           c.in-Ok.beginning c.in-Ok.ensures.beginning c.in-Ok.buffer.bytes.items c.in-Ok.buffer.written_len c.in-Ok.buffer.sealed.items c.in-Ok.buffer.reserved.items first.header first.resumed first.from first.sealed first.reserved));
+      plain = plain_none _ first.reserved;
       slots = slots_at size _ _ _ _ _ None _ _ same (ap (λ (x : Beginning). x.slot) c.in-Ok.ensures.beginning) (ap (λ (l : LogState). l.bytes) log_now) c.in-Ok.ensures.machine (begun_slots size some (state_of old).log.bytes s None c.in-Ok.ensures.answers.0);
     }
 

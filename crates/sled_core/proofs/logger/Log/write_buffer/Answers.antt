@@ -9,6 +9,7 @@ use Rattle.sled_core.specs.Running.{Fits}
 use Rattle.sled_core.specs.SealedBuffers.{bytes_between, run_count, sealed_end, writing, written_at}
 use Rattle.sled_core.proofs.Flush.FlushFits.{fits_faulty, fits_same_device, flush_names}
 use Rattle.sled_core.proofs.Flush.FlushLemmas.{holds-faulty, holds-moved, memory_or_fault}
+use Rattle.sled_core.proofs.Holds.WholeLemmas.{plain_behind, plain_same}
 use Rattle.sled_core.proofs.Flush.SealedWrites.{ReadyAt, buffer_crash, buffer_left, fits_buffer, holds_buffer, ready_at, run_ended, run_grows, slots_buffer}
 use Rattle.sled_core.proofs.Holds.KeptTickets.{tickets_behind}
 use Rattle.sled_core.proofs.Holds.SlotLemmas.{slots_faulty, slots_same}
@@ -58,12 +59,14 @@ returns-in-Err-clause-keeps g c =
             | inl memory ↦ record {
               reach = fits.reach;
               parts = fits_same_device g.C.Checksum.sum_of _ _ _ _ _ _ _ _ _ H A f U fits.parts _ c.keep_fault.new.fault (ap state_of (c.in-Err.ensures.refused memory)) (c.keep_fault.ensures.memory memory ∙ sym c.requires.fault);
+              plain = fits.plain;
               slots = slots_same _ _ _ _ _ _ _ (ap (λ (t : Trace). (state_of t).log.bytes) (c.in-Err.ensures.refused memory)) (c.keep_fault.ensures.memory memory ∙ sym c.requires.fault) fits.slots;
             }
             | inr fault ↦ record {
               reach = fits.reach;
               parts = fits_faulty g.C.Checksum.sum_of _ _ _ _ _ _ _ _ _ H A f U fits.parts _ c.in-Err.e c.keep_fault.new.fault (c.keep_fault.ensures.kept fault) names.0 names.1
                   (at_last _ _ _ (buffer_left g.D.Device.trace g.C.Checksum.sum_of old c.args.k b.buffer b.there b.ready c.requires.fault H A f U fits.parts _ came));
+              plain = fits.plain;
               slots = slots_faulty _ _ _ _ _ _ _ c.in-Err.e (c.keep_fault.ensures.kept fault) fits.slots;
             }
           ];
@@ -96,10 +99,11 @@ returns-clause-keeps g c =
       };
       history = λ H holds. holds_buffer g.D.Device.trace g.C.Checksum.sum_of old c.args.k b.buffer b.there b.ready c.requires.fault H holds _ made c.mark_written.new.self is;
       fits = λ H A f U fits.
-          let after = fits_buffer g.D.Device.trace g.C.Checksum.sum_of old c.args.k b.buffer b.there b.ready c.requires.fault H A f U fits.parts _ made c.mark_written.new.self is in
+          let after = fits_buffer g.D.Device.trace g.C.Checksum.sum_of old c.args.k b.buffer b.there b.ready c.requires.fault H A f U fits.parts fits.plain _ made c.mark_written.new.self is in
           record {
             reach = after.0;
             parts = after.1;
+            plain = plain_same _ _ is.reserved (plain_behind _ _ fits.plain);
             slots = slots_buffer g.D.Device.trace g.C.Checksum.sum_of old c.args.k b.buffer b.there b.ready c.requires.fault H A f U fits.parts fits.slots _ made _;
           };
     }

@@ -11,7 +11,7 @@ use Rattle.sled_core.proofs.Flush.FlushFits.{fits_faulty, fits_same_device, flus
 use Rattle.sled_core.proofs.Flush.FlushCalls.{holds-flush}
 use Rattle.sled_core.proofs.Flush.FlushLemmas.{holds-faulty, holds-moved, memory_or_fault}
 use Rattle.sled_core.proofs.Holds.BufferEnds.{written_behind}
-use Rattle.sled_core.proofs.Holds.WholeLemmas.{holds-same}
+use Rattle.sled_core.proofs.Holds.WholeLemmas.{holds-same, plain_none}
 use Rattle.sled_core.proofs.Holds.KeptTickets.{tickets_ended}
 use Rattle.sled_core.proofs.Holds.SlotLemmas.{slots_faulty, slots_same}
 use Rattle.sled_core.proofs.Sealed.Slices.{on_bytes, slice_behind}
@@ -53,12 +53,14 @@ returns-in-Err-clause-keeps g c =
             | inl memory ↦ record {
               reach = fits.reach;
               parts = fits_same_device g.C.Checksum.sum_of _ _ _ _ _ _ _ _ _ H A f U fits.parts _ c.keep_fault.new.fault (ap state_of (c.in-Err.ensures.refused memory)) (c.keep_fault.ensures.memory memory ∙ sym c.requires.fault);
+              plain = fits.plain;
               slots = slots_same _ _ _ _ _ _ _ (ap (λ (t : Trace). (state_of t).log.bytes) (c.in-Err.ensures.refused memory)) (c.keep_fault.ensures.memory memory ∙ sym c.requires.fault) fits.slots;
             }
             | inr fault ↦ record {
               reach = fits.reach;
               parts = fits_faulty g.C.Checksum.sum_of _ _ _ _ _ _ _ _ _ H A f U fits.parts _ c.in-Err.e c.keep_fault.new.fault (c.keep_fault.ensures.kept fault) names.0 names.1
                   (at_last _ _ _ (flush_left g.D.Device.trace g.C.Checksum.sum_of old H A f U fits.parts c.requires.unsealed c.requires.ended c.requires.some c.requires.fault _ came));
+              plain = fits.plain;
               slots = slots_faulty _ _ _ _ _ _ _ c.in-Err.e (c.keep_fault.ensures.kept fault) fits.slots;
             }
           ];
@@ -86,11 +88,12 @@ returns-clause-keeps g c =
           (holds-flush g.C.Checksum.sum_of _ _ _ _ _ _ _ H here behind old.in_segment old.config.config.least old.place_in_reach old.slot_in_reach c.requires.ended c.requires.some c.requires.fault _
           (ap (λ (t : Trace). (state_of t).log) made) (ap (λ (s : NamesState). s.file) c.write_out.ensures.names));
       fits = λ H A f U fits.
-          let after = fits_written g.D.Device.trace g.C.Checksum.sum_of old H A f U fits.parts c.requires.unsealed c.requires.ended c.requires.some c.requires.fault _ made
+          let after = fits_written g.D.Device.trace g.C.Checksum.sum_of old H A f U fits.parts c.requires.unsealed c.requires.ended c.requires.some c.requires.fault fits.plain _ made
           _ _ _ _ c.advance.ensures.bytes c.advance.ensures.from c.advance.ensures.sealed c.advance.ensures.reserved in
           record {
             reach = after.0;
             parts = after.1;
+            plain = plain_none _ c.advance.ensures.reserved;
             slots = slots_flushed g.D.Device.trace g.C.Checksum.sum_of old H A f U fits.parts c.requires.unsealed c.requires.ended c.requires.some c.requires.fault fits.slots _ made _;
           };
     }
