@@ -1,13 +1,10 @@
 -- What stands in a log file, in the current segment or in other slots, stays where it is when the rest of the current segment is written.
-use Rattle.std.proofs.Common.{◌≡◌, ◌≤◌, ◌+◌, ◌/◌, ◌∙◌, ℕ, pos, List, length, drop, sym, ap, subst, arith, inl, inr, length-take, length-drop}
-use Rattle.sled_codec.specs.Places.{part}
-use Rattle.sled_codec.specs.Record.{IsHeader}
+use Rattle.std.proofs.Common.{◌≤◌, ◌+◌, ◌/◌, ℕ, List, length, arith, inl, inr}
 use Rattle.sled_codec.specs.History.{Message}
-use Rattle.sled_codec.proofs.Segments.{length-short_header}
 use Rattle.sled_store.specs.Device.{overwritten}
 use Rattle.sled_core.specs.declared.iobuf.SegmentPosition.{SegmentPosition}
-use Rattle.sled_core.specs.LogFile.{StandsHere, StandsElsewhere, HasHeader}
-use Rattle.sled_core.proofs.Flush.LogFileLemmas.{part_kept, message_kept}
+use Rattle.sled_core.specs.LogFile.{StandsHere, StandsElsewhere}
+use Rattle.sled_core.proofs.Flush.LogFileLemmas.{message_kept}
 
 -- a record that stands below an offset stands below a higher one
 pub here_below : (sum : List ℕ → ℕ) (size : ℕ) (log : List ℕ) (site : SegmentPosition) (from to lid : ℕ) (m : Message) → from ≤ to → StandsHere sum size log site from lid m → StandsHere sum size log site to lid m

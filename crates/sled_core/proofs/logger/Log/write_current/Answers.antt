@@ -1,4 +1,4 @@
-use Rattle.std.proofs.Common.{◌≡◌, ◌∙◌, ◌+◌, ◌∷◌, List, ℕ, ap, sym, subst, refl, arith, inl, inr, []}
+use Rattle.std.proofs.Common.{◌≡◌, ◌∙◌, ◌+◌, ◌∷◌, List, ℕ, ap, sym, subst, refl, arith, inl, inr}
 use Rattle.sled_store.specs.Device.{Trace, NamesState, Wrote, Synced, state_of}
 use Rattle.sled_store.specs.Script.{after_all}
 use Rattle.sled_store.proofs.Traces.MomentLemmas.{at_last}
