@@ -2,6 +2,7 @@ pub mod Around
 pub mod Begins
 pub mod Calls
 pub mod Completes
+pub mod FullAlready
 pub mod FullFurther
 pub mod FullHead
 pub mod FullHolds
