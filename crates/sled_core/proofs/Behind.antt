@@ -7,7 +7,7 @@ pub mod FitsCalls
 pub mod FitsCompleted
 pub mod FitsMoved
 pub mod FitsWritten
-pub mod OneWrite
+pub mod FullAlready
 pub mod FullFurther
 pub mod FullHead
 pub mod FullHolds
@@ -15,6 +15,7 @@ pub mod FullNext
 pub mod FullRead
 pub mod FullWrites
 pub mod FullZeros
+pub mod OneWrite
 pub mod Promoted
 pub mod Shorter
 pub mod Stays

@@ -51,7 +51,7 @@ closed_at : (H : History) (low high : ℕ) → low ≤ high → CloseBelow low H
 closed_at H low high up closes c among under = let its = All-contains (λ (b : Batch). (b.low < low) × (b.peg < low)) H.batches c closes among in omega (arith, its.1, up)
 
 -- and none of them ends behind it
-none_ends : (H : History) (low high to : ℕ) → low ≤ high → CloseBelow low H.batches → NoBatchEnds H high to
+pub none_ends : (H : History) (low high to : ℕ) → low ≤ high → CloseBelow low H.batches → NoBatchEnds H high to
 none_ends H low high to up closes c among = let its = All-contains (λ (b : Batch). (b.low < low) × (b.peg < low)) H.batches c closes among in inl (omega (arith, its.1, up))
 
 -- Where the first buffer isn't written, whether a header has room where it begins or not.
