@@ -21,12 +21,12 @@ use Rattle.sled_core.proofs.Flush.Completed.{batches_to}
 use Rattle.sled_core.proofs.Flush.FlushLemmas.{holds_over}
 use Rattle.sled_core.proofs.Flush.SealedFile.{stop_up}
 use Rattle.sled_core.proofs.Flush.FirstWritten.{ends_full, full_first, last_low, last_up, last_whole, reaches_first, segment_first, torn_first}
-use Rattle.sled_core.proofs.Flush.SealedFits.{asked_range, ready_closed, written_split}
+use Rattle.sled_core.proofs.Flush.SealedFits.{asked_range}
 use Rattle.sled_core.proofs.Flush.WriteFits.{fits_filled}
 use Rattle.sled_core.proofs.Holds.BehindKept.{others_written}
 use Rattle.sled_core.proofs.Reserve.Ranges.{there_split}
 use Rattle.sled_core.proofs.Sealed.LaidLemmas.{EndsRise, ends_below}
-use Rattle.sled_core.proofs.Sealed.Marked.{written_are}
+use Rattle.sled_core.proofs.Sealed.Marked.{written_are, ready_closed, written_around}
 use Rattle.sled_core.proofs.Sealed.Runs.{run_of}
 
 module _ (sum : List ℕ → ℕ) (size : ℕ) (site : SegmentPosition) (device : State) (fault : Option IoError) (bytes : List ℕ) (from : ℕ) (b : Sealed) (rest : List Sealed) (rs : List Reserved) (behind : List SegmentParts) (reach pins : ℕ) (H : History) (A f : ℕ) (U : List Message)
@@ -99,4 +99,4 @@ module _ (sum : List ℕ → ℕ) (size : ℕ) (site : SegmentPosition) (device 
       subst (λ (o : Option IoError). (now : ℕ) × FitsFull sum size (step Synced (step (Wrote (site.slot + at_one) asked_one asked_one) device)) o (site.place + size) behind now pins H A f U) whole
       (full_around sum size site device fault bytes from b (drop (suc k) bs) rs behind reach pins H A f U short big place_small slot_small (ready_closed b ready) whole (take k bs)
       (subst (λ (cs : List Sealed). FitsIn sum (log_parts size site device fault bytes from cs rs) behind reach pins H A f U) split_one fits) (subst (λ (cs : List Sealed). AreSealed from rs cs) split_one are) (subst FirstUnwritten split_one fresh)
-      (subst (λ (cs : List Sealed). EndsRise from cs (length bytes)) split_one rise) (subst (λ (cs : List Sealed). run_end from cs ≡ size) (written_split k bs b there) filled))
+      (subst (λ (cs : List Sealed). EndsRise from cs (length bytes)) split_one rise) (subst (λ (cs : List Sealed). run_end from cs ≡ size) (written_around k bs b there) filled))

@@ -1,10 +1,9 @@
 -- A sealed buffer of a segment behind the first one is written, the first one that isn't or another: what a crash leaves of it stands as before, and so does the file behind it, with that segment as far as it is written then.
-use Rattle.std.proofs.Common.{◌≡◌, ◌⊎◌, ◌∙◌, ◌≤◌, ◌<◌, ◌<ℤ◌, ◌+◌, ◌/◌, ◌^◌, ℕ, pos, max, Bool, true, false, if◌then◌else◌, List, [], ◌∷◌, ◌++◌, length, map, take, drop, Option, None, refl, sym, ap, subst, arith, inl, inr}
-use Rattle.std.specs.List.{All, Contains}
+use Rattle.std.proofs.Common.{◌≡◌, ◌⊎◌, ◌≤◌, ◌<◌, ◌<ℤ◌, ◌+◌, ◌/◌, ◌^◌, ℕ, pos, max, Bool, true, false, if◌then◌else◌, List, [], ◌∷◌, ◌++◌, length, map, take, drop, Option, None, refl, sym, subst, arith, inl, inr}
+use Rattle.std.specs.List.{Contains}
 use Rattle.std.specs.declared.io.Error.{Error as IoError}
 use Rattle.std.proofs.lemmas.Bool.{cases_lt}
-use Rattle.std.proofs.lemmas.List.{take-append-drop}
-use Rattle.std.proofs.lemmas.List.Elements.{All-contains, All-drop, Contains-append_cases, Contains-append_left, Contains-append_right}
+use Rattle.std.proofs.lemmas.List.Elements.{All-drop, Contains-append_left, Contains-append_right}
 use Rattle.sled_codec.specs.History.{History, Message}
 use Rattle.sled_codec.specs.Snapshots.{SnapshotModel}
 use Rattle.sled_store.specs.Device.{State, LeavesLog, overwritten}
@@ -15,7 +14,7 @@ use Rattle.sled_core.specs.declared.iobuf.Sealed.{Sealed}
 use Rattle.sled_core.specs.declared.iobuf.SegmentPosition.{SegmentPosition}
 use Rattle.sled_core.specs.Buffers.{IsChain, completed_in}
 use Rattle.sled_core.specs.Fits.{HasMark, HoldsIn, HoldsNext, SegmentParts, begun_segment, log_parts}
-use Rattle.sled_core.specs.LogFile.{IsLogFile, padded}
+use Rattle.sled_core.specs.LogFile.{padded}
 use Rattle.sled_core.specs.Reached.{BegunSegment, StandsAmong}
 use Rattle.sled_core.specs.Recoverable.{NoHeaderOfZeros}
 use Rattle.sled_core.specs.SealedBuffers.{AreSealed, FirstUnwritten, Laid, bytes_between, now_written, run_count, run_end, sealed_end}
@@ -24,7 +23,8 @@ use Rattle.sled_core.proofs.Behind.Around.{HoldAround, behind_place, held_around
 use Rattle.sled_core.proofs.Behind.Calls.{held_here}
 use Rattle.sled_core.proofs.Behind.FitsCompleted.{front_low, of_segment}
 use Rattle.sled_core.proofs.Behind.FitsMoved.{MarksBelow}
-use Rattle.sled_core.proofs.Flush.Completed.{has_only}
+use Rattle.sled_core.proofs.Flush.Completed.{front_only, has_only}
+use Rattle.sled_core.proofs.Flush.FirstWritten.{none_or_begun}
 use Rattle.sled_core.proofs.Flush.FlushLemmas.{on_file}
 use Rattle.sled_core.proofs.Flush.Padded.{length-padded, padded_get}
 use Rattle.sled_core.proofs.Flush.SealedFile.{chain_done}
@@ -33,7 +33,6 @@ use Rattle.sled_core.proofs.Reached.BufferPath.{HasOnly, buffer_header, mark_sam
 use Rattle.sled_core.proofs.Reached.SegmentsBeside.{grown_one}
 use Rattle.sled_core.proofs.Reached.StandsTo.{StandsTo}
 use Rattle.sled_core.proofs.Reserve.Entries.{some_long}
-use Rattle.sled_core.proofs.Reserve.Ranges.{chain_grows, completed-append, completed_between}
 use Rattle.sled_core.proofs.Sealed.Ended.{chain_rest, ends_rise}
 use Rattle.sled_core.proofs.Sealed.HeadSealed.{run_below}
 use Rattle.sled_core.proofs.Sealed.LaidLemmas.{EndsRise, laid_same}
@@ -41,32 +40,6 @@ use Rattle.sled_core.proofs.Sealed.OneWritten.{has_written, length-between, rise
 use Rattle.sled_core.proofs.Sealed.OtherBehind.{other_behind_written, torn_other_behind}
 use Rattle.sled_core.proofs.Sealed.OtherSealed.{other_sealed_written, torn_other_sealed}
 use Rattle.sled_core.proofs.Torn.TornLemmas.{after_write}
-
--- Of what begins in a buffer the messages of the reservations at its front are all that begins in their part of it.
-front_only : (site : SegmentPosition) (bytes : List ℕ) (H : History) (rs : List Reserved) (n low stop end : ℕ) → IsChain stop (drop n rs) end → All (λ r. 0 < r.len) (drop n rs)
-    → HasOnly H (completed_in site bytes rs) low (site.place + end) → HasOnly H (completed_in site bytes (take n rs)) low (site.place + stop)
-front_only site bytes H rs n low stop end chain some all =
-    let far = chain_grows stop end (drop n rs) chain in
-    let mine : List Message = completed_in site bytes (take n rs) in
-    let others : List Message = completed_in site bytes (drop n rs) in
-    let parts : completed_in site bytes rs ≡ mine ++ others = ap (λ (l : List Reserved). completed_in site bytes l) (sym (take-append-drop n rs)) ∙ completed-append site bytes (take n rs) (drop n rs) in
-    let behind = completed_between site bytes stop end (drop n rs) chain some in
-    record {
-      there = λ m among. all.there m (subst (λ (ms : List Message). Contains ms m) (sym parts) (Contains-append_left mine others m among));
-      only = λ m among. elim (all.only m among) [
-        | inl one ↦ elim (Contains-append_cases mine others m (subst (λ (ms : List Message). Contains ms m) parts one)) [
-          | inl here ↦ inl here
-          | inr later ↦ (let b = All-contains (λ (y : Message). (site.place + stop ≤ y.place) × (y.place < site.place + end) × (y.place + y.size ≤ site.place + end)) others m behind later in inr (inr b.0))
-        ]
-        | inr (inl before) ↦ inr (inl before)
-        | inr (inr after) ↦ inr (inr (omega (arith, after, far)))
-      ];
-      no_batch = λ c among. elim (all.no_batch c among) [ inl before ↦ inl before | inr after ↦ inr (omega (arith, after, far)) ];
-    }
-
--- nothing is written of a segment, or its header is
-none_or_header : (sum : List ℕ → ℕ) (size : ℕ) (log : List ℕ) (site : SegmentPosition) (from : ℕ) (messages : List Message) (stays : Message → Type 0) → IsLogFile sum size log site from messages stays → (from ≡ 0) ⊎ (20 ≤ from)
-none_or_header sum size log site from messages stays file = elim (cases_lt 0 from) [ inl some ↦ inr (file.begun some) | inr none ↦ inl (omega (arith, none)) ]
 
 module _ (sum : List ℕ → ℕ) (size : ℕ) (site : SegmentPosition) (device : State) (fault : Option IoError) (bytes : List ℕ) (from : ℕ) (bs : List Sealed) (rs : List Reserved) (H : History)
     (pre : List SegmentParts) (s : SegmentParts) (post : List SegmentParts) (holds : HoldsIn sum (log_parts size site device fault bytes from bs rs) (pre ++ s ∷ post) H) (marked : MarksBelow sum (site.place + from) (pre ++ s ∷ post))
@@ -115,7 +88,7 @@ module _ (sum : List ℕ → ℕ) (size : ℕ) (site : SegmentPosition) (device 
       )
 
   begins : (s.written_len ≡ 0) ⊎ (20 ≤ s.written_len)
-  begins = none_or_header sum size old s.site s.written_len here.segment.earlier stays (on_file sum size device.log s.site s.written_len here.segment.earlier stays (here.segment.written whole))
+  begins = none_or_begun sum size old s.site s.written_len here.segment.earlier stays (on_file sum size device.log s.site s.written_len here.segment.earlier stays (here.segment.written whole))
 
   rise_all : EndsRise s.written_len s.sealed (length s.bytes)
   rise_all = ends_rise s.written_len s.reserved s.sealed (length s.bytes) here.are here.behind here.held

@@ -1,8 +1,9 @@
 -- Where the messages lie of a segment that holds a history: what was written one behind another, below what was completed since, which is in the buffer.
-use Rattle.std.proofs.Common.{◌≡◌, ◌⊎◌, ◌≤◌, ◌<◌, ◌+◌, ◌/◌, ℕ, max, List, [], ◌∷◌, ◌++◌, length, Option, sym, subst, arith, refl, inl, inr}
+use Rattle.std.proofs.Common.{◌≡◌, ◌⊎◌, ◌≤◌, ◌<◌, ◌+◌, ◌/◌, ℕ, max, List, [], ◌∷◌, ◌++◌, length, Option, sym, subst, arith, refl, inl, inr, ◌∙◌, take, drop, ap}
 use Rattle.std.specs.List.{All, Contains}
 use Rattle.std.specs.declared.io.Error.{Error as IoError}
-use Rattle.std.proofs.lemmas.List.Elements.{All-append, All-contains, All-tail, Contains-append_cases, Contains-append_right}
+use Rattle.std.proofs.lemmas.List.{take-append-drop}
+use Rattle.std.proofs.lemmas.List.Elements.{All-append, All-contains, All-tail, Contains-append_cases, Contains-append_right, Contains-append_left}
 use Rattle.sled_codec.specs.History.{Message, Batch, History}
 use Rattle.sled_codec.specs.WellFormed.{LieApart}
 use Rattle.sled_store.specs.Device.{State}
@@ -14,7 +15,7 @@ use Rattle.sled_core.specs.declared.iobuf.SegmentPosition.{SegmentPosition}
 use Rattle.sled_core.specs.Buffers.{IsChain, completed_in, message_in, with_own}
 use Rattle.sled_core.specs.Fits.{log_parts, HoldsSegment, EndBelow, CloseBelow, HasInline}
 use Rattle.sled_core.proofs.Reached.BufferPath.{HasOnly}
-use Rattle.sled_core.proofs.Reserve.Ranges.{all_own, chain_grows, completed_between}
+use Rattle.sled_core.proofs.Reserve.Ranges.{all_own, chain_grows, completed_between, completed-append}
 use Rattle.sled_core.proofs.Reserve.Entries.{some_long}
 use Rattle.sled_core.proofs.Flush.Settled.{InlineFrom}
 
@@ -110,3 +111,25 @@ module _ (sum : List ℕ → ℕ) (size : ℕ) (site : SegmentPosition) (device 
 
   pub none_crosses : (place : ℕ) → site.place + from ≤ place → (b : Batch) → Contains H.batches b → b.low < place → b.peg < place
   none_crosses place more b there low = let closed = All-contains (λ x. (x.low < place) × (x.peg < place)) H.batches b (batches_to place more) there in closed.1
+
+-- Of what begins in a buffer the messages of the reservations at its front are all that begins in their part of it.
+pub front_only : (site : SegmentPosition) (bytes : List ℕ) (H : History) (rs : List Reserved) (n low stop end : ℕ) → IsChain stop (drop n rs) end → All (λ r. 0 < r.len) (drop n rs)
+    → HasOnly H (completed_in site bytes rs) low (site.place + end) → HasOnly H (completed_in site bytes (take n rs)) low (site.place + stop)
+front_only site bytes H rs n low stop end chain some all =
+    let far = chain_grows stop end (drop n rs) chain in
+    let mine : List Message = completed_in site bytes (take n rs) in
+    let others : List Message = completed_in site bytes (drop n rs) in
+    let parts : completed_in site bytes rs ≡ mine ++ others = ap (λ (l : List Reserved). completed_in site bytes l) (sym (take-append-drop n rs)) ∙ completed-append site bytes (take n rs) (drop n rs) in
+    let behind = completed_between site bytes stop end (drop n rs) chain some in
+    record {
+      there = λ m among. all.there m (subst (λ (ms : List Message). Contains ms m) (sym parts) (Contains-append_left mine others m among));
+      only = λ m among. elim (all.only m among) [
+        | inl one ↦ elim (Contains-append_cases mine others m (subst (λ (ms : List Message). Contains ms m) parts one)) [
+          | inl here ↦ inl here
+          | inr later ↦ (let b = All-contains (λ (y : Message). (site.place + stop ≤ y.place) × (y.place < site.place + end) × (y.place + y.size ≤ site.place + end)) others m behind later in inr (inr b.0))
+        ]
+        | inr (inl before) ↦ inr (inl before)
+        | inr (inr after) ↦ inr (inr (omega (arith, after, far)))
+      ];
+      no_batch = λ c among. elim (all.no_batch c among) [ inl before ↦ inl before | inr after ↦ inr (omega (arith, after, far)) ];
+    }

@@ -4,7 +4,7 @@ use Rattle.std.specs.List.{All, Contains}
 use Rattle.std.specs.declared.io.Error.{Error as IoError}
 use Rattle.std.proofs.lemmas.Bool.{cases_lt}
 use Rattle.std.proofs.lemmas.List.{take-append-drop}
-use Rattle.std.proofs.lemmas.List.Elements.{All-append, All-contains, All-drop, All-take, Contains-append_cases, Contains-append_left}
+use Rattle.std.proofs.lemmas.List.Elements.{All-append, All-contains, All-drop, All-take, Contains-append_cases}
 use Rattle.sled_codec.specs.History.{Message, History}
 use Rattle.sled_codec.specs.Snapshots.{stable_place}
 use Rattle.sled_codec.specs.WellFormed.{LieApart}
@@ -24,7 +24,7 @@ use Rattle.sled_core.specs.SealedBuffers.{AreSealed, Laid, now_written, run_end,
 use Rattle.sled_core.proofs.Behind.FullHead.{first_full, plain_run, torn_head_any}
 use Rattle.sled_core.proofs.Reserve.Entries.{some_long}
 use Rattle.sled_core.proofs.Reserve.Ranges.{chain_grows, completed-append, completed_between}
-use Rattle.sled_core.proofs.Flush.Completed.{all_apart, batches_to, has_only, none_crosses}
+use Rattle.sled_core.proofs.Flush.Completed.{all_apart, batches_to, has_only, none_crosses, front_only}
 use Rattle.sled_core.proofs.Flush.FlushLemmas.{on_file}
 use Rattle.sled_core.proofs.Flush.SealedFile.{chain_done, first_file, stop_up}
 use Rattle.sled_core.proofs.Holds.ReachLemmas.{written_before}
@@ -144,23 +144,8 @@ module _ (sum : List ℕ → ℕ) (size : ℕ) (site : SegmentPosition) (device 
   -- Of the history those are all that begins in what is written then.
   has_first : HasOnly H (completed_in site bytes done) (site.place + max 20 from) (site.place + stop)
   has_first =
-      let all = has_only sum size site device fault bytes from (b ∷ rest) rs H holds in
-      let far = chain_grows stop (length bytes) others chain_others in
-      let parts : completed_in site bytes rs ≡ completed_in site bytes done ++ completed_in site bytes others =
-      ap (λ (l : List Reserved). completed_in site bytes l) (sym (take-append-drop count rs)) ∙ completed-append site bytes done others in
-      let behind = completed_between site bytes stop (length bytes) others chain_others (some_long sum size (site.place / size) bytes others (All-drop (Stands sum size (site.place / size) bytes) count rs holds.stand)) in
-      record {
-        there = λ m among. all.there m (subst (λ (ms : List Message). Contains ms m) (sym parts) (Contains-append_left (completed_in site bytes done) (completed_in site bytes others) m among));
-        only = λ m among. elim (all.only m among) [
-          | inl one ↦ elim (Contains-append_cases (completed_in site bytes done) (completed_in site bytes others) m (subst (λ (ms : List Message). Contains ms m) parts one)) [
-            | inl here ↦ inl here
-            | inr later ↦ (let among_others = All-contains (λ (y : Message). (site.place + stop ≤ y.place) × (y.place < site.place + length bytes) × (y.place + y.size ≤ site.place + length bytes)) (completed_in site bytes others) m behind later in inr (inr among_others.0))
-          ]
-          | inr (inl before) ↦ inr (inl before)
-          | inr (inr after) ↦ inr (inr (omega (arith, after, far)))
-        ];
-        no_batch = λ c among. elim (all.no_batch c among) [ inl before ↦ inl before | inr after ↦ inr (omega (arith, after, far)) ];
-      }
+      front_only site bytes H rs count (site.place + max 20 from) stop (length bytes) chain_others (some_long sum size (site.place / size) bytes others (All-drop (Stands sum size (site.place / size) bytes) count rs holds.stand))
+      (has_only sum size site device fault bytes from (b ∷ rest) rs H holds)
 
 -- So it is with the history of a log, whose first segment that is.
 module _ (sum : List ℕ → ℕ) (size : ℕ) (site : SegmentPosition) (device : State) (fault : Option IoError) (bytes : List ℕ) (from : ℕ) (b : Sealed) (rest : List Sealed) (rs : List Reserved) (H : History)

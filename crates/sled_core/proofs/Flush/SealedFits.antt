@@ -1,9 +1,8 @@
 -- One of the sealed buffers of a log is written at its place, and synced: at each moment a crash leaves what can be recovered, and behind it the log fits the same history. The buffers at the front that are written leave the list.
-use Rattle.std.proofs.Common.{◌≡◌, ◌==◌, ◌⊎◌, ◌≤◌, ◌<◌, ◌+◌, ◌/◌, ◌^◌, ℕ, zero, suc, Bool, true, false, if◌then◌else◌, List, [], ◌∷◌, ◌++◌, length, map, take, drop, sym, ap, arith, refl, subst, inl, inr, Option, None, Some}
+use Rattle.std.proofs.Common.{◌≡◌, ◌⊎◌, ◌≤◌, ◌<◌, ◌+◌, ◌/◌, ◌^◌, ℕ, suc, Bool, true, false, if◌then◌else◌, List, [], ◌∷◌, ◌++◌, length, map, take, drop, sym, arith, refl, subst, inl, inr, Option, None, Some}
 use Rattle.std.specs.List.{All, slice_get}
 use Rattle.std.specs.declared.io.Error.{Error as IoError}
 use Rattle.std.proofs.lemmas.Bool.{cases_lt}
-use Rattle.std.proofs.lemmas.Bool.Decides.{nat_tests}
 use Rattle.sled_codec.specs.History.{Message, History}
 use Rattle.sled_codec.specs.Snapshots.{SnapshotModel}
 use Rattle.sled_store.specs.Device.{LogState, State, Wrote, Synced, LeavesLog, at_rest, overwritten, step}
@@ -32,7 +31,7 @@ use Rattle.sled_core.proofs.Sealed.BehindUnwritten.{torn_behind_unwritten}
 use Rattle.sled_core.proofs.Sealed.HeadSealed.{run_below}
 use Rattle.sled_core.proofs.Sealed.LaidLemmas.{EndsRise}
 use Rattle.sled_core.proofs.Sealed.OneWritten.{has_written, laid_new, long, rises_at}
-use Rattle.sled_core.proofs.Sealed.Marked.{written_are}
+use Rattle.sled_core.proofs.Sealed.Marked.{written_are, ready_closed, written_around}
 use Rattle.sled_core.proofs.Sealed.Runs.{run_of}
 use Rattle.sled_core.proofs.Sealed.SealedCalls.{later_alone}
 use Rattle.sled_core.proofs.Torn.TornLemmas.{after_write}
@@ -203,20 +202,6 @@ module _ (sum : List ℕ → ℕ) (size : ℕ) (site : SegmentPosition) (device 
             (others_written sum size site device fault bytes from (x ∷ xs ++ b ∷ rest) rs H fits.holds (omega (arith, big)) whole (site.slot + sealed_end x.end xs) (asked_behind (x ∷ xs)) range.0 (omega (arith, range.1)) (omega (arith, range.2)) (after_behind (x ∷ xs)) refl)) refl (λ l is. is),
       )
 
--- a list once the one at an index is written, and around it
-pub written_split : (k : ℕ) (bs : List Sealed) (b : Sealed) → slice_get bs k ≡ Some b → written_at k bs ≡ take k bs ++ now_written b ∷ drop (suc k) bs
-written_split zero [] b there = cc
-written_split (suc k) [] b there = cc
-written_split zero (x ∷ xs) b there = let same : x ≡ b = cc in ap (λ y. now_written y ∷ xs) same
-written_split (suc k) (x ∷ xs) b there = ap (λ (l : List Sealed). x ∷ l) (written_split k xs b there)
-
--- one that is ready has no open reservation
-pub ready_closed : (b : Sealed) → is_ready b ≡ true → b.open_count ≡ 0
-ready_closed b ready = by_test b.is_written ready where
-  by_test : (o : Bool) → (if o then false else b.open_count == 0) ≡ true → b.open_count ≡ 0
-  by_test true is = absurd (let never : ⊥ = cc in never)
-  by_test false is = grind (arith, nat_tests, is)
-
 module _ (sum : List ℕ → ℕ) (size : ℕ) (site : SegmentPosition) (device : State) (fault : Option IoError) (bytes : List ℕ) (from : ℕ) (bs : List Sealed) (rs : List Reserved) (H : History)
     {stays : Message → Type 0} (holds : HoldsSegment sum (log_parts size site device fault bytes from bs rs) stays H)
     (short : length bytes ≤ size) (big : 256 ≤ size) (place_small : site.place + size < 2 ^ 63) (slot_small : site.slot + size < 2 ^ 63)
@@ -238,7 +223,7 @@ module _ (sum : List ℕ → ℕ) (size : ℕ) (site : SegmentPosition) (device 
   pub segment_written_one : (new : State) → new.log ≡ at_rest (overwritten device.log.bytes (site.slot + begins_at) its_bytes)
       → HoldsSegment sum (log_parts size site new fault bytes (run_end from now) (behind_run now) (drop (run_count now) rs)) stays H
   segment_written_one new is =
-      subst (λ (cs : List Sealed). HoldsSegment sum (log_parts size site new fault bytes (run_end from cs) (behind_run cs) (drop (run_count cs) rs)) stays H) (sym (written_split k bs b there))
+      subst (λ (cs : List Sealed). HoldsSegment sum (log_parts size site new fault bytes (run_end from cs) (behind_run cs) (drop (run_count cs) rs)) stays H) (sym (written_around k bs b there))
       (segment_around sum size site device fault bytes from (take k bs) b (drop (suc k) bs) rs H (subst (λ (cs : List Sealed). HoldsSegment sum (log_parts size site device fault bytes from cs rs) stays H) split holds) short big place_small slot_small
       (subst (λ (cs : List Sealed). AreSealed from rs cs) split are) (subst FirstUnwritten split fresh) (ready_closed b ready) (subst (λ (cs : List Sealed). EndsRise from cs (length bytes)) split rise) whole new is)
 
@@ -293,6 +278,6 @@ module _ (sum : List ℕ → ℕ) (size : ℕ) (site : SegmentPosition) (device 
   pub fits_written_one : All NoPadding (take (run_count now_one) rs) → (now : ℕ) × FitsIn sum (log_parts size site synced_one None bytes (run_end from now_one) (behind_run now_one) (drop (run_count now_one) rs)) behind now pins H A f U
   fits_written_one plain =
       subst (λ (o : Option IoError). (now : ℕ) × FitsIn sum (log_parts size site synced_one o bytes (run_end from now_one) (behind_run now_one) (drop (run_count now_one) rs)) behind now pins H A f U) whole
-      (subst (λ (cs : List Sealed). (now : ℕ) × FitsIn sum (log_parts size site synced_one fault bytes (run_end from cs) (behind_run cs) (drop (run_count cs) rs)) behind now pins H A f U) (sym (written_split k bs b there))
+      (subst (λ (cs : List Sealed). (now : ℕ) × FitsIn sum (log_parts size site synced_one fault bytes (run_end from cs) (behind_run cs) (drop (run_count cs) rs)) behind now pins H A f U) (sym (written_around k bs b there))
       (fits_around sum size site device fault bytes from b (drop (suc k) bs) rs behind reach pins H A f U short big place_small slot_small (ready_closed b ready) whole (take k bs) fits_split are_split (subst FirstUnwritten split_one fresh) rise_split
-      (subst (λ (cs : List Sealed). All NoPadding (take (run_count cs) rs)) (written_split k bs b there) plain)))
+      (subst (λ (cs : List Sealed). All NoPadding (take (run_count cs) rs)) (written_around k bs b there) plain)))
