@@ -58,7 +58,7 @@ pub struct Log<D, C> {
     /// Where the current segment lies.
     site: SegmentPosition,
     buffer: IoBuf,
-    /// The segments that were begun behind it, by place.
+    /// The segments that were begun behind it, by place; `reserve` begins none yet.
     behind: VecDeque<SegmentBuffer>,
     /// Which slot each segment has. The free slots have zeros in the log file (`specs/FreeSlots.antt`).
     accountant: SegmentAccountant,
