@@ -17,6 +17,7 @@ use Rattle.sled_core.proofs.Holds.CallMoments.{own_after_crash}
 use Rattle.sled_core.proofs.Holds.ReachLemmas.{kept_past}
 pub use Rattle.sled_core.proofs.Start.FreshReady.{fresh_leaves, fresh_ready, empty_ready, empty_recoverable}
 pub use Rattle.sled_core.proofs.Holds.KeptCalls.{goes_on_still, goes_on_further, kept_still, kept_further}
+pub use Rattle.sled_core.proofs.Holds.LastEnds.{message_acknowledged, batch_acknowledged, acknowledged_least}
 pub use Rattle.sled_core.proofs.Holds.ReachLemmas.{fits_holds, fits_acknowledged, fits_reach, fits_apart, fits_inline, awaited, awaited_inline, next_small}
 pub use Rattle.sled_core.proofs.Holds.RunningLemmas.{fits_leaves}
 

@@ -3,7 +3,7 @@
 ghost use Rattle.std.specs.Prelude.{◌≡◌, ◌⊎◌, ◌≤◌, ◌<◌, ◌≤ℤ◌, ◌<ℤ◌, ◌+◌, ◌^◌, ◌∷◌, ℕ, ℤ, pos, List, [], replicate, None, length, ◌-◌, Contains};
 ghost use Rattle.std.specs.Int.{w64, cast_signed, cast_unsigned};
 ghost use Rattle.std.specs.List.{All};
-ghost use Rattle.sled_codec.specs.History.{Message, History, no_history};
+ghost use Rattle.sled_codec.specs.History.{Message, Batch, History, no_history};
 ghost use Rattle.sled_codec.specs.Record.{IsHeader};
 ghost use Rattle.sled_codec.specs.WellFormed.{LieApart};
 ghost use Rattle.sled_store.specs.Device.{Trace, State, Left, Leaves, Crashed, state_of, content_of, content_left, at_rest, fresh, Content, Settled, Wrote, Synced, step};
@@ -14,7 +14,7 @@ ghost use Rattle.sled_core.specs.Keeps.{GoesOn, Preserves};
 ghost use Rattle.sled_core.specs.Reading.{IsInline};
 ghost use Rattle.sled_core.specs.Ready.{IsReady};
 ghost use Rattle.sled_core.specs.Recoverable.{NoForeign, Recoverable, RecoverableIfOwn, LeavesRecoverable, NoHeaderOfZeros};
-ghost use Rattle.sled_core.specs.Running.{Fits, Ready};
+ghost use Rattle.sled_core.specs.Running.{Fits, Ready, end_below};
 ghost use Rattle.sled_core.specs.Tickets.{place_of, pointer_of};
 ghost use Rattle.sled_core.specs.Own.{IsSomeRecord, written_out_of_order, IsReachedToEnd};
 ghost use Rattle.sled_core.specs.StableEnds.{LiesIn, IsContiguousEnd, IsHalfSynced, IsStableEnd, AreApart};
@@ -41,6 +41,16 @@ pub fn messages_lie_in_order<D: Device, C: Checksum>()
         → (m : Message) → Contains H.messages m → synced_end log ≤ m.place → IsInline m.pointer }
     ensures awaited { (log : Log D C) (ticket : Reservation) (m : Message) → Awaits log ticket m → IsInline m.pointer }
     ensures small { (log : Log D C) → next_place log < 2 ^ 63 }
+{}
+
+/// What counts as acknowledged once all below a place is durable (`end_below`) is the greatest end of what begins there:
+/// each message and each batch that begins below the place ends at it or before, and it is no greater than that asks.
+pub fn what_is_durable_is_acknowledged()
+    ensures message { (place : ℕ) (H : History) (m : Message) → Contains H.messages m → m.place < place → m.place + m.size ≤ end_below place H }
+    ensures batch { (place : ℕ) (H : History) (b : Batch) → Contains H.batches b → b.low < place
+        → (b.low < end_below place H) × (b.peg < end_below place H) }
+    ensures least { (place n : ℕ) (H : History) → ((m : Message) → Contains H.messages m → m.place < place → m.place + m.size ≤ n)
+        → ((b : Batch) → Contains H.batches b → b.low < place → (b.low < n) × (b.peg < n)) → end_below place H ≤ n }
 {}
 
 /// What a flush wrote ends at the stable end at most.

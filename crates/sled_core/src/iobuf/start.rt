@@ -21,7 +21,7 @@ use sled_store::{Device, RunningConfig};
 
 /// Where a log begins on the log file, from a snapshot: behind the stable place in the active segment, or else
 /// a segment in the slot that the accountant of segments hands out next; and the buffer of that segment. Once it has
-/// all memory, the accountant starts: it fills the slots that are not used with zeros, syncs them, and cuts free ones
+/// the buffer's memory, the accountant starts: it fills the slots that are not used with zeros, syncs them, and cuts free ones
 /// off the end of the file but for one. A segment that is begun has taken its slot from the accountant, which the log keeps.
 ///
 /// `Corruption` comes where no log can begin from the snapshot, `PlacesUsedUp` where one more slot of the
@@ -67,7 +67,7 @@ pub(crate) fn begin<D: Device, C: Checksum>(
 
 /// Takes the next slot from the accountant for the segment in which a log begins, unless that one is active already.
 ///
-/// `OutOfMemory` comes only where no slot of the file is free, and then the accountant's start wrote nothing.
+/// `OutOfMemory` is its only error: where no slot is free the accountant takes memory for one more.
 fn take_slot<D: Device, C: Checksum>(
     config: &mut RunningConfig<D, C>,
     accountant: &mut SegmentAccountant,

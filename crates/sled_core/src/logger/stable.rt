@@ -81,7 +81,8 @@ impl<D: Device, C: Checksum> Log<D, C> {
         ensures made { OnDone result.1 (D.trace result.0.device ≡ after_all (flushing self) (D.trace (device_of self))) }
         ensures at_most { Performs (flushing self) (D.trace (device_of self)) (D.trace result.0.device) }
         ensures acknowledges { (H : History) (A f : ℕ) (U : List Message) → Fits D.trace C.sum_of self H A f U
-            → OnOk result.1 (LeavesRecoverable C.sum_of (segment_size_of self) H (max A (end_below (reserved_end self) H)) f (state_of (D.trace result.0.device))) }
+            → OnOk result.1 (LeavesRecoverable C.sum_of (segment_size_of self) H (max A (end_below (reserved_end self) H)) f
+            (state_of (D.trace result.0.device))) }
         ensures crash { (H : History) (A f : ℕ) (U : List Message) → Fits D.trace C.sum_of self H A f U
             → LeavesOnly (RecoverableIfOwn C.sum_of (segment_size_of self) H A f) (D.trace (device_of self)) (D.trace result.0.device) }
         ensures answers { CloseAnswers result.1 (site_of self).place (held_below self (reserved_len self)) (fault_of self)
