@@ -23,6 +23,14 @@ type Running = RunningConfig<MemDevice, PlaceSum>;
 /// How many pages are replaced, one behind another and again from the first. Each takes one byte in a header.
 const PAGES: u64 = 200;
 
+/// How many messages go over many segments, and how many pages they replace.
+const MESSAGES: u32 = 100000;
+
+const MANY_PAGES: u64 = 10000;
+
+/// How often they are measured.
+const SEGMENT_RUNS: u32 = 10;
+
 /// The segments that are filled.
 const SEGMENT_SIZE: u64 = 524288;
 
@@ -56,32 +64,53 @@ fn item(alloc: Global, len: u32) -> Result<Vec<u8>, AllocError> {
     Ok(bytes)
 }
 
-/// Replaces one page after another by an item until the segment has no room for one more, and answers how many
-/// messages these are.
+/// Replaces one page after another by an item until one more has begun the next segment, so that the first one is sealed,
+/// and answers how many messages these are.
 fn fill(log: &mut MemoryLog, item: &Vec<u8>, guard: &Guard) -> io::Result<u32>
     requires { length item.now.items < 2 ^ 63 }
 {
     let mut page = 0;
     for count in 0..u32::MAX {
-        if !log.has_room(page, item) {
+        if log.pending() > 0 {
             return Ok(count);
+        }
+        if !log.fits_inline(item) {
+            return Err(io::Error::other("the item is too long for a record"));
         }
         match log.reserve(LogKind::Replace, page, item, guard) {
             Ok(ticket) => complete(log, ticket)?,
             Err(_) => return Err(io::Error::other("a message isn't reserved")),
         }
-        page = page_behind(page);
+        page = page_behind(page, PAGES);
     }
     Ok(u32::MAX)
 }
 
-/// The page that is replaced behind another.
-fn page_behind(page: u64) -> u64 {
+/// The page that is replaced behind another one of so many.
+fn page_behind(page: u64, pages: u64) -> u64 {
     let next = page.wrapping_add(1);
-    if next >= PAGES {
+    if next >= pages {
         return 0;
     }
     next
+}
+
+/// Replaces one page after another by an item, segment after segment.
+fn replace_many(log: &mut MemoryLog, item: &Vec<u8>, guard: &Guard) -> io::Result<()>
+    requires { length item.now.items < 2 ^ 63 }
+{
+    let mut page = 0;
+    for _ in 0..MESSAGES {
+        if !log.fits_inline(item) {
+            return Err(io::Error::other("the item is too long for a record"));
+        }
+        match log.reserve(LogKind::Replace, page, item, guard) {
+            Ok(ticket) => complete(log, ticket)?,
+            Err(_) => return Err(io::Error::other("a message isn't reserved")),
+        }
+        page = page_behind(page, MANY_PAGES);
+    }
+    Ok(())
 }
 
 /// Completes a message.
@@ -174,7 +203,8 @@ impl Figures {
         let start = Instant::now(rt)?;
         let pages = recover(config)?;
         self.recovery.add(start.elapsed(rt)?);
-        if met != self.records as usize || pages != met.min(PAGES as usize) {
+        let records = self.records as usize;
+        if met != records.saturating_sub(1) || pages != records.min(PAGES as usize) {
             return Err(io::Error::other("what was read is not what was written"));
         }
         Ok(())
@@ -217,6 +247,51 @@ pub fn measure(rt: &HostRuntime, name: &str, len: u32) -> io::Result<()> {
         figures.time_reading(rt, &mut config)?;
     }
     figures.print(rt, name)
+}
+
+/// Writes so many messages over segments of this size, and settles them: how long the appends take, and the flush.
+fn write_many(
+    rt: &HostRuntime,
+    segment_size: u64,
+    item: &Vec<u8>,
+    append: &mut Shortest,
+    settle: &mut Shortest,
+) -> io::Result<()>
+    requires { length item.now.items < 2 ^ 63 }
+{
+    let config = empty(rt.alloc(), segment_size)?;
+    let mut log = started(rt.alloc(), config)?;
+    let guard = log.pin();
+    let start = Instant::now(rt);
+    let written = replace_many(&mut log, item, &guard);
+    let between = Instant::now(rt);
+    let flushed = flush(&mut log);
+    let end = Instant::now(rt);
+    guard.abandon();
+    let _ = log.halt();
+    written?;
+    flushed?;
+    let between = between?;
+    append.add(between.duration_since(start?));
+    settle.add(end?.duration_since(between));
+    Ok(())
+}
+
+/// Measures a log that goes over many segments of this size, with records whose items have so many bytes.
+pub fn measure_segments(
+    rt: &HostRuntime,
+    name: &str,
+    segment_size: u64,
+    len: u32,
+) -> io::Result<()> {
+    let item = item(rt.alloc(), len)?;
+    let mut append = Shortest::new();
+    let mut settle = Shortest::new();
+    for _ in 0..SEGMENT_RUNS {
+        write_many(rt, segment_size, &item, &mut append, &mut settle)?;
+    }
+    append.print(rt, name, "append", MESSAGES)?;
+    settle.print(rt, name, "flush", MESSAGES)
 }
 
 /// Measures how long a log takes to begin on an empty device, with segments as long as they can be.

@@ -37,6 +37,10 @@ fn main(rt: HostRuntime) -> io::Result<()> {
     logs::measure(&rt, "records of 11 bytes", 10)?;
     logs::measure(&rt, "records of 200 bytes", 199)?;
     logs::measure(&rt, "records of 4000 bytes", 3997)?;
+    logs::measure_segments(&rt, "segments of 8 KiB, 11 bytes", 8192, 10)?;
+    logs::measure_segments(&rt, "segments of 512 KiB, 11 bytes", 524288, 10)?;
+    logs::measure_segments(&rt, "segments of 512 KiB, 200 bytes", 524288, 199)?;
+    logs::measure_segments(&rt, "segments of 512 KiB, 4000 bytes", 524288, 3997)?;
     logs::measure_start(&rt)?;
     measure_recoveries(&rt)?;
     measure_accounts(&rt)?;

@@ -50,7 +50,7 @@ fn put(
     page: PageId,
     item: &Vec<u8>,
 ) -> Result<Vec<u8>> {
-    ensure!(log.has_room(page, item), "the segment is full");
+    ensure!(log.fits_inline(item), "the item is too long for a record");
     let ticket = log.reserve(LogKind::Replace, page, item, guard)?;
     let (place, pointer) = log.complete(ticket)?;
     ensure!(log.none_open(), "another reservation is open");

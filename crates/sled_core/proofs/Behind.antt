@@ -7,7 +7,6 @@ pub mod FitsCalls
 pub mod FitsCompleted
 pub mod FitsMoved
 pub mod FitsWritten
-pub mod FullAlready
 pub mod FullFurther
 pub mod FullHead
 pub mod FullHolds

@@ -1,7 +1,5 @@
 pub mod Completed
 pub mod FirstWritten
-pub mod FlushCalls
-pub mod FlushFits
 pub mod FlushLemmas
 pub mod LogFileKept
 pub mod LogFileLemmas
@@ -9,7 +7,6 @@ pub mod Padded
 pub mod SameFits
 pub mod SealedFile
 pub mod SealedFits
-pub mod SealedWrites
 pub mod Settled
 pub mod WriteFits
 pub mod WrittenFile

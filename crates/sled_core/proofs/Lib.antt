@@ -2,6 +2,7 @@ pub mod Behind
 pub mod Crash
 pub mod Flush
 pub mod Holds
+pub mod Line
 pub mod PublicLaws
 pub mod Reached
 pub mod Read

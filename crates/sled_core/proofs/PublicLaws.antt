@@ -1,29 +1,36 @@
 -- What a crate above may rely on of logs: where the messages lie that a log fits, what a crash leaves of its device, and that an empty device is ready.
-use Rattle.std.proofs.Common.{◌≡◌, ◌∙◌, ◌≤◌, ◌<◌, ◌+◌, ◌^◌, ℕ, ℤ, pos, List, ◌∷◌, rules, sym, ap, subst}
+use Rattle.std.proofs.Common.{◌≡◌, ◌∙◌, ◌≤◌, ◌<◌, ◌+◌, ◌*◌, ◌^◌, ℕ, ℤ, pos, Bool, true, if◌then◌else◌, List, [], ◌∷◌, ◌++◌, None, rules, sym, ap, subst, arith}
 use Rattle.std.specs.Prelude.{FitsSigned}
 use Rattle.std.specs.Int.{w64, cast_signed, cast_unsigned}
 use Rattle.std.specs.List.{All}
 use Rattle.std.proofs.lemmas.Int.{to_z-of_z}
 use Rattle.sled_codec.specs.History.{History}
+use Rattle.sled_codec.specs.Snapshots.{SnapshotModel}
 use Rattle.sled_store.specs.Device.{Trace, State, Content, Left, Leaves, Crashed, state_of, content_of, content_left, names_at_rest, step}
 use Rattle.sled_store.proofs.LogFile.LogLemmas.{at_rest_left}
 use Rattle.sled_store.proofs.Names.NamesLemmas.{settled_name_left, settled_name_at_rest}
 use Rattle.sled_store.proofs.Crashes.SettledLemmas.{read_left}
 use Rattle.sled_core.specs.declared.logger.Log.{Log}
-use Rattle.sled_core.specs.Fits.{NoneOpen, IsUnchanged, IsWritten, synced_end, segment_size_of}
-use Rattle.sled_core.specs.Buffers.{none_open}
+use Rattle.sled_core.specs.Fits.{NoneOpen, NoneOpenIn, IsUnchanged, IsWritten, synced_end, segment_size_of, buffers_of, current_begin, current_of, held_len, is_moved, line_of, machine_at, sealing_end, start_behind, start_of, waiting_behind, waiting_of}
+use Rattle.sled_core.specs.Waiting.{BufferAt, BufferStart, HasLength, at_last, closed_now, spans, unwritten}
+use Rattle.sled_store.specs.SegmentStates.{next_slot}
 use Rattle.sled_core.specs.Recoverable.{NoForeign, Recoverable, LeavesRecoverable}
+use Rattle.sled_core.specs.Running.{Ready}
+use Rattle.sled_core.proofs.Flush.Settled.{leaves_less}
 use Rattle.sled_core.proofs.Holds.CallMoments.{own_after_crash}
 use Rattle.sled_core.proofs.Holds.ReachLemmas.{kept_past}
+use Rattle.sled_core.proofs.Line.Shows.{buffers_add, buffers_closed, buffers_free, buffers_long, buffers_still}
+use Rattle.sled_core.proofs.Line.Spans.{spans_added}
 pub use Rattle.sled_core.proofs.Start.FreshReady.{fresh_leaves, fresh_ready, empty_ready, empty_recoverable}
 pub use Rattle.sled_core.proofs.Holds.KeptCalls.{goes_on_still, goes_on_further, kept_still, kept_further}
 pub use Rattle.sled_core.proofs.Holds.LastEnds.{message_acknowledged, batch_acknowledged, acknowledged_least}
-pub use Rattle.sled_core.proofs.Holds.ReachLemmas.{fits_holds, fits_acknowledged, fits_reach, fits_apart, fits_inline, awaited, awaited_inline, next_small}
+pub use Rattle.sled_core.proofs.Holds.ReachLemmas.{fits_holds, fits_acknowledged, fits_reach, fits_apart, fits_inline, awaited, awaited_inline, awaited_small, reserved_small}
 pub use Rattle.sled_core.proofs.Holds.RunningLemmas.{fits_leaves}
+pub use Rattle.sled_core.proofs.Line.Buffers.{first_waits}
 
 -- Where no reservation was open, none is as long as nothing is another.
 pub unchanged_ended : {D C : Type 0} (old new : Log D C) → IsUnchanged old new → NoneOpen old → NoneOpen new
-unchanged_ended old new unchanged ended = ap none_open unchanged.reserved ∙ ended
+unchanged_ended old new unchanged ended = subst NoneOpenIn (sym unchanged.line) ended
 
 -- A place, as code holds it and gives it back.
 pub place_back : (z : ℤ) (n : ℕ) → z ≡ pos n → n < 2 ^ 63 → pos n ≡ cast_signed w64 (cast_unsigned w64 z)
@@ -32,6 +39,47 @@ place_back z n is small = let fits : FitsSigned w64 (pos n) = search rules in sy
 -- What was written ends at the stable end at most.
 pub written_past : {D C : Type 0} (trace : D → Trace) (sum : List ℕ → ℕ) (log : Log D C) (H : History) → IsWritten trace sum log H → All (λ m. m.place + m.size ≤ synced_end log) H.messages
 written_past trace sum log H written = kept_past sum (segment_size_of log) log.site log.buffer.written_len _ H written
+
+-- What is seen of the buffers of a log: the current one, as it would be sealed, lies behind the sealed ones,
+pub shows_current : {D C : Type 0} (sum : List ℕ → ℕ) (log : Log D C) → 0 < held_len log
+    → spans (buffers_of sum log) ≡ spans (waiting_of log) ++ record { place = current_begin log; end = sealing_end log; lid = (start_of log).lid } ∷ []
+shows_current sum log some = spans_added (waiting_of log) (buffers_of sum log) _ (buffers_add sum log some)
+
+-- where it holds anything,
+pub shows_empty : {D C : Type 0} (sum : List ℕ → ℕ) (log : Log D C) → held_len log ≡ 0 → buffers_of sum log ≡ waiting_of log
+shows_empty sum log none = buffers_still sum log none
+
+-- and so it does where a reservation fills its segment;
+pub shows_behind : {D C : Type 0} (sum : List ℕ → ℕ) (log : Log D C) (page n : ℕ) → is_moved log page n ≡ true
+    → spans (waiting_behind sum log page n) ≡ spans (waiting_of log) ++ record { place = current_begin log; end = (start_behind log page n).place; lid = (start_of log).lid } ∷ []
+shows_behind sum log page n moves =
+    let size : ℕ = segment_size_of log in
+    let closed : List BufferAt = unwritten (at_last (closed_now sum size) (line_of log)) in
+    let next : BufferStart = record { place = (current_of log).parts.site.place + size; lid = next_slot (machine_at log) * size } in
+    ap (λ (o : Bool). spans (if o then closed else waiting_of log)) moves
+    ∙ spans_added (waiting_of log) closed _ (buffers_closed sum log)
+    ∙ sym (ap (λ (o : Bool). spans (waiting_of log) ++ record { place = current_begin log; end = (if o then next else start_of log).place; lid = (start_of log).lid } ∷ []) moves)
+
+-- each has as many bytes as places,
+pub shows_long : {D C : Type 0} (sum : List ℕ → ℕ) (log : Log D C) → All HasLength (buffers_of sum log)
+shows_long sum log = buffers_long sum log
+
+-- and none is held up where no reservation is open.
+pub none_are_held : {D C : Type 0} (sum : List ℕ → ℕ) (log : Log D C) → NoneOpen log → All (λ b. b.held ≡ None) (buffers_of sum log)
+none_are_held sum log ended = buffers_free sum log ended
+
+-- What is ready for a log with more acknowledged is ready for it with less.
+pub ready_with_less : (sum : List ℕ → ℕ) (size : ℕ) (device : State) (s : SnapshotModel) (H : History) (A less f : ℕ) → less ≤ A → Ready sum size device s H A f → Ready sum size device s H less f
+unfolding Ready
+ready_with_less sum size device s H A less f le ready = record {
+  ready = ready.ready;
+  alone = ready.alone;
+  active = ready.active;
+  blobs = ready.blobs;
+  names = ready.names;
+  passes = (let passes = ready.passes in omega (arith, le, passes));
+  left = leaves_less sum size H less A f device le ready.left;
+}
 
 module _ (sum : List ℕ → ℕ) (size : ℕ) (H : History) (A f : ℕ) where
   -- What is read now can be recovered where whatever a crash leaves can.

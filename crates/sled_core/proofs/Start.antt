@@ -15,7 +15,6 @@ pub mod SegmentSizes
 pub mod StartFits
 pub mod StartedActive
 pub mod StartedMoments
-pub mod StartedSite
 pub mod UsedEntries
 pub mod UsedLemmas
 pub mod ZeroHeader

@@ -1,8 +1,13 @@
--- The segments that a log has begun: the first one that isn't wholly on the device, and those behind it.
-use Rattle.std.specs.Prelude.{◌≡◌, ◌≤◌, ◌<◌, ◌+◌, ◌^◌, ℕ, List, [], ◌∷◌, length, refl}
+-- The segments that a log has begun, and what it has of each: the first one that isn't wholly on the device, and those behind it.
+use Rattle.std.specs.Prelude.{◌≡◌, ◌≤◌, ◌<◌, ◌+◌, ◌^◌, ℕ, List, [], ◌∷◌, length, map, drop, refl}
 use native.Mathlib.Nat.{ℕ_set}
 use native.Mathlib.Bridge.{le_prop}
+use Rattle.sled_core.specs.declared.iobuf.IoBuf.{IoBuf}
+use Rattle.sled_core.specs.declared.iobuf.Reserved.{Reserved}
+use Rattle.sled_core.specs.declared.iobuf.Sealed.{Sealed}
+use Rattle.sled_core.specs.declared.iobuf.SegmentPosition.{SegmentPosition}
 use Rattle.sled_core.specs.declared.logger.segments.SegmentBuffer.{SegmentBuffer}
+use Rattle.sled_core.specs.SealedBuffers.{sealed_end}
 
 -- They lie one behind another from a place on, each within its size and in reach.
 abbrev pub FollowOn : ℕ → ℕ → List SegmentBuffer → Type 0
@@ -14,3 +19,62 @@ FollowOn size place (s ∷ ss) =
 pub FollowOn-prop : (size place : ℕ) (ss : List SegmentBuffer) → IsProp (FollowOn size place ss)
 FollowOn-prop size place [] = λ p q. refl
 FollowOn-prop size place (s ∷ ss) = λ p q i. (ℕ_set _ _ p.0 q.0 i, le_prop p.1 q.1 i, le_prop p.2 q.2 i, le_prop p.3 q.3 i, FollowOn-prop size (place + size) ss p.4 q.4 i)
+
+-- What a log has of a segment: where it lies, its bytes, how many of them were written without a gap, the buffers that were sealed since, and the reservations since.
+pub record SegmentParts : Type 0 where
+  pub site : SegmentPosition
+  pub bytes : List ℕ
+  pub written_len : ℕ
+  pub sealed : List Sealed
+  pub reserved : List Reserved
+
+-- the same of what code keeps of it
+abbrev pub parts_at : SegmentPosition → IoBuf → SegmentParts
+parts_at site b = record { site = site; bytes = b.bytes.items; written_len = b.written_len; sealed = b.sealed.items; reserved = b.reserved.items }
+
+abbrev pub segment_parts : SegmentBuffer → SegmentParts
+segment_parts s = parts_at s.site s.buffer
+
+-- What a log has of a segment, and how many reservations there were in it before those that it keeps: a ticket's number counts these too.
+pub record SegmentView : Type 0 where
+  pub parts : SegmentParts
+  pub gone : ℕ
+
+abbrev pub view_at : SegmentPosition → IoBuf → SegmentView
+view_at site b = record { parts = parts_at site b; gone = b.gone }
+
+abbrev pub segment_view : SegmentBuffer → SegmentView
+segment_view s = view_at s.site s.buffer
+
+-- the buffer of the last segment
+abbrev pub last_buffer : IoBuf → List SegmentBuffer → IoBuf
+last_buffer b [] = b
+last_buffer b (s ∷ ss) = last_buffer s.buffer ss
+
+-- all segments of a log, by place
+abbrev pub line_at : SegmentPosition → IoBuf → List SegmentBuffer → List SegmentView
+line_at site b behind = view_at site b ∷ map segment_view behind
+
+-- Each buffer of a segment at this place that has an entry begins below a place: the sealed ones, which begin at an offset, and the current one.
+abbrev pub AreEntered : ℕ → ℕ → ℕ → List Sealed → List Reserved → Type 0
+AreEntered to place from [] rs = 0 < length rs → place + from < to
+AreEntered to place from (b ∷ bs) rs = (0 < b.count → place + from < to) × AreEntered to place b.end bs (drop b.count rs)
+
+-- where the current buffer of a segment begins
+abbrev pub begin_of : SegmentView → ℕ
+begin_of v = sealed_end v.parts.written_len v.parts.sealed
+
+-- Segments one behind another: in all but the last one each byte is in a sealed buffer or written, and the current buffer begins within the last one. What has an entry begins below a place, which isn't behind all bytes.
+abbrev pub AreFilled : ℕ → ℕ → List SegmentView → Type 0
+AreFilled size to [] = Unit {0}
+AreFilled size to (v ∷ []) = (begin_of v < size) × (to ≤ v.parts.site.place + length v.parts.bytes) × AreEntered to v.parts.site.place v.parts.written_len v.parts.sealed v.parts.reserved
+AreFilled size to (v ∷ w ∷ vs) = (begin_of v ≡ size) × AreEntered to v.parts.site.place v.parts.written_len v.parts.sealed v.parts.reserved × AreFilled size to (w ∷ vs)
+
+AreEntered-prop : (to place from : ℕ) (bs : List Sealed) (rs : List Reserved) → IsProp (AreEntered to place from bs rs)
+AreEntered-prop to place from [] rs = λ p q i some. le_prop (p some) (q some) i
+AreEntered-prop to place from (b ∷ bs) rs = λ p q i. (λ some. le_prop (p.0 some) (q.0 some) i, AreEntered-prop to place b.end bs (drop b.count rs) p.1 q.1 i)
+
+pub AreFilled-prop : (size to : ℕ) (vs : List SegmentView) → IsProp (AreFilled size to vs)
+AreFilled-prop size to [] = λ p q. refl
+AreFilled-prop size to (v ∷ []) = λ p q i. (le_prop p.0 q.0 i, le_prop p.1 q.1 i, AreEntered-prop to v.parts.site.place v.parts.written_len v.parts.sealed v.parts.reserved p.2 q.2 i)
+AreFilled-prop size to (v ∷ w ∷ vs) = λ p q i. (ℕ_set _ _ p.0 q.0 i, AreEntered-prop to v.parts.site.place v.parts.written_len v.parts.sealed v.parts.reserved p.1 q.1 i, AreFilled-prop size to (w ∷ vs) p.2 q.2 i)

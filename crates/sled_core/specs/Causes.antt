@@ -3,7 +3,7 @@ use Rattle.std.specs.Prelude.{◌≡◌, ◌⊎◌, [], ◌+◌, ◌<◌, ◌%�
 use Rattle.std.specs.declared.io.Error.{Error as IoError}
 use Rattle.sled_codec.specs.declared.result.Error.{Error}
 use Rattle.std.specs.String.{string_bytes}
-use Rattle.sled_codec.specs.declared.result.Error.TheVariants.{Io, OutOfMemory, Unsupported, Held, Corruption}
+use Rattle.sled_codec.specs.declared.result.Error.TheVariants.{Io, OutOfMemory, Unsupported, Held, Corruption, PlacesUsedUp}
 use Rattle.sled_codec.specs.declared.serialization.message.MessageKind.{MessageKind}
 use Rattle.sled_store.specs.Answers.{is_fault}
 use Rattle.sled_core.specs.Buffers.{most_open}
@@ -21,11 +21,12 @@ Answers (Err (Io e)) old new before after = IsFault e old new before after
 Answers (Err OutOfMemory) old new before after = (old ≡ None) × (new ≡ None) × (after ≡ before)
 Answers (Err _) old new before after = ⊥
 
--- A call that writes buffers up to one that has an open reservation: as each that may touch the device. Held it is exactly where there is one, and that begins there in a segment of this place.
-abbrev pub HeldAnswers : {T : Type 0} → Result T Error → ℕ → Option ℕ → Option IoError → Option IoError → ℕ → ℕ → Type 0
-HeldAnswers (Err (Held at)) place held old new before after = ((from : ℕ) × (held ≡ Some from) × (at ≡ pos (place + from))) × (old ≡ None) × (new ≡ None) × (after ≡ before)
-HeldAnswers (Ok n) place held old new before after = (held ≡ None) × (old ≡ None) × (new ≡ None) × (after ≡ before)
-HeldAnswers result place held old new before after = Answers result old new before after
+-- A call that writes buffers up to one that has an open reservation: as each that may touch the device. Held it is exactly where there is one, and that begins at this place; and places are used up exactly where the call needs a further segment and there is none in reach.
+abbrev pub HeldAnswers : {T : Type 0} → Result T Error → Option ℕ → Type 0 → Option IoError → Option IoError → ℕ → ℕ → Type 0
+HeldAnswers (Err (Held at)) held used old new before after = ((place : ℕ) × (held ≡ Some place) × (at ≡ pos place)) × (used → ⊥) × (old ≡ None) × (new ≡ None) × (after ≡ before)
+HeldAnswers (Ok n) held used old new before after = (held ≡ None) × (used → ⊥) × (old ≡ None) × (new ≡ None) × (after ≡ before)
+HeldAnswers (Err PlacesUsedUp) held used old new before after = used × (old ≡ None) × (new ≡ None) × (after ≡ before)
+HeldAnswers result held used old new before after = Answers result old new before after
 
 -- the call was held by an open reservation
 abbrev pub IsHeld : {T : Type 0} → Result T Error → Type 0
@@ -38,18 +39,13 @@ OnDone (Ok _) P = P
 OnDone (Err (Held at)) P = P
 OnDone _ P = Unit {0}
 
--- a call was held by an open reservation, with its place, or memory was refused
-abbrev pub HeldOrMemory : Error → (ℤ → Type 0) → Type 0
-HeldOrMemory (Held at) least = least at
-HeldOrMemory OutOfMemory least = Unit {0}
-HeldOrMemory _ least = ⊥
-
--- A call that touches no device: it answers the failure that the log keeps, and succeeds, or wants memory, only where it keeps none.
-abbrev pub FaultOrMemory : {T : Type 0} → Result T Error → Option IoError → Type 0
-FaultOrMemory (Ok _) fault = fault ≡ None
-FaultOrMemory (Err (Io e)) fault = fault ≡ Some e
-FaultOrMemory (Err OutOfMemory) fault = fault ≡ None
-FaultOrMemory (Err _) fault = ⊥
+-- A call that touches no device: it answers the failure that the log keeps, and succeeds, or wants memory, only where it keeps none. Places are used up exactly where this is so.
+abbrev pub FaultOrMemory : {T : Type 0} → Result T Error → Type 0 → Option IoError → Type 0
+FaultOrMemory (Ok _) used fault = (used → ⊥) × (fault ≡ None)
+FaultOrMemory (Err (Io e)) used fault = fault ≡ Some e
+FaultOrMemory (Err PlacesUsedUp) used fault = used × (fault ≡ None)
+FaultOrMemory (Err OutOfMemory) used fault = fault ≡ None
+FaultOrMemory (Err _) used fault = ⊥
 
 -- A call that touches no device and wants no memory: it fails exactly where the log keeps a failure, and answers that.
 abbrev pub FaultAnswers : {T : Type 0} → Result T Error → Option IoError → Type 0
@@ -57,14 +53,22 @@ FaultAnswers (Ok _) fault = fault ≡ None
 FaultAnswers (Err (Io e)) fault = fault ≡ Some e
 FaultAnswers (Err _) fault = ⊥
 
--- A reservation, where so many are open: the failure that the log keeps comes first, then a kind that the page has no messages of, with an empty text, then that no further one may be open, with the least place of those that are, and then want of memory.
-abbrev pub ReserveAnswers : {T : Type 0} → Result T Error → Option IoError → Option MessageKind → ℕ → (ℤ → Type 0) → Type 0
-ReserveAnswers (Ok _) fault kind open_count least = (fault ≡ None) × IsSome kind × (open_count < most_open)
-ReserveAnswers (Err (Io e)) fault kind open_count least = fault ≡ Some e
-ReserveAnswers (Err (Unsupported text)) fault kind open_count least = (fault ≡ None) × (kind ≡ None) × (string_bytes text ≡ [])
-ReserveAnswers (Err (Held at)) fault kind open_count least = (fault ≡ None) × IsSome kind × (open_count ≡ most_open) × least at
-ReserveAnswers (Err OutOfMemory) fault kind open_count least = (fault ≡ None) × IsSome kind × (open_count < most_open)
-ReserveAnswers (Err _) fault kind open_count least = ⊥
+-- A reservation, where so many are open in the buffer that it would be of, and it needs a further segment that isn't in reach where that is said: the failure that the log keeps comes first, then a kind that the page has no messages of, with an empty text, then that no further segment is in reach or, in the same buffer, that no further reservation may be open, with the least place of those that are, and then want of memory.
+abbrev pub ReserveAnswers : {T : Type 0} → Result T Error → Option IoError → Option MessageKind → Type 0 → ℕ → (ℤ → Type 0) → Type 0
+ReserveAnswers (Ok _) fault kind used open_count least = (fault ≡ None) × IsSome kind × (used → ⊥) × (open_count < most_open)
+ReserveAnswers (Err (Io e)) fault kind used open_count least = fault ≡ Some e
+ReserveAnswers (Err (Unsupported text)) fault kind used open_count least = (fault ≡ None) × (kind ≡ None) × (string_bytes text ≡ [])
+ReserveAnswers (Err PlacesUsedUp) fault kind used open_count least = (fault ≡ None) × IsSome kind × used
+ReserveAnswers (Err (Held at)) fault kind used open_count least = (fault ≡ None) × IsSome kind × (used → ⊥) × (open_count ≡ most_open) × least at
+ReserveAnswers (Err OutOfMemory) fault kind used open_count least = (fault ≡ None) × IsSome kind × (open_count < most_open)
+ReserveAnswers (Err _) fault kind used open_count least = ⊥
+
+-- Room for one more reservation of a buffer of which so many are open: no further one may be open, with the least place of those that are, or memory was refused.
+abbrev pub MakesRoom : {T : Type 0} → Result T Error → ℕ → (ℤ → Type 0) → Type 0
+MakesRoom (Ok _) open_count least = open_count < most_open
+MakesRoom (Err (Held at)) open_count least = (open_count ≡ most_open) × least at
+MakesRoom (Err OutOfMemory) open_count least = open_count < most_open
+MakesRoom (Err _) open_count least = ⊥
 
 -- A call that reads bytes: it wants no memory, a failure of the device is counted and answered, and damage comes only where this is so.
 abbrev pub ReaderAnswers : {T : Type 0} → Result T Error → Type 0 → ℕ → ℕ → Type 0

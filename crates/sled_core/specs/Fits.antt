@@ -1,5 +1,5 @@
--- What a log has to do with the history of what was completed, and with its device. It has one current segment, whose buffer has all of what is not written.
-use Rattle.std.specs.Prelude.{nat_lt, if◌then◌else◌, Bool, false, ◌≡◌, ◌⊎◌, ◌+◌, ◌-◌, ◌*◌, ◌/◌, ◌%◌, ◌^◌, ◌≤◌, ◌<◌, ℕ, ℤ, pos, max, true, List, [], ◌++◌, ◌∷◌, length, map, take, drop, All, Option, None, Some, slice_get, Contains}
+-- What a log has to do with the history of what was completed, and with its device. Its segments lie one behind another; the first one isn't wholly on the device, and the last one is being filled.
+use Rattle.std.specs.Prelude.{◌≡◌, ◌⊎◌, ◌+◌, ◌-◌, ◌*◌, ◌/◌, ◌%◌, ◌^◌, ◌≤◌, ◌<◌, if◌then◌else◌, nat_le, Bool, ℕ, ℤ, pos, max, true, List, [], ◌++◌, ◌∷◌, length, map, take, drop, All, Option, None, Some, slice_get, Contains}
 use Rattle.std.specs.declared.io.Error.{Error as IoError}
 use Rattle.sled_codec.specs.declared.result.DiskPtr.TheVariants.{Inline}
 use Rattle.sled_codec.specs.declared.serialization.message.LogKind.{LogKind}
@@ -8,24 +8,27 @@ use Rattle.sled_codec.specs.History.{Message, Batch, History, CutFits, table}
 use Rattle.sled_codec.specs.WellFormed.{LieApart}
 use Rattle.sled_codec.specs.Snapshots.{SnapshotModel, stable_place}
 use Rattle.sled_codec.specs.PageTables.{IsTable}
+use Rattle.sled_store.specs.Accounts.{MayHandOut, machine_of}
 use Rattle.sled_store.specs.Device.{Event, Trace, LogState, State, state_of, at_rest}
+use Rattle.sled_store.specs.SegmentStates.{Machine, next_slot}
 use Rattle.sled_store.specs.SnapshotFiles.{BeginsFrom}
-use Rattle.sled_core.specs.declared.iobuf.IoBuf.{IoBuf}
 use Rattle.sled_core.specs.declared.iobuf.ReservationState.TheVariants.{Open}
 use Rattle.sled_core.specs.declared.iobuf.Reserved.{Reserved}
 use Rattle.sled_core.specs.declared.iobuf.Sealed.{Sealed}
 use Rattle.sled_core.specs.declared.iobuf.SegmentPosition.{SegmentPosition}
 use Rattle.sled_core.specs.declared.reservation.Reservation.{Reservation}
 use Rattle.sled_core.specs.declared.logger.Log.{Log}
-use Rattle.sled_core.specs.declared.logger.segments.SegmentBuffer.{SegmentBuffer}
 use Rattle.sled_store.specs.declared.config.RunningConfig.{RunningConfig}
-use Rattle.sled_store.specs.declared.segment.accountant.SegmentAccountant.{SegmentAccountant}
-use Rattle.sled_core.specs.Buffers.{Stands, IsChain, completed_in, message_in, none_open, open_in, first_open_in, end_reserved, record_size}
+use Rattle.sled_core.specs.Begun.{SegmentParts, SegmentView, begin_of, line_at, segment_view, view_at}
+use Rattle.sled_core.specs.Buffers.{Stands, IsChain, completed_in, message_in, none_open, open_in, first_open_in}
+use Rattle.sled_core.specs.FreeSlots.{HasSlots}
 use Rattle.sled_core.specs.LogFile.{IsLogFile, StaysBelow, StaysFrom}
+use Rattle.sled_core.specs.Positions.{Position, behind_record, is_short, placed_at, pointer_at, position_in, size_at}
 use Rattle.sled_core.specs.Reached.{BegunSegment, FollowApart}
 use Rattle.sled_core.specs.Recoverable.{IsMarkOf}
-use Rattle.sled_core.specs.SealedBuffers.{AreSealed, AreZeros, Laid, behind_run, buffer_writes, bytes_between, current_buffer, first_ready, ready_count, ready_marked, ready_write, ready_writes, reserved_below, run_count, run_end, seal_at, sealed_count, sealed_end, writing, written_at}
-use Rattle.sled_core.specs.Tickets.{index_of, IsFor}
+use Rattle.sled_core.specs.SealedBuffers.{AreSealed, AreZeros, Laid, sealed_count, sealed_end}
+use Rattle.sled_core.specs.Tickets.{index_of, place_of, IsFor}
+use Rattle.sled_core.specs.Waiting.{BufferAt, BufferStart, at_last, buffers_in, closed_now, held_below, last_of, pending_in, spans, start_in, unwritten, write_pending, writes_below}
 
 -- What a caller sees of a log.
 
@@ -33,91 +36,166 @@ use Rattle.sled_core.specs.Tickets.{index_of, IsFor}
 abbrev pub fault_of : {D C : Type 0} → Log D C → Option IoError
 fault_of log = log.fault
 
+-- its segments, by place: the first one that isn't wholly on the device, and those begun behind it
+abbrev pub line_of : {D C : Type 0} → Log D C → List SegmentView
+line_of log = line_at log.site log.buffer log.behind.items
+
+-- the one that is being filled
+abbrev pub current_of : {D C : Type 0} → Log D C → SegmentView
+current_of log = last_of (view_at log.site log.buffer) (map segment_view log.behind.items)
+
+-- what runs on behind them: the slots of the log file
+abbrev pub machine_at : {D C : Type 0} → Log D C → Machine
+machine_at log = machine_of log.accountant
+
 -- the reservations of the current buffer
-abbrev pub current_reserved : {D C : Type 0} → Log D C → List Reserved
-current_reserved log = drop (sealed_count log.buffer.sealed.items) log.buffer.reserved.items
+abbrev pub current_reserved_in : SegmentView → List Reserved
+current_reserved_in v = drop (sealed_count v.parts.sealed) v.parts.reserved
 
 -- how many of them are open or abandoned
 abbrev pub open_of : {D C : Type 0} → Log D C → ℕ
-open_of log = open_in (current_reserved log)
+open_of log = open_in (current_reserved_in (current_of log))
 
 -- this is the least place of an open one of these
-abbrev pub IsLeastOpenOf : {D C : Type 0} → Log D C → List Reserved → ℤ → Type 0
-IsLeastOpenOf log rs place = (from : ℕ) × (first_open_in rs ≡ Some from) × (place ≡ pos (log.site.place + from))
-
--- this is the least place of an open reservation of the current buffer
 abbrev pub IsLeastOpen : {D C : Type 0} → Log D C → ℤ → Type 0
-IsLeastOpen log = IsLeastOpenOf log (current_reserved log)
-
--- no buffer is sealed that isn't written
-abbrev pub NoneSealed : {D C : Type 0} → Log D C → Type 0
-NoneSealed log = log.buffer.sealed.items ≡ []
-
--- where the current segment lies
-abbrev pub site_of : {D C : Type 0} → Log D C → SegmentPosition
-site_of log = log.site
-
--- the number of the current segment
-abbrev pub current_segment : {D C : Type 0} → Log D C → ℕ
-current_segment log = log.site.place / log.config.config.segment_size
-
--- where the next record begins
-abbrev pub next_place : {D C : Type 0} → Log D C → ℕ
-next_place log = log.site.place + length log.buffer.bytes.items
-
--- the place behind the stable end
-abbrev pub synced_end : {D C : Type 0} → Log D C → ℕ
-synced_end log = log.site.place + log.buffer.written_len
-
--- the place behind the greatest reserved one; before the first reservation that is the place behind the stable end
-abbrev pub reserved_end : {D C : Type 0} → Log D C → ℕ
-reserved_end log = log.site.place + end_reserved log.buffer.written_len (length log.buffer.bytes.items) log.buffer.reserved.items
-
--- how many pins are out
-abbrev pub pins_of : {D C : Type 0} → Log D C → ℕ
-pins_of log = log.pins
+IsLeastOpen log place = (from : ℕ) × (first_open_in (current_reserved_in (current_of log)) ≡ Some from) × (place ≡ pos ((current_of log).parts.site.place + from))
 
 -- the size of the log's segments
 abbrev pub segment_size_of : {D C : Type 0} → Log D C → ℕ
 segment_size_of log = log.config.config.segment_size
 
--- how long the record is of a page's message with an item of n bytes
+-- Where the next record may begin.
+abbrev pub position_of : {D C : Type 0} → Log D C → Position
+position_of log = position_in log.config.config.segment_size (current_of log) (machine_of log.accountant)
+
+abbrev pub next_place : {D C : Type 0} → Log D C → ℕ
+next_place log = (position_of log).place
+
+-- the place behind the stable end
+abbrev pub synced_end : {D C : Type 0} → Log D C → ℕ
+synced_end log = log.site.place + log.buffer.written_len
+
+-- the place behind the greatest record that was reserved; before the first reservation that is the place behind the stable end with which the log began
+abbrev pub reserved_end : {D C : Type 0} → Log D C → ℕ
+reserved_end log = log.reserved_to
+
+-- how many pins are out
+abbrev pub pins_of : {D C : Type 0} → Log D C → ℕ
+pins_of log = log.pins
+
+-- the sealed buffers that aren't on the device, by place
+abbrev pub waiting_of : {D C : Type 0} → Log D C → List BufferAt
+waiting_of log = unwritten (line_of log)
+
+-- no buffer is sealed that isn't written
+abbrev pub NoneSealed : {D C : Type 0} → Log D C → Type 0
+NoneSealed log = waiting_of log ≡ []
+
+-- All before a place is on the device, and what begins there isn't: the first of these buffers, or the current one, which begins there.
+abbrev pub FirstWaits : ℕ → ℕ → List BufferAt → Type 0
+FirstWaits stable begin [] = stable ≡ begin
+FirstWaits stable begin (b ∷ bs) = stable ≡ b.place
+
+-- where the record is put of a page's message with an item of n bytes
+abbrev pub target_of : {D C : Type 0} → Log D C → ℕ → ℕ → Position
+target_of log page n = placed_at (segment_size_of log) (position_of log) page n
+
+-- how long that record is
 abbrev pub size_for : {D C : Type 0} → Log D C → ℕ → ℕ → ℕ
-size_for log page n = record_size (current_segment log) page n
+size_for log page n = size_at (segment_size_of log) (position_of log) page n
 
 -- the message that is reserved next for an item of these bytes
 abbrev pub message_for : {D C : Type 0} → Log D C → LogKind → ℕ → List ℕ → Message
-message_for log kind page bytes = record { kind = kind; page = page; place = next_place log; pointer = Inline (log.site.slot + length log.buffer.bytes.items); size = size_for log page (length bytes); bytes = bytes }
+message_for log kind page bytes =
+    let q = target_of log page (length bytes) in
+    record { kind = kind; page = page; place = q.place; pointer = pointer_at q; size = size_for log page (length bytes); bytes = bytes }
+
+-- where the next record may begin behind that one
+abbrev pub position_behind : {D C : Type 0} → Log D C → ℕ → ℕ → Position
+position_behind log page n = behind_record (segment_size_of log) (target_of log page n) (size_for log page n)
 
 -- the page of manifests
 abbrev pub manifest_page : ℕ
 manifest_page = 2 ^ 64 - 667
 
--- A message with an item of n bytes fits inline into what is left of the segment.
-pub record HasRoom {D C : Type 0} (log : Log D C) (page n : ℕ) : Type 0 where
-  pub inline : 32 + n ≤ segment_size_of log / 4 - 20
-  pub record_fits : next_place log + size_for log page n ≤ log.site.place + segment_size_of log
-  pub not_used_up : next_place log + 32 ≤ log.site.place + segment_size_of log
+-- a message with an item of n bytes has it inline
+abbrev pub FitsInline : ℕ → ℕ → Type 0
+FitsInline size n = 32 + n ≤ size / 4 - 20
+
+-- no further segment ends in reach, in the log and in the file
+abbrev pub NoFurther : {D C : Type 0} → Log D C → Type 0
+NoFurther log = MayHandOut log.config.config.segment_size ((current_of log).parts.site.place + log.config.config.segment_size) (machine_of log.accountant) → ⊥
+
+-- a record needs a further segment
+abbrev pub is_moved : {D C : Type 0} → Log D C → ℕ → ℕ → Bool
+is_moved log page n = nat_le ((current_of log).parts.site.place + segment_size_of log) (target_of log page n).place
+
+-- It does, and there is none in reach.
+abbrev pub IsUsedUpFor : {D C : Type 0} → Log D C → ℕ → ℕ → Type 0
+IsUsedUpFor log page n = (is_moved log page n ≡ true) × NoFurther log
+
+-- how many reservations are open or abandoned of the buffer that the record would be of
+abbrev pub open_for : {D C : Type 0} → Log D C → ℕ → ℕ → ℕ
+open_for log page n = if is_moved log page n then 0 else open_of log
+
+-- the sealed buffers that aren't on the device behind that reservation: where it needs a further segment, the current one with what fills its segment is among them
+abbrev pub waiting_behind : {D C : Type 0} → (List ℕ → ℕ) → Log D C → ℕ → ℕ → List BufferAt
+waiting_behind sum log page n = if is_moved log page n then unwritten (at_last (closed_now sum (segment_size_of log)) (line_of log)) else waiting_of log
+
+-- where the current buffer begins
+abbrev pub current_begin : {D C : Type 0} → Log D C → ℕ
+current_begin log = (current_of log).parts.site.place + begin_of (current_of log)
+
+abbrev pub start_of : {D C : Type 0} → Log D C → BufferStart
+start_of log = start_in (current_of log)
+
+-- where it begins behind a reservation: with the next segment, where the record needs one
+abbrev pub start_behind : {D C : Type 0} → Log D C → ℕ → ℕ → BufferStart
+start_behind log page n =
+    if is_moved log page n then record { place = (current_of log).parts.site.place + segment_size_of log; lid = next_slot (machine_of log.accountant) * segment_size_of log }
+    else start_of log
+
+-- To seal the current buffer takes a further segment, since no further record has room in its own, and there is none in reach.
+abbrev pub IsUsedUp : {D C : Type 0} → Log D C → Type 0
+IsUsedUp log = (is_short log.config.config.segment_size (length (current_of log).parts.bytes) ≡ true) × NoFurther log
+
+-- so it is with a call that seals it where it begins below a place, where it has that place, or where it holds anything
+abbrev pub IsUsedUpBelow : {D C : Type 0} → Log D C → ℕ → Type 0
+IsUsedUpBelow log to = (current_begin log < to) × IsUsedUp log
 
 -- A ticket is for an open reservation of the log, which keeps the place of this message.
-pub record Awaits {D C : Type 0} (log : Log D C) (ticket : Reservation) (m : Message) : Type 0 where
+pub record AwaitsIn (line : List SegmentView) (ticket : Reservation) (m : Message) : Type 0 where
+  -- which segment it is of, and which of its reservations
+  pub number : ℕ
+  pub segment : SegmentView
+  pub among : slice_get line number ≡ Some segment
   pub reserved : Reserved
-  pub numbered : log.buffer.gone ≤ index_of ticket
-  pub there : slice_get log.buffer.reserved.items (index_of ticket - log.buffer.gone) ≡ Some reserved
-  pub own : IsFor log.site reserved ticket
-  pub message : m ≡ message_in log.site log.buffer.bytes.items reserved
+  pub numbered : segment.gone ≤ index_of ticket
+  pub there : slice_get segment.parts.reserved (index_of ticket - segment.gone) ≡ Some reserved
+  pub own : IsFor segment.parts.site reserved ticket
+  pub message : m ≡ message_in segment.parts.site segment.parts.bytes reserved
+
+abbrev pub Awaits : {D C : Type 0} → Log D C → Reservation → Message → Type 0
+Awaits log ticket m = AwaitsIn (line_of log) ticket m
 
 -- a ticket is for an open reservation of the log
 abbrev pub IsOpen : {D C : Type 0} → Log D C → Reservation → Type 0
 IsOpen log ticket = (m : Message) × Awaits log ticket m
 
+-- no reservation of these segments is open or abandoned
+abbrev pub NoneOpenIn : List SegmentView → Type 0
+NoneOpenIn line = (n : ℕ) (v : SegmentView) → slice_get line n ≡ Some v → none_open v.parts.reserved ≡ true
+
 -- no reservation of the log is open or abandoned
 abbrev pub NoneOpen : {D C : Type 0} → Log D C → Type 0
-NoneOpen log = none_open log.buffer.reserved.items ≡ true
+NoneOpen log = NoneOpenIn (line_of log)
 
--- no reservation of the log is open or abandoned, but for the one that the ticket is for
+-- none is, but for the one that the ticket is for
+abbrev pub IsOnlyOpenIn : List SegmentView → Reservation → Type 0
+IsOnlyOpenIn line ticket = (n : ℕ) (v : SegmentView) (i : ℕ) (r : Reserved) → slice_get line n ≡ Some v → slice_get v.parts.reserved i ≡ Some r → r.state ≡ Open → pos (v.parts.site.place + r.from) ≡ place_of ticket
+
 abbrev pub IsOnlyOpen : {D C : Type 0} → Log D C → Reservation → Type 0
-IsOnlyOpen log ticket = (i : ℕ) (r : Reserved) → slice_get log.buffer.reserved.items i ≡ Some r → r.state ≡ Open → log.buffer.gone + i ≡ index_of ticket
+IsOnlyOpen log ticket = IsOnlyOpenIn (line_of log) ticket
 
 -- What a log has of its current segment over its device: the size of segments, where this one lies, what is on the device, the failure that the log keeps, the bytes, how many of them were written, the buffers that were sealed since, and the reservations since.
 pub record LogParts : Type 0 where
@@ -143,25 +221,9 @@ log_parts size site device fault bytes written_len sealed reserved = record {
   reserved = reserved;
 }
 
--- What a log has of a segment that was begun behind the first one: where it lies, its bytes, how many of them were written without a gap, the buffers that were sealed since, and the reservations since.
-pub record SegmentParts : Type 0 where
-  pub site : SegmentPosition
-  pub bytes : List ℕ
-  pub written_len : ℕ
-  pub sealed : List Sealed
-  pub reserved : List Reserved
-
--- what it has of a segment that was begun behind the first one
-abbrev pub segment_parts : SegmentBuffer → SegmentParts
-segment_parts s = record { site = s.site; bytes = s.buffer.bytes.items; written_len = s.buffer.written_len; sealed = s.buffer.sealed.items; reserved = s.buffer.reserved.items }
-
--- and of all of these
-abbrev pub behind_of : {D C : Type 0} → Log D C → List SegmentParts
-behind_of log = map segment_parts log.behind.items
-
--- what a log has, where its device has this trace
-abbrev pub parts_of : {D C : Type 0} → (D → Trace) → Log D C → LogParts
-parts_of trace log = log_parts log.config.config.segment_size log.site (state_of (trace log.config.device)) log.fault log.buffer.bytes.items log.buffer.written_len log.buffer.sealed.items log.buffer.reserved.items
+-- what a log has of a segment, but for how many reservations have gone
+abbrev pub parts_in : SegmentView → SegmentParts
+parts_in v = v.parts
 
 -- The log file has these messages, and those that stay of earlier segments, and all of it is settled, so that a crash leaves just that.
 pub record IsOnDevice (sum : List ℕ → ℕ) (size : ℕ) (device : LogState) (site : SegmentPosition) (from : ℕ) (messages : List Message) (stays : Message → Type 0) : Type 0 where
@@ -244,11 +306,21 @@ pub record HoldsIn (sum : List ℕ → ℕ) (parts : LogParts) (behind : List Se
   pub others : HoldBehind sum parts.size parts.device parts.fault (parts.site.place + parts.size) behind (StaysBelow H (stable_place begun.first.stable) parts.site.place) H.batches later
   pub apart : FollowApart parts.site (map begun_segment behind)
 
+-- Segments one behind another hold a history, over a device.
+abbrev pub HoldsLine : (List ℕ → ℕ) → ℕ → State → Option IoError → List SegmentView → History → Type 0
+HoldsLine sum size device fault [] H = ⊥
+HoldsLine sum size device fault (v ∷ vs) H = HoldsIn sum (log_parts size v.parts.site device fault v.parts.bytes v.parts.written_len v.parts.sealed v.parts.reserved) (map parts_in vs) H
+
+-- So do those of a log whose slots are these: theirs are taken, and the free ones have zeros.
+pub record HoldsWith (sum : List ℕ → ℕ) (size : ℕ) (device : State) (fault : Option IoError) (line : List SegmentView) (m : Machine) (H : History) : Type 0 where
+  pub holds : HoldsLine sum size device fault line H
+  pub slots : HasSlots size line device.log.bytes fault m
+
 -- The log holds this history.
 unfoldable pub Holds : {D C : Type 0} → (D → Trace) → (List ℕ → ℕ) → Log D C → History → Type 0
-Holds trace sum log H = HoldsIn sum (parts_of trace log) (behind_of log) H
+Holds trace sum log H = HoldsWith sum log.config.config.segment_size (state_of (trace log.config.device)) log.fault (line_of log) (machine_of log.accountant) H
 
--- A log has the record of a message: it is of the current segment, or an entry of the table of all that was written, or of that and more.
+-- A log has the record of a message: it is of a segment that isn't wholly on the device, or an entry of the table of all that was written, or of that and more.
 abbrev pub HasRecordOf : {D C : Type 0} → Log D C → History → Message → Type 0
 HasRecordOf log H m = (log.site.place ≤ m.place) ⊎ ((cut : ℕ) × (synced_end log ≤ cut) × Contains (table H cut m.page) m)
 
@@ -270,106 +342,44 @@ pub record IsKept (sum : List ℕ → ℕ) (size : ℕ) (site : SegmentPosition)
 abbrev pub IsWritten : {D C : Type 0} → (D → Trace) → (List ℕ → ℕ) → Log D C → History → Type 0
 IsWritten trace sum log H = IsKept sum log.config.config.segment_size log.site log.buffer.written_len (state_of (trace log.config.device)) H
 
--- the buffers of a segment behind what was written, with the current one where it has a reservation
-abbrev pub buffers_of : List ℕ → List Sealed → List Reserved → List Sealed
-buffers_of bytes bs rs = bs ++ current_buffer (length bytes) (drop (sealed_count bs) rs)
+-- all buffers that aren't on the device, by place, with the current one as it would be sealed
+abbrev pub buffers_of : {D C : Type 0} → (List ℕ → ℕ) → Log D C → List BufferAt
+buffers_of sum log = buffers_in sum log.config.config.segment_size (line_of log)
 
--- The calls that write what is not written yet of the buffers that begin below an offset of the segment, and settle it, buffer by buffer, up to the first that has an open reservation; where nothing was reserved there are none.
-abbrev pub writing_below : {D C : Type 0} → Log D C → ℕ → List Event
-writing_below log to = ready_writes log.site.slot log.buffer.bytes.items to log.buffer.written_len (buffers_of log.buffer.bytes.items log.buffer.sealed.items log.buffer.reserved.items)
+-- The buffers of a log are those that they were, and behind them at most those that begin at or behind all that was reserved: the header of a segment that was begun is one.
+pub record AddsBuffers {D C : Type 0} (sum : List ℕ → ℕ) (old new : Log D C) : Type 0 where
+  pub more : List BufferAt
+  pub is : buffers_of sum new ≡ buffers_of sum old ++ more
+  pub behind : All (λ (b : BufferAt). reserved_end old ≤ b.place) more
 
--- the writes of the buffers that aren't written, the current one among them
-abbrev pub writes_of : {D C : Type 0} → Log D C → List Event
-writes_of log = buffer_writes log.site.slot log.buffer.bytes.items log.buffer.written_len (buffers_of log.buffer.bytes.items log.buffer.sealed.items log.buffer.reserved.items)
-
--- how much of the segment was written without a gap
-abbrev pub synced_len : {D C : Type 0} → Log D C → ℕ
-synced_len log = log.buffer.written_len
-
--- its sealed buffers, the first of which isn't written, by place
-abbrev pub sealed_of : {D C : Type 0} → Log D C → List Sealed
-sealed_of log = log.buffer.sealed.items
-
--- these, with the current buffer once it is sealed, where it holds anything
-abbrev pub sealed_with_current : {D C : Type 0} → Log D C → List Sealed
-sealed_with_current log =
-    if nat_lt (sealed_end log.buffer.written_len log.buffer.sealed.items) (length log.buffer.bytes.items)
-    then log.buffer.sealed.items ++ seal_at (length log.buffer.bytes.items) (current_reserved log) ∷ []
-    else log.buffer.sealed.items
-
--- the calls that write the sealed buffer at an index and settle it
-abbrev pub writing_buffer : {D C : Type 0} → Log D C → ℕ → List Event
-writing_buffer log k =
-    let from = sealed_end log.buffer.written_len (take k log.buffer.sealed.items) in
-    writing (log.site.slot + from) (bytes_between log.buffer.bytes.items from (sealed_end log.buffer.written_len (take (k + 1) log.buffer.sealed.items))) []
-
--- those that write all that isn't written, as one buffer, and settle it
-abbrev pub writing_current : {D C : Type 0} → Log D C → List Event
-writing_current log = writing (log.site.slot + log.buffer.written_len) (drop log.buffer.written_len log.buffer.bytes.items) []
-
--- the first sealed buffer begins below an offset of the segment, and can be written
-abbrev pub ready_below : {D C : Type 0} → Log D C → ℕ → Bool
-ready_below log to = if nat_lt log.buffer.written_len to then first_ready log.buffer.sealed.items else false
-
--- a buffer has the bytes and reservations that it had, and so much of it is written
-pub record KeepsReserved (old new : IoBuf) : Type 0 where
-  pub from : new.written_len ≡ old.written_len
-  pub reserved : new.reserved.items ≡ old.reserved.items
-  pub gone : new.gone ≡ old.gone
-  pub bytes : new.bytes.items ≡ old.bytes.items
-
--- a buffer has what it had
-pub record SameBuffer (old new : IoBuf) : Type 0 where
-  pub sealed : new.sealed.items ≡ old.sealed.items
-  pub from : new.written_len ≡ old.written_len
-  pub reserved : new.reserved.items ≡ old.reserved.items
-  pub gone : new.gone ≡ old.gone
-  pub bytes : new.bytes.items ≡ old.bytes.items
-
--- One of the sealed buffers is written: those at the front that are have gone, with their reservations.
-pub record IsWrittenAt (k : ℕ) (old new : IoBuf) : Type 0 where
-  pub sealed : new.sealed.items ≡ behind_run (written_at k old.sealed.items)
-  pub from : new.written_len ≡ run_end old.written_len (written_at k old.sealed.items)
-  pub reserved : new.reserved.items ≡ drop (run_count (written_at k old.sealed.items)) old.reserved.items
-  pub gone : new.gone ≡ old.gone + run_count (written_at k old.sealed.items)
-  pub bytes : new.bytes.items ≡ old.bytes.items
-
--- how much of the segment was reserved; before the first reservation that is what was written
-abbrev pub reserved_len : {D C : Type 0} → Log D C → ℕ
-reserved_len log = end_reserved log.buffer.written_len (length log.buffer.bytes.items) log.buffer.reserved.items
+-- The calls that write those that begin below a place, and settle each, up to the first that has an open reservation.
+abbrev pub writing_below : {D C : Type 0} → (List ℕ → ℕ) → Log D C → ℕ → List Event
+writing_below sum log to = writes_below to (buffers_of sum log)
 
 -- the same for all that was reserved
-abbrev pub flushing : {D C : Type 0} → Log D C → List Event
-flushing log = writing_below log (reserved_len log)
+abbrev pub flushing : {D C : Type 0} → (List ℕ → ℕ) → Log D C → List Event
+flushing sum log = writing_below sum log (reserved_end log)
 
--- where the first open reservation begins of the buffers that begin below an offset of the segment
-abbrev pub held_below : {D C : Type 0} → Log D C → ℕ → Option ℕ
-held_below log to = first_open_in (reserved_below to log.buffer.written_len log.buffer.sealed.items log.buffer.reserved.items)
+-- the least place of the open reservations of those that begin below a place
+abbrev pub holding_below : {D C : Type 0} → (List ℕ → ℕ) → Log D C → ℕ → Option ℕ
+holding_below sum log to = held_below to (buffers_of sum log)
 
 -- how many sealed buffers can be written
 abbrev pub pending_of : {D C : Type 0} → Log D C → ℕ
-pending_of log = ready_count log.buffer.sealed.items
+pending_of log = pending_in (waiting_of log)
 
 -- the calls that write the i-th of these and settle it
 abbrev pub writing_pending : {D C : Type 0} → Log D C → ℕ → List Event
-writing_pending log i = ready_write log.site.slot log.buffer.bytes.items log.buffer.written_len i log.buffer.sealed.items
-
--- how much of the segment is in buffers that are written or sealed
-abbrev pub sealed_len : {D C : Type 0} → Log D C → ℕ
-sealed_len log = sealed_end log.buffer.written_len log.buffer.sealed.items
-
--- the place where the current buffer begins
-abbrev pub current_begin : {D C : Type 0} → Log D C → ℕ
-current_begin log = log.site.place + sealed_len log
-
--- The i-th of them is written: the stable end lies behind those at the front that are written now, and these have gone.
-pub record HasWrittenPending {D C : Type 0} (i : ℕ) (old new : Log D C) : Type 0 where
-  pub stable : synced_len new ≡ run_end (synced_len old) (ready_marked i (sealed_of old))
-  pub left : sealed_of new ≡ behind_run (ready_marked i (sealed_of old))
+writing_pending log i = write_pending i (waiting_of log)
 
 -- how many bytes the current buffer has; the header of its segment counts
 abbrev pub held_len : {D C : Type 0} → Log D C → ℕ
-held_len log = length log.buffer.bytes.items - sealed_len log
+held_len log = length (current_of log).parts.bytes - begin_of (current_of log)
+
+-- where the current buffer ends once it is sealed: where no further record has room behind it, with its segment
+abbrev pub sealing_end : {D C : Type 0} → Log D C → ℕ
+sealing_end log = (current_of log).parts.site.place
+    + (if is_short log.config.config.segment_size (length (current_of log).parts.bytes) then log.config.config.segment_size else length (current_of log).parts.bytes)
 
 -- tickets are for what they were for, and where no reservation was open none is
 pub record KeepsTickets {D C : Type 0} (old new : Log D C) : Type 0 where
@@ -378,15 +388,11 @@ pub record KeepsTickets {D C : Type 0} (old new : Log D C) : Type 0 where
 
 -- nothing that a caller sees of the log is another
 pub record IsUnchanged {D C : Type 0} (old new : Log D C) : Type 0 where
-  pub bytes : new.buffer.bytes.items ≡ old.buffer.bytes.items
-  pub from : new.buffer.written_len ≡ old.buffer.written_len
-  pub reserved : new.buffer.reserved.items ≡ old.buffer.reserved.items
-  pub gone : new.buffer.gone ≡ old.buffer.gone
-  pub sealed : new.buffer.sealed.items ≡ old.buffer.sealed.items
+  pub line : line_of new ≡ line_of old
+  pub reserved : new.reserved_to ≡ old.reserved_to
   pub fault : new.fault ≡ old.fault
   pub pins : new.pins ≡ old.pins
-  pub site : new.site ≡ old.site
-  pub accountant : new.accountant ≡ old.accountant
+  pub machine : machine_at new ≡ machine_at old
   pub config : new.config ≡ old.config
 
 -- what the log runs on
@@ -397,15 +403,14 @@ config_of log = log.config
 abbrev pub device_of : {D C : Type 0} → Log D C → D
 device_of log = log.config.device
 
--- the accountant of segments
-abbrev pub accountant_of : {D C : Type 0} → Log D C → SegmentAccountant
-accountant_of log = log.accountant
-
--- what runs the log, what is written of it, its failure, its pins and its accountant stay
+-- what runs the log, what is written of it, its failure and its pins stay
 pub record KeepsAll {D C : Type 0} (old new : Log D C) : Type 0 where
   pub config : config_of new ≡ config_of old
   pub synced : synced_end new ≡ synced_end old
   pub fault : fault_of new ≡ fault_of old
   pub pins : pins_of new ≡ pins_of old
-  pub site : site_of new ≡ site_of old
-  pub accountant : accountant_of new ≡ accountant_of old
+
+-- the sealed buffers that aren't on the device lie where they lay, and the current one begins where it did
+pub record KeepsBuffers {D C : Type 0} (old new : Log D C) : Type 0 where
+  pub waiting : spans (waiting_of new) ≡ spans (waiting_of old)
+  pub start : start_of new ≡ start_of old

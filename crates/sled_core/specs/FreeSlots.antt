@@ -1,10 +1,11 @@
 -- Which slots an accountant may still hand out once a log has begun, and what stands in them.
-use Rattle.std.specs.Prelude.{◌≡◌, ◌+◌, ◌*◌, ℕ, true, false, List, Option, None, Some}
+use Rattle.std.specs.Prelude.{◌≡◌, ◌+◌, ◌*◌, ℕ, true, false, List, Option, None, Some, All}
 use Rattle.std.specs.declared.io.Error.{Error as IoError}
 use Rattle.sled_codec.specs.Snapshots.{SnapshotModel, stable_place}
 use Rattle.sled_store.specs.Begin.{place_at}
 use Rattle.sled_store.specs.SegmentStates.{Machine, handed_out, is_free, slot_at}
 use Rattle.sled_store.specs.Started.{started}
+use Rattle.sled_core.specs.Begun.{SegmentView}
 use Rattle.sled_core.specs.SealedBuffers.{AreZeros}
 
 -- the segment in which a log begins has a slot: that of the active one, or else the next one is handed out for it
@@ -20,10 +21,14 @@ begun_machine size len s = with_current (place_at size (stable_place s.stable) s
 abbrev pub FreeAreZeros : ℕ → List ℕ → Machine → Type 0
 FreeAreZeros size log m = (k : ℕ) → is_free (slot_at m k).state ≡ true → AreZeros log (k * size) (k * size + size)
 
--- A log whose current segment lies at an offset of its file: where it keeps no failure the free slots have zeros, and the slot of that segment isn't free, so that a write to it leaves them alone.
-pub record HasSlots (size slot : ℕ) (log : List ℕ) (fault : Option IoError) (m : Machine) : Type 0 where
+-- the slot of a segment isn't free, so a write to it leaves those that are alone
+pub record HasSlot (size : ℕ) (m : Machine) (v : SegmentView) : Type 0 where
   -- the slot, counted from 0
   pub number : ℕ
-  pub lies : slot ≡ number * size
+  pub lies : v.parts.site.slot ≡ number * size
   pub taken : is_free (slot_at m number).state ≡ false
+
+-- A log with these segments: where it keeps no failure the free slots have zeros, and the slots of its segments aren't free.
+pub record HasSlots (size : ℕ) (line : List SegmentView) (log : List ℕ) (fault : Option IoError) (m : Machine) : Type 0 where
+  pub taken : All (HasSlot size m) line
   pub zeros : fault ≡ None → FreeAreZeros size log m

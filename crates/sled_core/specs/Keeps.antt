@@ -1,5 +1,5 @@
 -- What a call keeps of a log, and of what it runs on, said once for all of them.
-use Rattle.std.specs.Prelude.{◌≡◌, ◌≤◌, ℕ, List, Result, OnErr}
+use Rattle.std.specs.Prelude.{◌≡◌, ◌⊎◌, ◌≤◌, ◌+◌, ◌*◌, nat_lt, if◌then◌else◌, ℕ, List, length, drop, Result, OnErr, OnOk}
 use Rattle.sled_codec.specs.declared.result.Error.{Error}
 use Rattle.sled_core.specs.Causes.{IsHeld}
 use Rattle.sled_codec.specs.History.{Message, History}
@@ -7,7 +7,10 @@ use Rattle.sled_store.specs.declared.config.RunningConfig.{RunningConfig}
 use Rattle.sled_store.specs.Device.{Trace}
 use Rattle.sled_store.specs.Moments.{IsLater, LeavesOnly}
 use Rattle.sled_core.specs.declared.logger.Log.{Log}
-use Rattle.sled_core.specs.Fits.{Holds, NoneOpen, NoneSealed, config_of, device_of, next_place, pins_of, sealed_len, segment_size_of, site_of, synced_end}
+use Rattle.sled_core.specs.Fits.{Holds, NoneSealed, buffers_of, config_of, current_begin, current_of, device_of, machine_at, pins_of, position_of, reserved_end, segment_size_of, start_of, synced_end, waiting_of}
+use Rattle.sled_store.specs.SegmentStates.{next_slot}
+use Rattle.sled_core.specs.Positions.{is_short}
+use Rattle.sled_core.specs.Waiting.{BufferAt, BufferStart, not_below}
 use Rattle.sled_core.specs.Recoverable.{RecoverableIfOwn}
 use Rattle.sled_core.specs.Running.{Fits}
 
@@ -36,15 +39,47 @@ pub record Preserves {D C : Type 0} (trace : D → Trace) (sum : List ℕ → �
   pub history : (H : History) → Holds trace sum old H → Holds trace sum new H
   pub fits : (H : History) (A f : ℕ) (U : List Message) → Fits trace sum old H A f U → Fits trace sum new H A f U
 
--- What a call that writes up to an offset of the segment seals: what begins below it, where it is held, and nothing where no reservation is open. Where no buffer was sealed, nothing is written by one that fails.
+-- What a call that writes up to a place seals: what begins below it, where it is held, and nothing where it succeeds and no reservation is open. Where no buffer was sealed, nothing is written by one that fails.
 pub record SealsBelow {T D C : Type 0} (result : Result T Error) (to : ℕ) (old new : Log D C) : Type 0 where
-  pub held : IsHeld result → to ≤ sealed_len new
-  pub none : NoneSealed old → NoneOpen old → NoneSealed new
+  pub held : IsHeld result → to ≤ current_begin new
+  pub none : NoneSealed old → OnOk result (NoneSealed new)
   pub err : NoneSealed old → OnErr result (synced_end new ≡ synced_end old)
 
--- The next record begins where it would have begun, in the same segment, and as many pins are out.
+-- The next record begins where it would have begun, what was reserved ends where it did, and as many pins are out.
 pub record SamePosition {D C : Type 0} (old new : Log D C) : Type 0 where
-  pub next : next_place new ≡ next_place old
+  pub position : position_of new ≡ position_of old
+  pub reserved : reserved_end new ≡ reserved_end old
   pub pins : pins_of new ≡ pins_of old
-  pub site : site_of new ≡ site_of old
   pub size : segment_size_of new ≡ segment_size_of old
+
+-- where the current buffer begins once it is sealed: behind itself, or with the next segment, where no further record has room in its own
+abbrev pub start_sealed : {D C : Type 0} → Log D C → BufferStart
+start_sealed log =
+    if is_short (segment_size_of log) (length (current_of log).parts.bytes)
+    then record { place = (current_of log).parts.site.place + segment_size_of log; lid = next_slot (machine_at log) * segment_size_of log }
+    else record { place = (current_of log).parts.site.place + length (current_of log).parts.bytes; lid = (current_of log).parts.site.slot + length (current_of log).parts.bytes }
+
+-- the sealed buffers, once those that begin below a place are sealed
+abbrev pub sealed_for : {D C : Type 0} → (List ℕ → ℕ) → ℕ → Log D C → List BufferAt
+sealed_for sum to log = if nat_lt (current_begin log) to then buffers_of sum log else waiting_of log
+
+-- and where the current one begins then
+abbrev pub start_for : {D C : Type 0} → ℕ → Log D C → BufferStart
+start_for to log = if nat_lt (current_begin log) to then start_sealed log else start_of log
+
+-- A call wrote the buffers that begin below a place, and no others.
+pub record LeavesAbove {D C : Type 0} (sum : List ℕ → ℕ) (to : ℕ) (old new : Log D C) : Type 0 where
+  pub left : waiting_of new ≡ not_below to (sealed_for sum to old)
+  pub start : start_of new ≡ start_for to old
+
+-- It failed: nothing was sealed and written, or those that begin below the place are sealed, and so many at the front are written.
+abbrev pub LeavesSome : {D C : Type 0} → (List ℕ → ℕ) → ℕ → Log D C → Log D C → Type 0
+LeavesSome sum to old new =
+    ((waiting_of new ≡ waiting_of old) × (start_of new ≡ start_of old))
+    ⊎ ((n : ℕ) × (waiting_of new ≡ drop n (sealed_for sum to old)) × (start_of new ≡ start_for to old))
+
+-- What a call that writes up to a place seals and writes.
+pub record WritesBelow {T D C : Type 0} (sum : List ℕ → ℕ) (result : Result T Error) (to : ℕ) (old new : Log D C) : Type 0 where
+  pub seals : SealsBelow result to old new
+  pub above : OnOk result (LeavesAbove sum to old new)
+  pub some : OnErr result (LeavesSome sum to old new)

@@ -12,6 +12,7 @@ pub mod Good
 pub mod Keeps
 pub mod LogFile
 pub mod Own
+pub mod Positions
 pub mod Reached
 pub mod ReadBuffer
 pub mod Reading
@@ -27,3 +28,5 @@ pub mod Starts
 pub mod Synced
 pub mod Tail
 pub mod Tickets
+pub mod Turned
+pub mod Waiting

@@ -1,18 +1,19 @@
 -- The invariant of a running log, and what a recovery leaves for it: over a history, the end of what was acknowledged, the floor, and the completed messages that were not marked yet.
-use Rattle.std.specs.Prelude.{◌≡◌, ◌≢◌, ◌≤◌, ◌<◌, ◌<ℤ◌, ◌+◌, nat_lt, max, if◌then◌else◌, ℕ, ℤ, pos, List, [], ◌∷◌, map, take, All, Option, None, Contains}
+use Rattle.std.specs.declared.io.Error.{Error as IoError}
+use Rattle.std.specs.Prelude.{◌≡◌, ◌≢◌, ◌≤◌, ◌<◌, ◌<ℤ◌, ◌+◌, nat_lt, max, if◌then◌else◌, ℕ, ℤ, pos, List, [], ◌∷◌, map, take, Option, None, Contains}
 use Rattle.sled_codec.specs.declared.serialization.message.MessageKind.{MessageKind}
 use Rattle.sled_codec.specs.History.{Message, Batch, History}
 use Rattle.sled_codec.specs.Record.{IsHeader}
 use Rattle.sled_codec.specs.Snapshots.{SnapshotModel, stable_place}
 use Rattle.sled_store.specs.Accounts.{machine_of}
 use Rattle.sled_store.specs.Blobs.{IsBlob}
-use Rattle.sled_store.specs.Device.{Trace, NamesState, State, LeavesName}
+use Rattle.sled_store.specs.Device.{Trace, NamesState, State, LeavesName, state_of}
 use Rattle.sled_store.specs.Foreign.{NoForeignNames}
 use Rattle.sled_store.specs.SegmentStates.{Machine}
 use Rattle.sled_store.specs.SnapshotFiles.{IsSnapshotFile}
 use Rattle.sled_core.specs.declared.logger.Log.{Log}
-use Rattle.sled_core.specs.Buffers.{NoPadding}
-use Rattle.sled_core.specs.Fits.{CloseBelow, LogParts, SegmentParts, begun_segment, behind_of, parts_of, HoldsIn}
+use Rattle.sled_core.specs.Begun.{SegmentParts, SegmentView}
+use Rattle.sled_core.specs.Fits.{CloseBelow, LogParts, begun_segment, line_of, log_parts, parts_in, HoldsIn}
 use Rattle.sled_core.specs.FreeSlots.{HasSlots}
 use Rattle.sled_core.specs.Recoverable.{ActiveFits, AreRecoverableSnapshots, AreRecoverableBlobs, NoHeaderOfZeros, LeavesRecoverable}
 use Rattle.sled_core.specs.Reached.{StandsAmong, StandsActive}
@@ -64,17 +65,20 @@ pub record FitsIn (sum : List ℕ → ℕ) (parts : LogParts) (behind : List Seg
   -- what a crash leaves now can be recovered, with all that is written counted as acknowledged
   pub left : LeavesRecoverable sum parts.size H reach f parts.device
 
--- What a log of these parts, with an accountant of this machine, has to do with them: up to where a reader comes it fits them, and the free slots have zeros.
-pub record FitsWith (sum : List ℕ → ℕ) (log : LogParts) (behind : List SegmentParts) (pins : ℕ) (m : Machine) (H : History) (A f : ℕ) (U : List Message) : Type 0 where
+-- Segments one behind another fit them, as far as a reader comes.
+abbrev pub FitsLine : (List ℕ → ℕ) → ℕ → State → Option IoError → List SegmentView → ℕ → ℕ → History → ℕ → ℕ → List Message → Type 0
+FitsLine sum size device fault [] reach pins H A f U = ⊥
+FitsLine sum size device fault (v ∷ vs) reach pins H A f U = FitsIn sum (log_parts size v.parts.site device fault v.parts.bytes v.parts.written_len v.parts.sealed v.parts.reserved) (map parts_in vs) reach pins H A f U
+
+-- So do those of a log whose slots are these.
+pub record FitsWith (sum : List ℕ → ℕ) (size : ℕ) (device : State) (fault : Option IoError) (line : List SegmentView) (m : Machine) (pins : ℕ) (H : History) (A f : ℕ) (U : List Message) : Type 0 where
   pub reach : ℕ
-  pub parts : FitsIn sum log behind reach pins H A f U
-  -- nothing fills the first segment, until a log begins further ones
-  pub plain : All NoPadding log.reserved
-  pub slots : HasSlots log.size log.site.slot log.device.log.bytes log.fault m
+  pub parts : FitsLine sum size device fault line reach pins H A f U
+  pub slots : HasSlots size line device.log.bytes fault m
 
 -- The log fits this history, the end of what was acknowledged, the floor and the messages that were not marked yet.
 unfoldable pub Fits : {D C : Type 0} → (D → Trace) → (List ℕ → ℕ) → Log D C → History → ℕ → ℕ → List Message → Type 0
-Fits trace sum log H A f U = FitsWith sum (parts_of trace log) (behind_of log) log.pins (machine_of log.accountant) H A f U
+Fits trace sum log H A f U = FitsWith sum log.config.config.segment_size (state_of (trace log.config.device)) log.fault (line_of log) (machine_of log.accountant) log.pins H A f U
 
 -- Snapshot and device are ready for a log that fits this history, the end of what was acknowledged and the floor.
 pub record IsReadyFor (sum : List ℕ → ℕ) (size : ℕ) (device : State) (s : SnapshotModel) (H : History) (A f : ℕ) : Type 0 where

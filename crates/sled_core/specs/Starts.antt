@@ -1,5 +1,5 @@
 -- What the start of a log leaves.
-use Rattle.std.specs.Prelude.{◌≡◌, ◌+◌, ℕ, max, None, Result, Ok, Err}
+use Rattle.std.specs.Prelude.{◌≡◌, ◌+◌, if◌then◌else◌, ℕ, max, None, Result, Ok, Err}
 use Rattle.sled_codec.specs.declared.result.Error.{Error}
 use Rattle.sled_codec.specs.Snapshots.{SnapshotModel, stable_place}
 use Rattle.sled_store.specs.declared.config.RunningConfig.{RunningConfig}
@@ -7,7 +7,10 @@ use Rattle.sled_core.specs.declared.iobuf.SegmentPosition.{SegmentPosition}
 use Rattle.sled_core.specs.declared.logger.Log.{Log}
 use Rattle.sled_store.specs.Begin.{beginning_of, offset_at, place_at}
 use Rattle.sled_store.specs.Causes.{StartRefuses}
-use Rattle.sled_core.specs.Fits.{NoneOpen, NoneSealed, config_of, fault_of, next_place, pins_of, segment_size_of, site_of, synced_end}
+use Rattle.sled_core.specs.Fits.{NoneOpen, NoneSealed, config_of, fault_of, pins_of, position_of, reserved_end, segment_size_of, start_of, synced_end}
+use Rattle.sled_core.specs.FreeSlots.{begun_machine}
+use Rattle.sled_core.specs.Positions.{Position, is_short, next_segment_at}
+use Rattle.sled_core.specs.Waiting.{BufferStart}
 
 -- what the log that was started runs on, or what came back where none was
 abbrev pub config_left : {D C : Type 0} → Result (Log D C) (Error × RunningConfig D C) → RunningConfig D C
@@ -18,12 +21,26 @@ config_left (Err e) = e.1
 abbrev pub site_from : ℕ → ℕ → SnapshotModel → SegmentPosition
 site_from size len s = record { place = (beginning_of size len s).place; slot = (beginning_of size len s).slot }
 
+-- where the next record may begin in such a log: behind the header of its segment at least
+abbrev pub position_from : ℕ → ℕ → SnapshotModel → Position
+position_from size len s =
+    let offset = max 20 (offset_at size (stable_place s.stable) s.active) in
+    if is_short size offset then next_segment_at size (site_from size len s).place (begun_machine size len s)
+    else record { place = (site_from size len s).place + offset; begins = (site_from size len s).place; slot = (site_from size len s).slot; machine = begun_machine size len s }
+
+-- where its current buffer begins: there, or at the beginning of a new segment
+abbrev pub start_from : ℕ → ℕ → SnapshotModel → BufferStart
+start_from size len s =
+    let offset = offset_at size (stable_place s.stable) s.active in
+    record { place = (site_from size len s).place + offset; lid = (site_from size len s).slot + offset }
+
 -- The log begins behind what the snapshot has: nothing is reserved in it, no pin is out, and it keeps no failure.
 pub record BeginsBehind {D C : Type 0} (size len : ℕ) (s : SnapshotModel) (log : Log D C) : Type 0 where
-  pub site : site_of log ≡ site_from size len s
   pub synced : synced_end log ≡ place_at size (stable_place s.stable) s.active + offset_at size (stable_place s.stable) s.active
   -- behind the header of its segment at least
-  pub next : next_place log ≡ place_at size (stable_place s.stable) s.active + max 20 (offset_at size (stable_place s.stable) s.active)
+  pub position : position_of log ≡ position_from size len s
+  pub reserved : reserved_end log ≡ synced_end log
+  pub start : start_of log ≡ start_from size len s
   pub ended : NoneOpen log
   pub unsealed : NoneSealed log
   pub pins : pins_of log ≡ 0

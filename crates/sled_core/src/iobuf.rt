@@ -4,20 +4,20 @@ ghost use Rattle.std.specs.Prelude.{◌≡◌, ◌+◌, ◌-◌, ◌<◌, ◌≤
 ghost use Rattle.std.specs.VecDeque.{deque_len, deque_capacity};
 ghost use Rattle.sled_codec.specs.Written.{written};
 ghost use Rattle.sled_core.specs.declared.iobuf.Reserved.{Reserved};
-ghost use Rattle.sled_core.specs.Buffers.{IsChain, IsHeaded, canceling, completing, ended, ending, first_open_in, most_open, open_in, open_state, padding_at, placeholder_head, reserved_for};
-ghost use Rattle.sled_core.specs.Caps.{segment_rest};
+ghost use Rattle.sled_core.specs.Buffers.{IsChain, IsHeaded, canceling, completing, ended, ending, first_open_in, most_open, open_in, open_state, placeholder_head, reserved_for};
 ghost use Rattle.sled_core.specs.SealedBuffers.{AreSealed, FirstUnwritten, one_ended, sealed_count, sealed_end};
 ghost use Rattle.sled_core.specs.SealedProps.{IsChain-prop, AreSealed-prop, FirstUnwritten-prop};
 
+pub(crate) mod closing;
 pub mod intervals;
 pub(crate) mod record;
 pub(crate) mod sealing;
 pub(crate) mod start;
 
-use crate::iobuf::record::{Head, push_item, push_placeholder, push_rest, sum_around, sum_behind};
+use crate::iobuf::record::{Head, push_item, push_placeholder, sum_around, sum_behind};
 use crate::iobuf::sealing::{all_ended, end_sealed};
 use sled_codec::result::{Error, LogOffset, Lsn, PageId, Result};
-use sled_codec::serialization::{Checksum, LogKind, MessageKind, SegmentNumber, Serialize};
+use sled_codec::serialization::{Checksum, LogKind, MessageKind, Serialize};
 use sled_store::segment::MAX_MSG_HEADER_LEN;
 use std::alloc::Global;
 use std::collections::VecDeque;
@@ -136,20 +136,25 @@ pub(crate) struct IoBuf {
 impl IoBuf {
     ghost use Rattle.sled_core.specs.Buffers.{none_open};
 
-    /// The bytes of a segment that has its header alone, with room for so many.
+    /// The bytes of a segment that has its header alone, with room for so many, and for a reservation.
     pub(crate) fn new(alloc: Global, header: &[u8; 20], room: usize) -> Result<IoBuf>
         ensures bytes { IfOk result (λ b. b.bytes.items ≡ header.now) }
         ensures from { IfOk result (λ b. b.written_len ≡ 0) }
         ensures reserved { IfOk result (λ b. b.reserved.items ≡ []) }
         ensures sealed { IfOk result (λ b. b.sealed.items ≡ []) }
+        ensures gone { IfOk result (λ b. b.gone ≡ 0) }
+        ensures room { IfOk result (λ b. room ≤ vec_capacity b.bytes) }
+        ensures place { IfOk result (λ b. 0 < deque_capacity b.reserved) }
         ensures err { IsOkUnless result Error.OutOfMemory }
     {
         let mut bytes = Vec::with_capacity(alloc, room)?;
         bytes.extend_from_slice(header)?;
+        let mut reserved = VecDeque::new(alloc);
+        reserved.reserve(1)?;
         Ok(IoBuf {
             bytes,
             written_len: 0,
-            reserved: VecDeque::new(alloc),
+            reserved,
             gone: 0,
             sealed: VecDeque::new(alloc),
             begin: 0,
@@ -263,41 +268,6 @@ impl IoBuf {
         self.open_count += 1;
     }
 
-    /// Fills a segment of this number and size to its end, behind what is there, and keeps an entry for it.
-    pub(crate) fn pad<C: Checksum>(
-        &mut self,
-        checksum: &C,
-        number: SegmentNumber,
-        size: usize,
-    ) -> Result<()>
-        requires { length self.old.bytes.items < size }
-        ensures bytes { OnOk result (self.new.bytes.items ≡ self.old.bytes.items ++ segment_rest C.sum_of size number.0 (length self.old.bytes.items)) }
-        ensures len { OnOk result (length self.new.bytes.items ≡ size) }
-        ensures reserved { OnOk result (self.new.reserved.items ≡ self.old.reserved.items ++ padding_at size (length self.old.bytes.items) ∷ []) }
-        ensures short { OnErr result (self.new.bytes.items ≡ self.old.bytes.items) }
-        ensures unfilled { OnErr result (self.new.reserved.items ≡ self.old.reserved.items) }
-        ensures from { self.new.written_len ≡ self.old.written_len }
-        ensures gone { self.new.gone ≡ self.old.gone }
-        ensures sealed { self.new.sealed.items ≡ self.old.sealed.items }
-        ensures err { IsOkUnless result Error.OutOfMemory }
-    {
-        let from = self.bytes.len();
-        self.bytes.reserve(size - from)?;
-        self.reserved.reserve(1)?;
-        push_rest(checksum, &mut self.bytes, number, size);
-        self.reserved.push_back_reserved(Reserved {
-            from,
-            header_len: 0,
-            len: size - from,
-            log_kind: LogKind::Skip,
-            kind: MessageKind::Cap,
-            page: 0,
-            sum: 0,
-            state: ReservationState::Padding,
-        });
-        Ok(())
-    }
-
     /// Completes a reservation: stores the flipped sum and the kind in its header.
     pub(crate) fn complete(&mut self, index: usize)
         requires within { index < deque_len self.old.reserved }
@@ -365,22 +335,6 @@ impl IoBuf {
         } else {
             self.open_count -= 1;
         }
-    }
-
-    /// All bytes are on the device now, where no buffer was sealed.
-    pub(crate) fn advance(&mut self)
-        requires none_sealed { self.old.sealed.items ≡ [] }
-        requires ended { none_open self.old.reserved.items ≡ true }
-        ensures bytes { self.new.bytes.items ≡ self.old.bytes.items }
-        ensures from { self.new.written_len ≡ length self.old.bytes.items }
-        ensures reserved { self.new.reserved.items ≡ [] }
-        ensures sealed { self.new.sealed.items ≡ [] }
-    {
-        self.written_len = self.bytes.len();
-        self.begin = self.bytes.len();
-        self.gone += self.reserved.len();
-        self.reserved.clear();
-        self.open_count = 0;
     }
 
     /// How much of the segment is on the device, without a gap.

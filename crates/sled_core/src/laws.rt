@@ -1,6 +1,6 @@
 //! Laws of logs, each the contract of a function that does nothing. A proof cites them by the lemmas of
 //! `proofs/PublicLaws.antt`.
-ghost use Rattle.std.specs.Prelude.{◌≡◌, ◌⊎◌, ◌≤◌, ◌<◌, ◌≤ℤ◌, ◌<ℤ◌, ◌+◌, ◌^◌, ◌∷◌, ℕ, ℤ, pos, List, [], replicate, None, length, ◌-◌, Contains};
+ghost use Rattle.std.specs.Prelude.{◌≡◌, ◌⊎◌, ◌≤◌, ◌<◌, ◌≤ℤ◌, ◌<ℤ◌, ◌+◌, ◌/◌, ◌%◌, ◌^◌, ◌∷◌, ◌++◌, ℕ, ℤ, pos, true, List, [], replicate, None, length, ◌-◌, Contains};
 ghost use Rattle.std.specs.Int.{w64, cast_signed, cast_unsigned};
 ghost use Rattle.std.specs.List.{All};
 ghost use Rattle.sled_codec.specs.History.{Message, Batch, History, no_history};
@@ -8,8 +8,9 @@ ghost use Rattle.sled_codec.specs.Record.{IsHeader};
 ghost use Rattle.sled_codec.specs.WellFormed.{LieApart};
 ghost use Rattle.sled_store.specs.Device.{Trace, State, Left, Leaves, Crashed, state_of, content_of, content_left, at_rest, fresh, Content, Settled, Wrote, Synced, step};
 ghost use Rattle.sled_store.specs.Moments.{IsLater, LeavesOnly};
-ghost use Rattle.sled_codec.specs.Snapshots.{empty_model};
-ghost use Rattle.sled_core.specs.Fits.{Holds, NoneOpen, Awaits, IsUnchanged, IsWritten, next_place, synced_end, device_of, segment_size_of};
+ghost use Rattle.sled_core.specs.Fits.{Awaits, Holds, IsUnchanged, IsWritten, NoneOpen, buffers_of, current_begin, device_of, held_len, is_moved, next_place, reserved_end, sealing_end, segment_size_of, start_behind, start_of, synced_end, waiting_behind, waiting_of};
+ghost use Rattle.sled_codec.specs.Snapshots.{SnapshotModel, empty_model};
+ghost use Rattle.sled_core.specs.Waiting.{HasLength, spans};
 ghost use Rattle.sled_core.specs.Keeps.{GoesOn, Preserves};
 ghost use Rattle.sled_core.specs.Reading.{IsInline};
 ghost use Rattle.sled_core.specs.Ready.{IsReady};
@@ -32,7 +33,8 @@ pub fn a_fitting_log_holds<D: Device, C: Checksum>()
 {}
 
 /// The messages of a history that a log fits lie below its next place, one behind another. Those that are not stable yet
-/// have inline pointers, and so have the messages of tickets.
+/// have inline pointers, and so have the messages of tickets. The places of these, and the end of what was reserved, lie
+/// below 2^63.
 pub fn messages_lie_in_order<D: Device, C: Checksum>()
     ensures below { (log : Log D C) (H : History) (A f : ℕ) (U : List Message) → Fits D.trace C.sum_of log H A f U
         → All (λ m. m.place < next_place log) H.messages }
@@ -40,7 +42,8 @@ pub fn messages_lie_in_order<D: Device, C: Checksum>()
     ensures inline { (log : Log D C) (H : History) (A f : ℕ) (U : List Message) → Fits D.trace C.sum_of log H A f U
         → (m : Message) → Contains H.messages m → synced_end log ≤ m.place → IsInline m.pointer }
     ensures awaited { (log : Log D C) (ticket : Reservation) (m : Message) → Awaits log ticket m → IsInline m.pointer }
-    ensures small { (log : Log D C) → next_place log < 2 ^ 63 }
+    ensures small { (log : Log D C) (ticket : Reservation) (m : Message) → Awaits log ticket m → m.place < 2 ^ 63 }
+    ensures reserved { (log : Log D C) → reserved_end log < 2 ^ 63 }
 {}
 
 /// What counts as acknowledged once all below a place is durable (`end_below`) is the greatest end of what begins there:
@@ -56,6 +59,29 @@ pub fn what_is_durable_is_acknowledged()
 /// What a flush wrote ends at the stable end at most.
 pub fn written_messages_are_stable<D: Device, C: Checksum>()
     ensures { (log : Log D C) (H : History) → IsWritten D.trace C.sum_of log H → All (λ m. m.place + m.size ≤ synced_end log) H.messages }
+{}
+
+/// What is seen of the buffers of a log that aren't on the device: the current one, as it would be sealed, lies behind the
+/// sealed ones, from where it begins up to where it ends once it is sealed, and so it does where a reservation fills its
+/// segment; each has as many bytes as places.
+pub fn a_log_shows_its_buffers<D: Device, C: Checksum>()
+    ensures current { (log : Log D C) → 0 < held_len log
+        → spans (buffers_of C.sum_of log) ≡ spans (waiting_of log) ++ record { place = current_begin log; end = sealing_end log; lid = (start_of log).lid } ∷ [] }
+    ensures empty { (log : Log D C) → held_len log ≡ 0 → buffers_of C.sum_of log ≡ waiting_of log }
+    ensures behind { (log : Log D C) (page n : ℕ) → is_moved log page n ≡ true → spans (waiting_behind C.sum_of log page n)
+        ≡ spans (waiting_of log) ++ record { place = current_begin log; end = (start_behind log page n).place; lid = (start_of log).lid } ∷ [] }
+    ensures long { (log : Log D C) → All HasLength (buffers_of C.sum_of log) }
+{}
+
+/// Where no reservation is open, none holds a buffer up.
+pub fn where_none_is_open_none_is_held<D: Device, C: Checksum>()
+    ensures { (log : Log D C) → NoneOpen log → All (λ b. b.held ≡ None) (buffers_of C.sum_of log) }
+{}
+
+/// What is ready for a log with more acknowledged is ready for it with less.
+pub fn less_is_acknowledged_before<C: Checksum>()
+    ensures { (size : ℕ) (device : State) (s : SnapshotModel) (H : History) (A less f : ℕ) → less ≤ A → Ready C.sum_of size device s H A f
+        → Ready C.sum_of size device s H less f }
 {}
 
 /// Where no reservation was open, none is as long as nothing of the log is another.

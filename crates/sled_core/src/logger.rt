@@ -1,7 +1,7 @@
 //! The log: what its callers reserve, complete, flush and read.
 //!
-//! A log keeps the bytes of its segment, the reservations in them, the accountant of all segments, the count of pins,
-//! and the first failure of its device, which it answers from then on. `specs/Fits.antt` says which history it holds.
+//! A log keeps the bytes of its segments that aren't wholly on the device, the reservations in them, the accountant of all
+//! segments, the count of pins, and the first failure of its device, which it answers from then on. `specs/Fits.antt` says which history it holds.
 ghost use Rattle.std.specs.Prelude.{List, ◌≡◌, ◌≢◌, ◌↔◌, ◌+◌, ◌-◌, ◌<◌, ◌≤◌, ◌^◌, ◌∷◌, ◌-ℤ◌, ◌<ℤ◌, ◌≤ℤ◌, pos, [], ℕ, length, drop, false, IsTrue, IfOk, IfErr, OnOk, OnErr, Contains, None, Some, ◌⊎◌, ◌/◌, unsigned_abs, ℤ, max};
 ghost use Rattle.std.specs.declared.io.Error.{Error as IoError};
 ghost use Rattle.sled_codec.specs.Kinds.{kind_written};
@@ -11,11 +11,10 @@ ghost use Rattle.std.specs.declared.io.ErrorKind.TheVariants.{OutOfMemory};
 ghost use Rattle.sled_codec.specs.Errors.{IsErrorOf, IsCorrupt, IsCorruption};
 ghost use Rattle.sled_store.specs.Device.{state_of, Wrote, Synced};
 ghost use Rattle.sled_store.specs.Answers.{Counts, FailsOr};
-ghost use Rattle.sled_core.specs.Tickets.{place_of, pointer_of, IsFor};
+ghost use Rattle.sled_core.specs.Tickets.{place_of, pointer_of};
 ghost use Rattle.sled_core.specs.Reading.{GivesMessage, IsInline, IsReading, IsUnreadable, IsNoPlace};
 ghost use Rattle.sled_codec.specs.Places.{MayBegin};
 ghost use Rattle.sled_codec.specs.Pointers.{lid_of};
-ghost use Rattle.sled_core.specs.Buffers.{record_size};
 ghost use Rattle.sled_codec.specs.Snapshots.{model_of};
 ghost use Rattle.sled_store.specs.Script.{after_all, Performs};
 ghost use Rattle.sled_store.specs.Moments.{IsLater, LeavesOnly};
@@ -24,23 +23,24 @@ ghost use Rattle.sled_store.specs.Begin.{IsStartable, IsInReach};
 ghost use Rattle.sled_store.specs.Started.{started};
 ghost use Rattle.sled_core.specs.Recoverable.{LeavesRecoverable, RecoverableIfOwn};
 ghost use Rattle.sled_core.specs.AccountProps.{IsAccountant-prop};
-ghost use Rattle.sled_core.specs.Begun.{FollowOn, FollowOn-prop};
+ghost use Rattle.sled_core.specs.Begun.{AreFilled, AreFilled-prop, FollowOn, FollowOn-prop, line_at};
 ghost use Rattle.sled_core.specs.Causes.{FaultAnswers, RecordAnswers, ReserveAnswers, failure_in};
 
 mod abort;
+mod ending;
 pub mod read_at;
 pub mod read_message;
+mod reserving;
 mod segments;
 mod settle;
 mod stable;
 pub(crate) mod unverified_record;
 mod writing;
 
-use crate::iobuf::record::head_of;
 use crate::iobuf::start::begin;
-use crate::iobuf::{IoBuf, Purpose, Reserved, SegmentPosition};
+use crate::iobuf::{IoBuf, Purpose, SegmentPosition};
 use crate::logger::read_message::{LogRead, read_message};
-use crate::logger::segments::SegmentBuffer;
+use crate::logger::segments::{SegmentBuffer, no_segments};
 use crate::reservation::{Guard, Reservation};
 use sled_codec::result::{DiskPtr, Error, LogOffset, Lsn, PageId, Result};
 use sled_codec::serialization::message::message_kind;
@@ -48,35 +48,37 @@ use sled_codec::serialization::{Checksum, LogKind, SegmentNumber, Serialize, Sna
 use sled_store::segment::accountant::SegmentAccountant;
 use sled_store::segment::may_begin;
 use sled_store::{Device, RunningConfig};
-use std::alloc::Global;
 use std::collections::VecDeque;
 use std::io;
 
 /// A log over a device. It is given up by `halt`, which hands its configuration back.
 pub struct Log<D, C> {
     config: RunningConfig<D, C>,
-    /// Where the current segment lies.
+    /// Where the first segment lies that isn't wholly on the device.
     site: SegmentPosition,
     buffer: IoBuf,
-    /// The segments that were begun behind it, by place; `reserve` begins none yet.
+    /// The segments that were begun behind it, by place. The last one is being filled.
     behind: VecDeque<SegmentBuffer>,
     /// Which slot each segment has. The free slots have zeros in the log file (`specs/FreeSlots.antt`).
     accountant: SegmentAccountant,
+    /// The place behind the greatest record that was reserved.
+    reserved_to: u64,
     /// The first failure of the device in this log.
     fault: Option<io::Error>,
     pins: u32,
     ghost in_segment: { length buffer.bytes.items ≤ config.config.segment_size },
     ghost place_in_reach: { site.place + config.config.segment_size < 2 ^ 63 },
     ghost slot_in_reach: { site.slot + config.config.segment_size < 2 ^ 63 },
-    ghost alone: { length behind.items ≡ 0 },
+    ghost waits: { 0 < length behind.items → buffer.written_len < config.config.segment_size },
     ghost follow: { FollowOn config.config.segment_size (site.place + config.config.segment_size) behind.items } by { FollowOn-prop _ _ _ },
+    ghost filled: { AreFilled config.config.segment_size reserved_to (line_at site buffer behind.items) } by { AreFilled-prop config.config.segment_size reserved_to (line_at site buffer behind.items) },
     ghost account: { IsAccountant config.config.segment_size accountant } by { IsAccountant-prop config.config.segment_size accountant },
 }
 
 impl<D: Device, C: Checksum> Log<D, C> {
-    ghost use Rattle.sled_core.specs.Fits.{Holds, NoneOpen, NoneSealed, Awaits, IsOpen, IsOnlyOpen, HasRoom, IsUnchanged, fault_of, open_of, IsLeastOpen, next_place, synced_end, reserved_end, pins_of, config_of, device_of, IsWritten, HasRecordOf, flushing, manifest_page, segment_size_of, site_of, size_for, message_for, KeepsAll, KeepsTickets};
+    ghost use Rattle.sled_core.specs.Fits.{Holds, NoneOpen, Awaits, IsOpen, IsOnlyOpen, FitsInline, IsUnchanged, IsUsedUpFor, fault_of, open_for, IsLeastOpen, synced_end, reserved_end, pins_of, config_of, device_of, HasRecordOf, line_of, manifest_page, message_for, position_behind, position_of, segment_size_of, size_for, target_of, waiting_behind, waiting_of, current_begin, FirstWaits, KeepsBuffers, start_behind, start_of, KeepsAll, KeepsTickets};
     ghost use Rattle.sled_core.specs.Keeps.{ConfigKept, GoesOn, Preserves, SamePosition};
-    ghost use Rattle.sled_core.specs.ReadBuffer.{ReadAnswers, RefusesPlace, SealsAround, Settles, held_at};
+    ghost use Rattle.sled_core.specs.ReadBuffer.{IsUsedUpAt, ReadAnswers, RefusesPlace, SealsAround, Settles, held_at};
     ghost use Rattle.sled_core.specs.Ready.{IsReady};
     ghost use Rattle.sled_core.specs.Running.{Fits, Ready, end_below};
     ghost use Rattle.sled_core.specs.Starts.{BeginsBehind, StartsOrRefuses, config_left};
@@ -126,6 +128,7 @@ impl<D: Device, C: Checksum> Log<D, C> {
                 },
                 buffer,
                 accountant,
+                reserved_to: beginning.place + beginning.offset,
                 fault: None,
                 pins: 0,
             }),
@@ -165,14 +168,15 @@ impl<D: Device, C: Checksum> Log<D, C> {
     /// Returns the last place (log sequence number) of which all up to it is durable; -1 before the first one.
     pub fn stable_offset(&self) -> Lsn
         ensures place { result ≡ pos (synced_end self.now) -ℤ pos 1 }
-        ensures reserved { synced_end self.now ≤ reserved_end self.now }
+        ensures first { FirstWaits (synced_end self.now) (current_begin self.now) (waiting_of self.now) }
         ensures acknowledges { (H : History) (A f : ℕ) (U : List Message) → Fits D.trace C.sum_of self.now H A f U
             → Fits D.trace C.sum_of self.now H (max A (end_below (synced_end self.now) H)) f U }
     {
         (self.site.place + self.buffer.synced_len() as u64) as i64 - 1
     }
 
-    /// Keeps a place for a message of this page, at the end of what was reserved, and returns the ticket for it.
+    /// Keeps a place for a message of this page, at the end of what was reserved, and returns the ticket for it. Where its
+    /// record has no room in the current segment, that is filled to its end and sealed, and the record begins the next one.
     /// The guard shows that a pin is out.
     ///
     /// The caller owes the log an order of pages, which is not tested here: a page gets a Replace only once
@@ -181,7 +185,9 @@ impl<D: Device, C: Checksum> Log<D, C> {
     /// # Errors
     ///
     /// `Io` where the log keeps a failure of its device, `Unsupported` where the page has no messages of this kind,
-    /// `Held` with the least place of an open reservation where 127 are open, and `OutOfMemory`. After each of them the log is as it was.
+    /// `PlacesUsedUp` where the record needs a further segment and that would not end below 2^63 in the log and in the file,
+    /// `Held` with the least place of an open reservation where 127 are open in the buffer that the record would be of, and
+    /// `OutOfMemory`. After each of them the log is as it was.
     pub fn reserve<T: Serialize>(
         &mut self,
         kind: LogKind,
@@ -190,16 +196,20 @@ impl<D: Device, C: Checksum> Log<D, C> {
         _guard: &Guard,
     ) -> Result<Reservation>
         requires fits { T.fits (T.meaning item.now) }
-        requires room { HasRoom self.old pid (length (T.short (T.meaning item.now))) }
+        requires inline { FitsInline (segment_size_of self.old) (length (T.short (T.meaning item.now))) }
         requires no_manifest { kind ≡ LogKind.Skip → pid ≢ manifest_page }
         ensures ticket { IfOk result (λ ticket. Awaits self.new ticket (message_for self.old kind pid (T.short (T.meaning item.now)))) }
-        ensures next { OnOk result (next_place self.new ≡ next_place self.old + size_for self.old pid (length (T.short (T.meaning item.now)))) }
+        ensures position { OnOk result (position_of self.new ≡ position_behind self.old pid (length (T.short (T.meaning item.now)))) }
+        ensures reserved { let n = length (T.short (T.meaning item.now)) in
+            OnOk result (reserved_end self.new ≡ (target_of self.old pid n).place + size_for self.old pid n) }
         ensures others { (ticket : Reservation) (m : Message) → Awaits self.old ticket m → Awaits self.new ticket m }
         ensures open { NoneOpen self.old → IfOk result (IsOnlyOpen self.new) }
-        ensures answers { ReserveAnswers result (fault_of self.old) (kind_written kind pid false) (open_of self.old) (IsLeastOpen self.old) }
+        ensures seals { let n = length (T.short (T.meaning item.now)) in
+            OnOk result ((waiting_of self.new ≡ waiting_behind C.sum_of self.old pid n) × (start_of self.new ≡ start_behind self.old pid n)) }
+        ensures answers { let n = length (T.short (T.meaning item.now)) in
+            ReserveAnswers result (fault_of self.old) (kind_written kind pid false) (IsUsedUpFor self.old pid n) (open_for self.old pid n) (IsLeastOpen self.old) }
         ensures keeps { Preserves D.trace C.sum_of self.old self.new }
         ensures same { KeepsAll self.old self.new }
-        ensures unsealed { NoneSealed self.old → NoneSealed self.new }
         ensures err { OnErr result (IsUnchanged self.old self.new) }
     {
         if let Some(e) = self.fault {
@@ -208,25 +218,20 @@ impl<D: Device, C: Checksum> Log<D, C> {
         let Some(message_kind) = message_kind(kind, pid, false) else {
             return Err(Error::Unsupported(String::new(self.config.alloc())));
         };
-        if self.buffer.is_full_of_open() {
-            let first = self.buffer.first;
-            return Err(Error::Held(self.buffer.least_open(first, &self.site)));
-        }
         let item_len = item.serialized_size() as usize;
-        let number = SegmentNumber(self.site.place / self.config.config.segment_size);
-        let head = head_of(message_kind, number, pid, item_len as u64);
-        self.buffer.make_room(head.len + item_len)?;
-        let at = self.buffer.bytes.len() as u64;
-        let index = self.buffer.gone + self.buffer.reserved.len();
-        let kept = Purpose {
+        let purpose = Purpose {
             log_kind: kind,
             kind: message_kind,
             page: pid,
         };
-        self.buffer
-            .append(&self.config.checksum, &head, &kept, item, item_len);
-        let place = (self.site.place + at) as i64;
-        Ok(Reservation::new(place, DiskPtr::Inline(self.site.slot + at), index))
+        let mut head = self.head_for(&purpose, item_len);
+        if self.has_place(head.len + item_len) {
+            self.room_for(head.len + item_len)?;
+        } else {
+            self.begin_segment()?;
+            head = self.head_for(&purpose, item_len);
+        }
+        Ok(self.append(&head, &purpose, item, item_len))
     }
 
     /// Completes a message: from now on it is in the log's history. Returns its place and its pointer. It takes no
@@ -250,8 +255,8 @@ impl<D: Device, C: Checksum> Log<D, C> {
             → OnOk result ((H' : History) × Step H (Completed m) H' × Fits D.trace C.sum_of self.new H' A f (m ∷ U)) }
         ensures goes_on { GoesOn D.trace C.sum_of self.old self.new }
         ensures same { KeepsAll self.old self.new }
-        ensures unsealed { NoneSealed self.old → NoneSealed self.new }
-        ensures next { next_place self.new ≡ next_place self.old }
+        ensures position { SamePosition self.old self.new }
+        ensures buffers { KeepsBuffers self.old self.new }
         ensures err { OnErr result (self.new ≡ self.old) }
     {
         let place = ticket.lsn();
@@ -261,21 +266,22 @@ impl<D: Device, C: Checksum> Log<D, C> {
         if let Some(e) = self.fault {
             return Err(Error::Io(e));
         }
-        let gone = self.buffer.gone;
-        self.buffer.complete(index - gone);
+        let n = self.segment_of(place.unsigned_abs());
+        self.complete_in(n, index);
         Ok((place, pointer))
     }
 
     /// Reads the message of this page and place that lies there, from the device. Where its place isn't stable, the one
     /// buffer that has it is written first, unless it is on the device: the current one is sealed for that, and no other
-    /// buffer is written. Returns what stands there. A message has its record as long as it is of the current segment, or the
-    /// table of what was written needs it; else its slot may have been filled when the log started.
+    /// buffer is written. Returns what stands there. A message has its record as long as it is of a segment that isn't wholly
+    /// on the device, or the table of what was written needs it; else its slot may have been filled when the log started.
     ///
     /// # Errors
     ///
     /// In this order: `Io` where the log keeps a failure of its device; `Corruption` for a negative place, and for an offset at
-    /// which no record begins; `NotReserved` exactly where the place isn't below the end of what was reserved (the log
-    /// is as it was after each of these); `Held` exactly where the place isn't stable and its buffer has an open reservation,
+    /// which no record begins; `NotReserved` exactly where the place is neither stable nor below the end of what was reserved (the log
+    /// is as it was after each of these); `PlacesUsedUp` exactly where the current buffer has to be sealed, no further record
+    /// has room in its segment, and the next one would not end below 2^63; `Held` exactly where the place isn't stable and its buffer has an open reservation,
     /// with the least place of those of that buffer; `Corruption` for a record that can't be read
     /// (`read_message`). `Io` where the device failed in this call: the log keeps that. `OutOfMemory` where the current
     /// buffer could not be sealed, or from the device.
@@ -289,14 +295,14 @@ impl<D: Device, C: Checksum> Log<D, C> {
             IfOk result (IsReading C.sum_of size s.log.bytes s.blobs.file (lid_of ptr) (unsigned_abs lsn / size)) }
         ensures corrupt { let s = state_of (D.trace (device_of self.new)) in let size = segment_size_of self.old in
             IsCorruption result → IsNoPlace size lsn (lid_of ptr) ⊎ IsUnreadable C.sum_of size s.log.bytes s.blobs.file (lid_of ptr) (unsigned_abs lsn / size) }
-        ensures calls { Settles D.trace result lsn (lid_of ptr) self.old self.new }
+        ensures calls { Settles D.trace C.sum_of result lsn (lid_of ptr) self.old self.new }
         ensures refused { RefusesPlace result lsn (lid_of ptr) self.old self.new }
         ensures seals { SealsAround result lsn self.old self.new }
         ensures keeps { Preserves D.trace C.sum_of self.old self.new }
         ensures tickets { KeepsTickets self.old self.new }
         ensures position { SamePosition self.old self.new }
         ensures answers { let blobs = (state_of (D.trace (device_of self.new))).blobs.file in
-            ReadAnswers C.sum_of blobs result lsn (reserved_end self.old) (site_of self.old).place (held_at self.old lsn)
+            ReadAnswers C.sum_of blobs result lsn (synced_end self.old) (reserved_end self.old) (held_at C.sum_of self.old lsn) (IsUsedUpAt self.old lsn)
             (fault_of self.old) (fault_of self.new) (D.faults (device_of self.old)) (D.faults (device_of self.new)) }
         ensures faulty { (e : IoError) → fault_of self.old ≡ Some e → self.new ≡ self.old }
     {
@@ -309,7 +315,7 @@ impl<D: Device, C: Checksum> Log<D, C> {
             return Err(Error::Corruption { at: None });
         }
         let place = lsn.unsigned_abs();
-        if place >= self.reserved_end() {
+        if lsn > self.stable_offset() && place >= self.reserved_to {
             return Err(Error::NotReserved(lsn));
         }
         self.settle(place)?;
@@ -328,7 +334,7 @@ impl<D: Device, C: Checksum> Log<D, C> {
         ensures tickets { KeepsTickets self.old self.new }
         ensures position { SamePosition self.old self.new }
         ensures trace { D.trace (device_of self.new) ≡ D.trace (device_of self.old) }
-        ensures buffer { self.new.buffer ≡ self.old.buffer }
+        ensures line { line_of self.new ≡ line_of self.old }
         ensures answers { let blobs = (state_of (D.trace (device_of self.old))).blobs.file in
             RecordAnswers C.sum_of blobs result None (fault_of self.new) (D.faults (device_of self.old)) (D.faults (device_of self.new)) }
     {
@@ -337,38 +343,12 @@ impl<D: Device, C: Checksum> Log<D, C> {
         answer
     }
 
-    /// Returns whether a message of this page with this item fits inline into what is left of the segment.
-    pub fn has_room<T: Serialize>(&self, pid: PageId, item: &T) -> bool
+    /// Returns whether a message with this item has it in its record, as `reserve` asks of it.
+    pub fn fits_inline<T: Serialize>(&self, item: &T) -> bool
         requires { T.fits (T.meaning item.now) }
-        ensures { IsTrue result ↔ HasRoom self.now pid (length (T.short (T.meaning item.now))) }
+        ensures { IsTrue result ↔ FitsInline (segment_size_of self.now) (length (T.short (T.meaning item.now))) }
     {
-        let size = self.config.config.segment_size;
-        let item_len = item.serialized_size();
-        let next = self.buffer.bytes.len() as u64;
-        if item_len > size / 4 - 52 || next > size - 32 {
-            return false;
-        }
-        record_size(self.site.place / size, pid, item_len) <= size - next
-    }
-
-    /// Returns whether this ticket is for an open reservation of the log.
-    pub fn is_open(&self, ticket: &Reservation) -> bool
-        ensures { IsTrue result ↔ IsOpen self.now ticket.now }
-    {
-        let Some(index) = ticket.index().checked_sub(self.buffer.gone) else {
-            return false;
-        };
-        match self.buffer.reserved.get(index) {
-            Some(r) => is_for(&self.site, r, ticket),
-            None => false,
-        }
-    }
-
-    /// Returns whether no reservation is open. One whose ticket was abandoned is.
-    pub fn none_open(&self) -> bool
-        ensures { IsTrue result ↔ NoneOpen self.now }
-    {
-        self.buffer.none_open()
+        item.serialized_size() <= self.config.config.segment_size / 4 - 52
     }
 
     /// Gives the log up, and returns what it ran on. It writes nothing.
@@ -383,41 +363,12 @@ impl<D: Device, C: Checksum> Log<D, C> {
             buffer: _,
             behind: _,
             accountant: _,
+            reserved_to: _,
             fault: _,
             pins: _,
         } = self;
         config
     }
-}
-
-/// No segment is begun behind the first one.
-fn no_segments(alloc: Global) -> VecDeque<SegmentBuffer>
-    ensures { result.items ≡ [] }
-{
-    VecDeque::new(alloc)
-}
-
-/// Whether a ticket is for this reservation in a segment, and it is open.
-fn is_for(site: &SegmentPosition, r: &Reserved, ticket: &Reservation) -> bool
-    requires place { site.now.place + r.now.from < 2 ^ 64 }
-    requires slot { site.now.slot + r.now.from < 2 ^ 64 }
-    ensures { IsTrue result ↔ IsFor site.now r.now ticket.now }
-{
-    let same_pointer = match ticket.pointer() {
-        DiskPtr::Inline(lid) => lid == site.slot + r.from as u64,
-        DiskPtr::Blob(_, _) => false,
-    };
-    let same_place = ticket.lsn() >= 0 && ticket.lsn() as u64 == site.place + r.from as u64;
-    r.state.is_open() && same_place && same_pointer
-}
-
-/// How long the record is of a message of this page in a segment of this number, whose item has so many
-/// bytes.
-fn record_size(number: u64, pid: PageId, item_len: u64) -> u64
-    requires { item_len < 2 ^ 32 }
-    ensures { result ≡ record_size number pid item_len }
-{
-    5 + item_len.serialized_size() + number.serialized_size() + pid.serialized_size() + item_len
 }
 
 /// The failure of the device that an answer tells of.

@@ -1,3 +1,4 @@
+pub mod RunBuffers
 pub mod RunHistories
 pub mod RunLemmas
 pub mod RunLogs

@@ -2,7 +2,7 @@
 use Rattle.std.specs.Prelude.{◌≡◌, ◌⊎◌, ◌+◌, ◌%◌, ◌^◌, ℕ, List, Option, None, Some, IsSome, IsTrue, Result, Ok, Err}
 use Rattle.std.specs.declared.io.Error.{Error as IoError}
 use Rattle.sled_codec.specs.declared.result.Error.{Error}
-use Rattle.sled_codec.specs.declared.result.Error.TheVariants.{Io, OutOfMemory}
+use Rattle.sled_codec.specs.declared.result.Error.TheVariants.{Io, OutOfMemory, PlacesUsedUp}
 use Rattle.sled_codec.specs.History.{Message, History}
 use Rattle.sled_store.specs.Answers.{is_fault}
 use Rattle.sled_store.specs.Blobs.{ItemAnswers}
@@ -16,26 +16,27 @@ use Rattle.sled_log.specs.Orderly.{IsOrderly}
 use Rattle.sled_log.specs.Restores.{RecoveryCalls}
 
 -- the device, once what was reserved is written
-abbrev pub flushed_state : {D C : Type 0} → (D → Trace) → Log D C → State
-flushed_state trace log = state_of (after_all (flushing log) (trace (device_of log)))
+abbrev pub flushed_state : {D C : Type 0} → (D → Trace) → (List ℕ → ℕ) → Log D C → State
+flushed_state trace sum log = state_of (after_all (flushing sum log) (trace (device_of log)))
 
 -- A log fits an orderly history, and once what was reserved is written, only what the log itself wrote passes as its own in what is read.
 pub record CanRestart {D C : Type 0} (trace : D → Trace) (sum : List ℕ → ℕ) (log : Log D C) (H : History) (A f : ℕ) (U : List Message) : Type 0 where
   pub fits : Fits trace sum log H A f U
   pub orderly : IsOrderly H
-  pub own : NoForeign sum (segment_size_of log) (flushed_state trace log) (content_of (flushed_state trace log))
+  pub own : NoForeign sum (segment_size_of log) (flushed_state trace sum log) (content_of (flushed_state trace sum log))
 
--- a flush failed: for the failure that the log kept, for one of this call, which is counted, or for want of memory
-abbrev pub FlushFails : {T : Type 0} → Result T Error → Option IoError → ℕ → ℕ → Type 0
-FlushFails (Err (Io e)) fault before after =
+-- a flush failed: for the failure that the log kept, for one of this call, which is counted, for want of memory, or of a further segment, where it needs one
+abbrev pub FlushFails : {T : Type 0} → Result T Error → Type 0 → Option IoError → ℕ → ℕ → Type 0
+FlushFails (Err (Io e)) used fault before after =
     ((fault ≡ Some e) × (after ≡ before)) ⊎ ((fault ≡ None) × (after ≡ (before + 1) % 2 ^ 64) × IsTrue (is_fault e))
-FlushFails (Err OutOfMemory) fault before after = (fault ≡ None) × (after ≡ before)
-FlushFails (Err _) fault before after = ⊥
-FlushFails (Ok _) fault before after = ⊥
+FlushFails (Err OutOfMemory) used fault before after = (fault ≡ None) × (after ≡ before)
+FlushFails (Err PlacesUsedUp) used fault before after = used × (fault ≡ None) × (after ≡ before)
+FlushFails (Err _) used fault before after = ⊥
+FlushFails (Ok _) used fault before after = ⊥
 
 -- The flush failed, and nothing was done but its calls, up to one that failed, or none where the log kept a failure. Or all was written, and recovered.
-abbrev pub Restarts : {T : Type 0} → (List ℕ → ℕ) → ℕ → List Event → Option IoError → Result T Error → (old new : Trace) (before after : ℕ)
+abbrev pub Restarts : {T : Type 0} → (List ℕ → ℕ) → ℕ → List Event → Type 0 → Option IoError → Result T Error → (old new : Trace) (before after : ℕ)
     → Type 0
-Restarts sum size flushes fault result old new before after =
-    (Performs flushes old new × (IsSome fault → new ≡ old) × FlushFails result fault before after)
-    ⊎ ((fault ≡ None) × RecoveryCalls sum size (after_all flushes old) new × ItemAnswers sum (state_of (after_all flushes old)).blobs.file result before after)
+Restarts sum size flushes used fault result old new before after =
+    (Performs flushes old new × (IsSome fault → new ≡ old) × FlushFails result used fault before after)
+    ⊎ ((fault ≡ None) × (used → ⊥) × RecoveryCalls sum size (after_all flushes old) new × ItemAnswers sum (state_of (after_all flushes old)).blobs.file result before after)

@@ -8,7 +8,8 @@ use Rattle.sled_codec.specs.Snapshots.{SnapshotModel, model_of, stable_place}
 use Rattle.sled_store.specs.Device.{Trace, state_of}
 use Rattle.sled_store.specs.Moments.{IsLater}
 use Rattle.sled_store.specs.declared.config.RunningConfig.{RunningConfig}
-use Rattle.sled_core.specs.Fits.{NoneOpen, NoneSealed, Awaits, IsOnlyOpen, IsOpen, config_of, fault_of, next_place, pins_of, site_of, synced_end}
+use Rattle.sled_core.specs.Fits.{NoneOpen, Awaits, IsOnlyOpen, IsOpen, config_of, fault_of, pins_of, position_of, reserved_end, start_of, synced_end, waiting_of}
+use Rattle.sled_core.specs.Waiting.{spans}
 use Rattle.sled_core.specs.Keeps.{ConfigKept}
 use Rattle.sled_core.specs.Recoverable.{LeavesRecoverable}
 use Rattle.sled_core.specs.Running.{Fits, Ready}
@@ -61,7 +62,16 @@ traces view device = (view device).trace
 -- what is seen of a log that is open, with the message of its reservation
 abbrev pub seen : {D C : Type 0} → Opened D C → Option Message → LogView
 seen opened reserved =
-    record { site = site_of opened.log; next = next_place opened.log; stable = synced_end opened.log; begun = opened.begun; fault = fault_of opened.log; reserved = reserved }
+    record {
+      position = position_of opened.log;
+      stable = synced_end opened.log;
+      end = reserved_end opened.log;
+      waiting = spans (waiting_of opened.log);
+      start = start_of opened.log;
+      begun = opened.begun;
+      fault = fault_of opened.log;
+      reserved = reserved;
+    }
 
 -- What a run keeps in mind that its code doesn't store.
 pub record Unstored : Type 0 where
@@ -124,9 +134,9 @@ IsAt trace sum (Closed config) k = IsClosedAt sum config.config.segment_size (tr
 IsAt trace sum (Open opened) k = IsOpenAt trace sum opened k
 IsAt trace sum (Waiting opened ticket) k = IsOpenAt trace sum opened k × IsWaitingFor opened ticket k
 
--- no reservation of the log is open, and no buffer is sealed
+-- no reservation of the log is open
 abbrev pub HasNoneOpen : {D C : Type 0} → Opened D C → Type 0
-HasNoneOpen opened = NoneOpen opened.log × NoneSealed opened.log
+HasNoneOpen opened = NoneOpen opened.log
 
 -- the ticket is for the one reservation of the log that is open, and the log keeps no failure
 pub record HasOneOpen {D C : Type 0} (opened : Opened D C) (ticket : Ticket) : Type 0 where
@@ -134,7 +144,6 @@ pub record HasOneOpen {D C : Type 0} (opened : Opened D C) (ticket : Ticket) : T
   pub only : IsOnlyOpen opened.log ticket.reservation
   pub page : ticket.page < 2 ^ 64 - 1
   pub fault : fault_of opened.log ≡ None
-  pub unsealed : NoneSealed opened.log
 
 -- whatever happened, the phase is one in which calls can be made
 abbrev pub CanGoOn : {D C : Type 0} → Phase D C → Type 0
@@ -177,7 +186,7 @@ Shows s (reply.Opened t) = model_of t ≡ s
 Shows s (reply.Recovered t e) = model_of t ≡ s
 Shows s _ = ⊥
 
--- the log that a reply shows, with a log file of this length, and why none is open
+-- the log that a reply shows, started on a log file of this length, and why none is open
 abbrev pub log_shown : ℕ → ℕ → SnapshotModel → Reply → Option LogView
 log_shown size len s (reply.Opened t) = Some (started_on size len s)
 log_shown size len s _ = None
@@ -189,7 +198,7 @@ SaysWhy _ before after = Unit {0}
 -- What a start makes of a table that was recovered.
 pub record HasStarted {D C : Type 0} (view : D → DeviceView) (sum : List ℕ → ℕ) (config : RunningConfig D C) (s : SnapshotModel) (result : Phase D C × Reply)
     (k : Unstored) : Type 0 where
-  pub log : log_in result.0 None ≡ log_shown config.config.segment_size (length_of (device_in view result.0)) s result.1
+  pub log : log_in result.0 None ≡ log_shown config.config.segment_size (length_of (view config.device)) s result.1
   pub at : IsAt (traces view) sum result.0 k
   pub why : SaysWhy result.1 (view config.device).failures (device_in view result.0).failures
 

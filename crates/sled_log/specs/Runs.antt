@@ -1,5 +1,5 @@
 -- What runs of commands come to: what each command does to the device, what it is answered, and where the run stands then.
-use Rattle.std.specs.Prelude.{◌≡◌, ◌⊎◌, ◌↔◌, ◌+◌, ◌-◌, ◌%◌, ◌^◌, ◌==◌, ◌<◌, ◌≤◌, ◌∷◌, ℕ, ℤ, pos, max, if◌then◌else◌, IsTrue, IsSome, List, [], length, Option, None, Some, false}
+use Rattle.std.specs.Prelude.{◌≡◌, ◌⊎◌, ◌↔◌, ◌+◌, ◌-◌, ◌%◌, ◌^◌, ◌==◌, ◌<◌, ◌≤◌, ◌∷◌, ℕ, ℤ, pos, max, if◌then◌else◌, IsTrue, IsSome, List, [], length, drop, Option, None, Some, false}
 use Rattle.std.specs.List.{All}
 use Rattle.std.specs.declared.io.Error.{Error as IoError}
 use Rattle.sled_codec.specs.declared.result.DiskPtr.{DiskPtr}
@@ -9,7 +9,7 @@ use Rattle.sled_codec.specs.Spelling.{short_bytes}
 use Rattle.sled_codec.specs.Snapshots.{SnapshotModel, model_of, stable_place}
 use Rattle.sled_codec.specs.History.{Message, History, Step, Completed}
 use Rattle.sled_store.specs.declared.device.choice.Choice.{Choice}
-use Rattle.sled_store.specs.Device.{Event, Left, Trace, State, Wrote, Synced, NamesSynced, Crashed, Settled, state_of, content_of, content_left}
+use Rattle.sled_store.specs.Device.{Event, Left, Trace, State, Synced, NamesSynced, Crashed, Settled, state_of, content_of, content_left}
 use Rattle.sled_store.specs.Answers.{is_fault}
 use Rattle.sled_store.specs.Chosen.{MayBeChosen}
 use Rattle.sled_store.specs.Noted.{left_of}
@@ -18,7 +18,10 @@ use Rattle.sled_store.specs.Begin.{IsStartable, IsInReach}
 use Rattle.sled_store.specs.Started.{started}
 use Rattle.sled_store.specs.Causes.{StartRefuses}
 use Rattle.sled_core.specs.Causes.{IsFault}
-use Rattle.sled_core.specs.Fits.{IsKept}
+use Rattle.sled_core.specs.declared.iobuf.SegmentPosition.{SegmentPosition}
+use Rattle.sled_core.specs.Fits.{FitsInline, IsKept}
+use Rattle.sled_core.specs.Positions.{Position, behind_record}
+use Rattle.sled_core.specs.Waiting.{BufferAt, BufferStart, HasLength, Span, all_writes, spans}
 use Rattle.sled_core.specs.Good.{IsGood}
 use Rattle.sled_core.specs.Recoverable.{NoForeign}
 use Rattle.sled_core.specs.Running.{end_below}
@@ -27,7 +30,7 @@ use Rattle.sled_log.specs.declared.session.command.Command.TheVariants as comman
 use Rattle.sled_log.specs.declared.session.command.Reply.{Reply}
 use Rattle.sled_log.specs.declared.session.command.Reply.TheVariants as reply
 use Rattle.sled_log.specs.Recovery.{RecoveryResult, Recovered, Recovers}
-use Rattle.sled_log.specs.RunStates.{DeviceView, LogView, RunState, length_of, with_log, recovered, started_on, is_pending, end_reserved, offset_in, replace_at, HasRoomAt, ShowsActive}
+use Rattle.sled_log.specs.RunStates.{DeviceView, EndsInReach, LogView, RunState, first_waiting, length_of, with_log, recovered, sealed_in, spans_below, spans_from, start_sealed_in, start_with, started_on, replace_at, target_in, waiting_with, ShowsActive}
 use Rattle.sled_log.specs.WritesBack.{HasWrittenBack}
 use Rattle.sled_log.specs.Restores.{RecoveryCalls}
 
@@ -58,7 +61,7 @@ IsOutOfTurn size (Some l) command.Halt = ⊥
 IsOutOfTurn size (Some l) command.Complete = l.reserved ≡ None
 IsOutOfTurn size (Some l) command.Flush = IsSome l.reserved
 IsOutOfTurn size (Some l) (command.Replace page item) =
-    IsSome l.reserved ⊎ (l.begun < page) ⊎ (page ≡ 2 ^ 64 - 1) ⊎ (HasRoomAt size l page (length (short_bytes item.items)) → ⊥)
+    IsSome l.reserved ⊎ (l.begun < page) ⊎ (page ≡ 2 ^ 64 - 1) ⊎ (FitsInline size (length (short_bytes item.items)) → ⊥)
 
 -- a command is refused exactly where it is out of its turn
 abbrev pub IsRefusedWhere : Type 0 → Reply → Type 0
@@ -99,16 +102,16 @@ OpenActs sum size old (reply.Failed e) new = RecoveryCalls sum size old.trace ne
 OpenActs sum size old reply.Refused new = new ≡ old
 OpenActs sum size old _ new = ⊥
 
--- the calls that write what was reserved and sync it: one write of these bytes and one sync, or none where nothing is pending
-abbrev pub flush_calls : LogView → List ℕ → List Event
-flush_calls l bytes = if is_pending l then Wrote (l.site.slot + offset_in l l.stable) bytes bytes ∷ Synced ∷ [] else []
+-- What a flush writes of a log: the buffers that begin below the end of what was reserved, each as a whole.
+pub record Flushes (l : LogView) : Type 0 where
+  pub buffers : List BufferAt
+  pub are : spans buffers ≡ spans_below l.end (sealed_in l)
+  pub long : All HasLength buffers
 
--- Those calls were made, all of them or up to one that failed, and none by a log that keeps a failure.
+-- Their calls were made, one write and one sync for each, all of them or up to one that failed, and none by a log that keeps a failure.
 abbrev pub FlushActs : Option LogView → DeviceView → Reply → DeviceView → Type 0
-FlushActs (Some l) old (reply.Flushed n) new =
-    (bytes : List ℕ) × (length bytes ≡ l.next - l.stable) × (new.trace ≡ after_all (flush_calls l bytes) old.trace) × (new.failures ≡ old.failures)
-FlushActs (Some l) old (reply.Failed e) new =
-    (bytes : List ℕ) × (length bytes ≡ l.next - l.stable) × Performs (flush_calls l bytes) old.trace new.trace × (IsSome l.fault → new ≡ old)
+FlushActs (Some l) old (reply.Flushed n) new = (w : Flushes l) × (new.trace ≡ after_all (all_writes w.buffers) old.trace) × (new.failures ≡ old.failures)
+FlushActs (Some l) old (reply.Failed e) new = (w : Flushes l) × Performs (all_writes w.buffers) old.trace new.trace × (IsSome l.fault → new ≡ old)
 FlushActs log old _ new = new ≡ old
 
 -- The device crashed: what was chosen was taken exactly where a crash may leave that, and else what was synced. It is no longer stopped, nor is it to be.
@@ -150,7 +153,9 @@ pub record IsGoodFor (sum : List ℕ → ℕ) (size : ℕ) (a : RunState) (new :
   pub active : ShowsActive size (stable_place s.stable) s.active
 
 abbrev pub OpenStep : (List ℕ → ℕ) → ℕ → RunState → Reply → DeviceView → RunState → Type 0
-OpenStep sum size a (reply.Opened s) new b = IsGoodFor sum size a new (model_of s) × (b ≡ recovered a new (model_of s) (Some (started_on size (length_of new) (model_of s))))
+OpenStep sum size a (reply.Opened s) new b =
+    IsGoodFor sum size a new (model_of s)
+    × ((mid : DeviceView) × StartActs size mid (reply.Opened s) new × (b ≡ recovered a new (model_of s) (Some (started_on size (length_of mid) (model_of s)))))
 OpenStep sum size a (reply.Recovered s e) new b =
     IsGoodFor sum size a new (model_of s) × IsStartCause e a.device.failures new.failures × (b ≡ recovered a new (model_of s) None)
 OpenStep sum size a (reply.Failed e) new b = IsCause e a.device.failures new.failures × (b ≡ with_log a new None)
@@ -160,21 +165,32 @@ OpenStep sum size a _ new b = ⊥
 abbrev pub IsAnswerFor : Message → ℤ → DiskPtr → Type 0
 IsAnswerFor m place pointer = (place ≡ pos m.place) × (pointer ≡ m.pointer)
 
--- the log with a reservation for a message at its next place
-abbrev pub reserving : LogView → Message → LogView
-reserving l m = record { site = l.site; next = l.next + m.size; stable = l.stable; begun = l.begun; fault = l.fault; reserved = Some m }
+-- the log with a reservation for a message that begins at this position
+abbrev pub reserving : ℕ → LogView → Position → Message → LogView
+reserving size l q m = record {
+  position = behind_record size q m.size;
+  stable = l.stable;
+  end = m.place + m.size;
+  waiting = waiting_with l q;
+  start = start_with l q;
+  begun = l.begun;
+  fault = l.fault;
+  reserved = Some m;
+}
 
 abbrev pub ReplaceStep : ℕ → RunState → LogView → ℕ → List ℕ → Reply → DeviceView → RunState → Type 0
 ReplaceStep size a l page bytes (reply.Reserved place pointer) new b =
     let m = replace_at size l page bytes in
-    (l.fault ≡ None) × IsAnswerFor m place pointer × (b ≡ with_log a new (Some (reserving l m)))
+    (l.fault ≡ None) × EndsInReach size (target_in size l page (length bytes)) × IsAnswerFor m place pointer
+    × (b ≡ with_log a new (Some (reserving size l (target_in size l page (length bytes)) m)))
 ReplaceStep size a l page bytes (reply.Failed (Io e)) new b = (l.fault ≡ Some e) × (b ≡ a)
 ReplaceStep size a l page bytes (reply.Failed OutOfMemory) new b = (l.fault ≡ None) × (b ≡ a)
+ReplaceStep size a l page bytes (reply.Failed PlacesUsedUp) new b = (l.fault ≡ None) × (EndsInReach size (target_in size l page (length bytes)) → ⊥) × (b ≡ a)
 ReplaceStep size a l page bytes _ new b = ⊥
 
 -- the log with no reservation open, and this many pages begun
 abbrev pub ended : LogView → ℕ → LogView
-ended l begun = record { site = l.site; next = l.next; stable = l.stable; begun = begun; fault = l.fault; reserved = None }
+ended l begun = record { position = l.position; stable = l.stable; end = l.end; waiting = l.waiting; start = l.start; begun = begun; fault = l.fault; reserved = None }
 
 -- The message of the open reservation comes to the history. Where it is the first of its page, that is begun.
 pub record HasCompleted (a : RunState) (l : LogView) (place : ℤ) (pointer : DiskPtr) (new : DeviceView) (b : RunState) : Type 0 where
@@ -197,24 +213,58 @@ CompleteStep a l (reply.Done place pointer) new b = HasCompleted a l place point
 CompleteStep a l (reply.Failed (Io e)) new b = (l.fault ≡ Some e) × (b ≡ with_log a new (Some (ended l l.begun)))
 CompleteStep a l _ new b = ⊥
 
--- the log behind a flush, with its stable end there and this failure kept
-abbrev pub flushed : LogView → ℕ → Option IoError → LogView
-flushed l stable fault = record { site = l.site; next = l.next; stable = stable; begun = l.begun; fault = fault; reserved = l.reserved }
+-- the log with these buffers left, the current one from there on, and this failure kept: all before the first of them is stable
+abbrev pub flushed : LogView → List Span → BufferStart → Option IoError → LogView
+flushed l waiting start fault = record {
+  position = l.position;
+  stable = first_waiting waiting start;
+  end = l.end;
+  waiting = waiting;
+  start = start;
+  begun = l.begun;
+  fault = fault;
+  reserved = l.reserved;
+}
+
+-- the buffers that a flush leaves, those that begin at the end of what was reserved or behind it, and all before them is stable then
+abbrev pub left_in : LogView → List Span
+left_in l = spans_from l.end (sealed_in l)
+
+abbrev pub flushed_to : LogView → ℕ
+flushed_to l = first_waiting (left_in l) (start_sealed_in l)
 
 -- All that was reserved is written and synced. Each completed message is acknowledged, and what is answered is by how much the stable end grew.
 pub record HasFlushed (sum : List ℕ → ℕ) (size : ℕ) (a : RunState) (l : LogView) (n : ℕ) (new : DeviceView) (b : RunState) : Type 0 where
   pub fault : l.fault ≡ None
-  pub growth : l.stable + n ≡ end_reserved l
-  pub more : a.acknowledged ≤ end_reserved l
-  pub all : All (λ m. m.place + m.size ≤ end_reserved l) a.history.messages
-  pub kept : IsKept sum size l.site (offset_in l (end_reserved l)) (state_of new.trace) a.history
-  pub leads : b ≡ record { device = new; history = a.history; acknowledged = max a.acknowledged (end_below (end_reserved l) a.history); floor = a.floor; log = Some (flushed l (end_reserved l) None) }
+  pub growth : l.stable + n ≡ flushed_to l
+  pub reaches : l.end ≤ flushed_to l
+  pub more : a.acknowledged ≤ flushed_to l
+  pub all : All (λ m. m.place + m.size ≤ flushed_to l) a.history.messages
+  -- the segment in which the stable end lies, and how much of it is written
+  pub site : SegmentPosition
+  pub from : ℕ
+  pub at : site.place + from ≡ flushed_to l
+  pub kept : IsKept sum size site from (state_of new.trace) a.history
+  pub leads : b ≡ record {
+    device = new;
+    history = a.history;
+    acknowledged = max a.acknowledged (end_below (flushed_to l) a.history);
+    floor = a.floor;
+    log = Some (flushed l (left_in l) (start_sealed_in l) None);
+  }
+
+-- A flush failed: nothing was sealed and written, or the current buffer was sealed, where anything in it was reserved, and so many buffers at the front were written.
+pub record HasStopped (a : RunState) (l : LogView) (fault : Option IoError) (new : DeviceView) (b : RunState) : Type 0 where
+  pub waiting : List Span
+  pub start : BufferStart
+  pub left : ((waiting ≡ l.waiting) × (start ≡ l.start)) ⊎ ((n : ℕ) × (waiting ≡ drop n (sealed_in l)) × (start ≡ start_sealed_in l))
+  pub leads : b ≡ with_log a new (Some (flushed l waiting start fault))
 
 abbrev pub FlushStep : (List ℕ → ℕ) → ℕ → RunState → LogView → Reply → DeviceView → RunState → Type 0
 FlushStep sum size a l (reply.Flushed n) new b = HasFlushed sum size a l n new b
-FlushStep sum size a l (reply.Failed (Io e)) new b =
-    IsFault e l.fault (Some e) a.device.failures new.failures × (b ≡ with_log a new (Some (flushed l l.stable (Some e))))
-FlushStep sum size a l (reply.Failed OutOfMemory) new b = (l.fault ≡ None) × (new.failures ≡ a.device.failures) × (b ≡ with_log a new (Some l))
+FlushStep sum size a l (reply.Failed (Io e)) new b = IsFault e l.fault (Some e) a.device.failures new.failures × HasStopped a l (Some e) new b
+FlushStep sum size a l (reply.Failed OutOfMemory) new b = (l.fault ≡ None) × (new.failures ≡ a.device.failures) × HasStopped a l None new b
+FlushStep sum size a l (reply.Failed PlacesUsedUp) new b = (l.fault ≡ None) × (EndsInReach size l.position → ⊥) × (new.failures ≡ a.device.failures) × HasStopped a l None new b
 FlushStep sum size a l _ new b = ⊥
 
 abbrev pub HaltStep : RunState → Reply → DeviceView → RunState → Type 0

@@ -9,7 +9,7 @@ ghost use Rattle.sled_codec.specs.PageTables.{IsTable};
 ghost use Rattle.sled_codec.specs.Snapshots.{model_of, stable_place};
 ghost use Rattle.sled_store.specs.Device.{state_of};
 ghost use Rattle.sled_store.specs.Moments.{LeavesOnly};
-ghost use Rattle.sled_core.specs.Fits.{NoneOpen, config_of, device_of, fault_of, flushing, reserved_end, segment_size_of};
+ghost use Rattle.sled_core.specs.Fits.{IsUsedUpBelow, NoneOpen, config_of, device_of, fault_of, flushing, reserved_end, segment_size_of};
 ghost use Rattle.sled_core.specs.Keeps.{ConfigKept};
 ghost use Rattle.sled_core.specs.Recoverable.{RecoverableIfOwn};
 ghost use Rattle.sled_core.specs.Running.{Ready, end_below};
@@ -40,7 +40,7 @@ pub fn restart<D: Device, C: Checksum>(log: Log<D, C>) -> (RunningConfig<D, C>, 
         → IfOk result.1 (λ s. Ready C.sum_of (segment_size_of log) (state_of (D.trace result.0.device)) (model_of s) H
         (max A (end_below (reserved_end log) H)) (stable_place s.stable_lsn)) }
     ensures did { let old = device_of log in let new = result.0.device in
-        Restarts C.sum_of (segment_size_of log) (flushing log) (fault_of log) result.1 (D.trace old) (D.trace new) (D.faults old) (D.faults new) }
+        Restarts C.sum_of (segment_size_of log) (flushing C.sum_of log) (IsUsedUpBelow log (reserved_end log)) (fault_of log) result.1 (D.trace old) (D.trace new) (D.faults old) (D.faults new) }
     ensures crash { (H : History) (A f : ℕ) (U : List Message) → CanRestart D.trace C.sum_of log H A f U
         → LeavesOnly (RecoverableIfOwn C.sum_of (segment_size_of log) H A f) (D.trace (device_of log)) (D.trace result.0.device) }
     ensures kept { ConfigKept (config_of log) result.0 }

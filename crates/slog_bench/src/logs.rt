@@ -43,7 +43,7 @@ impl Opened {
                 let kind = kind_of(words);
                 self.item(alloc, Some(kind), words, out);
             }
-            "has_room" => self.item(alloc, None, words, out),
+            "fits_inline" => self.item(alloc, None, words, out),
             "complete" => self.complete(words.number(), out),
             "abort" => self.abort(words.number(), out),
             "abandon" => self.abandon(words.number(), out),
@@ -127,7 +127,7 @@ impl Opened {
         }
     }
 
-    // Keeps a place for a message, or answers whether there is room for one.
+    // Keeps a place for a message, or answers whether its record has the item.
     fn with_item<T: Serialize>(
         &mut self,
         kind: Option<LogKind>,
@@ -141,7 +141,7 @@ impl Opened {
         }
         match kind {
             Some(kind) => self.reserve(kind, page, item, out),
-            None => out.text.truth(self.log.has_room(page, item)),
+            None => out.text.truth(self.log.fits_inline(item)),
         }
     }
 
@@ -150,7 +150,7 @@ impl Opened {
         requires { T.fits (T.meaning item.now) }
     {
         let is_manifest = kind == LogKind::Skip && page == BATCH_MANIFEST_PID;
-        if is_manifest || self.tickets.reserve(1).is_err() || !self.log.has_room(page, item) {
+        if is_manifest || self.tickets.reserve(1).is_err() || !self.log.fits_inline(item) {
             out.refused();
             return;
         }

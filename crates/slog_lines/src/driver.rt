@@ -26,7 +26,7 @@ use std::io;
 /// Why the program ends before its input does.
 #[derive(Debug, Clone, Copy, PartialEq, Eq)]
 pub enum Stop {
-    /// The line is not one that can be carried out.
+    /// The line is not one that can be carried out: it is none, or its item is too long for a record.
     BadLine,
     /// The reader or the writer failed, or memory for the program itself was refused.
     Failed,
@@ -105,8 +105,6 @@ pub enum Refusal {
     Busy,
     /// No such ticket is open.
     Ticket,
-    /// The record doesn't fit into what is left of the segment.
-    Room,
 }
 
 /// What runs the commands.
@@ -289,18 +287,19 @@ struct Ticket {
 }
 
 impl Opened {
-    // Keeps a place for a message, unless it is refused. All room that the message will want is made first.
+    // Keeps a place for a message, unless it is refused. All room that the message will want is made first. An item
+    // that the log doesn't keep in its records makes a bad line.
     fn replace(&mut self, page: PageId, item: &Vec<u8>) -> Result<Reply, Stop> {
+        if !self.log.fits_inline(item) {
+            return Err(Stop::BadLine);
+        }
         if let Some(refusal) = self.refusal(page) {
             return Ok(Reply::Refused(refusal));
         }
-        self.tickets.reserve(1)?;
         if page == self.pages.len() as u64 {
             self.pages.push(Page::reserved())?;
         }
-        if !self.log.has_room(page, item) {
-            return Ok(Reply::Refused(Refusal::Room));
-        }
+        self.tickets.reserve(1)?;
         match self.log.reserve(LogKind::Replace, page, item, &self.guard) {
             Ok(reservation) => Ok(self.hold(page, reservation)),
             Err(e) => Ok(Reply::Failed(e)),
@@ -392,24 +391,10 @@ impl Opened {
 
     // Writes what was completed, and syncs it. An open ticket holds it up.
     fn flush(&mut self) -> Reply {
-        if !self.log.none_open() {
-            return self.held_up();
-        }
         match self.log.flush() {
             Ok(grown) => Reply::Flushed(grown),
             Err(e) => Reply::Failed(e),
         }
-    }
-
-    // Replies that the first open ticket holds a call up. A reservation is open without a ticket only where
-    // its ticket was spent by a call that failed; the device of this program does not fail.
-    fn held_up(&self) -> Reply {
-        for ticket in &self.tickets {
-            if let Some(ticket) = ticket {
-                return Reply::Failed(Error::Held(ticket.reservation.lsn()));
-            }
-        }
-        Reply::Refused(Refusal::Ticket)
     }
 
     // Reads the last completed message of a page. Where it is not durable yet, the log writes its buffer first.

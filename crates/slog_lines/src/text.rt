@@ -275,7 +275,6 @@ fn word_of(refusal: Refusal) -> &'static str {
         Refusal::Page => "page",
         Refusal::Busy => "busy",
         Refusal::Ticket => "ticket",
-        Refusal::Room => "room",
     }
 }
 

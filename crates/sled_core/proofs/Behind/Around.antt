@@ -12,7 +12,8 @@ use Rattle.sled_store.proofs.Segments.Elements.{in_cases, in_first, in_nothing}
 use Rattle.sled_core.specs.declared.iobuf.Reserved.{Reserved}
 use Rattle.sled_core.specs.declared.iobuf.Sealed.{Sealed}
 use Rattle.sled_core.specs.declared.iobuf.SegmentPosition.{SegmentPosition}
-use Rattle.sled_core.specs.Fits.{HoldBehind, HoldsIn, HoldsNext, HoldsSegment, SegmentParts, begun_segment, log_parts}
+use Rattle.sled_core.specs.Begun.{SegmentParts}
+use Rattle.sled_core.specs.Fits.{HoldBehind, HoldsIn, HoldsNext, HoldsSegment, begun_segment, log_parts}
 use Rattle.sled_core.specs.LogFile.{StaysBelow}
 use Rattle.sled_core.specs.Reached.{BegunSegment, FollowApart}
 use Rattle.sled_core.specs.SealedBuffers.{AreSealed, sealed_end}

@@ -17,7 +17,8 @@ use Rattle.sled_core.specs.declared.iobuf.Sealed.{Sealed}
 use Rattle.sled_core.specs.declared.iobuf.SegmentPosition.{SegmentPosition}
 use Rattle.sled_core.specs.Buffers.{IsChain, HasText, Stands, body_in, canceling, ended, ending, open_state, padding_at}
 use Rattle.sled_core.specs.Caps.{segment_rest}
-use Rattle.sled_core.specs.Fits.{HoldsIn, HoldsNext, HoldsSegment, SegmentParts, log_parts}
+use Rattle.sled_core.specs.Begun.{SegmentParts}
+use Rattle.sled_core.specs.Fits.{HoldsIn, HoldsNext, HoldsSegment, log_parts}
 use Rattle.sled_core.specs.SealedBuffers.{AreSealed, one_ended, seal_at, sealed_count, sealed_end}
 use Rattle.sled_core.proofs.Behind.Around.{behind_place, held_around, holds_with, next_with, now_with, stays_below}
 use Rattle.sled_core.proofs.Flush.Completed.{grows}

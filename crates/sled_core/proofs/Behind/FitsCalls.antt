@@ -16,7 +16,8 @@ use Rattle.sled_core.specs.declared.iobuf.Sealed.{Sealed}
 use Rattle.sled_core.specs.declared.iobuf.SegmentPosition.{SegmentPosition}
 use Rattle.sled_core.specs.Buffers.{HasText, Stands, body_in, canceling, completing, ended, ending, message_in, padding_at}
 use Rattle.sled_core.specs.Caps.{segment_rest}
-use Rattle.sled_core.specs.Fits.{HoldsNext, SegmentParts, log_parts}
+use Rattle.sled_core.specs.Begun.{SegmentParts}
+use Rattle.sled_core.specs.Fits.{HoldsNext, log_parts}
 use Rattle.sled_core.specs.Running.{FitsIn}
 use Rattle.sled_core.specs.SealedBuffers.{FirstUnwritten, one_ended, seal_at, sealed_count, sealed_end}
 use Rattle.sled_core.proofs.Behind.Around.{behind_place, held_around, now_with, stays_below}

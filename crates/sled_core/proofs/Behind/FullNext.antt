@@ -9,7 +9,8 @@ use Rattle.sled_codec.specs.Snapshots.{SnapshotModel, stable_place}
 use Rattle.sled_store.specs.Device.{State, at_rest}
 use Rattle.sled_store.proofs.Histories.Ascending.{Ascends}
 use Rattle.sled_store.proofs.Segments.Elements.{in_rest}
-use Rattle.sled_core.specs.Fits.{HoldsIn, HoldsNext, SegmentParts, begun_segment, log_parts}
+use Rattle.sled_core.specs.Begun.{SegmentParts}
+use Rattle.sled_core.specs.Fits.{HoldsIn, HoldsNext, begun_segment, log_parts}
 use Rattle.sled_core.specs.Full.{FitsFull, StandsFull}
 use Rattle.sled_core.specs.LogFile.{StaysBelow, padded}
 use Rattle.sled_core.specs.Reached.{FollowApart, StandsAmong}

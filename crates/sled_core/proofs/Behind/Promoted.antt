@@ -14,7 +14,8 @@ use Rattle.sled_core.specs.declared.iobuf.Reserved.{Reserved}
 use Rattle.sled_core.specs.declared.iobuf.Sealed.{Sealed}
 use Rattle.sled_core.specs.declared.iobuf.SegmentPosition.{SegmentPosition}
 use Rattle.sled_core.specs.Buffers.{IsChain, completed_in}
-use Rattle.sled_core.specs.Fits.{EndBelow, HoldBehind, HoldsIn, HoldsNext, HoldsSegment, IsBegunFrom, SegmentParts, begun_segment, log_parts}
+use Rattle.sled_core.specs.Begun.{SegmentParts}
+use Rattle.sled_core.specs.Fits.{EndBelow, HoldBehind, HoldsIn, HoldsNext, HoldsSegment, IsBegunFrom, begun_segment, log_parts}
 use Rattle.sled_core.specs.LogFile.{IsLogFile, StandsElsewhere, StaysBelow, StaysFrom}
 use Rattle.sled_core.specs.Reached.{BegunSegment}
 use Rattle.sled_core.proofs.Behind.Stays.{behind_stays, elsewhere_of, segment-earlier, segment-stays, stays_among}

@@ -13,7 +13,8 @@ use Rattle.sled_store.proofs.Segments.TableEntries.{from_table}
 use Rattle.sled_core.specs.declared.iobuf.Reserved.{Reserved}
 use Rattle.sled_core.specs.declared.iobuf.Sealed.{Sealed}
 use Rattle.sled_core.specs.declared.iobuf.SegmentPosition.{SegmentPosition}
-use Rattle.sled_core.specs.Fits.{EndBelow, HoldBehind, HoldsSegment, SegmentParts, begun_segment, log_parts}
+use Rattle.sled_core.specs.Begun.{SegmentParts}
+use Rattle.sled_core.specs.Fits.{EndBelow, HoldBehind, HoldsSegment, begun_segment, log_parts}
 use Rattle.sled_core.specs.LogFile.{IsLogFile, StandsElsewhere, StandsHere, StaysFrom}
 use Rattle.sled_core.specs.Reached.{BegunSegment}
 use Rattle.sled_core.proofs.Flush.Completed.{apart_both}

@@ -15,7 +15,8 @@ use Rattle.sled_core.specs.declared.iobuf.Reserved.{Reserved}
 use Rattle.sled_core.specs.declared.iobuf.Sealed.{Sealed}
 use Rattle.sled_core.specs.declared.iobuf.SegmentPosition.{SegmentPosition}
 use Rattle.sled_core.specs.Buffers.{IsChain, NoPadding, Stands, completed_in, records_end, records_of}
-use Rattle.sled_core.specs.Fits.{log_parts, HasMark, HoldsIn, HoldsSegment, EndBelow, SegmentParts}
+use Rattle.sled_core.specs.Begun.{SegmentParts}
+use Rattle.sled_core.specs.Fits.{log_parts, HasMark, HoldsIn, HoldsSegment, EndBelow}
 use Rattle.sled_core.specs.Full.{StandsFull}
 use Rattle.sled_core.specs.LogFile.{IsLogFile, StaysFrom, padded}
 use Rattle.sled_core.specs.Reached.{BegunSegment, StandsAmong}

@@ -17,7 +17,8 @@ use Rattle.sled_core.specs.declared.iobuf.Reserved.{Reserved}
 use Rattle.sled_core.specs.declared.iobuf.Sealed.{Sealed}
 use Rattle.sled_core.specs.declared.iobuf.SegmentPosition.{SegmentPosition}
 use Rattle.sled_core.specs.Buffers.{IsChain, Stands, completed_in}
-use Rattle.sled_core.specs.Fits.{log_parts, HoldBehind, HoldsIn, HoldsSegment, IsOnDevice, IsBegunFrom, IsKept, EndBelow, SegmentParts}
+use Rattle.sled_core.specs.Begun.{SegmentParts}
+use Rattle.sled_core.specs.Fits.{log_parts, HoldBehind, HoldsIn, HoldsSegment, IsOnDevice, IsBegunFrom, IsKept, EndBelow}
 use Rattle.sled_core.specs.LogFile.{IsLogFile, StaysBelow, StaysFrom}
 use Rattle.sled_core.proofs.Reserve.Entries.{some_in}
 use Rattle.sled_core.proofs.Reserve.Ranges.{chain_grows}

@@ -12,7 +12,8 @@ use Rattle.sled_core.specs.declared.iobuf.Reserved.{Reserved}
 use Rattle.sled_core.specs.declared.iobuf.Sealed.{Sealed}
 use Rattle.sled_core.specs.declared.iobuf.SegmentPosition.{SegmentPosition}
 use Rattle.sled_core.specs.Buffers.{NoPadding}
-use Rattle.sled_core.specs.Fits.{log_parts, begun_segment, HoldsIn, HoldsSegment, SegmentParts}
+use Rattle.sled_core.specs.Begun.{SegmentParts}
+use Rattle.sled_core.specs.Fits.{log_parts, begun_segment, HoldsIn, HoldsSegment}
 use Rattle.sled_core.specs.Full.{StandsFull}
 use Rattle.sled_core.specs.LogFile.{IsLogFile, padded}
 use Rattle.sled_core.specs.Reached.{BegunSegment, StandsAmong}

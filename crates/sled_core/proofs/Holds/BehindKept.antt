@@ -12,7 +12,8 @@ use Rattle.sled_store.proofs.Segments.Elements.{in_first, in_rest}
 use Rattle.sled_core.specs.declared.iobuf.Reserved.{Reserved}
 use Rattle.sled_core.specs.declared.iobuf.Sealed.{Sealed}
 use Rattle.sled_core.specs.declared.iobuf.SegmentPosition.{SegmentPosition}
-use Rattle.sled_core.specs.Fits.{HoldBehind, HoldsIn, HoldsSegment, SegmentParts, begun_segment, log_parts}
+use Rattle.sled_core.specs.Begun.{SegmentParts}
+use Rattle.sled_core.specs.Fits.{HoldBehind, HoldsIn, HoldsSegment, begun_segment, log_parts}
 use Rattle.sled_core.specs.LogFile.{HasHeader, IsLogFile, StandsElsewhere, StandsHere, StaysBelow, StaysFrom}
 use Rattle.sled_core.specs.Reached.{BegunSegment}
 use Rattle.sled_core.specs.SealedBuffers.{AreSealed, Laid, sealed_end}

@@ -1,7 +1,7 @@
 -- What is written of a reservation that was aborted, and what a log holds then.
 use Rattle.std.proofs.Common.{◌≡◌, ◌∙◌, ◌≤◌, ◌+◌, ◌-◌, ◌/◌, ◌%◌, ℕ, List, length, drop, set, Option, Some, refl, sym, ap, arith, length-take, length-drop}
-use Rattle.std.specs.List.{slice_get}
 use Rattle.std.specs.declared.io.Error.{Error as IoError}
+use Rattle.std.specs.List.{slice_get}
 use Rattle.sled_codec.specs.declared.serialization.message.MessageKind.{MessageKind}
 use Rattle.sled_codec.specs.declared.serialization.message.MessageKind.TheVariants as kind
 use Rattle.sled_codec.specs.History.{Message, History}
@@ -17,12 +17,11 @@ use Rattle.sled_core.specs.declared.iobuf.Sealed.{Sealed}
 use Rattle.sled_core.specs.declared.iobuf.SegmentPosition.{SegmentPosition}
 use Rattle.sled_core.specs.Buffers.{body_in, canceling, ended, HasText}
 use Rattle.sled_core.specs.Fits.{log_parts, HoldsSegment}
-use Rattle.sled_core.specs.SealedBuffers.{AreSealed, bytes_between, one_ended}
+use Rattle.sled_core.specs.SealedBuffers.{AreSealed, one_ended}
 use Rattle.sled_core.proofs.Holds.CompletedLemmas.{segment-cancel}
 use Rattle.sled_core.proofs.Holds.HoldsLemmas.{segment-same}
 use Rattle.sled_core.proofs.Read.ScanLemmas.{aligned_number}
 use Rattle.sled_core.proofs.Reserve.CompletesLemmas.{text_canceled}
-use Rattle.sled_core.proofs.Sealed.Covering.{part-between}
 
 -- the header of a record is as long whatever its kind
 tail_long : (k l : MessageKind) (len number page : ℕ) → length (short_header_tail k len number page) ≡ length (short_header_tail l len number page)
@@ -40,14 +39,9 @@ module _ (sum : List ℕ → ℕ) (size place : ℕ) (bytes : List ℕ) (r : Res
   abbrev canceled : List ℕ
   canceled = short_record sum kind.Canceled r.page ((place + r.from) / size) (body_in bytes r)
 
-  -- in the bytes of a buffer that has it, its record stands at its place
-  pub canceled_there : r.state ≡ Open → (slot at end : ℕ) → at ≤ r.from → r.from + r.len ≤ end → part (bytes_between new at end) (slot + r.from - (slot + at)) r.len ≡ canceled
-  canceled_there is_open slot at end begins ends =
-      let count : slot + r.from - (slot + at) ≡ r.from - at = omega arith in
-      ap (λ n. part (bytes_between new at end) n r.len) count
-      ∙ part-between new at end r.from r.len begins ends
-      ∙ text_canceled sum (place / size) bytes r within stands is_open
-      ∙ ap (λ n. short_record sum kind.Canceled r.page n (body_in bytes r)) number
+  -- its record stands at its place,
+  pub canceled_there : r.state ≡ Open → part new r.from r.len ≡ canceled
+  canceled_there is_open = text_canceled sum (place / size) bytes r within stands is_open ∙ ap (λ n. short_record sum kind.Canceled r.page n (body_in bytes r)) number
 
   -- and it is as long as what was reserved
   pub canceled_long : length canceled ≡ r.len

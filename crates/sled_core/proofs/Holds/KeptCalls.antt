@@ -7,8 +7,8 @@ use Rattle.sled_store.specs.Moments.{LeavesOnly}
 use Rattle.sled_store.proofs.PublicLaws.{later_both}
 use Rattle.sled_store.proofs.Traces.MomentLemmas.{started, stays, joined}
 use Rattle.sled_core.specs.declared.logger.Log.{Log}
-use Rattle.sled_core.specs.Fits.{config_of, device_of, segment_size_of, synced_end}
-use Rattle.sled_core.specs.Keeps.{ConfigKept, GoesOn, Preserves}
+use Rattle.sled_core.specs.Fits.{KeepsTickets, config_of, device_of, segment_size_of, synced_end}
+use Rattle.sled_core.specs.Keeps.{ConfigKept, GoesOn, Preserves, SamePosition}
 use Rattle.sled_core.specs.Recoverable.{RecoverableIfOwn}
 use Rattle.sled_core.specs.Running.{Fits}
 use Rattle.sled_core.proofs.Holds.RunningLemmas.{fits_leaves}
@@ -46,3 +46,17 @@ module _ {D C : Type 0} (trace : D → Trace) (sum : List ℕ → ℕ) where
     history = λ H holds. then.history H (first.history H holds);
     fits = λ H A f U fits. then.fits H A f U (first.fits H A f U fits);
   }
+
+-- So it is with its tickets,
+pub tickets_still : {D C : Type 0} (log : Log D C) → KeepsTickets log log
+tickets_still log = record { awaits = λ ticket m awaits. awaits; ended = λ ended. ended }
+
+pub tickets_further : {D C : Type 0} (old mid new : Log D C) → KeepsTickets old mid → KeepsTickets mid new → KeepsTickets old new
+tickets_further old mid new first then = record { awaits = λ ticket m awaits. then.awaits ticket m (first.awaits ticket m awaits); ended = λ ended. then.ended (first.ended ended) }
+
+-- and with where the next record begins.
+pub position_still : {D C : Type 0} (log : Log D C) → SamePosition log log
+position_still log = record { position = refl; reserved = refl; pins = refl; size = refl }
+
+pub position_further : {D C : Type 0} (old mid new : Log D C) → SamePosition old mid → SamePosition mid new → SamePosition old new
+position_further old mid new first then = record { position = then.position ∙ first.position; reserved = then.reserved ∙ first.reserved; pins = then.pins ∙ first.pins; size = then.size ∙ first.size }

@@ -94,3 +94,9 @@ acknowledged_least place n H messages batches =
     let ms = messages_least place n H.messages messages in
     let bs = batches_least place n H.batches batches in
     omega (arith, ms, bs)
+
+-- More is acknowledged where more is durable.
+pub acknowledged_up : (low high : ℕ) (H : History) → low ≤ high → end_below low H ≤ end_below high H
+acknowledged_up low high H up = acknowledged_least low (end_below high H) H
+    (λ m there below. message_acknowledged high H m there (omega (arith, up, below)))
+    (λ b there below. batch_acknowledged high H b there (omega (arith, up, below)))

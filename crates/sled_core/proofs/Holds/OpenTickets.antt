@@ -20,7 +20,7 @@ both_ended Canceled rest not_open ended = ended
 both_ended Padding rest not_open ended = ended
 
 -- they have ended where each has
-ended_each : (rs : List Reserved) → ((i : ℕ) (r : Reserved) → slice_get rs i ≡ Some r → r.state ≡ Open → ⊥) → none_open rs ≡ true
+pub ended_each : (rs : List Reserved) → ((i : ℕ) (r : Reserved) → slice_get rs i ≡ Some r → r.state ≡ Open → ⊥) → none_open rs ≡ true
 ended_each [] none = refl
 ended_each (r ∷ rs) none = both_ended r.state rs (λ is. none 0 r refl is) (ended_each rs (λ i x there is. none (suc i) x there is))
 

@@ -1,29 +1,37 @@
 -- Where the messages of a log lie that fits its history: one behind another, below the next place; those behind the written end in the current segment, with inline pointers.
-use Rattle.std.proofs.Common.{◌^◌, ◌≡◌, ◌∙◌, ◌≤◌, ◌<◌, ◌+◌, ◌/◌, ◌%◌, ℕ, max, List, [], ◌∷◌, length, Option, refl, sym, ap, subst, arith, pos, inl, inr}
+use Rattle.std.proofs.Common.{◌^◌, ◌≡◌, ◌∙◌, ◌≤◌, ◌<◌, ◌+◌, ◌-◌, ◌/◌, ◌%◌, ℕ, max, Bool, true, false, if◌then◌else◌, List, [], ◌∷◌, ◌++◌, length, map, Option, refl, sym, ap, subst, arith, pos, inl, inr}
 use Rattle.std.specs.List.{All, Contains}
 use Rattle.std.specs.declared.io.Error.{Error as IoError}
-use Rattle.std.proofs.lemmas.List.Elements.{All-tail, All-contains}
+use Rattle.std.proofs.lemmas.List.{append-nil}
+use Rattle.std.proofs.lemmas.List.Elements.{All-append, All-tail, All-contains}
 use Rattle.sled_codec.specs.declared.result.DiskPtr.TheVariants.{Inline}
-use Rattle.sled_codec.specs.History.{Message, History}
+use Rattle.sled_codec.specs.History.{Message, Batch, History}
 use Rattle.sled_codec.specs.Places.{MayBegin}
 use Rattle.sled_codec.specs.WellFormed.{LieApart}
+use Rattle.sled_codec.specs.Snapshots.{stable_place}
+use Rattle.sled_store.specs.Accounts.{machine_of}
 use Rattle.sled_store.specs.Device.{Trace, State}
+use Rattle.sled_store.specs.SegmentStates.{Machine}
 use Rattle.sled_core.specs.declared.iobuf.Reserved.{Reserved}
 use Rattle.sled_core.specs.declared.iobuf.Sealed.{Sealed}
 use Rattle.sled_core.specs.declared.iobuf.SegmentPosition.{SegmentPosition}
 use Rattle.sled_core.specs.declared.logger.Log.{Log}
 use Rattle.sled_core.specs.declared.reservation.Reservation.{Reservation}
-use Rattle.sled_core.specs.Tickets.{place_of, pointer_of}
-use Rattle.sled_core.specs.Buffers.{IsChain, Stands, completed_in, message_in}
-use Rattle.sled_core.specs.Fits.{Awaits, log_parts, next_place, synced_end, HoldsSegment, Holds, IsKept}
+use Rattle.sled_core.specs.Tickets.{index_of, place_of, pointer_of}
+use Rattle.sled_core.specs.Begun.{AreFilled, SegmentView, segment_view, view_at}
+use Rattle.sled_core.specs.Buffers.{IsChain, IsHeaded, Stands, completed_in, message_in}
+use Rattle.sled_core.specs.Fits.{Awaits, HoldBehind, HoldsLine, HoldsNext, current_of, log_parts, next_place, parts_in, reserved_end, synced_end, HoldsSegment, Holds, IsKept}
+use Rattle.sled_core.specs.LogFile.{StaysBelow}
+use Rattle.sled_core.specs.Positions.{is_short, next_segment_at, position_in}
+use Rattle.sled_core.specs.Waiting.{last_of}
 use Rattle.sled_core.specs.Running.{Fits}
 use Rattle.sled_core.specs.Reading.{IsInline}
 use Rattle.sled_core.specs.Recoverable.{LiesInSegment}
-use Rattle.sled_core.proofs.Reserve.Ranges.{all_own, completed_between, chain_grows}
+use Rattle.sled_core.proofs.Reserve.Ranges.{all_own, at_there, completed_between, chain_grows}
 use Rattle.sled_core.proofs.Reserve.Entries.{completed_plain, reserved_in, some_long}
 use Rattle.sled_core.proofs.Flush.Completed.{all_below, which}
-use Rattle.sled_core.proofs.Holds.NoneBehind.{holds_alone}
-use Rattle.sled_core.proofs.Holds.WholeHistory.{of_one, whole_apart, whole_inline}
+use Rattle.sled_core.proofs.Holds.WholeHistory.{whole_apart, whole_inline}
+use Rattle.sled_core.proofs.Line.Facts.{current_facts, nth_facts}
 use Rattle.sled_core.proofs.Read.ScanLemmas.{aligned_offset}
 
 -- A message lies behind a place in a segment, where a record may begin and in the segment's slot, and its pointer says so.
@@ -87,13 +95,54 @@ kept_past sum size site from device H kept = λ k d lt. (kept.below k d lt).1
 -- Of a log that fits a history.
 
 -- each message begins below the next place
+module _ (sum : List ℕ → ℕ) (size : ℕ) (device : State) (fault : Option IoError) where
+  abbrev end_of : SegmentView → ℕ
+  end_of v = v.parts.site.place + length v.parts.bytes
+
+  -- those of one behind another begin below its end, and of all of them below the end of the last one
+  next_below : (place : ℕ) (w : SegmentView) (stays : Message → Type 0) (batches : List Batch) (own : List Message) → HoldsNext sum size device fault place w.parts stays batches own → All (λ m. m.place < end_of w) own
+  next_below place w stays batches own here = λ k d lt. (all_below sum size w.parts.site device fault w.parts.bytes w.parts.written_len w.parts.sealed w.parts.reserved (record { messages = own; batches = batches }) here.segment k d lt).0
+
+  later_below : (place : ℕ) (w : SegmentView) (ws : List SegmentView) (stays : Message → Type 0) (batches : List Batch) (ms : List Message) → HoldBehind sum size device fault place (map parts_in (w ∷ ws)) stays batches ms
+      → (place ≤ end_of (last_of w ws)) × All (λ m. m.place < end_of (last_of w ws)) ms
+  later_below place w [] stays batches ms (own, later, all, here, none) =
+      let at : w.parts.site.place ≡ place = here.next in
+      (omega (arith, at), subst (All (λ (m : Message). m.place < end_of w)) (sym (all ∙ ap (λ (l : List Message). own ++ l) none ∙ append-nil own)) (next_below place w stays batches own here))
+  later_below place w (x ∷ xs) stays batches ms (own, later, all, here, rest) =
+      let far = later_below (place + size) x xs stays batches later rest in
+      let up = far.0 in
+      let at : w.parts.site.place ≡ place = here.next in
+      let inside = here.inside in
+      let mine = next_below place w stays batches own here in
+      (omega (arith, up), subst (All (λ (m : Message). m.place < end_of (last_of x xs))) (sym all) (All-append (λ (m : Message). m.place < end_of (last_of x xs)) own later (λ k d lt. let low = mine k d lt in omega (arith, low, at, inside, up)) far.1))
+
+  pub line_below : (v : SegmentView) (vs : List SegmentView) (H : History) → length v.parts.bytes ≤ size → HoldsLine sum size device fault (v ∷ vs) H → All (λ m. m.place < end_of (last_of v vs)) H.messages
+  line_below v vs H inside holds = by vs holds.later holds.messages holds.others where
+    mine : All (λ m. m.place < end_of v) holds.head
+    mine = λ k d lt. (all_below sum size v.parts.site device fault v.parts.bytes v.parts.written_len v.parts.sealed v.parts.reserved (record { messages = holds.head; batches = H.batches }) holds.own k d lt).0
+
+    by : (vs : List SegmentView) (later : List Message) → H.messages ≡ holds.head ++ later → HoldBehind sum size device fault (v.parts.site.place + size) (map parts_in vs) (StaysBelow H (stable_place holds.begun.first.stable) v.parts.site.place) H.batches later
+        → All (λ m. m.place < end_of (last_of v vs)) H.messages
+    by [] later all none = subst (All (λ (m : Message). m.place < end_of v)) (sym (all ∙ ap (λ (l : List Message). holds.head ++ l) none ∙ append-nil holds.head)) mine
+    by (x ∷ xs) later all rest =
+        let far = later_below (v.parts.site.place + size) x xs _ H.batches later rest in
+        let up = far.0 in
+        subst (All (λ (m : Message). m.place < end_of (last_of x xs))) (sym all) (All-append (λ (m : Message). m.place < end_of (last_of x xs)) holds.head later (λ k d lt. let low = mine k d lt in omega (arith, low, inside, up)) far.1)
+
+-- the next one begins behind all bytes
+position_past : (size : ℕ) (v : SegmentView) (m : Machine) → length v.parts.bytes ≤ size → v.parts.site.place + length v.parts.bytes ≤ (position_in size v m).place
+position_past size v m inside = by (is_short size (length v.parts.bytes)) where
+  by : (b : Bool) → v.parts.site.place + length v.parts.bytes ≤ (if b then next_segment_at size v.parts.site.place m else record { place = v.parts.site.place + length v.parts.bytes; begins = v.parts.site.place; slot = v.parts.site.slot; machine = m }).place
+  by true = omega (arith, inside)
+  by false = omega arith
+
 pub fits_reach : {D C : Type 0} (trace : D → Trace) (sum : List ℕ → ℕ) (log : Log D C) (H : History) (A f : ℕ) (U : List Message) → Fits trace sum log H A f U → All (λ m. m.place < next_place log) H.messages
 unfolding Fits
 fits_reach trace sum log H A f U fits =
-    let holds = holds_alone log sum _ H fits.parts.holds in
-    let one = of_one sum log.config.config.segment_size log.site _ log.fault log.buffer.bytes.items log.buffer.written_len log.buffer.sealed.items log.buffer.reserved.items H holds in
-    subst (All (λ (m : Message). m.place < next_place log)) (sym one)
-    (λ k d lt. (all_below sum log.config.config.segment_size log.site _ log.fault log.buffer.bytes.items log.buffer.written_len log.buffer.sealed.items log.buffer.reserved.items (record { messages = holds.head; batches = H.batches }) holds.own k d lt).0)
+    let size : ℕ = log.config.config.segment_size in
+    let past = position_past size (current_of log) (machine_of log.accountant) (current_facts log).short in
+    let low = line_below sum size _ log.fault (view_at log.site log.buffer) (map segment_view log.behind.items) H log.in_segment fits.parts.holds in
+    λ k d lt. let below = low k d lt in omega (arith, below, past)
 
 -- the messages lie one behind another
 pub fits_apart : {D C : Type 0} (trace : D → Trace) (sum : List ℕ → ℕ) (log : Log D C) (H : History) (A f : ℕ) (U : List Message) → Fits trace sum log H A f U → LieApart H.messages
@@ -110,7 +159,7 @@ fits_inline trace sum log H A f U fits m there above =
 -- it holds the history
 pub fits_holds : {D C : Type 0} (trace : D → Trace) (sum : List ℕ → ℕ) (log : Log D C) (H : History) (A f : ℕ) (U : List Message) → Fits trace sum log H A f U → Holds trace sum log H
 unfolding Fits Holds
-fits_holds trace sum log H A f U fits = fits.parts.holds
+fits_holds trace sum log H A f U fits = record { holds = fits.parts.holds; slots = fits.slots }
 
 -- what was acknowledged is written
 pub fits_acknowledged : {D C : Type 0} (trace : D → Trace) (sum : List ℕ → ℕ) (log : Log D C) (H : History) (A f : ℕ) (U : List Message) → Fits trace sum log H A f U → A ≤ synced_end log
@@ -128,6 +177,26 @@ awaited log ticket m awaits =
 pub awaited_inline : {D C : Type 0} (log : Log D C) (ticket : Reservation) (m : Message) → Awaits log ticket m → IsInline m.pointer
 awaited_inline log ticket m awaits = subst (λ (x : Message). IsInline x.pointer) (sym awaits.message) tt
 
--- the next place is a place
-pub next_small : {D C : Type 0} (log : Log D C) → next_place log < 2 ^ 63
-next_small log = let inside = log.in_segment in let reach = log.place_in_reach in omega (arith, inside, reach)
+-- and that place is one of those that code counts
+pub awaited_small : {D C : Type 0} (log : Log D C) (ticket : Reservation) (m : Message) → Awaits log ticket m → m.place < 2 ^ 63
+awaited_small log ticket m awaits =
+    let v : SegmentView = awaits.segment in
+    let facts = nth_facts log awaits.number v awaits.among in
+    let inside = facts.short in
+    let reach = facts.place_small in
+    let within = at_there (λ x. x.from + x.len ≤ length v.parts.bytes) v.parts.reserved (index_of ticket - v.gone) awaits.reserved awaits.there facts.within in
+    let place = ap (λ (x : Message). x.place) awaits.message in
+    let some = (at_there IsHeaded v.parts.reserved (index_of ticket - v.gone) awaits.reserved awaits.there facts.headed).0 in
+    omega (arith, inside, reach, within, place, some)
+
+-- so is the end of what was reserved
+filled_end : (size to : ℕ) (v : SegmentView) (vs : List SegmentView) → AreFilled size to (v ∷ vs) → to ≤ (last_of v vs).parts.site.place + length (last_of v vs).parts.bytes
+filled_end size to v [] filled = filled.1
+filled_end size to v (w ∷ []) filled = filled_end size to w [] filled.2
+filled_end size to v (w ∷ x ∷ xs) filled = filled_end size to w (x ∷ xs) filled.2
+
+pub reserved_inside : {D C : Type 0} (log : Log D C) → reserved_end log ≤ (current_of log).parts.site.place + length (current_of log).parts.bytes
+reserved_inside log = filled_end log.config.config.segment_size log.reserved_to (view_at log.site log.buffer) (map segment_view log.behind.items) log.filled
+
+pub reserved_small : {D C : Type 0} (log : Log D C) → reserved_end log < 2 ^ 63
+reserved_small log = let low = reserved_inside log in let facts = current_facts log in let inside = facts.short in let reach = facts.place_small in omega (arith, low, inside, reach)

@@ -14,7 +14,8 @@ use Rattle.sled_core.specs.declared.iobuf.Reserved.{Reserved}
 use Rattle.sled_core.specs.declared.iobuf.Sealed.{Sealed}
 use Rattle.sled_core.specs.declared.iobuf.SegmentPosition.{SegmentPosition}
 use Rattle.sled_core.specs.declared.logger.Log.{Log}
-use Rattle.sled_core.specs.Fits.{CloseBelow, HoldsIn, SegmentParts, begun_segment, device_of, log_parts, segment_size_of}
+use Rattle.sled_core.specs.Begun.{SegmentParts}
+use Rattle.sled_core.specs.Fits.{CloseBelow, HoldsIn, begun_segment, device_of, log_parts, segment_size_of}
 use Rattle.sled_core.specs.LogFile.{padded}
 use Rattle.sled_core.specs.Running.{BlobsFit, NamesFit, Fits, FitsIn, end_below, last_batch, last_message}
 use Rattle.sled_core.specs.Reached.{BegunSegment, StandsAmong}

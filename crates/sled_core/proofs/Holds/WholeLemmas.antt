@@ -14,7 +14,8 @@ use Rattle.sled_core.specs.declared.iobuf.Sealed.{Sealed}
 use Rattle.sled_core.specs.declared.iobuf.SegmentPosition.{SegmentPosition}
 use Rattle.sled_core.specs.Buffers.{canceling, completing, ended, message_in, HasText, NoPadding}
 use Rattle.sled_core.proofs.Reserve.Entries.{open_plain}
-use Rattle.sled_core.specs.Fits.{log_parts, HoldBehind, HoldsIn, HoldsSegment, SegmentParts}
+use Rattle.sled_core.specs.Begun.{SegmentParts}
+use Rattle.sled_core.specs.Fits.{log_parts, HoldBehind, HoldsIn, HoldsSegment}
 use Rattle.sled_core.specs.LogFile.{StaysBelow, StaysFrom}
 use Rattle.sled_core.specs.SealedBuffers.{AreSealed, one_ended, seal_at, sealed_end}
 use Rattle.sled_core.proofs.Flush.FlushLemmas.{holds_over}

@@ -156,7 +156,7 @@ mark_least : (place : ℕ) → (pos 0 -ℤ pos 1) ≤ℤ (pos place -ℤ pos 1)
 mark_least zero = omega arith
 mark_least (suc m) = subst (λ (z : ℤ). (pos 0 -ℤ pos 1) ≤ℤ z) (mark_is m) (omega arith)
 
-mark_lower : (place n : ℕ) → place ≤ n → (pos place -ℤ pos 1) <ℤ pos n
+pub mark_lower : (place n : ℕ) → place ≤ n → (pos place -ℤ pos 1) <ℤ pos n
 mark_lower zero n le = omega arith
 mark_lower (suc m) n le = subst (λ (z : ℤ). z <ℤ pos n) (mark_is m) (omega (arith, lt→ltb, le))
 

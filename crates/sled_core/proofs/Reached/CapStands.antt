@@ -19,7 +19,7 @@ use Rattle.sled_core.proofs.Read.ScanLemmas.{aligned_offset}
 use Rattle.sled_core.proofs.Reserve.Heads.{length-short_header_tail}
 
 -- The number of a length has nine bytes at most, whatever it is.
-number_short : (v : ℕ) → length (short_number v) ≤ 9
+pub number_short : (v : ℕ) → length (short_number v) ≤ 9
 unfolding short_number
 number_short v = grind (arith, nat_tests, length-take)
 

@@ -1,19 +1,17 @@
 -- The sealed buffer that has an offset is the first that ends behind it: where its reservations begin, and what is written of it.
-use Rattle.std.proofs.Common.{◌≡◌, ◌∙◌, ◌≤◌, ◌<◌, ◌+◌, ◌-◌, ◌⊎◌, nat_lt, ℕ, zero, suc, max, Bool, true, false, if◌then◌else◌, List, [], ◌∷◌, ◌++◌, length, take, drop, get_or, Some, refl, sym, ap, subst, arith, inl, inr}
+use Rattle.std.proofs.Common.{◌≡◌, ◌≤◌, ◌<◌, ◌+◌, ◌-◌, ℕ, zero, suc, max, List, [], ◌∷◌, ◌++◌, length, take, drop, get_or, Some, refl, sym, ap, subst, arith, inl, inr}
 use Rattle.std.specs.List.{All, slice_get}
 use Rattle.std.specs.List.Sorted.{IsNonDecreasingBy, IsPartitionPoint}
 use Rattle.std.proofs.lemmas.Bool.{cases_lt}
-use Rattle.std.proofs.lemmas.Bool.Decides.{nat_tests}
 use Rattle.std.proofs.lemmas.List.{drop-drop}
 use Rattle.std.proofs.lemmas.Option.{slice_get-get_or, slice_get_within}
 use Rattle.sled_core.specs.declared.iobuf.Reserved.{Reserved}
 use Rattle.sled_core.specs.declared.iobuf.Sealed.{Sealed}
 use Rattle.sled_core.specs.Buffers.{IsChain}
-use Rattle.sled_core.specs.ReadBuffer.{reserved_around, write_around, written_around}
-use Rattle.sled_core.specs.SealedBuffers.{AreSealed, IsSealed, behind_run, bytes_between, is_ready, run_end, sealed_count, sealed_end, writing, written_at}
+use Rattle.sled_core.specs.SealedBuffers.{AreSealed, IsSealed, sealed_count, sealed_end}
 use Rattle.sled_core.proofs.Reserve.Ranges.{chain_within}
 use Rattle.sled_core.proofs.Sealed.Ended.{chain_rest, get_behind, get_front, lies_in}
-use Rattle.sled_core.proofs.Sealed.Runs.{chain_on, end_begun, run_of, take_more}
+use Rattle.sled_core.proofs.Sealed.Runs.{chain_on, end_begun, take_more}
 
 -- All reservations of sealed buffers and of the current one are one chain.
 pub whole_chain : (from : ℕ) (rs : List Reserved) (bs : List Sealed) (end : ℕ) → AreSealed from rs bs → IsChain (max 20 (sealed_end from bs)) (drop (sealed_count bs) rs) end → IsChain (max 20 from) rs end
@@ -114,73 +112,6 @@ pub record IsAround (at k : ℕ) (bs : List Sealed) (b : Sealed) : Type 0 where
 -- those behind the first one
 around_rest : (at k : ℕ) (x : Sealed) (bs : List Sealed) (b : Sealed) → IsAround at (suc k) (x ∷ bs) b → IsAround at k bs b
 around_rest at k x bs b is = record { there = is.there; below = λ j d lt. is.below (suc j) d (omega (arith, lt)); above = is.above }
-
--- the first one has it
-first_has : (at : ℕ) (x : Sealed) (bs : List Sealed) (b : Sealed) → IsAround at zero (x ∷ bs) b → (x ≡ b) × (nat_lt at x.end ≡ true)
-first_has at x bs b is =
-    let there = is.there in
-    let same : x ≡ b = cc in
-    let above = is.above in
-    let end : x.end ≡ b.end = ap (λ (y : Sealed). y.end) same in
-    let lt : at < x.end = omega (arith, above, end) in
-    (same, grind (arith, nat_tests, lt))
-
--- or hasn't
-first_hasnt : (at k : ℕ) (x : Sealed) (bs : List Sealed) (b : Sealed) → IsAround at (suc k) (x ∷ bs) b → nat_lt at x.end ≡ false
-first_hasnt at k x bs b is = let low : x.end ≤ at = is.below 0 x (omega arith) in grind (arith, nat_tests, low)
-
-module _ (at : ℕ) where
-  -- what writes it, where it can be written
-  pub write_at : (slot : ℕ) (bytes : List ℕ) (from : ℕ) (bs more : List Sealed) (k : ℕ) (b : Sealed) → IsAround at k bs b
-      → write_around slot bytes at from (bs ++ more) ≡ (if is_ready b then writing (slot + sealed_end from (take k bs)) (bytes_between bytes (sealed_end from (take k bs)) b.end) [] else [])
-  write_at slot bytes from [] more k b is = absurd (let within = slice_get_within [] k b is.there in omega (arith, within))
-  write_at slot bytes from (x ∷ bs) more zero b is =
-      let first = first_has at x bs b is in
-      ap (λ (o : Bool). if o then (if is_ready x then writing (slot + from) (bytes_between bytes from x.end) [] else []) else write_around slot bytes at x.end (bs ++ more)) first.1
-      ∙ ap (λ (y : Sealed). if is_ready y then writing (slot + from) (bytes_between bytes from y.end) [] else []) first.0
-  write_at slot bytes from (x ∷ bs) more (suc k) b is =
-      ap (λ (o : Bool). if o then (if is_ready x then writing (slot + from) (bytes_between bytes from x.end) [] else []) else write_around slot bytes at x.end (bs ++ more)) (first_hasnt at k x bs b is)
-      ∙ write_at slot bytes x.end bs more k b (around_rest at k x bs b is)
-
-  -- its reservations
-  pub reserved_at : (rs : List Reserved) (bs more : List Sealed) (k : ℕ) (b : Sealed) → IsAround at k bs b → reserved_around at (bs ++ more) rs ≡ take b.count (drop (sealed_count (take k bs)) rs)
-  reserved_at rs [] more k b is = absurd (let within = slice_get_within [] k b is.there in omega (arith, within))
-  reserved_at rs (x ∷ bs) more zero b is =
-      let first = first_has at x bs b is in
-      ap (λ (o : Bool). if o then take x.count rs else reserved_around at (bs ++ more) (drop x.count rs)) first.1 ∙ ap (λ (y : Sealed). take y.count rs) first.0
-  reserved_at rs (x ∷ bs) more (suc k) b is =
-      ap (λ (o : Bool). if o then take x.count rs else reserved_around at (bs ++ more) (drop x.count rs)) (first_hasnt at k x bs b is)
-      ∙ reserved_at (drop x.count rs) bs more k b (around_rest at k x bs b is) ∙ ap (take b.count) (drop-drop (sealed_count (take k bs)) x.count rs)
-
-  -- whether it is written
-  pub written_is : (bs : List Sealed) (k : ℕ) (b : Sealed) → IsAround at k bs b → written_around at bs ≡ b.is_written
-  written_is [] k b is = absurd (let within = slice_get_within [] k b is.there in omega (arith, within))
-  written_is (x ∷ bs) zero b is =
-      let first = first_has at x bs b is in
-      ap (λ (o : Bool). if o then x.is_written else written_around at bs) first.1 ∙ ap (λ (y : Sealed). y.is_written) first.0
-  written_is (x ∷ bs) (suc k) b is = ap (λ (o : Bool). if o then x.is_written else written_around at bs) (first_hasnt at k x bs b is) ∙ written_is bs k b (around_rest at k x bs b is)
-
-  -- it is, once it was
-  now_around : (bs : List Sealed) (k : ℕ) (b : Sealed) → IsAround at k bs b → written_around at (written_at k bs) ≡ true
-  now_around [] k b is = absurd (let within = slice_get_within [] k b is.there in omega (arith, within))
-  now_around (x ∷ bs) zero b is = ap (λ (o : Bool). if o then true else written_around at bs) (first_has at x bs b is).1
-  now_around (x ∷ bs) (suc k) b is = ap (λ (o : Bool). if o then x.is_written else written_around at (written_at k bs)) (first_hasnt at k x bs b is) ∙ now_around bs k b (around_rest at k x bs b is)
-
-  -- and where it has gone with the run at the front, the stable end lies behind the offset
-  pub written_left : (from : ℕ) (rs : List Reserved) (bs : List Sealed) → AreSealed from rs bs → written_around at bs ≡ true → (at < run_end from bs) ⊎ (written_around at (behind_run bs) ≡ true)
-  written_left from rs [] are is = inr is
-  written_left from rs (b ∷ bs) are is = by_written b.is_written (λ later. written_left b.end (drop b.count rs) bs are.1 later) where
-    further : (written_around at bs ≡ true → (at < run_end b.end bs) ⊎ (written_around at (behind_run bs) ≡ true)) → (o : Bool) → nat_lt at b.end ≡ o → (at < run_end b.end bs) ⊎ (written_around at (behind_run bs) ≡ true)
-    further rest true low = let rises = (run_of b.end (drop b.count rs) bs are.1).rises in inl (let lt : at < b.end = grind (arith, nat_tests, low) in omega (arith, lt, rises))
-    further rest false high = rest (sym (ap (λ (o : Bool). if o then b.is_written else written_around at bs) high) ∙ is)
-
-    by_written : (o : Bool) → (written_around at bs ≡ true → (at < run_end b.end bs) ⊎ (written_around at (behind_run bs) ≡ true)) → (at < (if o then run_end b.end bs else from)) ⊎ (written_around at (if o then behind_run bs else b ∷ bs) ≡ true)
-    by_written true rest = further rest (nat_lt at b.end) refl
-    by_written false rest = inr is
-
-  pub around_written : (from : ℕ) (rs : List Reserved) (bs : List Sealed) (k : ℕ) (b : Sealed) → AreSealed from rs (written_at k bs) → IsAround at k bs b
-      → (at < run_end from (written_at k bs)) ⊎ (written_around at (behind_run (written_at k bs)) ≡ true)
-  around_written from rs bs k b are is = written_left from rs (written_at k bs) are (now_around bs k b is)
 
 -- What a sealed buffer at an index has.
 pub sealed_at : (from : ℕ) (rs : List Reserved) (bs : List Sealed) (k : ℕ) (b : Sealed) → AreSealed from rs bs → slice_get bs k ≡ Some b → IsSealed (sealed_end from (take k bs)) (take b.count (drop (sealed_count (take k bs)) rs)) b

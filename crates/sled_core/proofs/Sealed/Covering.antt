@@ -1,126 +1,19 @@
--- An open reservation lies within one buffer that isn't written, sealed or current. That buffer is written as a whole, and is the same one once the reservation has ended.
-use Rattle.std.proofs.Common.{◌≡◌, ◌∙◌, ◌≤◌, ◌<◌, ◌+◌, ◌-◌, ℕ, max, Bool, true, false, nat_lt, if◌then◌else◌, List, [], ◌∷◌, ◌++◌, length, take, drop, set, sym, ap, arith, refl, subst, inl, inr, Some}
+-- An open reservation lies within one buffer that isn't written, sealed or current; and there it stands once it has ended.
+use Rattle.std.proofs.Common.{◌≡◌, ◌∙◌, ◌≤◌, ◌<◌, ◌+◌, ◌-◌, ℕ, max, Bool, true, false, nat_lt, if◌then◌else◌, List, [], ◌∷◌, ◌++◌, take, drop, sym, ap, arith, refl, subst, Some}
 use Rattle.std.specs.List.{Contains, slice_get}
-use Rattle.std.proofs.lemmas.Bool.{cases_lt}
-use Rattle.std.proofs.lemmas.List.{drop-drop, drop-take, length-drop, length-set, take-take}
+use Rattle.std.proofs.lemmas.Bool.Decides.{nat_tests}
+use Rattle.std.proofs.lemmas.List.{drop-drop, drop-take, take-take}
+use Rattle.std.proofs.lemmas.List.Elements.{Contains-append_left, Contains-append_right}
 use Rattle.sled_codec.specs.Places.{part}
-use Rattle.sled_store.specs.Device.{Event, Wrote}
-use Rattle.sled_store.proofs.Segments.Elements.{in_first, in_rest}
+use Rattle.sled_store.proofs.Segments.Elements.{in_first}
 use Rattle.sled_core.specs.declared.iobuf.ReservationState.TheVariants.{Open}
 use Rattle.sled_core.specs.declared.iobuf.Reserved.{Reserved}
 use Rattle.sled_core.specs.declared.iobuf.Sealed.{Sealed}
-use Rattle.sled_core.specs.Buffers.{IsChain}
-use Rattle.sled_core.specs.SealedBuffers.{IsSealed, AreSealed, buffer_writes, bytes_between, current_buffer, one_ended, one_fewer, sealed_count, sealed_end}
-use Rattle.sled_core.proofs.Reserve.Ranges.{chain_grows}
-use Rattle.sled_core.proofs.Sealed.Ended.{ends_up, get_behind, get_front, lies_in}
-use Rattle.sled_core.proofs.Sealed.InBuffer.{count_ended, own_open}
-
--- One of the writes of buffers has all of a reservation, and no byte behind an offset.
-pub record IsCovered (slot : ℕ) (bytes : List ℕ) (from : ℕ) (bs : List Sealed) (r : Reserved) (to : ℕ) : Type 0 where
-  pub at : ℕ
-  pub end : ℕ
-  pub begins : at ≤ r.from
-  pub ends : r.from + r.len ≤ end
-  pub inside : end ≤ to
-  pub there : Contains (buffer_writes slot bytes from bs) (Wrote (slot + at) (bytes_between bytes at end) (bytes_between bytes at end))
-
--- a buffer that has an open one isn't written
-unwritten : (from : ℕ) (own : List Reserved) (b : Sealed) (i : ℕ) (r : Reserved) → IsSealed from own b → slice_get own i ≡ Some r → r.state ≡ Open → b.is_written ≡ false
-unwritten from own b i r is there open_yet = by_test b.is_written refl where
-  by_test : (o : Bool) → b.is_written ≡ o → b.is_written ≡ false
-  by_test false w = w
-  by_test true w = absurd (let none = is.ended w in let some = own_open from own b i r is there open_yet in omega (arith, none, some))
-
--- In these bytes, a reservation that is open.
-module _ (slot : ℕ) (bytes : List ℕ) (to : ℕ) (r : Reserved) (open_yet : r.state ≡ Open) where
-  -- the first buffer has it
-  covered_first : (from : ℕ) (rs : List Reserved) (b : Sealed) (rest : List Sealed) (i : ℕ) → IsSealed from (take b.count rs) b → i < b.count → slice_get rs i ≡ Some r → b.end ≤ to → IsCovered slot bytes from (b ∷ rest) r to
-  covered_first from rs b rest i is own there inside =
-      let mine = get_front rs b.count i r own there in
-      let lies = lies_in (max 20 from) b.end (take b.count rs) i r is.chain mine in
-      let low = lies.0 in
-      let one : Event = Wrote (slot + from) (bytes_between bytes from b.end) (bytes_between bytes from b.end) in
-      let others : List Event = buffer_writes slot bytes b.end rest in
-      record {
-        at = from;
-        end = b.end;
-        begins = omega (arith, low);
-        ends = lies.1;
-        inside = inside;
-        there = subst (λ (o : Bool). Contains (if o then others else one ∷ others) one) (sym (unwritten from (take b.count rs) b i r is mine open_yet)) (in_first one others);
-      }
-
-  -- another one has it
-  covered_later : (from : ℕ) (b : Sealed) (rest : List Sealed) → IsCovered slot bytes b.end rest r to → IsCovered slot bytes from (b ∷ rest) r to
-  covered_later from b rest is =
-      let one : Event = Wrote (slot + from) (bytes_between bytes from b.end) (bytes_between bytes from b.end) in
-      let its : Event = Wrote (slot + is.at) (bytes_between bytes is.at is.end) (bytes_between bytes is.at is.end) in
-      record { at = is.at; end = is.end; begins = is.begins; ends = is.ends; inside = is.inside; there = among b.is_written one its (buffer_writes slot bytes b.end rest) is.there }
-    where
-      among : (o : Bool) (one its : Event) (others : List Event) → Contains others its → Contains (if o then others else one ∷ others) its
-      among true one its others there = there
-      among false one its others there = in_rest one its others there
-
-  -- the current one has it
-  covered_current : (from : ℕ) (rs : List Reserved) (i : ℕ) → IsChain (max 20 from) rs to → slice_get rs i ≡ Some r → IsCovered slot bytes from (current_buffer to rs) r to
-  covered_current from [] i chain there = cc
-  covered_current from (x ∷ xs) i chain there =
-      let lies = lies_in (max 20 from) to (x ∷ xs) i r chain there in
-      let low = lies.0 in
-      record {
-        at = from;
-        end = to;
-        begins = omega (arith, low);
-        ends = lies.1;
-        inside = omega arith;
-        there = in_first (Wrote (slot + from) (bytes_between bytes from to) (bytes_between bytes from to)) [];
-      }
-
-  -- One of the writes of the sealed buffers and the current one has it.
-  pub covered : (from : ℕ) (rs : List Reserved) (bs : List Sealed) (i : ℕ) → AreSealed from rs bs → IsChain (max 20 (sealed_end from bs)) (drop (sealed_count bs) rs) to → slice_get rs i ≡ Some r
-      → IsCovered slot bytes from (bs ++ current_buffer to (drop (sealed_count bs) rs)) r to
-  covered from rs [] i are chain there = covered_current from rs i chain there
-  covered from rs (b ∷ bs) i are chain there = elim (cases_lt i b.count) [
-    | inl own ↦ (
-        let up = ends_up b.end (drop b.count rs) bs are.1 in
-        let far = chain_grows (max 20 (sealed_end b.end bs)) to (drop (b.count + sealed_count bs) rs) chain in
-        covered_first from rs b (bs ++ current_buffer to (drop (b.count + sealed_count bs) rs)) i are.0 own there (omega (arith, up, far)))
-    | inr later ↦ (
-        let both : drop (sealed_count bs) (drop b.count rs) ≡ drop (b.count + sealed_count bs) rs = drop-drop (sealed_count bs) b.count rs in
-        covered_later from b (bs ++ current_buffer to (drop (b.count + sealed_count bs) rs))
-        (subst (λ (l : List Reserved). IsCovered slot bytes b.end (bs ++ current_buffer to l) r to) both
-        (covered b.end (drop b.count rs) bs (i - b.count) are.1 (subst (λ (l : List Reserved). IsChain (max 20 (sealed_end b.end bs)) l to) (sym both) chain) (get_behind rs b.count i r later there))))
-  ]
-
--- The writes of buffers of these bytes, once one of the reservations has ended.
-module _ (slot : ℕ) (bytes : List ℕ) where
-  -- those of the sealed ones are the same
-  writes_ended : (from i : ℕ) (bs more : List Sealed) → buffer_writes slot bytes from (one_ended i bs ++ more) ≡ buffer_writes slot bytes from (bs ++ more)
-  writes_ended from i [] more = refl
-  writes_ended from i (b ∷ bs) more = by_test (nat_lt i b.count) (writes_ended b.end (i - b.count) bs more) where
-    by_test : (o : Bool) → buffer_writes slot bytes b.end (one_ended (i - b.count) bs ++ more) ≡ buffer_writes slot bytes b.end (bs ++ more)
-        → buffer_writes slot bytes from ((if o then one_fewer b ∷ bs else b ∷ one_ended (i - b.count) bs) ++ more) ≡ buffer_writes slot bytes from (b ∷ bs ++ more)
-    by_test true rest = refl
-    by_test false rest = ap (λ (es : List Event). if b.is_written then es else Wrote (slot + from) (bytes_between bytes from b.end) (bytes_between bytes from b.end) ∷ es) rest
-
-  -- and that of the current one, which has as many
-  writes_current : (from to : ℕ) (bs : List Sealed) (xs ys : List Reserved) → length xs ≡ length ys → buffer_writes slot bytes from (bs ++ current_buffer to xs) ≡ buffer_writes slot bytes from (bs ++ current_buffer to ys)
-  writes_current from to [] xs ys same = one xs ys same where
-    one : (xs ys : List Reserved) → length xs ≡ length ys → buffer_writes slot bytes from (current_buffer to xs) ≡ buffer_writes slot bytes from (current_buffer to ys)
-    one [] [] same = refl
-    one [] (y ∷ ys) same = absurd (omega (arith, same))
-    one (x ∷ xs) [] same = absurd (omega (arith, same))
-    one (x ∷ xs) (y ∷ ys) same = refl
-  writes_current from to (b ∷ bs) xs ys same =
-      ap (λ (es : List Event). if b.is_written then es else Wrote (slot + from) (bytes_between bytes from b.end) (bytes_between bytes from b.end) ∷ es) (writes_current b.end to bs xs ys same)
-
-  -- All of them are the same.
-  pub same_writes : (from to i : ℕ) (bs : List Sealed) (rs : List Reserved) (x : Reserved)
-      → buffer_writes slot bytes from (one_ended i bs ++ current_buffer to (drop (sealed_count (one_ended i bs)) (set rs i x))) ≡ buffer_writes slot bytes from (bs ++ current_buffer to (drop (sealed_count bs) rs))
-  same_writes from to i bs rs x =
-      let n : ℕ = sealed_count (one_ended i bs) in
-      let many : length (drop n (set rs i x)) ≡ length (drop (sealed_count bs) rs) = omega (arith, length-drop n (set rs i x), length-set rs i x, length-drop (sealed_count bs) rs, count_ended i bs) in
-      writes_ended from i bs (current_buffer to (drop n (set rs i x))) ∙ writes_current from to bs (drop n (set rs i x)) (drop (sealed_count bs) rs) many
+use Rattle.sled_core.specs.declared.iobuf.SegmentPosition.{SegmentPosition}
+use Rattle.sled_core.specs.SealedBuffers.{IsSealed, AreSealed, bytes_between, one_ended, one_fewer, sealed_count, sealed_end}
+use Rattle.sled_core.specs.Waiting.{BufferAt, buffer_at, unwritten_in}
+use Rattle.sled_core.proofs.Sealed.Ended.{get_behind, get_front, lies_in}
+use Rattle.sled_core.proofs.Sealed.InBuffer.{own_open}
 
 -- a part of the bytes of a buffer is that part of the segment's
 pub part-between : (bytes : List ℕ) (at end from n : ℕ) → at ≤ from → from + n ≤ end → part (bytes_between bytes at end) (from - at) n ≡ part bytes from n
@@ -132,3 +25,74 @@ part-between bytes at end from n begins ends =
     ∙ (λ i. drop (up i) (take (sym far i) bytes))
     ∙ drop-take from (end - from) bytes)
     ∙ take-take n (end - from) (drop from bytes) (omega (arith, ends))
+
+-- One of these buffers has this text at an offset of a segment.
+pub record StandsIn (site : SegmentPosition) (from len : ℕ) (text : List ℕ) (bs : List BufferAt) : Type 0 where
+  pub buffer : BufferAt
+  pub there : Contains bs buffer
+  pub begins : buffer.place ≤ site.place + from
+  pub ends : site.place + from + len ≤ buffer.end
+  pub behind : buffer.lid ≤ site.slot + from
+  pub whole : part buffer.bytes (site.slot + from - buffer.lid) len ≡ text
+
+pub stands_left : (site : SegmentPosition) (from len : ℕ) (text : List ℕ) (bs cs : List BufferAt) → StandsIn site from len text bs → StandsIn site from len text (bs ++ cs)
+stands_left site from len text bs cs is = record { buffer = is.buffer; there = Contains-append_left bs cs is.buffer is.there; begins = is.begins; ends = is.ends; behind = is.behind; whole = is.whole }
+
+pub stands_right : (site : SegmentPosition) (from len : ℕ) (text : List ℕ) (bs cs : List BufferAt) → StandsIn site from len text cs → StandsIn site from len text (bs ++ cs)
+stands_right site from len text bs cs is = record { buffer = is.buffer; there = Contains-append_right bs cs is.buffer is.there; begins = is.begins; ends = is.ends; behind = is.behind; whole = is.whole }
+
+-- A buffer between two offsets has what lies between them.
+stands_at : (site : SegmentPosition) (bytes : List ℕ) (at end : ℕ) (own : List Reserved) (from len : ℕ) (text : List ℕ) → at ≤ from → from + len ≤ end → part bytes from len ≡ text → (bs : List BufferAt) → Contains bs (buffer_at site bytes at end own) → StandsIn site from len text bs
+stands_at site bytes at end own from len text begins ends is bs there =
+    let count : site.slot + from - (site.slot + at) ≡ from - at = omega arith in
+    record {
+      buffer = buffer_at site bytes at end own;
+      there = there;
+      begins = omega (arith, begins);
+      ends = omega (arith, ends);
+      behind = omega (arith, begins);
+      whole = ap (λ n. part (bytes_between bytes at end) n len) count ∙ part-between bytes at end from len begins ends ∙ is;
+    }
+
+-- a buffer that has an open one isn't written
+unwritten : (from : ℕ) (own : List Reserved) (b : Sealed) (i : ℕ) (r : Reserved) → IsSealed from own b → slice_get own i ≡ Some r → r.state ≡ Open → b.is_written ≡ false
+unwritten from own b i r is there open_yet = by_test b.is_written refl where
+  by_test : (o : Bool) → b.is_written ≡ o → b.is_written ≡ false
+  by_test false w = w
+  by_test true w = absurd (let none = is.ended w in let some = own_open from own b i r is there open_yet in omega (arith, none, some))
+
+-- one of the others has it
+stands_later : (site : SegmentPosition) (from len : ℕ) (text : List ℕ) (o : Bool) (x : BufferAt) (bs : List BufferAt) → StandsIn site from len text bs → StandsIn site from len text (if o then bs else x ∷ bs)
+stands_later site from len text true x bs is = is
+stands_later site from len text false x bs is = stands_right site from len text (x ∷ []) bs is
+
+-- Where these bytes have a text at a reservation that was open, a buffer has it: the sealed one that the reservation is of, whatever is sealed behind it,
+pub sealed_stands : (site : SegmentPosition) (bytes : List ℕ) (r : Reserved) (text : List ℕ) → part bytes r.from r.len ≡ text → r.state ≡ Open → (from i : ℕ) (rs : List Reserved) (bs : List Sealed) → AreSealed from rs bs → slice_get rs i ≡ Some r → i < sealed_count bs
+    → (more : List Sealed) (now : List Reserved) → StandsIn site r.from r.len text (unwritten_in site bytes from (one_ended i bs ++ more) now)
+sealed_stands site bytes r text is open_yet from i rs [] are there theirs more now = absurd (omega (arith, theirs))
+sealed_stands site bytes r text is open_yet from i rs (b ∷ bs) are there theirs more now =
+    by_test (λ above. sealed_stands site bytes r text is open_yet b.end (i - b.count) (drop b.count rs) bs are.1 (get_behind rs b.count i r above there) (omega (arith, theirs, above)) more (drop b.count now)) (nat_lt i b.count) refl
+  where
+    by_test : (b.count ≤ i → StandsIn site r.from r.len text (unwritten_in site bytes b.end (one_ended (i - b.count) bs ++ more) (drop b.count now))) → (o : Bool) → nat_lt i b.count ≡ o
+        → StandsIn site r.from r.len text (unwritten_in site bytes from ((if o then one_fewer b ∷ bs else b ∷ one_ended (i - b.count) bs) ++ more) now)
+    by_test later true test =
+        let below : i < b.count = grind (arith, nat_tests, test) in
+        let mine = get_front rs b.count i r below there in
+        let lies = lies_in (max 20 from) b.end (take b.count rs) i r are.0.chain mine in
+        let low = lies.0 in
+        let one : BufferAt = buffer_at site bytes from b.end (take b.count now) in
+        let others : List BufferAt = unwritten_in site bytes b.end (bs ++ more) (drop b.count now) in
+        subst (λ (o : Bool). StandsIn site r.from r.len text (if o then others else one ∷ others)) (sym (unwritten from (take b.count rs) b i r are.0 mine open_yet))
+        (stands_at site bytes from b.end (take b.count now) r.from r.len text (omega (arith, low)) lies.1 is (one ∷ others) (in_first one others))
+    by_test later false test =
+        let above : b.count ≤ i = grind (arith, nat_tests, test) in
+        stands_later site r.from r.len text b.is_written (buffer_at site bytes from b.end (take b.count now)) (unwritten_in site bytes b.end (one_ended (i - b.count) bs ++ more) (drop b.count now)) (later above)
+
+-- or the one that is sealed last, where it lies in that.
+pub last_stands : (site : SegmentPosition) (bytes : List ℕ) (at len : ℕ) (text : List ℕ) → part bytes at len ≡ text → (from : ℕ) (bs : List Sealed) (c : Sealed) → c.is_written ≡ false → sealed_end from bs ≤ at → at + len ≤ c.end
+    → (now : List Reserved) → StandsIn site at len text (unwritten_in site bytes from (bs ++ c ∷ []) now)
+last_stands site bytes at len text is from [] c fresh low high now =
+    let one : BufferAt = buffer_at site bytes from c.end (take c.count now) in
+    subst (λ (o : Bool). StandsIn site at len text (if o then [] else one ∷ [])) (sym fresh) (stands_at site bytes from c.end (take c.count now) at len text low high is (one ∷ []) (in_first one []))
+last_stands site bytes at len text is from (b ∷ bs) c fresh low high now =
+    stands_later site at len text b.is_written (buffer_at site bytes from b.end (take b.count now)) (unwritten_in site bytes b.end (bs ++ c ∷ []) (drop b.count now)) (last_stands site bytes at len text is b.end bs c fresh low high (drop b.count now))

@@ -1,11 +1,11 @@
 -- Where the log file has zeros beside the buffers of a segment that were written.
-use Rattle.std.proofs.Common.{◌≡◌, ◌≤◌, ◌+◌, ℕ, Bool, false, List, [], ◌∷◌, max, take, refl, subst, arith, inl, inr}
+use Rattle.std.proofs.Common.{◌≡◌, ◌≤◌, ◌+◌, ℕ, Bool, false, List, [], ◌∷◌, max, take, ap, refl, subst, arith, inl, inr}
 use Rattle.std.proofs.lemmas.Bool.{cases_lt}
 use Rattle.std.proofs.Math.Seq.{take-nil, drop-nil}
 use Rattle.sled_core.specs.declared.iobuf.Reserved.{Reserved}
 use Rattle.sled_core.specs.declared.iobuf.Sealed.{Sealed}
 use Rattle.sled_core.specs.Buffers.{IsChain}
-use Rattle.sled_core.specs.SealedBuffers.{AreSealed, AreZeros, FirstUnwritten, Laid, LaidOne}
+use Rattle.sled_core.specs.SealedBuffers.{AreSealed, AreZeros, FirstUnwritten, Laid, LaidOne, sealed_end}
 use Rattle.sled_core.proofs.Reserve.Ranges.{chain_grows}
 
 -- The first buffer isn't written, so where it lies the file has zeros.
@@ -29,6 +29,16 @@ header_alone from b chain = let none : IsChain (max 20 from) [] b.end = subst (�
 pub none_sealed : (from : ℕ) (bs : List Sealed) → 20 ≤ from → AreSealed from [] bs → bs ≡ []
 none_sealed from [] begun are = refl
 none_sealed from (b ∷ bs) begun are = let alone = header_alone from b are.0.chain in let up = are.0.rises in absurd (omega (arith, begun, alone, up))
+
+-- so no more than the header is sealed then
+pub sealed_short : (from : ℕ) (bs : List Sealed) → AreSealed from [] bs → sealed_end from bs ≤ max 20 from
+sealed_short from [] are = omega arith
+sealed_short from (b ∷ bs) are =
+    let alone = header_alone from b are.0.chain in
+    let later : AreSealed b.end [] bs = subst (λ (l : List Reserved). AreSealed b.end l bs) (drop-nil b.count) are.1 in
+    let none = none_sealed b.end bs (omega (arith, alone)) later in
+    let end : sealed_end b.end bs ≡ b.end = ap (sealed_end b.end) none in
+    omega (arith, alone, end)
 
 -- Where nothing was reserved behind what was written, the file has zeros there: no buffer was sealed, or only that of the header.
 pub rest_zeros : (log : List ℕ) (slot : ℕ) (bytes : List ℕ) (from : ℕ) (bs : List Sealed) (to : ℕ) → FirstUnwritten bs → AreSealed from [] bs → Laid log slot bytes from bs to → AreZeros log (slot + from) (slot + to)

@@ -1,14 +1,17 @@
 -- What is written to make a place durable, and what holds that up, where it isn't durable yet, and where it is.
-use Rattle.std.proofs.Common.{◌≡◌, ◌∙◌, ◌≤ℤ◌, ◌<ℤ◌, int_lt, true, false, Bool, ℕ, ℤ, pos, Option, None, Err, if◌then◌else◌, [], sym, ap, arith}
+use Rattle.std.proofs.Common.{◌≡◌, ◌∙◌, ◌≤ℤ◌, ◌<ℤ◌, ◌+◌, ◌-ℤ◌, ◌<◌, ◌≤◌, ◌^◌, int_lt, unsigned_abs, refl, true, false, Bool, ℕ, ℤ, pos, negsuc, List, Option, None, Err, if◌then◌else◌, [], sym, ap, subst, arith, map}
+use Rattle.std.specs.Int.Signed.{le_z}
 use Rattle.std.proofs.lemmas.Int.{ints}
 use Rattle.std.specs.declared.io.Error.{Error as IoError}
 use Rattle.sled_codec.specs.declared.result.Error.{Error}
-use Rattle.sled_codec.specs.declared.result.Error.TheVariants.{Held, Io, OutOfMemory}
+use Rattle.sled_codec.specs.declared.result.Error.TheVariants.{Held, Io, OutOfMemory, PlacesUsedUp}
+use Rattle.sled_core.specs.Begun.{segment_view, view_at}
 use Rattle.sled_core.specs.declared.logger.Log.{Log}
-use Rattle.sled_core.specs.Causes.{HeldAnswers, IsHeld, OnDone}
-use Rattle.sled_core.specs.Fits.{held_below, synced_end, writing_below}
-use Rattle.sled_core.specs.Keeps.{SealsBelow}
-use Rattle.sled_core.specs.Stable.{StableAnswers, held_for, length_to, stabilizing}
+use Rattle.sled_core.specs.Causes.{HeldAnswers, OnDone}
+use Rattle.sled_core.specs.Fits.{holding_below, reserved_end, synced_end, writing_below}
+use Rattle.sled_core.specs.Stable.{StableAnswers, behind_place, held_for, stabilizing}
+use Rattle.sled_core.proofs.Line.Entered.{filled_last}
+use Rattle.sled_core.proofs.Line.Facts.{current_facts}
 
 not_less : (a b : ℤ) → b ≤ℤ a → int_lt a b ≡ false
 not_less a b le = grind (arith, ints)
@@ -16,44 +19,60 @@ not_less a b le = grind (arith, ints)
 is_less : (a b : ℤ) → a <ℤ b → int_lt a b ≡ true
 is_less a b lt = grind (arith, ints)
 
--- A place that isn't durable.
-pub stabilizes : {D C : Type 0} (log : Log D C) (lsn : ℤ) → pos (synced_end log) ≤ℤ lsn → stabilizing log lsn ≡ writing_below log (length_to log lsn)
-stabilizes log lsn above = ap (λ (o : Bool). if o then [] else writing_below log (length_to log lsn)) (not_less lsn (pos (synced_end log)) above)
+-- the place behind one that isn't below another, where its bits are read
+pub behind_read : (lsn read : ℤ) (n : ℕ) → read ≡ lsn → pos n ≤ℤ lsn → unsigned_abs read + 1 ≡ behind_place lsn
+behind_read lsn read n same above = ap (λ z. unsigned_abs z + 1) same ∙ by lsn above where
+  by : (z : ℤ) → pos n ≤ℤ z → unsigned_abs z + 1 ≡ behind_place z
+  by (pos k) high = refl
+  by (negsuc k) high = absurd (omega (arith, ints, high))
 
-pub holds_it : {D C : Type 0} (log : Log D C) (lsn : ℤ) → pos (synced_end log) ≤ℤ lsn → held_for log lsn ≡ held_below log (length_to log lsn)
-holds_it log lsn above = ap (λ (o : Bool). if o then None else held_below log (length_to log lsn)) (not_less lsn (pos (synced_end log)) above)
+-- A place that is tested is behind the last one before an end, or before an end.
+pub above_read : (lsn got read last : ℤ) (end : ℕ) → read ≡ lsn → last ≡ got → got ≡ pos end -ℤ pos 1 → le_z read last ≡ false → pos end ≤ℤ lsn
+above_read lsn got read last end same it is test = grind (arith, ints, same, it, is, test)
 
--- One that is.
-pub holds_none : {D C : Type 0} (log : Log D C) (lsn : ℤ) → lsn <ℤ pos (synced_end log) → held_for log lsn ≡ None
-holds_none log lsn below = ap (λ (o : Bool). if o then None else held_below log (length_to log lsn)) (is_less lsn (pos (synced_end log)) below)
+pub inside_read : (lsn read last : ℤ) (end : ℕ) → read ≡ lsn → last ≡ pos end → le_z last read ≡ false → lsn <ℤ pos end
+inside_read lsn read last end same it test = grind (arith, ints, same, it, test)
 
--- What was asked for that place, where its bits are read, is what makes it durable, and what holds that up is what is asked of it.
-pub wrote_for : {D C : Type 0} (log : Log D C) (lsn read : ℤ) → read ≡ lsn → pos (synced_end log) ≤ℤ lsn → writing_below log (length_to log read) ≡ stabilizing log lsn
-wrote_for log lsn read same above = ap (λ z. writing_below log (length_to log z)) same ∙ sym (stabilizes log lsn above)
+-- What was reserved ends in reach.
+pub reserved_in_reach : {D C : Type 0} (log : Log D C) → reserved_end log < 2 ^ 63
+reserved_in_reach log =
+    let most = (filled_last log.config.config.segment_size log.reserved_to (view_at log.site log.buffer) (map segment_view log.behind.items) log.filled).1 in
+    let facts = current_facts log in
+    let short = facts.short in
+    let near = facts.place_small in
+    omega (arith, most, short, near)
 
-pub held_up : {D C : Type 0} (log : Log D C) (lsn read : ℤ) → read ≡ lsn → pos (synced_end log) ≤ℤ lsn → held_below log (length_to log read) ≡ held_for log lsn
-held_up log lsn read same above = ap (λ z. held_below log (length_to log z)) same ∙ sym (holds_it log lsn above)
+module _ {D C : Type 0} (sum : List ℕ → ℕ) (log : Log D C) (lsn : ℤ) where
+  -- One that is durable.
+  pub holds_none : lsn <ℤ pos (synced_end log) → held_for sum log lsn ≡ None
+  holds_none below = ap (λ (o : Bool). if o then None else holding_below sum log (behind_place lsn)) (is_less lsn (pos (synced_end log)) below)
+
+  pub behind_stable : lsn <ℤ pos (synced_end log) → behind_place lsn ≤ synced_end log
+  behind_stable below = by lsn below where
+    by : (z : ℤ) → z <ℤ pos (synced_end log) → behind_place z ≤ synced_end log
+    by (pos n) low = omega (arith, ints, low)
+    by (negsuc n) low = omega arith
+
+  -- One that isn't: what was written is what makes it durable, and what holds that up is what is asked of it.
+  module _ (to : ℕ) (is : to ≡ behind_place lsn) (above : pos (synced_end log) ≤ℤ lsn) where
+    pub wrote_for : writing_below sum log to ≡ stabilizing sum log lsn
+    wrote_for = ap (writing_below sum log) is ∙ sym (ap (λ (o : Bool). if o then [] else writing_below sum log (behind_place lsn)) (not_less lsn (pos (synced_end log)) above))
+
+    pub held_up : holding_below sum log to ≡ held_for sum log lsn
+    held_up = ap (holding_below sum log) is ∙ sym (ap (λ (o : Bool). if o then None else holding_below sum log (behind_place lsn)) (not_less lsn (pos (synced_end log)) above))
 
 -- A call that failed did what another one did that it answers for.
 pub done_as : (T S : Type 0) (e : Error) (P Q : Type 0) → (P → Q) → OnDone {T = T} (Err e) P → OnDone {T = S} (Err e) Q
 done_as T S (Held at) P Q more done = more done
 done_as T S _ P Q more done = tt
 
-held_as : (T S : Type 0) (e : Error) → IsHeld {T = T} (Err e) → IsHeld {T = S} (Err e)
-held_as T S (Held at) is = tt
-held_as T S _ is = absurd is
-
-pub seals_as : (T S : Type 0) {D C : Type 0} (e : Error) (to to' : ℕ) (old new : Log D C) → to' ≡ to → SealsBelow {T = T} (Err e) to old new → SealsBelow {T = S} (Err e) to' old new
-seals_as T S e to to' old new same seals = record {
-  held = λ is. let up = seals.held (held_as S T e is) in omega (arith, up, same);
-  none = seals.none;
-  err = seals.err;
-}
-
 -- What a call that failed answers of a place that was reserved.
-pub stable_answers : (T S : Type 0) (e : Error) (lsn : ℤ) (end place : ℕ) (held : Option ℕ) (now : Option IoError) (before after : ℕ) → lsn <ℤ pos end → HeldAnswers {T = T} (Err e) place held None now before after
-    → StableAnswers {T = S} (Err e) lsn end place held None now before after
-stable_answers T S (Held at) lsn end place held now before after inside answers = (inside, answers)
-stable_answers T S (Io e) lsn end place held now before after inside answers = answers
-stable_answers T S OutOfMemory lsn end place held now before after inside answers = (inside, answers.0, answers.1, answers.2)
-stable_answers T S _ lsn end place held now before after inside answers = absurd answers
+pub stable_answers : (T S : Type 0) (e : Error) (lsn : ℤ) (stable end : ℕ) (held : Option ℕ) (used : Type 0) (old now : Option IoError) (before after : ℕ) → pos stable ≤ℤ lsn → lsn <ℤ pos end → old ≡ None → HeldAnswers {T = T} (Err e) held used None now before after
+    → StableAnswers {T = S} (Err e) lsn stable end held used old now before after
+stable_answers T S e lsn stable end held used old now before after above inside none answers = subst (λ (o : Option IoError). StableAnswers {T = S} (Err e) lsn stable end held used o now before after) (sym none) (by e answers) where
+  by : (x : Error) → HeldAnswers {T = T} (Err x) held used None now before after → StableAnswers {T = S} (Err x) lsn stable end held used None now before after
+  by (Held at) answers = (inside, answers)
+  by (Io x) answers = answers
+  by OutOfMemory answers = (above, inside, answers.0, answers.1, answers.2)
+  by PlacesUsedUp answers = (inside, answers)
+  by _ answers = absurd answers

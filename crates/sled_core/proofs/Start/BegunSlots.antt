@@ -12,7 +12,9 @@ use Rattle.sled_store.specs.SlotTables.{number_in}
 use Rattle.sled_store.specs.Started.{all_entries, found, found_slot, started}
 use Rattle.sled_store.proofs.Accounts.StartNext.{free_found, left_below, lowest_within, next_started}
 use Rattle.sled_store.proofs.Segments.StartedFile.{started_file}
-use Rattle.sled_core.specs.FreeSlots.{HasSlots, begun_machine, with_current}
+use Rattle.sled_core.specs.Begun.{SegmentView}
+use Rattle.sled_core.specs.FreeSlots.{FreeAreZeros, HasSlot, HasSlots, begun_machine, with_current}
+use Rattle.sled_core.proofs.Holds.HoldsLemmas.{one}
 use Rattle.sled_core.proofs.Start.Entries.{active_used}
 use Rattle.sled_core.proofs.Start.FreeSlots.{handed_free, started_free}
 
@@ -60,19 +62,25 @@ module _ (size : ℕ) (some : 0 < size) (log : List ℕ) (s : SnapshotModel) (fa
   abbrev free : List ℕ
   free = unused size (slots_of size (length log)) s
 
-  pub begun_slots : IsStartable size (length log) s → HasSlots size (beginning_of size (length log) s).slot (started_file size log s) fault (begun_machine size (length log) s)
-  begun_slots startable = by s.active refl startable.active where
-    by : (o : Option ℕ) → s.active ≡ o → IfSome o (MayBeActive size (slots_of size (length log)) stable)
-        → HasSlots size (beginning_at size (slots_of size (length log)) stable free o).slot (started_file size log s) fault (with_current (place_at size stable o) o (start size (length log) s))
-    by (Some a) active may = record {
+  -- the slot of its segment
+  begun_slot : IsStartable size (length log) s → (v : SegmentView) → v.parts.site.slot ≡ (beginning_of size (length log) s).slot → HasSlot size (begun_machine size (length log) s) v
+  begun_slot startable v is = by s.active refl startable.active is where
+    by : (o : Option ℕ) → s.active ≡ o → IfSome o (MayBeActive size (slots_of size (length log)) stable) → v.parts.site.slot ≡ (beginning_at size (slots_of size (length log)) stable free o).slot
+        → HasSlot size (with_current (place_at size stable o) o (start size (length log) s)) v
+    by (Some a) active may at = record {
       number = a / size;
-      lies = let aligned = may.aligned in sym (omega (arith, mod-add-div' a size, aligned));
+      lies = at ∙ (let aligned = may.aligned in sym (omega (arith, mod-add-div' a size, aligned)));
       taken = active_taken size (length log) s a active may.slot;
-      zeros = λ none. started_free size some log s;
     }
-    by None active may = record {
+    by None active may at = record {
       number = next_slot (start size (length log) s);
-      lies = ap (λ n. n * size) (sym (next_started size (length log) s));
+      lies = at ∙ ap (λ n. n * size) (sym (next_started size (length log) s));
       taken = handed_taken (place_at size stable None) (start size (length log) s) (next_within size (length log) s);
-      zeros = λ none. handed_free size (started_file size log s) (start size (length log) s) (place_at size stable None) (started_free size some log s);
     }
+
+  begun_zeros : (o : Option ℕ) → FreeAreZeros size (started_file size log s) (with_current (place_at size stable o) o (start size (length log) s))
+  begun_zeros (Some a) = started_free size some log s
+  begun_zeros None = handed_free size (started_file size log s) (start size (length log) s) (place_at size stable None) (started_free size some log s)
+
+  pub begun_slots : IsStartable size (length log) s → (v : SegmentView) → v.parts.site.slot ≡ (beginning_of size (length log) s).slot → HasSlots size (v ∷ []) (started_file size log s) fault (begun_machine size (length log) s)
+  begun_slots startable v is = record { taken = one (HasSlot size (begun_machine size (length log) s)) v (begun_slot startable v is); zeros = λ none. begun_zeros s.active }

@@ -37,7 +37,7 @@ started_free size some log s k free i low high = elim (cases_lt k slots) [
       by false is = cc
 
 -- A slot that is free behind a hand-out was free before.
-free_before : (n : ℕ) (t : SlotState) (xs : List SlotState) (k : ℕ) → is_free t.state ≡ false → is_free (get_or (put_slot n t xs) k free_slot).state ≡ true → is_free (get_or xs k free_slot).state ≡ true
+pub free_before : (n : ℕ) (t : SlotState) (xs : List SlotState) (k : ℕ) → is_free t.state ≡ false → is_free (get_or (put_slot n t xs) k free_slot).state ≡ true → is_free (get_or xs k free_slot).state ≡ true
 free_before n t xs k taken = by (nat_lt n (length xs)) refl where
   IsFree : List SlotState → Type 0
   IsFree ys = is_free (get_or ys k free_slot).state ≡ true

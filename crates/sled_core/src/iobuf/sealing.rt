@@ -2,7 +2,7 @@
 //! front that are on the device go, with their reservations (`specs/SealedBuffers.antt`).
 ghost use Rattle.std.specs.Prelude.{◌≡◌, ◌+◌, ◌<◌, ◌≤◌, ◌^◌, ◌++◌, ◌∷◌, [], ℕ, List, true, length, take, drop, slice_get, OnOk, OnErr, IsOkUnless, IsTrue, ◌↔◌, All, Some};
 ghost use Rattle.std.specs.List.Sorted.{IsNonDecreasingBy, IsPartitionPoint};
-ghost use Rattle.std.specs.VecDeque.{deque_len};
+ghost use Rattle.std.specs.VecDeque.{deque_len, deque_capacity};
 ghost use Rattle.sled_core.specs.declared.iobuf.Reserved.{Reserved};
 ghost use Rattle.sled_core.specs.SealedBuffers.{HasOpenAt, behind_run, is_ready, one_ended, ready_count, run_count, run_end, seal_at, sealed_count, sealed_end, written_at};
 
@@ -24,6 +24,21 @@ impl IoBuf {
         ensures err { IsOkUnless result Error.OutOfMemory }
     {
         self.sealed.reserve(1)?;
+        self.push_sealed();
+        Ok(())
+    }
+
+    /// Seals the current buffer, where there is room for one more.
+    pub(crate) fn push_sealed(&mut self)
+        requires some { sealed_end self.old.written_len self.old.sealed.items < length self.old.bytes.items }
+        requires room { deque_len self.old.sealed < deque_capacity self.old.sealed }
+        ensures sealed { self.new.sealed.items ≡ self.old.sealed.items
+            ++ seal_at (length self.old.bytes.items) (drop (sealed_count self.old.sealed.items) self.old.reserved.items) ∷ [] }
+        ensures bytes { self.new.bytes.items ≡ self.old.bytes.items }
+        ensures from { self.new.written_len ≡ self.old.written_len }
+        ensures reserved { self.new.reserved.items ≡ self.old.reserved.items }
+        ensures gone { self.new.gone ≡ self.old.gone }
+    {
         self.sealed.push_back_reserved(Sealed {
             end: self.bytes.len(),
             count: self.reserved.len() - self.first,
@@ -33,7 +48,6 @@ impl IoBuf {
         self.begin = self.bytes.len();
         self.first = self.reserved.len();
         self.open_count = 0;
-        Ok(())
     }
 
     /// One of the sealed buffers is on the device now. Those at the front that are go.

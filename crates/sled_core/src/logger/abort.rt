@@ -5,8 +5,8 @@ ghost use Rattle.std.specs.Prelude.{◌≡◌, ◌≢◌, IfOk, OnOk, OnErr};
 ghost use Rattle.sled_codec.specs.History.{History, Message};
 ghost use Rattle.sled_core.specs.Canceled.{WritesCanceled};
 ghost use Rattle.sled_core.specs.Causes.{FaultAnswers};
-ghost use Rattle.sled_core.specs.Fits.{Awaits, Holds, IsOnlyOpen, IsOpen, KeepsAll, NoneOpen, NoneSealed, fault_of, next_place};
-ghost use Rattle.sled_core.specs.Keeps.{Preserves};
+ghost use Rattle.sled_core.specs.Fits.{Awaits, Holds, IsOnlyOpen, IsOpen, KeepsAll, KeepsBuffers, NoneOpen, fault_of};
+ghost use Rattle.sled_core.specs.Keeps.{Preserves, SamePosition};
 ghost use Rattle.sled_core.specs.Tickets.{place_of, pointer_of};
 
 use crate::logger::Log;
@@ -34,8 +34,8 @@ impl<D: Device, C: Checksum> Log<D, C> {
         ensures answers { FaultAnswers result (fault_of self.old) }
         ensures keeps { Preserves D.trace C.sum_of self.old self.new }
         ensures same { KeepsAll self.old self.new }
-        ensures unsealed { NoneSealed self.old → NoneSealed self.new }
-        ensures next { next_place self.new ≡ next_place self.old }
+        ensures buffers { KeepsBuffers self.old self.new }
+        ensures position { SamePosition self.old self.new }
         ensures err { OnErr result (self.new ≡ self.old) }
     {
         let place = ticket.lsn();
@@ -45,8 +45,8 @@ impl<D: Device, C: Checksum> Log<D, C> {
         if let Some(e) = self.fault {
             return Err(Error::Io(e));
         }
-        let gone = self.buffer.gone;
-        self.buffer.abort(&self.config.checksum, index - gone);
+        let n = self.segment_of(place.unsigned_abs());
+        self.abort_in(n, index);
         Ok((place, pointer))
     }
 }

@@ -1,10 +1,236 @@
-//! The segments that were begun behind the first one, which isn't wholly on the device.
+//! The segments of a log: the first one that isn't wholly on the device, and those that were begun behind it, of which the
+//! last one is being filled (`specs/Begun.antt`).
+ghost use Rattle.std.specs.Prelude.{◌≡◌, ◌≢◌, ◌+◌, ◌-◌, ◌*◌, ◌/◌, ◌<◌, ◌≤◌, ◌^◌, ◌∷◌, [], ℕ, true, false, length, slice_get, OnOk, OnErr, IfOk, IsOkUnless, IsTrue, ◌↔◌, pos, None, Some};
+ghost use Rattle.std.specs.VecDeque.{deque_len, deque_capacity};
+ghost use Rattle.sled_store.specs.Accounts.{MayHandOut, NextAnswers};
+ghost use Rattle.sled_store.specs.SegmentStates.{handed_out};
+ghost use Rattle.sled_core.specs.Begun.{SegmentView, begin_of, last_buffer, line_at, view_at};
+ghost use Rattle.sled_core.specs.Causes.{FaultOrMemory};
+ghost use Rattle.sled_core.specs.Fits.{AddsBuffers, IsUnchanged, IsUsedUp, KeepsAll, KeepsTickets, buffers_of, current_begin, current_of, line_of, machine_at, reserved_end, sealing_end, segment_size_of, start_of, synced_end, waiting_of};
+ghost use Rattle.sled_core.specs.Keeps.{Preserves, SamePosition, start_sealed};
+ghost use Rattle.sled_core.specs.Positions.{is_short};
+ghost use Rattle.sled_core.specs.Turned.{CanClose, ChangesLine, ChangesSlots, HasRoomIn, IsBegunView, next_line, promoted};
+ghost use Rattle.sled_core.specs.Waiting.{at_last, holds_any, sealed_now, with_parts};
 
 use crate::iobuf::{IoBuf, SegmentPosition};
+use crate::logger::Log;
+use sled_codec::result::{Error, Lsn, Result};
+use sled_codec::serialization::{Checksum, SegmentHeader};
+use sled_store::Device;
+use sled_store::segment::MAX_MSG_HEADER_LEN;
+use std::alloc::Global;
+use std::collections::VecDeque;
 
 /// A segment that was begun: where it lies, and its bytes.
 #[derive(Drop)]
 pub(crate) struct SegmentBuffer {
     pub(crate) site: SegmentPosition,
     pub(crate) buffer: IoBuf,
+}
+
+impl<D: Device, C: Checksum> Log<D, C> {
+    /// The segment that is being filled.
+    pub(crate) fn current(&self) -> (SegmentPosition, &IoBuf)
+        ensures view { view_at result.0 result.1.now ≡ current_of self.now }
+        ensures buffer { result.1.now ≡ last_buffer self.now.buffer self.now.behind.items }
+        ensures short { length result.1.now.bytes.items ≤ self.now.config.config.segment_size }
+        ensures place_in_reach { result.0.place + self.now.config.config.segment_size < 2 ^ 63 }
+        ensures slot_in_reach { result.0.slot + self.now.config.config.segment_size < 2 ^ 63 }
+    {
+        match self.behind.back() {
+            Some(s) => (s.site, &s.buffer),
+            None => (self.site, &self.buffer),
+        }
+    }
+
+    /// A segment, by its number, counted from the first one.
+    pub(crate) fn segment(&self, n: usize) -> (SegmentPosition, &IoBuf)
+        requires { n ≤ length self.now.behind.items }
+        ensures view { slice_get (line_of self.now) n ≡ Some (view_at result.0 result.1.now) }
+        ensures short { length result.1.now.bytes.items ≤ self.now.config.config.segment_size }
+        ensures place_in_reach { result.0.place + self.now.config.config.segment_size < 2 ^ 63 }
+        ensures slot_in_reach { result.0.slot + self.now.config.config.segment_size < 2 ^ 63 }
+        ensures place { result.0.place ≡ self.now.site.place + n * self.now.config.config.segment_size }
+    {
+        if n == 0 {
+            return (self.site, &self.buffer);
+        }
+        (self.behind[n - 1].site, &self.behind[n - 1].buffer)
+    }
+
+    /// Where the current buffer begins.
+    pub(crate) fn current_begin(&self) -> u64
+        ensures is { result ≡ current_begin self.now }
+        ensures in_reach { result < 2 ^ 63 }
+    {
+        let (site, buffer) = self.current();
+        site.place + buffer.begin as u64
+    }
+
+    /// The current segment has no room for a further record.
+    fn is_short(&self) -> bool
+        ensures { result ≡ is_short (segment_size_of self.now) (length (current_of self.now).parts.bytes) }
+    {
+        let (_, buffer) = self.current();
+        buffer.bytes.len() as u64 + MAX_MSG_HEADER_LEN as u64 > self.config.config.segment_size
+    }
+
+    /// Seals the current buffer, which holds something: to the end of its segment, where no further record has room, and
+    /// then the next one is begun.
+    pub(crate) fn seal(&mut self) -> Result<()>
+        requires some { holds_any (current_of self.old) ≡ true }
+        ensures waiting { OnOk result (waiting_of self.new ≡ buffers_of C.sum_of self.old) }
+        ensures buffers { OnOk result (AddsBuffers C.sum_of self.old self.new) }
+        ensures begins { OnOk result (current_begin self.new ≡ sealing_end self.old) }
+        ensures start { OnOk result (start_of self.new ≡ start_sealed self.old) }
+        ensures keeps { Preserves D.trace C.sum_of self.old self.new }
+        ensures tickets { KeepsTickets self.old self.new }
+        ensures same { KeepsAll self.old self.new }
+        ensures position { SamePosition self.old self.new }
+        ensures answers { FaultOrMemory result (IsUsedUp self.old) None }
+        ensures err { OnErr result (IsUnchanged self.old self.new) }
+    {
+        if self.is_short() {
+            let to = self.reserved_to;
+            return self.begin_next(to);
+        }
+        self.seal_unfilled()
+    }
+
+    /// Does that where a further record has room.
+    fn seal_unfilled(&mut self) -> Result<()>
+        requires some { holds_any (current_of self.old) ≡ true }
+        requires room { is_short (segment_size_of self.old) (length (current_of self.old).parts.bytes) ≡ false }
+        ensures line { OnOk result (line_of self.new ≡ at_last sealed_now (line_of self.old)) }
+        ensures unsealed { OnErr result (line_of self.new ≡ line_of self.old) }
+        ensures rest { ChangesLine self.old self.new }
+        ensures memory { IsOkUnless result Error.OutOfMemory }
+    {
+        let n = self.behind.len();
+        if n == 0 {
+            return self.buffer.seal();
+        }
+        self.behind[n - 1].buffer.seal()
+    }
+
+    /// Fills the current segment to its end, seals its buffer, and begins the next segment, in the slot that the accountant
+    /// hands out. What is reserved ends there then. All memory is taken before anything is changed.
+    pub(crate) fn begin_next(&mut self, to: u64) -> Result<()>
+        requires grows { reserved_end self.old ≤ to }
+        requires behind { current_begin self.old < to }
+        requires within { to ≤ (current_of self.old).parts.site.place + segment_size_of self.old + 20 }
+        ensures line { OnOk result (line_of self.new ≡ next_line C.sum_of (segment_size_of self.old) (machine_at self.old) (synced_end self.old) (line_of self.old)) }
+        ensures machine { OnOk result (machine_at self.new ≡ handed_out ((current_of self.old).parts.site.place + segment_size_of self.old) (machine_at self.old)) }
+        ensures reserved { OnOk result (self.new.reserved_to ≡ to) }
+        ensures room { OnOk result (HasRoomIn (last_buffer self.new.buffer self.new.behind.items) (segment_size_of self.old - 20)) }
+        ensures rest { ChangesSlots self.old self.new }
+        ensures err { OnErr result (IsUnchanged self.old self.new) }
+        ensures answers { NextAnswers result (MayHandOut (segment_size_of self.old) ((current_of self.old).parts.site.place + segment_size_of self.old) (machine_at self.old)) }
+    {
+        let size = self.config.config.segment_size;
+        let (site, _) = self.current();
+        let next = site.place + size;
+        if !self.has_further(next) {
+            return Err(Error::PlacesUsedUp);
+        }
+        let buffer = self.next_buffer(next)?;
+        self.room_to_close()?;
+        let slot = self.accountant.next(&mut self.config, next as Lsn)?;
+        let n = self.behind.len();
+        if n == 0 {
+            self.buffer
+                .close(&self.config.checksum, &site, size as usize);
+        } else {
+            self.behind[n - 1]
+                .buffer
+                .close(&self.config.checksum, &site, size as usize);
+        }
+        self.behind.push_back_reserved(SegmentBuffer {
+            site: SegmentPosition { place: next, slot },
+            buffer,
+        });
+        self.reserved_to = to;
+        Ok(())
+    }
+
+    /// A further segment at this place ends in reach, in the log and in the file.
+    fn has_further(&self, next: u64) -> bool
+        ensures { IsTrue result ↔ MayHandOut (segment_size_of self.now) next (machine_at self.now) }
+    {
+        let size = self.config.config.segment_size;
+        let end = (1 << 63) - size;
+        next < end && self.accountant.next_slot() * size < end
+    }
+
+    /// The buffer of a further segment at this place: its header, whose mark is the last stable place.
+    fn next_buffer(&self, next: u64) -> Result<IoBuf>
+        requires { next < 2 ^ 63 }
+        ensures view { (site : SegmentPosition) → site.place ≡ next → IfOk result (λ b. IsBegunView C.sum_of site (synced_end self.now) b) }
+        ensures room { IfOk result (λ b. HasRoomIn b (segment_size_of self.now - 20)) }
+        ensures memory { IsOkUnless result Error.OutOfMemory }
+    {
+        let header = SegmentHeader {
+            lsn: next as Lsn,
+            max_stable_lsn: self.stable_offset(),
+            ok: true,
+        };
+        let room = self.config.config.segment_size as usize + MAX_MSG_HEADER_LEN;
+        IoBuf::new(
+            self.config.alloc(),
+            &header.to_bytes(&self.config.checksum),
+            room,
+        )
+    }
+
+    /// Makes room for what fills the current segment, and for one more segment.
+    fn room_to_close(&mut self) -> Result<()>
+        ensures line { line_of self.new ≡ line_of self.old }
+        ensures rest { ChangesLine self.old self.new }
+        ensures room { OnOk result (CanClose (last_buffer self.new.buffer self.new.behind.items) (segment_size_of self.old)) }
+        ensures place { OnOk result (deque_len self.new.behind < deque_capacity self.new.behind) }
+        ensures memory { IsOkUnless result Error.OutOfMemory }
+    {
+        let size = self.config.config.segment_size as usize;
+        self.behind.reserve(1)?;
+        let n = self.behind.len();
+        if n == 0 {
+            return self.buffer.room_to_close(size);
+        }
+        self.behind[n - 1].buffer.room_to_close(size)
+    }
+
+    /// The number of the segment that has a place, counted from the first one.
+    pub(crate) fn segment_of(&self, place: u64) -> usize
+        requires { self.now.site.place ≤ place }
+        ensures { result ≡ (place - self.now.site.place) / segment_size_of self.now }
+    {
+        ((place - self.site.place) / self.config.config.segment_size) as usize
+    }
+}
+
+/// No segment is begun behind the first one.
+pub(crate) fn no_segments(alloc: Global) -> VecDeque<SegmentBuffer>
+    ensures { result.items ≡ [] }
+{
+    VecDeque::new(alloc)
+}
+
+/// Leaves out the segments at the front that are wholly on the device, as long as there is a further one.
+pub(crate) fn promote(
+    site: &mut SegmentPosition,
+    buffer: &mut IoBuf,
+    behind: &mut VecDeque<SegmentBuffer>,
+    size: u64,
+)
+    ensures { line_at site.new buffer.new behind.new.items ≡ promoted size (line_at site.old buffer.old behind.old.items) }
+{
+    while buffer.written_len as u64 == size {
+        match behind.pop_front() {
+            Some(s) => {
+                *site = s.site;
+                *buffer = s.buffer;
+            }
+            None => break,
+        }
+    }
 }

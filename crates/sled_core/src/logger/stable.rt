@@ -1,18 +1,18 @@
 //! Making what was reserved durable up to a place, and closing a log.
 //!
 //! Both write buffers as `Log::flush` does (`specs/Stable.antt`).
-ghost use Rattle.std.specs.Prelude.{List, ℕ, ◌≡◌, ◌+◌, ◌^◌, ◌<◌, ◌<ℤ◌, pos, IfOk, OnOk, OnErr, Some, max};
+ghost use Rattle.std.specs.Prelude.{List, ℕ, ◌≡◌, ◌+◌, ◌≤◌, ◌<ℤ◌, pos, IfOk, OnOk, OnErr, Some, max};
 ghost use Rattle.std.specs.declared.io.Error.{Error as IoError};
 ghost use Rattle.sled_codec.specs.History.{History, Message};
 ghost use Rattle.sled_store.specs.Device.{state_of};
 ghost use Rattle.sled_store.specs.Moments.{LeavesOnly};
 ghost use Rattle.sled_store.specs.Script.{after_all, Performs};
 ghost use Rattle.sled_core.specs.Causes.{OnDone};
-ghost use Rattle.sled_core.specs.Fits.{KeepsTickets, config_of, device_of, fault_of, flushing, held_below, reserved_end, reserved_len, segment_size_of, site_of, synced_end};
-ghost use Rattle.sled_core.specs.Keeps.{ConfigKept, Preserves, SamePosition, SealsBelow};
+ghost use Rattle.sled_core.specs.Fits.{IsUsedUpBelow, KeepsTickets, config_of, device_of, fault_of, flushing, holding_below, reserved_end, segment_size_of, synced_end};
+ghost use Rattle.sled_core.specs.Keeps.{ConfigKept, Preserves, SamePosition, WritesBelow};
 ghost use Rattle.sled_core.specs.Recoverable.{LeavesRecoverable, RecoverableIfOwn};
 ghost use Rattle.sled_core.specs.Running.{Fits, end_below};
-ghost use Rattle.sled_core.specs.Stable.{held_for, length_to, stabilizing, IsNotReserved, StableAnswers, CloseAnswers};
+ghost use Rattle.sled_core.specs.Stable.{behind_place, held_for, stabilizing, IsNotReserved, StableAnswers, CloseAnswers};
 
 use crate::logger::Log;
 use sled_codec::result::{Error, Lsn, Result};
@@ -32,18 +32,18 @@ impl<D: Device, C: Checksum> Log<D, C> {
     pub fn make_stable(&mut self, lsn: Lsn) -> Result<usize>
         ensures answer { IfOk result (λ n. synced_end self.new ≡ synced_end self.old + n) }
         ensures target { OnOk result (lsn <ℤ pos (synced_end self.new)) }
-        ensures made { OnDone result (D.trace (device_of self.new) ≡ after_all (stabilizing self.old lsn) (D.trace (device_of self.old))) }
-        ensures at_most { Performs (stabilizing self.old lsn) (D.trace (device_of self.old)) (D.trace (device_of self.new)) }
+        ensures made { OnDone result (D.trace (device_of self.new) ≡ after_all (stabilizing C.sum_of self.old lsn) (D.trace (device_of self.old))) }
+        ensures at_most { Performs (stabilizing C.sum_of self.old lsn) (D.trace (device_of self.old)) (D.trace (device_of self.new)) }
         ensures keeps { Preserves D.trace C.sum_of self.old self.new }
         ensures acknowledges { (H : History) (A f : ℕ) (U : List Message) → Fits D.trace C.sum_of self.old H A f U
             → OnOk result (Fits D.trace C.sum_of self.new H (max A (end_below (synced_end self.new) H)) f U) }
         ensures tickets { KeepsTickets self.old self.new }
         ensures position { SamePosition self.old self.new }
-        ensures answers { StableAnswers result lsn (reserved_end self.old) (site_of self.old).place (held_for self.old lsn)
+        ensures answers { StableAnswers result lsn (synced_end self.old) (reserved_end self.old) (held_for C.sum_of self.old lsn) (IsUsedUpBelow self.old (behind_place lsn))
             (fault_of self.old) (fault_of self.new) (D.faults (device_of self.old)) (D.faults (device_of self.new)) }
         ensures faulty { (e : IoError) → fault_of self.old ≡ Some e → self.new ≡ self.old }
         ensures refused { IsNotReserved result → self.new ≡ self.old }
-        ensures buffers { SealsBelow result (length_to self.old lsn) self.old self.new }
+        ensures buffers { WritesBelow C.sum_of result (behind_place lsn) self.old self.new }
     {
         if let Some(e) = self.fault {
             return Err(Error::Io(e));
@@ -51,23 +51,12 @@ impl<D: Device, C: Checksum> Log<D, C> {
         if lsn <= self.stable_offset() {
             return Ok(0);
         }
-        if lsn >= self.reserved_end() as Lsn {
+        if lsn >= self.reserved_to as Lsn {
             return Err(Error::NotReserved(lsn));
         }
-        let before = self.buffer.written_len;
-        let to = (lsn as u64 - self.site.place) as usize + 1;
-        match self.write_below(to) {
-            Ok(()) => Ok(self.buffer.written_len - before),
-            Err(e) => Err(e),
-        }
-    }
-
-    /// The place behind the greatest reserved one.
-    pub(crate) fn reserved_end(&self) -> u64
-        ensures end { result ≡ reserved_end self.now }
-        ensures in_reach { result < 2 ^ 63 }
-    {
-        self.site.place + self.reserved_len() as u64
+        let before = self.stable_end();
+        self.write_below(lsn as u64 + 1)?;
+        Ok((self.stable_end() - before) as usize)
     }
 
     /// Writes what was completed and syncs it, gives the log up, and returns what it ran on, with by how many bytes the
@@ -77,15 +66,15 @@ impl<D: Device, C: Checksum> Log<D, C> {
     ///
     /// Those of `flush`. The configuration comes back with each of them.
     pub fn close(self) -> (RunningConfig<D, C>, Result<usize>)
-        ensures answer { IfOk result.1 (λ n. reserved_end self ≡ synced_end self + n) }
-        ensures made { OnDone result.1 (D.trace result.0.device ≡ after_all (flushing self) (D.trace (device_of self))) }
-        ensures at_most { Performs (flushing self) (D.trace (device_of self)) (D.trace result.0.device) }
+        ensures answer { IfOk result.1 (λ n. reserved_end self ≤ synced_end self + n) }
+        ensures made { OnDone result.1 (D.trace result.0.device ≡ after_all (flushing C.sum_of self) (D.trace (device_of self))) }
+        ensures at_most { Performs (flushing C.sum_of self) (D.trace (device_of self)) (D.trace result.0.device) }
         ensures acknowledges { (H : History) (A f : ℕ) (U : List Message) → Fits D.trace C.sum_of self H A f U
             → OnOk result.1 (LeavesRecoverable C.sum_of (segment_size_of self) H (max A (end_below (reserved_end self) H)) f
             (state_of (D.trace result.0.device))) }
         ensures crash { (H : History) (A f : ℕ) (U : List Message) → Fits D.trace C.sum_of self H A f U
             → LeavesOnly (RecoverableIfOwn C.sum_of (segment_size_of self) H A f) (D.trace (device_of self)) (D.trace result.0.device) }
-        ensures answers { CloseAnswers result.1 (site_of self).place (held_below self (reserved_len self)) (fault_of self)
+        ensures answers { CloseAnswers result.1 (holding_below C.sum_of self (reserved_end self)) (IsUsedUpBelow self (reserved_end self)) (fault_of self)
             (D.faults (device_of self)) (D.faults result.0.device) }
         ensures config { ConfigKept (config_of self) result.0 }
     {

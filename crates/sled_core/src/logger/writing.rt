@@ -1,8 +1,8 @@
 //! Sealing and writing the buffers of a log.
 //!
 //! A sealed buffer is written as a whole, by one write and one sync, in any order. The stable end lies behind those at the
-//! front that are written (`specs/SealedBuffers.antt`).
-ghost use Rattle.std.specs.Prelude.{List, ℕ, ◌≡◌, ◌≢◌, ◌+◌, ◌-◌, ◌<◌, ◌≤◌, ◌^◌, ◌∷◌, ◌++◌, ◌⊎◌, [], pos, None, Some, false, true, length, slice_get, IfOk, IfErr, IsOkUnless, OnOk, OnErr, max};
+//! front that are written (`specs/Waiting.antt`).
+ghost use Rattle.std.specs.Prelude.{List, ℕ, ◌≡◌, ◌≢◌, ◌+◌, ◌<◌, ◌≤◌, ◌^◌, ◌∷◌, [], pos, None, Some, false, true, if◌then◌else◌, length, slice_get, set, Contains, IfOk, IfErr, OnOk, OnErr, max};
 ghost use Rattle.std.specs.declared.io.Error.{Error as IoError};
 ghost use Rattle.std.specs.IoError.{error_kind};
 ghost use Rattle.std.specs.declared.io.ErrorKind.TheVariants.{OutOfMemory};
@@ -11,18 +11,22 @@ ghost use Rattle.sled_codec.specs.History.{History, Message};
 ghost use Rattle.sled_store.specs.Answers.{Counts, FailsOr};
 ghost use Rattle.sled_store.specs.Device.{state_of, Wrote, Synced};
 ghost use Rattle.sled_store.specs.Script.{after_all, Performs};
-ghost use Rattle.sled_core.specs.declared.iobuf.Sealed.{Sealed};
-ghost use Rattle.sled_core.specs.Buffers.{open_in};
-ghost use Rattle.sled_core.specs.Causes.{Answers, FaultOrMemory, HeldAnswers, HeldOrMemory, OnDone};
-ghost use Rattle.sled_core.specs.Fits.{HasWrittenPending, Holds, IsLeastOpenOf, KeepsReserved, current_reserved, IsUnchanged, IsWritten, IsWrittenAt, KeepsAll, KeepsTickets, NoneOpen, NoneSealed, SameBuffer, device_of, fault_of, flushing, held_below, held_len, next_place, pending_of, ready_below, reserved_end, reserved_len, sealed_len, sealed_of, sealed_with_current, site_of, synced_end, synced_len, writing_below, writing_buffer, writing_current, writing_pending};
-ghost use Rattle.sled_core.specs.Keeps.{Preserves, SamePosition, SealsBelow};
+ghost use Rattle.sled_core.specs.Begun.{SegmentView, line_at};
+ghost use Rattle.sled_core.specs.Buffers.{first_open_in, open_in};
+ghost use Rattle.sled_core.specs.Causes.{Answers, FaultOrMemory, HeldAnswers, OnDone};
+ghost use Rattle.sled_core.specs.Fits.{Holds, IsUnchanged, IsUsedUp, IsUsedUpBelow, IsWritten, KeepsAll, KeepsTickets, NoneSealed, buffers_of, current_begin, current_of, device_of, fault_of, flushing, held_len, holding_below, line_of, pending_of, reserved_end, sealing_end, segment_size_of, synced_end, waiting_of, writing_below, writing_pending};
+ghost use Rattle.sled_core.specs.Keeps.{LeavesAbove, LeavesSome, Preserves, SamePosition, SealsBelow, WritesBelow};
 ghost use Rattle.sled_core.specs.Running.{Fits, end_below};
-ghost use Rattle.sled_core.specs.SealedBuffers.{is_ready, seal_at};
+ghost use Rattle.sled_core.specs.Turned.{ChangesDevice, HasBufferAt, IsReadyIn, promoted, ready_below, write_in, written_now};
+ghost use Rattle.sled_core.specs.Waiting.{BufferAt, holds_any, unwritten, without_pending};
 
+use crate::iobuf::{IoBuf, SegmentPosition};
 use crate::logger::Log;
-use sled_codec::result::{Error, LogOffset, Result};
+use crate::logger::segments::{SegmentBuffer, promote};
+use sled_codec::result::{Error, LogOffset, Lsn, Result};
 use sled_codec::serialization::Checksum;
 use sled_store::Device;
+use std::collections::VecDeque;
 use std::io;
 
 impl<D: Device, C: Checksum> Log<D, C> {
@@ -30,7 +34,13 @@ impl<D: Device, C: Checksum> Log<D, C> {
     pub fn pending(&self) -> usize
         ensures { result ≡ pending_of self.now }
     {
-        self.buffer.pending()
+        let mut count = self.buffer.pending();
+        let mut n = 0;
+        while n < self.behind.len() {
+            count += self.behind[n].buffer.pending();
+            n += 1;
+        }
+        count
     }
 
     /// Writes the i-th of the buffers that can be written, by place, and syncs it.
@@ -43,43 +53,71 @@ impl<D: Device, C: Checksum> Log<D, C> {
         requires { i < pending_of self.old }
         ensures calls { OnOk result (D.trace (device_of self.new) ≡ after_all (writing_pending self.old i) (D.trace (device_of self.old))) }
         ensures at_most { Performs (writing_pending self.old i) (D.trace (device_of self.old)) (D.trace (device_of self.new)) }
-        ensures written { OnOk result (HasWrittenPending i self.old self.new) }
-        ensures fewer { OnOk result (pending_of self.old ≡ pending_of self.new + 1) }
+        ensures written { OnOk result (waiting_of self.new ≡ without_pending i (waiting_of self.old)) }
         ensures keeps { Preserves D.trace C.sum_of self.old self.new }
         ensures tickets { KeepsTickets self.old self.new }
         ensures position { SamePosition self.old self.new }
+        ensures current { current_begin self.new ≡ current_begin self.old }
         ensures answers { Answers result (fault_of self.old) (fault_of self.new) (D.faults (device_of self.old)) (D.faults (device_of self.new)) }
         ensures faulty { (e : IoError) → fault_of self.old ≡ Some e → self.new ≡ self.old }
-        ensures err { OnErr result ((synced_end self.new ≡ synced_end self.old) × (pending_of self.new ≡ pending_of self.old)) }
+        ensures err { OnErr result ((synced_end self.new ≡ synced_end self.old) × (waiting_of self.new ≡ waiting_of self.old)) }
     {
         if let Some(e) = self.fault {
             return Err(Error::Io(e));
         }
-        let k = self.buffer.ready_at(i);
-        self.write_buffer(k)
+        let (n, k) = self.ready_at(i);
+        self.write_buffer(n, k)
     }
 
-    /// Seals the current buffer, where it holds anything, so that a further reservation begins another one. Returns
-    /// how many bytes it has, those of its segment's header counted.
+    /// Which segment the i-th of the buffers that can be written is of, and which of its sealed ones it is.
+    fn ready_at(&self, i: usize) -> (usize, usize)
+        requires { i < pending_of self.now }
+        ensures ready { IsReadyIn (line_of self.now) result.0 result.1 }
+        ensures writes { write_in (line_of self.now) result.0 result.1 ≡ writing_pending self.now i }
+        ensures left { (v : SegmentView) → slice_get (line_of self.now) result.0 ≡ Some v
+            → unwritten (set (line_of self.now) result.0 (written_now result.1 v)) ≡ without_pending i (waiting_of self.now) }
+    {
+        let first = self.buffer.pending();
+        if i < first {
+            return (0, self.buffer.ready_at(i));
+        }
+        let mut left = i - first;
+        let mut n = 0;
+        while n < self.behind.len() {
+            let count = self.behind[n].buffer.pending();
+            if left < count {
+                return (n + 1, self.behind[n].buffer.ready_at(left));
+            }
+            left -= count;
+            n += 1;
+        }
+        (0, 0)
+    }
+
+    /// Seals the current buffer, where it holds anything, so that a further reservation begins another one: to the end of
+    /// its segment, where no further record has room, and then the next one is begun. Returns how many bytes the buffer has,
+    /// those of its segment's header counted, and those that fill the segment not.
     ///
     /// # Errors
     ///
-    /// `Io` exactly where the log keeps a failure of its device, and `OutOfMemory`. The log is as it was.
+    /// `Io` exactly where the log keeps a failure of its device; `PlacesUsedUp` where the next segment is to be begun and
+    /// would not end below 2^63 in the log and in the file; and `OutOfMemory`. The log is as it was.
     pub fn roll_iobuf(&mut self) -> Result<usize>
         ensures answer { IfOk result (λ n. n ≡ held_len self.old) }
-        ensures rolled { OnOk result (held_len self.new ≡ 0) }
-        ensures sealed { OnOk result (sealed_of self.new ≡ sealed_with_current self.old) }
+        ensures sealed { OnOk result (waiting_of self.new ≡ buffers_of C.sum_of self.old) }
+        ensures begins { OnOk result (current_begin self.new ≡ (if holds_any (current_of self.old) then sealing_end self.old else current_begin self.old)) }
         ensures keeps { Preserves D.trace C.sum_of self.old self.new }
         ensures tickets { KeepsTickets self.old self.new }
         ensures same { KeepsAll self.old self.new }
-        ensures next { next_place self.new ≡ next_place self.old }
-        ensures answers { FaultOrMemory result (fault_of self.old) }
+        ensures position { SamePosition self.old self.new }
+        ensures answers { FaultOrMemory result ((0 < held_len self.old) × IsUsedUp self.old) (fault_of self.old) }
         ensures err { OnErr result (IsUnchanged self.old self.new) }
     {
         if let Some(e) = self.fault {
             return Err(Error::Io(e));
         }
-        let held = self.buffer.bytes.len() - self.buffer.begin;
+        let (_, buffer) = self.current();
+        let held = buffer.bytes.len() - buffer.begin;
         if held == 0 {
             return Ok(0);
         }
@@ -87,201 +125,190 @@ impl<D: Device, C: Checksum> Log<D, C> {
         Ok(held)
     }
 
-    /// Seals the current buffer, which holds something.
-    pub(crate) fn seal(&mut self) -> Result<()>
-        requires some { 0 < held_len self.old }
-        ensures sealed { OnOk result (sealed_of self.new ≡ sealed_of self.old
-            ++ seal_at (length self.old.buffer.bytes.items) (current_reserved self.old) ∷ []) }
-        ensures buffer { KeepsReserved self.old.buffer self.new.buffer }
-        ensures keeps { Preserves D.trace C.sum_of self.old self.new }
-        ensures tickets { KeepsTickets self.old self.new }
-        ensures same { KeepsAll self.old self.new }
-        ensures position { SamePosition self.old self.new }
-        ensures memory { IsOkUnless result Error.OutOfMemory }
-        ensures err { OnErr result (IsUnchanged self.old self.new) }
-    {
-        self.buffer.seal()?;
-        Ok(())
-    }
-
-    /// Writes all that was reserved, buffer by buffer, and syncs it, and returns by how many bytes the stable end grew.
+    /// Writes all that was reserved, buffer by buffer, and syncs it, and returns by how many bytes the stable end grew. It
+    /// lies behind what fills a segment, too, where that is written.
     /// Where nothing was reserved since the last write it does nothing. What a crash leaves at any moment of it can be recovered.
     ///
     /// # Errors
     ///
     /// `Held` where a reservation is open, with the least place of those that are: the buffers below that one's are
     /// written, and its own is sealed. `Io` where the log keeps a failure of its device, or where the device failed in
-    /// this call: the log keeps that. `OutOfMemory`: the flush can be tried again. Where no buffer was sealed, the stable
-    /// end is where it was after each of them.
+    /// this call: the log keeps that. `PlacesUsedUp` where the current buffer is to be sealed, no further record has room in
+    /// its segment, and the next one would not end below 2^63 in the log and in the file. `OutOfMemory`: the flush can be tried
+    /// again. Where no buffer was sealed, the stable end is where it was after each of them.
     pub fn flush(&mut self) -> Result<usize>
         ensures answer { IfOk result (λ n. synced_end self.new ≡ synced_end self.old + n) }
-        ensures whole { OnOk result (synced_end self.new ≡ reserved_end self.old) }
+        ensures whole { OnOk result (reserved_end self.old ≤ synced_end self.new) }
         ensures records { (H : History) → Holds D.trace C.sum_of self.old H → OnOk result (IsWritten D.trace C.sum_of self.new H) }
-        ensures calls { OnDone result (D.trace (device_of self.new) ≡ after_all (flushing self.old) (D.trace (device_of self.old))) }
-        ensures at_most { Performs (flushing self.old) (D.trace (device_of self.old)) (D.trace (device_of self.new)) }
+        ensures calls { OnDone result (D.trace (device_of self.new) ≡ after_all (flushing C.sum_of self.old) (D.trace (device_of self.old))) }
+        ensures at_most { Performs (flushing C.sum_of self.old) (D.trace (device_of self.old)) (D.trace (device_of self.new)) }
         ensures keeps { Preserves D.trace C.sum_of self.old self.new }
         ensures acknowledges { (H : History) (A f : ℕ) (U : List Message) → Fits D.trace C.sum_of self.old H A f U
             → OnOk result (Fits D.trace C.sum_of self.new H (max A (end_below (synced_end self.new) H)) f U) }
         ensures tickets { KeepsTickets self.old self.new }
         ensures position { SamePosition self.old self.new }
-        ensures answers { HeldAnswers result (site_of self.old).place (held_below self.old (reserved_len self.old)) (fault_of self.old) (fault_of self.new)
-            (D.faults (device_of self.old)) (D.faults (device_of self.new)) }
+        ensures answers { HeldAnswers result (holding_below C.sum_of self.old (reserved_end self.old)) (IsUsedUpBelow self.old (reserved_end self.old))
+            (fault_of self.old) (fault_of self.new) (D.faults (device_of self.old)) (D.faults (device_of self.new)) }
         ensures faulty { (e : IoError) → fault_of self.old ≡ Some e → self.new ≡ self.old }
-        ensures buffers { SealsBelow result (reserved_len self.old) self.old self.new }
+        ensures buffers { WritesBelow C.sum_of result (reserved_end self.old) self.old self.new }
     {
         if let Some(kept) = self.fault {
             return Err(Error::Io(kept));
         }
-        let before = self.buffer.written_len;
-        let to = self.reserved_len();
+        let before = self.stable_end();
+        let to = self.reserved_to;
         self.write_below(to)?;
-        Ok(self.buffer.written_len - before)
+        Ok((self.stable_end() - before) as usize)
     }
 
-    /// How much of the segment was reserved.
-    pub(crate) fn reserved_len(&self) -> usize
-        ensures { result ≡ reserved_len self.now }
+    /// The place behind the stable end.
+    pub(crate) fn stable_end(&self) -> u64
+        ensures is { result ≡ synced_end self.now }
+        ensures in_reach { result < 2 ^ 63 }
     {
-        if self.buffer.reserved.is_empty() {
-            self.buffer.written_len
-        } else {
-            self.buffer.bytes.len()
-        }
+        self.site.place + self.buffer.written_len as u64
     }
 
-    /// Writes the buffers that begin below an offset of the segment, by place, up to the first that has an open
-    /// reservation, which holds it up.
-    pub(crate) fn write_below(&mut self, to: usize) -> Result<()>
+    /// Writes the buffers that begin below a place, by place, up to the first that has an open reservation, which holds it
+    /// up. The current one is sealed where it begins there.
+    pub(crate) fn write_below(&mut self, to: u64) -> Result<()>
         requires fault { fault_of self.old ≡ None }
-        requires reserved { to ≤ reserved_len self.old }
-        ensures written { OnOk result (to ≤ synced_len self.new) }
-        ensures none { to ≤ synced_len self.old → self.new ≡ self.old }
-        ensures calls { OnDone result (D.trace (device_of self.new) ≡ after_all (writing_below self.old to) (D.trace (device_of self.old))) }
-        ensures at_most { Performs (writing_below self.old to) (D.trace (device_of self.old)) (D.trace (device_of self.new)) }
+        requires reserved { to ≤ reserved_end self.old }
+        ensures written { OnOk result (to ≤ synced_end self.new) }
+        ensures calls { OnDone result (D.trace (device_of self.new) ≡ after_all (writing_below C.sum_of self.old to) (D.trace (device_of self.old))) }
+        ensures at_most { Performs (writing_below C.sum_of self.old to) (D.trace (device_of self.old)) (D.trace (device_of self.new)) }
         ensures keeps { Preserves D.trace C.sum_of self.old self.new }
         ensures tickets { KeepsTickets self.old self.new }
         ensures position { SamePosition self.old self.new }
-        ensures answers { HeldAnswers result (site_of self.old).place (held_below self.old to) None (fault_of self.new)
+        ensures answers { HeldAnswers result (holding_below C.sum_of self.old to) (IsUsedUpBelow self.old to) None (fault_of self.new)
             (D.faults (device_of self.old)) (D.faults (device_of self.new)) }
-        ensures buffers { SealsBelow result to self.old self.new }
+        ensures buffers { WritesBelow C.sum_of result to self.old self.new }
     {
-        while self.has_ready_below(to) {
-            self.write_buffer(0)?;
+        if self.current_begin() < to {
+            self.seal()?;
         }
-        self.write_last(to)
+        self.write_sealed_below(to)
     }
 
-    /// The first of the sealed buffers begins below an offset of the segment, and can be written.
-    fn has_ready_below(&self, to: usize) -> bool
-        ensures { result ≡ ready_below self.now to }
+    /// Does that where those that begin below the place are sealed.
+    fn write_sealed_below(&mut self, to: u64) -> Result<()>
+        requires fault { fault_of self.old ≡ None }
+        requires reserved { to ≤ reserved_end self.old }
+        requires sealed { to ≤ current_begin self.old }
+        ensures written { OnOk result (to ≤ synced_end self.new) }
+        ensures calls { OnDone result (D.trace (device_of self.new) ≡ after_all (writing_below C.sum_of self.old to) (D.trace (device_of self.old))) }
+        ensures at_most { Performs (writing_below C.sum_of self.old to) (D.trace (device_of self.old)) (D.trace (device_of self.new)) }
+        ensures keeps { Preserves D.trace C.sum_of self.old self.new }
+        ensures tickets { KeepsTickets self.old self.new }
+        ensures position { SamePosition self.old self.new }
+        ensures answers { HeldAnswers result (holding_below C.sum_of self.old to) ⊥ None (fault_of self.new)
+            (D.faults (device_of self.old)) (D.faults (device_of self.new)) }
+        ensures current { current_begin self.new ≡ current_begin self.old }
+        ensures none { ((b : BufferAt) → Contains (waiting_of self.old) b → b.place < to) → OnOk result (NoneSealed self.new) }
+        ensures one { length (waiting_of self.old) ≤ 1 → OnErr result (synced_end self.new ≡ synced_end self.old) }
+        ensures above { OnOk result (LeavesAbove C.sum_of to self.old self.new) }
+        ensures some { OnErr result (LeavesSome C.sum_of to self.old self.new) }
+    {
+        while self.has_ready_below(to) {
+            self.write_buffer(0, 0)?;
+        }
+        if self.stable_end() < to {
+            return Err(Error::Held(self.least_held()));
+        }
+        Ok(())
+    }
+
+    /// The least place of an open reservation of the first segment, of which one is.
+    fn least_held(&self) -> Lsn
+        requires { 0 < open_in self.now.buffer.reserved.items }
+        ensures { (from : ℕ) → first_open_in self.now.buffer.reserved.items ≡ Some from → result ≡ pos (self.now.site.place + from) }
+    {
+        self.buffer.least_open(0, &self.site)
+    }
+
+    /// The first of the sealed buffers begins below a place, and can be written.
+    fn has_ready_below(&self, to: u64) -> bool
+        ensures { result ≡ ready_below (line_of self.now) to }
     {
         match self.buffer.sealed.front() {
-            Some(first) => self.buffer.written_len < to && first.is_ready(),
+            Some(first) => self.stable_end() < to && first.is_ready(),
             None => false,
         }
     }
 
-    /// Does that where none of the sealed buffers at the front can be written: what is left is the current buffer, or
-    /// an open reservation holds it up.
-    fn write_last(&mut self, to: usize) -> Result<()>
+    /// Writes one of the sealed buffers of a segment, which can be written, and syncs it. Segments that are wholly on the
+    /// device then are left out.
+    pub(crate) fn write_buffer(&mut self, n: usize, k: usize) -> Result<()>
         requires fault { fault_of self.old ≡ None }
-        requires reserved { to ≤ reserved_len self.old }
-        requires stuck { ready_below self.old to ≡ false }
-        ensures written { OnOk result (to ≤ synced_len self.new) }
-        ensures none { to ≤ synced_len self.old → self.new ≡ self.old }
-        ensures calls { OnDone result (D.trace (device_of self.new) ≡ after_all (writing_below self.old to) (D.trace (device_of self.old))) }
-        ensures at_most { Performs (writing_below self.old to) (D.trace (device_of self.old)) (D.trace (device_of self.new)) }
-        ensures keeps { Preserves D.trace C.sum_of self.old self.new }
-        ensures tickets { KeepsTickets self.old self.new }
-        ensures position { SamePosition self.old self.new }
-        ensures answers { HeldAnswers result (site_of self.old).place (held_below self.old to) None (fault_of self.new)
-            (D.faults (device_of self.old)) (D.faults (device_of self.new)) }
-        ensures buffers { SealsBelow result to self.old self.new }
-    {
-        if self.buffer.written_len >= to {
-            return Ok(());
-        }
-        if !self.buffer.none_open() {
-            return Err(self.hold(to));
-        }
-        self.write_current()
-    }
-
-    /// Seals the current buffer where it begins below an offset, and says which open reservation holds a write up.
-    fn hold(&mut self, to: usize) -> Error
-        requires held { 0 < open_in self.old.buffer.reserved.items }
-        requires reserved { to ≤ reserved_len self.old }
-        ensures held { HeldOrMemory result (IsLeastOpenOf self.old self.old.buffer.reserved.items) }
-        ensures sealed { to ≤ sealed_len self.new ⊎ (result ≡ Error.OutOfMemory) }
-        ensures keeps { Preserves D.trace C.sum_of self.old self.new }
-        ensures tickets { KeepsTickets self.old self.new }
-        ensures position { SamePosition self.old self.new }
-        ensures same { KeepsAll self.old self.new }
-    {
-        if to <= self.buffer.begin {
-            return self.held();
-        }
-        match self.seal() {
-            Ok(()) => self.held(),
-            Err(e) => e,
-        }
-    }
-
-    /// Which open reservation holds a write up.
-    fn held(&self) -> Error
-        requires { 0 < open_in self.now.buffer.reserved.items }
-        ensures { HeldOrMemory result (IsLeastOpenOf self.now self.now.buffer.reserved.items) }
-    {
-        Error::Held(self.buffer.least_open(0, &self.site))
-    }
-
-    /// Writes one of the sealed buffers, which can be written, and syncs it.
-    pub(crate) fn write_buffer(&mut self, k: usize) -> Result<()>
-        requires fault { fault_of self.old ≡ None }
-        requires within { k < length self.old.buffer.sealed.items }
-        requires ready { (b : Sealed) → slice_get self.old.buffer.sealed.items k ≡ Some b → is_ready b ≡ true }
-        ensures written { OnOk result (IsWrittenAt k self.old.buffer self.new.buffer) }
-        ensures same { OnErr result (SameBuffer self.old.buffer self.new.buffer) }
-        ensures calls { OnOk result (D.trace (device_of self.new) ≡ after_all (writing_buffer self.old k) (D.trace (device_of self.old))) }
-        ensures at_most { Performs (writing_buffer self.old k) (D.trace (device_of self.old)) (D.trace (device_of self.new)) }
+        requires ready { IsReadyIn (line_of self.old) n k }
+        ensures line { (v : SegmentView) → slice_get (line_of self.old) n ≡ Some v
+            → OnOk result (line_of self.new ≡ promoted (segment_size_of self.old) (set (line_of self.old) n (written_now k v))) }
+        ensures same { OnErr result (line_of self.new ≡ line_of self.old) }
+        ensures calls { OnOk result (D.trace (device_of self.new) ≡ after_all (write_in (line_of self.old) n k) (D.trace (device_of self.old))) }
+        ensures at_most { Performs (write_in (line_of self.old) n k) (D.trace (device_of self.old)) (D.trace (device_of self.new)) }
         ensures keeps { Preserves D.trace C.sum_of self.old self.new }
         ensures tickets { KeepsTickets self.old self.new }
         ensures position { SamePosition self.old self.new }
         ensures answers { Answers result None (fault_of self.new) (D.faults (device_of self.old)) (D.faults (device_of self.new)) }
     {
-        let (from, to) = self.buffer.span(k);
-        let at = self.site.slot + from as u64;
-        if let Err(e) = write_out(&mut self.config.device, at, &self.buffer.bytes[from..to]) {
-            return Err(keep_fault(&mut self.fault, e));
-        }
-        self.buffer.mark_written(k);
+        self.write_bytes(n, k)?;
+        mark_nth(&mut self.buffer, &mut self.behind, n, k);
+        let size = self.config.config.segment_size;
+        promote(&mut self.site, &mut self.buffer, &mut self.behind, size);
         Ok(())
     }
 
-    /// Writes the current buffer, where no buffer is sealed, and syncs it.
-    fn write_current(&mut self) -> Result<()>
+    /// Writes the bytes of that buffer, and syncs them. It keeps a failure of the device.
+    fn write_bytes(&mut self, n: usize, k: usize) -> Result<()>
         requires fault { fault_of self.old ≡ None }
-        requires unsealed { NoneSealed self.old }
-        requires ended { NoneOpen self.old }
-        requires some { 0 < length self.old.buffer.reserved.items }
-        ensures written { OnOk result (synced_len self.new ≡ length self.old.buffer.bytes.items) }
-        ensures left { NoneSealed self.new }
-        ensures same { OnErr result (SameBuffer self.old.buffer self.new.buffer) }
-        ensures calls { OnOk result (D.trace (device_of self.new) ≡ after_all (writing_current self.old) (D.trace (device_of self.old))) }
-        ensures at_most { Performs (writing_current self.old) (D.trace (device_of self.old)) (D.trace (device_of self.new)) }
-        ensures keeps { Preserves D.trace C.sum_of self.old self.new }
-        ensures tickets { KeepsTickets self.old self.new }
-        ensures position { SamePosition self.old self.new }
+        requires ready { IsReadyIn (line_of self.old) n k }
+        ensures calls { OnOk result (D.trace (device_of self.new) ≡ after_all (write_in (line_of self.old) n k) (D.trace (device_of self.old))) }
+        ensures at_most { Performs (write_in (line_of self.old) n k) (D.trace (device_of self.old)) (D.trace (device_of self.new)) }
         ensures answers { Answers result None (fault_of self.new) (D.faults (device_of self.old)) (D.faults (device_of self.new)) }
+        ensures rest { ChangesDevice self.old self.new }
+        ensures snapshots { (state_of (D.trace (device_of self.new))).snapshots ≡ (state_of (D.trace (device_of self.old))).snapshots }
+        ensures refused { OnErr result (fault_of self.new ≡ None → D.trace (device_of self.new) ≡ D.trace (device_of self.old)) }
     {
-        let from = self.buffer.written_len;
-        let at = self.site.slot + from as u64;
-        if let Err(e) = write_out(&mut self.config.device, at, &self.buffer.bytes[from..]) {
+        let (slot, buffer) = nth(&self.site, &self.buffer, &self.behind, n);
+        let (from, to) = buffer.span(k);
+        let at = slot + from as u64;
+        let written = write_out(&mut self.config.device, at, &buffer.bytes[from..to]);
+        if let Err(e) = written {
             return Err(keep_fault(&mut self.fault, e));
         }
-        self.buffer.advance();
         Ok(())
     }
+}
+
+/// The n-th of the segments of a log: where its slot begins in the file, and its buffer.
+fn nth<'a>(
+    site: &SegmentPosition,
+    buffer: &'a IoBuf,
+    behind: &'a VecDeque<SegmentBuffer>,
+    n: usize,
+) -> (LogOffset, &'a IoBuf)
+    requires { n ≤ length behind.now.items }
+    ensures { HasBufferAt (line_at site.now buffer.now behind.now.items) n result.0 result.1.now }
+{
+    if n == 0 {
+        return (site.slot, buffer);
+    }
+    let s = &behind[n - 1];
+    (s.site.slot, &s.buffer)
+}
+
+/// One of the sealed buffers of the n-th one is on the device now.
+fn mark_nth(buffer: &mut IoBuf, behind: &mut VecDeque<SegmentBuffer>, n: usize, k: usize)
+    requires { (site : SegmentPosition) × IsReadyIn (line_at site buffer.old behind.old.items) n k }
+    ensures { (site : SegmentPosition) (v : SegmentView) → slice_get (line_at site buffer.old behind.old.items) n ≡ Some v
+        → line_at site buffer.new behind.new.items ≡ set (line_at site buffer.old behind.old.items) n (written_now k v) }
+{
+    if n == 0 {
+        buffer.mark_written(k);
+        return;
+    }
+    let s = &mut behind[n - 1];
+    s.buffer.mark_written(k);
 }
 
 /// Writes bytes to the log file, and syncs it.

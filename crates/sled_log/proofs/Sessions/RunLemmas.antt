@@ -1,5 +1,5 @@
 -- What holds at the joints of a run: one trace behind another, what a crash leaves, and how a phase leads to the next one.
-use Rattle.std.proofs.Common.{rules, reverse, ◌≤◌, ◌≡◌, ◌∙◌, ◌<◌, ◌^◌, ℕ, ℤ, pos, Bool, true, false, if◌then◌else◌, IsTrue, List, [], ◌∷◌, ◌++◌, Option, None, Some, refl, sym, ap, subst, arith, append_assoc, inl, inr}
+use Rattle.std.proofs.Common.{rules, reverse, ◌≤◌, ◌≡◌, ◌∙◌, ◌<◌, ◌^◌, length, ℕ, ℤ, pos, Bool, true, false, if◌then◌else◌, IsTrue, List, [], ◌∷◌, ◌++◌, Option, None, Some, refl, sym, ap, subst, arith, append_assoc, inl, inr}
 use Rattle.std.specs.Prelude.{FitsSigned, Err, ◌==◌}
 use Rattle.std.specs.declared.io.Error.{Error as IoError}
 use Rattle.std.specs.Int.{w64, cast_signed, cast_unsigned}
@@ -24,7 +24,7 @@ use Rattle.sled_store.proofs.LogFile.LogLemmas.{at_rest_left}
 use Rattle.sled_store.proofs.Names.NamesLemmas.{settled_name_left, settled_name_at_rest}
 use Rattle.sled_store.proofs.Traces.ScriptLemmas.{performs_throughout}
 use Rattle.sled_store.proofs.Crashes.SettledLemmas.{settled_left_too}
-use Rattle.sled_core.specs.Causes.{Answers, FaultAnswers, ReserveAnswers}
+use Rattle.sled_core.specs.Causes.{FaultAnswers, HeldAnswers, ReserveAnswers}
 use Rattle.sled_store.specs.Blobs.{ItemAnswers}
 use Rattle.sled_store.specs.Causes.{StartRefuses}
 use Rattle.sled_core.specs.Fits.{config_of, device_of, segment_size_of}
@@ -39,8 +39,8 @@ use Rattle.sled_log.specs.declared.session.step.Phase.{Phase}
 use Rattle.sled_log.specs.declared.session.step.Phase.TheVariants as phase
 use Rattle.sled_log.specs.declared.session.command.Reply.{Reply}
 use Rattle.sled_log.specs.declared.session.command.Reply.TheVariants as reply
-use Rattle.sled_log.specs.RunStates.{DeviceView, LogView, RunState, length_of, recovered, with_log, started_on}
-use Rattle.sled_log.specs.Runs.{IsOwn, IsOutOfTurn, IsRefusedWhere, IsCause, IsStartCause, HasRecovered, StartActs, OpenActs, CrashActs, Acts, IsGoodFor, flushed, ended, FlushStep, CompleteStep, ReplaceStep, IsStep, Runs}
+use Rattle.sled_log.specs.RunStates.{DeviceView, EndsInReach, LogView, RunState, length_of, recovered, started_on, target_in, with_log}
+use Rattle.sled_log.specs.Runs.{IsOwn, IsOutOfTurn, IsRefusedWhere, IsCause, IsStartCause, HasRecovered, StartActs, OpenActs, CrashActs, Acts, HasStopped, IsGoodFor, ended, FlushStep, CompleteStep, ReplaceStep, IsStep, Runs}
 use Rattle.sled_log.specs.RunPhases.{IsOpenAt, IsClosedAt, IsAt, Unstored, Shows, SaysWhy, log_shown, stands, size_of, traces, device_in, RunsOn, CarriesOut}
 use Rattle.sled_log.proofs.Sessions.RunHistories.{none_orderly}
 
@@ -217,26 +217,28 @@ open_acts sum size old mid new s (reply.Recovered t e) shows has acts = (mid, su
 open_acts sum size old mid new s _ shows has acts = absurd shows
 
 -- and what is shown is what the run goes on from.
-pub open_step : (sum : List ℕ → ℕ) (size : ℕ) (device new : DeviceView) (H : History) (A f : ℕ) (s : SnapshotModel) (r : Reply) (b : RunState) → Shows s r
+pub open_step : (sum : List ℕ → ℕ) (size : ℕ) (device mid new : DeviceView) (H : History) (A f : ℕ) (s : SnapshotModel) (r : Reply) (b : RunState) → Shows s r → StartActs size mid r new
     → let a : RunState = record { device = device; history = H; acknowledged = A; floor = f; log = None } in
-    IsGoodFor sum size a new s → SaysWhy r device.failures new.failures → b ≡ recovered a new s (log_shown size (length_of new) s r) → IsStep sum size a command.Open r new b
-open_step sum size device new H A f s (reply.Opened t) b shows good why is =
+    IsGoodFor sum size a new s → SaysWhy r device.failures new.failures → b ≡ recovered a new s (log_shown size (length_of mid) s r) → IsStep sum size a command.Open r new b
+open_step sum size device mid new H A f s (reply.Opened t) b shows acts good why is =
     let a : RunState = record { device = device; history = H; acknowledged = A; floor = f; log = None } in
-    (subst (λ (x : SnapshotModel). IsGoodFor sum size a new x) (sym shows) good, subst (λ (x : SnapshotModel). b ≡ recovered a new x (Some (started_on size (length_of new) x))) (sym shows) is)
-open_step sum size device new H A f s (reply.Recovered t e) b shows good why is =
+    (subst (λ (x : SnapshotModel). IsGoodFor sum size a new x) (sym shows) good, (mid, acts, subst (λ (x : SnapshotModel). b ≡ recovered a new x (Some (started_on size (length_of mid) x))) (sym shows) is))
+open_step sum size device mid new H A f s (reply.Recovered t e) b shows acts good why is =
     let a : RunState = record { device = device; history = H; acknowledged = A; floor = f; log = None } in
     (subst (λ (x : SnapshotModel). IsGoodFor sum size a new x) (sym shows) good, why, subst (λ (x : SnapshotModel). b ≡ recovered a new x None) (sym shows) is)
-open_step sum size device new H A f s _ b shows good why is = absurd shows
+open_step sum size device mid new H A f s _ b shows acts good why is = absurd shows
 
 -- Commands that failed.
 
--- A flush fails for the failure that the log keeps then, or for want of memory.
-pub flush_failed : (sum : List ℕ → ℕ) (size : ℕ) (a : RunState) (l : LogView) (T : Type 0) (e : Error) (fault : Option IoError) (new : DeviceView) (b : RunState)
-    → Answers {T = T} (Err e) l.fault fault a.device.failures new.failures → b ≡ with_log a new (Some (flushed l l.stable fault)) → FlushStep sum size a l (reply.Failed e) new b
-flush_failed sum size a l T (error.Io x) fault new b (inl kept) leads = (inl (kept.0, refl, kept.2), leads ∙ (λ i. with_log a new (Some (flushed l l.stable (kept.1 i)))))
-flush_failed sum size a l T (error.Io x) fault new b (inr failed) leads = (inr (failed.0, refl, failed.2, failed.3), leads ∙ (λ i. with_log a new (Some (flushed l l.stable (failed.1 i)))))
-flush_failed sum size a l T error.OutOfMemory fault new b answers leads = (answers.0, answers.2, leads ∙ (λ i. with_log a new (Some (flushed l l.stable ((answers.1 ∙ sym answers.0) i)))))
-flush_failed sum size a l T _ fault new b answers leads = absurd answers
+-- A flush that nothing holds up fails for the failure that the log keeps then, for want of memory, or of a further segment.
+pub flush_failed : (sum : List ℕ → ℕ) (size : ℕ) (a : RunState) (l : LogView) (T : Type 0) (e : Error) (held : Option ℕ) (used : Type 0) (fault : Option IoError) (new : DeviceView) (b : RunState)
+    → held ≡ None → (used → EndsInReach size l.position → ⊥) → HeldAnswers {T = T} (Err e) held used l.fault fault a.device.failures new.failures → HasStopped a l fault new b → FlushStep sum size a l (reply.Failed e) new b
+flush_failed sum size a l T (error.Io x) held used fault new b free out (inl kept) stops = (inl (kept.0, refl, kept.2), subst (λ (f : Option IoError). HasStopped a l f new b) kept.1 stops)
+flush_failed sum size a l T (error.Io x) held used fault new b free out (inr failed) stops = (inr (failed.0, refl, failed.2, failed.3), subst (λ (f : Option IoError). HasStopped a l f new b) failed.1 stops)
+flush_failed sum size a l T error.OutOfMemory held used fault new b free out answers stops = (answers.0, answers.2, subst (λ (f : Option IoError). HasStopped a l f new b) answers.1 stops)
+flush_failed sum size a l T error.PlacesUsedUp held used fault new b free out answers stops = (answers.1, out answers.0, answers.3, subst (λ (f : Option IoError). HasStopped a l f new b) answers.2 stops)
+flush_failed sum size a l T (error.Held at) held used fault new b free out answers stops = let some : Some answers.0.0 ≡ None = sym answers.0.1 ∙ free in cc
+flush_failed sum size a l T _ held used fault new b free out answers stops = absurd answers
 
 -- A completion fails for the failure that the log keeps.
 pub complete_failed : (a : RunState) (l : LogView) (T : Type 0) (e : Error) (new : DeviceView) (b : RunState)
@@ -259,13 +261,14 @@ replace_kind page none = by (page == 1) (page == 0) none
     by false false is = cc
 
 -- So a reservation for one, where none is open, fails for the failure that the log keeps, or for want of memory.
-pub replace_failed : (size : ℕ) (a : RunState) (l : LogView) (page : ℕ) (bytes : List ℕ) (T : Type 0) (e : Error) (new : DeviceView) (b : RunState) (open_count : ℕ) (least : ℤ → Type 0) → open_count ≡ 0
-    → ReserveAnswers {T = T} (Err e) l.fault (kind_written Replace page false) open_count least → b ≡ a → ReplaceStep size a l page bytes (reply.Failed e) new b
-replace_failed size a l page bytes T (error.Io x) new b n least none answers leads = (answers, leads)
-replace_failed size a l page bytes T error.OutOfMemory new b n least none answers leads = (answers.0, leads)
-replace_failed size a l page bytes T (error.Unsupported text) new b n least none answers leads = absurd (replace_kind page answers.1)
-replace_failed size a l page bytes T (error.Held at) new b n least none answers leads = let full = answers.2 in absurd (omega (arith, none, full))
-replace_failed size a l page bytes T _ new b n least none answers leads = absurd answers
+pub replace_failed : (size : ℕ) (a : RunState) (l : LogView) (page : ℕ) (bytes : List ℕ) (T : Type 0) (e : Error) (new : DeviceView) (b : RunState) (used : Type 0) (open_count : ℕ) (least : ℤ → Type 0) → open_count ≡ 0
+    → (used → EndsInReach size (target_in size l page (length bytes)) → ⊥) → ReserveAnswers {T = T} (Err e) l.fault (kind_written Replace page false) used open_count least → b ≡ a → ReplaceStep size a l page bytes (reply.Failed e) new b
+replace_failed size a l page bytes T (error.Io x) new b used n least none out answers leads = (answers, leads)
+replace_failed size a l page bytes T error.OutOfMemory new b used n least none out answers leads = (answers.0, leads)
+replace_failed size a l page bytes T error.PlacesUsedUp new b used n least none out answers leads = (answers.0, out answers.2, leads)
+replace_failed size a l page bytes T (error.Unsupported text) new b used n least none out answers leads = absurd (replace_kind page answers.1)
+replace_failed size a l page bytes T (error.Held at) new b used n least none out answers leads = let full = answers.3 in absurd (omega (arith, none, full))
+replace_failed size a l page bytes T _ new b used n least none out answers leads = absurd answers
 
 -- One command that is carried out, and then what runs on from the phase that it leads to.
 pub carried_next : {D C : Type 0} (view : D → DeviceView) (sum : List ℕ → ℕ) (size : ℕ) (phase : Phase D C) (c : Command) (result : Phase D C × Reply) → size_of phase ≡ size → CarriesOut view sum phase c result

@@ -169,7 +169,7 @@ fn crash<D: CrashDevice, C: Checksum>(
     (Phase::Closed(config), Reply::Crashed(taken))
 }
 
-/// Keeps a place for a Replace of a page that is begun, or of the next one, where the message fits.
+/// Keeps a place for a Replace of a page that is begun, or of the next one, where its record has the item.
 fn replace<D: CrashDevice, C: Checksum>(
     opened: Opened<D, C>,
     page: PageId,
@@ -180,7 +180,7 @@ fn replace<D: CrashDevice, C: Checksum>(
     ensures on { Continues D.trace (Phase.Open opened) result.0 }
 {
     let mut opened = opened;
-    if page > opened.begun || page == u64::MAX || !opened.log.has_room(page, item) {
+    if page > opened.begun || page == u64::MAX || !opened.log.fits_inline(item) {
         return (Phase::Open(opened), Reply::Refused);
     }
     match opened

@@ -1,4 +1,4 @@
-use Rattle.sled_core.proofs.PublicLaws.{fits_reach, fits_apart, fits_inline, awaited_inline, next_small}
+use Rattle.sled_core.proofs.PublicLaws.{fits_reach, fits_apart, fits_inline, awaited_inline, awaited_small, reserved_small}
 use Rattle.sled_core.proofs.laws.messages_lie_in_order.Goals as goal
 
 pub returns-clause-below : goal.returns-clause-below
@@ -14,4 +14,7 @@ pub returns-clause-awaited : goal.returns-clause-awaited
 returns-clause-awaited g c = λ log ticket m awaits. awaited_inline log ticket m awaits
 
 pub returns-clause-small : goal.returns-clause-small
-returns-clause-small g c = λ log. next_small log
+returns-clause-small g c = λ log ticket m awaits. awaited_small log ticket m awaits
+
+pub returns-clause-reserved : goal.returns-clause-reserved
+returns-clause-reserved g c = λ log. reserved_small log

@@ -1,5 +1,5 @@
 use Rattle.std.proofs.Common.{◌≡◌, ◌∙◌, ◌≤◌, ◌+◌, max, ℕ, sym, ap, subst, inl, inr, arith}
-use Rattle.std.specs.Prelude.{Ok, Err, IfOk}
+use Rattle.std.specs.Prelude.{Err}
 use Rattle.std.specs.List.{All}
 use Rattle.sled_codec.specs.declared.serialization.snapshot.Snapshot.{Snapshot}
 use Rattle.sled_codec.specs.History.{Message}
@@ -11,8 +11,8 @@ use Rattle.sled_store.specs.Device.{Trace, state_of, content_of}
 use Rattle.sled_store.specs.Moments.{LeavesOnly}
 use Rattle.sled_store.specs.Script.{Performs, after_all}
 use Rattle.sled_store.proofs.Traces.MomentLemmas.{joined}
-use Rattle.sled_core.specs.Fits.{IsKept, device_of, fault_of, flushing, held_below, reserved_len, segment_size_of, synced_end}
-use Rattle.sled_core.proofs.Holds.Writes.{none_held, not_held}
+use Rattle.sled_core.specs.Fits.{IsKept, IsUsedUpBelow, device_of, fault_of, flushing, holding_below, reserved_end, segment_size_of, synced_end}
+use Rattle.sled_core.proofs.PublicLaws.{ready_with_less}
 use Rattle.sled_core.specs.Recoverable.{LeavesRecoverable, NoForeign, RecoverableIfOwn}
 use Rattle.sled_core.specs.Running.{Ready, end_below}
 use Rattle.sled_core.proofs.Holds.ReachLemmas.{fits_holds}
@@ -22,6 +22,7 @@ use Rattle.sled_log.specs.Orderly.{CanRecover}
 use Rattle.sled_log.specs.Restarts.{FlushFails}
 use Rattle.sled_log.specs.Restores.{RecoveryCalls, Restores}
 use Rattle.sled_log.proofs.Ready.ComesBack.{ready_kept}
+use Rattle.sled_log.proofs.Sessions.RunLogs.{end_rises, none_holding}
 use Rattle.sled_log.proofs.WriteBack.RestartCauses.{flush_fails, some_of}
 use Rattle.sled_log.proofs.restart.restart.Goals as goal
 
@@ -39,7 +40,7 @@ returns-in-Ok-clause-ready g c = λ H A f U can.
     let now_size : segment_size_of log ≡ size = c.flush-flushed.ensures.position.size in
     let sizes : config.config.segment_size ≡ size = ap (λ (x : RunningConfig _ _). x.config.segment_size) is ∙ now_size in
     let same : old ≡ trace (device_of log) = ap (λ (x : RunningConfig _ _). trace x.device) is in
-    let came : old ≡ after_all (flushing c.args.log) (trace (device_of c.args.log)) = same ∙ c.in-Ok.ensures.calls in
+    let came : old ≡ after_all (flushing sum c.args.log) (trace (device_of c.args.log)) = same ∙ c.in-Ok.ensures.calls in
     let left : LeavesRecoverable sum size H end f (state_of old) =
     subst (λ (t : Trace). LeavesRecoverable sum size H end f (state_of t)) (sym same) (subst (λ n. LeavesRecoverable sum n H end f (state_of (trace (device_of log)))) now_size (fits_leaves trace sum log H end f U (c.in-Ok.ensures.acknowledges H A f U can.fits))) in
     let there : CanRecover sum size (state_of old) H end f =
@@ -48,10 +49,11 @@ returns-in-Ok-clause-ready g c = λ H A f U can.
     subst (λ (t : Trace). IsKept sum size log.site log.buffer.written_len (state_of t) H) (sym same)
     (subst (λ n. IsKept sum n log.site log.buffer.written_len (state_of (trace (device_of log))) H) now_size (c.in-Ok.ensures.records H (fits_holds trace sum c.args.log H A f U can.fits))) in
     let long : 256 ≤ size = (let least = config.config.least in omega (arith, least, sizes)) in
-    subst (λ n. IfOk c.read_snapshot_or_default-snapshot.result (λ s. Ready sum size (state_of new) (model_of s) H (max A (end_below n H)) (stable_place s.stable_lsn))) c.in-Ok.ensures.whole
-    (if_ok c.read_snapshot_or_default-snapshot.result _ (λ s. Ready sum size (state_of new) (model_of s) H end (stable_place s.stable_lsn))
-    (λ s ok. ready_kept sum size log.site log.buffer.written_len old new H end f long kept (omega arith) there (model_of s) (subst (λ n. Restores sum n old new (model_of s)) sizes ok))
-    c.read_snapshot_or_default-snapshot.ensures.ok)
+    let less : max A (end_below (reserved_end c.args.log) H) ≤ end = (let low = end_rises (reserved_end c.args.log) (synced_end log) H c.in-Ok.ensures.whole in omega (arith, low)) in
+    if_ok c.read_snapshot_or_default-snapshot.result _ (λ s. Ready sum size (state_of new) (model_of s) H (max A (end_below (reserved_end c.args.log) H)) (stable_place s.stable_lsn))
+    (λ s ok. ready_with_less sum size (state_of new) (model_of s) H end (max A (end_below (reserved_end c.args.log) H)) (stable_place s.stable_lsn) less
+    (ready_kept sum size log.site log.buffer.written_len old new H end f long kept (omega arith) there (model_of s) (subst (λ n. Restores sum n old new (model_of s)) sizes ok)))
+    c.read_snapshot_or_default-snapshot.ensures.ok
 
 pub returns-in-Ok-clause-table : goal.returns-in-Ok-clause-table
 unfolding Ready
@@ -72,14 +74,15 @@ returns-in-Ok-clause-did g c =
     let new = c.read_snapshot_or_default-snapshot.new.config in
     let is = c.halt-config.ensures.config in
     let sizes : config.config.segment_size ≡ segment_size_of c.args.log = ap (λ (x : RunningConfig _ _). x.config.segment_size) is ∙ c.flush-flushed.ensures.position.size in
-    let came : trace config.device ≡ after_all (flushing c.args.log) (trace (device_of c.args.log)) = ap (λ (x : RunningConfig _ _). trace x.device) is ∙ c.in-Ok.ensures.calls in
-    let answers = not_held c.args.log.site.place (held_below c.args.log (reserved_len c.args.log)) (Ok c.in-Ok.field-0) (fault_of c.args.log) (fault_of c.flush-flushed.new.self) _ _ (none_held c.args.log (reserved_len c.args.log) c.requires.ended) c.in-Ok.ensures.answers in
-    let counted : g.D.Device.faults config.device ≡ g.D.Device.faults (device_of c.args.log) = ap (λ (x : RunningConfig _ _). g.D.Device.faults x.device) is ∙ answers.2 in
+    let came : trace config.device ≡ after_all (flushing sum c.args.log) (trace (device_of c.args.log)) = ap (λ (x : RunningConfig _ _). trace x.device) is ∙ c.in-Ok.ensures.calls in
+    let answers = c.in-Ok.ensures.answers in
+    let counted : g.D.Device.faults config.device ≡ g.D.Device.faults (device_of c.args.log) = ap (λ (x : RunningConfig _ _). g.D.Device.faults x.device) is ∙ answers.4 in
     inr (
-      answers.0,
-      subst (λ n. RecoveryCalls sum n (after_all (flushing c.args.log) (trace (device_of c.args.log))) (trace new.device)) sizes
+      answers.2,
+      answers.1,
+      subst (λ n. RecoveryCalls sum n (after_all (flushing sum c.args.log) (trace (device_of c.args.log))) (trace new.device)) sizes
           (subst (λ (t : Trace). RecoveryCalls sum config.config.segment_size t (trace new.device)) came c.read_snapshot_or_default-snapshot.ensures.calls),
-      subst (λ n. ItemAnswers sum (state_of (after_all (flushing c.args.log) (trace (device_of c.args.log)))).blobs.file c.read_snapshot_or_default-snapshot.result n (g.D.Device.faults new.device)) counted
+      subst (λ n. ItemAnswers sum (state_of (after_all (flushing sum c.args.log) (trace (device_of c.args.log)))).blobs.file c.read_snapshot_or_default-snapshot.result n (g.D.Device.faults new.device)) counted
           (subst (λ (t : Trace). ItemAnswers sum (state_of t).blobs.file c.read_snapshot_or_default-snapshot.result (g.D.Device.faults config.device) (g.D.Device.faults new.device)) came c.read_snapshot_or_default-snapshot.ensures.answers),
     )
 
@@ -95,7 +98,7 @@ returns-in-Ok-clause-crash g c = λ H A f U restarts.
     let size : ℕ = segment_size_of c.args.log in
     let sizes : config.config.segment_size ≡ size = ap (λ (x : RunningConfig _ _). x.config.segment_size) is ∙ c.flush-flushed.ensures.position.size in
     let same : trace config.device ≡ trace (device_of log) = ap (λ (x : RunningConfig _ _). trace x.device) is in
-    let came : trace config.device ≡ after_all (flushing c.args.log) (trace (device_of c.args.log)) = same ∙ c.in-Ok.ensures.calls in
+    let came : trace config.device ≡ after_all (flushing sum c.args.log) (trace (device_of c.args.log)) = same ∙ c.in-Ok.ensures.calls in
     let keeps = c.flush-flushed.ensures.keeps in
     let left = fits_leaves trace sum log H A f U (keeps.fits H A f U fits) in
     let there : LeavesRecoverable sum size H A f (state_of (trace config.device)) =
@@ -119,17 +122,17 @@ returns-in-Ok-clause-kept g c =
 pub returns-in-Err-clause-did : goal.returns-in-Err-clause-did
 returns-in-Err-clause-did g c =
     let trace = g.D.Device.trace in
+    let sum = g.C.Checksum.sum_of in
     let log = c.args.log in
     let config = c.halt-config.result in
     let is = c.halt-config.ensures.config in
     let same : trace config.device ≡ trace (device_of c.flush-flushed.new.self) = ap (λ (x : RunningConfig _ _). trace x.device) is in
     let counted : g.D.Device.faults config.device ≡ g.D.Device.faults (device_of c.flush-flushed.new.self) = ap (λ (x : RunningConfig _ _). g.D.Device.faults x.device) is in
     inl (
-      subst (λ (t : Trace). Performs (flushing log) (trace (device_of log)) t) (sym same) c.flush-flushed.ensures.at_most,
+      subst (λ (t : Trace). Performs (flushing sum log) (trace (device_of log)) t) (sym same) c.flush-flushed.ensures.at_most,
       λ some. let kept = some_of (fault_of log) some in same ∙ ap (λ l. trace l.config.device) (c.flush-flushed.ensures.faulty kept.0 kept.1),
-      subst (λ n. FlushFails {T = Snapshot} (Err c.in-Err.e) (fault_of log) (g.D.Device.faults (device_of log)) n) (sym counted)
-          (flush_fails ℕ Snapshot c.in-Err.e (fault_of log) (fault_of c.flush-flushed.new.self) _ _
-          (not_held {T = ℕ} log.site.place (held_below log (reserved_len log)) (Err c.in-Err.e) (fault_of log) (fault_of c.flush-flushed.new.self) _ _ (none_held log (reserved_len log) c.requires.ended) c.in-Err.ensures.answers)),
+      subst (λ n. FlushFails {T = Snapshot} (Err c.in-Err.e) (IsUsedUpBelow log (reserved_end log)) (fault_of log) (g.D.Device.faults (device_of log)) n) (sym counted)
+          (flush_fails ℕ Snapshot c.in-Err.e (holding_below sum log (reserved_end log)) (IsUsedUpBelow log (reserved_end log)) (fault_of log) (fault_of c.flush-flushed.new.self) _ _ (none_holding log sum c.requires.ended) c.in-Err.ensures.answers),
     )
 
 pub returns-in-Err-clause-crash : goal.returns-in-Err-clause-crash

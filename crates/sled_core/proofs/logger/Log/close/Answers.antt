@@ -1,15 +1,42 @@
-use Rattle.std.proofs.Common.{max, subst, Result, Ok, Err, OnOk}
+use Rattle.std.proofs.Common.{ℕ, max, subst, sym, arith, inl, inr, Option, Result, Ok, Err}
+use Rattle.std.specs.declared.io.Error.{Error as IoError}
 use Rattle.sled_codec.specs.declared.result.Error.{Error}
+use Rattle.sled_codec.specs.declared.result.Error.TheVariants.{Held, Io, OutOfMemory, PlacesUsedUp}
+use Rattle.sled_store.specs.declared.config.RunningConfig.{RunningConfig}
 use Rattle.sled_store.specs.Device.{state_of}
-use Rattle.sled_core.specs.Fits.{reserved_end, segment_size_of, synced_end}
-use Rattle.sled_core.specs.Recoverable.{LeavesRecoverable}
+use Rattle.sled_store.specs.Moments.{LeavesOnly}
+use Rattle.sled_core.specs.Causes.{HeldAnswers}
+use Rattle.sled_core.specs.Fits.{IsUsedUpBelow, device_of, fault_of, holding_below, reserved_end, segment_size_of, synced_end}
+use Rattle.sled_core.specs.Recoverable.{LeavesRecoverable, RecoverableIfOwn}
 use Rattle.sled_core.specs.Running.{end_below}
+use Rattle.sled_core.specs.Stable.{CloseAnswers}
+use Rattle.sled_core.proofs.Flush.Settled.{leaves_less}
+use Rattle.sled_core.proofs.Holds.LastEnds.{acknowledged_up}
+use Rattle.sled_core.proofs.Line.Outcomes.{on_both}
 use Rattle.sled_core.proofs.logger.Log.close.Goals as goal
 
--- what two facts of a success come to
-both_on : {T : Type 0} (r : Result T Error) (P Q R : Type 0) → (P → Q → R) → OnOk r P → OnOk r Q → OnOk r R
-both_on (Ok _) P Q R by p q = by p q
-both_on (Err _) P Q R by p q = tt
+-- What the flush answers.
+close_answers : {T : Type 0} (r : Result T Error) (held : Option ℕ) (used : Type 0) (fault now : Option IoError) (before after : ℕ) → HeldAnswers r held used fault now before after → CloseAnswers r held used fault before after
+close_answers (Ok x) held used fault now before after (none, unused, old, new, same) = (none, unused, old, same)
+close_answers (Err (Io e)) held used fault now before after (inl kept) = inl (kept.0, kept.2)
+close_answers (Err (Io e)) held used fault now before after (inr failed) = inr (failed.0, failed.2, failed.3)
+close_answers (Err OutOfMemory) held used fault now before after (old, new, same) = (old, same)
+close_answers (Err PlacesUsedUp) held used fault now before after (is, old, new, same) = (is, old, same)
+close_answers (Err (Held at)) held used fault now before after (place, unused, old, new, same) = (place, unused, old, same)
+close_answers (Err _) held used fault now before after answers = absurd answers
+
+pub returns-clause-answers : goal.returns-clause-answers
+returns-clause-answers g c =
+    let old = c.args.self in
+    let new = c.flush-flushed.new.self in
+    subst (λ (x : RunningConfig _ _). CloseAnswers c.flush-flushed.result (holding_below g.C.Checksum.sum_of old (reserved_end old)) (IsUsedUpBelow old (reserved_end old)) (fault_of old) (g.D.Device.faults (device_of old)) (g.D.Device.faults x.device)) (sym c.halt.ensures.config)
+    (close_answers c.flush-flushed.result _ _ (fault_of old) (fault_of new) _ _ c.flush-flushed.ensures.answers)
+
+pub returns-clause-crash : goal.returns-clause-crash
+returns-clause-crash g c = λ H A f U fits.
+    let old = c.args.self in
+    subst (λ (x : RunningConfig _ _). LeavesOnly (RecoverableIfOwn g.C.Checksum.sum_of (segment_size_of old) H A f) (g.D.Device.trace (device_of old)) (g.D.Device.trace x.device)) (sym c.halt.ensures.config)
+    (c.flush-flushed.ensures.keeps.goes_on.crash H A f U fits)
 
 -- What was flushed can be recovered once the log is given up.
 pub returns-clause-acknowledges : goal.returns-clause-acknowledges
@@ -18,9 +45,10 @@ returns-clause-acknowledges g c = λ H A f U fits.
     let old = c.args.self in
     let new = c.flush-flushed.new.self in
     let left = state_of (g.D.Device.trace c.halt.result.device) in
-    both_on c.flush-flushed.result _ _ (LeavesRecoverable sum (segment_size_of old) H (max A (end_below (reserved_end old) H)) f left)
+    on_both c.flush-flushed.result _ _ (LeavesRecoverable sum (segment_size_of old) H (max A (end_below (reserved_end old) H)) f left)
     (λ flushed whole.
-    subst (λ n. LeavesRecoverable sum n H (max A (end_below (reserved_end old) H)) f left) c.flush-flushed.ensures.position.size
-    (subst (λ n. LeavesRecoverable sum (segment_size_of new) H (max A (end_below n H)) f left) whole
+    let up = acknowledged_up (reserved_end old) (synced_end new) H whole in
+    leaves_less sum (segment_size_of old) H (max A (end_below (reserved_end old) H)) (max A (end_below (synced_end new) H)) f left (omega (arith, up))
+    (subst (λ n. LeavesRecoverable sum n H (max A (end_below (synced_end new) H)) f left) c.flush-flushed.ensures.position.size
     (c.halt.ensures.recoverable H (max A (end_below (synced_end new) H)) f U flushed)))
     (c.flush-flushed.ensures.acknowledges H A f U fits) c.flush-flushed.ensures.whole

@@ -1,103 +1,133 @@
-use Rattle.std.proofs.Common.{◌≡◌, ◌∙◌, ◌≤◌, ◌<◌, ◌+◌, ◌-◌, ap, sym, subst, refl, arith, rules, length, max, List, ℕ, pos, Some}
-use Rattle.std.specs.VecDeque.{deque_len}
-use Rattle.std.proofs.lemmas.Option.{slice_get_within}
+-- The message of a ticket is completed, in whichever segment it lies: its reservation ends there, and nothing else changes.
+use Rattle.std.proofs.Common.{◌≡◌, ◌∙◌, ◌-◌, ◌∷◌, sym, subst, arith, refl, ℕ, List, Some}
+use Rattle.std.specs.Prelude.{unsigned_abs}
 use Rattle.std.specs.List.{slice_get}
-use Rattle.sled_codec.specs.History.{Message, AddsMessage, Step}
+use Rattle.sled_codec.specs.History.{AddsMessage, Message, Step}
+use Rattle.sled_store.specs.Accounts.{machine_of}
 use Rattle.sled_store.specs.Device.{state_of}
 use Rattle.sled_core.specs.declared.iobuf.ReservationState.TheVariants.{Completed}
 use Rattle.sled_core.specs.declared.iobuf.Reserved.{Reserved}
-use Rattle.sled_core.specs.Buffers.{message_in, none_open, ended}
-use Rattle.sled_core.specs.Tickets.{index_of}
-use Rattle.sled_core.specs.Fits.{Holds}
+use Rattle.sled_core.specs.Begun.{SegmentView}
+use Rattle.sled_core.specs.Buffers.{completing}
+use Rattle.sled_core.specs.Fits.{AwaitsIn, Holds, NoneOpenIn, line_of}
 use Rattle.sled_core.specs.Running.{Fits}
-use Rattle.sled_core.proofs.Reserve.Ranges.{at_there, chain_within}
-use Rattle.sled_core.proofs.Holds.RunningLemmas.{fits-completed}
-use Rattle.sled_core.proofs.Holds.WholeLemmas.{holds-same, plain_ended, plain_same}
-use Rattle.sled_core.proofs.Holds.KeptCalls.{goes_on_still, goes_on_quietly}
-use Rattle.sled_core.proofs.Holds.BufferEnds.{written_behind}
-use Rattle.sled_core.proofs.Holds.OpenTickets.{only_closed}
-use Rattle.sled_core.proofs.Holds.CompletedLemmas.{ends_within, others_stay}
-use Rattle.sled_core.proofs.Holds.Added.{added_there}
-use Rattle.sled_core.proofs.Holds.WholeHistory.{of_head}
-use Rattle.sled_core.proofs.Holds.WholeLemmas.{holds-complete}
+use Rattle.sled_core.specs.Tickets.{place_of}
+use Rattle.sled_core.proofs.Holds.KeptCalls.{goes_on_still}
+use Rattle.sled_core.proofs.Line.EndedKeeps.{fits_ended, goes_on_ended, holds_ended, keeps_ended, position_ended}
+use Rattle.sled_core.proofs.Line.EndedTickets.{only_ended, others_await, says_place, ticket_above, ticket_among, ticket_open, ticket_there}
+use Rattle.sled_core.proofs.Line.Ends.{fits_completed, holds_completed}
+use Rattle.sled_core.proofs.Line.Facts.{nth_facts}
+use Rattle.sled_core.proofs.Line.LogSpans.{ended_buffers}
+use Rattle.sled_core.proofs.logger.Log.complete.Given.{Over}
 use Rattle.sled_core.proofs.logger.Log.complete.Goals as goal
-
-pub returns-clause-history : goal.returns-clause-history
-unfolding Holds Step
-returns-clause-history g c = λ H m holds awaits.
-    let old = c.args.self.now.buffer in
-    let r : Reserved = awaits.reserved in
-    let there : slice_get old.reserved.items (c.index-index.result - c.args.self.now.buffer.gone) ≡ Some r = ap (λ n. slice_get old.reserved.items (n - old.gone)) c.index-index.ensures ∙ awaits.there in
-    let behind = written_behind old in
-    let done = holds-complete g.C.Checksum.sum_of c.args.self.now.config.config.segment_size c.args.self.now.site (state_of (g.D.Device.trace c.args.self.now.config.device)) c.args.self.now.fault old.bytes.items old.written_len old.sealed.items old.reserved.items H holds (c.index-index.result - c.args.self.now.buffer.gone) r there awaits.own.open_yet behind old.are c.args.self.now.in_segment in (
-      done.0,
-      subst (λ (x : Message). AddsMessage H x done.0) (sym awaits.message) done.1,
-      holds-same _ _ _ _ _ _ _ _ _ _ _ _ _ done.0 (c.complete.ensures.bytes r there) c.complete.ensures.from c.complete.ensures.sealed (c.complete.ensures.reserved r there) done.2,
-    )
-
-pub returns-clause-others : goal.returns-clause-others
-unfolding Holds
-returns-clause-others g c = λ H other m holds awaits apart.
-    let old = c.args.self.now.buffer in
-    let own = c.requires.1 in
-    let r : Reserved = own.reserved in
-    let x : Reserved = awaits.reserved in
-    let there : slice_get old.reserved.items (c.index-index.result - c.args.self.now.buffer.gone) ≡ Some r = ap (λ n. slice_get old.reserved.items (n - old.gone)) c.index-index.ensures ∙ own.there in
-    let elsewhere : x.from ≡ r.from → ⊥ = λ same. apart (awaits.own.place ∙ ap (λ n. pos (c.args.self.now.site.place + n)) same ∙ sym own.own.place) in
-    let stay = others_stay g.C.Checksum.sum_of c.args.self.now.config.config.segment_size c.args.self.now.site (state_of (g.D.Device.trace c.args.self.now.config.device)) c.args.self.now.fault old.bytes.items old.written_len old.sealed.items old.reserved.items (c.index-index.result - c.args.self.now.buffer.gone) (index_of other - old.gone) r x (record { messages = holds.head; batches = H.batches }) r.sum r.kind Completed holds.own there own.own.open_yet awaits.there awaits.own.open_yet elsewhere in
-    record {
-      reserved = x;
-      numbered = omega (arith, c.complete.ensures.gone, awaits.numbered);
-      there = (λ i. slice_get (c.complete.ensures.reserved r there i) (index_of other - c.complete.ensures.gone i)) ∙ stay.0;
-      own = awaits.own;
-      message = awaits.message ∙ sym stay.1 ∙ ap (λ (l : List ℕ). message_in c.args.self.now.site l x) (sym (c.complete.ensures.bytes r there));
-    }
-
-pub complete-requires-clause-within : goal.complete-requires-clause-within
-complete-requires-clause-within g c =
-    let old = c.args.self.now.buffer.reserved in
-    let own = c.requires.1 in
-    let within = slice_get_within old.items (c.index-index.result - c.args.self.now.buffer.gone) own.reserved (ap (λ n. slice_get old.items (n - c.args.self.now.buffer.gone)) c.index-index.ensures ∙ own.there) in
-    let long : length old.items ≡ deque_len old = search rules in
-    omega (arith, within, long)
-
--- It goes on fitting its history, with the message, and nothing is written.
 
 pub returns-in-Some-clause-goes_on : goal.returns-in-Some-clause-goes_on
 returns-in-Some-clause-goes_on g c = goes_on_still g.D.Device.trace g.C.Checksum.sum_of c.args.self.now
 
-pub returns-clause-goes_on : goal.returns-clause-goes_on
-returns-clause-goes_on g c = goes_on_quietly g.D.Device.trace g.C.Checksum.sum_of c.args.self.now _ (record { config = refl; checksum = refl }) refl (omega (arith, c.complete.ensures.from))
+-- The ticket says which reservation it is.
 
--- the only reservation that was open has ended
-pub returns-clause-ended : goal.returns-clause-ended
-returns-clause-ended g c = λ only.
-    let rs : List Reserved = c.args.self.now.buffer.reserved.items in
-    let own = c.requires.1 in
-    let there : slice_get rs (c.index-index.result - c.args.self.now.buffer.gone) ≡ Some own.reserved = ap (λ n. slice_get rs (n - c.args.self.now.buffer.gone)) c.index-index.ensures ∙ own.there in
-    ap none_open (c.complete.ensures.reserved own.reserved there)
-    ∙ only_closed rs (c.index-index.result - c.args.self.now.buffer.gone) (ended Completed own.reserved) (λ same. cc) (λ j r at is. let own_at = only j r at is in let numbered = own.numbered in omega (arith, own_at, numbered, c.index-index.ensures))
+pub segment_of-n-requires : goal.segment_of-n-requires
+segment_of-n-requires g c =
+    let above = ticket_above c.args.self.now c.args.ticket c.requires.0 c.requires.1 in
+    let place : c.unsigned_abs.result ≡ unsigned_abs (place_of c.args.ticket) = c.unsigned_abs.ensures.value ∙ says_place c.lsn-place.result (place_of c.args.ticket) c.lsn-place.type_inv c.lsn-place.ensures in
+    omega (arith, above, place)
+
+pub complete_in-requires : goal.complete_in-requires
+complete_in-requires g c =
+    let place : c.unsigned_abs.result ≡ unsigned_abs (place_of c.args.ticket) = c.unsigned_abs.ensures.value ∙ says_place c.lsn-place.result (place_of c.args.ticket) c.lsn-place.type_inv c.lsn-place.ensures in
+    ticket_open c.args.self.now c.args.ticket c.requires.0 c.requires.1 c.unsigned_abs.result c.segment_of-n.result c.index-index.result place c.segment_of-n.ensures c.index-index.ensures
+
+among : (g : Over) (c : goal.After-complete_in g) (m : Message) (awaits : AwaitsIn (line_of c.args.self.now) c.args.ticket m) → slice_get (line_of c.args.self.now) c.segment_of-n.result ≡ Some awaits.segment
+among g c m awaits =
+    let place : c.unsigned_abs.result ≡ unsigned_abs (place_of c.args.ticket) = c.unsigned_abs.ensures.value ∙ says_place c.lsn-place.result (place_of c.args.ticket) c.lsn-place.type_inv c.lsn-place.ensures in
+    ticket_among c.args.self.now c.args.ticket m awaits c.unsigned_abs.result c.segment_of-n.result c.index-index.result place c.segment_of-n.ensures c.index-index.ensures
+
+there : (g : Over) (c : goal.After-complete_in g) (m : Message) (awaits : AwaitsIn (line_of c.args.self.now) c.args.ticket m) → slice_get awaits.segment.parts.reserved (c.index-index.result - awaits.segment.gone) ≡ Some awaits.reserved
+there g c m awaits =
+    let place : c.unsigned_abs.result ≡ unsigned_abs (place_of c.args.ticket) = c.unsigned_abs.ensures.value ∙ says_place c.lsn-place.result (place_of c.args.ticket) c.lsn-place.type_inv c.lsn-place.ensures in
+    ticket_there c.args.self.now c.args.ticket m awaits c.unsigned_abs.result c.segment_of-n.result c.index-index.result place c.segment_of-n.ensures c.index-index.ensures
+
+-- The log holds the history with the message.
+
+pub returns-clause-history : goal.returns-clause-history
+unfolding Holds Step
+returns-clause-history g c = λ H m holds awaits.
+    let old = c.args.self.now in
+    let v : SegmentView = awaits.segment in
+    let r : Reserved = awaits.reserved in
+    let i : ℕ = c.index-index.result - v.gone in
+    let at = among g c m awaits in
+    let its = there g c m awaits in
+    let done = holds_completed g.C.Checksum.sum_of old.config.config.segment_size (state_of (g.D.Device.trace old.config.device)) old.fault (line_of old) c.segment_of-n.result v at old.site.place (nth_facts old) i r its awaits.own.open_yet (machine_of old.accountant) H holds in (
+      done.0,
+      subst (λ (x : Message). AddsMessage H x done.0) (sym awaits.message) done.1,
+      holds_ended old c.complete_in.new.self c.segment_of-n.result v at i r its awaits.own.open_yet r.sum r.kind Completed (c.complete_in.ensures.line v r at its) c.complete_in.ensures.rest g.D.Device.trace g.C.Checksum.sum_of done.0 done.2,
+    )
 
 pub returns-clause-fits : goal.returns-clause-fits
-unfolding Fits Holds Step
+unfolding Fits Step
 returns-clause-fits g c = λ H A f U m fits awaits out.
     let old = c.args.self.now in
-    let done = returns-clause-history g c H m fits.parts.holds awaits in
-    let inside = at_there (λ x. (max 20 old.buffer.written_len ≤ x.from) × (x.from + x.len ≤ length old.buffer.bytes.items)) old.buffer.reserved.items (index_of c.args.ticket - old.buffer.gone) awaits.reserved awaits.there
-    (chain_within (max 20 old.buffer.written_len) (length old.buffer.bytes.items) old.buffer.reserved.items fits.parts.holds.own.chain) in
-    let place : m.place ≡ old.site.place + awaits.reserved.from = ap (λ (x : Message). x.place) awaits.message in
-    let within = ends_within g.C.Checksum.sum_of old.config.config.segment_size old.site _ old.fault old.buffer.bytes.items old.buffer.written_len old.buffer.sealed.items old.buffer.reserved.items (index_of c.args.ticket - old.buffer.gone) awaits.reserved _ fits.parts.holds.own awaits.there awaits.own.open_yet in
-    let low : m.place < old.site.place + old.config.config.segment_size = omega (arith, within, place, old.in_segment) in (
+    let v : SegmentView = awaits.segment in
+    let r : Reserved = awaits.reserved in
+    let i : ℕ = c.index-index.result - v.gone in
+    let at = among g c m awaits in
+    let its = there g c m awaits in
+    let done = fits_completed g.C.Checksum.sum_of old.config.config.segment_size (state_of (g.D.Device.trace old.config.device)) old.fault (line_of old) c.segment_of-n.result v at old.site.place (nth_facts old) i r its awaits.own.open_yet (machine_of old.accountant) old.pins H A f U old.config.config.least c.in_default.is out fits in (
       done.0,
-      done.1,
-      record {
-        reach = fits.reach;
-        parts = fits-completed g.C.Checksum.sum_of old.config.config.segment_size old.site _ old.fault old.buffer.bytes.items old.buffer.written_len old.buffer.sealed.items old.buffer.reserved.items old.pins H A f U fits.parts _ _ _ _ done.0 m c.complete.ensures.from
-            old.config.config.least (omega (arith, c.complete.ensures.len, old.in_segment)) c.in_default.is done.2 done.1 (of_head g.C.Checksum.sum_of _ _ _ _ _ _ _ _ done.0 done.2 m (added_there H done.0 m done.1) low) (omega (arith, inside.0, place)) old.buffer.head old.buffer.are out;
-        plain = (
-            let own = c.requires.1 in
-            let there : slice_get old.buffer.reserved.items (c.index-index.result - old.buffer.gone) ≡ Some own.reserved = ap (λ n. slice_get old.buffer.reserved.items (n - old.buffer.gone)) c.index-index.ensures ∙ own.there in
-            plain_same _ _ (c.complete.ensures.reserved own.reserved there) (plain_ended old.buffer.reserved.items _ own.reserved Completed (λ same. cc) fits.plain));
-        slots = fits.slots;
-      },
+      subst (λ (x : Message). AddsMessage H x done.0) (sym awaits.message) done.1,
+      subst (λ (x : Message). Fits g.D.Device.trace g.C.Checksum.sum_of c.complete_in.new.self done.0 A f (x ∷ U)) (sym awaits.message)
+          (fits_ended old c.complete_in.new.self c.segment_of-n.result v at i r its awaits.own.open_yet r.sum r.kind Completed (c.complete_in.ensures.line v r at its) c.complete_in.ensures.rest g.D.Device.trace g.C.Checksum.sum_of done.0 A f _ done.2),
     )
+
+-- Other tickets stay, and nothing else changes.
+
+pub returns-clause-others : goal.returns-clause-others
+unfolding Holds
+returns-clause-others g c = λ H other m holds awaits apart.
+    let old = c.args.self.now in
+    let own : AwaitsIn (line_of old) c.args.ticket c.requires.0 = c.requires.1 in
+    let at = among g c c.requires.0 own in
+    let its = there g c c.requires.0 own in
+    subst (λ (l : List SegmentView). AwaitsIn l other m) (sym (c.complete_in.ensures.line own.segment own.reserved at its))
+    (others_await old.config.config.segment_size (line_of old) old.site.place c.segment_of-n.result own.segment at (nth_facts old) (c.index-index.result - own.segment.gone) own.reserved its own.own.open_yet own.reserved.sum own.reserved.kind Completed g.C.Checksum.sum_of (state_of (g.D.Device.trace old.config.device)) old.fault H holds.holds c.args.ticket other m own.own.place awaits apart)
+
+pub returns-clause-ended : goal.returns-clause-ended
+returns-clause-ended g c = λ only.
+    let old = c.args.self.now in
+    let own : AwaitsIn (line_of old) c.args.ticket c.requires.0 = c.requires.1 in
+    let at = among g c c.requires.0 own in
+    let its = there g c c.requires.0 own in
+    subst (λ (l : List SegmentView). NoneOpenIn l) (sym (c.complete_in.ensures.line own.segment own.reserved at its))
+    (only_ended old.config.config.segment_size (line_of old) old.site.place c.segment_of-n.result own.segment at (nth_facts old) (c.index-index.result - own.segment.gone) own.reserved its own.own.open_yet own.reserved.sum own.reserved.kind Completed c.args.ticket own.own.place (λ same. cc) only)
+
+pub returns-clause-goes_on : goal.returns-clause-goes_on
+returns-clause-goes_on g c =
+    let own : AwaitsIn (line_of c.args.self.now) c.args.ticket c.requires.0 = c.requires.1 in
+    let at = among g c c.requires.0 own in
+    let its = there g c c.requires.0 own in
+    goes_on_ended c.args.self.now c.complete_in.new.self c.segment_of-n.result own.segment at (c.index-index.result - own.segment.gone) own.reserved its own.own.open_yet own.reserved.sum own.reserved.kind Completed (c.complete_in.ensures.line own.segment own.reserved at its) c.complete_in.ensures.rest g.D.Device.trace g.C.Checksum.sum_of
+
+pub returns-clause-same : goal.returns-clause-same
+returns-clause-same g c =
+    let own : AwaitsIn (line_of c.args.self.now) c.args.ticket c.requires.0 = c.requires.1 in
+    let at = among g c c.requires.0 own in
+    let its = there g c c.requires.0 own in
+    keeps_ended c.args.self.now c.complete_in.new.self c.segment_of-n.result own.segment at (c.index-index.result - own.segment.gone) own.reserved its own.own.open_yet own.reserved.sum own.reserved.kind Completed (c.complete_in.ensures.line own.segment own.reserved at its) c.complete_in.ensures.rest
+
+pub returns-clause-position : goal.returns-clause-position
+returns-clause-position g c =
+    let own : AwaitsIn (line_of c.args.self.now) c.args.ticket c.requires.0 = c.requires.1 in
+    let at = among g c c.requires.0 own in
+    let its = there g c c.requires.0 own in
+    position_ended c.args.self.now c.complete_in.new.self c.segment_of-n.result own.segment at (c.index-index.result - own.segment.gone) own.reserved its own.own.open_yet own.reserved.sum own.reserved.kind Completed (c.complete_in.ensures.line own.segment own.reserved at its) c.complete_in.ensures.rest
+
+pub returns-clause-buffers : goal.returns-clause-buffers
+returns-clause-buffers g c =
+    let own : AwaitsIn (line_of c.args.self.now) c.args.ticket c.requires.0 = c.requires.1 in
+    let at = among g c c.requires.0 own in
+    let its = there g c c.requires.0 own in
+    ended_buffers c.args.self.now c.complete_in.new.self c.segment_of-n.result own.segment (c.index-index.result - own.segment.gone) own.reserved (completing own.reserved) Completed at (c.complete_in.ensures.line own.segment own.reserved at its)
+
+pub returns-in-Some-clause-buffers : goal.returns-in-Some-clause-buffers
+returns-in-Some-clause-buffers g c = record { waiting = refl; start = refl }

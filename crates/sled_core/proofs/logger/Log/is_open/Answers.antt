@@ -1,39 +1,117 @@
-use Rattle.std.proofs.Common.{◌≡◌, ◌∙◌, ◌-◌, ◌<◌, false, true, rules, ap, sym, subst, refl, List, length, arith, Some}
-use Rattle.std.specs.VecDeque.{deque_len}
+-- A ticket is for an open reservation of the log where it is for one of the segment that its place says.
+use Rattle.std.proofs.Common.{◌≡◌, ◌∙◌, ◌≤◌, ◌<◌, ◌+◌, ◌-◌, ◌/◌, ap, sym, subst, refl, arith, rules, ℕ, zero, suc, pos, map, ◌∷◌, true, false, List, length, Some}
+use Rattle.std.specs.Prelude.{unsigned_abs, ◌<ℤ◌}
 use Rattle.std.specs.List.{slice_get}
-use Rattle.std.proofs.lemmas.Option.{slice_get_within}
-use Rattle.sled_core.specs.declared.iobuf.Reserved.{Reserved}
+use Rattle.std.specs.VecDeque.{deque_len}
+use Rattle.sled_core.specs.declared.logger.Log.{Log}
+use Rattle.sled_core.specs.declared.logger.segments.SegmentBuffer.{SegmentBuffer}
+use Rattle.sled_core.specs.declared.reservation.Reservation.{Reservation}
+use Rattle.sled_core.specs.Begun.{SegmentView, segment_view, view_at}
 use Rattle.sled_core.specs.Buffers.{message_in}
-use Rattle.sled_core.specs.Tickets.{IsFor, index_of}
+use Rattle.sled_core.specs.Fits.{AwaitsIn, IsOpen, line_of}
+use Rattle.sled_core.specs.Tickets.{IsFor, index_of, place_of}
+use Rattle.sled_core.specs.Turned.{IsOpenIn}
+use Rattle.sled_core.proofs.Line.EndedLine.{behind_within}
+use Rattle.sled_core.proofs.Line.EndedTickets.{says_place, ticket_above, ticket_among}
+use Rattle.sled_core.proofs.Line.Facts.{nth_facts}
+use Rattle.sled_core.proofs.Line.Nth.{behind_get}
 use Rattle.sled_core.proofs.Reserve.Parts.{there_is}
+use Rattle.sled_core.proofs.logger.Log.is_open.Given.{Over}
 use Rattle.sled_core.proofs.logger.Log.is_open.Goals as goal
+use Rattle.sled_core.proofs.logger.Log.is_open.Goals.{then-place-lt0-via-then-place-lt0, then-place-lt0-via-else-place-lt0+then-place-self}
 
-pub returns-in-Some-get : goal.returns-in-Some-get
-returns-in-Some-get g c =
-    let rs : List Reserved = c.args.self.now.buffer.reserved.items in
-    let r : Reserved = c.in-Some-get.r.now in
-    let found = c.in-Some-get.ensures in
-    let long : deque_len c.args.self.now.buffer.reserved ≡ length rs = search rules in
-    let inside : c.in-Some.index < length rs = omega (arith, found.variant.0 refl, long) in
-    let at : c.in-Some.index ≡ index_of c.args.ticket.now - c.args.self.now.buffer.gone = c.in-Some.ensures.1 ∙ ap (λ n. n - c.args.self.now.buffer.gone) c.index.ensures in
-    let there : slice_get rs (index_of c.args.ticket.now - c.args.self.now.buffer.gone) ≡ Some r =
-    ap (slice_get rs) (sym at) ∙ there_is rs c.in-Some.index r inside found.lookup in (
-      λ yes. (
-        message_in c.args.self.now.site c.args.self.now.buffer.bytes.items r,
-        record { reserved = r; numbered = omega (arith, c.in-Some.ensures.0, c.index.ensures); there = there; own = c.is_for.ensures.0 yes; message = refl },
-      ),
-      λ is. let both : Some is.1.reserved ≡ Some r = sym is.1.there ∙ there in
-          let same : is.1.reserved ≡ r = cc in
-          c.is_for.ensures.1 (subst (λ (x : Reserved). IsFor c.args.self.now.site x c.args.ticket.now) same is.1.own),
+-- the segment at a number above 0 is one of those behind the first
+get_next : (v : SegmentView) (vs : List SegmentView) (n : ℕ) (w : SegmentView) → (n ≡ 0 → ⊥) → slice_get vs (n - 1) ≡ Some w → slice_get (v ∷ vs) n ≡ Some w
+get_next v vs zero w some there = absurd (some refl)
+get_next v vs (suc k) w some there = let at : k ≡ suc k - 1 = omega arith in ap (slice_get vs) at ∙ there
+
+-- in the n-th segment, which code has so
+module _ {D C : Type 0} (log : Log D C) (n : ℕ) (s : SegmentBuffer) (there : slice_get (line_of log) n ≡ Some (segment_view s)) (ticket : Reservation) where
+  opens : IsOpenIn s.site s.buffer ticket → IsOpen log ticket
+  opens is = (message_in s.site s.buffer.bytes.items is.reserved, record { number = n; segment = segment_view s; among = there; reserved = is.reserved; numbered = is.numbered; there = is.there; own = is.own; message = refl })
+
+  is_there : (place : ℕ) → place ≡ unsigned_abs (place_of ticket) → n ≡ (place - log.site.place) / log.config.config.segment_size → IsOpen log ticket → IsOpenIn s.site s.buffer ticket
+  is_there place place_is n_is is =
+      let awaits : AwaitsIn (line_of log) ticket is.0 = is.1 in
+      let among = ticket_among log ticket is.0 is.1 place n (index_of ticket) place_is n_is refl in
+      let both : Some awaits.segment ≡ Some (segment_view s) = sym among ∙ there in
+      let same : awaits.segment ≡ segment_view s = cc in
+      let open_in : (w : SegmentView) → awaits.segment ≡ w → (w.gone ≤ index_of ticket) × (slice_get w.parts.reserved (index_of ticket - w.gone) ≡ Some awaits.reserved) = λ w is_w. subst (λ (x : SegmentView). (x.gone ≤ index_of ticket) × (slice_get x.parts.reserved (index_of ticket - x.gone) ≡ Some awaits.reserved)) is_w (awaits.numbered, awaits.there) in
+      record {
+        reserved = awaits.reserved;
+        numbered = (open_in (segment_view s) same).0;
+        there = (open_in (segment_view s) same).1;
+        own = subst (λ (w : SegmentView). IsFor w.parts.site awaits.reserved ticket) same awaits.own;
+      }
+
+pub returns-then-place-lt0 : goal.returns-then-place-lt0
+returns-then-place-lt0 g c = (
+  λ yes. (let no : false ≡ true = yes in cc),
+  λ is. elim c.then-place-lt0.branch [
+    | then-place-lt0-via-then-place-lt0 w ↦ (
+        let negative : c.lsn-place.result <ℤ pos 0 = search rules in
+        let both : pos (is.1.segment.parts.site.place + is.1.reserved.from) <ℤ pos 0 = subst (λ z. z <ℤ pos 0) (c.lsn-place.ensures ∙ is.1.own.place) negative in
+        search rules)
+    | then-place-lt0-via-else-place-lt0+then-place-self w ↦ (
+        let above = ticket_above c.args.self.now c.args.ticket.now is.0 is.1 in
+        let same = says_place c.lsn-place.result (place_of c.args.ticket.now) c.lsn-place.type_inv c.lsn-place.ensures in
+        let below = w.if-place-self.true in
+        absurd (omega (arith, above, same, below)))
+  ],
+)
+
+pub returns-then-n-eq0 : goal.returns-then-n-eq0
+returns-then-n-eq0 g c =
+    let log = c.args.self.now in
+    let s : SegmentBuffer = record { site = log.site; buffer = log.buffer } in
+    let there : slice_get (line_of log) c.segment_of-n.result ≡ Some (segment_view s) = ap (slice_get (line_of log)) c.if-n-eq0.true in (
+      λ yes. opens log c.segment_of-n.result s there c.args.ticket.now (c.is_open_in.ensures.0 yes),
+      λ is. c.is_open_in.ensures.1 (is_there log c.segment_of-n.result s there c.args.ticket.now _ (says_place c.lsn-place.result (place_of c.args.ticket.now) c.lsn-place.type_inv c.lsn-place.ensures) c.segment_of-n.ensures is),
+    )
+
+some_there : (g : Over) (c : goal.In-Some g) → slice_get (line_of c.args.self.now) c.segment_of-n.result ≡ Some (segment_view c.in-Some.s.now)
+some_there g c =
+    let log = c.args.self.now in
+    let found = c.in-Some.ensures in
+    let long : deque_len log.behind ≡ length log.behind.items = search rules in
+    let inside : c.segment_of-n.result - 1 < length log.behind.items = omega (arith, found.variant.0 refl, long) in
+    let at = there_is log.behind.items (c.segment_of-n.result - 1) c.in-Some.s.now inside found.lookup in
+    get_next (view_at log.site log.buffer) (map segment_view log.behind.items) c.segment_of-n.result (segment_view c.in-Some.s.now) c.if-n-eq0.false (behind_get log.behind.items (c.segment_of-n.result - 1) c.in-Some.s.now at)
+
+pub is_open_in-requires-in-Some-clause-place : goal.is_open_in-requires-in-Some-clause-place
+is_open_in-requires-in-Some-clause-place g c =
+    let facts = nth_facts c.args.self.now c.segment_of-n.result (segment_view c.in-Some.s.now) (some_there g c) in
+    let short = facts.short in let small = facts.place_small in
+    omega (arith, short, small)
+
+pub is_open_in-requires-in-Some-clause-slot : goal.is_open_in-requires-in-Some-clause-slot
+is_open_in-requires-in-Some-clause-slot g c =
+    let facts = nth_facts c.args.self.now c.segment_of-n.result (segment_view c.in-Some.s.now) (some_there g c) in
+    let short = facts.short in let small = facts.slot_small in
+    omega (arith, short, small)
+
+pub returns-in-Some : goal.returns-in-Some
+returns-in-Some g c =
+    let log = c.args.self.now in
+    let s : SegmentBuffer = c.in-Some.s.now in
+    let found = c.in-Some.ensures in
+    let long : deque_len log.behind ≡ length log.behind.items = search rules in
+    let inside : c.segment_of-n.result - 1 < length log.behind.items = omega (arith, found.variant.0 refl, long) in
+    let at = there_is log.behind.items (c.segment_of-n.result - 1) s inside found.lookup in
+    let there : slice_get (line_of log) c.segment_of-n.result ≡ Some (segment_view s) =
+    get_next (view_at log.site log.buffer) (map segment_view log.behind.items) c.segment_of-n.result (segment_view s) c.if-n-eq0.false (behind_get log.behind.items (c.segment_of-n.result - 1) s at) in (
+      λ yes. opens log c.segment_of-n.result s there c.args.ticket.now (c.is_open_in-in-Some.ensures.0 yes),
+      λ is. c.is_open_in-in-Some.ensures.1 (is_there log c.segment_of-n.result s there c.args.ticket.now _ (says_place c.lsn-place.result (place_of c.args.ticket.now) c.lsn-place.type_inv c.lsn-place.ensures) c.segment_of-n.ensures is),
     )
 
 pub returns-in-None : goal.returns-in-None
 returns-in-None g c = (
-  λ yes. cc,
+  λ yes. (let no : false ≡ true = yes in cc),
   λ is.
-      let rs : List Reserved = c.args.self.now.buffer.reserved.items in
-      let long : deque_len c.args.self.now.buffer.reserved ≡ length rs = search rules in
-      let within = slice_get_within rs (index_of c.args.ticket.now - c.args.self.now.buffer.gone) is.1.reserved is.1.there in
-      let past : c.in-Some.index < deque_len c.args.self.now.buffer.reserved → ⊥ = λ less. let no : false ≡ true = c.in-None.ensures.variant.1 less in cc in
-      absurd (past (omega (arith, long, within, c.in-Some.ensures.1, c.index.ensures))),
+      let log = c.args.self.now in
+      let long : deque_len log.behind ≡ length log.behind.items = search rules in
+      let among = ticket_among log c.args.ticket.now is.0 is.1 _ c.segment_of-n.result (index_of c.args.ticket.now) (says_place c.lsn-place.result (place_of c.args.ticket.now) c.lsn-place.type_inv c.lsn-place.ensures) c.segment_of-n.ensures refl in
+      let within = behind_within log c.segment_of-n.result is.1.segment c.if-n-eq0.false among in
+      let past : c.segment_of-n.result - 1 < deque_len log.behind → ⊥ = λ less. let no : false ≡ true = c.in-None.ensures.variant.1 less in cc in
+      absurd (past (omega (arith, long, within))),
 )

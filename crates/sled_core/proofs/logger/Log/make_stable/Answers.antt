@@ -1,19 +1,20 @@
 -- Where nothing is written, the log is as it was; else the buffers up to the place are.
-use Rattle.std.proofs.Common.{◌∙◌, ◌<ℤ◌, pos, ◌≤ℤ◌, ap, sym, subst, refl, arith, rules, List, None, ℕ, Option, Err}
+use Rattle.std.proofs.Common.{◌∙◌, ◌<ℤ◌, pos, ◌≤ℤ◌, ◌<◌, ap, sym, subst, refl, arith, rules, SFits, to_z, of_z, unsigned_abs, ◌+◌, inl, inr, List, None, ℕ, Option, Ok, Err}
 use Rattle.std.specs.Int.{w64}
-use Rattle.std.proofs.lemmas.Int.{ints, to_z-of_z}
+use Rattle.std.proofs.lemmas.Int.{to_z-of_z, to_z_pos}
+use Rattle.std.proofs.lemmas.Result.{err_from_is_err_and}
 use Rattle.sled_store.specs.Device.{Event}
 use Rattle.sled_store.specs.Script.{Performs, after_all}
 use Rattle.sled_store.proofs.Traces.ScriptLemmas.{performs_nothing}
-use Rattle.sled_core.specs.Fits.{reserved_end, synced_end}
-use Rattle.sled_core.specs.Running.{Fits}
-use Rattle.std.specs.declared.io.Error.{Error as IoError}
 use Rattle.sled_core.specs.Causes.{HeldAnswers}
-use Rattle.sled_core.specs.Stable.{StableAnswers, held_for, length_to}
+use Rattle.sled_core.specs.Fits.{IsUsedUpBelow, fault_of, reserved_end, synced_end}
+use Rattle.sled_core.specs.Keeps.{WritesBelow}
+use Rattle.sled_core.specs.Running.{Fits}
+use Rattle.sled_core.specs.Stable.{behind_place, held_for}
 use Rattle.sled_core.proofs.Holds.KeptCalls.{kept_still}
 use Rattle.sled_core.proofs.Holds.RunningLemmas.{fits-acknowledged}
-use Rattle.sled_core.proofs.Holds.Writes.{reserved_past}
-use Rattle.sled_core.proofs.Stable.Places.{done_as, held_up, holds_none, seals_as, stable_answers, wrote_for}
+use Rattle.sled_core.proofs.Line.SealFirst.{unused_already, writes_already, writes_err, writes_ok}
+use Rattle.sled_core.proofs.Stable.Places.{above_read, behind_read, behind_stable, done_as, held_up, holds_none, inside_read, reserved_in_reach, stable_answers, wrote_for}
 use Rattle.sled_core.proofs.logger.Log.make_stable.Given as given
 use Rattle.sled_core.proofs.logger.Log.make_stable.Goals as goal
 
@@ -23,82 +24,132 @@ returns-in-Some-clause-at_most g c = performs_nothing _ _ _ refl
 pub returns-in-Some-clause-keeps : goal.returns-in-Some-clause-keeps
 returns-in-Some-clause-keeps g c = kept_still g.D.Device.trace g.C.Checksum.sum_of c.args.self.now
 
+-- The place is durable already.
+
 pub returns-then-lsn-stable_offset-clause-at_most : goal.returns-then-lsn-stable_offset-clause-at_most
 returns-then-lsn-stable_offset-clause-at_most g c = performs_nothing _ _ _ refl
 
 pub returns-then-lsn-stable_offset-clause-keeps : goal.returns-then-lsn-stable_offset-clause-keeps
 returns-then-lsn-stable_offset-clause-keeps g c = kept_still g.D.Device.trace g.C.Checksum.sum_of c.args.self.now
 
-pub returns-then-lsn-reserved_end-clause-at_most : goal.returns-then-lsn-reserved_end-clause-at_most
-returns-then-lsn-reserved_end-clause-at_most g c = performs_nothing _ _ _ refl
-
-pub returns-then-lsn-reserved_end-clause-keeps : goal.returns-then-lsn-reserved_end-clause-keeps
-returns-then-lsn-reserved_end-clause-keeps g c = kept_still g.D.Device.trace g.C.Checksum.sum_of c.args.self.now
+durable : (g : given.Over) (c : goal.Then-lsn-stable_offset g) → c.args.lsn <ℤ pos (synced_end c.args.self.now)
+durable g c = search rules
 
 pub returns-then-lsn-stable_offset-clause-answers : goal.returns-then-lsn-stable_offset-clause-answers
 returns-then-lsn-stable_offset-clause-answers g c =
     let old = c.args.self.now in
-    let durable : c.args.lsn <ℤ pos (synced_end old) = search rules in
-    let most = reserved_past old in
-    (omega (arith, ints, durable, most), (holds_none old c.args.lsn durable, c.in_default.is, c.in_default.is, refl))
+    (inl (durable g c), (holds_none g.C.Checksum.sum_of old c.args.lsn (durable g c), unused_already (behind_place c.args.lsn) old (behind_stable g.C.Checksum.sum_of old c.args.lsn (durable g c)), c.in_default.is, c.in_default.is, refl))
 
-above : (g : given.Over) (c : goal.In-Err g) → pos (synced_end c.args.self.now) ≤ℤ c.args.lsn
-above g c = search rules
+pub returns-then-lsn-stable_offset-clause-buffers : goal.returns-then-lsn-stable_offset-clause-buffers
+returns-then-lsn-stable_offset-clause-buffers g c = writes_already g.C.Checksum.sum_of (behind_place c.args.lsn) c.args.self.now 0 (behind_stable g.C.Checksum.sum_of c.args.self.now c.args.lsn (durable g c))
 
-inside : (g : given.Over) (c : goal.In-Err g) → c.args.lsn <ℤ pos (reserved_end c.args.self.now)
-inside g c = search rules
+-- It wasn't reserved.
 
-pub returns-in-Err-clause-made : goal.returns-in-Err-clause-made
-returns-in-Err-clause-made g c =
+pub overflow_cast-self : goal.overflow_cast-self
+overflow_cast-self g c = let reach = reserved_in_reach c.args.self.now in omega (arith, reach)
+
+pub returns-then-lsn-self-clause-at_most : goal.returns-then-lsn-self-clause-at_most
+returns-then-lsn-self-clause-at_most g c = performs_nothing _ _ _ refl
+
+pub returns-then-lsn-self-clause-keeps : goal.returns-then-lsn-self-clause-keeps
+returns-then-lsn-self-clause-keeps g c = kept_still g.D.Device.trace g.C.Checksum.sum_of c.args.self.now
+
+pub returns-then-lsn-self-clause-answers : goal.returns-then-lsn-self-clause-answers
+returns-then-lsn-self-clause-answers g c =
     let old = c.args.self.now in
-    let same = wrote_for old c.args.lsn _ (to_z-of_z w64 c.args.lsn c.ranges.lsn) (above g c) in
-    done_as (Unit {0}) ℕ c.in-Err.e _ _ (λ made. made ∙ ap (λ (es : List Event). after_all es (g.D.Device.trace old.config.device)) same) c.in-Err.ensures.calls
+    let reach : reserved_end old < 9223372036854775808 = reserved_in_reach old in
+    let above : pos (synced_end old) ≤ℤ c.args.lsn = search rules in
+    let past : pos (reserved_end old) ≤ℤ c.args.lsn = search rules in
+    (to_z-of_z w64 c.args.lsn c.ranges.lsn, above, past, c.in_default.is, c.in_default.is, refl)
 
-pub returns-in-Err-clause-at_most : goal.returns-in-Err-clause-at_most
-returns-in-Err-clause-at_most g c =
+-- The write failed, or was held.
+
+above : (g : given.Over) (c : goal.After-from_residual g) → pos (synced_end c.args.self.now) ≤ℤ c.args.lsn
+above g c =
+    let got = c.stable_offset.result in
+    let fits : SFits w64 got = search rules in
+    above_read c.args.lsn got _ _ (synced_end c.args.self.now) (to_z-of_z w64 c.args.lsn c.ranges.lsn) (to_z-of_z w64 got fits) c.stable_offset.ensures.place c.if-lsn-stable_offset.false
+
+inside : (g : given.Over) (c : goal.After-from_residual g) → c.args.lsn <ℤ pos (reserved_end c.args.self.now)
+inside g c =
+    let end = reserved_end c.args.self.now in
+    inside_read c.args.lsn _ _ end (to_z-of_z w64 c.args.lsn c.ranges.lsn) (to_z_pos w64 end (reserved_in_reach c.args.self.now)) c.if-lsn-self.false
+
+pub returns-in_err-write_below-clause-made : goal.returns-in_err-write_below-clause-made
+returns-in_err-write_below-clause-made g c =
     let old = c.args.self.now in
-    subst (λ (es : List Event). Performs es (g.D.Device.trace old.config.device) (g.D.Device.trace c.write_below.new.self.config.device)) (wrote_for old c.args.lsn _ (to_z-of_z w64 c.args.lsn c.ranges.lsn) (above g c)) c.write_below.ensures.at_most
+    let same = wrote_for g.C.Checksum.sum_of old c.args.lsn _ (behind_read c.args.lsn _ _ (to_z-of_z w64 c.args.lsn c.ranges.lsn) (above g c)) (above g c) in
+    let e = err_from_is_err_and c.from_residual.result c.from_residual.ensures.1 in
+    rw (e.1, e.2) (done_as (Unit {0}) ℕ c.in_err-write_below.field-0.0 _ _ (λ made. made ∙ ap (λ (es : List Event). after_all es (g.D.Device.trace old.config.device)) same) c.in_err-write_below.ensures.calls)
 
-pub returns-in-Err-clause-answers : goal.returns-in-Err-clause-answers
-returns-in-Err-clause-answers g c =
+pub returns-in_err-write_below-clause-at_most : goal.returns-in_err-write_below-clause-at_most
+returns-in_err-write_below-clause-at_most g c =
+    let old = c.args.self.now in
+    subst (λ (es : List Event). Performs es (g.D.Device.trace old.config.device) (g.D.Device.trace c.write_below.new.self.config.device))
+    (wrote_for g.C.Checksum.sum_of old c.args.lsn _ (behind_read c.args.lsn _ _ (to_z-of_z w64 c.args.lsn c.ranges.lsn) (above g c)) (above g c)) c.write_below.ensures.at_most
+
+pub returns-in_err-write_below-clause-answers : goal.returns-in_err-write_below-clause-answers
+returns-in_err-write_below-clause-answers g c =
     let old = c.args.self.now in
     let new = c.write_below.new.self in
-    let answers : HeldAnswers {T = Unit {0}} (Err c.in-Err.e) old.site.place (held_for old c.args.lsn) None new.fault (g.D.Device.faults old.config.device) (g.D.Device.faults new.config.device) =
-    subst (λ (o : Option ℕ). HeldAnswers {T = Unit {0}} (Err c.in-Err.e) old.site.place o None new.fault (g.D.Device.faults old.config.device) (g.D.Device.faults new.config.device)) (held_up old c.args.lsn _ (to_z-of_z w64 c.args.lsn c.ranges.lsn) (above g c)) c.in-Err.ensures.answers in
-    subst (λ (o : Option IoError). StableAnswers {T = ℕ} (Err c.in-Err.e) c.args.lsn (reserved_end old) old.site.place (held_for old c.args.lsn) o new.fault (g.D.Device.faults old.config.device) (g.D.Device.faults new.config.device)) (sym c.in_default.is)
-    (stable_answers (Unit {0}) ℕ c.in-Err.e c.args.lsn (reserved_end old) old.site.place (held_for old c.args.lsn) new.fault _ _ (inside g c) answers)
+    let at = behind_read c.args.lsn _ _ (to_z-of_z w64 c.args.lsn c.ranges.lsn) (above g c) in
+    let x = c.in_err-write_below.field-0.0 in
+    let answers : HeldAnswers {T = Unit {0}} (Err x) (held_for g.C.Checksum.sum_of old c.args.lsn) (IsUsedUpBelow old (behind_place c.args.lsn)) None (fault_of new) (g.D.Device.faults old.config.device) (g.D.Device.faults new.config.device) =
+    subst (λ n. HeldAnswers {T = Unit {0}} (Err x) (held_for g.C.Checksum.sum_of old c.args.lsn) (IsUsedUpBelow old n) None (fault_of new) (g.D.Device.faults old.config.device) (g.D.Device.faults new.config.device)) at
+    (subst (λ (o : Option ℕ). HeldAnswers {T = Unit {0}} (Err x) o (IsUsedUpBelow old (unsigned_abs (to_z w64 (of_z w64 c.args.lsn)) + 1)) None (fault_of new) (g.D.Device.faults old.config.device) (g.D.Device.faults new.config.device)) (held_up g.C.Checksum.sum_of old c.args.lsn _ at (above g c)) c.in_err-write_below.ensures.answers) in
+    let e = err_from_is_err_and c.from_residual.result c.from_residual.ensures.1 in
+    rw (e.1, e.2) (stable_answers (Unit {0}) ℕ x c.args.lsn (synced_end old) (reserved_end old) (held_for g.C.Checksum.sum_of old c.args.lsn) (IsUsedUpBelow old (behind_place c.args.lsn)) (fault_of old) (fault_of new) _ _ (above g c) (inside g c) c.in_default.is answers)
 
-pub returns-in-Err-clause-buffers : goal.returns-in-Err-clause-buffers
-returns-in-Err-clause-buffers g c =
+pub returns-in_err-write_below-clause-buffers : goal.returns-in_err-write_below-clause-buffers
+returns-in_err-write_below-clause-buffers g c =
     let old = c.args.self.now in
-    seals_as (Unit {0}) ℕ c.in-Err.e _ _ old c.write_below.new.self (ap (length_to old) (sym (to_z-of_z w64 c.args.lsn c.ranges.lsn))) c.in-Err.ensures.buffers
+    let new = c.write_below.new.self in
+    let x = c.in_err-write_below.field-0.0 in
+    let e = err_from_is_err_and c.from_residual.result c.from_residual.ensures.1 in
+    rw (e.1, e.2) (writes_err (Unit {0}) ℕ g.C.Checksum.sum_of (behind_place c.args.lsn) old new x
+    (subst (λ n. WritesBelow {T = Unit {0}} g.C.Checksum.sum_of (Err x) n old new) (behind_read c.args.lsn _ _ (to_z-of_z w64 c.args.lsn c.ranges.lsn) (above g c)) c.in_err-write_below.ensures.buffers))
 
--- The same where all was written.
+-- It is written.
 
-above_done : (g : given.Over) (c : goal.In-Ok g) → pos (synced_end c.args.self.now) ≤ℤ c.args.lsn
-above_done g c = search rules
+above_done : (g : given.Over) (c : goal.After-stable_end g) → pos (synced_end c.args.self.now) ≤ℤ c.args.lsn
+above_done g c =
+    let got = c.stable_offset.result in
+    let fits : SFits w64 got = search rules in
+    above_read c.args.lsn got _ _ (synced_end c.args.self.now) (to_z-of_z w64 c.args.lsn c.ranges.lsn) (to_z-of_z w64 got fits) c.stable_offset.ensures.place c.if-lsn-stable_offset.false
 
-inside_done : (g : given.Over) (c : goal.In-Ok g) → c.args.lsn <ℤ pos (reserved_end c.args.self.now)
-inside_done g c = search rules
+inside_done : (g : given.Over) (c : goal.After-stable_end g) → c.args.lsn <ℤ pos (reserved_end c.args.self.now)
+inside_done g c =
+    let end = reserved_end c.args.self.now in
+    inside_read c.args.lsn _ _ end (to_z-of_z w64 c.args.lsn c.ranges.lsn) (to_z_pos w64 end (reserved_in_reach c.args.self.now)) c.if-lsn-self.false
 
-pub returns-in-Ok-clause-made : goal.returns-in-Ok-clause-made
-returns-in-Ok-clause-made g c =
+pub returns-clause-made : goal.returns-clause-made
+returns-clause-made g c =
     let old = c.args.self.now in
-    let same = wrote_for old c.args.lsn _ (to_z-of_z w64 c.args.lsn c.ranges.lsn) (above_done g c) in
-    c.in-Ok.ensures.calls ∙ ap (λ (es : List Event). after_all es (g.D.Device.trace old.config.device)) same
+    c.in_ok-write_below.ensures.calls
+    ∙ ap (λ (es : List Event). after_all es (g.D.Device.trace old.config.device)) (wrote_for g.C.Checksum.sum_of old c.args.lsn _ (behind_read c.args.lsn _ _ (to_z-of_z w64 c.args.lsn c.ranges.lsn) (above_done g c)) (above_done g c))
 
-pub returns-in-Ok-clause-at_most : goal.returns-in-Ok-clause-at_most
-returns-in-Ok-clause-at_most g c =
+pub returns-clause-at_most : goal.returns-clause-at_most
+returns-clause-at_most g c =
     let old = c.args.self.now in
-    subst (λ (es : List Event). Performs es (g.D.Device.trace old.config.device) (g.D.Device.trace c.write_below.new.self.config.device)) (wrote_for old c.args.lsn _ (to_z-of_z w64 c.args.lsn c.ranges.lsn) (above_done g c)) c.write_below.ensures.at_most
+    subst (λ (es : List Event). Performs es (g.D.Device.trace old.config.device) (g.D.Device.trace c.write_below.new.self.config.device))
+    (wrote_for g.C.Checksum.sum_of old c.args.lsn _ (behind_read c.args.lsn _ _ (to_z-of_z w64 c.args.lsn c.ranges.lsn) (above_done g c)) (above_done g c)) c.write_below.ensures.at_most
 
-pub returns-in-Ok-clause-answers : goal.returns-in-Ok-clause-answers
-returns-in-Ok-clause-answers g c =
-    let answers = c.in-Ok.ensures.answers in
-    (inside_done g c, (sym (held_up c.args.self.now c.args.lsn _ (to_z-of_z w64 c.args.lsn c.ranges.lsn) (above_done g c)) ∙ answers.0, c.in_default.is, answers.2, answers.3))
-
-pub returns-in-Ok-clause-acknowledges : goal.returns-in-Ok-clause-acknowledges
+pub returns-clause-acknowledges : goal.returns-clause-acknowledges
 unfolding Fits
-returns-in-Ok-clause-acknowledges g c = λ H A f U fits.
+returns-clause-acknowledges g c = λ H A f U fits.
     let later = c.write_below.ensures.keeps.fits H A f U fits in
-    record { reach = later.reach; parts = fits-acknowledged g.C.Checksum.sum_of _ _ _ _ _ _ _ _ _ H A f U later.parts; plain = later.plain; slots = later.slots }
+    record { reach = later.reach; parts = fits-acknowledged g.C.Checksum.sum_of _ _ _ _ _ _ _ _ _ H A f U later.parts; slots = later.slots }
+
+pub returns-clause-answers : goal.returns-clause-answers
+returns-clause-answers g c =
+    let old = c.args.self.now in
+    let at = behind_read c.args.lsn _ _ (to_z-of_z w64 c.args.lsn c.ranges.lsn) (above_done g c) in
+    let answers = c.in_ok-write_below.ensures.answers in
+    (inr (inside_done g c), (sym (held_up g.C.Checksum.sum_of old c.args.lsn _ at (above_done g c)) ∙ answers.0, subst (λ n. IsUsedUpBelow old n → ⊥) at answers.1, c.in_default.is, answers.3, answers.4))
+
+pub returns-clause-buffers : goal.returns-clause-buffers
+returns-clause-buffers g c =
+    let old = c.args.self.now in
+    let new = c.write_below.new.self in
+    writes_ok g.C.Checksum.sum_of (behind_place c.args.lsn) old new c.in_ok-write_below.field-0 _
+    (subst (λ n. WritesBelow {T = Unit {0}} g.C.Checksum.sum_of (Ok c.in_ok-write_below.field-0) n old new) (behind_read c.args.lsn _ _ (to_z-of_z w64 c.args.lsn c.ranges.lsn) (above_done g c)) c.in_ok-write_below.ensures.buffers)

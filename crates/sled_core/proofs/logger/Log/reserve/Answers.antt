@@ -1,209 +1,246 @@
-use Rattle.std.proofs.Common.{◌≡◌, ◌∙◌, ◌≤◌, ◌+◌, ◌-◌, ◌/◌, ap, sym, refl, List, ℕ, [], ◌∷◌, ◌++◌, length, take, drop, append_assoc, length-append, arith, rules, subst, w64, SFits, Some, pos, false}
-use Rattle.std.specs.List.{slice_get}
-use Rattle.sled_codec.specs.declared.result.DiskPtr.TheVariants.{Inline}
-use Rattle.sled_codec.specs.Kinds.{kind_written}
-use Rattle.sled_codec.specs.Spelling.{short_number, short_header_tail}
-use Rattle.sled_store.specs.Device.{state_of}
-use Rattle.sled_core.specs.declared.iobuf.Reserved.{Reserved}
-use Rattle.sled_core.specs.declared.iobuf.Purpose.{Purpose}
-use Rattle.sled_core.specs.Buffers.{IsHeaded, first_open_in, placeholder_head, reserved_for, message_in, open_in}
-use Rattle.sled_core.specs.SealedBuffers.{sealed_count}
-use Rattle.sled_core.specs.Tickets.{place_of, index_of}
-use Rattle.sled_codec.specs.History.{History}
-use Rattle.sled_core.specs.Fits.{Holds, HoldsIn, behind_of, current_reserved, log_parts}
-use Rattle.sled_core.specs.Running.{Fits}
-use Rattle.sled_core.proofs.Holds.RunningLemmas.{fits-moved}
-use Rattle.sled_core.proofs.Holds.KeptCalls.{kept_still, goes_on_quietly}
-use Rattle.sled_core.proofs.Holds.BufferEnds.{sealed_rise}
-use Rattle.sled_core.proofs.Holds.OpenTickets.{only_new}
-use Rattle.sled_core.proofs.Holds.HoldsLemmas.{body-append}
-use Rattle.sled_core.proofs.Holds.WholeLemmas.{holds-same, holds-append, plain_more, plain_same}
-use Rattle.sled_core.proofs.Reserve.ReserveLemmas.{there_last, there_append, stands, message_is, more_long, head_whole}
-use Rattle.sled_core.proofs.Reserve.OpenCounts.{first_there}
-use Rattle.std.proofs.lemmas.Int.{to_z-of_z}
+-- A record has a place in the current segment, or a further one is begun for it; then its placeholder is laid out there.
+use Rattle.std.proofs.Common.{◌≡◌, ◌∙◌, ◌<◌, ◌+◌, ◌++◌, ap, sym, refl, arith, subst, ℕ, ℤ, List, length, take, drop, Some, None, Option, true, false, Err}
 use Rattle.std.specs.Option.{IsSome}
-use Rattle.sled_core.proofs.Reserve.Heads.{length-short_header_tail}
-use Rattle.sled_core.proofs.Reserve.Ranges.{at_there}
+use Rattle.std.specs.declared.io.Error.{Error as IoError}
+use Rattle.std.proofs.lemmas.Result.{err_from_is_err_and}
+use Rattle.sled_codec.specs.Kinds.{kind_written}
+use Rattle.sled_codec.specs.Spelling.{short_header_tail}
+use Rattle.sled_codec.specs.declared.result.Error.{Error}
+use Rattle.sled_codec.specs.declared.result.Error.TheVariants as error
+use Rattle.sled_codec.specs.declared.serialization.message.MessageKind.{MessageKind}
+use Rattle.sled_store.specs.Accounts.{MayHandOut, NextAnswers}
+use Rattle.sled_store.specs.Device.{Trace}
+use Rattle.sled_store.specs.SegmentStates.{handed_out}
+use Rattle.sled_core.specs.Buffers.{most_open, placeholder_head, record_size, reserved_for}
+use Rattle.sled_core.specs.Causes.{MakesRoom, ReserveAnswers}
+use Rattle.sled_core.specs.declared.iobuf.Purpose.{Purpose}
+use Rattle.sled_core.specs.declared.iobuf.record.Head.{Head}
+use Rattle.sled_core.specs.declared.logger.Log.{Log}
+use Rattle.sled_core.specs.Fits.{FitsInline, current_of, line_of, machine_at, open_of, segment_size_of, synced_end}
+use Rattle.sled_core.specs.Turned.{ChangesLine, ChangesSlots, HasPlace, next_line, reserved_now}
+use Rattle.sled_core.specs.Waiting.{at_last}
+use Rattle.sled_core.proofs.Holds.KeptCalls.{kept_still}
+use Rattle.sled_core.proofs.Line.LogReserves.{record_long}
+use Rattle.sled_core.proofs.Line.Prepares.{IsPrepared, here_further, here_open, made_end, made_keeps, made_open, made_others, made_position, made_same, made_seals, made_ticket, next_open, next_used, number_of, prepared_here, prepared_next}
+use Rattle.sled_core.proofs.Line.Unchanged.{left_alone, unchanged_keeps}
+use Rattle.sled_core.proofs.Reserve.ReserveLemmas.{head_whole}
 use Rattle.sled_core.proofs.logger.Log.reserve.Given as given
+use Rattle.sled_core.proofs.logger.Log.reserve.Goals.{then-has_place+in_ok-room_for, else-has_place+in_ok-begin_segment}
 use Rattle.sled_core.proofs.logger.Log.reserve.Goals as goal
 
--- What was laid out.
+-- the bytes of a header
+abbrev text_of : Head → List ℕ
+text_of h = take h.len h.bytes
 
-abbrev number : (g : given.Over) → goal.After-new-2 g → ℕ
-number g c = c.args.self.now.site.place / c.args.self.now.config.config.segment_size
+-- The header is one of a record of this item, in a segment of this number.
+record IsHeadOf (h : Head) (kept : Purpose) (item_len number : ℕ) : Type 0 where
+  bytes : drop 4 (text_of h) ≡ short_header_tail kept.kind item_len number kept.page
+  len : h.len ≡ 4 + length (short_header_tail kept.kind item_len number kept.page)
 
-abbrev item : (g : given.Over) → goal.After-new-2 g → List ℕ
-item g c = g.T.Serialize.short (g.T.Serialize.meaning c.args.item.now)
+module _ (h : Head) (kept : Purpose) (item : List ℕ) (k : ℕ) (counted : k ≡ length item) (number : ℕ) (is : IsHeadOf h kept k number) where
+  tail_is : drop 4 (text_of h) ≡ short_header_tail kept.kind (length item) number kept.page
+  tail_is = is.bytes ∙ ap (λ n. short_header_tail kept.kind n number kept.page) counted
 
-abbrev head : (g : given.Over) → goal.After-new-2 g → List ℕ
-head g c = take c.head_of-head.result.len c.head_of-head.result.bytes
+  len_is : h.len ≡ length (text_of h)
+  len_is = is.len ∙ ap (λ n. 4 + length (short_header_tail kept.kind n number kept.page)) counted ∙ sym (head_whole (text_of h) kept.kind (length item) number kept.page tail_is)
 
-abbrev kept : (g : given.Over) → goal.After-new-2 g → Purpose
-kept g c = record { log_kind = c.args.kind; kind = c.in-Some-message_kind.message_kind; page = c.args.pid }
+  both_are : h.len + k ≡ length (text_of h) + length item
+  both_are = λ i. len_is i + counted i
 
-abbrev reserved : (g : given.Over) → goal.After-new-2 g → Reserved
-reserved g c = reserved_for (kept g c) (length c.args.self.now.buffer.bytes.items) (length (head g c)) (length (item g c)) (g.C.Checksum.sum_of (item g c ++ drop 4 (head g c)))
+-- A log is ready for what is laid out.
+record IsReady {D C : Type 0} (trace : D → Trace) (sum : List ℕ → ℕ) (old mid : Log D C) (kept : Purpose) (h : Head) (item : List ℕ) : Type 0 where
+  prepared : IsPrepared trace sum old mid kept (text_of h) item
+  long : h.len ≡ length (text_of h)
 
-known : (g : given.Over) (c : goal.After-new-2 g) → kind_written c.args.kind c.args.pid false ≡ Some c.in-Some-message_kind.message_kind
-known g c = sym c.message_kind.ensures ∙ c.in-Some-message_kind.is
+module _ {D C : Type 0} (trace : D → Trace) (sum : List ℕ → ℕ) (old mid : Log D C) (kept : Purpose) (h : Head) (item : List ℕ) (k : ℕ) (counted : k ≡ length item) (is : IsHeadOf h kept k (number_of old)) where
+  tail : drop 4 (text_of h) ≡ short_header_tail kept.kind (length item) (number_of old) kept.page
+  tail = tail_is h kept item k counted (number_of old) is
 
-tail_is : (g : given.Over) (c : goal.After-new-2 g) → drop 4 (head g c) ≡ short_header_tail c.in-Some-message_kind.message_kind (length (item g c)) (number g c) c.args.pid
-tail_is g c = c.head_of-head.ensures.bytes ∙ ap (λ n. short_header_tail c.in-Some-message_kind.message_kind n (number g c) c.args.pid) c.serialized_size-item_len.ensures
+  inside : HasPlace old (h.len + k) → HasPlace old (length (text_of h) + length item)
+  inside has = subst (λ n. HasPlace old n) (both_are h kept item k counted (number_of old) is) has
 
-whole : (g : given.Over) (c : goal.After-new-2 g) → length (head g c) ≡ 4 + length (short_header_tail c.in-Some-message_kind.message_kind (length (item g c)) (number g c) c.args.pid)
-whole g c = head_whole (head g c) c.in-Some-message_kind.message_kind (length (item g c)) (number g c) c.args.pid (tail_is g c)
+  ready_here : HasPlace old (h.len + k) → line_of mid ≡ line_of old → ChangesLine old mid → open_of old < most_open → IsReady trace sum old mid kept h item
+  ready_here has line rest few = record {
+    prepared = prepared_here trace sum old mid kept (text_of h) item tail (inside has) line rest few;
+    long = len_is h kept item k counted (number_of old) is;
+  }
 
-head_len : (g : given.Over) (c : goal.After-new-2 g) → c.head_of-head.result.len ≡ length (head g c)
-head_len g c = c.head_of-head.ensures.len ∙ ap (λ n. 4 + length (short_header_tail c.in-Some-message_kind.message_kind n (number g c) c.args.pid)) c.serialized_size-item_len.ensures ∙ sym (whole g c)
+  long : h.len + k ≡ record_size (number_of old) kept.page (length item)
+  long = record_long kept.kind h.len k (number_of old) kept.page (length item) is.len counted
 
-bytes_are : (g : given.Over) (c : goal.After-new-2 g) → c.append.new.self.bytes.items ≡ c.args.self.now.buffer.bytes.items ++ (placeholder_head (head g c) ++ item g c)
-bytes_are g c =
-    c.append.ensures.bytes
-    ∙ append_assoc c.make_room.new.self.bytes.items (placeholder_head (head g c)) (item g c)
-    ∙ ap (λ (l : List ℕ). l ++ (placeholder_head (head g c) ++ item g c)) c.make_room.ensures.bytes
+  ready_next : FitsInline (segment_size_of old) (length item) → (HasPlace old (h.len + k) → ⊥) → (h' : Head) → IsHeadOf h' kept k (number_of mid) → line_of mid ≡ next_line sum (segment_size_of old) (machine_at old) (synced_end old) (line_of old)
+      → machine_at mid ≡ handed_out ((current_of old).parts.site.place + segment_size_of old) (machine_at old) → ChangesSlots old mid → MayHandOut (segment_size_of old) ((current_of old).parts.site.place + segment_size_of old) (machine_at old)
+      → IsReady trace sum old mid kept h' item
+  ready_next inline not h' is' line machine rest may = record {
+    prepared = prepared_next trace sum old kept item inline (h.len + k) long not mid (text_of h') line machine rest (tail_is h' kept item k counted (number_of mid) is') may;
+    long = len_is h' kept item k counted (number_of mid) is';
+  }
 
-reserved_are : (g : given.Over) (c : goal.After-new-2 g) → c.append.new.self.reserved.items ≡ c.args.self.now.buffer.reserved.items ++ reserved g c ∷ []
-reserved_are g c =
-    let sum : ℕ = g.C.Checksum.sum_of (item g c ++ drop 4 (head g c)) in
-    c.append.ensures.reserved
-    ∙ ap (λ (l : List Reserved). l ++ reserved_for (kept g c) (length c.make_room.new.self.bytes.items) c.head_of-head.result.len c.serialized_size-item_len.result sum ∷ []) c.make_room.ensures.reserved
-    ∙ ap (λ (l : List ℕ). c.args.self.now.buffer.reserved.items ++ reserved_for (kept g c) (length l) c.head_of-head.result.len c.serialized_size-item_len.result sum ∷ []) c.make_room.ensures.bytes
-    ∙ ap (λ n. c.args.self.now.buffer.reserved.items ++ reserved_for (kept g c) (length c.args.self.now.buffer.bytes.items) n c.serialized_size-item_len.result sum ∷ []) (head_len g c)
-    ∙ ap (λ n. c.args.self.now.buffer.reserved.items ++ reserved_for (kept g c) (length c.args.self.now.buffer.bytes.items) (length (head g c)) n sum ∷ []) c.serialized_size-item_len.ensures
+-- Why it failed.
 
-place_is : (g : given.Over) (c : goal.After-new-2 g) → c.len-at.result ≡ length c.args.self.now.buffer.bytes.items
-place_is g c = c.len-at.ensures ∙ search rules ∙ ap length c.make_room.ensures.bytes
+room_refused : (e : Error) (fault : Option IoError) (kind : Option MessageKind) (used : Type 0) (count all : ℕ) (least : ℤ → Type 0) → MakesRoom {T = ℕ} (Err e) all least → fault ≡ None → IsSome kind → (used → ⊥) → count ≡ all
+    → ReserveAnswers {T = ℕ} (Err e) fault kind used count least
+room_refused (error.Held at) fault kind used count all least is none some not same = (none, some, not, same ∙ is.0, is.1)
+room_refused error.OutOfMemory fault kind used count all least is none some not same = (none, some, omega (arith, is, same))
+room_refused (error.Io e) fault kind used count all least is none some not same = absurd is
+room_refused (error.Unsupported text) fault kind used count all least is none some not same = absurd is
+room_refused error.PlacesUsedUp fault kind used count all least is none some not same = absurd is
+room_refused (error.Corruption at) fault kind used count all least is none some not same = absurd is
+room_refused (error.NotReserved at) fault kind used count all least is none some not same = absurd is
+room_refused (error.CollectionNotFound name) fault kind used count all least is none some not same = absurd is
+room_refused (error.ReportableBug text) fault kind used count all least is none some not same = absurd is
 
-index_is : (g : given.Over) (c : goal.After-new-2 g) → index_of c.new-2.result ≡ c.args.self.now.buffer.gone + length c.args.self.now.buffer.reserved.items
-index_is g c =
-    let len : c.len.result ≡ length c.make_room.new.self.reserved.items = c.len.ensures ∙ search rules in
-    omega (arith, c.new-2.ensures.index, len, ap length c.make_room.ensures.reserved, c.make_room.ensures.gone)
-
-gone_is : (g : given.Over) (c : goal.After-new-2 g) → c.append.new.self.gone ≡ c.args.self.now.buffer.gone
-gone_is g c = c.append.ensures.gone ∙ c.make_room.ensures.gone
-
-pub returns-clause-next : goal.returns-clause-next
-returns-clause-next g c =
-    let more = more_long g.C.Checksum.sum_of (number g c) c.args.self.now.buffer.bytes.items (head g c) (item g c) (kept g c) (known g c) c.ranges.pid.fits (tail_is g c) (whole g c) in
-    omega (
-      arith,
-      ap length (bytes_are g c),
-      length-append c.args.self.now.buffer.bytes.items (placeholder_head (head g c) ++ item g c),
-      more,
-      whole g c,
-      length-short_header_tail c.in-Some-message_kind.message_kind (length (item g c)) (number g c) c.args.pid,
-    )
-
--- what the log held it still holds
-held_still : (g : given.Over) (c : goal.After-new-2 g) (H : History)
-    → HoldsIn g.C.Checksum.sum_of (log_parts c.args.self.now.config.config.segment_size c.args.self.now.site (state_of (g.D.Device.trace c.args.self.now.config.device)) c.args.self.now.fault c.args.self.now.buffer.bytes.items c.args.self.now.buffer.written_len c.args.self.now.buffer.sealed.items c.args.self.now.buffer.reserved.items) (behind_of c.args.self.now) H
-    → HoldsIn g.C.Checksum.sum_of (log_parts c.args.self.now.config.config.segment_size c.args.self.now.site (state_of (g.D.Device.trace c.args.self.now.config.device)) c.args.self.now.fault c.append.new.self.bytes.items c.append.new.self.written_len c.append.new.self.sealed.items c.append.new.self.reserved.items) (behind_of c.args.self.now) H
-held_still g c H holds =
-    let old = c.args.self.now.buffer in
-    let more : List ℕ = placeholder_head (head g c) ++ item g c in
-    let long = more_long g.C.Checksum.sum_of (number g c) old.bytes.items (head g c) (item g c) (kept g c) (known g c) c.ranges.pid.fits (tail_is g c) (whole g c) in
-    let stand = stands g.C.Checksum.sum_of (number g c) old.bytes.items (head g c) (item g c) (kept g c) (known g c) c.ranges.pid.fits (tail_is g c) (whole g c) in
-    holds-same g.C.Checksum.sum_of _ _ _ _ (old.bytes.items ++ more) _ old.written_len _ old.sealed.items _ (old.reserved.items ++ reserved g c ∷ []) _ H (bytes_are g c) (c.append.ensures.from ∙ c.make_room.ensures.from) (c.append.ensures.sealed ∙ c.make_room.ensures.sealed) (reserved_are g c)
-    (holds-append g.C.Checksum.sum_of _ c.args.self.now.site (state_of (g.D.Device.trace c.args.self.now.config.device)) c.args.self.now.fault old.bytes.items old.written_len old.sealed.items old.reserved.items H holds more (reserved g c)
-    old.begun old.within refl (sym long) refl (omega (arith, c.requires.room.not_used_up)) (sealed_rise old) stand)
-
-pub returns-clause-ticket : goal.returns-clause-ticket
-returns-clause-ticket g c =
-    let old = c.args.self.now.buffer in
-    record {
-      reserved = reserved g c;
-      numbered = omega (arith, index_is g c, c.append.ensures.gone, c.make_room.ensures.gone);
-      there = ap (λ (l : List Reserved). slice_get l (index_of c.new-2.result - c.append.new.self.gone)) (reserved_are g c)
-          ∙ ap (slice_get (old.reserved.items ++ reserved g c ∷ [])) (let at : index_of c.new-2.result - c.append.new.self.gone ≡ length old.reserved.items = omega (arith, index_is g c, c.append.ensures.gone, c.make_room.ensures.gone) in at)
-          ∙ there_last old.reserved.items (reserved g c);
-      own = record { open_yet = refl; place = let at : place_of c.new-2.result ≡ pos (c.args.self.now.site.place + c.len-at.result) = search rules in at ∙ ap (λ n. pos (c.args.self.now.site.place + n)) (place_is g c); pointer = c.new-2.ensures.pointer ∙ ap (λ n. Inline (c.args.self.now.site.slot + n)) (place_is g c) };
-      message = message_is g.C.Checksum.sum_of (number g c) old.bytes.items (head g c) (item g c) (kept g c) (known g c) c.ranges.pid.fits (tail_is g c) (whole g c) c.args.self.now.site
-          ∙ ap (λ (l : List ℕ). message_in c.args.self.now.site l (reserved g c)) (sym (bytes_are g c));
-    }
-
-pub returns-clause-others : goal.returns-clause-others
-returns-clause-others g c = λ ticket m awaits.
-    let old = c.args.self.now.buffer in
-    let r : Reserved = awaits.reserved in
-    let more : List ℕ = placeholder_head (head g c) ++ item g c in
-    let within = at_there (λ x. x.from + x.len ≤ length old.bytes.items) old.reserved.items (index_of ticket - old.gone) r awaits.there old.within in
-    let headed = (at_there IsHeaded old.reserved.items (index_of ticket - old.gone) r awaits.there old.headed).1 awaits.own.open_yet in
-    record {
-      reserved = r;
-      numbered = omega (arith, awaits.numbered, gone_is g c);
-      there = (λ i. slice_get (reserved_are g c i) (index_of ticket - gone_is g c i)) ∙ there_append old.reserved.items (reserved g c ∷ []) (index_of ticket - old.gone) r awaits.there;
-      own = awaits.own;
-      message = awaits.message
-          ∙ ap (λ (l : List ℕ). record (message_in c.args.self.now.site old.bytes.items r) { bytes = l }) (sym (body-append old.bytes.items more r within headed.1))
-          ∙ ap (λ (l : List ℕ). message_in c.args.self.now.site l r) (sym (bytes_are g c));
-    }
-
-pub invariant_of-self-4 : goal.invariant_of-self-4
-invariant_of-self-4 g c =
-    let tail = length-short_header_tail c.in-Some-message_kind.message_kind c.serialized_size-item_len.result (c.args.self.now.site.place / c.args.self.now.config.config.segment_size) c.args.pid in
-    let item_long = ap (λ n. length (short_number n)) c.serialized_size-item_len.ensures in
-    record { in_segment = omega (arith, c.append.ensures.len, ap length c.make_room.ensures.bytes, c.head_of-head.ensures.len, tail, item_long, c.serialized_size-item_len.ensures, c.requires.room.record_fits); place_in_reach = c.args.self.now.place_in_reach; slot_in_reach = c.args.self.now.slot_in_reach; alone = c.args.self.now.alone; follow = c.args.self.now.follow; account = c.args.self.now.account }
-
--- It goes on fitting its history, and nothing is written.
+next_refused : (e : Error) (fault : Option IoError) (kind : Option MessageKind) (used may : Type 0) (count : ℕ) (least : ℤ → Type 0) → NextAnswers {T = ℕ} (Err e) may → fault ≡ None → IsSome kind → ((may → ⊥) → used) → count ≡ 0
+    → ReserveAnswers {T = ℕ} (Err e) fault kind used count least
+next_refused error.OutOfMemory fault kind used may count least is none some all zero_open = (none, some, omega (arith, zero_open))
+next_refused error.PlacesUsedUp fault kind used may count least is none some all zero_open = (none, some, all is)
+next_refused (error.Held at) fault kind used may count least is none some all zero_open = absurd is
+next_refused (error.Io e) fault kind used may count least is none some all zero_open = absurd is
+next_refused (error.Unsupported text) fault kind used may count least is none some all zero_open = absurd is
+next_refused (error.Corruption at) fault kind used may count least is none some all zero_open = absurd is
+next_refused (error.NotReserved at) fault kind used may count least is none some all zero_open = absurd is
+next_refused (error.CollectionNotFound name) fault kind used may count least is none some all zero_open = absurd is
+next_refused (error.ReportableBug text) fault kind used may count least is none some all zero_open = absurd is
 
 pub returns-in-Some-clause-keeps : goal.returns-in-Some-clause-keeps
 returns-in-Some-clause-keeps g c = kept_still g.D.Device.trace g.C.Checksum.sum_of c.args.self.now
 
 pub returns-in_default-message_kind-clause-keeps : goal.returns-in_default-message_kind-clause-keeps
-unfolding Fits Holds
-returns-in_default-message_kind-clause-keeps g c = record {
-  goes_on = goes_on_quietly g.D.Device.trace g.C.Checksum.sum_of c.args.self.now _ (record { config = refl; checksum = refl }) refl (omega arith);
-  history = λ H holds. holds;
-  fits = λ H A f U fits. fits;
-}
+returns-in_default-message_kind-clause-keeps g c = kept_still g.D.Device.trace g.C.Checksum.sum_of c.args.self.now
 
--- As many are open as may be, of which there is a first one.
+pub returns-in_err-room_for-clause-keeps : goal.returns-in_err-room_for-clause-keeps
+returns-in_err-room_for-clause-keeps g c =
+    let old = c.args.self.now in
+    let new = c.room_for.new.self in
+    unchanged_keeps old new (left_alone old new c.in_err-room_for.ensures.line c.in_err-room_for.ensures.rest) g.D.Device.trace g.C.Checksum.sum_of
 
-pub returns-then-is_full_of_open-clause-answers : goal.returns-then-is_full_of_open-clause-answers
-returns-then-is_full_of_open-clause-answers g c =
-    let rs : List Reserved = current_reserved c.args.self.now in
-    let full : open_in rs ≡ 127 = c.if-is_full_of_open.ensures.0 refl in
-    let least = first_there rs (omega (arith, full)) in
-    let first : c.args.self.now.buffer.first ≡ sealed_count c.args.self.now.buffer.sealed.items = c.args.self.now.buffer.before in
-    let fits : SFits w64 c.least_open.result = search rules in
+pub returns-in_err-begin_segment-clause-keeps : goal.returns-in_err-begin_segment-clause-keeps
+returns-in_err-begin_segment-clause-keeps g c = unchanged_keeps c.args.self.now c.begin_segment.new.self c.in_err-begin_segment.ensures.err g.D.Device.trace g.C.Checksum.sum_of
+
+pub returns-in_err-room_for-clause-answers : goal.returns-in_err-room_for-clause-answers
+returns-in_err-room_for-clause-answers g c =
+    let item : List ℕ = g.T.Serialize.short (g.T.Serialize.meaning c.args.item.now) in
+    let kept : Purpose = record { log_kind = c.args.kind; kind = c.in-Some-message_kind.message_kind; page = c.args.pid } in
+    let old = c.args.self.now in
+    let h = c.head_for-head.result in
+    let k : ℕ = c.serialized_size-item_len.result in
+    let counted = c.serialized_size-item_len.ensures in
+    let is : IsHeadOf h kept k (number_of old) = record { bytes = c.head_for-head.ensures.bytes; len = c.head_for-head.ensures.len } in
+    let t = tail g.D.Device.trace g.C.Checksum.sum_of old c.room_for.new.self kept h item k counted is in
+    let has = inside g.D.Device.trace g.C.Checksum.sum_of old c.room_for.new.self kept h item k counted is (c.if-has_place.ensures.0 refl) in
     let known : kind_written c.args.kind c.args.pid false ≡ Some c.in-Some-message_kind.message_kind = sym c.message_kind.ensures ∙ c.in-Some-message_kind.is in
-    (c.in_default.is, subst IsSome (sym known) refl, full, (least.0, least.1, to_z-of_z w64 c.least_open.result fits ∙ c.least_open.ensures least.0 (ap (λ n. first_open_in (drop n c.args.self.now.buffer.reserved.items)) first ∙ least.1)))
+    let e = err_from_is_err_and c.from_residual.result c.from_residual.ensures.1 in
+    rw (e.1, e.2) (room_refused c.in_err-room_for.field-0.0 _ _ _ _ _ _ c.in_err-room_for.ensures.answers c.in_default.is (subst IsSome (sym known) refl)
+    (here_further g.D.Device.trace g.C.Checksum.sum_of old c.room_for.new.self kept (text_of h) item t has) (here_open g.D.Device.trace g.C.Checksum.sum_of old c.room_for.new.self kept (text_of h) item t has))
 
-pub returns-then-is_full_of_open-clause-keeps : goal.returns-then-is_full_of_open-clause-keeps
-unfolding Fits Holds
-returns-then-is_full_of_open-clause-keeps g c = record {
-  goes_on = goes_on_quietly g.D.Device.trace g.C.Checksum.sum_of c.args.self.now _ (record { config = refl; checksum = refl }) refl (omega arith);
-  history = λ H holds. holds;
-  fits = λ H A f U fits. fits;
-}
+pub returns-in_err-begin_segment-clause-answers : goal.returns-in_err-begin_segment-clause-answers
+returns-in_err-begin_segment-clause-answers g c =
+    let item : List ℕ = g.T.Serialize.short (g.T.Serialize.meaning c.args.item.now) in
+    let kept : Purpose = record { log_kind = c.args.kind; kind = c.in-Some-message_kind.message_kind; page = c.args.pid } in
+    let old = c.args.self.now in
+    let h = c.head_for-head.result in
+    let k : ℕ = c.serialized_size-item_len.result in
+    let long = record_long kept.kind h.len k (number_of old) kept.page (length item) c.head_for-head.ensures.len c.serialized_size-item_len.ensures in
+    let not : HasPlace old (h.len + k) → ⊥ = λ has. let bad : false ≡ true = c.if-has_place.ensures.1 has in cc in
+    let known : kind_written c.args.kind c.args.pid false ≡ Some c.in-Some-message_kind.message_kind = sym c.message_kind.ensures ∙ c.in-Some-message_kind.is in
+    let e = err_from_is_err_and c.from_residual-in_err-begin_segment.result c.from_residual-in_err-begin_segment.ensures.1 in
+    rw (e.1, e.2) (next_refused c.in_err-begin_segment.field-0.0 _ _ _ _ _ _ c.in_err-begin_segment.ensures.answers c.in_default.is (subst IsSome (sym known) refl)
+    (next_used g.D.Device.trace g.C.Checksum.sum_of old kept item c.requires.inline (h.len + k) long not) (next_open g.D.Device.trace g.C.Checksum.sum_of old kept item c.requires.inline (h.len + k) long not))
 
-pub returns-in_err-make_room-clause-keeps : goal.returns-in_err-make_room-clause-keeps
-unfolding Fits Holds
-returns-in_err-make_room-clause-keeps g c =
-    let old = c.args.self.now.buffer in
-    let same = c.make_room.ensures in
-    record {
-      goes_on = goes_on_quietly g.D.Device.trace g.C.Checksum.sum_of c.args.self.now _ (record { config = refl; checksum = refl }) refl (omega (arith, same.from));
-      history = λ H holds. holds-same g.C.Checksum.sum_of _ _ _ _ old.bytes.items _ old.written_len _ old.sealed.items _ old.reserved.items _ H same.bytes same.from same.sealed same.reserved holds;
-      fits = λ H A f U fits.
-          record {
-            reach = fits.reach;
-            parts = fits-moved _ _ _ _ _ _ _ _ _ _ H A f U fits.parts _ _ _ _ same.from (holds-same g.C.Checksum.sum_of _ _ _ _ old.bytes.items _ old.written_len _ old.sealed.items _ old.reserved.items _ H same.bytes same.from same.sealed same.reserved fits.parts.holds);
-            plain = plain_same _ _ same.reserved fits.plain;
-            slots = fits.slots;
-          };
-    }
+pub append-requires-clause-place : goal.append-requires-clause-place
+append-requires-clause-place g c =
+    let item : List ℕ = g.T.Serialize.short (g.T.Serialize.meaning c.args.item.now) in
+    let kept : Purpose = record { log_kind = c.args.kind; kind = c.in-Some-message_kind.message_kind; page = c.args.pid } in
+    let old = c.args.self.now in
+    let h = c.head_for-head.result in
+    let k : ℕ = c.serialized_size-item_len.result in
+    let counted = c.serialized_size-item_len.ensures in
+    let first : IsHeadOf h kept k (number_of old) = record { bytes = c.head_for-head.ensures.bytes; len = c.head_for-head.ensures.len } in
+    let ready : IsReady g.D.Device.trace g.C.Checksum.sum_of old c.if-has_place.self kept c.if-has_place.head item = elim c.if-has_place.branch [
+      | then-has_place+in_ok-room_for w ↦ subst (λ m. IsReady g.D.Device.trace g.C.Checksum.sum_of old m kept c.if-has_place.head item) (sym w.self-is)
+          (subst (λ (x : Head). IsReady g.D.Device.trace g.C.Checksum.sum_of old w.room_for.new.self kept x item) (sym w.head-is)
+          (ready_here g.D.Device.trace g.C.Checksum.sum_of old w.room_for.new.self kept h item k counted first (w.if-has_place.ensures.0 refl) w.in_ok-room_for.ensures.line w.in_ok-room_for.ensures.rest w.in_ok-room_for.ensures.answers))
+      | else-has_place+in_ok-begin_segment w ↦ (
+          let next = w.head_for-head-else-has_place in
+          let did = w.in_ok-begin_segment.ensures in
+          let not : HasPlace old (h.len + k) → ⊥ = λ has. let bad : false ≡ true = w.if-has_place.ensures.1 has in cc in
+          subst (λ m. IsReady g.D.Device.trace g.C.Checksum.sum_of old m kept c.if-has_place.head item) (sym w.self-is)
+          (subst (λ (x : Head). IsReady g.D.Device.trace g.C.Checksum.sum_of old w.begin_segment.new.self kept x item) (sym w.head-is)
+          (ready_next g.D.Device.trace g.C.Checksum.sum_of old w.begin_segment.new.self kept h item k counted first c.requires.inline not next.result (record { bytes = next.ensures.bytes; len = next.ensures.len }) did.line did.machine did.rest did.answers)))
+    ] in
+    subst (λ n. HasPlace c.if-has_place.self n) (sym (λ i. ready.long i + counted i)) ready.prepared.fits
+
+-- What was laid out.
+
+abbrev its_item : (g : given.Over) → goal.After-append g → List ℕ
+its_item g c = g.T.Serialize.short (g.T.Serialize.meaning c.args.item.now)
+
+abbrev its_kept : (g : given.Over) → goal.After-append g → Purpose
+its_kept g c = record { log_kind = c.args.kind; kind = c.in-Some-message_kind.message_kind; page = c.args.pid }
+
+is_ready : (g : given.Over) (c : goal.After-append g) → IsReady g.D.Device.trace g.C.Checksum.sum_of c.args.self.now c.if-has_place.self (its_kept g c) c.if-has_place.head (its_item g c)
+is_ready g c =
+    let item : List ℕ = g.T.Serialize.short (g.T.Serialize.meaning c.args.item.now) in
+    let kept : Purpose = record { log_kind = c.args.kind; kind = c.in-Some-message_kind.message_kind; page = c.args.pid } in
+    let old = c.args.self.now in
+    let h = c.head_for-head.result in
+    let k : ℕ = c.serialized_size-item_len.result in
+    let counted = c.serialized_size-item_len.ensures in
+    let first : IsHeadOf h kept k (number_of old) = record { bytes = c.head_for-head.ensures.bytes; len = c.head_for-head.ensures.len } in
+    elim c.if-has_place.branch [
+      | then-has_place+in_ok-room_for w ↦ subst (λ m. IsReady g.D.Device.trace g.C.Checksum.sum_of old m kept c.if-has_place.head item) (sym w.self-is)
+          (subst (λ (x : Head). IsReady g.D.Device.trace g.C.Checksum.sum_of old w.room_for.new.self kept x item) (sym w.head-is)
+          (ready_here g.D.Device.trace g.C.Checksum.sum_of old w.room_for.new.self kept h item k counted first (w.if-has_place.ensures.0 refl) w.in_ok-room_for.ensures.line w.in_ok-room_for.ensures.rest w.in_ok-room_for.ensures.answers))
+      | else-has_place+in_ok-begin_segment w ↦ (
+          let next = w.head_for-head-else-has_place in
+          let did = w.in_ok-begin_segment.ensures in
+          let not : HasPlace old (h.len + k) → ⊥ = λ has. let bad : false ≡ true = w.if-has_place.ensures.1 has in cc in
+          subst (λ m. IsReady g.D.Device.trace g.C.Checksum.sum_of old m kept c.if-has_place.head item) (sym w.self-is)
+          (subst (λ (x : Head). IsReady g.D.Device.trace g.C.Checksum.sum_of old w.begin_segment.new.self kept x item) (sym w.head-is)
+          (ready_next g.D.Device.trace g.C.Checksum.sum_of old w.begin_segment.new.self kept h item k counted first c.requires.inline not next.result (record { bytes = next.ensures.bytes; len = next.ensures.len }) did.line did.machine did.rest did.answers)))
+    ]
+
+its_known : (g : given.Over) (c : goal.After-append g) → kind_written c.args.kind c.args.pid false ≡ Some c.in-Some-message_kind.message_kind
+its_known g c = sym c.message_kind.ensures ∙ c.in-Some-message_kind.is
+
+its_line : (g : given.Over) (c : goal.After-append g)
+    → line_of c.append.new.self ≡ at_last (reserved_now (placeholder_head (text_of c.if-has_place.head) ++ its_item g c) (reserved_for (its_kept g c) (length (current_of c.if-has_place.self).parts.bytes) (length (text_of c.if-has_place.head)) (length (its_item g c))
+    (g.C.Checksum.sum_of (its_item g c ++ drop 4 (text_of c.if-has_place.head))))) (line_of c.if-has_place.self)
+its_line g c =
+    let head : List ℕ = text_of c.if-has_place.head in
+    let item : List ℕ = its_item g c in
+    let long = (is_ready g c).long in
+    let counted = c.serialized_size-item_len.ensures in
+    c.append.ensures.line
+    ∙ (λ i. at_last (reserved_now (placeholder_head head ++ item) (reserved_for (its_kept g c) (length (current_of c.if-has_place.self).parts.bytes) (long i) (counted i) (g.C.Checksum.sum_of (item ++ drop 4 head)))) (line_of c.if-has_place.self))
+
+pub returns-clause-ticket : goal.returns-clause-ticket
+returns-clause-ticket g c = made_ticket g.D.Device.trace g.C.Checksum.sum_of c.args.self.now c.if-has_place.self c.append.new.self (its_kept g c) (text_of c.if-has_place.head) (its_item g c) (is_ready g c).prepared (its_known g c) c.ranges.pid.fits (its_line g c) c.append.ensures.rest c.append.ensures.accountant c.append.result c.append.ensures.ticket
+
+pub returns-clause-position : goal.returns-clause-position
+returns-clause-position g c = made_position g.D.Device.trace g.C.Checksum.sum_of c.args.self.now c.if-has_place.self c.append.new.self (its_kept g c) (text_of c.if-has_place.head) (its_item g c) (is_ready g c).prepared (its_known g c) c.ranges.pid.fits (its_line g c) c.append.ensures.rest c.append.ensures.accountant
+
+pub returns-clause-reserved : goal.returns-clause-reserved
+returns-clause-reserved g c =
+    let end = c.append.ensures.reserved in
+    let long = (is_ready g c).long in
+    let counted = c.serialized_size-item_len.ensures in
+    made_end g.D.Device.trace g.C.Checksum.sum_of c.args.self.now c.if-has_place.self c.append.new.self (its_kept g c) (text_of c.if-has_place.head) (its_item g c) (is_ready g c).prepared (its_known g c) c.ranges.pid.fits (its_line g c) c.append.ensures.rest c.append.ensures.accountant (omega (arith, end, long, counted))
+
+pub returns-clause-others : goal.returns-clause-others
+returns-clause-others g c = made_others g.D.Device.trace g.C.Checksum.sum_of c.args.self.now c.if-has_place.self c.append.new.self (its_kept g c) (text_of c.if-has_place.head) (its_item g c) (is_ready g c).prepared (its_known g c) c.ranges.pid.fits (its_line g c) c.append.ensures.rest c.append.ensures.accountant
+
+pub returns-clause-open : goal.returns-clause-open
+returns-clause-open g c = made_open g.D.Device.trace g.C.Checksum.sum_of c.args.self.now c.if-has_place.self c.append.new.self (its_kept g c) (text_of c.if-has_place.head) (its_item g c) (is_ready g c).prepared (its_known g c) c.ranges.pid.fits (its_line g c) c.append.ensures.rest c.append.ensures.accountant c.append.result c.append.ensures.ticket
+
+pub returns-clause-seals : goal.returns-clause-seals
+returns-clause-seals g c = made_seals g.D.Device.trace g.C.Checksum.sum_of c.args.self.now c.if-has_place.self c.append.new.self (its_kept g c) (text_of c.if-has_place.head) (its_item g c) (is_ready g c).prepared (its_known g c) c.ranges.pid.fits (its_line g c) c.append.ensures.rest c.append.ensures.accountant
 
 pub returns-clause-keeps : goal.returns-clause-keeps
-unfolding Fits Holds
-returns-clause-keeps g c = record {
-  goes_on = goes_on_quietly g.D.Device.trace g.C.Checksum.sum_of c.args.self.now _ (record { config = refl; checksum = refl }) refl (omega (arith, c.append.ensures.from, c.make_room.ensures.from));
-  history = held_still g c;
-  fits = λ H A f U fits. record { reach = fits.reach; parts = fits-moved _ _ _ _ _ _ _ _ _ _ H A f U fits.parts _ _ _ _ (c.append.ensures.from ∙ c.make_room.ensures.from) (held_still g c H fits.parts.holds); plain = plain_same _ _ (reserved_are g c) (plain_more _ (reserved g c) refl fits.plain); slots = fits.slots };
-}
+returns-clause-keeps g c = made_keeps g.D.Device.trace g.C.Checksum.sum_of c.args.self.now c.if-has_place.self c.append.new.self (its_kept g c) (text_of c.if-has_place.head) (its_item g c) (is_ready g c).prepared (its_known g c) c.ranges.pid.fits (its_line g c) c.append.ensures.rest c.append.ensures.accountant
 
--- where none was open, the new reservation is the only one
-pub returns-clause-open : goal.returns-clause-open
-returns-clause-open g c = λ ended i r there is.
-    let at = only_new c.args.self.now.buffer.reserved.items (reserved g c) ended i r (ap (λ (l : List Reserved). slice_get l i) (sym (reserved_are g c)) ∙ there) is in
-    omega (arith, at, index_is g c, gone_is g c)
+pub returns-clause-same : goal.returns-clause-same
+returns-clause-same g c = made_same g.D.Device.trace g.C.Checksum.sum_of c.args.self.now c.if-has_place.self c.append.new.self (its_kept g c) (text_of c.if-has_place.head) (its_item g c) (is_ready g c).prepared (its_known g c) c.ranges.pid.fits (its_line g c) c.append.ensures.rest c.append.ensures.accountant
+
+pub returns-clause-answers : goal.returns-clause-answers
+returns-clause-answers g c = (c.in_default.is, subst IsSome (sym (its_known g c)) refl, (is_ready g c).prepared.further, (is_ready g c).prepared.few)

@@ -1,54 +1,123 @@
-use Rattle.std.proofs.Common.{◌∷◌, ◌++◌, [], refl, arith, length}
-use Rattle.sled_codec.specs.History.{History}
-use Rattle.sled_store.specs.Device.{state_of}
-use Rattle.sled_core.specs.Fits.{Holds, HoldsIn, behind_of, current_reserved, log_parts}
-use Rattle.sled_core.specs.Running.{Fits}
-use Rattle.sled_core.specs.SealedBuffers.{seal_at}
-use Rattle.sled_core.proofs.Holds.WholeLemmas.{holds-same, plain_same}
-use Rattle.sled_core.proofs.Holds.KeptCalls.{goes_on_quietly}
-use Rattle.sled_core.proofs.Holds.KeptTickets.{tickets_behind}
-use Rattle.sled_core.proofs.Holds.RunningLemmas.{fits-moved}
-use Rattle.sled_core.proofs.Holds.WholeLemmas.{holds-sealed}
+-- The current buffer is sealed: with its segment, where no further record has room there, and else alone.
+use Rattle.std.proofs.Common.{◌≡◌, ◌∙◌, ◌+◌, ◌≤◌, ap, sym, arith, ℕ, List, [], length, if◌then◌else◌, Bool}
+use Rattle.std.proofs.lemmas.List.{append-nil}
+use Rattle.std.proofs.lemmas.List.Elements.{All-nil}
+use Rattle.sled_core.specs.declared.logger.Log.{Log}
+use Rattle.sled_core.specs.Fits.{AddsBuffers, buffers_of, current_of, reserved_end, segment_size_of}
+use Rattle.sled_core.specs.Waiting.{BufferAt}
+use Rattle.sled_core.proofs.Line.Begins.{begins_keeps, begins_tickets}
+use Rattle.sled_core.proofs.Line.LogSpans.{seal_starts, turn_starts}
+use Rattle.sled_core.proofs.Line.Outcomes.{either, on_both, on_ok}
+use Rattle.sled_core.proofs.Line.Seals.{sealed_begins, sealed_buffers, sealed_keeps, sealed_position, sealed_tickets, sealed_waiting}
+use Rattle.sled_core.proofs.Line.Turns.{turns_begins, turns_buffers, turns_low, turns_position, turns_waiting, turns_within}
+use Rattle.sled_core.proofs.Line.Unchanged.{left_alone, unchanged_keeps, unchanged_position, unchanged_tickets}
 use Rattle.sled_core.proofs.logger.Log.seal.Goals as goal
 
-pub returns-in_err-seal-clause-keeps : goal.returns-in_err-seal-clause-keeps
-unfolding Holds Fits
-returns-in_err-seal-clause-keeps g c =
-    let old = c.args.self.now.buffer in
-    let same = c.seal.ensures in
-    record {
-      goes_on = goes_on_quietly g.D.Device.trace g.C.Checksum.sum_of c.args.self.now _ (record { config = refl; checksum = refl }) refl (omega (arith, same.from));
-      history = λ H holds. holds-same g.C.Checksum.sum_of _ _ _ _ old.bytes.items _ old.written_len _ old.sealed.items _ old.reserved.items _ H same.bytes same.from c.in_err-seal.ensures.unsealed same.reserved holds;
-      fits = λ H A f U fits.
-          record {
-            reach = fits.reach;
-            parts = fits-moved _ _ _ _ _ _ _ _ _ _ H A f U fits.parts _ _ _ _ same.from
-                (holds-same g.C.Checksum.sum_of _ _ _ _ old.bytes.items _ old.written_len _ old.sealed.items _ old.reserved.items _ H same.bytes same.from c.in_err-seal.ensures.unsealed same.reserved fits.parts.holds);
-            plain = plain_same _ _ same.reserved fits.plain;
-            slots = fits.slots;
-          };
-    }
+-- Where no further record has room.
+
+pub begin_next-requires-clause-behind : goal.begin_next-requires-clause-behind
+begin_next-requires-clause-behind g c = turns_low c.args.self.now c.requires.some (sym c.is_short.ensures ∙ c.if-is_short.true)
+
+pub begin_next-requires-clause-within : goal.begin_next-requires-clause-within
+begin_next-requires-clause-within g c = let within = turns_within c.args.self.now in omega (arith, within)
+
+pub returns-then-is_short-clause-waiting : goal.returns-then-is_short-clause-waiting
+returns-then-is_short-clause-waiting g c =
+    let did = c.begin_next.ensures in
+    on_both c.begin_next.result _ _ _ (λ line machine. turns_waiting g.D.Device.trace g.C.Checksum.sum_of c.args.self.now c.begin_next.new.self line machine did.rest c.requires.some (sym c.is_short.ensures ∙ c.if-is_short.true)) did.line
+    did.machine
+
+pub returns-then-is_short-clause-buffers : goal.returns-then-is_short-clause-buffers
+returns-then-is_short-clause-buffers g c =
+    let did = c.begin_next.ensures in
+    on_both c.begin_next.result _ _ _ (λ line machine. turns_buffers g.D.Device.trace g.C.Checksum.sum_of c.args.self.now c.begin_next.new.self line machine did.rest c.requires.some (sym c.is_short.ensures ∙ c.if-is_short.true)) did.line
+    did.machine
+
+pub returns-then-is_short-clause-begins : goal.returns-then-is_short-clause-begins
+returns-then-is_short-clause-begins g c =
+    let did = c.begin_next.ensures in
+    on_both c.begin_next.result _ _ _ (λ line machine. turns_begins g.D.Device.trace g.C.Checksum.sum_of c.args.self.now c.begin_next.new.self line machine did.rest c.requires.some (sym c.is_short.ensures ∙ c.if-is_short.true)) did.line
+    did.machine
+
+pub returns-then-is_short-clause-start : goal.returns-then-is_short-clause-start
+returns-then-is_short-clause-start g c =
+    on_ok c.begin_next.result _ _ (λ line. turn_starts g.C.Checksum.sum_of c.args.self.now c.begin_next.new.self _ (sym c.is_short.ensures ∙ c.if-is_short.true) line) c.begin_next.ensures.line
+
+pub returns-then-is_short-clause-keeps : goal.returns-then-is_short-clause-keeps
+returns-then-is_short-clause-keeps g c =
+    let did = c.begin_next.ensures in
+    let old = c.args.self.now in
+    let new = c.begin_next.new.self in
+    either c.begin_next.result _ _ _ (λ keeps. keeps) (λ same. unchanged_keeps old new same g.D.Device.trace g.C.Checksum.sum_of)
+    (on_both c.begin_next.result _ _ _ (λ line machine. begins_keeps g.D.Device.trace g.C.Checksum.sum_of old new line machine did.rest) did.line did.machine) did.err
+
+pub returns-then-is_short-clause-tickets : goal.returns-then-is_short-clause-tickets
+returns-then-is_short-clause-tickets g c =
+    let did = c.begin_next.ensures in
+    let old = c.args.self.now in
+    let new = c.begin_next.new.self in
+    either c.begin_next.result _ _ _ (λ keeps. keeps) (λ same. unchanged_tickets old new same)
+    (on_both c.begin_next.result _ _ _ (λ line machine. begins_tickets g.D.Device.trace g.C.Checksum.sum_of old new line machine did.rest) did.line did.machine) did.err
+
+pub returns-then-is_short-clause-position : goal.returns-then-is_short-clause-position
+returns-then-is_short-clause-position g c =
+    let did = c.begin_next.ensures in
+    let old = c.args.self.now in
+    let new = c.begin_next.new.self in
+    let short = sym c.is_short.ensures ∙ c.if-is_short.true in
+    let turned = on_both c.begin_next.result _ _ _ (λ line machine. turns_position g.D.Device.trace g.C.Checksum.sum_of old new line machine did.rest c.requires.some short) did.line did.machine in
+    either c.begin_next.result _ _ _ (λ keeps. keeps) (λ same. unchanged_position old new same)
+    (on_both c.begin_next.result _ _ _ (λ position reserved. position reserved) turned did.reserved) did.err
+
+-- Where one has room.
+
+no_more : {D C : Type 0} (sum : List ℕ → ℕ) (old new : Log D C) → buffers_of sum new ≡ buffers_of sum old → AddsBuffers sum old new
+no_more sum old new is = record { more = []; is = is ∙ sym (append-nil (buffers_of sum old)); behind = All-nil (λ (b : BufferAt). reserved_end old ≤ b.place) }
+
+pub returns-clause-waiting : goal.returns-clause-waiting
+returns-clause-waiting g c =
+    on_ok c.seal_unfilled.result _ _ (λ line. sealed_waiting g.D.Device.trace g.C.Checksum.sum_of c.args.self.now c.seal_unfilled.new.self c.seal_unfilled.ensures.rest line c.requires.some (sym c.is_short.ensures ∙ c.if-is_short.false))
+    c.seal_unfilled.ensures.line
+
+pub returns-clause-buffers : goal.returns-clause-buffers
+returns-clause-buffers g c =
+    let old = c.args.self.now in
+    let new = c.seal_unfilled.new.self in
+    let rest = c.seal_unfilled.ensures.rest in
+    on_ok c.seal_unfilled.result _ _ (λ line. no_more g.C.Checksum.sum_of old new (sealed_buffers g.D.Device.trace g.C.Checksum.sum_of old new rest line c.requires.some
+    ∙ sealed_waiting g.D.Device.trace g.C.Checksum.sum_of old new rest line c.requires.some (sym c.is_short.ensures ∙ c.if-is_short.false)))
+    c.seal_unfilled.ensures.line
+
+pub returns-clause-begins : goal.returns-clause-begins
+returns-clause-begins g c =
+    let old = c.args.self.now in
+    let v = current_of old in
+    let room = sym c.is_short.ensures ∙ c.if-is_short.false in
+    on_ok c.seal_unfilled.result _ _ (λ line. sealed_begins g.D.Device.trace g.C.Checksum.sum_of old c.seal_unfilled.new.self c.seal_unfilled.ensures.rest line c.requires.some
+    ∙ sym (ap (λ (o : Bool). v.parts.site.place + (if o then segment_size_of old else length v.parts.bytes)) room))
+    c.seal_unfilled.ensures.line
+
+pub returns-clause-start : goal.returns-clause-start
+returns-clause-start g c = on_ok c.seal_unfilled.result _ _ (λ line. seal_starts c.args.self.now c.seal_unfilled.new.self (sym c.is_short.ensures ∙ c.if-is_short.false) line) c.seal_unfilled.ensures.line
 
 pub returns-clause-keeps : goal.returns-clause-keeps
-unfolding Holds Fits
 returns-clause-keeps g c =
-    let log = c.args.self.now in
-    let old = log.buffer in
-    let same = c.seal.ensures in
-    let inside = old.behind in
-    let begins = old.begins in
-    let held : (H : History) → HoldsIn g.C.Checksum.sum_of (log_parts log.config.config.segment_size log.site (state_of (g.D.Device.trace log.config.device)) log.fault old.bytes.items old.written_len old.sealed.items old.reserved.items) (behind_of log) H
-    → HoldsIn g.C.Checksum.sum_of (log_parts log.config.config.segment_size log.site (state_of (g.D.Device.trace log.config.device)) log.fault c.seal.new.self.bytes.items c.seal.new.self.written_len c.seal.new.self.sealed.items c.seal.new.self.reserved.items) (behind_of log) H =
-    λ H holds. holds-same g.C.Checksum.sum_of _ _ _ _ old.bytes.items _ old.written_len _ (old.sealed.items ++ seal_at (length old.bytes.items) (current_reserved log) ∷ []) _ old.reserved.items _ H same.bytes same.from c.in_ok-seal.ensures.sealed same.reserved
-    (holds-sealed g.C.Checksum.sum_of _ _ _ _ old.bytes.items old.written_len old.sealed.items old.reserved.items H holds (current_reserved log) log.in_segment (omega (arith, inside, begins))) in
-    record {
-      goes_on = goes_on_quietly g.D.Device.trace g.C.Checksum.sum_of log _ (record { config = refl; checksum = refl }) refl (omega (arith, same.from));
-      history = held;
-      fits = λ H A f U fits. record { reach = fits.reach; parts = fits-moved _ _ _ _ _ _ _ _ _ _ H A f U fits.parts _ _ _ _ same.from (held H fits.parts.holds); plain = plain_same _ _ same.reserved fits.plain; slots = fits.slots };
-    }
-
-pub returns-in_err-seal-clause-tickets : goal.returns-in_err-seal-clause-tickets
-returns-in_err-seal-clause-tickets g c = tickets_behind c.args.self.now _ 0 refl c.seal.ensures.bytes c.seal.ensures.reserved refl (omega (arith, c.seal.ensures.gone))
+    let did = c.seal_unfilled.ensures in
+    let old = c.args.self.now in
+    let new = c.seal_unfilled.new.self in
+    either c.seal_unfilled.result _ _ _ (λ line. sealed_keeps g.D.Device.trace g.C.Checksum.sum_of old new did.rest line c.requires.some) (λ same. unchanged_keeps old new (left_alone old new same did.rest) g.D.Device.trace g.C.Checksum.sum_of) did.line
+    did.unsealed
 
 pub returns-clause-tickets : goal.returns-clause-tickets
-returns-clause-tickets g c = tickets_behind c.args.self.now _ 0 refl c.seal.ensures.bytes c.seal.ensures.reserved refl (omega (arith, c.seal.ensures.gone))
+returns-clause-tickets g c =
+    let did = c.seal_unfilled.ensures in
+    let old = c.args.self.now in
+    let new = c.seal_unfilled.new.self in
+    either c.seal_unfilled.result _ _ _ (λ line. sealed_tickets g.D.Device.trace g.C.Checksum.sum_of old new did.rest line c.requires.some) (λ same. unchanged_tickets old new (left_alone old new same did.rest)) did.line did.unsealed
+
+pub returns-clause-position : goal.returns-clause-position
+returns-clause-position g c =
+    let did = c.seal_unfilled.ensures in
+    let old = c.args.self.now in
+    let new = c.seal_unfilled.new.self in
+    either c.seal_unfilled.result _ _ _ (λ line. sealed_position g.D.Device.trace g.C.Checksum.sum_of old new did.rest line c.requires.some) (λ same. unchanged_position old new (left_alone old new same did.rest)) did.line did.unsealed

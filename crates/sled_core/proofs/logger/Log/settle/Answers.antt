@@ -1,21 +1,185 @@
-use Rattle.std.proofs.Common.{refl, arith, pos, Ok}
+-- The current buffer is sealed first, where it has the place; then the one buffer that has it is written.
+use Rattle.std.proofs.Common.{◌≡◌, ◌∙◌, ◌<◌, ap, sym, refl, arith, subst, inl, inr, pos, ℕ, List}
+use Rattle.std.proofs.lemmas.Bool.Decides.{nat_tests}
+use Rattle.std.proofs.lemmas.Int.{ints}
+use Rattle.std.proofs.lemmas.Result.{err_from_is_err_and}
+use Rattle.sled_store.specs.Device.{Event}
+use Rattle.sled_store.specs.Script.{Performs, after_all}
+use Rattle.sled_store.specs.declared.config.RunningConfig.{RunningConfig}
 use Rattle.sled_store.proofs.Traces.ScriptLemmas.{performs_nothing}
-use Rattle.sled_core.proofs.Holds.KeptCalls.{kept_still}
-use Rattle.sled_core.proofs.Holds.ReadSeals.{seals_none, seals_place}
+use Rattle.sled_core.specs.Causes.{OnDone}
+use Rattle.sled_core.specs.declared.logger.Log.{Log}
+use Rattle.sled_core.specs.Fits.{current_begin, synced_end}
+use Rattle.sled_core.specs.ReadBuffer.{IsUsedUpAt, settling}
+use Rattle.sled_core.proofs.Holds.KeptCalls.{kept_further, kept_still, position_further, tickets_further}
+use Rattle.sled_core.proofs.Line.Advanced.{same_current}
+use Rattle.sled_core.proofs.Line.Outcomes.{answers_used, seal_answers, seal_not_done, seal_not_held}
+use Rattle.sled_core.proofs.Line.SealsFor.{SealsFor, held_at_same, holds_reserved, seals_current, seals_still, settling_same}
+use Rattle.sled_core.proofs.Line.Settles.{held_stable, stable_written}
+use Rattle.sled_core.proofs.logger.Log.settle.Given.{Over}
+use Rattle.sled_core.proofs.logger.Log.settle.Goals.{then-place-current_begin+in_ok-seal, else-place-current_begin}
 use Rattle.sled_core.proofs.logger.Log.settle.Goals as goal
 
-pub returns-then-place-self-clause-at_most : goal.returns-then-place-self-clause-at_most
-returns-then-place-self-clause-at_most g c = performs_nothing _ _ _ refl
+-- The place is stable.
 
-pub returns-then-place-self-clause-keeps : goal.returns-then-place-self-clause-keeps
-returns-then-place-self-clause-keeps g c = kept_still g.D.Device.trace g.C.Checksum.sum_of c.args.self.now
+pub returns-then-place-stable_end-clause-written : goal.returns-then-place-stable_end-clause-written
+returns-then-place-stable_end-clause-written g c = stable_written c.args.self.now c.args.place (omega (arith, c.if-place-stable_end.true, c.stable_end.ensures.is))
 
--- What is sealed.
+pub returns-then-place-stable_end-clause-at_most : goal.returns-then-place-stable_end-clause-at_most
+returns-then-place-stable_end-clause-at_most g c = performs_nothing _ _ _ refl
 
-pub returns-then-place-self-clause-seals : goal.returns-then-place-self-clause-seals
-returns-then-place-self-clause-seals g c = seals_none (Ok tt) (pos c.args.place) c.args.self.now (λ is. absurd is)
+pub returns-then-place-stable_end-clause-keeps : goal.returns-then-place-stable_end-clause-keeps
+returns-then-place-stable_end-clause-keeps g c = kept_still g.D.Device.trace g.C.Checksum.sum_of c.args.self.now
+
+pub returns-then-place-stable_end-clause-answers : goal.returns-then-place-stable_end-clause-answers
+returns-then-place-stable_end-clause-answers g c =
+    let old = c.args.self.now in
+    let below : c.args.place < synced_end old = omega (arith, c.if-place-stable_end.true, c.stable_end.ensures.is) in
+    let lower = (stable_written old c.args.place below).0 in
+    (held_stable old g.C.Checksum.sum_of (pos c.args.place) (omega (arith, ints, below)), (λ used. let up = used.0 in omega (arith, ints, up, lower)), refl, c.requires.fault, refl)
+
+pub returns-then-place-stable_end-clause-seals : goal.returns-then-place-stable_end-clause-seals
+returns-then-place-stable_end-clause-seals g c = record { still = λ _. refl; apart = λ _. refl; once = inl refl; held = λ is. absurd is; none = λ none. none }
+
+-- The current buffer could not be sealed.
+
+pub seal-requires : goal.seal-requires
+seal-requires g c =
+    let log = c.args.self.now in
+    let reserved : c.args.place < log.reserved_to = elim c.requires.reserved [ inl below ↦ absurd (omega (arith, below, c.if-place-stable_end.false, c.stable_end.ensures.is)) | inr lower ↦ lower ] in
+    let some = (holds_reserved log c.args.place (omega (arith, c.if-place-current_begin.true, c.current_begin.ensures.is)) reserved).0 in
+    grind (arith, nat_tests, some)
+
+pub returns-in_err-seal-clause-written : goal.returns-in_err-seal-clause-written
+returns-in_err-seal-clause-written g c =
+    let e = err_from_is_err_and c.from_residual.result c.from_residual.ensures.1 in
+    rw e.1 tt
+
+pub returns-in_err-seal-clause-calls : goal.returns-in_err-seal-clause-calls
+returns-in_err-seal-clause-calls g c =
+    let e = err_from_is_err_and c.from_residual.result c.from_residual.ensures.1 in
+    rw (e.1, e.2) (seal_not_done (Unit {0}) (Unit {0}) c.in_err-seal.field-0.0 _ c.in_err-seal.ensures.answers _)
+
+pub returns-in_err-seal-clause-at_most : goal.returns-in_err-seal-clause-at_most
+returns-in_err-seal-clause-at_most g c = performs_nothing _ _ _ (ap (λ (x : RunningConfig g.row.D.Denot g.row.C.Denot). g.D.Device.trace x.device) c.in_err-seal.ensures.err.config)
+
+pub returns-in_err-seal-clause-keeps : goal.returns-in_err-seal-clause-keeps
+returns-in_err-seal-clause-keeps g c = c.in_err-seal.ensures.keeps
+
+pub returns-in_err-seal-clause-answers : goal.returns-in_err-seal-clause-answers
+returns-in_err-seal-clause-answers g c =
+    let same = c.in_err-seal.ensures.err in
+    let e = err_from_is_err_and c.from_residual.result c.from_residual.ensures.1 in
+    rw (e.1, e.2) (seal_answers (Unit {0}) (Unit {0}) c.in_err-seal.field-0.0 _ c.in_err-seal.ensures.answers _ _ _ _ _
+    (λ used. (let up = c.if-place-current_begin.true in let is = c.current_begin.ensures.is in omega (arith, ints, up, is), used)) (same.fault ∙ c.requires.fault)
+    (ap (λ (x : RunningConfig g.row.D.Denot g.row.C.Denot). g.D.Device.faults x.device) same.config))
+
+pub returns-in_err-seal-clause-seals : goal.returns-in_err-seal-clause-seals
+returns-in_err-seal-clause-seals g c =
+    let old = c.args.self.now in
+    let same = c.in_err-seal.ensures.err in
+    let e = err_from_is_err_and c.from_residual.result c.from_residual.ensures.1 in
+    let stays = same_current old c.seal.new.self same.line in
+    rw (e.1, e.2) (record {
+      still = λ below. absurd (omega (arith, ints, below, c.if-place-stable_end.false, c.stable_end.ensures.is));
+      apart = λ _. stays;
+      once = inl stays;
+      held = λ is. absurd (seal_not_held (Unit {0}) (Unit {0}) c.in_err-seal.field-0.0 _ c.in_err-seal.ensures.answers is);
+      none = λ _. tt;
+    })
+
+-- The buffer that has the place is sealed now.
+
+sealed_for : (g : Over) (c : goal.After-write_around-arg-1 g) → SealsFor g.D.Device.trace g.C.Checksum.sum_of c.args.place c.args.self.now c.if-place-current_begin.self
+sealed_for g c =
+    let old = c.args.self.now in
+    let place = c.args.place in
+    let trace = g.D.Device.trace in
+    let sum = g.C.Checksum.sum_of in
+    let begin : c.current_begin.result ≡ current_begin old = c.current_begin.ensures.is in
+    elim c.if-place-current_begin.branch [
+      | then-place-current_begin+in_ok-seal w ↦ subst (λ (l : Log g.row.D.Denot g.row.C.Denot). SealsFor trace sum place old l) (sym w.self-is)
+          (seals_current trace sum place old w.seal.new.self (let up = w.if-place-current_begin.true in omega (arith, up, begin))
+          (elim c.requires.reserved [ inl below ↦ absurd (omega (arith, below, c.if-place-stable_end.false, c.stable_end.ensures.is)) | inr lower ↦ lower ])
+          w.in_ok-seal.ensures.buffers w.in_ok-seal.ensures.waiting w.in_ok-seal.ensures.begins w.seal.ensures.keeps w.seal.ensures.tickets w.seal.ensures.position w.seal.ensures.same w.in_ok-seal.ensures.answers.0)
+      | else-place-current_begin w ↦ subst (λ (l : Log g.row.D.Denot g.row.C.Denot). SealsFor trace sum place old l) (sym w.self-is)
+          (seals_still trace sum place old (let low = w.if-place-current_begin.false in omega (arith, low, begin)))
+    ]
+
+pub write_around-requires-clause-fault : goal.write_around-requires-clause-fault
+write_around-requires-clause-fault g c = (sealed_for g c).fault ∙ c.requires.fault
+
+pub write_around-requires-clause-behind : goal.write_around-requires-clause-behind
+write_around-requires-clause-behind g c = let same = (sealed_for g c).synced in omega (arith, same, c.if-place-stable_end.false, c.stable_end.ensures.is)
+
+pub write_around-requires-clause-sealed : goal.write_around-requires-clause-sealed
+write_around-requires-clause-sealed g c = (sealed_for g c).lower
+
+seals : (g : Over) (c : goal.After-write_around g) → SealsFor g.D.Device.trace g.C.Checksum.sum_of c.args.place c.args.self.now c.if-place-current_begin.self
+seals g c =
+    let old = c.args.self.now in
+    let place = c.args.place in
+    let trace = g.D.Device.trace in
+    let sum = g.C.Checksum.sum_of in
+    let begin : c.current_begin.result ≡ current_begin old = c.current_begin.ensures.is in
+    elim c.if-place-current_begin.branch [
+      | then-place-current_begin+in_ok-seal w ↦ subst (λ (l : Log g.row.D.Denot g.row.C.Denot). SealsFor trace sum place old l) (sym w.self-is)
+          (seals_current trace sum place old w.seal.new.self (let up = w.if-place-current_begin.true in omega (arith, up, begin))
+          (elim c.requires.reserved [ inl below ↦ absurd (omega (arith, below, c.if-place-stable_end.false, c.stable_end.ensures.is)) | inr lower ↦ lower ])
+          w.in_ok-seal.ensures.buffers w.in_ok-seal.ensures.waiting w.in_ok-seal.ensures.begins w.seal.ensures.keeps w.seal.ensures.tickets w.seal.ensures.position w.seal.ensures.same w.in_ok-seal.ensures.answers.0)
+      | else-place-current_begin w ↦ subst (λ (l : Log g.row.D.Denot g.row.C.Denot). SealsFor trace sum place old l) (sym w.self-is)
+          (seals_still trace sum place old (let low = w.if-place-current_begin.false in omega (arith, low, begin)))
+    ]
+
+pub returns-clause-written : goal.returns-clause-written
+returns-clause-written g c = c.write_around.ensures.written
+
+pub returns-clause-still : goal.returns-clause-still
+returns-clause-still g c = λ below. absurd (omega (arith, below, c.if-place-stable_end.false, c.stable_end.ensures.is))
+
+pub returns-clause-calls : goal.returns-clause-calls
+returns-clause-calls g c =
+    let first = seals g c in
+    let new = g.D.Device.trace c.write_around.new.self.config.device in
+    subst (λ (es : List Event). OnDone c.write_around.result (new ≡ after_all es (g.D.Device.trace c.args.self.now.config.device)))
+    (settling_same g.D.Device.trace g.C.Checksum.sum_of c.args.place c.args.self.now c.if-place-current_begin.self first)
+    (subst (λ (d : g.row.D.Denot). OnDone c.write_around.result (new ≡ after_all (settling g.C.Checksum.sum_of c.if-place-current_begin.self (pos c.args.place)) (g.D.Device.trace d))) first.device c.write_around.ensures.calls)
+
+pub returns-clause-at_most : goal.returns-clause-at_most
+returns-clause-at_most g c =
+    let first = seals g c in
+    let new = g.D.Device.trace c.write_around.new.self.config.device in
+    subst (λ (es : List Event). Performs es (g.D.Device.trace c.args.self.now.config.device) new)
+    (settling_same g.D.Device.trace g.C.Checksum.sum_of c.args.place c.args.self.now c.if-place-current_begin.self first)
+    (subst (λ (d : g.row.D.Denot). Performs (settling g.C.Checksum.sum_of c.if-place-current_begin.self (pos c.args.place)) (g.D.Device.trace d) new) first.device c.write_around.ensures.at_most)
+
+pub returns-clause-keeps : goal.returns-clause-keeps
+returns-clause-keeps g c = kept_further g.D.Device.trace g.C.Checksum.sum_of c.args.self.now c.if-place-current_begin.self c.write_around.new.self (seals g c).keeps c.write_around.ensures.keeps
+
+pub returns-clause-tickets : goal.returns-clause-tickets
+returns-clause-tickets g c = tickets_further c.args.self.now c.if-place-current_begin.self c.write_around.new.self (seals g c).tickets c.write_around.ensures.tickets
+
+pub returns-clause-position : goal.returns-clause-position
+returns-clause-position g c = position_further c.args.self.now c.if-place-current_begin.self c.write_around.new.self (seals g c).position c.write_around.ensures.position
+
+pub returns-clause-answers : goal.returns-clause-answers
+returns-clause-answers g c =
+    let first = seals g c in
+    let new = c.write_around.new.self in
+    let mid = c.if-place-current_begin.self in
+    let old = c.args.self.now in
+    let at : ℕ = c.args.place in
+    answers_used c.write_around.result _ _ (IsUsedUpAt old (pos at)) new.fault _ _ _ (held_at_same g.D.Device.trace g.C.Checksum.sum_of at old mid first) (ap g.D.Device.faults first.device) first.unused c.write_around.ensures.answers
 
 pub returns-clause-seals : goal.returns-clause-seals
 returns-clause-seals g c =
-    let done = c.write_around.ensures in
-    seals_place c.write_around.result c.args.place c.args.self.now c.write_around.new.self done.position.site (omega (arith, c.if-place-self.false)) done.apart done.once done.held done.none
+    let first = seals g c in
+    let then = c.write_around.ensures in
+    let lower = first.lower in
+    record {
+      still = λ below. absurd (omega (arith, ints, below, c.if-place-stable_end.false, c.stable_end.ensures.is));
+      apart = λ below. then.current ∙ first.apart (omega (arith, ints, below));
+      once = elim first.once [ inl same ↦ inl (then.current ∙ same) | inr sealed ↦ inr (then.current ∙ sealed) ];
+      held = λ _. (let same = then.current in omega (arith, ints, lower, same));
+      none = λ none. then.one (first.none none);
+    }

@@ -1,35 +1,68 @@
-use Rattle.std.proofs.Common.{◌≡◌, ◌∙◌, ◌+◌, ◌<◌, ℕ, List, [], None, length, map, rules, refl, ap, sym, subst, arith}
+use Rattle.std.proofs.Common.{◌≡◌, ◌∙◌, ◌+◌, ◌<◌, ◌∷◌, ◌++◌, if◌then◌else◌, zero, suc, true, ℕ, List, [], Option, None, Some, length, map, refl, ap, sym, subst, arith, mod-lt}
 use Rattle.sled_codec.specs.declared.result.Error.{Error}
 use Rattle.sled_codec.specs.declared.result.Error.TheVariants.{Corruption}
 use Rattle.sled_codec.specs.Errors.{IsCorrupt}
 use Rattle.sled_codec.specs.Snapshots.{SnapshotModel, model_of, stable_place}
-use Rattle.sled_store.specs.Accounts.{IsAccountant}
+use Rattle.sled_store.specs.Accounts.{IsAccountant, machine_of}
 use Rattle.sled_store.specs.Causes.{StartRefuses}
 use Rattle.sled_store.specs.declared.config.Config.{Config}
 use Rattle.sled_store.specs.Device.{State, LogState, NamesState, Trace, state_of, at_rest}
 use Rattle.sled_store.specs.declared.segment.start.Beginning.{Beginning}
 use Rattle.sled_store.specs.Script.{after_all}
-use Rattle.sled_store.specs.Begin.{unused, slots_of, place_at}
+use Rattle.sled_store.specs.Begin.{IsStartable, beginning_of, offset_at, place_at, slots_of, unused}
+use Rattle.sled_store.specs.SegmentStates.{Machine}
 use Rattle.sled_store.specs.Started.{started}
 use Rattle.sled_core.specs.declared.iobuf.Reserved.{Reserved}
 use Rattle.sled_core.specs.declared.iobuf.Sealed.{Sealed}
 use Rattle.sled_core.specs.declared.logger.segments.SegmentBuffer.{SegmentBuffer}
-use Rattle.sled_core.specs.Begun.{FollowOn}
-use Rattle.sled_core.specs.Fits.{Holds, HoldsIn, log_parts, segment_parts}
+use Rattle.sled_core.specs.Begun.{AreEntered, AreFilled, FollowOn, SegmentView, begin_of, line_at, segment_view, view_at}
+use Rattle.sled_core.specs.Fits.{Holds, HoldsIn, HoldsLine, NoneOpenIn, log_parts}
+use Rattle.sled_core.specs.FreeSlots.{HasSlots, begun_machine}
+use Rattle.sled_core.specs.Positions.{Position, is_short, next_segment_at, position_in}
+use Rattle.sled_core.specs.SealedBuffers.{sealed_end}
+use Rattle.sled_core.specs.Starts.{site_from}
+use Rattle.sled_core.specs.Waiting.{last_of, start_in, unwritten, unwritten_in}
 use Rattle.sled_core.specs.declared.iobuf.SegmentPosition.{SegmentPosition}
-use Rattle.sled_core.specs.Running.{Ready, Fits, FitsIn}
+use Rattle.sled_core.specs.Running.{Ready, Fits, FitsIn, FitsLine}
 use Rattle.sled_store.proofs.Segments.StartedFile.{started_file, started-log, started-snapshots, started-blobs}
-use Rattle.sled_core.proofs.Holds.SlotLemmas.{slots_at}
 use Rattle.sled_core.proofs.Start.BegunSlots.{begun_slots}
 use Rattle.sled_core.proofs.Start.StartedMoments.{started_throughout}
 use Rattle.sled_core.proofs.Start.ReadyStarts.{ready_starts}
 use Rattle.sled_core.proofs.Start.StartFits.{start_fits}
-use Rattle.sled_core.proofs.Start.OpenLemmas.{in_segment, place_in_reach, slot_in_reach, first_next, begins_place}
+use Rattle.sled_core.proofs.Start.OpenLemmas.{in_segment, place_in_reach, slot_in_reach, begins_offset, begins_place, first_next}
 use Rattle.sled_core.proofs.Start.ReadyLemmas.{begins_ready}
 use Rattle.sled_store.proofs.Traces.ScriptLemmas.{later_performed}
-use Rattle.sled_core.proofs.Holds.WholeLemmas.{plain_none}
 use Rattle.sled_core.specs.Buffers.{none_open}
 use Rattle.sled_core.proofs.logger.Log.start.Goals as goal
+
+-- the only segment has no open reservation
+none_open_one : (v : SegmentView) → none_open v.parts.reserved ≡ true → NoneOpenIn (v ∷ [])
+none_open_one v ended zero w there = let same : v ≡ w = cc in ap (λ (x : SegmentView). none_open x.parts.reserved) (sym same) ∙ ended
+none_open_one v ended (suc n) w there = cc
+
+-- where the next record may begin in a segment with so many bytes
+abbrev position_by : ℕ → SegmentPosition → ℕ → Machine → Position
+position_by size site len m = if is_short size len then next_segment_at size site.place m else record { place = site.place + len; begins = site.place; slot = site.slot; machine = m }
+
+-- the slots of a log with this segment alone, where the machine and the file are those of its start
+start_slots : (size : ℕ) {size' : ℕ} → size' ≡ size → 0 < size → (s : SnapshotModel) (old now : List ℕ) → IsStartable size (length old) s → now ≡ started_file size old s → (v : SegmentView) → v.parts.site.slot ≡ (beginning_of size (length old) s).slot
+    → {m : Machine} → m ≡ begun_machine size (length old) s → HasSlots size' (v ∷ []) now None m
+start_slots size same some s old now startable file v slot {m} machine =
+    subst (λ n. HasSlots n (v ∷ []) now None m) (sym same)
+    (subst (λ (l : List ℕ). HasSlots size (v ∷ []) l None m) (sym file)
+    (subst (λ (x : Machine). HasSlots size (v ∷ []) (started_file size old s) None x) (sym machine) (begun_slots size some old s None startable v slot)))
+
+-- Nothing is entered where nothing is reserved and sealed.
+entered_none : (to place from : ℕ) (bs : List Sealed) (rs : List Reserved) → bs ≡ [] → rs ≡ [] → AreEntered to place from bs rs
+entered_none to place from [] rs none empty = λ some. absurd (let zero = ap (λ (xs : List Reserved). length xs) empty in omega (arith, some, zero))
+entered_none to place from (b ∷ bs) rs none empty = cc
+
+-- A log goes on within its segment.
+offset_low : (size len : ℕ) (s : SnapshotModel) (b : Beginning) → b ≡ beginning_of size len s → 0 < size → b.offset < size
+offset_low size len s b is some = by s.active (ap (λ (x : Beginning). x.offset) is ∙ begins_offset size (slots_of size len) (stable_place s.stable) (unused size (slots_of size len) s) s.active) where
+  by : (o : Option ℕ) → b.offset ≡ offset_at size (stable_place s.stable) o → b.offset < size
+  by None at = omega (arith, at, some)
+  by (Some a) at = let low = mod-lt (stable_place s.stable) some in omega (arith, at, low)
 
 pub invariant_of-result : goal.invariant_of-result
 invariant_of-result g c =
@@ -44,8 +77,16 @@ invariant_of-result g c =
       in_segment = omega (arith, same, inside);
       place_in_reach = omega (arith, same, place);
       slot_in_reach = omega (arith, same, slot);
-      alone = ap (λ (ss : List SegmentBuffer). length ss) c.no_segments.ensures;
+      waits = λ some. absurd (let none = ap (λ (ss : List SegmentBuffer). length ss) c.no_segments.ensures in omega (arith, some, none));
       follow = subst (λ (ss : List SegmentBuffer). FollowOn c.begin.new.config.config.segment_size (c.in-Ok.beginning.place + c.begin.new.config.config.segment_size) ss) (sym c.no_segments.ensures) _;
+      filled = (
+          let first = c.in-Ok.ensures.buffer in
+          let low = offset_low c.args.config.config.segment_size len s c.in-Ok.beginning c.in-Ok.ensures.beginning (omega (arith, long)) in
+          let at : begin_of (view_at (record { place = c.in-Ok.beginning.place; slot = c.in-Ok.beginning.slot }) c.in-Ok.buffer) ≡ c.in-Ok.beginning.offset = ap (λ (bs : List Sealed). sealed_end c.in-Ok.buffer.written_len bs) first.sealed ∙ first.from in
+          let behind = c.in-Ok.buffer.behind in
+          let begins = c.in-Ok.buffer.begins in
+          subst (λ (ss : List SegmentBuffer). AreFilled c.begin.new.config.config.segment_size (c.in-Ok.beginning.place + c.in-Ok.beginning.offset) (line_at (record { place = c.in-Ok.beginning.place; slot = c.in-Ok.beginning.slot }) c.in-Ok.buffer ss)) (sym c.no_segments.ensures)
+          (omega (arith, at, low, same), omega (arith, at, behind, begins), entered_none (c.in-Ok.beginning.place + c.in-Ok.beginning.offset) c.in-Ok.beginning.place c.in-Ok.buffer.written_len c.in-Ok.buffer.sealed.items c.in-Ok.buffer.reserved.items first.sealed first.reserved));
       account = subst (λ n. IsAccountant n c.in-Ok.accountant) (sym same) c.in-Ok.ensures.account;
     }
 
@@ -67,13 +108,16 @@ returns-in-Ok-clause-history g c = λ H ready.
     let names_now = ap (λ (t : Trace). (state_of t).snapshots.file) c.in-Ok.ensures.made ∙ ap (λ (n : NamesState). n.file) (started-snapshots size some old.log.bytes s (g.D.Device.trace c.args.config.device)) in
     let first = c.in-Ok.ensures.buffer in
     let holds = begins_ready g.C.Checksum.sum_of size old now s H c.in-Ok.buffer.bytes.items c.args.config.config.least ready c.in-Ok.ensures.answers.0 log_now names_now c.in-Ok.beginning c.in-Ok.ensures.beginning first.header first.resumed in
-    subst (λ (ss : List SegmentBuffer). HoldsIn g.C.Checksum.sum_of (log_parts c.begin.new.config.config.segment_size (record { place = c.in-Ok.beginning.place; slot = c.in-Ok.beginning.slot }) now None c.in-Ok.buffer.bytes.items c.in-Ok.buffer.written_len c.in-Ok.buffer.sealed.items c.in-Ok.buffer.reserved.items) (map segment_parts ss) H)
-    (sym c.no_segments.ensures)
-    (subst (λ (n : ℕ). HoldsIn g.C.Checksum.sum_of (log_parts n (record { place = c.in-Ok.beginning.place; slot = c.in-Ok.beginning.slot }) now None c.in-Ok.buffer.bytes.items c.in-Ok.buffer.written_len c.in-Ok.buffer.sealed.items c.in-Ok.buffer.reserved.items) [] H)
-    (sym (ap (λ (x : Config). x.segment_size) c.begin.ensures.config))
-    (subst (λ (n : ℕ). HoldsIn g.C.Checksum.sum_of (log_parts size (record { place = c.in-Ok.beginning.place; slot = c.in-Ok.beginning.slot }) now None c.in-Ok.buffer.bytes.items n c.in-Ok.buffer.sealed.items c.in-Ok.buffer.reserved.items) [] H) (sym first.from)
-    (subst (λ (l : List Sealed). HoldsIn g.C.Checksum.sum_of (log_parts size (record { place = c.in-Ok.beginning.place; slot = c.in-Ok.beginning.slot }) now None c.in-Ok.buffer.bytes.items c.in-Ok.beginning.offset l c.in-Ok.buffer.reserved.items) [] H) (sym first.sealed)
-    (subst (λ (r : List Reserved). HoldsIn g.C.Checksum.sum_of (log_parts size (record { place = c.in-Ok.beginning.place; slot = c.in-Ok.beginning.slot }) now None c.in-Ok.buffer.bytes.items c.in-Ok.beginning.offset [] r) [] H) (sym first.reserved) holds))))
+    record {
+      holds = subst (λ (ss : List SegmentBuffer). HoldsLine g.C.Checksum.sum_of c.begin.new.config.config.segment_size now None (line_at (record { place = c.in-Ok.beginning.place; slot = c.in-Ok.beginning.slot }) c.in-Ok.buffer ss) H) (sym c.no_segments.ensures)
+          (subst (λ (n : ℕ). HoldsIn g.C.Checksum.sum_of (log_parts n (record { place = c.in-Ok.beginning.place; slot = c.in-Ok.beginning.slot }) now None c.in-Ok.buffer.bytes.items c.in-Ok.buffer.written_len c.in-Ok.buffer.sealed.items c.in-Ok.buffer.reserved.items) [] H)
+          (sym (ap (λ (x : Config). x.segment_size) c.begin.ensures.config))
+          (subst (λ (n : ℕ). HoldsIn g.C.Checksum.sum_of (log_parts size (record { place = c.in-Ok.beginning.place; slot = c.in-Ok.beginning.slot }) now None c.in-Ok.buffer.bytes.items n c.in-Ok.buffer.sealed.items c.in-Ok.buffer.reserved.items) [] H) (sym first.from)
+          (subst (λ (l : List Sealed). HoldsIn g.C.Checksum.sum_of (log_parts size (record { place = c.in-Ok.beginning.place; slot = c.in-Ok.beginning.slot }) now None c.in-Ok.buffer.bytes.items c.in-Ok.beginning.offset l c.in-Ok.buffer.reserved.items) [] H) (sym first.sealed)
+          (subst (λ (r : List Reserved). HoldsIn g.C.Checksum.sum_of (log_parts size (record { place = c.in-Ok.beginning.place; slot = c.in-Ok.beginning.slot }) now None c.in-Ok.buffer.bytes.items c.in-Ok.beginning.offset [] r) [] H) (sym first.reserved) holds))));
+      slots = subst (λ (ss : List SegmentBuffer). HasSlots c.begin.new.config.config.segment_size (line_at (record { place = c.in-Ok.beginning.place; slot = c.in-Ok.beginning.slot }) c.in-Ok.buffer ss) now.log.bytes None (machine_of c.in-Ok.accountant)) (sym c.no_segments.ensures)
+          (start_slots size (ap (λ (x : Config). x.segment_size) c.begin.ensures.config) some s old.log.bytes now.log.bytes c.in-Ok.ensures.answers.0 (ap (λ (l : LogState). l.bytes) log_now) (view_at (record { place = c.in-Ok.beginning.place; slot = c.in-Ok.beginning.slot }) c.in-Ok.buffer) (ap (λ (x : Beginning). x.slot) c.in-Ok.ensures.beginning) c.in-Ok.ensures.machine);
+    }
 
 pub returns-in-Ok-clause-crash : goal.returns-in-Ok-clause-crash
 returns-in-Ok-clause-crash g c = λ H A f ready. started_throughout g.C.Checksum.sum_of c.args.config.config.segment_size (model_of c.args.snapshot.now) H A f c.args.config.config.least
@@ -97,13 +141,13 @@ returns-in-Ok-clause-fits g c = λ H A f ready.
     let log_now = started_log size some s old (g.D.Device.trace c.begin.new.config.device) c.in-Ok.ensures.made ready.ready.log ready.ready.settled in
     record {
       reach = c.in-Ok.beginning.place + c.in-Ok.beginning.offset;
-      parts = subst (λ (ss : List SegmentBuffer). FitsIn g.C.Checksum.sum_of (log_parts c.begin.new.config.config.segment_size site now None c.in-Ok.buffer.bytes.items c.in-Ok.buffer.written_len c.in-Ok.buffer.sealed.items c.in-Ok.buffer.reserved.items) (map segment_parts ss) (c.in-Ok.beginning.place + c.in-Ok.beginning.offset) 0 H A f []) (sym c.no_segments.ensures)
+      parts = subst (λ (ss : List SegmentBuffer). FitsLine g.C.Checksum.sum_of c.begin.new.config.config.segment_size now None (line_at site c.in-Ok.buffer ss) (c.in-Ok.beginning.place + c.in-Ok.beginning.offset) 0 H A f []) (sym c.no_segments.ensures)
           (subst (λ n. FitsIn g.C.Checksum.sum_of (log_parts n site now None c.in-Ok.buffer.bytes.items c.in-Ok.buffer.written_len c.in-Ok.buffer.sealed.items c.in-Ok.buffer.reserved.items) [] (c.in-Ok.beginning.place + c.in-Ok.beginning.offset) 0 H A f []) (sym same)
           (start_fits g.C.Checksum.sum_of size (state_of old) now s H A f c.args.config.config.least ready c.in-Ok.ensures.answers.0
           log_now (ap (λ (t : Trace). (state_of t).blobs) c.in-Ok.ensures.made ∙ started-blobs size some (state_of old).log.bytes s old) (ap (λ (t : Trace). (state_of t).snapshots) c.in-Ok.ensures.made ∙ started-snapshots size some (state_of old).log.bytes s old)
           c.in-Ok.beginning c.in-Ok.ensures.beginning c.in-Ok.buffer.bytes.items c.in-Ok.buffer.written_len c.in-Ok.buffer.sealed.items c.in-Ok.buffer.reserved.items first.header first.resumed first.from first.sealed first.reserved));
-      plain = plain_none _ first.reserved;
-      slots = slots_at size _ _ _ _ _ None _ _ same (ap (λ (x : Beginning). x.slot) c.in-Ok.ensures.beginning) (ap (λ (l : LogState). l.bytes) log_now) c.in-Ok.ensures.machine (begun_slots size some (state_of old).log.bytes s None c.in-Ok.ensures.answers.0);
+      slots = subst (λ (ss : List SegmentBuffer). HasSlots c.begin.new.config.config.segment_size (line_at site c.in-Ok.buffer ss) now.log.bytes None (machine_of c.in-Ok.accountant)) (sym c.no_segments.ensures)
+          (start_slots size same some s (state_of old).log.bytes now.log.bytes c.in-Ok.ensures.answers.0 (ap (λ (l : LogState). l.bytes) log_now) (view_at site c.in-Ok.buffer) (ap (λ (x : Beginning). x.slot) c.in-Ok.ensures.beginning) c.in-Ok.ensures.machine);
     }
 
 -- damage comes only where a log can't begin
@@ -120,16 +164,26 @@ returns-in-Err-clause-starts g c = λ H A f ready damaged.
 pub returns-in-Ok-clause-begins : goal.returns-in-Ok-clause-begins
 returns-in-Ok-clause-begins g c =
     let size : ℕ = c.args.config.config.segment_size in
+    let same : c.begin.new.config.config.segment_size ≡ size = ap (λ (x : Config). x.segment_size) c.begin.ensures.config in
     let len : ℕ = length (state_of (g.D.Device.trace c.args.config.device)).log.bytes in
     let s : SnapshotModel = model_of c.args.snapshot.now in
     let long = first_next size len s c.in-Ok.beginning c.in-Ok.ensures.beginning c.in-Ok.ensures.answers.0 c.in-Ok.ensures.answers.1 g.C.Checksum.sum_of c.in-Ok.buffer c.in-Ok.ensures.buffer in
     let place = ap (λ (x : Beginning). x.place) c.in-Ok.ensures.beginning ∙ begins_place size (slots_of size len) (stable_place s.stable) (unused size (slots_of size len) s) s.active in
+    let first = c.in-Ok.ensures.buffer in
+    let here : SegmentPosition = record { place = c.in-Ok.beginning.place; slot = c.in-Ok.beginning.slot } in
+    let site : here ≡ site_from size len s = ap (λ (x : Beginning). record { place = x.place; slot = x.slot }) c.in-Ok.ensures.beginning in
+    let offset : c.in-Ok.beginning.offset ≡ offset_at size (stable_place s.stable) s.active = ap (λ (x : Beginning). x.offset) c.in-Ok.ensures.beginning ∙ begins_offset size (slots_of size len) (stable_place s.stable) (unused size (slots_of size len) s) s.active in
+    let current : last_of (view_at here c.in-Ok.buffer) (map segment_view c.no_segments.result.items) ≡ view_at here c.in-Ok.buffer = ap (λ (ss : List SegmentBuffer). last_of (view_at here c.in-Ok.buffer) (map segment_view ss)) c.no_segments.ensures in
+    let at : begin_of (view_at here c.in-Ok.buffer) ≡ offset_at size (stable_place s.stable) s.active = ap (λ (bs : List Sealed). sealed_end c.in-Ok.buffer.written_len bs) first.sealed ∙ first.from ∙ offset in
     record {
-      site = ap (λ (x : Beginning). record { place = x.place; slot = x.slot }) c.in-Ok.ensures.beginning;
-      synced = search rules;
-      next = ap (λ n. n + length c.in-Ok.buffer.bytes.items) place ∙ ap (λ n. place_at size (stable_place s.stable) s.active + n) long;
-      ended = ap none_open c.in-Ok.ensures.buffer.reserved;
-      unsealed = c.in-Ok.ensures.buffer.sealed;
+      synced = ap (λ n. n + c.in-Ok.buffer.written_len) place ∙ ap (λ n. place_at size (stable_place s.stable) s.active + n) (first.from ∙ offset);
+      position = ap (λ (v : SegmentView). position_in c.begin.new.config.config.segment_size v (machine_of c.in-Ok.accountant)) current
+          ∙ (λ i. position_by (same i) (site i) (long i) (c.in-Ok.ensures.machine i));
+      reserved = ap (λ n. c.in-Ok.beginning.place + n) (sym first.from);
+      start = ap start_in current ∙ (λ i. record { place = (site i).place + at i; lid = (site i).slot + at i });
+      ended = subst (λ (ss : List SegmentBuffer). NoneOpenIn (line_at here c.in-Ok.buffer ss)) (sym c.no_segments.ensures) (none_open_one (view_at here c.in-Ok.buffer) (ap none_open first.reserved));
+      unsealed = subst (λ (ss : List SegmentBuffer). unwritten (line_at here c.in-Ok.buffer ss) ≡ []) (sym c.no_segments.ensures)
+          (ap (λ (bs : List Sealed). unwritten_in here c.in-Ok.buffer.bytes.items c.in-Ok.buffer.written_len bs c.in-Ok.buffer.reserved.items ++ []) first.sealed);
       pins = refl;
       fault = refl;
       sized = ap (λ (x : Config). x.segment_size) c.begin.ensures.config;

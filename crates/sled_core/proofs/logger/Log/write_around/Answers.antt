@@ -1,7 +1,146 @@
-use Rattle.std.proofs.Common.{ap}
-use Rattle.sled_store.specs.declared.config.RunningConfig.{RunningConfig}
+-- The segment that has the place is looked at, and in it the first sealed buffer that ends behind it.
+use Rattle.std.proofs.Common.{rules, ◌∙◌, ◌≤◌, ◌+◌, None, ap, sym, refl, arith, w64, SFits, List, subst, length}
+use Rattle.std.proofs.lemmas.Int.{to_z-of_z}
+use Rattle.sled_store.specs.Device.{Event}
+use Rattle.sled_store.specs.Script.{Performs, after_all}
 use Rattle.sled_store.proofs.Traces.ScriptLemmas.{performs_nothing}
+use Rattle.sled_core.proofs.Holds.KeptCalls.{kept_still}
+use Rattle.sled_core.proofs.Line.Advanced.{same_current}
+use Rattle.sled_core.proofs.Line.Outcomes.{answers_free, done_free, either, on_ok}
+use Rattle.sled_core.proofs.Line.Settles.{found_early, found_gone, found_held, held_at_found, held_none, inside, is_ready_there, looks, nothing_waits, number_within, settling_found, settling_it, some_held, wrote_all, wrote_current, wrote_place, written_found}
 use Rattle.sled_core.proofs.logger.Log.write_around.Goals as goal
 
-pub returns-in_err-seal_around-clause-at_most : goal.returns-in_err-seal_around-clause-at_most
-returns-in_err-seal_around-clause-at_most g c = performs_nothing _ _ _ (ap (λ (x : RunningConfig _ _). g.D.Device.trace x.device) c.seal_around.ensures.same.config)
+pub segment-requires : goal.segment-requires
+segment-requires g c =
+    let log = c.args.self.now in
+    let behind = c.requires.behind in
+    subst (λ k. k ≤ length log.behind.items) (sym c.segment_of-n.ensures) (number_within log c.args.place (omega (arith, behind)) c.requires.sealed)
+
+pub around-k-requires-clause-sealed : goal.around-k-requires-clause-sealed
+around-k-requires-clause-sealed g c =
+    let looked = looks c.args.self.now c.args.place c.segment_of-n.result c.segment.result.0 c.segment.result.1.now c.requires.behind c.requires.sealed c.segment_of-n.ensures c.segment.ensures.view c.segment.ensures.place in
+    let low = looked.low in
+    let up = inside c.args.self.now c.args.place looked in
+    omega (arith, low, up)
+
+-- It lies in what was written without a gap.
+
+pub returns-then-at-buffer-clause-written : goal.returns-then-at-buffer-clause-written
+returns-then-at-buffer-clause-written g c =
+    let looked = looks c.args.self.now c.args.place c.segment_of-n.result c.segment.result.0 c.segment.result.1.now c.requires.behind c.requires.sealed c.segment_of-n.ensures c.segment.ensures.view c.segment.ensures.place in
+    written_found c.args.self.now c.args.place looked (found_early c.args.self.now c.args.place looked c.if-at-buffer.true)
+
+pub returns-then-at-buffer-clause-calls : goal.returns-then-at-buffer-clause-calls
+returns-then-at-buffer-clause-calls g c =
+    let looked = looks c.args.self.now c.args.place c.segment_of-n.result c.segment.result.0 c.segment.result.1.now c.requires.behind c.requires.sealed c.segment_of-n.ensures c.segment.ensures.view c.segment.ensures.place in
+    sym (ap (λ (es : List Event). after_all es (g.D.Device.trace c.args.self.now.config.device)) (settling_found c.args.self.now c.args.place looked g.C.Checksum.sum_of None (found_early c.args.self.now c.args.place looked c.if-at-buffer.true)))
+
+pub returns-then-at-buffer-clause-at_most : goal.returns-then-at-buffer-clause-at_most
+returns-then-at-buffer-clause-at_most g c = performs_nothing _ _ _ refl
+
+pub returns-then-at-buffer-clause-keeps : goal.returns-then-at-buffer-clause-keeps
+returns-then-at-buffer-clause-keeps g c = kept_still g.D.Device.trace g.C.Checksum.sum_of c.args.self.now
+
+pub returns-then-at-buffer-clause-answers : goal.returns-then-at-buffer-clause-answers
+returns-then-at-buffer-clause-answers g c =
+    let looked = looks c.args.self.now c.args.place c.segment_of-n.result c.segment.result.0 c.segment.result.1.now c.requires.behind c.requires.sealed c.segment_of-n.ensures c.segment.ensures.view c.segment.ensures.place in
+    (held_at_found c.args.self.now c.args.place looked g.C.Checksum.sum_of None (found_early c.args.self.now c.args.place looked c.if-at-buffer.true), (λ never. never), refl, c.requires.fault, refl)
+
+pub returns-then-at-buffer-clause-one : goal.returns-then-at-buffer-clause-one
+returns-then-at-buffer-clause-one g c = λ all.
+    let looked = looks c.args.self.now c.args.place c.segment_of-n.result c.segment.result.0 c.segment.result.1.now c.requires.behind c.requires.sealed c.segment_of-n.ensures c.segment.ensures.view c.segment.ensures.place in
+    nothing_waits c.args.self.now c.args.place looked (found_early c.args.self.now c.args.place looked c.if-at-buffer.true) all
+
+-- That buffer is written.
+
+pub returns-then-b-clause-written : goal.returns-then-b-clause-written
+returns-then-b-clause-written g c =
+    let looked = looks c.args.self.now c.args.place c.segment_of-n.result c.segment.result.0 c.segment.result.1.now c.requires.behind c.requires.sealed c.segment_of-n.ensures c.segment.ensures.view c.segment.ensures.place in
+    written_found c.args.self.now c.args.place looked (found_gone c.args.self.now c.args.place looked c.around-k.result.0 c.around-k.result.1 c.if-at-buffer.false c.around-k.ensures.there c.around-k.ensures.point c.if-b.true)
+
+pub returns-then-b-clause-calls : goal.returns-then-b-clause-calls
+returns-then-b-clause-calls g c =
+    let looked = looks c.args.self.now c.args.place c.segment_of-n.result c.segment.result.0 c.segment.result.1.now c.requires.behind c.requires.sealed c.segment_of-n.ensures c.segment.ensures.view c.segment.ensures.place in
+    sym (ap (λ (es : List Event). after_all es (g.D.Device.trace c.args.self.now.config.device)) (settling_found c.args.self.now c.args.place looked g.C.Checksum.sum_of None (found_gone c.args.self.now c.args.place looked c.around-k.result.0 c.around-k.result.1 c.if-at-buffer.false c.around-k.ensures.there c.around-k.ensures.point c.if-b.true)))
+
+pub returns-then-b-clause-at_most : goal.returns-then-b-clause-at_most
+returns-then-b-clause-at_most g c = performs_nothing _ _ _ refl
+
+pub returns-then-b-clause-keeps : goal.returns-then-b-clause-keeps
+returns-then-b-clause-keeps g c = kept_still g.D.Device.trace g.C.Checksum.sum_of c.args.self.now
+
+pub returns-then-b-clause-answers : goal.returns-then-b-clause-answers
+returns-then-b-clause-answers g c =
+    let looked = looks c.args.self.now c.args.place c.segment_of-n.result c.segment.result.0 c.segment.result.1.now c.requires.behind c.requires.sealed c.segment_of-n.ensures c.segment.ensures.view c.segment.ensures.place in
+    (held_at_found c.args.self.now c.args.place looked g.C.Checksum.sum_of None (found_gone c.args.self.now c.args.place looked c.around-k.result.0 c.around-k.result.1 c.if-at-buffer.false c.around-k.ensures.there c.around-k.ensures.point c.if-b.true), (λ never. never), refl, c.requires.fault, refl)
+
+pub returns-then-b-clause-one : goal.returns-then-b-clause-one
+returns-then-b-clause-one g c = λ all.
+    let looked = looks c.args.self.now c.args.place c.segment_of-n.result c.segment.result.0 c.segment.result.1.now c.requires.behind c.requires.sealed c.segment_of-n.ensures c.segment.ensures.view c.segment.ensures.place in
+    nothing_waits c.args.self.now c.args.place looked (found_gone c.args.self.now c.args.place looked c.around-k.result.0 c.around-k.result.1 c.if-at-buffer.false c.around-k.ensures.there c.around-k.ensures.point c.if-b.true) all
+
+-- It has an open reservation.
+
+pub least_open-requires-clause-some : goal.least_open-requires-clause-some
+least_open-requires-clause-some g c =
+    let looked = looks c.args.self.now c.args.place c.segment_of-n.result c.segment.result.0 c.segment.result.1.now c.requires.behind c.requires.sealed c.segment_of-n.ensures c.segment.ensures.view c.segment.ensures.place in
+    some_held c.args.self.now c.args.place looked c.around-k.result.0 c.around-k.result.1 c.if-at-buffer.false c.around-k.ensures.there c.around-k.ensures.point (let some = c.if-b-gt0.true in omega (arith, some)) c.first_of-first.result c.first_of-first.ensures
+
+pub returns-then-b-gt0-clause-calls : goal.returns-then-b-gt0-clause-calls
+returns-then-b-gt0-clause-calls g c =
+    let looked = looks c.args.self.now c.args.place c.segment_of-n.result c.segment.result.0 c.segment.result.1.now c.requires.behind c.requires.sealed c.segment_of-n.ensures c.segment.ensures.view c.segment.ensures.place in
+    let held = found_held c.args.self.now c.args.place looked c.around-k.result.0 c.around-k.result.1 c.if-at-buffer.false c.around-k.ensures.there c.around-k.ensures.point c.if-b.false (let some = c.if-b-gt0.true in omega (arith, some)) g.C.Checksum.sum_of c.first_of-first.result c.first_of-first.ensures in
+    sym (ap (λ (es : List Event). after_all es (g.D.Device.trace c.args.self.now.config.device)) held.3)
+
+pub returns-then-b-gt0-clause-at_most : goal.returns-then-b-gt0-clause-at_most
+returns-then-b-gt0-clause-at_most g c = performs_nothing _ _ _ refl
+
+pub returns-then-b-gt0-clause-keeps : goal.returns-then-b-gt0-clause-keeps
+returns-then-b-gt0-clause-keeps g c = kept_still g.D.Device.trace g.C.Checksum.sum_of c.args.self.now
+
+pub returns-then-b-gt0-clause-answers : goal.returns-then-b-gt0-clause-answers
+returns-then-b-gt0-clause-answers g c =
+    let looked = looks c.args.self.now c.args.place c.segment_of-n.result c.segment.result.0 c.segment.result.1.now c.requires.behind c.requires.sealed c.segment_of-n.ensures c.segment.ensures.view c.segment.ensures.place in
+    let held = found_held c.args.self.now c.args.place looked c.around-k.result.0 c.around-k.result.1 c.if-at-buffer.false c.around-k.ensures.there c.around-k.ensures.point c.if-b.false (let some = c.if-b-gt0.true in omega (arith, some)) g.C.Checksum.sum_of c.first_of-first.result c.first_of-first.ensures in
+    let fits : SFits w64 c.least_open.result = search rules in
+    ((c.segment.result.0.place + held.0, held.2, to_z-of_z w64 c.least_open.result fits ∙ c.least_open.ensures held.0 held.1), (λ never. never), refl, c.requires.fault, refl)
+
+-- It is written.
+
+pub write_buffer-requires-clause-ready : goal.write_buffer-requires-clause-ready
+write_buffer-requires-clause-ready g c =
+    let looked = looks c.args.self.now c.args.place c.segment_of-n.result c.segment.result.0 c.segment.result.1.now c.requires.behind c.requires.sealed c.segment_of-n.ensures c.segment.ensures.view c.segment.ensures.place in
+    is_ready_there c.args.self.now c.args.place looked c.around-k.result.0 c.around-k.result.1 c.if-at-buffer.false c.around-k.ensures.there c.around-k.ensures.point c.if-b.false (let none = c.if-b-gt0.false in omega (arith, none))
+
+pub returns-clause-written : goal.returns-clause-written
+returns-clause-written g c =
+    let looked = looks c.args.self.now c.args.place c.segment_of-n.result c.segment.result.0 c.segment.result.1.now c.requires.behind c.requires.sealed c.segment_of-n.ensures c.segment.ensures.view c.segment.ensures.place in
+    on_ok c.write_buffer.result _ _ (λ wrote. wrote_place c.args.self.now c.args.place looked c.around-k.result.0 c.around-k.result.1 c.if-at-buffer.false c.around-k.ensures.there c.around-k.ensures.point c.if-b.false (let none = c.if-b-gt0.false in omega (arith, none)) c.write_buffer.new.self wrote) (c.write_buffer.ensures.line looked.segment looked.among)
+
+pub returns-clause-calls : goal.returns-clause-calls
+returns-clause-calls g c =
+    let looked = looks c.args.self.now c.args.place c.segment_of-n.result c.segment.result.0 c.segment.result.1.now c.requires.behind c.requires.sealed c.segment_of-n.ensures c.segment.ensures.view c.segment.ensures.place in
+    done_free c.write_buffer.result _ _ _ _ _ (λ made. made ∙ ap (λ (es : List Event). after_all es (g.D.Device.trace c.args.self.now.config.device)) (settling_it c.args.self.now c.args.place looked c.around-k.result.0 c.around-k.result.1 c.if-at-buffer.false c.around-k.ensures.there c.around-k.ensures.point c.if-b.false (let none = c.if-b-gt0.false in omega (arith, none)) g.C.Checksum.sum_of))
+    c.write_buffer.ensures.answers c.write_buffer.ensures.calls
+
+pub returns-clause-at_most : goal.returns-clause-at_most
+returns-clause-at_most g c =
+    let looked = looks c.args.self.now c.args.place c.segment_of-n.result c.segment.result.0 c.segment.result.1.now c.requires.behind c.requires.sealed c.segment_of-n.ensures c.segment.ensures.view c.segment.ensures.place in
+    subst (λ (es : List Event). Performs es (g.D.Device.trace c.args.self.now.config.device) (g.D.Device.trace c.write_buffer.new.self.config.device))
+    (settling_it c.args.self.now c.args.place looked c.around-k.result.0 c.around-k.result.1 c.if-at-buffer.false c.around-k.ensures.there c.around-k.ensures.point c.if-b.false (let none = c.if-b-gt0.false in omega (arith, none)) g.C.Checksum.sum_of) c.write_buffer.ensures.at_most
+
+pub returns-clause-answers : goal.returns-clause-answers
+returns-clause-answers g c =
+    let looked = looks c.args.self.now c.args.place c.segment_of-n.result c.segment.result.0 c.segment.result.1.now c.requires.behind c.requires.sealed c.segment_of-n.ensures c.segment.ensures.view c.segment.ensures.place in
+    answers_free c.write_buffer.result _ _ _ _ (held_none c.args.self.now c.args.place looked c.around-k.result.0 c.around-k.result.1 c.if-at-buffer.false c.around-k.ensures.there c.around-k.ensures.point c.if-b.false (let none = c.if-b-gt0.false in omega (arith, none)) g.C.Checksum.sum_of) c.write_buffer.ensures.answers
+
+pub returns-clause-current : goal.returns-clause-current
+returns-clause-current g c =
+    let looked = looks c.args.self.now c.args.place c.segment_of-n.result c.segment.result.0 c.segment.result.1.now c.requires.behind c.requires.sealed c.segment_of-n.ensures c.segment.ensures.view c.segment.ensures.place in
+    either c.write_buffer.result _ _ _ (λ wrote. wrote_current c.args.self.now c.args.place looked c.around-k.result.0 c.around-k.result.1 c.if-at-buffer.false c.around-k.ensures.there c.around-k.ensures.point c.if-b.false (let none = c.if-b-gt0.false in omega (arith, none)) c.write_buffer.new.self wrote)
+    (λ same. same_current c.args.self.now c.write_buffer.new.self same) (c.write_buffer.ensures.line looked.segment looked.among) c.write_buffer.ensures.same
+
+pub returns-clause-one : goal.returns-clause-one
+returns-clause-one g c = λ all.
+    let looked = looks c.args.self.now c.args.place c.segment_of-n.result c.segment.result.0 c.segment.result.1.now c.requires.behind c.requires.sealed c.segment_of-n.ensures c.segment.ensures.view c.segment.ensures.place in
+    on_ok c.write_buffer.result _ _ (λ wrote. wrote_all c.args.self.now c.args.place looked c.around-k.result.0 c.around-k.result.1 c.if-at-buffer.false c.around-k.ensures.there c.around-k.ensures.point c.if-b.false (let none = c.if-b-gt0.false in omega (arith, none)) c.write_buffer.new.self wrote all) (c.write_buffer.ensures.line looked.segment looked.among)

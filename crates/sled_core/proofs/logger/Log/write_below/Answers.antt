@@ -1,59 +1,60 @@
-use Rattle.std.proofs.Common.{◌≡◌, ◌∙◌, true, List, ap, sym, subst, arith, length}
-use Rattle.sled_store.specs.Device.{Event}
-use Rattle.sled_store.specs.Script.{Performs}
-use Rattle.sled_store.proofs.Traces.ScriptLemmas.{performs_behind, performs_more}
-use Rattle.sled_core.specs.Fits.{ready_below, writing_below, writing_buffer}
+-- The buffers that begin below the place are sealed first, and then written.
+use Rattle.std.proofs.Common.{◌≤◌, sym, subst, arith}
+use Rattle.sled_core.specs.declared.logger.Log.{Log}
+use Rattle.sled_core.specs.Fits.{current_begin}
 use Rattle.sled_core.proofs.Holds.KeptCalls.{kept_further}
-use Rattle.sled_core.proofs.Holds.Writes.{Advanced, advanced_further, advanced_still, calls_further, fewer_left, left_of_step}
+use Rattle.sled_core.proofs.Line.SealFirst.{SealedFor, first_answers, first_calls, first_performs, first_position, first_tickets, sealed_already, sealed_first, sealed_past, some_below, unchanged_performs}
+use Rattle.sled_core.proofs.logger.Log.write_below.Given.{Over}
+use Rattle.sled_core.proofs.logger.Log.write_below.Goals.{then-current_begin-to+in_ok-seal, else-current_begin-to}
 use Rattle.sled_core.proofs.logger.Log.write_below.Goals as goal
 
-pub loop-self-init : goal.loop-self-init
-loop-self-init g c = record { advanced = advanced_still g.D.Device.trace g.C.Checksum.sum_of g.D.Device.faults c.args.to c.args.self.now c.requires.fault c.requires.reserved }
+pub seal-requires : goal.seal-requires
+seal-requires g c = record { some = some_below c.args.self.now c.args.to c.requires.reserved (omega (arith, c.current_begin.ensures.is, c.if-current_begin-to.true)) }
 
-pub loop-self-smaller : goal.loop-self-smaller
-loop-self-smaller g c =
-    let ready : ready_below c.loop-self.self c.args.to ≡ true = sym c.has_ready_below.ensures ∙ c.loop-self-test.true in
-    let fewer = fewer_left c.loop-self.self c.args.to ready in
-    omega (arith, fewer, ap length c.in_ok-write_buffer.ensures.written.sealed)
+pub returns-in_err-seal-clause-at_most : goal.returns-in_err-seal-clause-at_most
+returns-in_err-seal-clause-at_most g c = unchanged_performs c.args.self.now c.seal.new.self c.in_err-seal.ensures.err g.D.Device.trace _
 
-pub loop-self-preserved : goal.loop-self-preserved
-loop-self-preserved g c =
-    let ready : ready_below c.loop-self.self c.args.to ≡ true = sym c.has_ready_below.ensures ∙ c.loop-self-test.true in
-    record {
-      advanced = advanced_further g.D.Device.trace g.C.Checksum.sum_of g.D.Device.faults c.args.to c.args.self.now c.loop-self.self c.write_buffer.new.self c.loop-self.invariant.advanced ready c.in_ok-write_buffer.ensures.written
-          c.write_buffer.ensures.keeps c.write_buffer.ensures.tickets c.write_buffer.ensures.position c.in_ok-write_buffer.ensures.calls c.in_ok-write_buffer.ensures.answers.1 c.in_ok-write_buffer.ensures.answers.2;
-    }
+pub write_sealed_below-requires-clause-sealed : goal.write_sealed_below-requires-clause-sealed
+write_sealed_below-requires-clause-sealed g c =
+    let old = c.args.self.now in
+    elim c.if-current_begin-to.branch [
+      | then-current_begin-to+in_ok-seal w ↦ subst (λ (l : Log _ _). c.args.to ≤ current_begin l) (sym w.self-is) (sealed_past g.C.Checksum.sum_of c.args.to old w.seal.new.self c.requires.reserved w.in_ok-seal.ensures.begins)
+      | else-current_begin-to w ↦ subst (λ (l : Log _ _). c.args.to ≤ current_begin l) (sym w.self-is) (omega (arith, c.current_begin.ensures.is, w.if-current_begin-to.false))
+    ]
 
--- A write failed.
-
-pub returns-in_err-write_buffer-clause-at_most : goal.returns-in_err-write_buffer-clause-at_most
-returns-in_err-write_buffer-clause-at_most g c =
-    let mid = c.loop-self.self in
-    let so_far : Advanced g.D.Device.trace g.C.Checksum.sum_of g.D.Device.faults c.args.to c.args.self.now mid = c.loop-self.invariant.advanced in
-    let ready : ready_below mid c.args.to ≡ true = sym c.has_ready_below.ensures ∙ c.loop-self-test.true in
-    let step = left_of_step mid c.args.to ready in
-    let left : Performs (writing_below mid c.args.to) (g.D.Device.trace mid.config.device) (g.D.Device.trace c.write_buffer.new.self.config.device) =
-    subst (λ (es : List Event). Performs es (g.D.Device.trace mid.config.device) (g.D.Device.trace c.write_buffer.new.self.config.device)) (sym step.1) (performs_more (writing_buffer mid 0) step.0 _ _ c.write_buffer.ensures.at_most) in
-    subst (λ (es : List Event). Performs es (g.D.Device.trace c.args.self.now.config.device) (g.D.Device.trace c.write_buffer.new.self.config.device)) (sym so_far.whole)
-    (performs_behind so_far.done (writing_below mid c.args.to) _ _ _ so_far.came left)
-
-pub returns-in_err-write_buffer-clause-keeps : goal.returns-in_err-write_buffer-clause-keeps
-returns-in_err-write_buffer-clause-keeps g c =
-    kept_further g.D.Device.trace g.C.Checksum.sum_of c.args.self.now c.loop-self.self c.write_buffer.new.self c.loop-self.invariant.advanced.keeps c.write_buffer.ensures.keeps
-
--- What is left is written at last.
+-- The log that is written of is the one with its current buffer sealed, or the one that it was.
+ready : (g : Over) (c : goal.After-write_sealed_below g) → SealedFor g.D.Device.trace g.C.Checksum.sum_of c.args.to c.args.self.now c.if-current_begin-to.self
+ready g c = elim c.if-current_begin-to.branch [
+  | then-current_begin-to+in_ok-seal w ↦
+      let did = w.in_ok-seal.ensures in
+      subst (λ (l : Log _ _). SealedFor g.D.Device.trace g.C.Checksum.sum_of c.args.to c.args.self.now l) (sym w.self-is)
+      (sealed_first g.D.Device.trace g.C.Checksum.sum_of c.args.to c.args.self.now w.seal.new.self c.requires.fault c.requires.reserved (omega (arith, c.current_begin.ensures.is, w.if-current_begin-to.true))
+      did.waiting did.buffers did.begins did.start did.keeps did.tickets did.same did.position did.answers.0)
+  | else-current_begin-to w ↦
+      subst (λ (l : Log _ _). SealedFor g.D.Device.trace g.C.Checksum.sum_of c.args.to c.args.self.now l) (sym w.self-is)
+      (sealed_already g.D.Device.trace g.C.Checksum.sum_of c.args.to c.args.self.now c.requires.fault c.requires.reserved (omega (arith, c.current_begin.ensures.is, w.if-current_begin-to.false)))
+]
 
 pub returns-clause-calls : goal.returns-clause-calls
-returns-clause-calls g c =
-    calls_further g.D.Device.trace g.C.Checksum.sum_of g.D.Device.faults c.args.to c.args.self.now c.loop-self.self c.write_last.new.self c.loop-self.invariant.advanced c.write_last.result c.write_last.ensures.calls
+returns-clause-calls g c = first_calls g.D.Device.trace g.C.Checksum.sum_of c.args.to c.args.self.now c.if-current_begin-to.self c.write_sealed_below.new.self (ready g c) c.write_sealed_below.result c.write_sealed_below.ensures.calls
 
 pub returns-clause-at_most : goal.returns-clause-at_most
-returns-clause-at_most g c =
-    let mid = c.loop-self.self in
-    let so_far : Advanced g.D.Device.trace g.C.Checksum.sum_of g.D.Device.faults c.args.to c.args.self.now mid = c.loop-self.invariant.advanced in
-    subst (λ (es : List Event). Performs es (g.D.Device.trace c.args.self.now.config.device) (g.D.Device.trace c.write_last.new.self.config.device)) (sym so_far.whole)
-    (performs_behind so_far.done (writing_below mid c.args.to) _ _ _ so_far.came c.write_last.ensures.at_most)
+returns-clause-at_most g c = first_performs g.D.Device.trace g.C.Checksum.sum_of c.args.to c.args.self.now c.if-current_begin-to.self c.write_sealed_below.new.self (ready g c) c.write_sealed_below.ensures.at_most
 
 pub returns-clause-keeps : goal.returns-clause-keeps
-returns-clause-keeps g c =
-    kept_further g.D.Device.trace g.C.Checksum.sum_of c.args.self.now c.loop-self.self c.write_last.new.self c.loop-self.invariant.advanced.keeps c.write_last.ensures.keeps
+returns-clause-keeps g c = kept_further g.D.Device.trace g.C.Checksum.sum_of c.args.self.now c.if-current_begin-to.self c.write_sealed_below.new.self (ready g c).keeps c.write_sealed_below.ensures.keeps
+
+pub returns-clause-tickets : goal.returns-clause-tickets
+returns-clause-tickets g c = first_tickets g.D.Device.trace g.C.Checksum.sum_of c.args.to c.args.self.now c.if-current_begin-to.self c.write_sealed_below.new.self (ready g c) c.write_sealed_below.ensures.tickets
+
+pub returns-clause-position : goal.returns-clause-position
+returns-clause-position g c = first_position g.D.Device.trace g.C.Checksum.sum_of c.args.to c.args.self.now c.if-current_begin-to.self c.write_sealed_below.new.self (ready g c) c.write_sealed_below.ensures.position
+
+pub returns-clause-answers : goal.returns-clause-answers
+returns-clause-answers g c =
+    first_answers g.D.Device.trace g.C.Checksum.sum_of c.args.to c.args.self.now c.if-current_begin-to.self c.write_sealed_below.new.self (ready g c) c.write_sealed_below.result g.D.Device.faults c.write_sealed_below.ensures.answers
+
+pub returns-clause-buffers : goal.returns-clause-buffers
+returns-clause-buffers g c =
+    let did = c.write_sealed_below.ensures in
+    (ready g c).writes c.write_sealed_below.new.self c.write_sealed_below.result did.current did.none did.one did.above did.some

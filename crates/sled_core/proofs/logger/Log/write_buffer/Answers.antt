@@ -1,115 +1,125 @@
-use Rattle.std.proofs.Common.{◌≡◌, ◌∙◌, ◌≤◌, ◌+◌, ◌-◌, ◌∷◌, [], List, ℕ, ap, sym, subst, refl, arith, take, drop, inl, inr}
-use Rattle.sled_store.specs.Device.{Event, Trace, NamesState, Wrote, Synced, state_of}
-use Rattle.sled_store.specs.Script.{Performs, after_all}
-use Rattle.sled_store.proofs.Traces.MomentLemmas.{at_last}
+use Rattle.std.proofs.Common.{◌≡◌, ◌∙◌, List, ℕ, ap, sym, subst, refl, arith, set, Some}
+use Rattle.std.specs.List.{slice_get}
+use Rattle.sled_store.specs.Accounts.{machine_of}
 use Rattle.sled_store.proofs.Traces.ScriptLemmas.{later_performed}
+use Rattle.sled_store.specs.declared.config.Config.{Config}
+use Rattle.sled_core.specs.Begun.{SegmentView, line_at}
+use Rattle.sled_core.specs.declared.iobuf.IoBuf.{IoBuf}
+use Rattle.sled_core.specs.declared.iobuf.SegmentPosition.{SegmentPosition}
+use Rattle.sled_core.specs.declared.logger.segments.SegmentBuffer.{SegmentBuffer}
 use Rattle.sled_core.specs.declared.logger.Log.{Log}
-use Rattle.sled_core.specs.Fits.{Holds, IsWrittenAt, writing_buffer}
+use Rattle.sled_core.specs.Fits.{AwaitsIn, Holds, NoneOpenIn, line_of, segment_size_of}
+use Rattle.sled_core.specs.Positions.{Position, position_in}
 use Rattle.sled_core.specs.Running.{Fits}
-use Rattle.sled_core.specs.SealedBuffers.{bytes_between, run_count, sealed_end, writing, written_at}
-use Rattle.sled_core.proofs.Flush.FlushFits.{fits_faulty, fits_same_device, flush_names}
-use Rattle.sled_core.proofs.Flush.FlushLemmas.{holds-faulty, holds-moved, memory_or_fault}
-use Rattle.sled_core.proofs.Holds.WholeLemmas.{plain_behind, plain_same}
-use Rattle.sled_core.proofs.Flush.SealedWrites.{ReadyAt, buffer_crash, buffer_left, fits_buffer, holds_buffer, ready_at, run_ended, run_grows, slots_buffer}
-use Rattle.sled_core.proofs.Holds.KeptTickets.{tickets_behind}
-use Rattle.sled_core.proofs.Holds.SlotLemmas.{slots_faulty, slots_same}
-use Rattle.sled_core.proofs.Sealed.Slices.{slice_between}
+use Rattle.sled_core.specs.Turned.{ChangesDevice, IsReadyIn, promoted, written_now}
+use Rattle.sled_core.specs.Waiting.{last_of}
+use Rattle.sled_core.proofs.Line.Faulty.{fits_with_same, holds_with_same}
+use Rattle.sled_core.proofs.Line.LogWrites.{KeepsInvariants, crash_write, end_grows, fits_done, fits_failed, holds_done, holds_failed, keeps_invariants, line_after, same_line, segments_written}
+use Rattle.sled_core.proofs.Line.Moves.{written_to}
+use Rattle.sled_core.proofs.Line.Promotes.{awaits_promoted, ended_promoted, last_promoted, last_set}
+use Rattle.sled_core.proofs.Line.Segments.{line_segments, nth_segment}
+use Rattle.sled_core.proofs.Line.WrittenTickets.{awaits_written, ended_written}
 use Rattle.sled_core.proofs.logger.Log.write_buffer.Goals as goal
 
--- the calls of the write of these bytes
-asked_calls : {D C : Type 0} (log : Log D C) (k from to : ℕ) (whole : List ℕ) (old new : Trace) → from ≡ sealed_end log.buffer.written_len (take k log.buffer.sealed.items) → to ≡ sealed_end log.buffer.written_len (take (k + 1) log.buffer.sealed.items) → from ≤ to
-    → whole ≡ log.buffer.bytes.items → Performs (Wrote (log.site.slot + from) (take (to - from) (drop from whole)) (take (to - from) (drop from whole)) ∷ Synced ∷ []) old new → Performs (writing_buffer log k) old new
-asked_calls log k from to whole old new at end rises same came =
-    subst (λ (xs : List Event). Performs xs old new)
-    (ap (λ (xs : List ℕ). Wrote (log.site.slot + from) xs xs ∷ Synced ∷ []) (slice_between whole log.buffer.bytes.items from to rises same)
-    ∙ (λ i. writing (log.site.slot + at i) (bytes_between log.buffer.bytes.items (at i) (end i)) []))
-    came
-
-asked_made : {D C : Type 0} (log : Log D C) (k from to : ℕ) (whole : List ℕ) (old new : Trace) → from ≡ sealed_end log.buffer.written_len (take k log.buffer.sealed.items) → to ≡ sealed_end log.buffer.written_len (take (k + 1) log.buffer.sealed.items) → from ≤ to
-    → whole ≡ log.buffer.bytes.items → new ≡ Synced ∷ Wrote (log.site.slot + from) (take (to - from) (drop from whole)) (take (to - from) (drop from whole)) ∷ old → new ≡ after_all (writing_buffer log k) old
-asked_made log k from to whole old new at end rises same came =
-    came ∙ ap (λ (xs : List ℕ). Synced ∷ Wrote (log.site.slot + from) xs xs ∷ old) (slice_between whole log.buffer.bytes.items from to rises same)
-    ∙ (λ i. after_all (writing (log.site.slot + at i) (bytes_between log.buffer.bytes.items (at i) (end i)) []) old)
-
-pub returns-in-Err-clause-at_most : goal.returns-in-Err-clause-at_most
-returns-in-Err-clause-at_most g c =
-    asked_calls c.args.self.now c.args.k c.span-from.result.0 c.span-from.result.1 c.deref.result.now _ _ c.span-from.ensures.from c.span-from.ensures.to c.span-from.ensures.rises c.deref.ensures.value c.write_out.ensures.calls
-
-pub returns-in-Err-clause-keeps : goal.returns-in-Err-clause-keeps
+pub returns-in_err-write_bytes-clause-keeps : goal.returns-in_err-write_bytes-clause-keeps
 unfolding Holds Fits
-returns-in-Err-clause-keeps g c =
+returns-in_err-write_bytes-clause-keeps g c =
     let old = c.args.self.now in
-    let came = returns-in-Err-clause-at_most g c in
-    let b : ReadyAt old c.args.k = ready_at old c.args.k c.requires.within c.requires.ready in
+    let mid = c.write_bytes.new.self in
+    let r = c.requires.ready in
+    let did = c.in_err-write_bytes.ensures in
+    let rest = did.rest in
+    let sizes : segment_size_of mid ≡ segment_size_of old = ap (λ (x : Config). x.segment_size) rest.config in
+    let slots = ap machine_of rest.accountant in
     record {
       goes_on = record {
-        config = record { config = refl; checksum = refl };
-        later = later_performed _ _ _ came;
-        stable = omega arith;
-        crash = λ H A f U fits. buffer_crash g.D.Device.trace g.C.Checksum.sum_of old c.args.k b.buffer b.there b.ready c.requires.fault H A f U fits.parts _ came;
+        config = record { config = rest.config; checksum = rest.checksum };
+        later = later_performed _ _ _ did.at_most;
+        stable = let same = ap written_to (same_line old mid rest) in omega (arith, same);
+        crash = λ H A f U fits. crash_write old c.args.n c.args.k r g.D.Device.trace g.C.Checksum.sum_of c.requires.fault (g.D.Device.trace mid.config.device) did.at_most H A f U fits;
       };
-      history = λ H holds.
-          elim (memory_or_fault c.in-Err.e c.in-Err.ensures.error) [
-            | inl memory ↦ holds-moved g.C.Checksum.sum_of _ _ _ _ _ _ _ _ H holds _ c.keep_fault.new.fault (ap state_of (c.in-Err.ensures.refused memory)) (c.keep_fault.ensures.memory memory ∙ sym c.requires.fault)
-            | inr fault ↦ holds-faulty g.C.Checksum.sum_of _ _ _ _ _ _ _ _ H holds _ c.in-Err.e c.keep_fault.new.fault (c.keep_fault.ensures.kept fault) (ap (λ (s : NamesState). s.file) c.write_out.ensures.names)
-          ];
-      fits = λ H A f U fits.
-          let names = flush_names _ _ _ _ c.write_out.ensures.calls in
-          elim (memory_or_fault c.in-Err.e c.in-Err.ensures.error) [
-            | inl memory ↦ record {
-              reach = fits.reach;
-              parts = fits_same_device g.C.Checksum.sum_of _ _ _ _ _ _ _ _ _ H A f U fits.parts _ c.keep_fault.new.fault (ap state_of (c.in-Err.ensures.refused memory)) (c.keep_fault.ensures.memory memory ∙ sym c.requires.fault);
-              plain = fits.plain;
-              slots = slots_same _ _ _ _ _ _ _ (ap (λ (t : Trace). (state_of t).log.bytes) (c.in-Err.ensures.refused memory)) (c.keep_fault.ensures.memory memory ∙ sym c.requires.fault) fits.slots;
-            }
-            | inr fault ↦ record {
-              reach = fits.reach;
-              parts = fits_faulty g.C.Checksum.sum_of _ _ _ _ _ _ _ _ _ H A f U fits.parts _ c.in-Err.e c.keep_fault.new.fault (c.keep_fault.ensures.kept fault) names.0 names.1
-                  (at_last _ _ _ (buffer_left g.D.Device.trace g.C.Checksum.sum_of old c.args.k b.buffer b.there b.ready c.requires.fault H A f U fits.parts _ came));
-              plain = fits.plain;
-              slots = slots_faulty _ _ _ _ _ _ _ c.in-Err.e (c.keep_fault.ensures.kept fault) fits.slots;
-            }
-          ];
+      history = λ H holds. holds_with_same g.C.Checksum.sum_of _ _ _ _ _ _ _ _ H sizes (same_line old mid rest) slots
+          (holds_failed old c.args.n c.args.k r g.D.Device.trace g.C.Checksum.sum_of c.requires.fault (g.D.Device.trace mid.config.device) did.at_most mid.fault did.refused H holds);
+      fits = λ H A f U fits. fits_with_same g.C.Checksum.sum_of _ _ _ _ _ _ _ _ _ _ H A f U sizes (same_line old mid rest) slots rest.pins
+          (fits_failed old c.args.n c.args.k r g.D.Device.trace g.C.Checksum.sum_of c.requires.fault (g.D.Device.trace mid.config.device) did.at_most mid.fault did.refused H A f U fits);
     }
 
-pub returns-clause-calls : goal.returns-clause-calls
-returns-clause-calls g c =
-    asked_made c.args.self.now c.args.k c.span-from.result.0 c.span-from.result.1 c.deref.result.now _ _ c.span-from.ensures.from c.span-from.ensures.to c.span-from.ensures.rises c.deref.ensures.value c.in_default.ensures.done
+-- The segments that are left keep what the type of a log asks.
+kept : {D C : Type 0} (old mid : Log D C) (n k : ℕ) (r : IsReadyIn (line_of old) n k) → ChangesDevice old mid → (b : IoBuf) (ss : List SegmentBuffer)
+    → ((site : SegmentPosition) (u : SegmentView) → slice_get (line_at site mid.buffer mid.behind.items) n ≡ Some u → line_at site b ss ≡ set (line_at site mid.buffer mid.behind.items) n (written_now k u))
+    → (site' : SegmentPosition) (b' : IoBuf) (ss' : List SegmentBuffer) → line_at site' b' ss' ≡ promoted mid.config.config.segment_size (line_at mid.site b ss) → (now : IsReadyIn (line_of mid) n k) × KeepsInvariants mid n k now site' b' ss'
+kept old mid n k r rest b ss marked site' b' ss' is =
+    let now : IsReadyIn (line_of mid) n k = subst (λ (l : List SegmentView). IsReadyIn l n k) (sym (same_line old mid rest)) r in
+    let still : ChangesDevice mid mid = record { config = refl; checksum = refl; site = refl; buffer = refl; behind = refl; reserved = refl; pins = refl; accountant = refl } in
+    (now, keeps_invariants mid n k now site' b' ss' (line_after mid mid n k now.segment still now.among b ss marked (line_at site' b' ss') is))
 
-pub returns-clause-at_most : goal.returns-clause-at_most
-returns-clause-at_most g c =
-    asked_calls c.args.self.now c.args.k c.span-from.result.0 c.span-from.result.1 c.deref.result.now _ _ c.span-from.ensures.from c.span-from.ensures.to c.span-from.ensures.rises c.deref.ensures.value c.write_out.ensures.calls
+pub invariant_of-self : goal.invariant_of-self
+invariant_of-self g c =
+    let mid = c.write_bytes.new.self in
+    let found = kept c.args.self.now mid c.args.n c.args.k c.requires.ready c.in_ok-write_bytes.ensures.rest c.mark_nth.new.buffer c.mark_nth.new.behind.items c.mark_nth.ensures c.promote.new.site c.promote.new.buffer c.promote.new.behind.items c.promote.ensures in
+    let is = found.1 in
+    record { in_segment = is.short; place_in_reach = is.place_small; slot_in_reach = is.slot_small; waits = is.waits; follow = is.follow; filled = is.filled; account = mid.account }
+
+pub returns-clause-line : goal.returns-clause-line
+returns-clause-line g c = λ v among.
+    line_after c.args.self.now c.write_bytes.new.self c.args.n c.args.k v c.in_ok-write_bytes.ensures.rest among c.mark_nth.new.buffer c.mark_nth.new.behind.items c.mark_nth.ensures
+    (line_at c.promote.new.site c.promote.new.buffer c.promote.new.behind.items) c.promote.ensures
 
 pub returns-clause-keeps : goal.returns-clause-keeps
 unfolding Holds Fits
 returns-clause-keeps g c =
     let old = c.args.self.now in
-    let came = returns-clause-at_most g c in
-    let made = returns-clause-calls g c in
-    let b : ReadyAt old c.args.k = ready_at old c.args.k c.requires.within c.requires.ready in
-    let is : IsWrittenAt c.args.k old.buffer c.mark_written.new.self =
-    record { sealed = c.mark_written.ensures.sealed; from = c.mark_written.ensures.from; reserved = c.mark_written.ensures.reserved; gone = c.mark_written.ensures.gone; bytes = c.mark_written.ensures.bytes } in
-    let grows = run_grows old c.args.k b in
+    let mid = c.write_bytes.new.self in
+    let r = c.requires.ready in
+    let did = c.in_ok-write_bytes.ensures in
+    let rest = did.rest in
+    let sizes : segment_size_of mid ≡ segment_size_of old = ap (λ (x : Config). x.segment_size) rest.config in
+    let slots = ap machine_of rest.accountant in
+    let line = returns-clause-line g c r.segment r.among in
     record {
       goes_on = record {
-        config = record { config = refl; checksum = refl };
-        later = later_performed _ _ _ came;
-        stable = omega (arith, grows, is.from);
-        crash = λ H A f U fits. buffer_crash g.D.Device.trace g.C.Checksum.sum_of old c.args.k b.buffer b.there b.ready c.requires.fault H A f U fits.parts _ came;
+        config = record { config = rest.config; checksum = rest.checksum };
+        later = later_performed _ _ _ did.at_most;
+        stable = let same = ap written_to line in let up = end_grows old c.args.n c.args.k r in omega (arith, same, up);
+        crash = λ H A f U fits. crash_write old c.args.n c.args.k r g.D.Device.trace g.C.Checksum.sum_of c.requires.fault (g.D.Device.trace mid.config.device) did.at_most H A f U fits;
       };
-      history = λ H holds. holds_buffer g.D.Device.trace g.C.Checksum.sum_of old c.args.k b.buffer b.there b.ready c.requires.fault H holds _ made c.mark_written.new.self is;
-      fits = λ H A f U fits.
-          let after = fits_buffer g.D.Device.trace g.C.Checksum.sum_of old c.args.k b.buffer b.there b.ready c.requires.fault H A f U fits.parts fits.plain _ made c.mark_written.new.self is in
-          record {
-            reach = after.0;
-            parts = after.1;
-            plain = plain_same _ _ is.reserved (plain_behind _ _ fits.plain);
-            slots = slots_buffer g.D.Device.trace g.C.Checksum.sum_of old c.args.k b.buffer b.there b.ready c.requires.fault H A f U fits.parts fits.slots _ made _;
-          };
+      history = λ H holds. holds_with_same g.C.Checksum.sum_of _ _ _ _ _ _ _ _ H sizes line slots
+          (holds_done old c.args.n c.args.k r g.D.Device.trace g.C.Checksum.sum_of c.requires.fault (g.D.Device.trace mid.config.device) did.calls mid.fault did.answers.1 H holds);
+      fits = λ H A f U fits. fits_with_same g.C.Checksum.sum_of _ _ _ _ _ _ _ _ _ _ H A f U sizes line slots rest.pins
+          (fits_done old c.args.n c.args.k r g.D.Device.trace g.C.Checksum.sum_of c.requires.fault (g.D.Device.trace mid.config.device) did.calls mid.fault did.answers.1 H A f U fits);
     }
 
 pub returns-clause-tickets : goal.returns-clause-tickets
 returns-clause-tickets g c =
     let old = c.args.self.now in
-    let b : ReadyAt old c.args.k = ready_at old c.args.k c.requires.within c.requires.ready in
-    tickets_behind old _ (run_count (written_at c.args.k old.buffer.sealed.items)) refl c.mark_written.ensures.bytes c.mark_written.ensures.reserved (run_ended old c.args.k b) c.mark_written.ensures.gone
+    let r = c.requires.ready in
+    let line = returns-clause-line g c r.segment r.among in
+    let is = nth_segment (segment_size_of old) old.site.place (line_of old) (line_segments old) c.args.n r.segment r.among in
+    record {
+      awaits = λ ticket m awaits.
+          subst (λ (l : List SegmentView). AwaitsIn l ticket m) (sym line)
+          (awaits_promoted (segment_size_of old) old.site.place (set (line_of old) c.args.n (written_now c.args.k r.segment)) ticket m old.config.config.least (segments_written old c.args.n c.args.k r)
+          (awaits_written (line_of old) c.args.n c.args.k r.segment r.buffer r.among r.there r.ready is.are ticket m awaits));
+      ended = λ ended.
+          subst NoneOpenIn (sym line)
+          (ended_promoted (segment_size_of old) (set (line_of old) c.args.n (written_now c.args.k r.segment)) (ended_written (line_of old) c.args.n c.args.k r.segment r.buffer r.among r.there r.ready is.are ended));
+    }
+
+pub returns-clause-position : goal.returns-clause-position
+returns-clause-position g c =
+    let old = c.args.self.now in
+    let mid = c.write_bytes.new.self in
+    let r = c.requires.ready in
+    let rest = c.in_ok-write_bytes.ensures.rest in
+    let sizes : segment_size_of mid ≡ segment_size_of old = ap (λ (x : Config). x.segment_size) rest.config in
+    let slots = ap machine_of rest.accountant in
+    let line = returns-clause-line g c r.segment r.among in
+    let At : SegmentView → Position = λ v. position_in (segment_size_of old) v (machine_of old.accountant) in
+    record {
+      position = (λ i. position_in (sizes i) (last_of r.segment (line i)) (slots i))
+          ∙ ap At (last_promoted (segment_size_of old) r.segment (set (line_of old) c.args.n (written_now c.args.k r.segment)))
+          ∙ last_set At r.segment (line_of old) c.args.n r.segment (written_now c.args.k r.segment) r.among refl;
+      reserved = rest.reserved;
+      pins = rest.pins;
+      size = sizes;
+    }

@@ -1,20 +1,19 @@
 -- The message comes to the history, unless the log keeps a failure.
-use Rattle.std.proofs.Common.{rules, pos, ◌≡◌, ◌<◌, ◌+◌, ◌∙◌, ◌∷◌, ◌==◌, ℕ, ℤ, Bool, None, Some, if◌then◌else◌, sym, ap, subst, arith, inl, inr, eq-eqb}
+use Rattle.std.proofs.Common.{rules, pos, ◌≡◌, ◌<◌, ◌+◌, ◌∙◌, ◌∷◌, ◌==◌, ℕ, ℤ, Bool, None, Some, if◌then◌else◌, sym, ap, subst, inl, inr, eq-eqb}
 use Rattle.std.proofs.lemmas.Bool.{cases_lt, ne_eqb}
-use Rattle.std.proofs.lemmas.List.Elements.{All-contains}
 use Rattle.std.specs.Int.{w64, cast_signed, cast_unsigned}
 use Rattle.sled_codec.specs.declared.result.DiskPtr.{DiskPtr}
 use Rattle.sled_codec.specs.History.{Message, History}
-use Rattle.sled_core.specs.Fits.{pins_of, next_place, fault_of}
-use Rattle.sled_core.proofs.Holds.ReachLemmas.{fits_apart, fits_reach, awaited, next_small}
+use Rattle.sled_core.specs.Fits.{pins_of, fault_of}
+use Rattle.sled_core.proofs.Holds.ReachLemmas.{fits_apart, awaited, awaited_small}
 use Rattle.sled_log.specs.declared.session.step.Opened.{Opened}
 use Rattle.sled_log.specs.declared.session.command.Command.TheVariants as command
 use Rattle.sled_log.specs.declared.session.step.Phase.TheVariants as phase
 use Rattle.sled_log.specs.declared.session.command.Reply.TheVariants as reply
-use Rattle.sled_log.specs.RunPhases.{HasMessageOf, IsOpenAt, CarriesOutAt, Unstored, seen, stands, view_by}
+use Rattle.sled_log.specs.RunPhases.{Continues, HasMessageOf, IsOpenAt, CarriesOutAt, Unstored, seen, stands, view_by}
 use Rattle.sled_core.specs.Running.{Fits}
 use Rattle.sled_log.proofs.Sessions.RunLemmas.{place_back, complete_failed, none_failed}
-use Rattle.sled_log.proofs.Sessions.RunHistories.{completed, still_has, has_new, new_there}
+use Rattle.sled_log.proofs.Sessions.RunHistories.{completed, still_has, has_new}
 use Rattle.sled_log.proofs.session.step.complete.Goals as goal
 use Rattle.sled_log.proofs.session.step.complete.Goals.{then-page-opened, else-page-opened}
 
@@ -35,8 +34,7 @@ returns-after-page-opened-clause-step g c = λ k at.
     let fault : fault_of old ≡ None = c.in-Ok.ensures.answers in
     let formed = completed k.history H' m opened.formed waits.may_come done.1 (fits_apart trace sum new H' k.acknowledged k.floor (m ∷ opened.unmarked) done.2) in
     let both = awaited old c.args.ticket.reservation m waits.awaits in
-    let small = All-contains (λ x. x.place < next_place new) H'.messages m (fits_reach trace sum new H' k.acknowledged k.floor (m ∷ opened.unmarked) done.2) (new_there k.history H' m done.1) in
-    let lies : pos m.place ≡ cast_signed w64 (cast_unsigned w64 c.in-Ok.place) = place_back c.in-Ok.place m.place (c.in-Ok.ensures.place.0 ∙ sym both.0) (let far = next_small new in omega (arith, small, far)) in
+    let lies : pos m.place ≡ cast_signed w64 (cast_unsigned w64 c.in-Ok.place) = place_back c.in-Ok.place m.place (c.in-Ok.ensures.place.0 ∙ sym both.0) (awaited_small old c.args.ticket.reservation m waits.awaits) in
     let points : m.pointer ≡ c.in-Ok.pointer = both.1 ∙ sym c.in-Ok.ensures.place.1 in
     let device : view new.config.device ≡ view old.config.device = ap (λ x. view x.device) same.config in
     let l : Unstored = record { history = H'; acknowledged = k.acknowledged; floor = k.floor; reserved = None } in
@@ -63,7 +61,7 @@ returns-after-page-opened-clause-step g c = λ k at.
             history = H';
             acknowledged = k.acknowledged;
             floor = k.floor;
-            log = Some (record { site = same.site i; next = c.complete.ensures.next i; stable = same.synced i; begun = sym is i; fault = same.fault i; reserved = None });
+            log = Some (record { position = c.complete.ensures.position.position i; stable = same.synced i; end = c.complete.ensures.position.reserved i; waiting = c.complete.ensures.buffers.waiting i; start = c.complete.ensures.buffers.start i; begun = sym is i; fault = same.fault i; reserved = None });
           };
         },
         opens begun has,
@@ -105,7 +103,7 @@ returns-in-Err-clause-step g c = λ k at.
           history = k.history;
           acknowledged = k.acknowledged;
           floor = k.floor;
-          log = Some (record { site = same.site i; next = c.complete.ensures.next i; stable = same.synced i; begun = given.begun; fault = same.fault i; reserved = None });
+          log = Some (record { position = c.complete.ensures.position.position i; stable = same.synced i; end = c.complete.ensures.position.reserved i; waiting = c.complete.ensures.buffers.waiting i; start = c.complete.ensures.buffers.start i; begun = given.begun; fault = same.fault i; reserved = None });
         }),
         record {
           formed = opened.formed;
@@ -119,3 +117,15 @@ returns-in-Err-clause-step g c = λ k at.
 
 pub returns-in-Err-clause-on : goal.returns-in-Err-clause-on
 returns-in-Err-clause-on g c = absurd (none_failed (ℤ × DiskPtr) c.in-Err.e _ c.in-Err.ensures.answers c.requires.one_open.fault)
+
+pub returns-after-page-opened-clause-on : goal.returns-after-page-opened-clause-on
+returns-after-page-opened-clause-on g c =
+    let Goes : Opened g.row.D.Denot g.row.C.Denot → Type 0 = λ x. Continues g.D.Device.trace (phase.Waiting c.args.opened c.args.ticket) (phase.Open x) in
+    let go : (begun : ℕ) → Goes (record { log = c.complete.new.self; guard = c.args.opened.guard; begun = begun }) = λ begun. record {
+      runs_on = record { later = c.complete.ensures.goes_on.later; kept = c.complete.ensures.goes_on.config };
+      can_go_on = c.in-Ok.ensures.ended c.requires.one_open.only;
+    } in
+    elim c.if-page-opened.branch [
+      | then-page-opened w ↦ subst Goes (sym w.opened-is) (go (c.args.opened.begun + 1))
+      | else-page-opened w ↦ subst Goes (sym w.opened-is) (go c.args.opened.begun)
+    ]

@@ -55,10 +55,10 @@ returns-in-Ok-clause-step g c = λ k at.
             begun = has_of_table k.history cut s.pages good.table;
           } in
           let started = c.start.ensures.starts l recovered in
-          let log = subst (λ n. log_in c.start.result.0 None ≡ log_shown n (length_of new) s c.start.result.1) sizes started.log in
+          let log = subst (λ n. log_in c.start.result.0 None ≡ log_shown n (length_of mid) s c.start.result.1) sizes started.log in
           let why = subst (λ n. SaysWhy c.start.result.1 n new.failures) c.in-Ok.ensures.answers started.why in (
             l,
-            open_step sum size old new k.history k.acknowledged k.floor s c.start.result.1 _ c.start.ensures.shows
+            open_step sum size old mid new k.history k.acknowledged k.floor s c.start.result.1 _ c.start.ensures.shows acts
                 (record { good = start_good sum size (let least = given.least in omega (arith, least)) mid new s c.start.result.1 c.start.ensures.shows acts k.history k.acknowledged k.floor good; active = active }) why
                 (λ i. record { device = new; history = l.history; acknowledged = l.acknowledged; floor = l.floor; log = log i }),
             started.at,

@@ -3,13 +3,10 @@ use Rattle.std.proofs.Common.{◌≡◌, ◌<◌, ◌+◌, ◌∙◌, ℕ, [], N
 use Rattle.std.proofs.lemmas.List.{length-map}
 use Rattle.sled_codec.specs.Snapshots.{SnapshotModel, model_of, stable_place}
 use Rattle.sled_store.specs.Device.{Trace, state_of}
-use Rattle.sled_store.specs.Script.{after_all}
 use Rattle.sled_store.proofs.Traces.MomentLemmas.{at_last}
-use Rattle.sled_core.specs.Fits.{NoneOpen, NoneSealed, next_place, site_of, synced_end, pins_of, fault_of, device_of}
+use Rattle.sled_core.specs.Fits.{NoneOpen, fault_of, pins_of, position_of, reserved_end, start_of, synced_end, waiting_of}
 use Rattle.sled_core.specs.Recoverable.{LeavesRecoverable}
-use Rattle.sled_core.specs.Starts.{site_from}
-use Rattle.sled_core.proofs.Start.StartedSite.{same_site}
-use Rattle.sled_log.specs.Runs.{starting}
+use Rattle.sled_core.specs.Waiting.{spans}
 use Rattle.sled_log.proofs.Sessions.RunLemmas.{later_is, later_both, start_cause}
 use Rattle.sled_log.proofs.Sessions.RunLogs.{starts_at}
 use Rattle.sled_log.proofs.session.step.start.Goals as goal
@@ -34,16 +31,17 @@ returns-in-Ok-clause-starts g c = λ k at.
     let new = c.pin-guard.new.self in
     let some : 0 < size = let least = c.args.config.config.least in omega (arith, least) in
     let place = starts_at size (stable_place s.stable) s.active some at.active in
-    let next : next_place new ≡ _ = ap next_place taken ∙ begins.next ∙ place.1 in
-    let stable : synced_end new ≡ _ = ap synced_end taken ∙ begins.synced ∙ place.0 in
+    let position : position_of new ≡ _ = ap position_of taken ∙ begins.position in
+    let stable : synced_end new ≡ stable_place s.stable = ap synced_end taken ∙ begins.synced ∙ place in
+    let end : reserved_end new ≡ stable_place s.stable = ap reserved_end taken ∙ begins.reserved ∙ begins.synced ∙ place in
+    let waiting : spans (waiting_of new) ≡ [] = ap (λ x. spans (waiting_of x)) taken ∙ ap spans begins.unsealed in
+    let first : start_of new ≡ _ = ap start_of taken ∙ begins.start in
     let fault : fault_of new ≡ None = ap fault_of taken ∙ begins.fault in
     let pages : length c.args.snapshot.pt.items ≡ length s.pages = simp length-map in
     let begun : c.len-begun.result ≡ length s.pages = search rules ∙ pages in
     let pinned : pins_of new ≡ 1 = ap pins_of taken ∙ ap (λ n. n + 1) begins.pins in
-    let started : trace (device_of new) ≡ after_all (starting size old s) old = ap (λ l. trace l.config.device) taken ∙ c.in-Ok.ensures.made in
-    let site : site_of new ≡ site_from size (length (state_of (trace (device_of new))).log.bytes) s = ap site_of taken ∙ begins.site ∙ sym (same_site size some s old (trace (device_of new)) started) in
     record {
-      log = λ i. Some (record { site = site i; next = next i; stable = stable i; begun = begun i; fault = fault i; reserved = None });
+      log = λ i. Some (record { position = position i; stable = stable i; end = end i; waiting = waiting i; start = first i; begun = begun i; fault = fault i; reserved = None });
       at = record {
         formed = at.closed.formed;
         unmarked = [];
@@ -63,7 +61,7 @@ returns-in-Ok-clause-on g c =
         later = later_both (trace c.args.config.device) (trace c.in-Ok.log.config.device) (trace c.pin-guard.new.self.config.device) c.in-Ok.ensures.later (later_is _ _ (ap (λ l. trace l.config.device) taken));
         kept = record { config = ap (λ l. l.config.config) taken ∙ c.in-Ok.ensures.config.config; checksum = ap (λ l. l.config.checksum) taken ∙ c.in-Ok.ensures.config.checksum };
       };
-      can_go_on = subst (λ l. NoneOpen l × NoneSealed l) (sym taken) (c.in-Ok.ensures.begins.ended, c.in-Ok.ensures.begins.unsealed);
+      can_go_on = subst (λ l. NoneOpen l) (sym taken) c.in-Ok.ensures.begins.ended;
     }
 
 -- a start that was refused left what can be recovered

@@ -1,0 +1,195 @@
+-- A call that writes one buffer behind another, by place, and how far it came.
+use Rattle.std.proofs.Common.{◌≡◌, ◌∙◌, ◌⊎◌, ◌≤◌, ◌<◌, ◌+◌, ℕ, true, false, List, [], ◌∷◌, ◌++◌, length, map, set, Option, None, Some, Err, refl, sym, ap, subst, arith, inl, inr, append_assoc}
+use Rattle.std.specs.List.{Contains}
+use Rattle.std.specs.declared.io.Error.{Error as IoError}
+use Rattle.std.proofs.lemmas.List.{append-nil}
+use Rattle.sled_codec.specs.declared.result.Error.{Error}
+use Rattle.sled_codec.specs.declared.result.Error.TheVariants.{Io, OutOfMemory}
+use Rattle.sled_store.specs.Device.{Event, Trace}
+use Rattle.sled_store.specs.Script.{Performs, after_all}
+use Rattle.sled_store.proofs.Segments.Elements.{in_rest}
+use Rattle.sled_store.proofs.Traces.ScriptLemmas.{after_joined, performs_behind, performs_more}
+use Rattle.sled_core.specs.Begun.{SegmentView, segment_view, view_at}
+use Rattle.sled_core.specs.declared.logger.Log.{Log}
+use Rattle.sled_core.specs.Causes.{Answers, HeldAnswers}
+use Rattle.sled_core.specs.Fits.{KeepsTickets, current_begin, device_of, fault_of, holding_below, line_of, start_of, synced_end, waiting_of, writing_below}
+use Rattle.sled_core.specs.Keeps.{Preserves, SamePosition}
+use Rattle.sled_core.specs.Turned.{IsReadyIn, promoted, ready_below, write_in, written_now}
+use Rattle.sled_core.specs.Waiting.{BufferAt, held_below, unwritten, writes_below}
+use Rattle.sled_core.proofs.Holds.KeptCalls.{kept_further, kept_still, position_further, position_still, tickets_further, tickets_still}
+use Rattle.sled_core.proofs.Line.Below.{BeginFrom, IsFirst, IsStuck, first_fewer, first_holds, first_there_ready, first_writes, line_first, line_past, line_stuck}
+use Rattle.sled_core.proofs.Line.Current.{current_holds, current_writes}
+use Rattle.sled_core.proofs.Line.LogSpans.{IsLeft, left_all, left_further, written_starts}
+use Rattle.sled_core.proofs.Line.Lying.{end_of, promoted_end, set_end}
+use Rattle.sled_core.proofs.Line.Segments.{line_segments}
+use Rattle.std.proofs.lemmas.List.{length-map}
+
+-- the first segment of a log, and those behind it
+abbrev pub first_view : {D C : Type 0} → Log D C → SegmentView
+first_view log = view_at log.site log.buffer
+
+abbrev pub views_behind : {D C : Type 0} → Log D C → List SegmentView
+views_behind log = map segment_view log.behind.items
+
+-- what a log keeps of whether its first segment is wholly on the device
+pub waits_behind : {D C : Type 0} (log : Log D C) → 0 < length (views_behind log) → log.buffer.written_len < log.config.config.segment_size
+waits_behind log some = log.waits (omega (arith, some, length-map log.behind.items segment_view))
+
+-- The first sealed buffer can be written.
+pub ready_in : {D C : Type 0} (log : Log D C) (to : ℕ) → ready_below (line_of log) to ≡ true → IsReadyIn (line_of log) 0 0
+ready_in log to ready = let first = first_there_ready to (first_view log) (views_behind log) ready in record { segment = first_view log; among = refl; buffer = first.0; there = first.1; ready = first.2 }
+
+pub same_current : {D C : Type 0} (old new : Log D C) → line_of new ≡ line_of old → current_begin new ≡ current_begin old
+same_current old new same = ap end_of same
+
+-- A call makes of a log's segments what the write of that one does.
+abbrev pub FirstWritten : {D C : Type 0} → Log D C → Log D C → Type 0
+FirstWritten mid new = line_of new ≡ promoted mid.config.config.segment_size (set (line_of mid) 0 (written_now 0 (first_view mid)))
+
+pub first_step : {D C : Type 0} (to : ℕ) (mid new : Log D C) → ready_below (line_of mid) to ≡ true → FirstWritten mid new → IsFirst to (waiting_of mid) (waiting_of new) (write_in (line_of mid) 0 0)
+first_step to mid new ready is =
+    subst (λ (l : List BufferAt). IsFirst to (waiting_of mid) l (write_in (line_of mid) 0 0)) (sym (ap unwritten is))
+    (line_first mid.config.config.segment_size mid.site.place to (first_view mid) (views_behind mid) (line_segments mid) ready)
+
+-- the first segment's stable end
+abbrev end_synced : List SegmentView → ℕ
+end_synced [] = 0
+end_synced (v ∷ vs) = v.parts.site.place + v.parts.written_len
+
+pub same_synced : {D C : Type 0} (old new : Log D C) → line_of new ≡ line_of old → synced_end new ≡ synced_end old
+same_synced old new same = ap end_synced same
+
+module _ {D C : Type 0} (trace : D → Trace) (sum : List ℕ → ℕ) (faults : D → ℕ) (to : ℕ) where
+  -- Some of the buffers that begin below a place were written, and the others are left.
+  pub record Advanced (old now : Log D C) : Type 0 where
+    pub fault : fault_of now ≡ None
+    pub counted : faults (device_of now) ≡ faults (device_of old)
+    pub keeps : Preserves trace sum old now
+    pub tickets : KeepsTickets old now
+    pub position : SamePosition old now
+    pub done : List Event
+    pub whole : writes_below to (waiting_of old) ≡ done ++ writes_below to (waiting_of now)
+    pub came : trace (device_of now) ≡ after_all done (trace (device_of old))
+    pub held : held_below to (waiting_of old) ≡ held_below to (waiting_of now)
+    pub current : current_begin now ≡ current_begin old
+    pub below : ((b : BufferAt) → Contains (waiting_of old) b → b.place < to) → (b : BufferAt) → Contains (waiting_of now) b → b.place < to
+    -- where there was one at most, it is left or written
+    pub one : length (waiting_of old) ≤ 1 → (line_of now ≡ line_of old) ⊎ (waiting_of now ≡ [])
+    pub left : IsLeft to (waiting_of old) (waiting_of now)
+    pub start : start_of now ≡ start_of old
+
+  pub advanced_still : (log : Log D C) → fault_of log ≡ None → Advanced log log
+  advanced_still log fault = record {
+    fault = fault;
+    counted = refl;
+    keeps = kept_still trace sum log;
+    tickets = tickets_still log;
+    position = position_still log;
+    done = [];
+    whole = refl;
+    came = refl;
+    held = refl;
+    current = refl;
+    below = λ below. below;
+    one = λ few. inl refl;
+    left = left_all to (waiting_of log);
+    start = refl;
+  }
+
+  -- One more is written.
+  pub advanced_further : (old mid new : Log D C) → Advanced old mid → ready_below (line_of mid) to ≡ true → FirstWritten mid new → Preserves trace sum mid new → KeepsTickets mid new → SamePosition mid new
+      → trace (device_of new) ≡ after_all (write_in (line_of mid) 0 0) (trace (device_of mid)) → fault_of new ≡ None → faults (device_of new) ≡ faults (device_of mid) → Advanced old new
+  advanced_further old mid new so_far ready is keeps tickets position came fault counted =
+      let step = first_step to mid new ready is in
+      let calls : List Event = write_in (line_of mid) 0 0 in
+      let size : ℕ = mid.config.config.segment_size in
+      record {
+        fault = fault;
+        counted = counted ∙ so_far.counted;
+        keeps = kept_further trace sum old mid new so_far.keeps keeps;
+        tickets = tickets_further old mid new so_far.tickets tickets;
+        position = position_further old mid new so_far.position position;
+        done = so_far.done ++ calls;
+        whole = so_far.whole ∙ ap (λ (es : List Event). so_far.done ++ es) (first_writes to (waiting_of mid) (waiting_of new) calls step) ∙ sym (append_assoc so_far.done calls (writes_below to (waiting_of new)));
+        came = came ∙ ap (after_all calls) so_far.came ∙ sym (after_joined so_far.done calls (trace (device_of old)));
+        held = so_far.held ∙ first_holds to (waiting_of mid) (waiting_of new) calls step;
+        current = ap end_of is ∙ promoted_end size (set (line_of mid) 0 (written_now 0 (first_view mid))) ∙ set_end (line_of mid) 0 (first_view mid) 0 refl ∙ so_far.current;
+        below = λ below b there. so_far.below below b (subst (λ (l : List BufferAt). Contains l b) (sym step.is) (in_rest step.first b (waiting_of new) there));
+        one = λ few. inr (by_left step few (so_far.one few));
+        left = left_further to (waiting_of old) (waiting_of mid) (waiting_of new) calls so_far.left step;
+        start = written_starts mid new size 0 (first_view mid) 0 refl is ∙ so_far.start;
+      }
+    where
+      by_few : (bs : List BufferAt) → length bs ≤ 0 → bs ≡ []
+      by_few [] le = refl
+      by_few (b ∷ bs) le = absurd (omega (arith, le))
+
+      by_left : IsFirst to (waiting_of mid) (waiting_of new) (write_in (line_of mid) 0 0) → length (waiting_of old) ≤ 1 → (line_of mid ≡ line_of old) ⊎ (waiting_of mid ≡ []) → waiting_of new ≡ []
+      by_left step few (inl same) =
+          let all = first_fewer to (waiting_of mid) (waiting_of new) (write_in (line_of mid) 0 0) step in
+          let count : length (waiting_of mid) ≡ length (waiting_of old) = ap (λ (vs : List SegmentView). length (unwritten vs)) same in
+          by_few (waiting_of new) (omega (arith, few, all, count))
+      by_left step few (inr none) = let all = first_fewer to (waiting_of mid) (waiting_of new) (write_in (line_of mid) 0 0) step in absurd (omega (arith, all, ap length none))
+
+  -- The calls and the one that failed are among those of all.
+  pub failed_further : (old mid new : Log D C) → to ≤ current_begin old → Advanced old mid → ready_below (line_of mid) to ≡ true → Performs (write_in (line_of mid) 0 0) (trace (device_of mid)) (trace (device_of new))
+      → Performs (writing_below sum old to) (trace (device_of old)) (trace (device_of new))
+  failed_further old mid new sealed so_far ready most =
+      let size : ℕ = mid.config.config.segment_size in
+      let step = line_first size mid.site.place to (first_view mid) (views_behind mid) (line_segments mid) ready in
+      let calls : List Event = write_in (line_of mid) 0 0 in
+      let after : List BufferAt = unwritten (promoted size (set (line_of mid) 0 (written_now 0 (first_view mid)))) in
+      let left : writes_below to (waiting_of mid) ≡ calls ++ writes_below to after = first_writes to (waiting_of mid) after calls step in
+      let all : writing_below sum old to ≡ so_far.done ++ (calls ++ writes_below to after) =
+      current_writes sum old.config.config.segment_size old.site.place to (first_view old) (views_behind old) (line_segments old) sealed ∙ so_far.whole ∙ ap (λ (es : List Event). so_far.done ++ es) left in
+      subst (λ (es : List Event). Performs es (trace (device_of old)) (trace (device_of new))) (sym all)
+      (performs_behind so_far.done (calls ++ writes_below to after) _ _ _ so_far.came (performs_more calls (writes_below to after) _ _ most))
+
+  -- Where there was one at most, and it can be written, none was.
+  pub failed_one : (old mid new : Log D C) → Advanced old mid → ready_below (line_of mid) to ≡ true → line_of new ≡ line_of mid → length (waiting_of old) ≤ 1 → synced_end new ≡ synced_end old
+  failed_one old mid new so_far ready same few = by_left (so_far.one few) where
+    by_left : (line_of mid ≡ line_of old) ⊎ (waiting_of mid ≡ []) → synced_end new ≡ synced_end old
+    by_left (inl is) = same_synced old new (same ∙ is)
+    by_left (inr none) =
+        let size : ℕ = mid.config.config.segment_size in
+        let step = line_first size mid.site.place to (first_view mid) (views_behind mid) (line_segments mid) ready in
+        absurd (omega (arith, ap length step.is, ap length none))
+
+  pub failed_tickets : (old mid new : Log D C) → Advanced old mid → KeepsTickets mid new → KeepsTickets old new
+  failed_tickets old mid new so_far tickets = tickets_further old mid new so_far.tickets tickets
+
+  pub failed_position : (old mid new : Log D C) → Advanced old mid → SamePosition mid new → SamePosition old new
+  failed_position old mid new so_far position = position_further old mid new so_far.position position
+
+  -- Where nothing is left to write, all was made.
+  pub all_made : (old now : Log D C) → to ≤ current_begin old → Advanced old now → writes_below to (waiting_of now) ≡ [] → trace (device_of now) ≡ after_all (writing_below sum old to) (trace (device_of old))
+  all_made old now sealed so_far none =
+      let all : writing_below sum old to ≡ so_far.done =
+      current_writes sum old.config.config.segment_size old.site.place to (first_view old) (views_behind old) (line_segments old) sealed ∙ so_far.whole ∙ ap (λ (es : List Event). so_far.done ++ es) none ∙ append-nil so_far.done in
+      so_far.came ∙ ap (λ (es : List Event). after_all es (trace (device_of old))) (sym all)
+
+  pub holds_up : (old now : Log D C) → to ≤ current_begin old → Advanced old now → holding_below sum old to ≡ held_below to (waiting_of now)
+  holds_up old now sealed so_far = current_holds sum old.config.config.segment_size old.site.place to (first_view old) (views_behind old) (line_segments old) sealed ∙ so_far.held
+
+  -- Where all before the place is written, nothing is left.
+  pub past_left : (now : Log D C) → to ≤ synced_end now → BeginFrom to (waiting_of now)
+  past_left now past = line_past now.config.config.segment_size now.site.place to (first_view now) (views_behind now) (line_segments now) past
+
+  -- Where it isn't, and the first sealed buffer can't be written, that has an open reservation.
+  pub stuck_left : (old now : Log D C) → to ≤ current_begin old → Advanced old now → synced_end now < to → ready_below (line_of now) to ≡ false → IsStuck to now.site.place (waiting_of now) now.buffer.reserved.items
+  stuck_left old now sealed so_far below stuck =
+      let current = so_far.current in
+      line_stuck now.config.config.segment_size now.site.place to now.reserved_to (first_view now) (views_behind now) (line_segments now) now.filled (waits_behind now) below (omega (arith, current, sealed)) stuck
+
+  -- one that was there at most isn't written then
+  pub stuck_one : (old now : Log D C) → Advanced old now → IsStuck to now.site.place (waiting_of now) now.buffer.reserved.items → length (waiting_of old) ≤ 1 → synced_end now ≡ synced_end old
+  stuck_one old now so_far stuck few = by_left (so_far.one few) where
+    by_left : (line_of now ≡ line_of old) ⊎ (waiting_of now ≡ []) → synced_end now ≡ synced_end old
+    by_left (inl same) = same_synced old now same
+    by_left (inr none) = let some : Some (now.site.place + stuck.from) ≡ None = sym stuck.holds ∙ ap (held_below to) none in cc
+
+-- What a call answers that writes a buffer, in a call that nothing holds up so far.
+pub write_failed : (T S : Type 0) (e : Error) (held : Option ℕ) (used : Type 0) (now : Option IoError) (before mid after : ℕ) → mid ≡ before → Answers {T = T} (Err e) None now mid after → HeldAnswers {T = S} (Err e) held used None now before after
+write_failed T S (Io e) held used now before mid after same answers = subst (λ n. HeldAnswers {T = S} (Err (Io e)) held used None now n after) same answers
+write_failed T S OutOfMemory held used now before mid after same answers = subst (λ n. HeldAnswers {T = S} (Err OutOfMemory) held used None now n after) same answers
+write_failed T S _ held used now before mid after same answers = absurd answers

@@ -1,0 +1,345 @@
+-- A further segment is begun: the one that was being filled is filled to its end and sealed, and the log holds and fits what it did.
+use Rattle.std.proofs.Common.{◌≡◌, ◌⊎◌, ◌∙◌, ◌<◌, ◌≤◌, ◌+◌, ◌-◌, ◌*◌, ◌/◌, ◌^◌, ◌-ℤ◌, ap, sym, refl, arith, subst, inl, inr, ℕ, zero, suc, pos, List, [], ◌∷◌, ◌++◌, length, map, Option, Some, true, false, if◌then◌else◌, Bool}
+use Rattle.std.specs.List.{slice_get}
+use Rattle.std.specs.declared.io.Error.{Error as IoError}
+use Rattle.std.proofs.Math.Nat.{div-le_self, mul-mod_left, suc-mul}
+use Rattle.std.proofs.lemmas.List.{append-nil, map-append, length-map, take_all}
+use Rattle.std.proofs.lemmas.Bool.Decides.{nat_tests}
+use Rattle.std.proofs.lemmas.List.Elements.{All-contains, All-head, All-tail}
+use Rattle.sled_codec.proofs.Segments.{length-short_header}
+use Rattle.sled_codec.specs.History.{Batch, History, Message}
+use Rattle.sled_codec.specs.Record.{short_header}
+use Rattle.sled_store.specs.Accounts.{AreSlots}
+use Rattle.sled_store.specs.declared.config.RunningConfig.{RunningConfig}
+use Rattle.sled_store.specs.Device.{State, Trace, state_of}
+use Rattle.sled_store.specs.SegmentStates.{Machine, handed_out, next_slot}
+use Rattle.sled_core.specs.declared.iobuf.SegmentPosition.{SegmentPosition}
+use Rattle.sled_core.specs.declared.logger.Log.{Log}
+use Rattle.sled_core.specs.declared.reservation.Reservation.{Reservation}
+use Rattle.sled_core.specs.Begun.{SegmentParts, SegmentView, begin_of, segment_view, view_at}
+use Rattle.sled_core.specs.Buffers.{IsHeaded, none_open}
+use Rattle.sled_core.specs.Tickets.{IsFor, index_of}
+use Rattle.sled_core.specs.declared.iobuf.Reserved.{Reserved}
+use Rattle.sled_core.specs.Fits.{AwaitsIn, CloseBelow, HasMark, Holds, HoldsIn, HoldsLine, HoldsWith, KeepsAll, KeepsTickets, NoneOpenIn, current_of, device_of, fault_of, line_of, log_parts, machine_at, parts_in, pins_of, position_of, segment_size_of, synced_end, waiting_of}
+use Rattle.sled_core.specs.FreeSlots.{HasSlot, HasSlots}
+use Rattle.sled_core.specs.Keeps.{Preserves}
+use Rattle.sled_core.specs.Positions.{is_short, next_segment_at, position_in}
+use Rattle.sled_core.specs.Recoverable.{IsMarkOf}
+use Rattle.sled_core.specs.Running.{Fits, FitsIn, FitsLine, FitsWith}
+use Rattle.sled_core.specs.Turned.{ChangesSlots, begun_view, next_line}
+use Rattle.sled_core.specs.Waiting.{at_last, closed_now, filled_now, last_of, unwritten}
+use Rattle.sled_core.proofs.Behind.Around.{behind_place, behind_place_is}
+use Rattle.sled_core.proofs.Behind.Begins.{behind-begins}
+use Rattle.sled_core.proofs.Behind.FitsBegun.{behind-fits-begun}
+use Rattle.sled_core.proofs.Holds.KeptCalls.{goes_on_quietly}
+use Rattle.sled_core.proofs.Line.Closes.{IsClosable, filled_ended, filled_gone, filled_length, filled_message, filled_site, filled_there, filled_written, line_closed, line_fits_closed}
+use Rattle.sled_core.proofs.Line.Facts.{IsSegment, current_facts, nth_facts}
+use Rattle.sled_core.proofs.Line.Last.{All-at_last, get_last, last_behind_all, last_get_of, unwritten-append}
+use Rattle.sled_core.proofs.Line.Moves.{fits_as, holds_as, written_to}
+use Rattle.sled_core.proofs.Line.Slots.{next_free, next_other, next_others, slots_begun}
+use Rattle.sled_core.proofs.Reached.BufferPath.{buffer_mark, mark_lower}
+use Rattle.sled_core.proofs.Reached.Recoverable.{less_than}
+use Rattle.sled_core.proofs.Sealed.Ended.{ends_rise, ends_up}
+use Rattle.sled_core.proofs.Reserve.Ranges.{at_there}
+use Rattle.sled_core.proofs.Flush.Completed.{grows}
+use Rattle.sled_core.proofs.Line.Entered.{filled_last}
+
+-- where the first of segments begins
+abbrev first_place : List SegmentView → ℕ
+first_place [] = 0
+first_place (v ∷ vs) = v.parts.site.place
+
+-- the first of them is no longer than this
+abbrev FirstShort : ℕ → List SegmentView → Type 0
+FirstShort size [] = ⊥
+FirstShort size (v ∷ vs) = length v.parts.bytes ≤ size
+
+-- A segment begins behind segments one behind another, in the slot that is handed out next, with a mark below what is written of the first one.
+module _ (sum : List ℕ → ℕ) (size : ℕ) (device : State) (fault : Option IoError) (m : Machine) (big : 256 ≤ size) (H : History) where
+  abbrev header_at : ℕ → ℕ → List ℕ
+  header_at place stable = short_header sum (pos place) (pos stable -ℤ pos 1)
+
+  -- its mark lies in no batch
+  marked : (site : SegmentPosition) (stable : ℕ) → stable ≤ site.place → CloseBelow stable H.batches → HasMark sum site (header_at site.place stable) H
+  marked site stable below closed =
+      let is : IsMarkOf H (record { place = stable; slot = site.slot; mark = pos stable -ℤ pos 1 }) = buffer_mark H site.slot stable (λ b there low. (All-contains (λ (x : Batch). (x.low < stable) × (x.peg < stable)) H.batches b closed there).1) in
+      record {
+        mark = pos stable -ℤ pos 1;
+        is = take_all 20 (header_at site.place stable) (omega (arith, length-short_header sum (pos site.place) (pos stable -ℤ pos 1)));
+        of_history = record { least = is.least; below = less_than (pos stable -ℤ pos 1) stable site.place below is.below; apart = is.apart };
+      }
+
+  -- what begins there
+  abbrev begun_at : ℕ → ℕ → SegmentView
+  begun_at place stable = record {
+    parts = record { site = record { place = place; slot = next_slot m * size }; bytes = header_at place stable; written_len = 0; sealed = []; reserved = [] };
+    gone = 0;
+  }
+
+  module _ (slots : AreSlots m.tip m.slots) (place : ℕ) where
+    -- Where it begins, and how much is written before it.
+    place_is : (v : SegmentView) (vs : List SegmentView) → place ≡ first_place (v ∷ vs) + length (v ∷ vs) * size → place ≡ behind_place size (v.parts.site.place + size) (map parts_in vs)
+    place_is v vs at = omega (arith, at, behind_place_is size (v.parts.site.place + size) (map parts_in vs), ap (λ n. n * size) (length-map vs parts_in), suc-mul (length vs) size)
+
+    above : (v : SegmentView) (vs : List SegmentView) → place ≡ first_place (v ∷ vs) + length (v ∷ vs) * size → v.parts.site.place + size ≤ place
+    above v vs at = omega (arith, at, suc-mul (length vs) size)
+
+    written_within : (v : SegmentView) (vs : List SegmentView) → HoldsLine sum size device fault (v ∷ vs) H → v.parts.written_len ≤ length v.parts.bytes
+    written_within v vs holds =
+        let grown = grows sum size v.parts.site device fault v.parts.bytes v.parts.written_len v.parts.sealed v.parts.reserved (record { messages = holds.head; batches = H.batches }) holds.own in
+        omega (arith, grown)
+
+    mark_of : (v : SegmentView) (vs : List SegmentView) → place ≡ first_place (v ∷ vs) + length (v ∷ vs) * size → length v.parts.bytes ≤ size → HoldsLine sum size device fault (v ∷ vs) H
+        → HasMark sum (record { place = place; slot = next_slot m * size }) (header_at place (written_to (v ∷ vs))) H
+    mark_of v vs at short holds =
+        let up = above v vs at in
+        let within = written_within v vs holds in
+        marked (record { place = place; slot = next_slot m * size }) (written_to (v ∷ vs)) (omega (arith, up, within, short)) holds.own.batches
+
+    -- What the others hold is held with it,
+    pub line_begun : (line : List SegmentView) → place ≡ first_place line + length line * size → FirstShort size line → HasSlots size line device.log.bytes fault m → HoldsLine sum size device fault line H
+        → HoldsLine sum size device fault (line ++ begun_at place (written_to line) ∷ []) H
+    line_begun [] at short has holds = absurd holds
+    line_begun (v ∷ vs) at short has holds =
+        subst (λ (ss : List SegmentParts). HoldsIn sum (log_parts size v.parts.site device fault v.parts.bytes v.parts.written_len v.parts.sealed v.parts.reserved) ss H) (sym (map-append parts_in vs (begun_at place (written_to (v ∷ vs)) ∷ [])))
+        (behind-begins sum size v.parts.site device fault v.parts.bytes v.parts.written_len v.parts.sealed v.parts.reserved H (map parts_in vs) holds big short
+        (record { place = place; slot = next_slot m * size }) (header_at place (written_to (v ∷ vs))) (place_is v vs at) (mul-mod_left (next_slot m) size) (length-short_header sum (pos place) (pos (written_to (v ∷ vs)) -ℤ pos 1))
+        (mark_of v vs at short holds) (next_other m slots size (omega (arith, big)) v (All-head (HasSlot size m) v vs has.taken))
+        (next_others m slots size (omega (arith, big)) vs (All-tail (HasSlot size m) v vs has.taken)) (λ none. has.zeros none (next_slot m) (next_free m slots)))
+
+    -- and what they fit is fitted.
+    pub line_fits_begun : (reach pins A f : ℕ) (U : List Message) (line : List SegmentView) → place ≡ first_place line + length line * size → place < 2 ^ 63 → FirstShort size line → HasSlots size line device.log.bytes fault m
+        → FitsLine sum size device fault line reach pins H A f U → FitsLine sum size device fault (line ++ begun_at place (written_to line) ∷ []) reach pins H A f U
+    unfolding mark_of marked
+    line_fits_begun reach pins A f U [] at small short has fits = absurd fits
+    line_fits_begun reach pins A f U (v ∷ vs) at small short has fits =
+        subst (λ (ss : List SegmentParts). FitsIn sum (log_parts size v.parts.site device fault v.parts.bytes v.parts.written_len v.parts.sealed v.parts.reserved) ss reach pins H A f U) (sym (map-append parts_in vs (begun_at place (written_to (v ∷ vs)) ∷ [])))
+        (behind-fits-begun sum size v.parts.site device fault v.parts.bytes v.parts.written_len v.parts.sealed v.parts.reserved pins H A f U (map parts_in vs) fits big short
+        (record { place = place; slot = next_slot m * size }) (header_at place (written_to (v ∷ vs))) (place_is v vs at) (mul-mod_left (next_slot m) size) (length-short_header sum (pos place) (pos (written_to (v ∷ vs)) -ℤ pos 1))
+        (mark_of v vs at short fits.holds) (next_other m slots size (omega (arith, big)) v (All-head (HasSlot size m) v vs has.taken))
+        (next_others m slots size (omega (arith, big)) vs (All-tail (HasSlot size m) v vs has.taken)) (λ none. has.zeros none (next_slot m) (next_free m slots))
+        (mark_lower (written_to (v ∷ vs)) (written_to (v ∷ vs)) (omega arith)) small)
+
+-- The segments once the last one is filled and sealed: the first of them lies where it lay, as far written.
+module _ (sum : List ℕ → ℕ) (size : ℕ) where
+  abbrev closed : List SegmentView → List SegmentView
+  closed line = at_last (closed_now sum size) line
+
+  closed_first : (v : SegmentView) (vs : List SegmentView) → first_place (closed (v ∷ vs)) ≡ v.parts.site.place
+  closed_first v [] = ap (λ p. p.place) (filled_site sum size v)
+  closed_first v (w ∷ ws) = refl
+
+  closed_written : (v : SegmentView) (vs : List SegmentView) → written_to (closed (v ∷ vs)) ≡ written_to (v ∷ vs)
+  closed_written v [] = (λ i. (filled_site sum size v i).place + filled_written sum size v i)
+  closed_written v (w ∷ ws) = refl
+
+  closed_count : (v : SegmentView) (vs : List SegmentView) → length (closed (v ∷ vs)) ≡ suc (length vs)
+  closed_count v [] = refl
+  closed_count v (w ∷ ws) = ap suc (closed_count w ws)
+
+  closed_some : (v : SegmentView) (vs : List SegmentView) → 0 < length (closed (v ∷ vs))
+  closed_some v vs = omega (arith, closed_count v vs)
+
+  closed_short : (v : SegmentView) (vs : List SegmentView) → length v.parts.bytes ≤ size → v.parts.site.place / size < 2 ^ 64 → FirstShort size (closed (v ∷ vs))
+  closed_short v [] short small = let long = filled_length sum size v short small in omega (arith, long)
+  closed_short v (w ∷ ws) short small = short
+
+  closed_slots : (line : List SegmentView) (log : List ℕ) (fault : Option IoError) (m : Machine) → HasSlots size line log fault m → HasSlots size (closed line) log fault m
+  closed_slots line log fault m has = record {
+    taken = All-at_last (HasSlot size m) (closed_now sum size) (λ v here. record { number = here.number; lies = ap (λ p. p.slot) (filled_site sum size v) ∙ here.lies; taken = here.taken }) line has.taken;
+    zeros = has.zeros;
+  }
+
+  -- What segments hold, in these slots, is held by those and one more.
+  module _ (device : State) (fault : Option IoError) (m : Machine) (big : 256 ≤ size) (slots : AreSlots m.tip m.slots) (v : SegmentView) (vs : List SegmentView) (closable : IsClosable size (last_of v vs)) (short : length v.parts.bytes ≤ size) (small : v.parts.site.place / size < 2 ^ 64)
+      (lies : (last_of v vs).parts.site.place ≡ v.parts.site.place + length vs * size) (in_reach : (last_of v vs).parts.site.place + size < 2 ^ 63) where
+    abbrev place : ℕ
+    place = (last_of v vs).parts.site.place + size
+
+    at : place ≡ first_place (closed (v ∷ vs)) + length (closed (v ∷ vs)) * size
+    at = omega (arith, lies, closed_first v vs, ap (λ n. n * size) (closed_count v vs), suc-mul (length vs) size)
+
+    abbrev next : List SegmentView
+    next = next_line sum size m (written_to (v ∷ vs)) (v ∷ vs)
+
+    slots_next : HasSlots size (v ∷ vs) device.log.bytes fault m → HasSlots size next device.log.bytes fault (handed_out place m)
+    slots_next has = slots_begun m slots size (closed (v ∷ vs)) device.log.bytes fault place (begun_view sum size m (written_to (v ∷ vs)) (last_of v vs)) refl (closed_slots (v ∷ vs) device.log.bytes fault m has)
+
+    pub holds_next : (H : History) → HoldsWith sum size device fault (v ∷ vs) m H → HoldsWith sum size device fault next (handed_out place m) H
+    holds_next H holds = record {
+      holds = subst (λ n. HoldsLine sum size device fault (closed (v ∷ vs) ++ begun_at sum size device fault m big H place n ∷ []) H) (closed_written v vs)
+          (line_begun sum size device fault m big H slots place (closed (v ∷ vs)) at (closed_short v vs short small) (closed_slots (v ∷ vs) device.log.bytes fault m holds.slots)
+          (line_closed sum size device fault H v vs closable holds.holds));
+      slots = slots_next holds.slots;
+    }
+
+    pub fits_next : (pins : ℕ) (H : History) (A f : ℕ) (U : List Message) → FitsWith sum size device fault (v ∷ vs) m pins H A f U → FitsWith sum size device fault next (handed_out place m) pins H A f U
+    fits_next pins H A f U fits = record {
+      reach = fits.reach;
+      parts = subst (λ n. FitsLine sum size device fault (closed (v ∷ vs) ++ begun_at sum size device fault m big H place n ∷ []) fits.reach pins H A f U) (closed_written v vs)
+          (line_fits_begun sum size device fault m big H slots place fits.reach pins A f U (closed (v ∷ vs)) at in_reach (closed_short v vs short small) (closed_slots (v ∷ vs) device.log.bytes fault m fits.slots)
+          (line_fits_closed sum size device fault fits.reach pins H A f U v vs closable fits.parts));
+      slots = slots_next fits.slots;
+    }
+
+  -- Tickets are for what they were for,
+  pub awaits_closed : (v : SegmentView) (vs : List SegmentView) (place : ℕ) → IsSegment size place (last_of v vs) → (ticket : Reservation) (m : Message) → AwaitsIn (v ∷ vs) ticket m → AwaitsIn (closed (v ∷ vs)) ticket m
+  awaits_closed v vs place facts ticket m awaits = elim (last_get_of (closed_now sum size) v vs awaits.number awaits.segment awaits.among) [
+    | inl still ↦ record { number = awaits.number; segment = awaits.segment; among = still; reserved = awaits.reserved; numbered = awaits.numbered; there = awaits.there; own = awaits.own; message = awaits.message }
+    | inr changed ↦ (
+        let w : SegmentView = awaits.segment in
+        let r : Reserved = awaits.reserved in
+        let f : IsSegment size place w = subst (IsSegment size place) (sym changed.0) facts in
+        let i : ℕ = index_of ticket - w.gone in
+        let gone : (filled_now sum size w).gone ≡ w.gone = filled_gone sum size w in
+        let within : r.from + r.len ≤ length w.parts.bytes = at_there (λ (x : Reserved). x.from + x.len ≤ length w.parts.bytes) w.parts.reserved i r awaits.there f.within in
+        let headed : r.header_len ≤ r.len = (let head = (at_there IsHeaded w.parts.reserved i r awaits.there f.headed).1 awaits.own.open_yet in head.1) in
+        record {
+          number = awaits.number;
+          segment = closed_now sum size w;
+          among = changed.1;
+          reserved = r;
+          numbered = (let numbered = awaits.numbered in omega (arith, numbered, gone));
+          there = ap (λ n. slice_get (filled_now sum size w).parts.reserved (index_of ticket - n)) gone ∙ filled_there sum size w i r awaits.there;
+          own = subst (λ (p : SegmentPosition). IsFor p r ticket) (sym (filled_site sum size w)) awaits.own;
+          message = awaits.message ∙ filled_message sum size w r within headed;
+        })
+  ]
+
+  get_front : (vs ws : List SegmentView) (n : ℕ) (w : SegmentView) → slice_get vs n ≡ Some w → slice_get (vs ++ ws) n ≡ Some w
+  get_front [] ws n w there = cc
+  get_front (v ∷ vs) ws zero w there = there
+  get_front (v ∷ vs) ws (suc n) w there = get_front vs ws n w there
+
+  pub awaits_more : (vs ws : List SegmentView) (ticket : Reservation) (m : Message) → AwaitsIn vs ticket m → AwaitsIn (vs ++ ws) ticket m
+  awaits_more vs ws ticket m awaits = record {
+    number = awaits.number;
+    segment = awaits.segment;
+    among = get_front vs ws awaits.number awaits.segment awaits.among;
+    reserved = awaits.reserved;
+    numbered = awaits.numbered;
+    there = awaits.there;
+    own = awaits.own;
+    message = awaits.message;
+  }
+
+  -- and none is open where none was.
+  none_open_closed : (v : SegmentView) (vs : List SegmentView) → NoneOpenIn (v ∷ vs) → NoneOpenIn (closed (v ∷ vs))
+  none_open_closed v vs ended n w there = elim (get_last (closed_now sum size) v vs n w there) [
+    | inl still ↦ ended n w still
+    | inr changed ↦ ap (λ (x : SegmentView). none_open x.parts.reserved) changed.1 ∙ filled_ended sum size (last_of v vs) (ended n (last_of v vs) changed.0)
+  ]
+
+  get_one : (vs : List SegmentView) (x : SegmentView) (n : ℕ) (w : SegmentView) → slice_get (vs ++ x ∷ []) n ≡ Some w → (slice_get vs n ≡ Some w) ⊎ (w ≡ x)
+  get_one [] x zero w there = let is : x ≡ w = cc in inr (sym is)
+  get_one [] x (suc n) w there = cc
+  get_one (v ∷ vs) x zero w there = inl there
+  get_one (v ∷ vs) x (suc n) w there = get_one vs x n w there
+
+  pub none_open_one : (vs : List SegmentView) (x : SegmentView) → none_open x.parts.reserved ≡ true → NoneOpenIn vs → NoneOpenIn (vs ++ x ∷ [])
+  none_open_one vs x own ended n w there = elim (get_one vs x n w there) [
+    | inl had ↦ ended n w had
+    | inr is ↦ ap (λ (y : SegmentView). none_open y.parts.reserved) is ∙ own
+  ]
+
+-- A segment of a log is closable where its current buffer begins within it.
+pub closable : (size place : ℕ) (v : SegmentView) → IsSegment size place v → begin_of v < size → IsClosable size v
+closable size place v f begins =
+    let up = ends_up v.parts.written_len v.parts.reserved v.parts.sealed f.are in
+    let within = f.begins in
+    record {
+      short = f.short;
+      some = begins;
+      small = (let small = f.place_small in omega (arith, small, div-le_self v.parts.site.place size));
+      rise = ends_rise v.parts.written_len v.parts.reserved v.parts.sealed (length v.parts.bytes) f.are (omega (arith, up, within)) within;
+    }
+
+-- A log that has begun a further segment.
+module _ {D C : Type 0} (trace : D → Trace) (sum : List ℕ → ℕ) (old new : Log D C) (line : line_of new ≡ next_line sum (segment_size_of old) (machine_at old) (synced_end old) (line_of old))
+    (machine : machine_at new ≡ handed_out ((current_of old).parts.site.place + segment_size_of old) (machine_at old)) (rest : ChangesSlots old new) where
+  abbrev its_size : ℕ
+  its_size = segment_size_of old
+
+  abbrev first : SegmentView
+  first = view_at old.site old.buffer
+
+  abbrev behind : List SegmentView
+  behind = map segment_view old.behind.items
+
+  big : 256 ≤ its_size
+  big = old.config.config.least
+
+  -- The new segment is the one that is being filled.
+  pub begins_current : current_of new ≡ begun_view sum its_size (machine_at old) (synced_end old) (current_of old)
+  begins_current = ap (last_of first) line ∙ last_behind_all first (begun_view sum its_size (machine_at old) (synced_end old) (current_of old)) (closed sum its_size (line_of old))
+
+  same_size : segment_size_of new ≡ its_size
+  same_size = ap (λ (x : RunningConfig D C). x.config.segment_size) rest.config
+
+  -- The next record begins behind its header.
+  pub begins_position : position_of new ≡ next_segment_at its_size (current_of old).parts.site.place (machine_at old)
+  begins_position =
+      let b : SegmentView = begun_view sum its_size (machine_at old) (synced_end old) (current_of old) in
+      let long = length-short_header sum (pos b.parts.site.place) (pos (synced_end old) -ℤ pos 1) in
+      let room : is_short its_size (length b.parts.bytes) ≡ false = grind (arith, nat_tests, big, long) in
+      (λ i. position_in (same_size i) (begins_current i) (machine i))
+      ∙ ap (λ (o : Bool). if o then next_segment_at its_size b.parts.site.place (machine_now) else record { place = b.parts.site.place + length b.parts.bytes; begins = b.parts.site.place; slot = b.parts.site.slot; machine = machine_now }) room
+      ∙ ap (λ n. record { place = b.parts.site.place + n; begins = b.parts.site.place; slot = b.parts.site.slot; machine = machine_now }) long
+    where
+      machine_now : Machine
+      machine_now = handed_out ((current_of old).parts.site.place + segment_size_of old) (machine_at old)
+
+  -- What the segment that was being filled had is among the sealed buffers.
+  pub begins_waiting : waiting_of new ≡ unwritten (closed sum its_size (line_of old))
+  begins_waiting =
+      let b : SegmentView = begun_view sum its_size (machine_at old) (synced_end old) (current_of old) in
+      ap unwritten line ∙ unwritten-append (closed sum its_size (line_of old)) (b ∷ []) ∙ append-nil (unwritten (closed sum its_size (line_of old)))
+
+  -- As much is written,
+  pub begins_synced : synced_end new ≡ synced_end old
+  begins_synced = ap written_to line ∙ kept (closed sum its_size (line_of old)) (closed_some sum its_size first behind) ∙ closed_written sum its_size first behind where
+    kept : (vs : List SegmentView) → 0 < length vs → written_to (vs ++ begun_view sum its_size (machine_at old) (synced_end old) (current_of old) ∷ []) ≡ written_to vs
+    kept [] none = absurd (omega (arith, none))
+    kept (v ∷ vs) some = refl
+
+  pub begins_same : KeepsAll old new
+  begins_same = record { config = rest.config; synced = begins_synced; fault = rest.fault; pins = rest.pins }
+
+  facts : IsSegment its_size (old.site.place + length old.behind.items * its_size) (current_of old)
+  facts = current_facts old
+
+  -- tickets are for what they were for,
+  pub begins_tickets : KeepsTickets old new
+  begins_tickets = record {
+    awaits = λ ticket m awaits. subst (λ (l : List SegmentView). AwaitsIn l ticket m) (sym line)
+        (awaits_more sum its_size (closed sum its_size (line_of old)) (begun_view sum its_size (machine_at old) (synced_end old) (current_of old) ∷ []) ticket m
+        (awaits_closed sum its_size first behind (old.site.place + length old.behind.items * its_size) facts ticket m awaits));
+    ended = λ ended. subst NoneOpenIn (sym line)
+        (none_open_one sum its_size (closed sum its_size (line_of old)) (begun_view sum its_size (machine_at old) (synced_end old) (current_of old)) refl (none_open_closed sum its_size first behind ended));
+  }
+
+  closes : IsClosable its_size (current_of old)
+  closes = closable its_size _ (current_of old) facts (filled_last its_size old.reserved_to first behind old.filled).0
+
+  first_facts : IsSegment its_size (old.site.place + 0 * its_size) first
+  first_facts = nth_facts old 0 first refl
+
+  lies : (current_of old).parts.site.place ≡ first.parts.site.place + length behind * its_size
+  lies = let at = facts.at in omega (arith, at, ap (λ n. n * its_size) (length-map old.behind.items segment_view))
+
+  -- and the log holds and fits what it did.
+  pub begins_keeps : Preserves trace sum old new
+  unfolding Holds Fits
+  begins_keeps =
+      let device : State = state_of (trace (device_of old)) in
+      let f = facts in
+      let g = first_facts in
+      let small : old.site.place / its_size < 2 ^ 64 = (let small = g.place_small in omega (arith, small, div-le_self old.site.place its_size)) in
+      record {
+        goes_on = goes_on_quietly trace sum old new (record { config = ap (λ (x : RunningConfig D C). x.config) rest.config; checksum = ap (λ (x : RunningConfig D C). x.checksum) rest.config })
+            (ap (λ (x : RunningConfig D C). trace x.device) rest.config) (let same = begins_synced in omega (arith, same));
+        history = λ H holds. holds_as trace sum old new rest.config rest.fault _ line _ machine H
+            (holds_next sum its_size device (fault_of old) (machine_at old) big old.account.slots first behind closes g.short small lies f.place_small H holds);
+        fits = λ H A f' U fits. fits_as trace sum old new rest.config rest.fault _ line _ machine H A f' U rest.pins
+            (fits_next sum its_size device (fault_of old) (machine_at old) big old.account.slots first behind closes g.short small lies f.place_small (pins_of old) H A f' U fits);
+      }

@@ -1,0 +1,298 @@
+-- The buffers of a line that aren't on the device: how many of them can be written, which one is the i-th of these, and which are left once it is written.
+use Rattle.std.proofs.Common.{◌≡◌, ◌∙◌, ◌<◌, ◌≤◌, ◌+◌, ◌-◌, ◌==◌, ◌*◌, ◌^◌, slice_index_or, ap, sym, refl, arith, subst, ℕ, zero, suc, Bool, true, false, if◌then◌else◌, List, [], ◌∷◌, ◌++◌, length, take, drop, map, set, Some}
+use Rattle.std.specs.List.{slice_get}
+use Rattle.std.proofs.lemmas.Bool.Decides.{nat_tests}
+use Rattle.std.proofs.lemmas.List.{drop-drop, drop_more, length-map}
+use Rattle.sled_core.specs.Begun.{AreFilled, SegmentView, begin_of, segment_view, view_at}
+use Rattle.sled_core.specs.Buffers.{first_open_in, open_in, open_state}
+use Rattle.sled_core.specs.declared.iobuf.Reserved.{Reserved}
+use Rattle.sled_core.specs.declared.iobuf.Sealed.{Sealed}
+use Rattle.sled_core.specs.declared.iobuf.SegmentPosition.{SegmentPosition}
+use Rattle.sled_core.specs.declared.logger.Log.{Log}
+use Rattle.sled_core.specs.declared.logger.segments.SegmentBuffer.{SegmentBuffer}
+use Rattle.sled_core.specs.Fits.{FirstWaits, current_begin, line_of, synced_end, waiting_of}
+use Rattle.sled_core.specs.SealedBuffers.{AreSealed, FirstUnwritten, behind_run, bytes_between, is_ready, now_written, ready_count, ready_marked, ready_write, run_count, run_end, sealed_end, writing, written_at}
+use Rattle.sled_core.specs.Turned.{IsReadyIn, promoted, write_in, written_now}
+use Rattle.sled_core.specs.Waiting.{BufferAt, buffer_at, is_unheld, last_of, pending_in, placed, unwritten, unwritten_in, unwritten_of, without_pending, write_pending}
+use Rattle.sled_core.proofs.Line.Facts.{IsSegment, nth_facts}
+use Rattle.sled_core.proofs.Line.Nth.{behind_get}
+use Rattle.sled_core.proofs.Line.Segments.{AreSegments, by_front, full_unsealed, line_segments}
+use Rattle.sled_core.proofs.Reserve.Parts.{there_is}
+use Rattle.sled_core.proofs.Sealed.Progress.{pending_marked, pending_write}
+
+-- Lists of buffers in two parts.
+
+pub pending_on : (xs ys : List BufferAt) → pending_in (xs ++ ys) ≡ pending_in xs + pending_in ys
+pending_on [] ys = omega arith
+pending_on (x ∷ xs) ys = by_test (is_unheld x.held) (pending_on xs ys) where
+  by_test : (o : Bool) → pending_in (xs ++ ys) ≡ pending_in xs + pending_in ys → (if o then suc (pending_in (xs ++ ys)) else pending_in (xs ++ ys)) ≡ (if o then suc (pending_in xs) else pending_in xs) + pending_in ys
+  by_test true rest = omega (arith, rest)
+  by_test false rest = rest
+
+-- the i-th of the first part, and what is left
+pub write_front : (i : ℕ) (xs ys : List BufferAt) → i < pending_in xs → write_pending i (xs ++ ys) ≡ write_pending i xs
+write_front i [] ys low = absurd (omega (arith, low))
+write_front i (x ∷ xs) ys low = by_test (is_unheld x.held) (i == 0) refl low (write_front (i - 1) xs ys) (write_front i xs ys) where
+  by_test : (o p : Bool) → (i == 0) ≡ p → i < (if o then suc (pending_in xs) else pending_in xs) → (i - 1 < pending_in xs → write_pending (i - 1) (xs ++ ys) ≡ write_pending (i - 1) xs) → (i < pending_in xs → write_pending i (xs ++ ys) ≡ write_pending i xs)
+      → (if o then (if p then writing x.lid x.bytes [] else write_pending (i - 1) (xs ++ ys)) else write_pending i (xs ++ ys)) ≡ (if o then (if p then writing x.lid x.bytes [] else write_pending (i - 1) xs) else write_pending i xs)
+  by_test true true is below one all = refl
+  by_test true false is below one all = one (let more : 0 < i = grind (arith, nat_tests, is) in omega (arith, below, more))
+  by_test false p is below one all = all below
+
+pub left_front : (i : ℕ) (xs ys : List BufferAt) → i < pending_in xs → without_pending i (xs ++ ys) ≡ without_pending i xs ++ ys
+left_front i [] ys low = absurd (omega (arith, low))
+left_front i (x ∷ xs) ys low = by_test (is_unheld x.held) (i == 0) refl low (left_front (i - 1) xs ys) (left_front i xs ys) where
+  by_test : (o p : Bool) → (i == 0) ≡ p → i < (if o then suc (pending_in xs) else pending_in xs) → (i - 1 < pending_in xs → without_pending (i - 1) (xs ++ ys) ≡ without_pending (i - 1) xs ++ ys) → (i < pending_in xs → without_pending i (xs ++ ys) ≡ without_pending i xs ++ ys)
+      → (if o then (if p then xs ++ ys else x ∷ without_pending (i - 1) (xs ++ ys)) else x ∷ without_pending i (xs ++ ys)) ≡ (if o then (if p then xs else x ∷ without_pending (i - 1) xs) else x ∷ without_pending i xs) ++ ys
+  by_test true true is below one all = refl
+  by_test true false is below one all = ap (λ l. x ∷ l) (one (let more : 0 < i = grind (arith, nat_tests, is) in omega (arith, below, more)))
+  by_test false p is below one all = ap (λ l. x ∷ l) (all below)
+
+-- the i-th of the second part, and what is left
+pub write_behind : (i : ℕ) (xs ys : List BufferAt) → pending_in xs ≤ i → write_pending i (xs ++ ys) ≡ write_pending (i - pending_in xs) ys
+write_behind i [] ys high = ap (λ n. write_pending n ys) (let same : i ≡ i - 0 = omega arith in same)
+write_behind i (x ∷ xs) ys high = by_test (is_unheld x.held) (i == 0) refl high (write_behind (i - 1) xs ys) (write_behind i xs ys) where
+  by_test : (o p : Bool) → (i == 0) ≡ p → (if o then suc (pending_in xs) else pending_in xs) ≤ i → (pending_in xs ≤ i - 1 → write_pending (i - 1) (xs ++ ys) ≡ write_pending (i - 1 - pending_in xs) ys)
+      → (pending_in xs ≤ i → write_pending i (xs ++ ys) ≡ write_pending (i - pending_in xs) ys)
+      → (if o then (if p then writing x.lid x.bytes [] else write_pending (i - 1) (xs ++ ys)) else write_pending i (xs ++ ys)) ≡ write_pending (i - (if o then suc (pending_in xs) else pending_in xs)) ys
+  by_test true true is above one all = absurd (let none : i ≡ 0 = grind (arith, nat_tests, is) in omega (arith, above, none))
+  by_test true false is above one all = one (omega (arith, above)) ∙ ap (λ n. write_pending n ys) (let same : i - 1 - pending_in xs ≡ i - suc (pending_in xs) = omega arith in same)
+  by_test false p is above one all = all above
+
+pub left_behind : (i : ℕ) (xs ys : List BufferAt) → pending_in xs ≤ i → without_pending i (xs ++ ys) ≡ xs ++ without_pending (i - pending_in xs) ys
+left_behind i [] ys high = ap (λ n. without_pending n ys) (let same : i ≡ i - 0 = omega arith in same)
+left_behind i (x ∷ xs) ys high = by_test (is_unheld x.held) (i == 0) refl high (left_behind (i - 1) xs ys) (left_behind i xs ys) where
+  by_test : (o p : Bool) → (i == 0) ≡ p → (if o then suc (pending_in xs) else pending_in xs) ≤ i → (pending_in xs ≤ i - 1 → without_pending (i - 1) (xs ++ ys) ≡ xs ++ without_pending (i - 1 - pending_in xs) ys)
+      → (pending_in xs ≤ i → without_pending i (xs ++ ys) ≡ xs ++ without_pending (i - pending_in xs) ys)
+      → (if o then (if p then xs ++ ys else x ∷ without_pending (i - 1) (xs ++ ys)) else x ∷ without_pending i (xs ++ ys)) ≡ x ∷ (xs ++ without_pending (i - (if o then suc (pending_in xs) else pending_in xs)) ys)
+  by_test true true is above one all = absurd (let none : i ≡ 0 = grind (arith, nat_tests, is) in omega (arith, above, none))
+  by_test true false is above one all = ap (λ l. x ∷ l) (one (omega (arith, above)) ∙ ap (λ n. xs ++ without_pending n ys) (let same : i - 1 - pending_in xs ≡ i - suc (pending_in xs) = omega arith in same))
+  by_test false p is above one all = ap (λ l. x ∷ l) (all above)
+
+-- The buffers of one segment.
+
+-- one can be written where none of its reservations is open
+pub unheld_is : (base : ℕ) (own : List Reserved) → is_unheld (placed base (first_open_in own)) ≡ (open_in own == 0)
+unheld_is base [] = refl
+unheld_is base (r ∷ rs) = by_state (open_state r.state) (unheld_is base rs) where
+  by_state : (o : Bool) → is_unheld (placed base (first_open_in rs)) ≡ (open_in rs == 0) → is_unheld (placed base (if o then Some r.from else first_open_in rs)) ≡ ((if o then suc (open_in rs) else open_in rs) == 0)
+  by_state true rest = (let never : (suc (open_in rs) == 0) ≡ false = grind (arith, nat_tests) in sym never)
+  by_state false rest = rest
+
+module _ (site : SegmentPosition) (bytes : List ℕ) where
+  pub pending_sealed : (from : ℕ) (bs : List Sealed) (rs : List Reserved) → AreSealed from rs bs → pending_in (unwritten_in site bytes from bs rs) ≡ ready_count bs
+  pending_sealed from [] rs are = refl
+  pending_sealed from (b ∷ bs) rs are = by_test b.is_written (pending_sealed b.end bs (drop b.count rs) are.1) (unheld_is site.place (take b.count rs) ∙ ap (λ n. n == 0) (sym are.0.still_open)) where
+    by_test : (o : Bool) → pending_in (unwritten_in site bytes b.end bs (drop b.count rs)) ≡ ready_count bs → is_unheld (placed site.place (first_open_in (take b.count rs))) ≡ (b.open_count == 0)
+        → pending_in (if o then unwritten_in site bytes b.end bs (drop b.count rs) else buffer_at site bytes from b.end (take b.count rs) ∷ unwritten_in site bytes b.end bs (drop b.count rs))
+        ≡ (if (if o then false else b.open_count == 0) then suc (ready_count bs) else ready_count bs)
+    by_test true rest own = rest
+    by_test false rest own = λ i. if own i then suc (rest i) else rest i
+
+  pub write_sealed : (i from : ℕ) (bs : List Sealed) (rs : List Reserved) → AreSealed from rs bs → write_pending i (unwritten_in site bytes from bs rs) ≡ ready_write site.slot bytes from i bs
+  write_sealed i from [] rs are = refl
+  write_sealed i from (b ∷ bs) rs are =
+      by_test b.is_written (λ j. write_sealed j b.end bs (drop b.count rs) are.1) (unheld_is site.place (take b.count rs) ∙ ap (λ n. n == 0) (sym are.0.still_open))
+    where
+      by_test : (o : Bool) → ((j : ℕ) → write_pending j (unwritten_in site bytes b.end bs (drop b.count rs)) ≡ ready_write site.slot bytes b.end j bs) → is_unheld (placed site.place (first_open_in (take b.count rs))) ≡ (b.open_count == 0)
+          → write_pending i (if o then unwritten_in site bytes b.end bs (drop b.count rs) else buffer_at site bytes from b.end (take b.count rs) ∷ unwritten_in site bytes b.end bs (drop b.count rs))
+          ≡ (if (if o then false else b.open_count == 0) then (if i == 0 then writing (site.slot + from) (bytes_between bytes from b.end) [] else ready_write site.slot bytes b.end (i - 1) bs) else ready_write site.slot bytes b.end i bs)
+      by_test true rest own = rest i
+      by_test false rest own = λ j. if own j then (if i == 0 then writing (site.slot + from) (bytes_between bytes from b.end) [] else rest (i - 1) j) else rest i j
+
+  -- the list with this buffer in front, and its buffers that aren't written
+  abbrev with_one : ℕ → Sealed → List Reserved → List BufferAt → List BufferAt
+  with_one from b rs more = buffer_at site bytes from b.end (take b.count rs) ∷ more
+
+  fresh_one : (from : ℕ) (b : Sealed) (bs : List Sealed) (rs : List Reserved) → b.is_written ≡ false → unwritten_in site bytes from (b ∷ bs) rs ≡ with_one from b rs (unwritten_in site bytes b.end bs (drop b.count rs))
+  fresh_one from b bs rs is = ap (λ (w : Bool). if w then unwritten_in site bytes b.end bs (drop b.count rs) else with_one from b rs (unwritten_in site bytes b.end bs (drop b.count rs))) is
+
+  written_one : (from : ℕ) (b : Sealed) (bs : List Sealed) (rs : List Reserved) → b.is_written ≡ true → unwritten_in site bytes from (b ∷ bs) rs ≡ unwritten_in site bytes b.end bs (drop b.count rs)
+  written_one from b bs rs is = ap (λ (w : Bool). if w then unwritten_in site bytes b.end bs (drop b.count rs) else with_one from b rs (unwritten_in site bytes b.end bs (drop b.count rs))) is
+
+  pub left_sealed : (i from : ℕ) (bs : List Sealed) (rs : List Reserved) → AreSealed from rs bs → unwritten_in site bytes from (ready_marked i bs) rs ≡ without_pending i (unwritten_in site bytes from bs rs)
+  left_sealed i from [] rs are = refl
+  left_sealed i from (b ∷ bs) rs are =
+      by_test b.is_written refl (λ j. left_sealed j b.end bs (drop b.count rs) are.1) (unheld_is site.place (take b.count rs) ∙ ap (λ n. n == 0) (sym are.0.still_open))
+    where
+      by_ready : (p q : Bool) → b.is_written ≡ false → ((j : ℕ) → unwritten_in site bytes b.end (ready_marked j bs) (drop b.count rs) ≡ without_pending j (unwritten_in site bytes b.end bs (drop b.count rs)))
+          → unwritten_in site bytes from (if p then (if q then now_written b ∷ bs else b ∷ ready_marked (i - 1) bs) else b ∷ ready_marked i bs) rs
+          ≡ (if p then (if q then unwritten_in site bytes b.end bs (drop b.count rs) else with_one from b rs (without_pending (i - 1) (unwritten_in site bytes b.end bs (drop b.count rs)))) else with_one from b rs (without_pending i (unwritten_in site bytes b.end bs (drop b.count rs))))
+      by_ready true true is rest = refl
+      by_ready true false is rest = fresh_one from b (ready_marked (i - 1) bs) rs is ∙ ap (with_one from b rs) (rest (i - 1))
+      by_ready false q is rest = fresh_one from b (ready_marked i bs) rs is ∙ ap (with_one from b rs) (rest i)
+
+      by_test : (o : Bool) → b.is_written ≡ o → ((j : ℕ) → unwritten_in site bytes b.end (ready_marked j bs) (drop b.count rs) ≡ without_pending j (unwritten_in site bytes b.end bs (drop b.count rs)))
+          → is_unheld (placed site.place (first_open_in (take b.count rs))) ≡ (b.open_count == 0)
+          → unwritten_in site bytes from (if (if o then false else b.open_count == 0) then (if i == 0 then now_written b ∷ bs else b ∷ ready_marked (i - 1) bs) else b ∷ ready_marked i bs) rs
+          ≡ without_pending i (if o then unwritten_in site bytes b.end bs (drop b.count rs) else with_one from b rs (unwritten_in site bytes b.end bs (drop b.count rs)))
+      by_test true is rest own = written_one from b (ready_marked i bs) rs is ∙ rest i
+      by_test false is rest own =
+          by_ready (b.open_count == 0) (i == 0) is rest
+          ∙ (λ j. if sym own j then (if i == 0 then unwritten_in site bytes b.end bs (drop b.count rs) else with_one from b rs (without_pending (i - 1) (unwritten_in site bytes b.end bs (drop b.count rs)))) else with_one from b rs (without_pending i (unwritten_in site bytes b.end bs (drop b.count rs))))
+
+  -- those at the front that are written aren't among them
+  pub unwritten_run : (from : ℕ) (bs : List Sealed) (rs : List Reserved) → unwritten_in site bytes (run_end from bs) (behind_run bs) (drop (run_count bs) rs) ≡ unwritten_in site bytes from bs rs
+  unwritten_run from [] rs = refl
+  unwritten_run from (b ∷ bs) rs = by_test b.is_written refl (unwritten_run b.end bs (drop b.count rs)) where
+    by_test : (o : Bool) → b.is_written ≡ o → unwritten_in site bytes (run_end b.end bs) (behind_run bs) (drop (run_count bs) (drop b.count rs)) ≡ unwritten_in site bytes b.end bs (drop b.count rs)
+        → unwritten_in site bytes (if o then run_end b.end bs else from) (if o then behind_run bs else b ∷ bs) (drop (if o then b.count + run_count bs else 0) rs)
+        ≡ (if b.is_written then unwritten_in site bytes b.end bs (drop b.count rs) else buffer_at site bytes from b.end (take b.count rs) ∷ unwritten_in site bytes b.end bs (drop b.count rs))
+    by_test true is rest =
+        ap (unwritten_in site bytes (run_end b.end bs) (behind_run bs)) (sym (drop-drop (run_count bs) b.count rs)) ∙ rest
+        ∙ sym (ap (λ (w : Bool). if w then unwritten_in site bytes b.end bs (drop b.count rs) else buffer_at site bytes from b.end (take b.count rs) ∷ unwritten_in site bytes b.end bs (drop b.count rs)) is)
+    by_test false is rest = refl
+
+-- as many as its sealed buffers that can be written
+pub pending_segment : (size place : ℕ) (v : SegmentView) → IsSegment size place v → pending_in (unwritten_of v.parts) ≡ ready_count v.parts.sealed
+pending_segment size place v is = pending_sealed v.parts.site v.parts.bytes v.parts.written_len v.parts.sealed v.parts.reserved is.are
+
+pub pending_first : (size place : ℕ) (v : SegmentView) (vs : List SegmentView) → IsSegment size place v → pending_in (unwritten (v ∷ vs)) ≡ ready_count v.parts.sealed + pending_in (unwritten vs)
+pending_first size place v vs is = pending_on (unwritten_of v.parts) (unwritten vs) ∙ ap (λ n. n + pending_in (unwritten vs)) (pending_segment size place v is)
+
+-- each has a byte
+ready_low : (from : ℕ) (bs : List Sealed) (rs : List Reserved) → AreSealed from rs bs → from + ready_count bs ≤ sealed_end from bs
+ready_low from [] rs are = omega arith
+ready_low from (b ∷ bs) rs are = by_test (is_ready b) (ready_low b.end bs (drop b.count rs) are.1) are.0.rises where
+  by_test : (o : Bool) → b.end + ready_count bs ≤ sealed_end b.end bs → from < b.end → from + (if o then suc (ready_count bs) else ready_count bs) ≤ sealed_end b.end bs
+  by_test true rest rises = omega (arith, rest, rises)
+  by_test false rest rises = omega (arith, rest, rises)
+
+-- so they are few
+pub pending_small : (size place : ℕ) (vs : List SegmentView) → place < 2 ^ 63 → AreSegments size place vs → place + pending_in (unwritten vs) < 2 ^ 63
+pending_small size place [] small are = omega (arith, small)
+pending_small size place (v ∷ vs) small are =
+    let is = are.0 in
+    let at = is.at in
+    let far = is.place_small in
+    let begins = is.begins in
+    let short = is.short in
+    let low = ready_low v.parts.written_len v.parts.sealed v.parts.reserved is.are in
+    let rest = pending_small size (place + size) vs (omega (arith, at, far)) are.1 in
+    let all = pending_first size place v vs is in
+    omega (arith, begins, short, low, rest, all)
+
+-- So it is in a log, of the segments behind the first one that are left at an index.
+module _ {D C : Type 0} (log : Log D C) where
+  pub pending_line : pending_in (waiting_of log) ≡ ready_count log.buffer.sealed.items + pending_in (unwritten (map segment_view log.behind.items))
+  pending_line = pending_first log.config.config.segment_size log.site.place (view_at log.site log.buffer) (map segment_view log.behind.items) (line_segments log).0
+
+  pub pending_few : pending_in (waiting_of log) < 2 ^ 63
+  pending_few =
+      let size : ℕ = log.config.config.segment_size in
+      let few = pending_small size log.site.place (line_of log) (let near = log.place_in_reach in omega (arith, near)) (line_segments log) in
+      omega (arith, few)
+
+  module _ (n : ℕ) (s : SegmentBuffer) (lt : n < length log.behind.items) (is : s ≡ slice_index_or log.behind.items n s) where
+    pub behind_there : slice_get (line_of log) (suc n) ≡ Some (segment_view s)
+    behind_there = behind_get log.behind.items n s (there_is log.behind.items n s lt is)
+
+    pub behind_left : map segment_view (drop n log.behind.items) ≡ segment_view s ∷ map segment_view (drop (n + 1) log.behind.items)
+    behind_left = ap (map segment_view) (drop_more log.behind.items n s lt ∙ ap (λ (x : SegmentBuffer). x ∷ drop (n + 1) log.behind.items) (sym is))
+
+    pub pending_left : pending_in (unwritten (map segment_view (drop n log.behind.items))) ≡ ready_count s.buffer.sealed.items + pending_in (unwritten (map segment_view (drop (n + 1) log.behind.items)))
+    pending_left =
+        let size : ℕ = log.config.config.segment_size in
+        ap (λ (vs : List SegmentView). pending_in (unwritten vs)) behind_left ∙ pending_first size (log.site.place + suc n * size) (segment_view s) (map segment_view (drop (n + 1) log.behind.items)) (nth_facts log (suc n) (segment_view s) behind_there)
+
+-- The i-th buffer of a line that can be written is this one of this segment.
+pub record Finds (line : List SegmentView) (i n k : ℕ) : Type 0 where
+  pub ready : IsReadyIn line n k
+  pub writes : write_in line n k ≡ write_pending i (unwritten line)
+  pub left : (v : SegmentView) → slice_get line n ≡ Some v → unwritten (set line n (written_now k v)) ≡ without_pending i (unwritten line)
+
+pub finds_first : (size place : ℕ) (v : SegmentView) (vs : List SegmentView) (i k : ℕ) → IsSegment size place v → i < ready_count v.parts.sealed → k < length v.parts.sealed → ((b : Sealed) → slice_get v.parts.sealed k ≡ Some b → is_ready b ≡ true)
+    → ready_count (take k v.parts.sealed) ≡ i → Finds (v ∷ vs) i 0 k
+finds_first size place v vs i k is low within ready at =
+    let bs : List Sealed = v.parts.sealed in
+    let xs : List BufferAt = unwritten_of v.parts in
+    let few : i < pending_in xs = let same = pending_segment size place v is in omega (arith, same, low) in
+    record {
+      ready = its bs within ready refl;
+      writes = sym (write_front i xs (unwritten vs) few ∙ write_sealed v.parts.site v.parts.bytes i v.parts.written_len bs v.parts.reserved is.are ∙ pending_write v.parts.site.slot v.parts.bytes v.parts.written_len bs k i ready within at);
+      left = λ u among.
+          let same : v ≡ u = cc in
+          subst (λ (w : SegmentView). unwritten (written_now k w ∷ vs) ≡ without_pending i (unwritten (v ∷ vs))) same
+          (ap (λ (l : List BufferAt). l ++ unwritten vs)
+          (unwritten_run v.parts.site v.parts.bytes v.parts.written_len (written_at k bs) v.parts.reserved
+          ∙ ap (λ (cs : List Sealed). unwritten_in v.parts.site v.parts.bytes v.parts.written_len cs v.parts.reserved) (sym (pending_marked bs k i ready within at))
+          ∙ left_sealed v.parts.site v.parts.bytes i v.parts.written_len bs v.parts.reserved is.are)
+          ∙ sym (left_front i xs (unwritten vs) few));
+    }
+  where
+    its : (bs : List Sealed) → k < length bs → ((b : Sealed) → slice_get bs k ≡ Some b → is_ready b ≡ true) → v.parts.sealed ≡ bs → IsReadyIn (v ∷ vs) 0 k
+    its bs inside able same = found bs k inside able (ap (λ (l : List Sealed). slice_get l k) same) where
+      found : (cs : List Sealed) (j : ℕ) → j < length cs → ((b : Sealed) → slice_get cs j ≡ Some b → is_ready b ≡ true) → slice_get v.parts.sealed k ≡ slice_get cs j → IsReadyIn (v ∷ vs) 0 k
+      found [] j inside able same = absurd (omega (arith, inside))
+      found (c ∷ cs) zero inside able same = record { segment = v; among = refl; buffer = c; there = same; ready = able c refl }
+      found (c ∷ cs) (suc j) inside able same = found cs j (omega (arith, inside)) able same
+
+pub finds_behind : (size place : ℕ) (v : SegmentView) (vs : List SegmentView) (i n k : ℕ) → IsSegment size place v → ready_count v.parts.sealed ≤ i → Finds vs (i - ready_count v.parts.sealed) n k → Finds (v ∷ vs) i (suc n) k
+finds_behind size place v vs i n k is high found =
+    let xs : List BufferAt = unwritten_of v.parts in
+    let count = pending_segment size place v is in
+    let past : pending_in xs ≤ i = omega (arith, count, high) in
+    let r = found.ready in
+    record {
+      ready = record { segment = r.segment; among = r.among; buffer = r.buffer; there = r.there; ready = r.ready };
+      writes = found.writes ∙ ap (λ m. write_pending (i - m) (unwritten vs)) (sym count) ∙ sym (write_behind i xs (unwritten vs) past);
+      left = λ u among. ap (λ (l : List BufferAt). xs ++ l) (found.left u among ∙ ap (λ m. without_pending (i - m) (unwritten vs)) (sym count)) ∙ sym (left_behind i xs (unwritten vs) past);
+    }
+
+-- So it is in a log,
+module _ {D C : Type 0} (log : Log D C) where
+  pub log_first : (i k : ℕ) → i < ready_count log.buffer.sealed.items → k < length log.buffer.sealed.items → ((b : Sealed) → slice_get log.buffer.sealed.items k ≡ Some b → is_ready b ≡ true) → ready_count (take k log.buffer.sealed.items) ≡ i → Finds (line_of log) i 0 k
+  log_first i k low within ready at = finds_first log.config.config.segment_size log.site.place (view_at log.site log.buffer) (map segment_view log.behind.items) i k (line_segments log).0 low within ready at
+
+  pub log_behind : (i n k : ℕ) → ready_count log.buffer.sealed.items ≤ i → Finds (map segment_view log.behind.items) (i - ready_count log.buffer.sealed.items) n k → Finds (line_of log) i (suc n) k
+  log_behind i n k high found = finds_behind log.config.config.segment_size log.site.place (view_at log.site log.buffer) (map segment_view log.behind.items) i n k (line_segments log).0 high found
+
+  -- and in those of its segments that are left at an index.
+  module _ (n : ℕ) (s : SegmentBuffer) (lt : n < length log.behind.items) (is : s ≡ slice_index_or log.behind.items n s) where
+    abbrev at_index : ℕ
+    at_index = log.site.place + suc n * log.config.config.segment_size
+
+    abbrev rest : List SegmentView
+    rest = map segment_view (drop (n + 1) log.behind.items)
+
+    pub left_first : (i k : ℕ) → i < ready_count s.buffer.sealed.items → k < length s.buffer.sealed.items → ((b : Sealed) → slice_get s.buffer.sealed.items k ≡ Some b → is_ready b ≡ true) → ready_count (take k s.buffer.sealed.items) ≡ i
+        → Finds (map segment_view (drop n log.behind.items)) i 0 k
+    left_first i k low within ready at =
+        subst (λ (l : List SegmentView). Finds l i 0 k) (sym (behind_left log n s lt is))
+        (finds_first log.config.config.segment_size at_index (segment_view s) rest i k (nth_facts log (suc n) (segment_view s) (behind_there log n s lt is)) low within ready at)
+
+    pub left_further : (i m k : ℕ) → ready_count s.buffer.sealed.items ≤ i → Finds rest (i - ready_count s.buffer.sealed.items) m k → Finds (map segment_view (drop n log.behind.items)) i (suc m) k
+    left_further i m k high found =
+        subst (λ (l : List SegmentView). Finds l i (suc m) k) (sym (behind_left log n s lt is))
+        (finds_behind log.config.config.segment_size at_index (segment_view s) rest i m k (nth_facts log (suc n) (segment_view s) (behind_there log n s lt is)) high found)
+
+-- The segments that go have none.
+pub unwritten_promoted : (size place : ℕ) (vs : List SegmentView) → AreSegments size place vs → unwritten (promoted size vs) ≡ unwritten vs
+unwritten_promoted size place vs are =
+    (by_front size (λ l. ((p : ℕ) × AreSegments size p l) × (unwritten l ≡ unwritten vs))
+    (λ v w ws full has. (
+      (has.0.0 + size, has.0.1.1),
+      sym (ap (λ (bs : List Sealed). unwritten_in v.parts.site v.parts.bytes v.parts.written_len bs v.parts.reserved ++ unwritten (w ∷ ws)) (full_unsealed size has.0.0 v has.0.1.0 full)) ∙ has.1,
+    ))
+    vs ((place, are), refl)).1
+
+-- All before the stable end is on the device, and what begins there isn't: the first of these buffers, or the current one.
+pub first_waits : {D C : Type 0} (log : Log D C) → FirstWaits (synced_end log) (current_begin log) (waiting_of log)
+first_waits log = by log.buffer.sealed.items log.buffer.head (map segment_view log.behind.items) log.filled
+    (λ some. log.waits (omega (arith, some, length-map log.behind.items segment_view))) refl
+  where
+    by : (bs : List Sealed) → FirstUnwritten bs → (ws : List SegmentView) → AreFilled log.config.config.segment_size log.reserved_to (view_at log.site log.buffer ∷ ws) → (0 < length ws → log.buffer.written_len < log.config.config.segment_size) → log.buffer.sealed.items ≡ bs
+        → FirstWaits (synced_end log) ((last_of (view_at log.site log.buffer) ws).parts.site.place + begin_of (last_of (view_at log.site log.buffer) ws)) (unwritten (view_at log.site log.buffer ∷ ws))
+    by [] fresh ws filled waits is =
+        subst (λ (l : List BufferAt). FirstWaits (synced_end log) ((last_of (view_at log.site log.buffer) ws).parts.site.place + begin_of (last_of (view_at log.site log.buffer) ws)) (l ++ unwritten ws))
+        (sym (ap (λ (l : List Sealed). unwritten_in log.site log.buffer.bytes.items log.buffer.written_len l log.buffer.reserved.items) is))
+        (alone ws filled waits (ap (sealed_end log.buffer.written_len) is))
+      where
+        alone : (us : List SegmentView) → AreFilled log.config.config.segment_size log.reserved_to (view_at log.site log.buffer ∷ us) → (0 < length us → log.buffer.written_len < log.config.config.segment_size) → begin_of (view_at log.site log.buffer) ≡ log.buffer.written_len
+            → FirstWaits (synced_end log) ((last_of (view_at log.site log.buffer) us).parts.site.place + begin_of (last_of (view_at log.site log.buffer) us)) (unwritten us)
+        alone [] filled waits at = omega (arith, at)
+        alone (w ∷ us) filled waits at = absurd (let low = waits (omega arith) in let full = filled.0 in omega (arith, low, full, at))
+    by (b ∷ bs) fresh ws filled waits is =
+        subst (λ (l : List BufferAt). FirstWaits (synced_end log) ((last_of (view_at log.site log.buffer) ws).parts.site.place + begin_of (last_of (view_at log.site log.buffer) ws)) (l ++ unwritten ws))
+        (sym (ap (λ (l : List Sealed). unwritten_in log.site log.buffer.bytes.items log.buffer.written_len l log.buffer.reserved.items) is ∙ fresh_one log.site log.buffer.bytes.items log.buffer.written_len b bs log.buffer.reserved.items fresh))
+        refl

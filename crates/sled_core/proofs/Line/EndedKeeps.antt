@@ -1,0 +1,140 @@
+-- A call that ends a reservation of a log changes nothing else that a caller sees: the position, the stable end, and that no buffer is sealed; and what the changed segments hold and fit the log does.
+use Rattle.std.proofs.Common.{◌≡◌, ◌∙◌, ◌+◌, ◌-◌, ap, sym, refl, arith, subst, ℕ, zero, suc, Bool, true, false, nat_lt, if◌then◌else◌, List, [], ◌∷◌, ◌++◌, length, take, drop, set, map, Option, Some}
+use Rattle.std.specs.declared.io.Error.{Error as IoError}
+use Rattle.std.specs.List.{slice_get}
+use Rattle.std.proofs.lemmas.List.{length-set}
+use Rattle.sled_codec.specs.declared.serialization.message.MessageKind.{MessageKind}
+use Rattle.sled_codec.specs.History.{History, Message}
+use Rattle.sled_store.specs.Accounts.{machine_of}
+use Rattle.sled_store.specs.Device.{Trace, state_of}
+use Rattle.sled_store.specs.declared.config.RunningConfig.{RunningConfig}
+use Rattle.sled_store.specs.declared.segment.accountant.SegmentAccountant.{SegmentAccountant}
+use Rattle.sled_store.specs.SegmentStates.{Machine}
+use Rattle.sled_core.specs.declared.iobuf.ReservationState.{ReservationState}
+use Rattle.sled_core.specs.declared.iobuf.ReservationState.TheVariants.{Open}
+use Rattle.sled_core.specs.declared.iobuf.Reserved.{Reserved}
+use Rattle.sled_core.specs.declared.iobuf.Sealed.{Sealed}
+use Rattle.sled_core.specs.declared.iobuf.SegmentPosition.{SegmentPosition}
+use Rattle.sled_core.specs.declared.logger.Log.{Log}
+use Rattle.sled_core.specs.Begun.{SegmentView, segment_view, view_at}
+use Rattle.sled_core.specs.Buffers.{ending}
+use Rattle.sled_core.specs.Fits.{Holds, HoldsWith, KeepsAll, current_of, line_of, synced_end}
+use Rattle.sled_core.specs.Keeps.{GoesOn, SamePosition}
+use Rattle.sled_core.specs.Positions.{is_short, next_segment_at, position_in}
+use Rattle.sled_core.specs.Running.{Fits, FitsWith}
+use Rattle.sled_core.specs.SealedBuffers.{one_ended, one_fewer}
+use Rattle.sled_core.specs.Turned.{ChangesLine, ended_now}
+use Rattle.sled_core.specs.Waiting.{buffer_at, unwritten, unwritten_in, unwritten_of}
+use Rattle.sled_core.proofs.Holds.KeptCalls.{goes_on_quietly}
+use Rattle.sled_core.proofs.Line.EndedLine.{ended_bytes}
+use Rattle.sled_core.proofs.Line.Ends.{set_keeps}
+use Rattle.sled_core.proofs.Line.Facts.{nth_facts}
+use Rattle.sled_core.proofs.Line.Nth.{last_get}
+
+-- No buffer is sealed that isn't written where none was.
+
+nil_both : {T : Type 0} (xs ys : List T) → xs ++ ys ≡ [] → (xs ≡ []) × (ys ≡ [])
+nil_both [] ys same = (refl, same)
+nil_both (x ∷ xs) ys same = cc
+
+is_rest : {T : Type 0} (o : Bool) (xs ys : List T) (x : T) → (if o then xs else x ∷ ys) ≡ [] → (o ≡ true) × (xs ≡ [])
+is_rest true xs ys x same = (refl, same)
+is_rest false xs ys x same = cc
+
+none_still : (site : SegmentPosition) (bytes bytes' : List ℕ) (from : ℕ) (bs : List Sealed) (rs rs' : List Reserved) → unwritten_in site bytes from bs rs ≡ [] → unwritten_in site bytes' from bs rs' ≡ []
+none_still site bytes bytes' from [] rs rs' none = refl
+none_still site bytes bytes' from (b ∷ bs) rs rs' none =
+    let is = is_rest b.is_written (unwritten_in site bytes b.end bs (drop b.count rs)) (unwritten_in site bytes b.end bs (drop b.count rs)) (buffer_at site bytes from b.end (take b.count rs)) none in
+    (λ j. if is.0 j then unwritten_in site bytes' b.end bs (drop b.count rs') else (buffer_at site bytes' from b.end (take b.count rs') ∷ unwritten_in site bytes' b.end bs (drop b.count rs')))
+    ∙ none_still site bytes bytes' b.end bs (drop b.count rs) (drop b.count rs') is.1
+
+none_ended : (site : SegmentPosition) (bytes bytes' : List ℕ) (from i : ℕ) (bs : List Sealed) (rs rs' : List Reserved) → unwritten_in site bytes from bs rs ≡ [] → unwritten_in site bytes' from (one_ended i bs) rs' ≡ []
+none_ended site bytes bytes' from i [] rs rs' none = refl
+none_ended site bytes bytes' from i (b ∷ bs) rs rs' none =
+    by_test (λ rest. none_ended site bytes bytes' b.end (i - b.count) bs (drop b.count rs) (drop b.count rs') rest) (nat_lt i b.count)
+  where
+    is : (b.is_written ≡ true) × (unwritten_in site bytes b.end bs (drop b.count rs) ≡ [])
+    is = is_rest b.is_written (unwritten_in site bytes b.end bs (drop b.count rs)) (unwritten_in site bytes b.end bs (drop b.count rs)) (buffer_at site bytes from b.end (take b.count rs)) none
+
+    by_test : (unwritten_in site bytes b.end bs (drop b.count rs) ≡ [] → unwritten_in site bytes' b.end (one_ended (i - b.count) bs) (drop b.count rs') ≡ []) → (o : Bool)
+        → unwritten_in site bytes' from (if o then one_fewer b ∷ bs else b ∷ one_ended (i - b.count) bs) rs' ≡ []
+    by_test further true =
+        (λ j. if is.0 j then unwritten_in site bytes' b.end bs (drop b.count rs') else (buffer_at site bytes' from b.end (take b.count rs') ∷ unwritten_in site bytes' b.end bs (drop b.count rs')))
+        ∙ none_still site bytes bytes' b.end bs (drop b.count rs) (drop b.count rs') is.1
+    by_test further false =
+        (λ j. if is.0 j then unwritten_in site bytes' b.end (one_ended (i - b.count) bs) (drop b.count rs') else (buffer_at site bytes' from b.end (take b.count rs') ∷ unwritten_in site bytes' b.end (one_ended (i - b.count) bs) (drop b.count rs')))
+        ∙ further is.1
+
+unwritten_set : (line : List SegmentView) (n : ℕ) (v e : SegmentView) → slice_get line n ≡ Some v → (unwritten_of v.parts ≡ [] → unwritten_of e.parts ≡ []) → unwritten line ≡ [] → unwritten (set line n e) ≡ []
+unwritten_set [] n v e there still none = none
+unwritten_set (x ∷ xs) zero v e there still none =
+    let same : x ≡ v = cc in
+    let parts = nil_both (unwritten_of x.parts) (unwritten xs) none in
+    let here : unwritten_of e.parts ≡ [] = still (ap (λ (w : SegmentView). unwritten_of w.parts) (sym same) ∙ parts.0) in
+    (λ j. here j ++ parts.1 j)
+unwritten_set (x ∷ xs) (suc n) v e there still none =
+    let parts = nil_both (unwritten_of x.parts) (unwritten xs) none in
+    let rest : unwritten (set xs n e) ≡ [] = unwritten_set xs n v e there still parts.1 in
+    (λ j. parts.0 j ++ rest j)
+
+module _ {D C : Type 0} (old new : Log D C) (n : ℕ) (v : SegmentView) (there : slice_get (line_of old) n ≡ Some v) (i : ℕ) (r : Reserved) (at : slice_get v.parts.reserved i ≡ Some r) (is_open : r.state ≡ Open) (word : ℕ) (kind : MessageKind) (state : ReservationState)
+    (line : line_of new ≡ set (line_of old) n (ended_now i r (ending word kind) state v)) (rest : ChangesLine old new) where
+  abbrev e : SegmentView
+  e = ended_now i r (ending word kind) state v
+
+  abbrev behind : List SegmentView
+  behind = map segment_view old.behind.items
+
+  abbrev behind' : List SegmentView
+  behind' = map segment_view new.behind.items
+
+  -- the segment that is being filled, in the changed segments
+  current_there : slice_get (set (line_of old) n e) (length behind) ≡ Some (current_of new)
+  current_there =
+      let long : suc (length behind') ≡ suc (length behind) = ap length line ∙ length-set (line_of old) n e in
+      let count : length behind ≡ length behind' = omega (arith, long) in
+      ap (λ (l : List SegmentView). slice_get l (length behind)) (sym line) ∙ ap (slice_get (line_of new)) count ∙ last_get (view_at new.site new.buffer) behind'
+
+  pub position_ended : SamePosition old new
+  position_ended =
+      let size : ℕ = old.config.config.segment_size in
+      let m : Machine = machine_of old.accountant in
+      let long = ended_bytes v i r word kind (nth_facts old n v there) at is_open in
+      let same : position_in size e m ≡ position_in size v m = ap (λ (k : ℕ). if is_short size k then next_segment_at size v.parts.site.place m else record { place = v.parts.site.place + k; begins = v.parts.site.place; slot = v.parts.site.slot; machine = m }) long in
+      record {
+        position = (λ j. position_in (rest.config j).config.segment_size (current_of new) (machine_of (rest.accountant j)))
+            ∙ set_keeps (λ (w : SegmentView). position_in size w m) (line_of old) n v e there same (length behind) (current_of old) (current_of new) (last_get (view_at old.site old.buffer) behind) current_there;
+        reserved = rest.reserved;
+        pins = rest.pins;
+        size = ap (λ (c : RunningConfig D C). c.config.segment_size) rest.config;
+      }
+
+  synced_ended : synced_end new ≡ synced_end old
+  synced_ended = set_keeps (λ (w : SegmentView). w.parts.site.place + w.parts.written_len) (line_of old) n v e there refl 0 (view_at old.site old.buffer) (view_at new.site new.buffer) refl (ap (λ (l : List SegmentView). slice_get l 0) (sym line))
+
+  pub keeps_ended : KeepsAll old new
+  keeps_ended = record { config = rest.config; synced = synced_ended; fault = rest.fault; pins = rest.pins }
+
+  pub goes_on_ended : (trace : D → Trace) (sum : List ℕ → ℕ) → GoesOn trace sum old new
+  goes_on_ended trace sum = goes_on_quietly trace sum old new (record { config = ap (λ (c : RunningConfig D C). c.config) rest.config; checksum = ap (λ (c : RunningConfig D C). c.checksum) rest.config })
+      (ap (λ (c : RunningConfig D C). trace c.device) rest.config) (let same = synced_ended in omega (arith, same))
+
+  -- The log holds and fits what the changed segments do.
+
+  pub holds_ended : (trace : D → Trace) (sum : List ℕ → ℕ) (H : History) → HoldsWith sum old.config.config.segment_size (state_of (trace old.config.device)) old.fault (set (line_of old) n e) (machine_of old.accountant) H → Holds trace sum new H
+  unfolding Holds
+  holds_ended trace sum H holds =
+      subst (λ (c : RunningConfig D C). HoldsWith sum c.config.segment_size (state_of (trace c.device)) new.fault (line_of new) (machine_of new.accountant) H) (sym rest.config)
+      (subst (λ (f : Option IoError). HoldsWith sum old.config.config.segment_size (state_of (trace old.config.device)) f (line_of new) (machine_of new.accountant) H) (sym rest.fault)
+      (subst (λ (l : List SegmentView). HoldsWith sum old.config.config.segment_size (state_of (trace old.config.device)) old.fault l (machine_of new.accountant) H) (sym line)
+      (subst (λ (a : SegmentAccountant). HoldsWith sum old.config.config.segment_size (state_of (trace old.config.device)) old.fault (set (line_of old) n e) (machine_of a) H) (sym rest.accountant) holds)))
+
+  pub fits_ended : (trace : D → Trace) (sum : List ℕ → ℕ) (H : History) (A f : ℕ) (U : List Message)
+      → FitsWith sum old.config.config.segment_size (state_of (trace old.config.device)) old.fault (set (line_of old) n e) (machine_of old.accountant) old.pins H A f U → Fits trace sum new H A f U
+  unfolding Fits
+  fits_ended trace sum H A f U fits =
+      subst (λ (c : RunningConfig D C). FitsWith sum c.config.segment_size (state_of (trace c.device)) new.fault (line_of new) (machine_of new.accountant) new.pins H A f U) (sym rest.config)
+      (subst (λ (x : Option IoError). FitsWith sum old.config.config.segment_size (state_of (trace old.config.device)) x (line_of new) (machine_of new.accountant) new.pins H A f U) (sym rest.fault)
+      (subst (λ (l : List SegmentView). FitsWith sum old.config.config.segment_size (state_of (trace old.config.device)) old.fault l (machine_of new.accountant) new.pins H A f U) (sym line)
+      (subst (λ (a : SegmentAccountant). FitsWith sum old.config.config.segment_size (state_of (trace old.config.device)) old.fault (set (line_of old) n e) (machine_of a) new.pins H A f U) (sym rest.accountant)
+      (subst (λ (p : ℕ). FitsWith sum old.config.config.segment_size (state_of (trace old.config.device)) old.fault (set (line_of old) n e) (machine_of old.accountant) p H A f U) (sym rest.pins) fits))))

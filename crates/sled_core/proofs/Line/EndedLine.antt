@@ -1,0 +1,135 @@
+-- The segments of a log where a reservation of one of them has ended: they are filled as they were; and what code has of one behind the first.
+use Rattle.std.proofs.Common.{◌≡◌, ◌∙◌, ◌≤◌, ◌<◌, ◌+◌, ◌-◌, ap, sym, refl, arith, subst, ℕ, zero, suc, Bool, true, false, nat_lt, if◌then◌else◌, List, [], ◌∷◌, length, drop, set, get_or, Some, length-drop}
+use Rattle.std.specs.List.{slice_get}
+use Rattle.std.proofs.lemmas.List.{length-set}
+use Rattle.std.proofs.lemmas.Option.{slice_get_within}
+use Rattle.sled_codec.specs.Written.{written}
+use Rattle.sled_codec.specs.declared.serialization.message.MessageKind.{MessageKind}
+use Rattle.sled_core.specs.declared.iobuf.IoBuf.{IoBuf}
+use Rattle.sled_core.specs.declared.iobuf.ReservationState.{ReservationState}
+use Rattle.sled_core.specs.declared.iobuf.ReservationState.TheVariants.{Open}
+use Rattle.sled_core.specs.declared.iobuf.Reserved.{Reserved}
+use Rattle.sled_core.specs.declared.iobuf.Sealed.{Sealed}
+use Rattle.sled_core.specs.declared.iobuf.SegmentPosition.{SegmentPosition}
+use Rattle.sled_core.specs.declared.logger.Log.{Log}
+use Rattle.sled_core.specs.declared.logger.segments.SegmentBuffer.{SegmentBuffer}
+use Rattle.sled_core.specs.Begun.{AreEntered, AreFilled, SegmentView, line_at, segment_view, view_at}
+use Rattle.sled_core.specs.Buffers.{IsHeaded, ended, ending}
+use Rattle.sled_core.specs.Fits.{line_of}
+use Rattle.sled_core.specs.SealedBuffers.{one_ended, one_fewer}
+use Rattle.sled_core.specs.Turned.{HasOpenIn, ended_now}
+use Rattle.sled_core.proofs.Line.Facts.{IsSegment}
+use Rattle.sled_core.proofs.Line.Marks.{line_set}
+use Rattle.sled_core.proofs.Line.Nth.{get_map}
+use Rattle.sled_core.proofs.Line.Segments.{filled_set}
+use Rattle.sled_core.proofs.Reserve.Parts.{there_is}
+use Rattle.sled_core.proofs.Reserve.Ranges.{at_there, length-written}
+use Rattle.sled_core.proofs.Sealed.InBuffer.{end_ended}
+
+-- the bytes of a segment are as many
+pub ended_bytes : {size place : ℕ} (v : SegmentView) (i : ℕ) (r : Reserved) (word : ℕ) (k : MessageKind) → IsSegment size place v → slice_get v.parts.reserved i ≡ Some r → r.state ≡ Open
+    → length (written v.parts.bytes r.from (ending word k)) ≡ length v.parts.bytes
+ended_bytes v i r word k facts there is_open =
+    let inside = at_there (λ (x : Reserved). x.from + x.len ≤ length v.parts.bytes) v.parts.reserved i r there facts.within in
+    let headed = at_there IsHeaded v.parts.reserved i r there facts.headed in
+    let own = headed.1 is_open in
+    length-written v.parts.bytes (ending word k) r.from (omega (arith, inside, own.0, own.1))
+
+-- Its buffers have entries as they had.
+entered_same : (to place from : ℕ) (bs : List Sealed) (rs rs' : List Reserved) → length rs' ≡ length rs → AreEntered to place from bs rs → AreEntered to place from bs rs'
+entered_same to place from [] rs rs' long are = λ some. are (omega (arith, long, some))
+entered_same to place from (b ∷ bs) rs rs' long are = (are.0, entered_same to place b.end bs (drop b.count rs) (drop b.count rs') (omega (arith, length-drop b.count rs, length-drop b.count rs', long)) are.1)
+
+entered_ended : (to place from i : ℕ) (bs : List Sealed) (rs rs' : List Reserved) → length rs' ≡ length rs → AreEntered to place from bs rs → AreEntered to place from (one_ended i bs) rs'
+entered_ended to place from i [] rs rs' long are = λ some. are (omega (arith, long, some))
+entered_ended to place from i (b ∷ bs) rs rs' long are = by_test (entered_ended to place b.end (i - b.count) bs (drop b.count rs) (drop b.count rs') fewer are.1) (nat_lt i b.count) where
+  fewer : length (drop b.count rs') ≡ length (drop b.count rs)
+  fewer = omega (arith, length-drop b.count rs, length-drop b.count rs', long)
+
+  by_test : AreEntered to place b.end (one_ended (i - b.count) bs) (drop b.count rs') → (o : Bool) → AreEntered to place from (if o then one_fewer b ∷ bs else b ∷ one_ended (i - b.count) bs) rs'
+  by_test rest true = (are.0, entered_same to place b.end bs (drop b.count rs) (drop b.count rs') fewer are.1)
+  by_test rest false = (are.0, rest)
+
+pub filled_ended : (size to : ℕ) (line : List SegmentView) (n : ℕ) {place : ℕ} (v : SegmentView) (i : ℕ) (r : Reserved) (word : ℕ) (k : MessageKind) (state : ReservationState) → slice_get line n ≡ Some v → IsSegment size place v
+    → slice_get v.parts.reserved i ≡ Some r → r.state ≡ Open → AreFilled size to line → AreFilled size to (set line n (ended_now i r (ending word k) state v))
+filled_ended size to line n v i r word k state among facts there is_open filled =
+    filled_set size to line n v (ended_now i r (ending word k) state v) among refl (end_ended v.parts.written_len i v.parts.sealed) (ended_bytes v i r word k facts there is_open)
+    (entered_ended to v.parts.site.place v.parts.written_len i v.parts.sealed v.parts.reserved (set v.parts.reserved i (ended state r)) (length-set v.parts.reserved i (ended state r))) filled
+
+-- What code makes of a buffer is the segment with that reservation ended.
+pub ended_view : (site : SegmentPosition) (old new : IoBuf) (i : ℕ) (r : Reserved) (how : List ℕ) (state : ReservationState) → new.bytes.items ≡ written old.bytes.items r.from how → new.reserved.items ≡ set old.reserved.items i (ended state r)
+    → new.sealed.items ≡ one_ended i old.sealed.items → new.written_len ≡ old.written_len → new.gone ≡ old.gone → view_at site new ≡ ended_now i r how state (view_at site old)
+ended_view site old new i r how state bytes reserved sealed from gone = λ j. record { parts = record { site = site; bytes = bytes j; written_len = from j; sealed = sealed j; reserved = reserved j }; gone = gone j }
+
+-- A segment behind the first one.
+
+pub behind_at : {D C : Type 0} (log : Log D C) (n : ℕ) (v : SegmentView) → (n ≡ 0 → ⊥) → slice_get (line_of log) n ≡ Some v → (s : SegmentBuffer) × (slice_get log.behind.items (n - 1) ≡ Some s) × (segment_view s ≡ v)
+behind_at log zero v some there = absurd (some refl)
+behind_at log (suc k) v some there = let at : suc k - 1 ≡ k = omega arith in let its = get_map segment_view log.behind.items k v there in (its.0, ap (slice_get log.behind.items) at ∙ its.1, its.2)
+
+-- its number is one of them
+pub behind_within : {D C : Type 0} (log : Log D C) (n : ℕ) (v : SegmentView) → (n ≡ 0 → ⊥) → slice_get (line_of log) n ≡ Some v → n - 1 < length log.behind.items
+behind_within log n v some there = let its = behind_at log n v some there in slice_get_within log.behind.items (n - 1) its.0 its.1
+
+-- The first one has the reservation that is open.
+module _ {D C : Type 0} (log : Log D C) (n index : ℕ) (its : HasOpenIn (line_of log) n index) (first : n ≡ 0) where
+  pub first_reserved : slice_get log.buffer.reserved.items (index - log.buffer.gone) ≡ Some its.reserved
+  first_reserved =
+      let is : slice_get (line_of log) 0 ≡ Some its.segment = subst (λ k. slice_get (line_of log) k ≡ Some its.segment) first its.among in
+      let same : view_at log.site log.buffer ≡ its.segment = cc in
+      subst (λ (w : SegmentView). slice_get w.parts.reserved (index - w.gone) ≡ Some its.reserved) (sym same) its.there
+
+-- It was read, where a reservation of it is open.
+module _ {D C : Type 0} (log : Log D C) (n index : ℕ) (its : HasOpenIn (line_of log) n index) (some : n ≡ 0 → ⊥) where
+  module _ (s : SegmentBuffer) (read : s ≡ get_or log.behind.items (n - 1) s) where
+    pub read_there : slice_get log.behind.items (n - 1) ≡ Some s
+    read_there = there_is log.behind.items (n - 1) s (behind_within log n its.segment some its.among) read
+
+    pub read_is : segment_view s ≡ its.segment
+    read_is =
+        let at = behind_at log n its.segment some its.among in
+        let both : Some s ≡ Some at.0 = sym read_there ∙ at.1 in
+        let same : s ≡ at.0 = cc in
+        ap segment_view same ∙ at.2
+
+    pub read_among : slice_get (line_of log) n ≡ Some (segment_view s)
+    read_among = its.among ∙ ap Some (sym read_is)
+
+    pub read_numbered : s.buffer.gone ≤ index
+    read_numbered = let same : s.buffer.gone ≡ its.segment.gone = ap (λ (w : SegmentView). w.gone) read_is in let numbered = its.numbered in omega (arith, same, numbered)
+
+    pub read_reserved : slice_get s.buffer.reserved.items (index - s.buffer.gone) ≡ Some its.reserved
+    read_reserved = subst (λ (w : SegmentView). slice_get w.parts.reserved (index - w.gone) ≡ Some its.reserved) (sym read_is) its.there
+
+  -- And then it was changed.
+  module _ (s t : SegmentBuffer) (read : s ≡ get_or log.behind.items (n - 1) s) (again : t ≡ get_or log.behind.items (n - 1) t) where
+    pub read_same : s ≡ t
+    read_same = let both : Some s ≡ Some t = sym (read_there s read) ∙ read_there t again in cc
+
+    pub mut_reserved : slice_get t.buffer.reserved.items (index - s.buffer.gone) ≡ Some its.reserved
+    mut_reserved = ap (λ (x : SegmentBuffer). slice_get t.buffer.reserved.items (index - x.buffer.gone)) read_same ∙ read_reserved t again
+
+    -- What was made of it was made of whichever segment and reservation these are.
+    pub line_any : (how : List ℕ → Reserved → List ℕ) (state : ReservationState) (line : List SegmentView)
+        → line ≡ set (line_of log) n (ended_now (index - s.buffer.gone) its.reserved (how t.buffer.bytes.items its.reserved) state (segment_view t))
+        → (v : SegmentView) (r : Reserved) → slice_get (line_of log) n ≡ Some v → slice_get v.parts.reserved (index - v.gone) ≡ Some r
+        → line ≡ set (line_of log) n (ended_now (index - v.gone) r (how v.parts.bytes r) state v)
+    line_any how state line is v r among there =
+        let both : Some (segment_view t) ≡ Some v = sym (read_among t again) ∙ among in
+        let mine : segment_view t ≡ v = cc in
+        let gone : s.buffer.gone ≡ v.gone = ap (λ (x : SegmentBuffer). x.buffer.gone) read_same ∙ ap (λ (w : SegmentView). w.gone) mine in
+        let own : slice_get v.parts.reserved (index - v.gone) ≡ Some its.reserved = sym (λ j. slice_get (mine j).parts.reserved (index - gone j)) ∙ mut_reserved in
+        let all : Some its.reserved ≡ Some r = sym own ∙ there in
+        let same : its.reserved ≡ r = cc in
+        is ∙ (λ j. set (line_of log) n (ended_now (index - gone j) (same j) (how (mine j).parts.bytes (same j)) state (mine j)))
+
+    -- One of its reservations ended.
+    module _ (new : IoBuf) (how : List ℕ) (state : ReservationState) (bytes : new.bytes.items ≡ written t.buffer.bytes.items its.reserved.from how)
+        (reserved : new.reserved.items ≡ set t.buffer.reserved.items (index - s.buffer.gone) (ended state its.reserved)) (sealed : new.sealed.items ≡ one_ended (index - s.buffer.gone) t.buffer.sealed.items)
+        (from : new.written_len ≡ t.buffer.written_len) (gone : new.gone ≡ t.buffer.gone) where
+      abbrev now : SegmentBuffer
+      now = record { site = t.site; buffer = new }
+
+      pub line_behind : line_at log.site log.buffer (set log.behind.items (n - 1) now) ≡ set (line_of log) n (ended_now (index - s.buffer.gone) its.reserved how state (segment_view t))
+      line_behind = line_set log.site log.buffer log.behind.items n now some
+          ∙ ap (λ (w : SegmentView). set (line_of log) n w) (ended_view t.site t.buffer new (index - s.buffer.gone) its.reserved how state bytes reserved sealed from gone)

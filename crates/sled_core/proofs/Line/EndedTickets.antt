@@ -1,0 +1,169 @@
+-- Tickets by the segments of a log: which segment a ticket is of, which tickets stay for what they were for once one has ended, and when none is open.
+use Rattle.std.proofs.lemmas.Bool.{cases_eq}
+use Rattle.std.proofs.Common.{◌≡◌, ◌≢◌, ◌∙◌, ◌≤◌, ◌<◌, ◌+◌, ◌-◌, ◌*◌, ◌/◌, ◌^◌, ap, sym, refl, arith, subst, to_z, of_z, w64, ℕ, ℤ, zero, suc, pos, max, true, List, [], ◌∷◌, length, set, Option, Some, inl, inr}
+use lib.Signed.{mag}
+use Rattle.std.specs.Prelude.{unsigned_abs}
+use Rattle.std.specs.declared.io.Error.{Error as IoError}
+use Rattle.std.specs.List.{All, slice_get}
+use Rattle.std.proofs.lemmas.Int.{to_z-of_z}
+use Rattle.std.proofs.lemmas.List.Elements.{All-tail}
+use Rattle.std.proofs.lemmas.Nat.{div-mul-add}
+use Rattle.sled_codec.specs.declared.serialization.message.MessageKind.{MessageKind}
+use Rattle.sled_codec.specs.History.{History, Message}
+use Rattle.sled_store.specs.Device.{State}
+use Rattle.sled_core.specs.declared.iobuf.ReservationState.{ReservationState}
+use Rattle.sled_core.specs.declared.iobuf.ReservationState.TheVariants.{Open}
+use Rattle.sled_core.specs.declared.iobuf.Reserved.{Reserved}
+use Rattle.sled_core.specs.declared.logger.Log.{Log}
+use Rattle.sled_core.specs.declared.reservation.Reservation.{Reservation}
+use Rattle.sled_core.specs.Begun.{SegmentView}
+use Rattle.sled_core.specs.Buffers.{IsChain, IsHeaded, ended, ending, message_in, none_open}
+use Rattle.sled_core.specs.Fits.{Awaits, AwaitsIn, HoldsLine, IsOnlyOpenIn, NoneOpenIn, line_of}
+use Rattle.sled_core.specs.Tickets.{IsFor, index_of, place_of}
+use Rattle.sled_core.specs.Turned.{HasOpenIn, ended_now}
+use Rattle.sled_core.proofs.Holds.CompletedLemmas.{others_stay}
+use Rattle.sled_core.proofs.Holds.OpenTickets.{ended_each, only_closed}
+use Rattle.sled_core.proofs.Line.Ends.{with_segment}
+use Rattle.sled_core.proofs.Line.Facts.{IsSegment, nth_facts}
+use Rattle.sled_core.proofs.Line.Nth.{set_get, set_other}
+use Rattle.sled_core.proofs.Reserve.Ranges.{at_there, chain_within}
+use Rattle.sled_core.proofs.Sealed.Around.{whole_chain}
+
+-- all entries of a segment are one chain
+pub segment_chain : {size place : ℕ} (v : SegmentView) → IsSegment size place v → IsChain (max 20 v.parts.written_len) v.parts.reserved (length v.parts.bytes)
+segment_chain v facts = whole_chain v.parts.written_len v.parts.reserved v.parts.sealed (length v.parts.bytes) facts.are facts.chain
+
+-- an entry begins in its segment
+pub entry_low : {size place : ℕ} (v : SegmentView) (i : ℕ) (r : Reserved) → IsSegment size place v → slice_get v.parts.reserved i ≡ Some r → r.from < size
+entry_low v i r facts there =
+    let inside = at_there (λ (x : Reserved). x.from + x.len ≤ length v.parts.bytes) v.parts.reserved i r there facts.within in
+    let headed = at_there IsHeaded v.parts.reserved i r there facts.headed in
+    let some = headed.0 in let short = facts.short in
+    omega (arith, inside, some, short)
+
+-- The place of an entry says which segment it is of,
+pub number_is : {size : ℕ} (base n : ℕ) (v : SegmentView) (i : ℕ) (r : Reserved) → IsSegment size (base + n * size) v → slice_get v.parts.reserved i ≡ Some r → (v.parts.site.place + r.from - base) / size ≡ n
+number_is {size} base n v i r facts there =
+    let at = facts.at in
+    let over : v.parts.site.place + r.from - base ≡ n * size + r.from = omega (arith, at) in
+    ap (λ (k : ℕ). k / size) over ∙ div-mul-add n size r.from (entry_low v i r facts there)
+
+-- and which entry it is.
+entry_is : (from end : ℕ) (rs : List Reserved) (i j : ℕ) (r x : Reserved) → IsChain from rs end → All IsHeaded rs → slice_get rs i ≡ Some r → slice_get rs j ≡ Some x → x.from ≡ r.from → j ≡ i
+entry_is from end [] i j r x chain headed at_i at_j same = cc
+entry_is from end (y ∷ ys) zero zero r x chain headed at_i at_j same = refl
+entry_is from end (y ∷ ys) zero (suc j) r x chain headed at_i at_j same =
+    let is : y ≡ r = cc in
+    let begins : y.from ≡ from = chain.0 in
+    let mine : y.from ≡ r.from = ap (λ (z : Reserved). z.from) is in
+    let long = (headed 0 y (omega arith)).0 in
+    let later = at_there (λ (z : Reserved). (from + y.len ≤ z.from) × (z.from + z.len ≤ end)) ys j x at_j (chain_within (from + y.len) end ys chain.1) in
+    absurd (omega (arith, begins, mine, long, later.0, same))
+entry_is from end (y ∷ ys) (suc i) zero r x chain headed at_i at_j same =
+    let is : y ≡ x = cc in
+    let begins : y.from ≡ from = chain.0 in
+    let mine : y.from ≡ x.from = ap (λ (z : Reserved). z.from) is in
+    let long = (headed 0 y (omega arith)).0 in
+    let later = at_there (λ (z : Reserved). (from + y.len ≤ z.from) × (z.from + z.len ≤ end)) ys i r at_i (chain_within (from + y.len) end ys chain.1) in
+    absurd (omega (arith, begins, mine, long, later.0, same))
+entry_is from end (y ∷ ys) (suc i) (suc j) r x chain headed at_i at_j same = ap suc (entry_is (from + y.len) end ys i j r x chain.1 (All-tail IsHeaded y ys headed) at_i at_j same)
+
+-- What a ticket is for is found by what it says.
+
+-- the place that code reads of it
+pub says_place : (z at : ℤ) → mag z < 2 ^ 63 → z ≡ at → unsigned_abs (to_z w64 (of_z w64 z)) ≡ unsigned_abs at
+says_place z at small same = ap unsigned_abs (to_z-of_z w64 z (record { sfits = small }) ∙ same)
+
+pub ticket_above : {D C : Type 0} (log : Log D C) (ticket : Reservation) (m : Message) → Awaits log ticket m → log.site.place ≤ unsigned_abs (place_of ticket)
+ticket_above log ticket m awaits =
+    let facts = nth_facts log awaits.number awaits.segment awaits.among in
+    let at = facts.at in
+    let is : unsigned_abs (place_of ticket) ≡ awaits.segment.parts.site.place + awaits.reserved.from = ap unsigned_abs awaits.own.place in
+    omega (arith, at, is)
+
+pub ticket_number : {D C : Type 0} (log : Log D C) (ticket : Reservation) (m : Message) (awaits : Awaits log ticket m) (place : ℕ) → place ≡ unsigned_abs (place_of ticket) → (place - log.site.place) / log.config.config.segment_size ≡ awaits.number
+ticket_number log ticket m awaits place same =
+    let is : place ≡ awaits.segment.parts.site.place + awaits.reserved.from = same ∙ ap unsigned_abs awaits.own.place in
+    ap (λ (k : ℕ). (k - log.site.place) / log.config.config.segment_size) is
+    ∙ number_is log.site.place awaits.number awaits.segment (index_of ticket - awaits.segment.gone) awaits.reserved (nth_facts log awaits.number awaits.segment awaits.among) awaits.there
+
+module _ {D C : Type 0} (log : Log D C) (ticket : Reservation) (m : Message) (awaits : Awaits log ticket m) (place n index : ℕ) (place_is : place ≡ unsigned_abs (place_of ticket)) (n_is : n ≡ (place - log.site.place) / log.config.config.segment_size) (index_is : index ≡ index_of ticket) where
+  pub ticket_among : slice_get (line_of log) n ≡ Some awaits.segment
+  ticket_among = ap (slice_get (line_of log)) (n_is ∙ ticket_number log ticket m awaits place place_is) ∙ awaits.among
+
+  pub ticket_there : slice_get awaits.segment.parts.reserved (index - awaits.segment.gone) ≡ Some awaits.reserved
+  ticket_there = ap (λ (k : ℕ). slice_get awaits.segment.parts.reserved (k - awaits.segment.gone)) index_is ∙ awaits.there
+
+  abbrev pub ticket_open : HasOpenIn (line_of log) n index
+  ticket_open = record {
+    segment = awaits.segment;
+    among = ticket_among;
+    reserved = awaits.reserved;
+    numbered = (let numbered = awaits.numbered in omega (arith, numbered, index_is));
+    there = ticket_there;
+    open_yet = awaits.own.open_yet;
+  }
+
+-- A reservation of the n-th segment ends.
+module _ (size : ℕ) (line : List SegmentView) (base n : ℕ) (v : SegmentView) (there : slice_get line n ≡ Some v) (facts : (k : ℕ) (x : SegmentView) → slice_get line k ≡ Some x → IsSegment size (base + k * size) x)
+    (i : ℕ) (r : Reserved) (at : slice_get v.parts.reserved i ≡ Some r) (is_open : r.state ≡ Open) (word : ℕ) (kind : MessageKind) (state : ReservationState) where
+  abbrev e : SegmentView
+  e = ended_now i r (ending word kind) state v
+
+  -- Where it was the only open one, none is.
+  pub only_ended : (ticket : Reservation) → place_of ticket ≡ pos (v.parts.site.place + r.from) → (state ≡ Open → ⊥) → IsOnlyOpenIn line ticket → NoneOpenIn (set line n e)
+  only_ended ticket place closed only = λ k w among. elim (cases_eq k n) [
+    | inl same ↦ (
+        let mine : slice_get (set line n e) n ≡ Some w = subst (λ (j : ℕ). slice_get (set line n e) j ≡ Some w) same among in
+        let both : Some e ≡ Some w = sym (set_get line n v e there) ∙ mine in
+        let is : e ≡ w = cc in
+        subst (λ (x : SegmentView). none_open x.parts.reserved ≡ true) is
+        (only_closed v.parts.reserved i (ended state r) closed (λ j x at_j open_j.
+        let says : pos (v.parts.site.place + x.from) ≡ pos (v.parts.site.place + r.from) = only n v j x there at_j open_j ∙ place in
+        let abs : v.parts.site.place + x.from ≡ v.parts.site.place + r.from = ap unsigned_abs says in
+        entry_is (max 20 v.parts.written_len) (length v.parts.bytes) v.parts.reserved i j r x (segment_chain v (facts n v there)) (facts n v there).headed at at_j (omega (arith, abs)))))
+    | inr other ↦ (
+        let was : slice_get line k ≡ Some w = sym (set_other line n k e other) ∙ among in
+        ended_each w.parts.reserved (λ j x at_j open_j.
+        let says : pos (w.parts.site.place + x.from) ≡ pos (v.parts.site.place + r.from) = only k w j x was at_j open_j ∙ place in
+        let abs : w.parts.site.place + x.from ≡ v.parts.site.place + r.from = ap unsigned_abs says in
+        absurd (other (sym (number_is base k w j x (facts k w was) at_j) ∙ ap (λ (p : ℕ). (p - base) / size) abs ∙ number_is base n v i r (facts n v there) at))))
+  ]
+
+  -- Other tickets are for what they were for.
+  pub others_await : (sum : List ℕ → ℕ) (device : State) (fault : Option IoError) (H : History) → HoldsLine sum size device fault line H → (ticket other : Reservation) (m : Message) → place_of ticket ≡ pos (v.parts.site.place + r.from)
+      → AwaitsIn line other m → place_of other ≢ place_of ticket → AwaitsIn (set line n e) other m
+  others_await sum device fault H holds ticket other m place awaits apart = elim (cases_eq awaits.number n) [
+    | inl same ↦ (
+        let mine : slice_get line n ≡ Some awaits.segment = subst (λ (j : ℕ). slice_get line j ≡ Some awaits.segment) same awaits.among in
+        let both : Some awaits.segment ≡ Some v = sym mine ∙ there in
+        let is : awaits.segment ≡ v = cc in
+        let x : Reserved = awaits.reserved in
+        let numbered : v.gone ≤ index_of other = subst (λ (w : SegmentView). w.gone ≤ index_of other) is awaits.numbered in
+        let at_x : slice_get v.parts.reserved (index_of other - v.gone) ≡ Some x = subst (λ (w : SegmentView). slice_get w.parts.reserved (index_of other - w.gone) ≡ Some x) is awaits.there in
+        let own : IsFor v.parts.site x other = subst (λ (w : SegmentView). IsFor w.parts.site x other) is awaits.own in
+        let message : m ≡ message_in v.parts.site v.parts.bytes x = subst (λ (w : SegmentView). m ≡ message_in w.parts.site w.parts.bytes x) is awaits.message in
+        let elsewhere : x.from ≡ r.from → ⊥ = λ alike. apart (own.place ∙ ap (λ (k : ℕ). pos (v.parts.site.place + k)) alike ∙ sym place) in
+        with_segment sum size device fault line n v H holds there (λ stays mine_holds segment.
+        let stay = others_stay sum size v.parts.site device fault v.parts.bytes v.parts.written_len v.parts.sealed v.parts.reserved i (index_of other - v.gone) r x mine_holds word kind state segment at is_open at_x own.open_yet elsewhere in
+        record {
+          number = n;
+          segment = e;
+          among = set_get line n v e there;
+          reserved = x;
+          numbered = numbered;
+          there = stay.0;
+          own = own;
+          message = message ∙ sym stay.1;
+        }))
+    | inr another ↦ (record {
+      number = awaits.number;
+      segment = awaits.segment;
+      among = set_other line n awaits.number e another ∙ awaits.among;
+      reserved = awaits.reserved;
+      numbered = awaits.numbered;
+      there = awaits.there;
+      own = awaits.own;
+      message = awaits.message;
+    })
+  ]

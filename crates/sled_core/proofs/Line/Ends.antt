@@ -1,0 +1,177 @@
+-- One of the reservations of the n-th of a log's segments ends, whichever that is: what the log holds and fits then, and what it keeps.
+use Rattle.std.proofs.Common.{◌≡◌, ◌∙◌, ◌≤◌, ◌<◌, ◌+◌, ◌*◌, ap, sym, refl, arith, subst, ℕ, zero, suc, List, [], ◌∷◌, ◌++◌, length, take, drop, set, map, Option, None, Some}
+use Rattle.std.specs.declared.io.Error.{Error as IoError}
+use Rattle.std.specs.List.{slice_get}
+use Rattle.std.proofs.lemmas.List.Elements.{All-set}
+use Rattle.sled_codec.specs.Written.{written}
+use Rattle.sled_codec.specs.History.{AddsMessage, History, Message}
+use Rattle.sled_store.specs.Device.{State}
+use Rattle.sled_store.specs.SegmentStates.{Machine}
+use Rattle.sled_core.specs.declared.iobuf.ReservationState.TheVariants.{Open, Canceled, Completed}
+use Rattle.sled_core.specs.declared.iobuf.Reserved.{Reserved}
+use Rattle.sled_core.specs.declared.iobuf.SegmentPosition.{SegmentPosition}
+use Rattle.sled_core.specs.Begun.{SegmentParts, SegmentView}
+use Rattle.sled_core.specs.Buffers.{canceling, completing, message_in}
+use Rattle.sled_core.specs.Fits.{HoldsIn, HoldsLine, HoldsSegment, HoldsWith, LogParts, log_parts, parts_in}
+use Rattle.sled_core.specs.FreeSlots.{HasSlot, HasSlots}
+use Rattle.sled_core.specs.Running.{FitsIn, FitsLine, FitsWith}
+use Rattle.sled_core.specs.Turned.{ended_now}
+use Rattle.sled_core.proofs.Behind.Calls.{behind-aborted, ended_long, held_here}
+use Rattle.sled_core.proofs.Behind.Completes.{adds_here, behind-complete, completed_history}
+use Rattle.sled_core.proofs.Behind.FitsCalls.{behind-fits-aborted, behind-fits-completed}
+use Rattle.sled_core.proofs.Holds.Added.{added_there}
+use Rattle.sled_core.proofs.Holds.CompletedLemmas.{behind_written, ends_within}
+use Rattle.sled_core.proofs.Holds.RunningLemmas.{fits-completed, fits-moved}
+use Rattle.sled_core.proofs.Holds.WholeHistory.{of_head}
+use Rattle.sled_core.proofs.Holds.WholeLemmas.{holds-aborted, holds-complete}
+use Rattle.sled_core.proofs.Line.Facts.{IsSegment}
+use Rattle.sled_core.proofs.Line.Nth.{parts_set, parts_split}
+use Rattle.sled_core.proofs.Reserve.Ranges.{at_there}
+use Rattle.sled_core.proofs.Sealed.Ended.{ends_up}
+
+-- What the one that is set has as the one before it had it, each has as before.
+pub set_keeps : {T X : Type 0} (f : T → X) (xs : List T) (n : ℕ) (x y : T) → slice_get xs n ≡ Some x → f y ≡ f x → (k : ℕ) (a b : T) → slice_get xs k ≡ Some a → slice_get (set xs n y) k ≡ Some b → f b ≡ f a
+set_keeps f [] n x y there same k a b at_a at_b = cc
+set_keeps f (z ∷ zs) zero x y there same zero a b at_a at_b = let is_x : z ≡ x = cc in let is_a : z ≡ a = cc in let is_b : y ≡ b = cc in sym (ap f is_b) ∙ same ∙ sym (ap f is_x) ∙ ap f is_a
+set_keeps f (z ∷ zs) zero x y there same (suc k) a b at_a at_b = let both : a ≡ b = cc in sym (ap f both)
+set_keeps f (z ∷ zs) (suc n) x y there same zero a b at_a at_b = let both : a ≡ b = cc in sym (ap f both)
+set_keeps f (z ∷ zs) (suc n) x y there same (suc k) a b at_a at_b = set_keeps f zs n x y there same k a b at_a at_b
+
+-- what was written of a segment is no more than there is
+pub written_inside : {size place : ℕ} (v : SegmentView) → IsSegment size place v → v.parts.written_len ≤ length v.parts.bytes
+written_inside v facts = let low = ends_up v.parts.written_len v.parts.reserved v.parts.sealed facts.are in let high = facts.begins in omega (arith, low, high)
+
+module _ (sum : List ℕ → ℕ) (size : ℕ) (device : State) (fault : Option IoError) where
+  abbrev parts_of : SegmentView → LogParts
+  parts_of v = log_parts size v.parts.site device fault v.parts.bytes v.parts.written_len v.parts.sealed v.parts.reserved
+
+  -- Each of the segments that hold a history holds a part of it.
+  pub with_segment : {P : Type 0} (line : List SegmentView) (n : ℕ) (v : SegmentView) (H : History) → HoldsLine sum size device fault line H → slice_get line n ≡ Some v
+      → ((stays : Message → Type 0) (own : History) → HoldsSegment sum (parts_of v) stays own → P) → P
+  with_segment [] n v H holds there go = cc
+  with_segment {P} (w ∷ ws) zero v H holds there go =
+      let same : w ≡ v = cc in
+      subst (λ (x : SegmentView). ((stays : Message → Type 0) (own : History) → HoldsSegment sum (parts_of x) stays own → P) → P) same (λ given. given _ (record { messages = holds.head; batches = H.batches }) holds.own) go
+  with_segment {P} (w ∷ ws) (suc k) v H holds there go =
+      let its : HoldsIn sum (parts_of w) (map parts_in (take k ws) ++ v.parts ∷ map parts_in (drop (suc k) ws)) H = subst (λ (l : List SegmentParts). HoldsIn sum (parts_of w) l H) (parts_split ws k v there) holds in
+      go _ _ (held_here sum size w.parts.site device fault w.parts.bytes w.parts.written_len w.parts.sealed w.parts.reserved H (map parts_in (take k ws)) v.parts (map parts_in (drop (suc k) ws)) its).segment
+
+  -- An open reservation of the n-th one.
+  module _ (v : SegmentView) (i : ℕ) (r : Reserved) (at : slice_get v.parts.reserved i ≡ Some r) (is_open : r.state ≡ Open) where
+    abbrev canceled : SegmentView
+    canceled = ended_now i r (canceling sum v.parts.bytes r) Canceled v
+
+    abbrev completed : SegmentView
+    completed = ended_now i r (completing r) Completed v
+
+    abbrev m : Message
+    m = message_in v.parts.site v.parts.bytes r
+
+    -- It is aborted: the segments hold what they held.
+    pub abort_holds : (line : List SegmentView) (n : ℕ) {place : ℕ} (H : History) → slice_get line n ≡ Some v → IsSegment size place v → HoldsLine sum size device fault line H → HoldsLine sum size device fault (set line n canceled) H
+    abort_holds [] n H there facts holds = cc
+    abort_holds (w ∷ ws) zero H there facts holds =
+        let same : w ≡ v = cc in
+        let its : HoldsLine sum size device fault (v ∷ ws) H = subst (λ (x : SegmentView). HoldsLine sum size device fault (x ∷ ws) H) same holds in
+        holds-aborted sum size v.parts.site device fault v.parts.bytes v.parts.written_len v.parts.sealed v.parts.reserved H its i r at is_open (written_inside v facts) facts.are _ _ _ _ refl refl refl refl
+    abort_holds (w ∷ ws) (suc k) H there facts holds =
+        let its : HoldsIn sum (parts_of w) (map parts_in (take k ws) ++ v.parts ∷ map parts_in (drop (suc k) ws)) H = subst (λ (l : List SegmentParts). HoldsIn sum (parts_of w) l H) (parts_split ws k v there) holds in
+        subst (λ (l : List SegmentParts). HoldsIn sum (parts_of w) l H) (sym (parts_set ws k v canceled there))
+        (behind-aborted sum size w.parts.site device fault w.parts.bytes w.parts.written_len w.parts.sealed w.parts.reserved H (map parts_in (take k ws)) v.parts (map parts_in (drop (suc k) ws)) its i r at is_open)
+
+    -- and they fit what they fitted
+    pub abort_fits : (line : List SegmentView) (n : ℕ) {place : ℕ} (reach pins : ℕ) (H : History) (A f : ℕ) (U : List Message) → slice_get line n ≡ Some v → IsSegment size place v
+        → FitsLine sum size device fault line reach pins H A f U → FitsLine sum size device fault (set line n canceled) reach pins H A f U
+    abort_fits [] n reach pins H A f U there facts fits = cc
+    abort_fits (w ∷ ws) zero reach pins H A f U there facts fits =
+        let same : w ≡ v = cc in
+        let its : FitsLine sum size device fault (v ∷ ws) reach pins H A f U = subst (λ (x : SegmentView). FitsLine sum size device fault (x ∷ ws) reach pins H A f U) same fits in
+        fits-moved sum size v.parts.site device fault v.parts.bytes v.parts.written_len v.parts.sealed v.parts.reserved pins H A f U its _ _ _ _ refl
+        (holds-aborted sum size v.parts.site device fault v.parts.bytes v.parts.written_len v.parts.sealed v.parts.reserved H its.holds i r at is_open (written_inside v facts) facts.are _ _ _ _ refl refl refl refl)
+    abort_fits (w ∷ ws) (suc k) reach pins H A f U there facts fits =
+        let its : FitsIn sum (parts_of w) (map parts_in (take k ws) ++ v.parts ∷ map parts_in (drop (suc k) ws)) reach pins H A f U = subst (λ (l : List SegmentParts). FitsIn sum (parts_of w) l reach pins H A f U) (parts_split ws k v there) fits in
+        subst (λ (l : List SegmentParts). FitsIn sum (parts_of w) l reach pins H A f U) (sym (parts_set ws k v canceled there))
+        (behind-fits-aborted sum size w.parts.site device fault w.parts.bytes w.parts.written_len w.parts.sealed w.parts.reserved pins H A f U (map parts_in (take k ws)) v.parts (map parts_in (drop (suc k) ws)) its i r at is_open)
+
+    -- It is completed: the segments hold the history with its message,
+    pub complete_holds : (line : List SegmentView) (n place : ℕ) (H : History) → slice_get line n ≡ Some v → ((k : ℕ) (x : SegmentView) → slice_get line k ≡ Some x → IsSegment size (place + k * size) x)
+        → HoldsLine sum size device fault line H → (H' : History) × AddsMessage H m H' × HoldsLine sum size device fault (set line n completed) H'
+    complete_holds [] n place H there facts holds = cc
+    complete_holds (w ∷ ws) zero place H there facts holds =
+        let same : w ≡ v = cc in
+        let its : HoldsLine sum size device fault (v ∷ ws) H = subst (λ (x : SegmentView). HoldsLine sum size device fault (x ∷ ws) H) same holds in
+        let own = facts zero v there in
+        holds-complete sum size v.parts.site device fault v.parts.bytes v.parts.written_len v.parts.sealed v.parts.reserved H its i r at is_open (written_inside v own) own.are own.short
+    complete_holds (w ∷ ws) (suc k) place H there facts holds =
+        let its : HoldsIn sum (parts_of w) (map parts_in (take k ws) ++ v.parts ∷ map parts_in (drop (suc k) ws)) H = subst (λ (l : List SegmentParts). HoldsIn sum (parts_of w) l H) (parts_split ws k v there) holds in
+        let short : length w.parts.bytes ≤ size = (facts zero w refl).short in (
+          completed_history sum size w.parts.site device fault w.parts.bytes w.parts.written_len w.parts.sealed w.parts.reserved H (map parts_in (take k ws)) v.parts (map parts_in (drop (suc k) ws)) its short i r at is_open,
+          adds_here sum size w.parts.site device fault w.parts.bytes w.parts.written_len w.parts.sealed w.parts.reserved H (map parts_in (take k ws)) v.parts (map parts_in (drop (suc k) ws)) its short i r at is_open,
+          subst (λ (l : List SegmentParts). HoldsIn sum (parts_of w) l (completed_history sum size w.parts.site device fault w.parts.bytes w.parts.written_len w.parts.sealed w.parts.reserved H (map parts_in (take k ws)) v.parts (map parts_in (drop (suc k) ws)) its short i r at is_open))
+              (sym (parts_set ws k v completed there))
+              (behind-complete sum size w.parts.site device fault w.parts.bytes w.parts.written_len w.parts.sealed w.parts.reserved H (map parts_in (take k ws)) v.parts (map parts_in (drop (suc k) ws)) its short i r at is_open),
+        )
+
+    -- and they fit it, where a pin is out.
+    pub complete_fits : (line : List SegmentView) (n place reach pins : ℕ) (H : History) (A f : ℕ) (U : List Message) → 256 ≤ size → fault ≡ None → 0 < pins → slice_get line n ≡ Some v
+        → ((k : ℕ) (x : SegmentView) → slice_get line k ≡ Some x → IsSegment size (place + k * size) x)
+        → FitsLine sum size device fault line reach pins H A f U → (H' : History) × AddsMessage H m H' × FitsLine sum size device fault (set line n completed) reach pins H' A f (m ∷ U)
+    complete_fits [] n place reach pins H A f U least ok out there facts fits = cc
+    complete_fits (w ∷ ws) zero place reach pins H A f U least ok out there facts fits =
+        let same : w ≡ v = cc in
+        let its : FitsLine sum size device fault (v ∷ ws) reach pins H A f U = subst (λ (x : SegmentView). FitsLine sum size device fault (x ∷ ws) reach pins H A f U) same fits in
+        let own = facts zero v there in
+        let short = own.short in
+        let first : History = record { messages = its.holds.head; batches = H.batches } in
+        let done = holds-complete sum size v.parts.site device fault v.parts.bytes v.parts.written_len v.parts.sealed v.parts.reserved H its.holds i r at is_open (written_inside v own) own.are short in
+        let long : length (written v.parts.bytes r.from (completing r)) ≡ length v.parts.bytes = ended_long sum size device fault v.parts first its.holds.own i r at is_open r.sum r.kind in
+        let near = ends_within sum size v.parts.site device fault v.parts.bytes v.parts.written_len v.parts.sealed v.parts.reserved i r first its.holds.own at is_open in
+        let above = behind_written sum size v.parts.site device fault v.parts.bytes v.parts.written_len v.parts.sealed v.parts.reserved i r first its.holds.own at in (
+          done.0,
+          done.1,
+          fits-completed sum size v.parts.site device fault v.parts.bytes v.parts.written_len v.parts.sealed v.parts.reserved pins H A f U its _ _ _ _ done.0 m refl least (omega (arith, long, short)) ok done.2 done.1
+              (of_head sum size v.parts.site device fault _ _ _ _ done.0 done.2 m (added_there H done.0 m done.1) (omega (arith, near, short))) above own.fresh own.are out,
+        )
+    complete_fits (w ∷ ws) (suc k) place reach pins H A f U least ok out there facts fits =
+        let its : FitsIn sum (parts_of w) (map parts_in (take k ws) ++ v.parts ∷ map parts_in (drop (suc k) ws)) reach pins H A f U = subst (λ (l : List SegmentParts). FitsIn sum (parts_of w) l reach pins H A f U) (parts_split ws k v there) fits in
+        let short : length w.parts.bytes ≤ size = (facts zero w refl).short in
+        let now : History = completed_history sum size w.parts.site device fault w.parts.bytes w.parts.written_len w.parts.sealed w.parts.reserved H (map parts_in (take k ws)) v.parts (map parts_in (drop (suc k) ws)) its.holds short i r at is_open in (
+          now,
+          adds_here sum size w.parts.site device fault w.parts.bytes w.parts.written_len w.parts.sealed w.parts.reserved H (map parts_in (take k ws)) v.parts (map parts_in (drop (suc k) ws)) its.holds short i r at is_open,
+          subst (λ (l : List SegmentParts). FitsIn sum (parts_of w) l reach pins now A f (m ∷ U)) (sym (parts_set ws k v completed there))
+              (behind-fits-completed sum size w.parts.site device fault w.parts.bytes w.parts.written_len w.parts.sealed w.parts.reserved pins H A f U (map parts_in (take k ws)) v.parts (map parts_in (drop (suc k) ws)) its i r at is_open least short ok (facts (suc k) v there).fresh out),
+        )
+
+-- The slots are those that they were.
+pub slots_set : (size : ℕ) (line : List SegmentView) (log : List ℕ) (fault : Option IoError) (m : Machine) (n : ℕ) (v w : SegmentView) → slice_get line n ≡ Some v → w.parts.site ≡ v.parts.site → HasSlots size line log fault m → HasSlots size (set line n w) log fault m
+slots_set size line log fault m n v w there site slots =
+    let its : HasSlot size m v = at_there (HasSlot size m) line n v there slots.taken in
+    record { taken = All-set (HasSlot size m) line n w (record { number = its.number; lies = ap (λ (p : SegmentPosition). p.slot) site ∙ its.lies; taken = its.taken }) slots.taken; zeros = slots.zeros }
+
+-- What a log holds and fits where one of its reservations has ended.
+module _ (sum : List ℕ → ℕ) (size : ℕ) (device : State) (fault : Option IoError) (line : List SegmentView) (n : ℕ) (v : SegmentView) (there : slice_get line n ≡ Some v) (place : ℕ)
+    (facts : (k : ℕ) (x : SegmentView) → slice_get line k ≡ Some x → IsSegment size (place + k * size) x) (i : ℕ) (r : Reserved) (at : slice_get v.parts.reserved i ≡ Some r) (is_open : r.state ≡ Open) (machine : Machine) where
+  pub holds_aborted : (H : History) → HoldsWith sum size device fault line machine H → HoldsWith sum size device fault (set line n (ended_now i r (canceling sum v.parts.bytes r) Canceled v)) machine H
+  holds_aborted H holds = record {
+    holds = abort_holds sum size device fault v i r at is_open line n H there (facts n v there) holds.holds;
+    slots = slots_set size line device.log.bytes fault machine n v (ended_now i r (canceling sum v.parts.bytes r) Canceled v) there refl holds.slots;
+  }
+
+  pub fits_aborted : (pins : ℕ) (H : History) (A f : ℕ) (U : List Message) → FitsWith sum size device fault line machine pins H A f U → FitsWith sum size device fault (set line n (ended_now i r (canceling sum v.parts.bytes r) Canceled v)) machine pins H A f U
+  fits_aborted pins H A f U fits = record {
+    reach = fits.reach;
+    parts = abort_fits sum size device fault v i r at is_open line n fits.reach pins H A f U there (facts n v there) fits.parts;
+    slots = slots_set size line device.log.bytes fault machine n v (ended_now i r (canceling sum v.parts.bytes r) Canceled v) there refl fits.slots;
+  }
+
+  pub holds_completed : (H : History) → HoldsWith sum size device fault line machine H
+      → (H' : History) × AddsMessage H (message_in v.parts.site v.parts.bytes r) H' × HoldsWith sum size device fault (set line n (ended_now i r (completing r) Completed v)) machine H'
+  holds_completed H holds =
+      let done = complete_holds sum size device fault v i r at is_open line n place H there facts holds.holds in
+      (done.0, done.1, record { holds = done.2; slots = slots_set size line device.log.bytes fault machine n v (ended_now i r (completing r) Completed v) there refl holds.slots })
+
+  pub fits_completed : (pins : ℕ) (H : History) (A f : ℕ) (U : List Message) → 256 ≤ size → fault ≡ None → 0 < pins → FitsWith sum size device fault line machine pins H A f U
+      → (H' : History) × AddsMessage H (message_in v.parts.site v.parts.bytes r) H' × FitsWith sum size device fault (set line n (ended_now i r (completing r) Completed v)) machine pins H' A f (message_in v.parts.site v.parts.bytes r ∷ U)
+  fits_completed pins H A f U least ok out fits =
+      let done = complete_fits sum size device fault v i r at is_open line n place fits.reach pins H A f U least ok out there facts fits.parts in
+      (done.0, done.1, record { reach = fits.reach; parts = done.2; slots = slots_set size line device.log.bytes fault machine n v (ended_now i r (completing r) Completed v) there refl fits.slots })

@@ -1,0 +1,96 @@
+-- A log whose device failed in a call holds and fits what it did, and so does one with the same segments and slots.
+use Rattle.std.proofs.Common.{◌≡◌, ◌∙◌, ◌∷◌, inl, inr, [], ap, sym, subst, ℕ, List, Option, None, Some, refl}
+use Rattle.std.specs.declared.io.Error.{Error as IoError}
+use Rattle.sled_codec.specs.History.{Message, History}
+use Rattle.sled_store.specs.Device.{Event, NamesState, State, Trace, Synced, Wrote, state_of, step}
+use Rattle.sled_store.specs.Script.{Along, Performs}
+use Rattle.sled_store.specs.SegmentStates.{Machine}
+use Rattle.sled_store.proofs.Traces.MomentLemmas.{at_last}
+use Rattle.sled_store.proofs.Traces.ScriptLemmas.{performs_throughout}
+use Rattle.sled_core.specs.Begun.{SegmentView}
+use Rattle.sled_core.specs.Fits.{HoldsLine, HoldsWith}
+use Rattle.sled_core.specs.FreeSlots.{HasSlots}
+use Rattle.sled_core.specs.Recoverable.{LeavesRecoverable}
+use Rattle.sled_core.specs.Running.{FitsLine, FitsWith}
+use Rattle.sled_core.proofs.Flush.FlushLemmas.{fault_or_none, holds-faulty}
+use Rattle.sled_core.proofs.Flush.SameFits.{fits_faulty}
+
+-- It keeps the failure, and its snapshots and blobs are the same.
+pub holds_line_faulty : (sum : List ℕ → ℕ) (size : ℕ) (device : State) (fault : Option IoError) (line : List SegmentView) (H : History) → HoldsLine sum size device fault line H → (new : State) (e : IoError) (now : Option IoError) → now ≡ Some e
+    → new.snapshots ≡ device.snapshots → HoldsLine sum size new now line H
+holds_line_faulty sum size device fault [] H holds new e now is names = holds
+holds_line_faulty sum size device fault (v ∷ vs) H holds new e now is names =
+    holds-faulty sum size v.parts.site device fault v.parts.bytes v.parts.written_len v.parts.sealed v.parts.reserved H holds new e now is (ap (λ (s : NamesState). s.file) names)
+
+pub fits_line_faulty : (sum : List ℕ → ℕ) (size : ℕ) (device : State) (fault : Option IoError) (line : List SegmentView) (reach pins : ℕ) (H : History) (A f : ℕ) (U : List Message) → FitsLine sum size device fault line reach pins H A f U → (new : State) (e : IoError) (now : Option IoError)
+    → now ≡ Some e → new.blobs ≡ device.blobs → new.snapshots ≡ device.snapshots → LeavesRecoverable sum size H reach f new → FitsLine sum size new now line reach pins H A f U
+fits_line_faulty sum size device fault [] reach pins H A f U fits new e now is blobs names left = fits
+fits_line_faulty sum size device fault (v ∷ vs) reach pins H A f U fits new e now is blobs names left =
+    fits_faulty sum size v.parts.site device fault v.parts.bytes v.parts.written_len v.parts.sealed v.parts.reserved pins H A f U fits new e now is blobs names left
+
+pub slots_line_faulty : (size : ℕ) (line : List SegmentView) (log log' : List ℕ) (fault : Option IoError) (m : Machine) → HasSlots size line log fault m → (e : IoError) (now : Option IoError) → now ≡ Some e → HasSlots size line log' now m
+slots_line_faulty size line log log' fault m slots e now is = record { taken = slots.taken; zeros = λ none. cc }
+
+-- The same, where all that it says is of equal parts.
+pub holds_with_same : (sum : List ℕ → ℕ) (size size' : ℕ) (device : State) (fault : Option IoError) (line line' : List SegmentView) (m m' : Machine) (H : History) → size' ≡ size → line' ≡ line → m' ≡ m
+    → HoldsWith sum size device fault line m H → HoldsWith sum size' device fault line' m' H
+holds_with_same sum size size' device fault line line' m m' H s l a holds =
+    subst (λ n. HoldsWith sum n device fault line' m' H) (sym s) (subst (λ (x : List SegmentView). HoldsWith sum size device fault x m' H) (sym l) (subst (λ (x : Machine). HoldsWith sum size device fault line x H) (sym a) holds))
+
+pub fits_with_same : (sum : List ℕ → ℕ) (size size' : ℕ) (device : State) (fault : Option IoError) (line line' : List SegmentView) (m m' : Machine) (pins pins' : ℕ) (H : History) (A f : ℕ) (U : List Message) → size' ≡ size → line' ≡ line → m' ≡ m → pins' ≡ pins
+    → FitsWith sum size device fault line m pins H A f U → FitsWith sum size' device fault line' m' pins' H A f U
+fits_with_same sum size size' device fault line line' m m' pins pins' H A f U s l a p fits =
+    subst (λ n. FitsWith sum n device fault line' m' pins' H A f U) (sym s) (subst (λ (x : List SegmentView). FitsWith sum size device fault x m' pins' H A f U) (sym l)
+    (subst (λ (x : Machine). FitsWith sum size device fault line x pins' H A f U) (sym a) (subst (λ n. FitsWith sum size device fault line m n H A f U) (sym p) fits)))
+
+pub holds_with_device : (sum : List ℕ → ℕ) (size : ℕ) (device new : State) (fault now : Option IoError) (line : List SegmentView) (m : Machine) (H : History) → new ≡ device → now ≡ fault → HoldsWith sum size device fault line m H → HoldsWith sum size new now line m H
+holds_with_device sum size device new fault now line m H d o holds =
+    subst (λ (s : State). HoldsWith sum size s now line m H) (sym d) (subst (λ (x : Option IoError). HoldsWith sum size device x line m H) (sym o) holds)
+
+pub fits_with_device : (sum : List ℕ → ℕ) (size : ℕ) (device new : State) (fault now : Option IoError) (line : List SegmentView) (m : Machine) (pins : ℕ) (H : History) (A f : ℕ) (U : List Message) → new ≡ device → now ≡ fault → FitsWith sum size device fault line m pins H A f U
+    → FitsWith sum size new now line m pins H A f U
+fits_with_device sum size device new fault now line m pins H A f U d o fits =
+    subst (λ (s : State). FitsWith sum size s now line m pins H A f U) (sym d) (subst (λ (x : Option IoError). FitsWith sum size device x line m pins H A f U) (sym o) fits)
+
+-- A call that reads its device alone, and keeps a failure of it.
+
+pub holds_with_answer : (sum : List ℕ → ℕ) (size size' : ℕ) (device new : State) (fault now : Option IoError) (line line' : List SegmentView) (m m' : Machine) (H : History) → size' ≡ size → line' ≡ line → m' ≡ m → new ≡ device → fault ≡ None
+    → HoldsWith sum size device fault line m H → HoldsWith sum size' new now line' m' H
+holds_with_answer sum size size' device new fault now line line' m m' H s l a d none holds = holds_with_same sum size size' new now line line' m m' H s l a (elim (fault_or_none now) [
+  | inl still ↦ holds_with_device sum size device new fault now line m H d (still ∙ sym none) holds
+  | inr (e, is) ↦ record {
+    holds = holds_line_faulty sum size device fault line H holds.holds new e now is (ap (λ (x : State). x.snapshots) d);
+    slots = slots_line_faulty size line device.log.bytes new.log.bytes fault m holds.slots e now is;
+  }
+])
+
+-- what a log fits a crash leaves
+line_leaves : (sum : List ℕ → ℕ) (size : ℕ) (device : State) (fault : Option IoError) (line : List SegmentView) (reach pins : ℕ) (H : History) (A f : ℕ) (U : List Message) → FitsLine sum size device fault line reach pins H A f U → LeavesRecoverable sum size H reach f device
+line_leaves sum size device fault [] reach pins H A f U fits = absurd fits
+line_leaves sum size device fault (v ∷ vs) reach pins H A f U fits = fits.left
+
+pub fits_with_answer : (sum : List ℕ → ℕ) (size size' : ℕ) (device new : State) (fault now : Option IoError) (line line' : List SegmentView) (m m' : Machine) (pins pins' : ℕ) (H : History) (A f : ℕ) (U : List Message) → size' ≡ size → line' ≡ line → m' ≡ m → pins' ≡ pins → new ≡ device
+    → fault ≡ None → FitsWith sum size device fault line m pins H A f U → FitsWith sum size' new now line' m' pins' H A f U
+fits_with_answer sum size size' device new fault now line line' m m' pins pins' H A f U s l a p d none fits = fits_with_same sum size size' new now line line' m m' pins pins' H A f U s l a p (elim (fault_or_none now) [
+  | inl still ↦ fits_with_device sum size device new fault now line m pins H A f U d (still ∙ sym none) fits
+  | inr (e, is) ↦ record {
+    reach = fits.reach;
+    parts = fits_line_faulty sum size device fault line fits.reach pins H A f U fits.parts new e now is (ap (λ (x : State). x.blobs) d) (ap (λ (x : State). x.snapshots) d)
+        (subst (LeavesRecoverable sum size H fits.reach f) (sym d) (line_leaves sum size device fault line fits.reach pins H A f U fits.parts));
+    slots = slots_line_faulty size line device.log.bytes new.log.bytes fault m fits.slots e now is;
+  }
+])
+
+-- A write and a sync of the log file leave blobs and snapshots as they were.
+pub names_written : (at : ℕ) (xs : List ℕ) (old new : Trace) → Performs (Wrote at xs xs ∷ Synced ∷ []) old new → ((state_of new).blobs ≡ (state_of old).blobs) × ((state_of new).snapshots ≡ (state_of old).snapshots)
+names_written at xs old new came = at_last Purpose old new (performs_throughout Purpose (Wrote at xs xs ∷ Synced ∷ []) old new came along)
+  where
+    Purpose : State → Type 0
+    Purpose s = (s.blobs ≡ (state_of old).blobs) × (s.snapshots ≡ (state_of old).snapshots)
+
+    along : Along Purpose (Wrote at xs xs ∷ Synced ∷ []) (state_of old)
+    along = (
+      (refl, refl),
+      λ torn tears. subst (λ (e : Event). Purpose (step e (state_of old))) (sym tears.2) (refl, refl),
+      ((refl, refl), λ torn tears. absurd tears, (refl, refl)),
+    )

@@ -1,0 +1,201 @@
+-- A log at each moment of the write of one of its sealed buffers, once that failed, and once it is done: what it held and fitted it holds and fits.
+use Rattle.std.proofs.Common.{◌≡◌, ◌∙◌, ◌<◌, ◌≤◌, ◌+◌, ◌^◌, ap, sym, arith, subst, ℕ, zero, suc, List, [], ◌∷◌, length, map, set, Option, None, Some, inl, inr}
+use Rattle.std.specs.List.{slice_get}
+use Rattle.std.specs.declared.io.Error.{Error as IoError}
+use Rattle.std.proofs.lemmas.List.{length-map}
+use Rattle.sled_codec.specs.History.{Message, History}
+use Rattle.sled_store.specs.Accounts.{machine_of}
+use Rattle.sled_store.specs.Device.{Event, State, Trace, state_of}
+use Rattle.sled_store.specs.Moments.{Throughout}
+use Rattle.sled_store.specs.Script.{Along, Performs, after_all}
+use Rattle.sled_store.specs.SegmentStates.{Machine}
+use Rattle.sled_store.proofs.Traces.MomentLemmas.{at_last, weaker}
+use Rattle.sled_store.proofs.Traces.ScriptLemmas.{performs_throughout}
+use Rattle.sled_core.specs.Begun.{AreFilled, FollowOn, SegmentView, line_at, segment_view, view_at}
+use Rattle.sled_core.specs.declared.iobuf.IoBuf.{IoBuf}
+use Rattle.sled_core.specs.declared.iobuf.SegmentPosition.{SegmentPosition}
+use Rattle.sled_core.specs.declared.logger.Log.{Log}
+use Rattle.sled_core.specs.declared.logger.segments.SegmentBuffer.{SegmentBuffer}
+use Rattle.sled_core.specs.Fits.{Holds, HoldsWith, device_of, fault_of, line_of, segment_size_of}
+use Rattle.sled_core.specs.Recoverable.{LeavesRecoverable}
+use Rattle.sled_core.specs.Running.{Fits, FitsLine, FitsWith}
+use Rattle.sled_core.specs.Turned.{ChangesDevice, IsReadyIn, promoted, write_in, written_now}
+use Rattle.sled_core.proofs.Flush.FlushLemmas.{fault_or_none}
+use Rattle.sled_core.proofs.Flush.Settled.{leaves_less}
+use Rattle.sled_core.proofs.Holds.BufferEnds.{written_behind}
+use Rattle.sled_core.proofs.Line.Faulty.{fits_line_faulty, fits_with_device, holds_line_faulty, holds_with_device, names_written, slots_line_faulty}
+use Rattle.sled_core.proofs.Line.Moves.{written_to}
+use Rattle.sled_core.proofs.Line.Promotes.{end_promoted, holds_promoted}
+use Rattle.sled_core.proofs.Line.Segments.{AreSegments, filled_promoted, filled_written, follow_segments, line_segments, promoted_waits, run_written, segments_promoted, set_segment, written_segment}
+use Rattle.sled_core.proofs.Line.Writes.{along_write, buffer_begin, buffer_bytes, buffer_calls, buffer_synced, calls_are, fits_write, holds_write, passes_line, slots_write}
+
+module _ {D C : Type 0} (log : Log D C) (n k : ℕ) (r : IsReadyIn (line_of log) n k) where
+  abbrev line : List SegmentView
+  line = line_of log
+
+  abbrev size : ℕ
+  size = segment_size_of log
+
+  abbrev v : SegmentView
+  v = r.segment
+
+  -- the segments once the buffer is written
+  abbrev pub line_written : List SegmentView
+  line_written = set line n (written_now k v)
+
+  abbrev pub line_left : List SegmentView
+  line_left = promoted size line_written
+
+  pub segments_written : AreSegments size log.site.place line_written
+  segments_written = set_segment size log.site.place line (line_segments log) n v (written_now k v) r.among (λ p is. written_segment k v r.buffer r.there r.ready size p is)
+
+  pub filled_now : AreFilled size log.reserved_to line_written
+  filled_now = filled_written size log.reserved_to line n k v r.among log.filled
+
+  -- The stable end doesn't fall.
+  pub end_grows : written_to line ≤ written_to line_left
+  end_grows =
+      let further = end_promoted size log.site.place line_written segments_written in
+      let here = at_write line n r.among log.site.place (line_segments log) in
+      omega (arith, here, further)
+    where
+      at_write : (l : List SegmentView) (j : ℕ) → slice_get l j ≡ Some v → (p : ℕ) → AreSegments size p l → written_to l ≤ written_to (set l j (written_now k v))
+      at_write [] j there p are = omega arith
+      at_write (x ∷ xs) zero there p are =
+          let same : x ≡ v = cc in
+          let is = subst (λ (y : SegmentView). AreSegments size p (y ∷ xs)) same are in
+          let up = (run_written k v r.buffer r.there r.ready is.0.are).rises in
+          subst (λ (y : SegmentView). written_to (y ∷ xs) ≤ written_to (written_now k v ∷ xs)) (sym same) (omega (arith, up))
+      at_write (x ∷ xs) (suc j) there p are = omega arith
+
+  -- What the type of a log asks of these segments holds of those that are left.
+  pub record KeepsInvariants (site : SegmentPosition) (b : IoBuf) (ss : List SegmentBuffer) : Type 0 where
+    pub short : length b.bytes.items ≤ size
+    pub place_small : site.place + size < 2 ^ 63
+    pub slot_small : site.slot + size < 2 ^ 63
+    pub waits : 0 < length ss → b.written_len < size
+    pub follow : FollowOn size (site.place + size) ss
+    pub filled : AreFilled size log.reserved_to (line_at site b ss)
+
+  pub keeps_invariants : (site : SegmentPosition) (b : IoBuf) (ss : List SegmentBuffer) → line_at site b ss ≡ line_left → KeepsInvariants site b ss
+  keeps_invariants site b ss is =
+      let found = segments_promoted size log.site.place line_written segments_written in
+      let are : AreSegments size found.0 (line_at site b ss) = subst (λ (l : List SegmentView). AreSegments size found.0 l) (sym is) found.1 in
+      let first = are.0 in
+      record {
+        short = first.short;
+        place_small = first.place_small;
+        slot_small = first.slot_small;
+        waits = λ some. below ss some is first.short;
+        follow = follow_segments size (site.place + size) ss (subst (λ p. AreSegments size (p + size) (map segment_view ss)) (sym first.at) are.1);
+        filled = subst (AreFilled size log.reserved_to) (sym is) (filled_promoted size log.reserved_to line_written filled_now);
+      }
+    where
+      below : (l : List SegmentBuffer) → 0 < length l → line_at site b l ≡ line_left → length b.bytes.items ≤ size → b.written_len < size
+      below [] some same short = absurd (omega (arith, some))
+      below (s ∷ l) some same short =
+          let other = promoted_waits size line_written (view_at site b) (segment_view s) (map segment_view l) (sym same) in
+          let up = written_behind b in
+          omega (arith, other, up, short)
+
+  -- The first one isn't wholly on the device, where there is a further one.
+  first_waits : (x y : SegmentView) (ys : List SegmentView) → line ≡ x ∷ y ∷ ys → x.parts.written_len < size
+  first_waits x y ys same =
+      let one : view_at log.site log.buffer ≡ x = cc in
+      let long : length line ≡ suc (suc (length ys)) = ap length same in
+      let low = log.waits (omega (arith, long, length-map log.behind.items segment_view)) in
+      subst (λ (u : SegmentView). u.parts.written_len < size) one low
+
+  module _ (trace : D → Trace) (sum : List ℕ → ℕ) (whole : fault_of log ≡ None) where
+    abbrev before : Trace
+    before = trace (device_of log)
+
+    abbrev device : State
+    device = state_of before
+
+    abbrev slots : Machine
+    slots = machine_of log.accountant
+
+    -- the calls
+    calls : write_in line n k ≡ buffer_calls sum size log.config.config.least device log.fault whole v k r.buffer r.there r.ready
+    calls = calls_are sum size log.config.config.least device log.fault whole v k r.buffer r.there r.ready line n r.among
+
+    left : (new : Trace) → Performs (write_in line n k) before new → (reach : ℕ) (H : History) (A f : ℕ) (U : List Message) → FitsLine sum size device log.fault line reach log.pins H A f U → Throughout (LeavesRecoverable sum size H reach f) before new
+    left new came reach H A f U fits =
+        performs_throughout (LeavesRecoverable sum size H reach f) (write_in line n k) before new came
+        (subst (λ (es : List Event). Along (LeavesRecoverable sum size H reach f) es device) (sym calls)
+        (along_write sum size log.config.config.least device log.fault whole v k r.buffer r.there r.ready log.pins H A f U log.site.place reach line (line_segments log) n r.among fits))
+
+    -- At each moment of the calls a crash leaves what can be recovered.
+    pub crash_write : (new : Trace) → Performs (write_in line n k) before new → (H : History) (A f : ℕ) (U : List Message) → Fits trace sum log H A f U → Throughout (LeavesRecoverable sum size H A f) before new
+    unfolding Fits
+    crash_write new came H A f U fits =
+        weaker (LeavesRecoverable sum size H fits.reach f) (LeavesRecoverable sum size H A f) (λ s. leaves_less sum size H A fits.reach f s (passes_line sum size device log.fault line fits.reach log.pins H A f U fits.parts)) before new
+        (left new came fits.reach H A f U fits.parts)
+
+    names : (new : Trace) → Performs (write_in line n k) before new → ((state_of new).blobs ≡ device.blobs) × ((state_of new).snapshots ≡ device.snapshots)
+    names new came =
+        names_written (v.parts.site.slot + buffer_begin sum size log.config.config.least device log.fault whole v k r.buffer r.there r.ready) (buffer_bytes sum size log.config.config.least device log.fault whole v k r.buffer r.there r.ready) before new
+        (subst (λ (es : List Event). Performs es before new) calls came)
+
+    -- Once they were made up to one that failed it holds and fits the same.
+    pub holds_failed : (new : Trace) → Performs (write_in line n k) before new → (now : Option IoError) → (now ≡ None → new ≡ before) → (H : History) → Holds trace sum log H → HoldsWith sum size (state_of new) now line slots H
+    unfolding Holds
+    holds_failed new came now same H holds = elim (fault_or_none now) [
+      | inl none ↦ holds_with_device sum size device (state_of new) log.fault now line slots H (ap state_of (same none)) (none ∙ sym whole) holds
+      | inr some ↦ record {
+        holds = holds_line_faulty sum size device log.fault line H holds.holds (state_of new) some.0 now some.1 (names new came).1;
+        slots = slots_line_faulty size line device.log.bytes (state_of new).log.bytes log.fault slots holds.slots some.0 now some.1;
+      }
+    ]
+
+    pub fits_failed : (new : Trace) → Performs (write_in line n k) before new → (now : Option IoError) → (now ≡ None → new ≡ before) → (H : History) (A f : ℕ) (U : List Message) → Fits trace sum log H A f U → FitsWith sum size (state_of new) now line slots log.pins H A f U
+    unfolding Fits
+    fits_failed new came now same H A f U fits = elim (fault_or_none now) [
+      | inl none ↦ fits_with_device sum size device (state_of new) log.fault now line slots log.pins H A f U (ap state_of (same none)) (none ∙ sym whole) fits
+      | inr some ↦ record {
+        reach = fits.reach;
+        parts = fits_line_faulty sum size device log.fault line fits.reach log.pins H A f U fits.parts (state_of new) some.0 now some.1 (names new came).0 (names new came).1
+            (at_last (LeavesRecoverable sum size H fits.reach f) before new (left new came fits.reach H A f U fits.parts));
+        slots = slots_line_faulty size line device.log.bytes (state_of new).log.bytes log.fault slots fits.slots some.0 now some.1;
+      }
+    ]
+
+    -- Once they were all made it does so with the segments that are left.
+    made : (new : Trace) → new ≡ after_all (write_in line n k) before → new ≡ after_all (buffer_calls sum size log.config.config.least device log.fault whole v k r.buffer r.there r.ready) before
+    made new came = came ∙ ap (λ (es : List Event). after_all es before) calls
+
+    pub holds_done : (new : Trace) → new ≡ after_all (write_in line n k) before → (now : Option IoError) → now ≡ None → (H : History) → Holds trace sum log H → HoldsWith sum size (state_of new) now line_left slots H
+    unfolding Holds
+    holds_done new came now none H holds =
+        subst (λ (o : Option IoError). HoldsWith sum size (state_of new) o line_left slots H) (whole ∙ sym none)
+        (subst (λ (t : Trace). HoldsWith sum size (state_of t) log.fault line_left slots H) (sym (made new came)) (record {
+          holds = holds_promoted sum size (buffer_synced sum size log.config.config.least device log.fault whole v k r.buffer r.there r.ready) log.fault H log.config.config.least log.site.place line_written segments_written
+              (holds_write sum size log.config.config.least device log.fault whole v k r.buffer r.there r.ready log.site.place line (line_segments log) n r.among H holds.holds);
+          slots = slots_write sum size log.config.config.least device log.fault whole v k r.buffer r.there r.ready log.site.place line (line_segments log) n r.among slots log.fault holds.slots;
+        }))
+
+    pub fits_done : (new : Trace) → new ≡ after_all (write_in line n k) before → (now : Option IoError) → now ≡ None → (H : History) (A f : ℕ) (U : List Message) → Fits trace sum log H A f U → FitsWith sum size (state_of new) now line_left slots log.pins H A f U
+    unfolding Fits
+    fits_done new came now none H A f U fits =
+        let after = fits_write sum size log.config.config.least device log.fault whole v k r.buffer r.there r.ready log.pins H A f U log.reserved_to log.site.place fits.reach line (line_segments log) n r.among filled_now first_waits fits.parts in
+        subst (λ (o : Option IoError). FitsWith sum size (state_of new) o line_left slots log.pins H A f U) (sym none)
+        (subst (λ (t : Trace). FitsWith sum size (state_of t) None line_left slots log.pins H A f U) (sym (made new came)) (record {
+          reach = after.0;
+          parts = after.1;
+          slots = slots_write sum size log.config.config.least device log.fault whole v k r.buffer r.there r.ready log.site.place line (line_segments log) n r.among slots None fits.slots;
+        }))
+
+-- A call that changed the device alone left the line as it was.
+pub same_line : {D C : Type 0} (old mid : Log D C) → ChangesDevice old mid → line_of mid ≡ line_of old
+same_line old mid rest = λ i. line_at (rest.site i) (rest.buffer i) (rest.behind i).items
+
+-- The line once its buffer is marked, and those at the front have gone.
+pub line_after : {D C : Type 0} (old mid : Log D C) (n k : ℕ) (v : SegmentView) → ChangesDevice old mid → slice_get (line_of old) n ≡ Some v → (b : IoBuf) (ss : List SegmentBuffer)
+    → ((site : SegmentPosition) (u : SegmentView) → slice_get (line_at site mid.buffer mid.behind.items) n ≡ Some u → line_at site b ss ≡ set (line_at site mid.buffer mid.behind.items) n (written_now k u))
+    → (l : List SegmentView) → l ≡ promoted mid.config.config.segment_size (line_at mid.site b ss) → l ≡ promoted (segment_size_of old) (set (line_of old) n (written_now k v))
+line_after old mid n k v rest among b ss marked l is =
+    let same : line_of mid ≡ line_of old = same_line old mid rest in
+    is
+    ∙ ap (promoted mid.config.config.segment_size) (marked mid.site v (ap (λ (x : List SegmentView). slice_get x n) same ∙ among) ∙ ap (λ (x : List SegmentView). set x n (written_now k v)) same)
+    ∙ (λ i. promoted (rest.config i).segment_size (set (line_of old) n (written_now k v)))

@@ -1,0 +1,250 @@
+-- A log is made ready for a record: that has a place in its current segment, or a further one is begun; and what a reservation makes of it then.
+use Rattle.std.proofs.Common.{◌≡◌, ◌∙◌, ◌<◌, ◌≤◌, ◌+◌, ◌-◌, ◌*◌, ◌/◌, ◌^◌, ◌-ℤ◌, ap, sym, refl, arith, subst, ℕ, pos, Bool, true, false, if◌then◌else◌, List, ◌++◌, length, map, drop, Some}
+use Rattle.std.proofs.lemmas.Bool.Decides.{nat_tests}
+use Rattle.sled_codec.proofs.Segments.{length-short_header}
+use Rattle.sled_codec.specs.Kinds.{kind_written}
+use Rattle.sled_codec.specs.Spelling.{short_header_tail}
+use Rattle.sled_codec.specs.History.{Message}
+use Rattle.sled_codec.specs.declared.result.DiskPtr.TheVariants.{Inline}
+use Rattle.sled_store.specs.Accounts.{MayHandOut}
+use Rattle.sled_store.specs.Device.{Trace}
+use Rattle.sled_store.specs.SegmentStates.{handed_out, next_slot}
+use Rattle.sled_store.specs.declared.config.RunningConfig.{RunningConfig}
+use Rattle.sled_core.specs.Begun.{SegmentView, segment_view, view_at}
+use Rattle.sled_core.specs.Buffers.{message_in, most_open, placeholder_head, record_size, reserved_for}
+use Rattle.sled_core.specs.declared.iobuf.Purpose.{Purpose}
+use Rattle.sled_core.specs.declared.iobuf.Reserved.{Reserved}
+use Rattle.sled_core.specs.declared.logger.Log.{Log}
+use Rattle.sled_core.specs.declared.reservation.Reservation.{Reservation}
+use Rattle.sled_core.specs.Fits.{Awaits, AwaitsIn, FitsInline, IsOnlyOpen, IsUnchanged, IsUsedUpFor, KeepsAll, KeepsTickets, NoFurther, NoneOpen, current_of, is_moved, line_of, machine_at, message_for, open_for, open_of, position_behind, position_of, reserved_end, segment_size_of, size_for, start_behind, start_of, synced_end, target_of, waiting_behind, waiting_of}
+use Rattle.sled_core.specs.Keeps.{Preserves}
+use Rattle.sled_core.specs.Positions.{Position, behind_record, next_segment_at}
+use Rattle.sled_core.specs.Turned.{ChangesLine, ChangesSlots, HasPlace, IsTicketFor, begun_view, next_line, reserved_now}
+use Rattle.sled_core.specs.Waiting.{BufferAt, BufferStart, at_last, closed_now, unwritten}
+use Rattle.sled_core.proofs.Holds.KeptCalls.{kept_further}
+use Rattle.sled_core.proofs.Line.Begins.{begins_current, begins_keeps, begins_same, begins_tickets}
+use Rattle.sled_core.proofs.Line.LogReserves.{placeholder_fits, reserves_keeps, reserves_open, reserves_others, reserves_position, reserves_same, target_here, target_next}
+use Rattle.sled_core.proofs.Line.LogSpans.{next_buffers, reserved_buffers, same_buffers}
+use Rattle.sled_core.proofs.Line.Reserves.{HasPlaceFor, ticket_reserved}
+use Rattle.sled_core.proofs.Line.Targets.{record_short}
+use Rattle.sled_core.proofs.Line.Unchanged.{left_alone, unchanged_current, unchanged_keeps, unchanged_same, unchanged_size, unchanged_tickets}
+use Rattle.sled_core.proofs.Reserve.Heads.{length-short_header_tail}
+use Rattle.sled_core.proofs.Reserve.ReserveLemmas.{head_whole, message_is, more_long}
+
+-- behind all bytes of the segment that is being filled
+abbrev pub next_here : {D C : Type 0} → Log D C → Position
+next_here log = record { place = (current_of log).parts.site.place + length (current_of log).parts.bytes; begins = (current_of log).parts.site.place; slot = (current_of log).parts.site.slot; machine = machine_at log }
+
+-- the number of that segment
+abbrev pub number_of : {D C : Type 0} → Log D C → ℕ
+number_of log = (current_of log).parts.site.place / segment_size_of log
+
+-- A log is ready for a record of an item of a page: it will stand there, behind all bytes.
+pub record IsPrepared {D C : Type 0} (trace : D → Trace) (sum : List ℕ → ℕ) (old mid : Log D C) (kept : Purpose) (head item : List ℕ) : Type 0 where
+  pub keeps : Preserves trace sum old mid
+  pub tickets : KeepsTickets old mid
+  pub same : KeepsAll old mid
+  pub target : target_of old kept.page (length item) ≡ next_here mid
+  pub tail : drop 4 head ≡ short_header_tail kept.kind (length item) (number_of mid) kept.page
+  pub fits : HasPlace mid (length head + length item)
+  pub seals : (waiting_of mid ≡ waiting_behind sum old kept.page (length item)) × (start_of mid ≡ start_behind old kept.page (length item))
+  pub further : IsUsedUpFor old kept.page (length item) → ⊥
+  pub few : open_for old kept.page (length item) < most_open
+
+-- a record's length by its header
+pub head_size : (head item : List ℕ) (kept : Purpose) (number : ℕ) → drop 4 head ≡ short_header_tail kept.kind (length item) number kept.page → length head + length item ≡ record_size number kept.page (length item)
+head_size head item kept number tail =
+    let whole = head_whole head kept.kind (length item) number kept.page tail in
+    omega (arith, whole, length-short_header_tail kept.kind (length item) number kept.page)
+
+-- Where the record stands.
+
+-- Where it has a place in the segment that is being filled it needs no further one,
+module _ {D C : Type 0} (log : Log D C) (page n : ℕ) (target : target_of log page n ≡ next_here log) (room : length (current_of log).parts.bytes + 32 ≤ segment_size_of log) where
+  pub not_moved : is_moved log page n ≡ false
+  not_moved = let at = ap (λ (q : Position). q.place) target in grind (arith, nat_tests, at, room)
+
+-- and else it does.
+module _ {D C : Type 0} (log : Log D C) (page n : ℕ) (target : target_of log page n ≡ next_segment_at (segment_size_of log) (current_of log).parts.site.place (machine_at log)) where
+  pub moved : is_moved log page n ≡ true
+  moved = let at = ap (λ (q : Position). q.place) target in grind (arith, nat_tests, at)
+
+-- It has a place there.
+module _ {D C : Type 0} (trace : D → Trace) (sum : List ℕ → ℕ) (old mid : Log D C) (kept : Purpose) (head item : List ℕ) (tail : drop 4 head ≡ short_header_tail kept.kind (length item) (number_of old) kept.page)
+    (has : HasPlace old (length head + length item)) where
+  here_target : target_of old kept.page (length item) ≡ next_here old
+  here_target =
+      let long = head_size head item kept (number_of old) tail in
+      let inside = has.record_fits in
+      target_here (segment_size_of old) (current_of old) (machine_at old) kept.page (length item) has.header (omega (arith, inside, long))
+
+  pub here_stays : is_moved old kept.page (length item) ≡ false
+  here_stays = not_moved old kept.page (length item) here_target has.header
+
+  pub here_open : open_for old kept.page (length item) ≡ open_of old
+  here_open = ap (λ (o : Bool). if o then 0 else open_of old) here_stays
+
+  pub here_further : IsUsedUpFor old kept.page (length item) → ⊥
+  here_further used = let moves = used.0 in let stays = here_stays in let both : true ≡ false = sym moves ∙ stays in cc
+
+  pub prepared_here : line_of mid ≡ line_of old → ChangesLine old mid → open_of old < most_open → IsPrepared trace sum old mid kept head item
+  prepared_here line rest few =
+      let same : IsUnchanged old mid = left_alone old mid line rest in
+      let current : current_of mid ≡ current_of old = unchanged_current old mid same in
+      let sizes : segment_size_of mid ≡ segment_size_of old = unchanged_size old mid same in
+      let machine : machine_at mid ≡ machine_at old = same.machine in
+      let n : ℕ = length item in
+      let header = has.header in
+      let inside = has.record_fits in
+      let bytes = ap (λ (v : SegmentView). length v.parts.bytes) current in
+      let stays = here_stays in
+      let open_same = here_open in
+      let buffers = same_buffers old mid line in
+      let closed : List BufferAt = unwritten (at_last (closed_now sum (segment_size_of old)) (line_of old)) in
+      let next : BufferStart = record { place = (current_of old).parts.site.place + segment_size_of old; lid = next_slot (machine_at old) * segment_size_of old } in
+      record {
+        keeps = unchanged_keeps old mid same trace sum;
+        tickets = unchanged_tickets old mid same;
+        same = unchanged_same old mid same;
+        target = here_target ∙ sym (λ i. record { place = (current i).parts.site.place + length (current i).parts.bytes; begins = (current i).parts.site.place; slot = (current i).parts.site.slot; machine = machine i });
+        tail = tail ∙ sym (λ i. short_header_tail kept.kind n ((current i).parts.site.place / sizes i) kept.page);
+        fits = record { header = omega (arith, header, bytes, sizes); record_fits = omega (arith, inside, bytes, sizes) };
+        seals = (buffers.0 ∙ sym (ap (λ (o : Bool). if o then closed else waiting_of old) stays), buffers.1 ∙ sym (ap (λ (o : Bool). if o then next else start_of old) stays));
+        further = here_further;
+        few = omega (arith, few, open_same);
+      }
+
+-- It has none, by the header that it would have there.
+module _ {D C : Type 0} (trace : D → Trace) (sum : List ℕ → ℕ) (old : Log D C) (kept : Purpose) (item : List ℕ) (inline : FitsInline (segment_size_of old) (length item))
+    (len : ℕ) (long : len ≡ record_size (number_of old) kept.page (length item)) (not : HasPlace old len → ⊥) where
+  abbrev size : ℕ
+  size = segment_size_of old
+
+  abbrev v : SegmentView
+  v = current_of old
+
+  big : 256 ≤ size
+  big = old.config.config.least
+
+  next_target : target_of old kept.page (length item) ≡ next_segment_at size v.parts.site.place (machine_at old)
+  next_target = target_next size v (machine_at old) kept.page (length item) big inline (λ room inside. not (record { header = room; record_fits = omega (arith, inside, long) }))
+
+  pub next_moves : is_moved old kept.page (length item) ≡ true
+  next_moves = moved old kept.page (length item) next_target
+
+  pub next_open : open_for old kept.page (length item) ≡ 0
+  next_open = ap (λ (o : Bool). if o then 0 else open_of old) next_moves
+
+  pub next_used : NoFurther old → IsUsedUpFor old kept.page (length item)
+  next_used none = (next_moves, none)
+
+  pub prepared_next : (mid : Log D C) (head : List ℕ) → line_of mid ≡ next_line sum size (machine_at old) (synced_end old) (line_of old) → machine_at mid ≡ handed_out (v.parts.site.place + size) (machine_at old) → ChangesSlots old mid
+      → drop 4 head ≡ short_header_tail kept.kind (length item) (number_of mid) kept.page → MayHandOut size (v.parts.site.place + size) (machine_at old) → IsPrepared trace sum old mid kept head item
+  prepared_next mid head line machine rest tail may =
+      let current : current_of mid ≡ begun_view sum size (machine_at old) (synced_end old) v = begins_current trace sum old mid line machine rest in
+      let header = length-short_header sum (pos (v.parts.site.place + size)) (pos (synced_end old) -ℤ pos 1) in
+      let bytes : length (current_of mid).parts.bytes ≡ 20 = ap (λ (w : SegmentView). length w.parts.bytes) current ∙ header in
+      let sizes : segment_size_of mid ≡ size = ap (λ (x : RunningConfig D C). x.config.segment_size) rest.config in
+      let all = head_size head item kept (number_of mid) tail in
+      let short = record_short (number_of mid) kept.page (length item) in
+      let moves = next_moves in
+      let none = next_open in
+      let least = big in
+      let buffers = next_buffers sum old mid (synced_end old) line in
+      let closed : List BufferAt = unwritten (at_last (closed_now sum size) (line_of old)) in
+      let next : BufferStart = record { place = v.parts.site.place + size; lid = next_slot (machine_at old) * size } in
+      record {
+        keeps = begins_keeps trace sum old mid line machine rest;
+        tickets = begins_tickets trace sum old mid line machine rest;
+        same = begins_same trace sum old mid line machine rest;
+        target = next_target
+            ∙ sym ((λ i. record { place = (current i).parts.site.place + length (current i).parts.bytes; begins = (current i).parts.site.place; slot = (current i).parts.site.slot; machine = machine i })
+            ∙ ap (λ k. record { place = v.parts.site.place + size + k; begins = v.parts.site.place + size; slot = next_slot (machine_at old) * size; machine = handed_out (v.parts.site.place + size) (machine_at old) }) header);
+        tail = tail;
+        fits = record { header = omega (arith, bytes, sizes, least); record_fits = omega (arith, bytes, sizes, least, all, short, inline) };
+        seals = (buffers.0 ∙ sym (ap (λ (o : Bool). if o then closed else waiting_of old) moves), buffers.1 ∙ sym (ap (λ (o : Bool). if o then next else start_of old) moves));
+        further = λ used. used.1 may;
+        few = omega (arith, none);
+      }
+
+-- The reservation is made.
+module _ {D C : Type 0} (trace : D → Trace) (sum : List ℕ → ℕ) (old mid new : Log D C) (kept : Purpose) (head item : List ℕ) (ready : IsPrepared trace sum old mid kept head item)
+    (known : kind_written kept.log_kind kept.page false ≡ Some kept.kind) (small : kept.page < 2 ^ 64)
+    (line : line_of new ≡ at_last (reserved_now (placeholder_head head ++ item) (reserved_for kept (length (current_of mid).parts.bytes) (length head) (length item) (sum (item ++ drop 4 head)))) (line_of mid))
+    (rest : ChangesSlots mid new) (accountant : new.accountant ≡ mid.accountant) where
+  abbrev w : SegmentView
+  w = current_of mid
+
+  abbrev more : List ℕ
+  more = placeholder_head head ++ item
+
+  abbrev r : Reserved
+  r = reserved_for kept (length w.parts.bytes) (length head) (length item) (sum (item ++ drop 4 head))
+
+  abbrev len : ℕ
+  len = length item
+
+  fits : HasPlaceFor sum (segment_size_of mid) more r w
+  fits = placeholder_fits sum mid head item kept known small ready.tail ready.fits
+
+  whole : length head ≡ 4 + length (short_header_tail kept.kind len (number_of mid) kept.page)
+  whole = head_whole head kept.kind len (number_of mid) kept.page ready.tail
+
+  size_same : segment_size_of old ≡ segment_size_of mid
+  size_same = sym (ap (λ (x : RunningConfig D C). x.config.segment_size) ready.same.config)
+
+  -- how long it is
+  abbrev here_size : ℕ
+  here_size = record_size (number_of mid) kept.page len
+
+  size_is : size_for old kept.page len ≡ here_size
+  size_is = λ i. record_size ((ready.target i).begins / size_same i) kept.page len
+
+  long : length more ≡ here_size
+  long = more_long sum (number_of mid) w.parts.bytes head item kept known small ready.tail whole ∙ head_size head item kept (number_of mid) ready.tail
+
+  pub made_keeps : Preserves trace sum old new
+  made_keeps = kept_further trace sum old mid new ready.keeps (reserves_keeps trace sum mid new more r line rest accountant fits)
+
+  pub made_same : KeepsAll old new
+  made_same =
+      let second = reserves_same trace sum mid new more r line rest accountant fits in
+      let first = ready.same in
+      record { config = second.config ∙ first.config; synced = second.synced ∙ first.synced; fault = second.fault ∙ first.fault; pins = second.pins ∙ first.pins }
+
+  pub made_others : (ticket : Reservation) (m : Message) → Awaits old ticket m → Awaits new ticket m
+  made_others ticket m awaits = reserves_others trace sum mid new more r line rest accountant fits ticket m (ready.tickets.awaits ticket m awaits)
+
+  pub made_position : position_of new ≡ position_behind old kept.page len
+  made_position =
+      reserves_position trace sum mid new more r line rest accountant fits here_size long
+      ∙ sym (λ i. behind_record (size_same i) (ready.target i) (size_is i))
+
+  pub made_end : reserved_end new ≡ w.parts.site.place + length w.parts.bytes + length head + len → reserved_end new ≡ (target_of old kept.page len).place + size_for old kept.page len
+  made_end end =
+      let at = ap (λ (q : Position). q.place) ready.target in
+      let is = size_is in
+      let all = head_size head item kept (number_of mid) ready.tail in
+      omega (arith, end, at, is, all)
+
+  pub made_seals : (waiting_of new ≡ waiting_behind sum old kept.page len) × (start_of new ≡ start_behind old kept.page len)
+  made_seals = let same = reserved_buffers mid new more r line in (same.0 ∙ ready.seals.0, same.1 ∙ ready.seals.1)
+
+  -- The ticket is for its message.
+  module _ (ticket : Reservation) (own : IsTicketFor mid ticket) where
+    pub made_open : NoneOpen old → IsOnlyOpen new ticket
+    made_open ended = reserves_open trace sum mid new more r line rest accountant fits ticket own.place (ready.tickets.ended ended)
+
+    message_here : message_for old kept.log_kind kept.page item
+        ≡ record { kind = kept.log_kind; page = kept.page; place = w.parts.site.place + length w.parts.bytes; pointer = Inline (w.parts.site.slot + length w.parts.bytes); size = here_size; bytes = item }
+    message_here =
+        let back : w.parts.site.place + length w.parts.bytes - w.parts.site.place ≡ length w.parts.bytes = omega arith in
+        (λ i. record { kind = kept.log_kind; page = kept.page; place = (ready.target i).place; pointer = Inline ((ready.target i).slot + ((ready.target i).place - (ready.target i).begins)); size = size_is i; bytes = item })
+        ∙ ap (λ k. record { kind = kept.log_kind; page = kept.page; place = w.parts.site.place + length w.parts.bytes; pointer = Inline (w.parts.site.slot + k); size = here_size; bytes = item }) back
+
+    pub made_ticket : Awaits new ticket (message_for old kept.log_kind kept.page item)
+    made_ticket =
+        let is = message_here ∙ message_is sum (number_of mid) w.parts.bytes head item kept known small ready.tail whole w.parts.site in
+        subst (λ (m : Message). Awaits new ticket m) (sym is)
+        (subst (λ (l : List SegmentView). AwaitsIn l ticket (message_in w.parts.site (w.parts.bytes ++ more) r)) (sym line)
+        (ticket_reserved sum (segment_size_of mid) more r (view_at mid.site mid.buffer) (map segment_view mid.behind.items) ticket own.index (record { open_yet = refl; place = own.place; pointer = own.pointer })))

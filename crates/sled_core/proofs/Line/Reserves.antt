@@ -1,0 +1,185 @@
+-- A place is reserved in the segment that is being filled: its placeholder stands behind what is there, and the log holds and fits what it did.
+use Rattle.std.proofs.Common.{◌≡◌, ◌∙◌, ◌<◌, ◌≤◌, ◌+◌, ◌-◌, ◌/◌, ap, sym, refl, arith, subst, inl, inr, ℕ, List, [], ◌∷◌, ◌++◌, length, length-append, length-take, map, take, drop, Option, Some, pos, if◌then◌else◌}
+use Rattle.std.specs.List.{All, slice_get}
+use Rattle.std.specs.declared.io.Error.{Error as IoError}
+use Rattle.std.proofs.lemmas.List.{drop-append-le, map-append, take-append-le}
+use Rattle.sled_codec.specs.History.{History, Message}
+use Rattle.sled_store.specs.Device.{State}
+use Rattle.sled_store.specs.SegmentStates.{Machine}
+use Rattle.sled_core.specs.Begun.{AreEntered, AreFilled, SegmentParts, SegmentView, begin_of}
+use Rattle.sled_core.specs.Buffers.{HasText, IsHeaded, message_in}
+use Rattle.sled_core.specs.declared.iobuf.Reserved.{Reserved}
+use Rattle.sled_core.specs.declared.iobuf.ReservationState.TheVariants.{Open}
+use Rattle.sled_core.specs.declared.iobuf.Sealed.{Sealed}
+use Rattle.sled_core.specs.declared.iobuf.SegmentPosition.{SegmentPosition}
+use Rattle.sled_core.specs.declared.reservation.Reservation.{Reservation}
+use Rattle.sled_core.specs.Fits.{AwaitsIn, HoldsIn, HoldsLine, IsOnlyOpenIn, NoneOpenIn, log_parts, parts_in}
+use Rattle.sled_core.specs.FreeSlots.{HasSlot, HasSlots}
+use Rattle.sled_core.specs.Running.{FitsIn, FitsLine}
+use Rattle.sled_core.specs.SealedBuffers.{AreSealed, sealed_end}
+use Rattle.sled_core.specs.Tickets.{IsFor, index_of, place_of}
+use Rattle.sled_core.specs.Turned.{reserved_now}
+use Rattle.sled_core.specs.Waiting.{BufferAt, at_last, buffer_at, last_of, unwritten, unwritten_in, unwritten_of}
+use Rattle.sled_core.proofs.Behind.Calls.{behind-append}
+use Rattle.sled_core.proofs.Behind.FitsCalls.{behind-fits-reserved}
+use Rattle.sled_core.proofs.Holds.HoldsLemmas.{body-append}
+use Rattle.sled_core.proofs.Holds.OpenTickets.{only_new}
+use Rattle.sled_core.proofs.Holds.RunningLemmas.{fits-moved}
+use Rattle.sled_core.proofs.Holds.WholeLemmas.{holds-append}
+use Rattle.sled_core.proofs.Line.Entered.{entered_up}
+use Rattle.sled_core.proofs.Line.Last.{All-at_last, by_last, get_last, last_get_of}
+use Rattle.sled_core.proofs.Reserve.Ranges.{at_there}
+use Rattle.sled_core.proofs.Reserve.ReserveLemmas.{there_append, there_last}
+use Rattle.sled_core.proofs.Sealed.Ended.{ends_rise}
+use Rattle.sled_core.proofs.Sealed.EndedParts.{not_open}
+use Rattle.sled_core.proofs.Sealed.LaidLemmas.{EndsRise, ends_below}
+
+-- A reservation with these bytes has a place behind what is there in a segment of this size.
+pub record HasPlaceFor (sum : List ℕ → ℕ) (size : ℕ) (more : List ℕ) (r : Reserved) (v : SegmentView) : Type 0 where
+  pub begun : 20 ≤ length v.parts.bytes
+  pub written : v.parts.written_len ≤ length v.parts.bytes
+  pub begins : begin_of v ≤ length v.parts.bytes
+  pub are : AreSealed v.parts.written_len v.parts.reserved v.parts.sealed
+  pub within : All (λ x. x.from + x.len ≤ length v.parts.bytes) v.parts.reserved
+  pub headed : All IsHeaded v.parts.reserved
+  pub at : r.from ≡ length v.parts.bytes
+  pub long : r.len ≡ length more
+  pub some : 0 < length more
+  pub open_yet : r.state ≡ Open
+  pub room : r.from + 32 ≤ size
+  pub text : HasText sum (v.parts.site.place / size) (v.parts.bytes ++ more) r
+  pub inside : length (v.parts.bytes ++ more) ≤ size
+
+module _ (sum : List ℕ → ℕ) (size : ℕ) (more : List ℕ) (r : Reserved) where
+  abbrev now : SegmentView → SegmentView
+  now = reserved_now more r
+
+  its_rise : (v : SegmentView) → HasPlaceFor sum size more r v → EndsRise v.parts.written_len v.parts.sealed (length v.parts.bytes)
+  its_rise v its = ends_rise v.parts.written_len v.parts.reserved v.parts.sealed (length v.parts.bytes) its.are its.written its.begins
+
+  module _ (device : State) (fault : Option IoError) where
+    -- the first one alone
+    first_reserved : (H : History) (v : SegmentView) → HasPlaceFor sum size more r v → {behind : List SegmentParts} → HoldsIn sum (log_parts size v.parts.site device fault v.parts.bytes v.parts.written_len v.parts.sealed v.parts.reserved) behind H
+        → HoldsIn sum (log_parts size v.parts.site device fault (v.parts.bytes ++ more) v.parts.written_len v.parts.sealed (v.parts.reserved ++ r ∷ [])) behind H
+    first_reserved H v its {behind} holds = holds-append sum size v.parts.site device fault v.parts.bytes v.parts.written_len v.parts.sealed v.parts.reserved H holds more r
+        its.begun its.within its.at its.long its.open_yet its.room (its_rise v its) its.text
+
+    -- What segments hold they hold then,
+    pub line_reserved : (H : History) (v : SegmentView) (vs : List SegmentView) → HasPlaceFor sum size more r (last_of v vs) → HoldsLine sum size device fault (v ∷ vs) H → HoldsLine sum size device fault (at_last now (v ∷ vs)) H
+    line_reserved H = by_last (λ line. HoldsLine sum size device fault line H) (HasPlaceFor sum size more r) now
+        (λ v its holds. first_reserved H v its holds)
+        (λ v pre w its holds. subst (λ (ss : List SegmentParts). HoldsIn sum (log_parts size v.parts.site device fault v.parts.bytes v.parts.written_len v.parts.sealed v.parts.reserved) ss H) (sym (map-append parts_in pre (now w ∷ [])))
+        (behind-append sum size v.parts.site device fault v.parts.bytes v.parts.written_len v.parts.sealed v.parts.reserved H (map parts_in pre) w.parts []
+        (subst (λ (ss : List SegmentParts). HoldsIn sum (log_parts size v.parts.site device fault v.parts.bytes v.parts.written_len v.parts.sealed v.parts.reserved) ss H) (map-append parts_in pre (w ∷ [])) holds)
+        more r its.at its.long its.open_yet its.room its.text its.inside))
+
+    -- and what they fit they fit.
+    pub line_fits_reserved : (reach pins : ℕ) (H : History) (A f : ℕ) (U : List Message) (v : SegmentView) (vs : List SegmentView) → HasPlaceFor sum size more r (last_of v vs) → FitsLine sum size device fault (v ∷ vs) reach pins H A f U
+        → FitsLine sum size device fault (at_last now (v ∷ vs)) reach pins H A f U
+    line_fits_reserved reach pins H A f U = by_last (λ line. FitsLine sum size device fault line reach pins H A f U) (HasPlaceFor sum size more r) now
+        (λ v its fits. fits-moved sum size v.parts.site device fault v.parts.bytes v.parts.written_len v.parts.sealed v.parts.reserved pins H A f U fits (v.parts.bytes ++ more) v.parts.written_len v.parts.sealed (v.parts.reserved ++ r ∷ []) refl
+        (first_reserved H v its fits.holds))
+        (λ v pre w its fits. subst (λ (ss : List SegmentParts). FitsIn sum (log_parts size v.parts.site device fault v.parts.bytes v.parts.written_len v.parts.sealed v.parts.reserved) ss reach pins H A f U) (sym (map-append parts_in pre (now w ∷ [])))
+        (behind-fits-reserved sum size v.parts.site device fault v.parts.bytes v.parts.written_len v.parts.sealed v.parts.reserved pins H A f U (map parts_in pre) w.parts []
+        (subst (λ (ss : List SegmentParts). FitsIn sum (log_parts size v.parts.site device fault v.parts.bytes v.parts.written_len v.parts.sealed v.parts.reserved) ss reach pins H A f U) (map-append parts_in pre (w ∷ [])) fits)
+        more r its.at its.long its.open_yet its.room its.text its.inside))
+
+  -- Their slots are the same.
+  pub slots_reserved : (line : List SegmentView) (log : List ℕ) (fault : Option IoError) (m : Machine) → HasSlots size line log fault m → HasSlots size (at_last now line) log fault m
+  slots_reserved line log fault m slots = record {
+    taken = All-at_last (HasSlot size m) now (λ v here. record { number = here.number; lies = here.lies; taken = here.taken }) line slots.taken;
+    zeros = slots.zeros;
+  }
+
+  -- Tickets are for what they were for,
+  pub awaits_reserved : (v : SegmentView) (vs : List SegmentView) → HasPlaceFor sum size more r (last_of v vs) → (ticket : Reservation) (m : Message) → AwaitsIn (v ∷ vs) ticket m → AwaitsIn (at_last now (v ∷ vs)) ticket m
+  awaits_reserved v vs its ticket m awaits = elim (last_get_of now v vs awaits.number awaits.segment awaits.among) [
+    | inl still ↦ record { number = awaits.number; segment = awaits.segment; among = still; reserved = awaits.reserved; numbered = awaits.numbered; there = awaits.there; own = awaits.own; message = awaits.message }
+    | inr changed ↦ (
+        let s : SegmentView = awaits.segment in
+        let here : HasPlaceFor sum size more r s = subst (HasPlaceFor sum size more r) (sym changed.0) its in
+        let i : ℕ = index_of ticket - s.gone in
+        let within = at_there (λ x. x.from + x.len ≤ length s.parts.bytes) s.parts.reserved i awaits.reserved awaits.there here.within in
+        let headed = (at_there IsHeaded s.parts.reserved i awaits.reserved awaits.there here.headed).1 awaits.own.open_yet in
+        record {
+          number = awaits.number;
+          segment = now s;
+          among = changed.1;
+          reserved = awaits.reserved;
+          numbered = awaits.numbered;
+          there = there_append s.parts.reserved (r ∷ []) i awaits.reserved awaits.there;
+          own = awaits.own;
+          message = awaits.message ∙ ap (λ (l : List ℕ). record (message_in s.parts.site s.parts.bytes awaits.reserved) { bytes = l }) (sym (body-append s.parts.bytes more awaits.reserved within headed.1));
+        })
+  ]
+
+  -- and the new one is for the message that stands there.
+  last_there : (f : SegmentView → SegmentView) (v : SegmentView) (vs : List SegmentView) → slice_get (at_last f (v ∷ vs)) (length vs) ≡ Some (f (last_of v vs))
+  last_there f v [] = refl
+  last_there f v (x ∷ xs) = last_there f x xs
+
+  pub ticket_reserved : (v : SegmentView) (vs : List SegmentView) (ticket : Reservation) → index_of ticket ≡ (last_of v vs).gone + length (last_of v vs).parts.reserved → IsFor (last_of v vs).parts.site r ticket
+      → AwaitsIn (at_last now (v ∷ vs)) ticket (message_in (last_of v vs).parts.site ((last_of v vs).parts.bytes ++ more) r)
+  ticket_reserved v vs ticket index own =
+      let s : SegmentView = last_of v vs in
+      record {
+        number = length vs;
+        segment = now s;
+        among = last_there now v vs;
+        reserved = r;
+        numbered = omega (arith, index);
+        there = ap (slice_get (s.parts.reserved ++ r ∷ [])) (let at : index_of ticket - s.gone ≡ length s.parts.reserved = omega (arith, index) in at) ∙ there_last s.parts.reserved r;
+        own = own;
+        message = refl;
+      }
+
+  -- Where none was open, it is for the only open one.
+  pub only_reserved : (v : SegmentView) (vs : List SegmentView) (ticket : Reservation) → place_of ticket ≡ pos ((last_of v vs).parts.site.place + r.from) → NoneOpenIn (v ∷ vs) → IsOnlyOpenIn (at_last now (v ∷ vs)) ticket
+  only_reserved v vs ticket place ended n w i x among there is_open = elim (get_last now v vs n w among) [
+    | inl still ↦ absurd (not_open w.parts.reserved i x (ended n w still) there is_open)
+    | inr changed ↦ (
+        let s : SegmentView = last_of v vs in
+        let its : slice_get (s.parts.reserved ++ r ∷ []) i ≡ Some x = subst (λ (y : SegmentView). slice_get y.parts.reserved i ≡ Some x) changed.1 there in
+        let at : i ≡ length s.parts.reserved = only_new s.parts.reserved r (ended n s changed.0) i x its is_open in
+        let one : Some r ≡ Some x = sym (there_last s.parts.reserved r) ∙ ap (slice_get (s.parts.reserved ++ r ∷ [])) (sym at) ∙ its in
+        let same : r ≡ x = cc in
+        ap (λ (y : SegmentView). pos (y.parts.site.place + x.from)) changed.1 ∙ ap (λ (y : Reserved). pos (s.parts.site.place + y.from)) (sym same) ∙ sym place)
+  ]
+
+  -- The buffers that aren't written are the same.
+  unwritten_more : (site : SegmentPosition) (bytes : List ℕ) (from : ℕ) (bs : List Sealed) (rs : List Reserved) → AreSealed from rs bs → EndsRise from bs (length bytes) → unwritten_in site (bytes ++ more) from bs (rs ++ r ∷ []) ≡ unwritten_in site bytes from bs rs
+  unwritten_more site bytes from [] rs are rise = refl
+  unwritten_more site bytes from (b ∷ bs) rs are rise =
+      let count = are.0.counted in
+      let within : b.count ≤ length rs = omega (arith, count, length-take b.count rs) in
+      let end : b.end ≤ length bytes = (let e = ends_below b.end bs (length bytes) rise.1 in omega (arith, e.0, e.1)) in
+      let rest : unwritten_in site (bytes ++ more) b.end bs (drop b.count (rs ++ r ∷ [])) ≡ unwritten_in site bytes b.end bs (drop b.count rs) =
+      ap (unwritten_in site (bytes ++ more) b.end bs) (drop-append-le b.count rs (r ∷ []) within) ∙ unwritten_more site bytes b.end bs (drop b.count rs) are.1 rise.1 in
+      let here : buffer_at site (bytes ++ more) from b.end (take b.count (rs ++ r ∷ [])) ≡ buffer_at site bytes from b.end (take b.count rs) =
+      ap (λ (l : List Reserved). buffer_at site (bytes ++ more) from b.end l) (take-append-le b.count rs (r ∷ []) within)
+      ∙ ap (λ (l : List ℕ). record (buffer_at site bytes from b.end (take b.count rs)) { bytes = drop from l }) (take-append-le b.end bytes more end) in
+      λ i. if b.is_written then rest i else here i ∷ rest i
+
+  pub unwritten_reserved : (v : SegmentView) (vs : List SegmentView) → HasPlaceFor sum size more r (last_of v vs) → unwritten (at_last now (v ∷ vs)) ≡ unwritten (v ∷ vs)
+  unwritten_reserved v [] its = ap (λ (l : List BufferAt). l ++ []) (unwritten_more v.parts.site v.parts.bytes v.parts.written_len v.parts.sealed v.parts.reserved its.are (its_rise v its))
+  unwritten_reserved v (w ∷ ws) its = ap (λ (l : List BufferAt). unwritten_of v.parts ++ l) (unwritten_reserved w ws its)
+
+  -- All begins below the end of the new record.
+  entered_more : (to to' place from : ℕ) (bs : List Sealed) (rs : List Reserved) → AreSealed from rs bs → to ≤ to' → place + sealed_end from bs < to' → AreEntered to place from bs rs → AreEntered to' place from bs (rs ++ r ∷ [])
+  entered_more to to' place from [] rs are up low entered = λ some. low
+  entered_more to to' place from (b ∷ bs) rs are up low entered =
+      let count = are.0.counted in
+      let within : b.count ≤ length rs = omega (arith, count, length-take b.count rs) in
+      (λ some. let old = entered.0 some in omega (arith, old, up), subst (λ (l : List Reserved). AreEntered to' place b.end bs l) (sym (drop-append-le b.count rs (r ∷ []) within)) (entered_more to to' place b.end bs (drop b.count rs) are.1 up low entered.1))
+
+  pub filled_reserved : (to to' : ℕ) (v : SegmentView) (vs : List SegmentView) → begin_of (last_of v vs) ≤ length (last_of v vs).parts.bytes → AreSealed (last_of v vs).parts.written_len (last_of v vs).parts.reserved (last_of v vs).parts.sealed → 0 < length more
+      → to' ≡ (last_of v vs).parts.site.place + length (last_of v vs).parts.bytes + length more → AreFilled size to (v ∷ vs) → (to ≤ to') × AreFilled size to' (at_last now (v ∷ vs))
+  filled_reserved to to' v [] begins are some is filled =
+      let up : to ≤ to' = (let old = filled.1 in omega (arith, old, is)) in
+      (up, (filled.0, omega (arith, is, length-append v.parts.bytes more), entered_more to to' v.parts.site.place v.parts.written_len v.parts.sealed v.parts.reserved are up (omega (arith, begins, is, some)) filled.2))
+  filled_reserved to to' v (w ∷ []) begins are some is filled =
+      let rest = filled_reserved to to' w [] begins are some is filled.2 in
+      (rest.0, (filled.0, entered_up to to' v.parts.site.place v.parts.written_len v.parts.sealed v.parts.reserved rest.0 filled.1, rest.1))
+  filled_reserved to to' v (w ∷ x ∷ xs) begins are some is filled =
+      let rest = filled_reserved to to' w (x ∷ xs) begins are some is filled.2 in
+      (rest.0, (filled.0, entered_up to to' v.parts.site.place v.parts.written_len v.parts.sealed v.parts.reserved rest.0 filled.1, rest.1))

@@ -1,0 +1,202 @@
+-- A call that writes the buffers that begin below a place, and seals the current one first, where that does: what it makes of the log is what the write of those makes of the sealed one.
+use Rattle.std.proofs.Common.{◌≡◌, ◌∙◌, ◌≤◌, ◌<◌, ◌+◌, ap, sym, refl, arith, subst, ℕ, Bool, true, false, if◌then◌else◌, List, [], ◌∷◌, ◌++◌, length, map, None, Result, Ok, Err, OnOk, OnErr}
+use Rattle.std.specs.List.{Contains}
+use Rattle.std.proofs.lemmas.Bool.Decides.{nat_tests}
+use Rattle.sled_codec.specs.declared.result.Error.{Error}
+use Rattle.sled_store.specs.Device.{Event, Trace}
+use Rattle.sled_store.specs.Script.{Performs, after_all}
+use Rattle.sled_store.specs.declared.config.RunningConfig.{RunningConfig}
+use Rattle.sled_store.proofs.Segments.Elements.{in_nothing, only_in}
+use Rattle.sled_store.proofs.Traces.ScriptLemmas.{performs_nothing}
+use Rattle.sled_core.specs.Begun.{SegmentView, segment_view, view_at}
+use Rattle.sled_core.specs.declared.logger.Log.{Log}
+use Rattle.sled_core.specs.Causes.{HeldAnswers, OnDone}
+use Rattle.sled_core.specs.Fits.{AddsBuffers, IsUnchanged, IsUsedUp, IsUsedUpBelow, KeepsAll, KeepsTickets, NoneSealed, buffers_of, current_begin, current_of, device_of, fault_of, holding_below, reserved_end, sealing_end, segment_size_of, start_of, synced_end, waiting_of, writing_below}
+use Rattle.sled_core.specs.Keeps.{LeavesAbove, LeavesSome, Preserves, SamePosition, WritesBelow, start_sealed}
+use Rattle.sled_core.specs.Positions.{is_short}
+use Rattle.sled_core.specs.Waiting.{BufferAt, held_below, holds_any, writes_below}
+use Rattle.sled_core.proofs.Holds.KeptCalls.{kept_still, position_further, position_still, tickets_further, tickets_still}
+use Rattle.sled_core.proofs.Line.Below.{begin_all, held_front, line_past, writes_front}
+use Rattle.sled_core.proofs.Line.Current.{ComeBehind, line_current}
+use Rattle.sled_core.proofs.Line.Entered.{filled_last}
+use Rattle.sled_core.proofs.Line.Facts.{current_facts}
+use Rattle.sled_core.proofs.Line.LogSpans.{above_first, leaves_above, left_all, some_first}
+use Rattle.sled_core.proofs.Line.Lying.{lie_up, line_lie}
+use Rattle.sled_core.proofs.Line.Outcomes.{answers_used, held_alike, on_done, on_err, on_ok}
+use Rattle.sled_core.proofs.Line.Segments.{line_segments}
+
+-- The current buffer holds something, where it begins below a place that was reserved.
+pub some_below : {D C : Type 0} (log : Log D C) (to : ℕ) → to ≤ reserved_end log → current_begin log < to → holds_any (current_of log) ≡ true
+some_below log to reserved below =
+    let last = filled_last log.config.config.segment_size log.reserved_to (view_at log.site log.buffer) (map segment_view log.behind.items) log.filled in
+    let most = last.1 in
+    grind (arith, nat_tests, reserved, below, most)
+
+-- It ends behind all that was reserved.
+pub ends_behind : {D C : Type 0} (log : Log D C) → reserved_end log ≤ sealing_end log
+ends_behind log =
+    let size : ℕ = segment_size_of log in
+    let v : SegmentView = current_of log in
+    let most = (filled_last log.config.config.segment_size log.reserved_to (view_at log.site log.buffer) (map segment_view log.behind.items) log.filled).1 in
+    let short = (current_facts log).short in
+    by_test size v short most (is_short size (length v.parts.bytes))
+  where
+    by_test : (size : ℕ) (v : SegmentView) → length v.parts.bytes ≤ size → reserved_end log ≤ v.parts.site.place + length v.parts.bytes → (o : Bool) → reserved_end log ≤ v.parts.site.place + (if o then size else length v.parts.bytes)
+    by_test size v short most true = omega (arith, short, most)
+    by_test size v short most false = most
+
+-- where the buffers that weren't on the device were none, there is one at most with the current one, which begins where that does
+few_below : (from to : ℕ) (old new : List BufferAt) → old ≡ [] → ComeBehind from old new → from < to → (length new ≤ 1) × ((b : BufferAt) → Contains new b → b.place < to)
+few_below from to old new none come below =
+    let is : new ≡ come.more = come.is ∙ ap (λ (l : List BufferAt). l ++ come.more) none in
+    let few = come.few in
+    (omega (arith, few, ap length is), λ b there. by come.more few come.at b (subst (λ (l : List BufferAt). Contains l b) is there))
+  where
+    by : (bs : List BufferAt) → length bs ≤ 1 → ((b : BufferAt) → bs ≡ b ∷ [] → b.place ≡ from) → (b : BufferAt) → Contains bs b → b.place < to
+    by [] few at b there = absurd (in_nothing b there)
+    by (x ∷ []) few at b there = let here = at x refl in let same = only_in x b there in omega (arith, below, here, ap (λ (y : BufferAt). y.place) same)
+    by (x ∷ y ∷ ys) few at b there = absurd (omega (arith, few))
+
+module _ {D C : Type 0} (sum : List ℕ → ℕ) (to : ℕ) (old mid : Log D C) (reserved : to ≤ reserved_end old) where
+  -- More buffers behind all that was reserved are none of those below the place.
+  module _ (adds : AddsBuffers sum old mid) where
+    pub writing_more : writing_below sum mid to ≡ writing_below sum old to
+    writing_more = ap (writes_below to) adds.is ∙ writes_front to (buffers_of sum old) adds.more (begin_all (reserved_end old) to adds.more reserved adds.behind)
+
+    pub holding_more : holding_below sum mid to ≡ holding_below sum old to
+    holding_more = ap (held_below to) adds.is ∙ held_front to (buffers_of sum old) adds.more (begin_all (reserved_end old) to adds.more reserved adds.behind)
+
+  pub sealed_past : current_begin mid ≡ sealing_end old → to ≤ current_begin mid
+  sealed_past begins = let most = ends_behind old in omega (arith, reserved, begins, most)
+
+  -- What is written and what is left is of the log as it was.
+  module _ {T : Type 0} (new : Log D C) (result : Result T Error) (below : current_begin old < to) (begins : current_begin mid ≡ sealing_end old) (waiting : waiting_of mid ≡ buffers_of sum old) (start : start_of mid ≡ start_sealed old) (synced : synced_end mid ≡ synced_end old)
+      (current : current_begin new ≡ current_begin mid) (none : ((b : BufferAt) → Contains (waiting_of mid) b → b.place < to) → OnOk result (NoneSealed new)) (one : length (waiting_of mid) ≤ 1 → OnErr result (synced_end new ≡ synced_end mid))
+      (above : OnOk result (LeavesAbove sum to mid new)) (some : OnErr result (LeavesSome sum to mid new)) where
+    few : NoneSealed old → (length (waiting_of mid) ≤ 1) × ((b : BufferAt) → Contains (waiting_of mid) b → b.place < to)
+    few unsealed =
+        subst (λ (l : List BufferAt). (length l ≤ 1) × ((b : BufferAt) → Contains l b → b.place < to)) (sym waiting)
+        (few_below (current_begin old) to (waiting_of old) (buffers_of sum old) unsealed
+        (line_current sum (segment_size_of old) old.site.place (view_at old.site old.buffer) (map segment_view old.behind.items) (line_segments old)) below)
+
+    pub writes_sealed : WritesBelow sum result to old new
+    writes_sealed = record {
+      seals = record {
+        held = λ held. (let past = sealed_past begins in omega (arith, past, current));
+        none = λ unsealed. none (few unsealed).1;
+        err = λ unsealed. on_err result (synced_end new ≡ synced_end mid) (synced_end new ≡ synced_end old) (λ same. same ∙ synced) (one (few unsealed).0);
+      };
+      above = on_ok result (LeavesAbove sum to mid new) (LeavesAbove sum to old new) (above_first sum to old mid new below (sealed_past begins) waiting start) above;
+      some = on_err result (LeavesSome sum to mid new) (LeavesSome sum to old new) (some_first sum to old mid new below (sealed_past begins) waiting start) some;
+    }
+
+-- So it is where the current buffer begins behind the place.
+pub writes_still : {T D C : Type 0} (sum : List ℕ → ℕ) (to : ℕ) (old new : Log D C) (result : Result T Error) → to ≤ current_begin old → current_begin new ≡ current_begin old → (((b : BufferAt) → Contains (waiting_of old) b → b.place < to) → OnOk result (NoneSealed new))
+    → (length (waiting_of old) ≤ 1 → OnErr result (synced_end new ≡ synced_end old)) → OnOk result (LeavesAbove sum to old new) → OnErr result (LeavesSome sum to old new) → WritesBelow sum result to old new
+writes_still sum to old new result sealed current none one above some = record {
+  seals = record {
+    held = λ held. omega (arith, sealed, current);
+    none = λ unsealed. none (λ b there. absurd (in_nothing b (subst (λ (l : List BufferAt). Contains l b) unsealed there)));
+    err = λ unsealed. one (omega (arith, ap length unsealed));
+  };
+  above = above;
+  some = some;
+}
+
+-- All below the place was on the device already: nothing is done.
+
+pub writes_already : {T D C : Type 0} (sum : List ℕ → ℕ) (to : ℕ) (log : Log D C) (x : T) → to ≤ synced_end log → WritesBelow {T = T} sum (Ok x) to log log
+writes_already sum to log x past =
+    let size : ℕ = segment_size_of log in
+    let first : SegmentView = view_at log.site log.buffer in
+    let behind : List SegmentView = map segment_view log.behind.items in
+    let up = lie_up (log.site.place + log.buffer.written_len) (waiting_of log) (current_begin log) (line_lie size log.site.place first behind (line_segments log)) in
+    record {
+      seals = record { held = λ held. absurd held; none = λ unsealed. unsealed; err = λ unsealed. tt };
+      above = leaves_above sum to log log (omega (arith, past, up)) refl (left_all to (waiting_of log)) (line_past size log.site.place to first behind (line_segments log) past);
+      some = tt;
+    }
+
+-- the current buffer isn't sealed for that
+pub unused_already : {D C : Type 0} (to : ℕ) (log : Log D C) → to ≤ synced_end log → IsUsedUpBelow log to → ⊥
+unused_already to log past used =
+    let up = lie_up (log.site.place + log.buffer.written_len) (waiting_of log) (current_begin log) (line_lie (segment_size_of log) log.site.place (view_at log.site log.buffer) (map segment_view log.behind.items) (line_segments log)) in
+    let below = used.0 in
+    omega (arith, past, up, below)
+
+-- What is so of a call is so of another that answers for it.
+
+pub writes_ok : {T S D C : Type 0} (sum : List ℕ → ℕ) (to : ℕ) (old new : Log D C) (x : T) (y : S) → WritesBelow {T = T} sum (Ok x) to old new → WritesBelow {T = S} sum (Ok y) to old new
+writes_ok sum to old new x y writes = record { seals = record { held = λ held. absurd held; none = writes.seals.none; err = λ unsealed. tt }; above = writes.above; some = tt }
+
+pub writes_err : (T S : Type 0) {D C : Type 0} (sum : List ℕ → ℕ) (to : ℕ) (old new : Log D C) (e : Error) → WritesBelow {T = T} sum (Err e) to old new → WritesBelow {T = S} sum (Err e) to old new
+writes_err T S sum to old new e writes = record { seals = record { held = λ held. writes.seals.held (held_alike T S e held); none = λ unsealed. tt; err = writes.seals.err }; above = tt; some = writes.some }
+
+-- The current buffer could not be sealed: nothing was done.
+pub unchanged_performs : {D C : Type 0} (old new : Log D C) → IsUnchanged old new → (trace : D → Trace) (es : List Event) → Performs es (trace (device_of old)) (trace (device_of new))
+unchanged_performs {D} {C} old new same trace es = performs_nothing es _ _ (ap (λ (x : RunningConfig D C). trace x.device) same.config)
+
+-- What a call has before it writes, where the buffers that begin below a place are sealed: the log that it was, or the one with its current buffer sealed.
+module _ {D C : Type 0} (trace : D → Trace) (sum : List ℕ → ℕ) (to : ℕ) where
+  pub record SealedFor (old mid : Log D C) : Type 0 where
+    pub fault : fault_of mid ≡ None
+    pub reserved : to ≤ reserved_end mid
+    pub past : to ≤ current_begin mid
+    pub keeps : Preserves trace sum old mid
+    pub tickets : KeepsTickets old mid
+    pub position : SamePosition old mid
+    pub device : device_of mid ≡ device_of old
+    pub writing : writing_below sum mid to ≡ writing_below sum old to
+    pub holding : holding_below sum mid to ≡ holding_below sum old to
+    pub unused : IsUsedUpBelow old to → ⊥
+    pub writes : (new : Log D C) (result : Result (Unit {0}) Error) → current_begin new ≡ current_begin mid → (((b : BufferAt) → Contains (waiting_of mid) b → b.place < to) → OnOk result (NoneSealed new))
+        → (length (waiting_of mid) ≤ 1 → OnErr result (synced_end new ≡ synced_end mid)) → OnOk result (LeavesAbove sum to mid new) → OnErr result (LeavesSome sum to mid new) → WritesBelow sum result to old new
+
+  pub sealed_already : (log : Log D C) → fault_of log ≡ None → to ≤ reserved_end log → to ≤ current_begin log → SealedFor log log
+  sealed_already log fault reserved past = record {
+    fault = fault;
+    reserved = reserved;
+    past = past;
+    keeps = kept_still trace sum log;
+    tickets = tickets_still log;
+    position = position_still log;
+    device = refl;
+    writing = refl;
+    holding = refl;
+    unused = λ used. let below = used.0 in omega (arith, past, below);
+    writes = λ new result current none one above some. writes_still sum to log new result past current none one above some;
+  }
+
+  pub sealed_first : (old mid : Log D C) → fault_of old ≡ None → to ≤ reserved_end old → current_begin old < to → waiting_of mid ≡ buffers_of sum old → AddsBuffers sum old mid → current_begin mid ≡ sealing_end old → start_of mid ≡ start_sealed old
+      → Preserves trace sum old mid → KeepsTickets old mid → KeepsAll old mid → SamePosition old mid → (IsUsedUp old → ⊥) → SealedFor old mid
+  sealed_first old mid fault reserved below waiting adds begins start keeps tickets same position unused = record {
+    fault = same.fault ∙ fault;
+    reserved = let still = position.reserved in omega (arith, reserved, still);
+    past = sealed_past sum to old mid reserved begins;
+    keeps = keeps;
+    tickets = tickets;
+    position = position;
+    device = ap (λ (x : RunningConfig D C). x.device) same.config;
+    writing = writing_more sum to old mid reserved adds;
+    holding = holding_more sum to old mid reserved adds;
+    unused = λ used. unused used.1;
+    writes = λ new result current none one above some. writes_sealed sum to old mid reserved new result below begins waiting start same.synced current none one above some;
+  }
+
+  -- and what it makes of the log as it was
+  module _ (old mid new : Log D C) (ready : SealedFor old mid) where
+    pub first_performs : Performs (writing_below sum mid to) (trace (device_of mid)) (trace (device_of new)) → Performs (writing_below sum old to) (trace (device_of old)) (trace (device_of new))
+    first_performs came = subst (λ (d : D). Performs (writing_below sum old to) (trace d) (trace (device_of new))) ready.device (subst (λ (es : List Event). Performs es (trace (device_of mid)) (trace (device_of new))) ready.writing came)
+
+    pub first_calls : {T : Type 0} (result : Result T Error) → OnDone result (trace (device_of new) ≡ after_all (writing_below sum mid to) (trace (device_of mid))) → OnDone result (trace (device_of new) ≡ after_all (writing_below sum old to) (trace (device_of old)))
+    first_calls result came = on_done result _ _ (λ made. made ∙ (λ i. after_all (ready.writing i) (trace (ready.device i)))) came
+
+    pub first_answers : {T : Type 0} (result : Result T Error) (faults : D → ℕ) → HeldAnswers result (holding_below sum mid to) ⊥ None (fault_of new) (faults (device_of mid)) (faults (device_of new))
+        → HeldAnswers result (holding_below sum old to) (IsUsedUpBelow old to) None (fault_of new) (faults (device_of old)) (faults (device_of new))
+    first_answers result faults answers = answers_used result _ _ (IsUsedUpBelow old to) (fault_of new) _ _ _ ready.holding (ap faults ready.device) ready.unused answers
+
+    pub first_tickets : KeepsTickets mid new → KeepsTickets old new
+    first_tickets tickets = tickets_further old mid new ready.tickets tickets
+
+    pub first_position : SamePosition mid new → SamePosition old new
+    first_position position = position_further old mid new ready.position position

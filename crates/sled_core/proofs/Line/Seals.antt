@@ -1,0 +1,180 @@
+-- The current buffer is sealed: the log holds and fits what it did.
+use Rattle.std.proofs.Common.{◌≡◌, ◌∙◌, ◌<◌, ◌≤◌, ◌+◌, ap, sym, refl, arith, subst, inl, inr, ℕ, List, [], ◌∷◌, length, map, drop, Option, true, false, if◌then◌else◌}
+use Rattle.std.specs.declared.io.Error.{Error as IoError}
+use Rattle.std.proofs.lemmas.Bool.Decides.{nat_tests}
+use Rattle.std.proofs.lemmas.List.{map-append}
+use Rattle.sled_codec.specs.History.{History, Message}
+use Rattle.sled_store.specs.Device.{State, Trace, state_of}
+use Rattle.sled_store.specs.SegmentStates.{Machine}
+use Rattle.sled_store.specs.Accounts.{machine_of}
+use Rattle.sled_store.specs.declared.config.RunningConfig.{RunningConfig}
+use Rattle.sled_core.specs.Begun.{SegmentParts, SegmentView, begin_of, segment_view, view_at}
+use Rattle.sled_core.specs.Buffers.{none_open}
+use Rattle.sled_core.specs.declared.logger.Log.{Log}
+use Rattle.sled_core.specs.declared.reservation.Reservation.{Reservation}
+use Rattle.sled_core.specs.Fits.{AwaitsIn, Holds, HoldsIn, HoldsLine, KeepsAll, KeepsTickets, NoneOpenIn, buffers_of, current_begin, current_of, device_of, fault_of, line_of, log_parts, machine_at, parts_in, pins_of, segment_size_of, synced_end, waiting_of}
+use Rattle.sled_core.specs.FreeSlots.{HasSlot, HasSlots}
+use Rattle.sled_core.specs.Keeps.{Preserves, SamePosition}
+use Rattle.sled_core.specs.Positions.{is_short, position_in}
+use Rattle.sled_core.specs.Running.{Fits, FitsIn, FitsLine}
+use Rattle.sled_core.specs.SealedBuffers.{seal_at, sealed_count}
+use Rattle.sled_core.specs.Turned.{ChangesLine}
+use Rattle.sled_core.specs.Waiting.{as_sealed, at_last, closed_now, holds_any, last_of, sealed_now, turned_now, unwritten}
+use Rattle.sled_core.proofs.Behind.Calls.{behind-sealed}
+use Rattle.sled_core.proofs.Behind.FitsCalls.{behind-fits-sealed}
+use Rattle.sled_core.proofs.Holds.KeptCalls.{goes_on_quietly}
+use Rattle.sled_core.proofs.Holds.RunningLemmas.{fits-moved}
+use Rattle.sled_core.proofs.Holds.WholeLemmas.{holds-sealed}
+use Rattle.sled_core.proofs.Line.Facts.{current_facts}
+use Rattle.sled_core.proofs.Line.Last.{All-at_last, at_last_same, at_last_twice, by_last, get_last, last_changed, last_get_of}
+use Rattle.sled_core.proofs.Line.Moves.{fits_as, holds_as, written_to}
+use Rattle.sled_core.proofs.Sealed.Appended.{end_one}
+
+-- The current buffer holds something, in a segment of this size.
+pub record IsFilledSome (size : ℕ) (v : SegmentView) : Type 0 where
+  pub short : length v.parts.bytes ≤ size
+  pub some : begin_of v < length v.parts.bytes
+
+module _ (sum : List ℕ → ℕ) (size : ℕ) (device : State) (fault : Option IoError) where
+  -- the first one alone
+  pub first_sealed : (H : History) (v : SegmentView) → IsFilledSome size v → {behind : List SegmentParts} → HoldsIn sum (log_parts size v.parts.site device fault v.parts.bytes v.parts.written_len v.parts.sealed v.parts.reserved) behind H
+      → HoldsIn sum (log_parts size v.parts.site device fault v.parts.bytes v.parts.written_len (sealed_now v).parts.sealed v.parts.reserved) behind H
+  first_sealed H v its {behind} holds = holds-sealed sum size v.parts.site device fault v.parts.bytes v.parts.written_len v.parts.sealed v.parts.reserved H holds (drop (sealed_count v.parts.sealed) v.parts.reserved) its.short (let some = its.some in omega (arith, some))
+
+  -- What segments hold they hold then,
+  pub line_sealed : (H : History) (v : SegmentView) (vs : List SegmentView) → IsFilledSome size (last_of v vs) → HoldsLine sum size device fault (v ∷ vs) H → HoldsLine sum size device fault (at_last sealed_now (v ∷ vs)) H
+  line_sealed H = by_last (λ line. HoldsLine sum size device fault line H) (IsFilledSome size) sealed_now
+      (λ v its holds. first_sealed H v its holds)
+      (λ v pre w its holds. subst (λ (ss : List SegmentParts). HoldsIn sum (log_parts size v.parts.site device fault v.parts.bytes v.parts.written_len v.parts.sealed v.parts.reserved) ss H) (sym (map-append parts_in pre (sealed_now w ∷ [])))
+      (behind-sealed sum size v.parts.site device fault v.parts.bytes v.parts.written_len v.parts.sealed v.parts.reserved H (map parts_in pre) w.parts []
+      (subst (λ (ss : List SegmentParts). HoldsIn sum (log_parts size v.parts.site device fault v.parts.bytes v.parts.written_len v.parts.sealed v.parts.reserved) ss H) (map-append parts_in pre (w ∷ [])) holds) its.some))
+
+  -- and what they fit they fit.
+  pub line_fits_sealed : (reach pins : ℕ) (H : History) (A f : ℕ) (U : List Message) (v : SegmentView) (vs : List SegmentView) → IsFilledSome size (last_of v vs) → FitsLine sum size device fault (v ∷ vs) reach pins H A f U
+      → FitsLine sum size device fault (at_last sealed_now (v ∷ vs)) reach pins H A f U
+  line_fits_sealed reach pins H A f U = by_last (λ line. FitsLine sum size device fault line reach pins H A f U) (IsFilledSome size) sealed_now
+      (λ v its fits. fits-moved sum size v.parts.site device fault v.parts.bytes v.parts.written_len v.parts.sealed v.parts.reserved pins H A f U fits v.parts.bytes v.parts.written_len (sealed_now v).parts.sealed v.parts.reserved refl
+      (first_sealed H v its fits.holds))
+      (λ v pre w its fits. subst (λ (ss : List SegmentParts). FitsIn sum (log_parts size v.parts.site device fault v.parts.bytes v.parts.written_len v.parts.sealed v.parts.reserved) ss reach pins H A f U) (sym (map-append parts_in pre (sealed_now w ∷ [])))
+      (behind-fits-sealed sum size v.parts.site device fault v.parts.bytes v.parts.written_len v.parts.sealed v.parts.reserved pins H A f U (map parts_in pre) w.parts []
+      (subst (λ (ss : List SegmentParts). FitsIn sum (log_parts size v.parts.site device fault v.parts.bytes v.parts.written_len v.parts.sealed v.parts.reserved) ss reach pins H A f U) (map-append parts_in pre (w ∷ [])) fits) its.some))
+
+-- Their slots are the same.
+pub slots_sealed : (size : ℕ) (line : List SegmentView) (log : List ℕ) (fault : Option IoError) (m : Machine) → HasSlots size line log fault m → HasSlots size (at_last sealed_now line) log fault m
+slots_sealed size line log fault m slots = record {
+  taken = All-at_last (HasSlot size m) sealed_now (λ v here. record { number = here.number; lies = here.lies; taken = here.taken }) line slots.taken;
+  zeros = slots.zeros;
+}
+
+-- Tickets are for what they were for,
+pub awaits_sealed : (v : SegmentView) (vs : List SegmentView) (ticket : Reservation) (m : Message) → AwaitsIn (v ∷ vs) ticket m → AwaitsIn (at_last sealed_now (v ∷ vs)) ticket m
+awaits_sealed v vs ticket m awaits = elim (last_get_of sealed_now v vs awaits.number awaits.segment awaits.among) [
+  | inl still ↦ record { number = awaits.number; segment = awaits.segment; among = still; reserved = awaits.reserved; numbered = awaits.numbered; there = awaits.there; own = awaits.own; message = awaits.message }
+  | inr changed ↦ record { number = awaits.number; segment = sealed_now awaits.segment; among = changed.1; reserved = awaits.reserved; numbered = awaits.numbered; there = awaits.there; own = awaits.own; message = awaits.message }
+]
+
+-- and none is open where none was.
+pub none_open_sealed : (v : SegmentView) (vs : List SegmentView) → NoneOpenIn (v ∷ vs) → NoneOpenIn (at_last sealed_now (v ∷ vs))
+none_open_sealed v vs ended n w there = elim (get_last sealed_now v vs n w there) [
+  | inl still ↦ ended n w still
+  | inr changed ↦ ap (λ (x : SegmentView). none_open x.parts.reserved) changed.1 ∙ ended n (last_of v vs) changed.0
+]
+
+-- A log whose current buffer was sealed.
+module _ {D C : Type 0} (trace : D → Trace) (sum : List ℕ → ℕ) (old new : Log D C) (rest : ChangesLine old new) (line : line_of new ≡ at_last sealed_now (line_of old)) (some : holds_any (current_of old) ≡ true) where
+  abbrev size : ℕ
+  size = segment_size_of old
+
+  abbrev v : SegmentView
+  v = view_at old.site old.buffer
+
+  abbrev vs : List SegmentView
+  vs = map segment_view old.behind.items
+
+  its : IsFilledSome size (current_of old)
+  its = let f = current_facts old in let short = f.short in record { short = short; some = grind (arith, nat_tests, some) }
+
+  machine : machine_at new ≡ machine_at old
+  machine = ap machine_of rest.accountant
+
+  -- As much is written,
+  pub sealed_synced : synced_end new ≡ synced_end old
+  sealed_synced = ap written_to line ∙ kept v vs where
+    kept : (v : SegmentView) (vs : List SegmentView) → written_to (at_last sealed_now (v ∷ vs)) ≡ written_to (v ∷ vs)
+    kept v [] = refl
+    kept v (w ∷ ws) = refl
+
+  pub sealed_same : KeepsAll old new
+  sealed_same = record { config = rest.config; synced = sealed_synced; fault = rest.fault; pins = rest.pins }
+
+  -- and the current segment is the same but for that.
+  pub sealed_current : current_of new ≡ sealed_now (current_of old)
+  sealed_current = ap (last_of v) line ∙ last_changed sealed_now v v vs
+
+  pub sealed_position : SamePosition old new
+  sealed_position = record {
+    position = (λ i. position_in (size_same i) (sealed_current i) (machine i));
+    reserved = rest.reserved;
+    pins = rest.pins;
+    size = size_same;
+  } where
+    size_same : segment_size_of new ≡ size
+    size_same = ap (λ (x : RunningConfig D C). x.config.segment_size) rest.config
+
+  -- The current buffer begins behind all bytes now.
+  pub sealed_begins : current_begin new ≡ (current_of old).parts.site.place + length (current_of old).parts.bytes
+  sealed_begins =
+      let w : SegmentView = current_of old in
+      let end = end_one w.parts.written_len w.parts.sealed (seal_at (length w.parts.bytes) (drop (sealed_count w.parts.sealed) w.parts.reserved)) in
+      ap (λ (x : SegmentView). x.parts.site.place + begin_of x) sealed_current ∙ ap (λ n. w.parts.site.place + n) end
+
+  -- Tickets are for what they were for,
+  pub sealed_tickets : KeepsTickets old new
+  sealed_tickets = record {
+    awaits = λ ticket m awaits. subst (λ (l : List SegmentView). AwaitsIn l ticket m) (sym line) (awaits_sealed v vs ticket m awaits);
+    ended = λ ended. subst NoneOpenIn (sym line) (none_open_sealed v vs ended);
+  }
+
+  -- and the log holds and fits what it did.
+  pub sealed_keeps : Preserves trace sum old new
+  unfolding Holds Fits
+  sealed_keeps = record {
+    goes_on = goes_on_quietly trace sum old new (record { config = ap (λ (x : RunningConfig D C). x.config) rest.config; checksum = ap (λ (x : RunningConfig D C). x.checksum) rest.config })
+        (ap (λ (x : RunningConfig D C). trace x.device) rest.config) (let same = sealed_synced in omega (arith, same));
+    history = λ H holds. holds_as trace sum old new rest.config rest.fault (at_last sealed_now (line_of old)) line (machine_at old) machine H
+        (record {
+          holds = line_sealed sum size (state_of (trace (device_of old))) (fault_of old) H v vs its holds.holds;
+          slots = slots_sealed size (line_of old) (state_of (trace (device_of old))).log.bytes (fault_of old) (machine_at old) holds.slots;
+        });
+    fits = λ H A f U fits. fits_as trace sum old new rest.config rest.fault (at_last sealed_now (line_of old)) line (machine_at old) machine H A f U rest.pins
+        (record {
+          reach = fits.reach;
+          parts = line_fits_sealed sum size (state_of (trace (device_of old))) (fault_of old) fits.reach (pins_of old) H A f U v vs its fits.parts;
+          slots = slots_sealed size (line_of old) (state_of (trace (device_of old))).log.bytes (fault_of old) (machine_at old) fits.slots;
+        });
+  }
+
+  -- What it held that wasn't sealed is among the sealed buffers, where a further record has room behind it.
+  module _ (room : is_short size (length (current_of old).parts.bytes) ≡ false) where
+    as_it_is : as_sealed sum size (current_of old) ≡ sealed_now (current_of old)
+    as_it_is = ap (λ b. if b then turned_now sum size (current_of old) else current_of old) some ∙ ap (λ b. if b then closed_now sum size (current_of old) else sealed_now (current_of old)) room
+
+    pub sealed_waiting : waiting_of new ≡ buffers_of sum old
+    sealed_waiting = ap unwritten line ∙ ap unwritten (sym (at_last_same (as_sealed sum size) sealed_now v vs as_it_is))
+
+  nothing_more : as_sealed sum size (sealed_now (current_of old)) ≡ sealed_now (current_of old)
+  nothing_more =
+      let w : SegmentView = current_of old in
+      let end = end_one w.parts.written_len w.parts.sealed (seal_at (length w.parts.bytes) (drop (sealed_count w.parts.sealed) w.parts.reserved)) in
+      let none : holds_any (sealed_now w) ≡ false = grind (arith, nat_tests, end) in
+      ap (λ b. if b then turned_now sum size (sealed_now w) else sealed_now w) none
+
+  pub sealed_buffers : buffers_of sum new ≡ waiting_of new
+  sealed_buffers =
+      (λ i. unwritten (at_last (as_sealed sum (segment_size_same i)) (line i)))
+      ∙ ap unwritten (at_last_twice sealed_now (as_sealed sum size) v vs)
+      ∙ ap unwritten (at_last_same (λ x. as_sealed sum size (sealed_now x)) sealed_now v vs nothing_more)
+      ∙ ap unwritten (sym line)
+    where
+      segment_size_same : segment_size_of new ≡ size
+      segment_size_same = ap (λ (x : RunningConfig D C). x.config.segment_size) rest.config

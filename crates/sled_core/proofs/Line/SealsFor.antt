@@ -1,0 +1,94 @@
+-- Where the current buffer has a place it is sealed first: what has the place is the same then.
+use Rattle.std.proofs.Common.{◌≡◌, ◌∙◌, ◌⊎◌, ◌≤◌, ◌<◌, ◌+◌, ◌&&◌, nat_le, ap, sym, refl, arith, subst, inl, inr, ℕ, suc, Bool, true, pos, nat_lt, if◌then◌else◌, List, [], ◌∷◌, ◌++◌, length, map, None}
+use Rattle.std.specs.List.{Contains}
+use Rattle.std.specs.Prelude.{int_lt}
+use Rattle.std.proofs.lemmas.Bool.Decides.{nat_tests}
+use Rattle.std.proofs.lemmas.Int.{ints}
+use Rattle.sled_store.specs.Device.{Trace}
+use Rattle.sled_store.specs.declared.config.RunningConfig.{RunningConfig}
+use Rattle.sled_store.proofs.Segments.Elements.{in_nothing, only_in}
+use Rattle.sled_core.specs.Begun.{SegmentView, segment_view, view_at}
+use Rattle.sled_core.specs.declared.logger.Log.{Log}
+use Rattle.sled_core.specs.Fits.{AddsBuffers, IsUsedUp, KeepsAll, KeepsTickets, buffers_of, current_begin, current_of, device_of, fault_of, held_len, reserved_end, sealing_end, segment_size_of, synced_end, waiting_of}
+use Rattle.sled_core.specs.Keeps.{Preserves, SamePosition}
+use Rattle.sled_core.specs.ReadBuffer.{IsUsedUpAt, held_at, settling}
+use Rattle.sled_core.specs.Waiting.{BufferAt, Span, has_place}
+use Rattle.sled_core.proofs.Holds.KeptCalls.{kept_still, position_still, tickets_still}
+use Rattle.sled_core.proofs.Line.Around.{found, found_front, held_found, held_of, writes_found, writes_of}
+use Rattle.sled_core.proofs.Line.Below.{begin_all}
+use Rattle.sled_core.proofs.Line.Entered.{filled_last}
+use Rattle.sled_core.proofs.Line.SealFirst.{ends_behind}
+use Rattle.sled_core.proofs.Line.Shows.{buffers_add}
+
+-- What a call has before it writes the buffer that has the place: the log that it was, or the one with its current buffer sealed.
+pub record SealsFor {D C : Type 0} (trace : D → Trace) (sum : List ℕ → ℕ) (place : ℕ) (old mid : Log D C) : Type 0 where
+  pub lower : place < current_begin mid
+  pub has : found place (buffers_of sum mid) ≡ found place (buffers_of sum old)
+  pub synced : synced_end mid ≡ synced_end old
+  pub keeps : Preserves trace sum old mid
+  pub tickets : KeepsTickets old mid
+  pub position : SamePosition old mid
+  pub device : device_of mid ≡ device_of old
+  pub fault : fault_of mid ≡ fault_of old
+  pub unused : IsUsedUpAt old (pos place) → ⊥
+  pub apart : place < current_begin old → current_begin mid ≡ current_begin old
+  pub once : (current_begin mid ≡ current_begin old) ⊎ (current_begin mid ≡ sealing_end old)
+  pub none : waiting_of old ≡ [] → (b : BufferAt) → Contains (waiting_of mid) b → has_place place b ≡ true
+
+-- It hasn't.
+pub seals_still : {D C : Type 0} (trace : D → Trace) (sum : List ℕ → ℕ) (place : ℕ) (log : Log D C) → place < current_begin log → SealsFor trace sum place log log
+seals_still trace sum place log lower = record {
+  lower = lower;
+  has = refl;
+  synced = refl;
+  keeps = kept_still trace sum log;
+  tickets = tickets_still log;
+  position = position_still log;
+  device = refl;
+  fault = refl;
+  unused = λ used. let up = used.0 in omega (arith, ints, up, lower);
+  apart = λ _. refl;
+  once = inl refl;
+  none = λ none b has. absurd (in_nothing b (subst (λ (l : List BufferAt). Contains l b) none has));
+}
+
+-- what the current buffer holds, where that has a place that was reserved
+pub holds_reserved : {D C : Type 0} (log : Log D C) (place : ℕ) → current_begin log ≤ place → place < log.reserved_to → (0 < held_len log) × (place < sealing_end log)
+holds_reserved log place above reserved =
+    let v : SegmentView = current_of log in
+    let last = filled_last (segment_size_of log) log.reserved_to (view_at log.site log.buffer) (map segment_view log.behind.items) log.filled in
+    let raw : log.reserved_to ≤ v.parts.site.place + length v.parts.bytes = last.1 in
+    let up = ends_behind log in
+    (omega (arith, above, reserved, raw), omega (arith, reserved, up))
+
+-- It has.
+pub seals_current : {D C : Type 0} (trace : D → Trace) (sum : List ℕ → ℕ) (place : ℕ) (old mid : Log D C) → current_begin old ≤ place → place < reserved_end old → AddsBuffers sum old mid → waiting_of mid ≡ buffers_of sum old → current_begin mid ≡ sealing_end old
+    → Preserves trace sum old mid → KeepsTickets old mid → SamePosition old mid → KeepsAll old mid → (IsUsedUp old → ⊥) → SealsFor trace sum place old mid
+seals_current {D} {C} trace sum place old mid above reserved adds waiting begins keeps tickets position same unused =
+    let held = holds_reserved old place above reserved in
+    let current = buffers_add sum old held.0 in
+    record {
+      lower = (let up = held.1 in omega (arith, begins, up));
+      has = ap (found place) adds.is ∙ found_front place (buffers_of sum old) adds.more (begin_all (reserved_end old) (suc place) adds.more (omega (arith, reserved)) adds.behind);
+      synced = same.synced;
+      keeps = keeps;
+      tickets = tickets;
+      position = position;
+      device = ap (λ (x : RunningConfig D C). x.device) same.config;
+      fault = same.fault;
+      unused = λ used. unused used.1;
+      apart = λ lower. absurd (omega (arith, above, lower));
+      once = inr begins;
+      none = λ none b has. by_more (ap (λ (s : Span). s.place) current.seen) (ap (λ (s : Span). s.end) current.seen) held.1 (only_in current.more b (subst (λ (l : List BufferAt). Contains l b) (waiting ∙ current.is ∙ ap (λ (l : List BufferAt). l ++ current.more ∷ []) none) has));
+    }
+  where
+    by_more : {x b : BufferAt} → x.place ≡ current_begin old → x.end ≡ sealing_end old → place < sealing_end old → x ≡ b → has_place place b ≡ true
+    by_more {x} begin end lt is = subst (λ (y : BufferAt). has_place place y ≡ true) is (let lower : nat_le x.place place ≡ true = grind (arith, nat_tests, begin, above) in let upper : nat_lt place x.end ≡ true = grind (arith, nat_tests, end, lt) in ap (λ (o : Bool). o && nat_lt place x.end) lower ∙ upper)
+
+-- So the same is written then, and the same holds it up.
+module _ {D C : Type 0} (trace : D → Trace) (sum : List ℕ → ℕ) (place : ℕ) (old mid : Log D C) (seals : SealsFor trace sum place old mid) where
+  pub settling_same : settling sum mid (pos place) ≡ settling sum old (pos place)
+  settling_same = λ i. if int_lt (pos place) (pos (seals.synced i)) then [] else (writes_found place (buffers_of sum mid) ∙ ap writes_of seals.has ∙ sym (writes_found place (buffers_of sum old))) i
+
+  pub held_at_same : held_at sum mid (pos place) ≡ held_at sum old (pos place)
+  held_at_same = λ i. if int_lt (pos place) (pos (seals.synced i)) then None else (held_found place (buffers_of sum mid) ∙ ap held_of seals.has ∙ sym (held_found place (buffers_of sum old))) i

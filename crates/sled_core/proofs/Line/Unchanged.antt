@@ -1,0 +1,55 @@
+-- A log of which a caller sees nothing that is another holds and fits what it did.
+use Rattle.std.proofs.Common.{◌≡◌, ap, sym, arith, subst, ℕ, List}
+use Rattle.sled_store.specs.Accounts.{machine_of}
+use Rattle.sled_store.specs.Device.{Trace}
+use Rattle.sled_store.specs.declared.config.RunningConfig.{RunningConfig}
+use Rattle.sled_core.specs.Begun.{SegmentView, view_at}
+use Rattle.sled_core.specs.declared.logger.Log.{Log}
+use Rattle.sled_core.specs.Fits.{AwaitsIn, Holds, IsUnchanged, KeepsAll, KeepsTickets, NoneOpenIn, current_of, line_of, machine_at, segment_size_of, synced_end}
+use Rattle.sled_core.specs.Keeps.{Preserves, SamePosition}
+use Rattle.sled_core.specs.Positions.{position_in}
+use Rattle.sled_core.specs.Running.{Fits}
+use Rattle.sled_core.specs.Turned.{ChangesLine}
+use Rattle.sled_core.specs.Waiting.{last_of}
+use Rattle.sled_core.proofs.Holds.KeptCalls.{goes_on_quietly}
+use Rattle.sled_core.proofs.Line.Moves.{fits_as, holds_as, written_to}
+
+-- A call that changes the segments alone, and leaves what is seen of them, leaves it so.
+pub left_alone : {D C : Type 0} (old new : Log D C) → line_of new ≡ line_of old → ChangesLine old new → IsUnchanged old new
+left_alone old new line rest = record { line = line; reserved = rest.reserved; fault = rest.fault; pins = rest.pins; machine = ap machine_of rest.accountant; config = rest.config }
+
+module _ {D C : Type 0} (old new : Log D C) (same : IsUnchanged old new) where
+  unchanged_synced : synced_end new ≡ synced_end old
+  unchanged_synced = ap written_to same.line
+
+  pub unchanged_current : current_of new ≡ current_of old
+  unchanged_current = ap (last_of (view_at old.site old.buffer)) same.line
+
+  pub unchanged_size : segment_size_of new ≡ segment_size_of old
+  unchanged_size = ap (λ (x : RunningConfig D C). x.config.segment_size) same.config
+
+  pub unchanged_same : KeepsAll old new
+  unchanged_same = record { config = same.config; synced = unchanged_synced; fault = same.fault; pins = same.pins }
+
+  pub unchanged_tickets : KeepsTickets old new
+  unchanged_tickets = record {
+    awaits = λ ticket m awaits. subst (λ (l : List SegmentView). AwaitsIn l ticket m) (sym same.line) awaits;
+    ended = λ ended. subst NoneOpenIn (sym same.line) ended;
+  }
+
+  pub unchanged_position : SamePosition old new
+  unchanged_position = record {
+    position = λ i. position_in (unchanged_size i) (unchanged_current i) (same.machine i);
+    reserved = same.reserved;
+    pins = same.pins;
+    size = unchanged_size;
+  }
+
+  pub unchanged_keeps : (trace : D → Trace) (sum : List ℕ → ℕ) → Preserves trace sum old new
+  unfolding Holds Fits
+  unchanged_keeps trace sum = record {
+    goes_on = goes_on_quietly trace sum old new (record { config = ap (λ (x : RunningConfig D C). x.config) same.config; checksum = ap (λ (x : RunningConfig D C). x.checksum) same.config })
+        (ap (λ (x : RunningConfig D C). trace x.device) same.config) (let is = unchanged_synced in omega (arith, is));
+    history = λ H holds. holds_as trace sum old new same.config same.fault (line_of old) same.line (machine_at old) same.machine H holds;
+    fits = λ H A f U fits. fits_as trace sum old new same.config same.fault (line_of old) same.line (machine_at old) same.machine H A f U same.pins fits;
+  }

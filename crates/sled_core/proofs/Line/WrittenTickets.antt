@@ -1,0 +1,77 @@
+-- Tickets are for what they were for once a sealed buffer of one of the segments is written: the reservations that go with it have ended.
+use Rattle.std.proofs.Common.{◌≡◌, ◌∙◌, ◌≤◌, ◌+◌, ◌-◌, ap, sym, arith, subst, ℕ, true, List, take, drop, set, Some, inl, inr}
+use Rattle.std.specs.List.{slice_get}
+use Rattle.std.proofs.lemmas.Bool.{cases_eq, cases_lt}
+use Rattle.sled_codec.specs.History.{Message}
+use Rattle.sled_core.specs.Begun.{SegmentView}
+use Rattle.sled_core.specs.Buffers.{message_in, none_open}
+use Rattle.sled_core.specs.declared.iobuf.Reserved.{Reserved}
+use Rattle.sled_core.specs.declared.iobuf.Sealed.{Sealed}
+use Rattle.sled_core.specs.declared.reservation.Reservation.{Reservation}
+use Rattle.sled_core.specs.Fits.{AwaitsIn, NoneOpenIn}
+use Rattle.sled_core.specs.SealedBuffers.{AreSealed, is_ready, run_count, written_at}
+use Rattle.sled_core.specs.Tickets.{IsFor, index_of}
+use Rattle.sled_core.specs.Turned.{written_now}
+use Rattle.sled_core.proofs.Line.Nth.{set_get, set_other}
+use Rattle.sled_core.proofs.Line.Segments.{run_written}
+use Rattle.sled_core.proofs.Sealed.Ended.{get_behind, get_front}
+use Rattle.sled_core.proofs.Sealed.EndedParts.{ended_behind, not_open}
+
+module _ (line : List SegmentView) (n k : ℕ) (v : SegmentView) (b : Sealed) (among : slice_get line n ≡ Some v) (there : slice_get v.parts.sealed k ≡ Some b) (ready : is_ready b ≡ true) (are : AreSealed v.parts.written_len v.parts.reserved v.parts.sealed) where
+  abbrev gone : ℕ
+  gone = run_count (written_at k v.parts.sealed)
+
+  abbrev entries : List Reserved
+  entries = v.parts.reserved
+
+  -- those that go have ended
+  closed : none_open (take gone entries) ≡ true
+  closed = (run_written k v b there ready are).ended
+
+  -- a ticket for one of that segment's
+  module _ (ticket : Reservation) (m : Message) (reserved : Reserved) (numbered : v.gone ≤ index_of ticket) (its : slice_get entries (index_of ticket - v.gone) ≡ Some reserved) (own : IsFor v.parts.site reserved ticket) (message : m ≡ message_in v.parts.site v.parts.bytes reserved) where
+    behind : gone ≤ index_of ticket - v.gone
+    behind = elim (cases_lt (index_of ticket - v.gone) gone) [
+      | inl front ↦ absurd (not_open (take gone entries) (index_of ticket - v.gone) reserved closed (get_front entries gone (index_of ticket - v.gone) reserved front its) own.open_yet)
+      | inr later ↦ later
+    ]
+
+    awaits_here : AwaitsIn (set line n (written_now k v)) ticket m
+    awaits_here = record {
+      number = n;
+      segment = written_now k v;
+      among = set_get line n v (written_now k v) among;
+      reserved = reserved;
+      numbered = (let far = behind in omega (arith, far, numbered));
+      there = ap (λ i. slice_get (drop gone entries) i) (let far = behind in let at : index_of ticket - (v.gone + gone) ≡ index_of ticket - v.gone - gone = omega (arith, far, numbered) in at) ∙ get_behind entries gone (index_of ticket - v.gone) reserved behind its;
+      own = own;
+      message = message;
+    }
+
+  pub awaits_written : (ticket : Reservation) (m : Message) → AwaitsIn line ticket m → AwaitsIn (set line n (written_now k v)) ticket m
+  awaits_written ticket m a = elim (cases_eq a.number n) [
+    | inl same ↦ (
+        let both : Some a.segment ≡ Some v = sym a.among ∙ ap (slice_get line) same ∙ among in
+        let one : a.segment ≡ v = cc in
+        awaits_here ticket m a.reserved (subst (λ (u : SegmentView). u.gone ≤ index_of ticket) one a.numbered) (subst (λ (u : SegmentView). slice_get u.parts.reserved (index_of ticket - u.gone) ≡ Some a.reserved) one a.there)
+        (subst (λ (u : SegmentView). IsFor u.parts.site a.reserved ticket) one a.own) (subst (λ (u : SegmentView). m ≡ message_in u.parts.site u.parts.bytes a.reserved) one a.message))
+    | inr other ↦ record {
+      number = a.number;
+      segment = a.segment;
+      among = set_other line n a.number (written_now k v) other ∙ a.among;
+      reserved = a.reserved;
+      numbered = a.numbered;
+      there = a.there;
+      own = a.own;
+      message = a.message;
+    }
+  ]
+
+  pub ended_written : NoneOpenIn line → NoneOpenIn (set line n (written_now k v))
+  ended_written ended j u at = elim (cases_eq j n) [
+    | inl same ↦ (
+        let both : Some (written_now k v) ≡ Some u = sym (set_get line n v (written_now k v) among) ∙ ap (slice_get (set line n (written_now k v))) (sym same) ∙ at in
+        let one : written_now k v ≡ u = cc in
+        subst (λ (w : SegmentView). none_open w.parts.reserved ≡ true) one (ended_behind gone entries (ended n v among)))
+    | inr other ↦ ended j u (sym (set_other line n j (written_now k v) other) ∙ at)
+  ]

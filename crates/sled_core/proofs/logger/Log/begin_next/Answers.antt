@@ -1,0 +1,274 @@
+-- The segment that is being filled is filled up, in the first buffer or in the last one behind it, and one more is begun behind it.
+use Rattle.std.proofs.Common.{◌≡◌, ◌∙◌, ◌+◌, ◌-◌, ◌*◌, ◌<◌, ◌≤◌, ◌^◌, ◌-ℤ◌, sym, ap, refl, subst, arith, rules, ℕ, suc, pos, List, [], ◌∷◌, ◌++◌, length, map, set, deque_len, Some}
+use Rattle.std.specs.List.{slice_get}
+use Rattle.sled_core.specs.Begun.{AreFilled, FollowOn, SegmentView, begin_of, last_buffer, line_at, segment_view, view_at}
+use Rattle.sled_core.specs.declared.iobuf.IoBuf.{IoBuf}
+use Rattle.sled_core.specs.declared.iobuf.SegmentPosition.{SegmentPosition}
+use Rattle.sled_core.specs.declared.logger.Log.{Log}
+use Rattle.sled_core.specs.declared.logger.segments.SegmentBuffer.{SegmentBuffer}
+use Rattle.sled_core.specs.Fits.{current_begin, current_of, line_of, machine_at, reserved_end, segment_size_of, synced_end}
+use Rattle.sled_core.specs.Turned.{CanClose, ChangesLine, HasRoomIn, IsBegunView, begun_view, next_line}
+use Rattle.sled_core.specs.Waiting.{at_last, closed_now, last_of}
+use Rattle.sled_core.proofs.Line.Begins.{closable}
+use Rattle.sled_core.proofs.Line.Closes.{IsClosable, filled_length, filled_written}
+use Rattle.sled_core.proofs.Line.Facts.{current_facts, nth_facts}
+use Rattle.sled_codec.proofs.Segments.{length-short_header}
+use Rattle.sled_core.proofs.Line.Nexts.{begun_is, filled_next, follow_one, last_one, line_more}
+use Rattle.sled_core.proofs.Sealed.Ended.{ends_up}
+use Rattle.std.proofs.lemmas.List.{length-set}
+use Rattle.sled_store.specs.Accounts.{IsAccountant, MayHandOut, machine_of}
+use Rattle.sled_store.specs.SegmentStates.{next_slot}
+use Rattle.sled_store.specs.declared.config.RunningConfig.{RunningConfig}
+use Rattle.sled_core.proofs.Line.Entered.{filled_last}
+use Rattle.sled_core.proofs.Line.Filling.{follow_in, follow_with, last_none, line_first, line_last, read_last}
+use Rattle.sled_core.proofs.Line.Nth.{last_behind, last_buffer_behind}
+use Rattle.sled_core.proofs.logger.Log.begin_next.Goals.{then-n-eq0, else-n-eq0}
+use Rattle.sled_core.proofs.logger.Log.begin_next.Goals as goal
+
+-- The last one behind the first is the one that is being filled.
+module _ {D C : Type 0} (mid : Log D C) (size : ℕ) (sizes : mid.config.config.segment_size ≡ size) (n : ℕ) (s : SegmentBuffer) (at : suc n ≡ length mid.behind.items) (there : slice_get mid.behind.items n ≡ Some s) where
+  is_current : current_of mid ≡ segment_view s
+  is_current = last_behind (view_at mid.site mid.buffer) mid.behind.items s n at there
+
+  its_begin : begin_of (segment_view s) < size
+  its_begin =
+      let last = (filled_last mid.config.config.segment_size mid.reserved_to (view_at mid.site mid.buffer) (map segment_view mid.behind.items) mid.filled).0 in
+      let same = ap begin_of is_current in
+      omega (arith, last, same, sizes)
+
+  its_short : length s.buffer.bytes.items ≤ size
+  its_short =
+      let short = follow_in mid.config.config.segment_size (mid.site.place + mid.config.config.segment_size) mid.behind.items n s there mid.follow in
+      omega (arith, short, sizes)
+
+  its_room : CanClose (last_buffer mid.buffer mid.behind.items) size → CanClose s.buffer size
+  its_room room = subst (λ (b : IoBuf). CanClose b size) (last_buffer_behind mid.buffer mid.behind.items s n at there) room
+
+pub close-requires-else-n-eq0-clause-some : goal.close-requires-else-n-eq0-clause-some
+close-requires-else-n-eq0-clause-some g c =
+    let mid = c.room_to_close.new.self in
+    let s : SegmentBuffer = c.index_mut.result.now in
+    let counted : deque_len mid.behind ≡ length mid.behind.items = search rules in
+    let is = read_last mid.behind.items c.len-n.result s (c.len-n.ensures ∙ counted) c.if-n-eq0.false c.index_mut.ensures.value in
+    its_begin mid c.args.self.now.config.config.segment_size (ap (λ x. x.config.segment_size) c.in_ok-room_to_close.ensures.rest.config) (c.len-n.result - 1) s is.0 is.1
+
+pub close-requires-else-n-eq0-clause-short : goal.close-requires-else-n-eq0-clause-short
+close-requires-else-n-eq0-clause-short g c =
+    let mid = c.room_to_close.new.self in
+    let s : SegmentBuffer = c.index_mut.result.now in
+    let counted : deque_len mid.behind ≡ length mid.behind.items = search rules in
+    let is = read_last mid.behind.items c.len-n.result s (c.len-n.ensures ∙ counted) c.if-n-eq0.false c.index_mut.ensures.value in
+    its_short mid c.args.self.now.config.config.segment_size (ap (λ x. x.config.segment_size) c.in_ok-room_to_close.ensures.rest.config) (c.len-n.result - 1) s is.0 is.1
+
+pub close-requires-else-n-eq0-clause-room : goal.close-requires-else-n-eq0-clause-room
+close-requires-else-n-eq0-clause-room g c =
+    let mid = c.room_to_close.new.self in
+    let s : SegmentBuffer = c.index_mut.result.now in
+    let counted : deque_len mid.behind ≡ length mid.behind.items = search rules in
+    let is = read_last mid.behind.items c.len-n.result s (c.len-n.ensures ∙ counted) c.if-n-eq0.false c.index_mut.ensures.value in
+    its_room mid c.args.self.now.config.config.segment_size (ap (λ x. x.config.segment_size) c.in_ok-room_to_close.ensures.rest.config) (c.len-n.result - 1) s is.0 is.1 c.in_ok-room_to_close.ensures.room
+
+-- The segment that was being filled is filled up and sealed.
+record IsClosed {D C : Type 0} (sum : List ℕ → ℕ) (size : ℕ) (mid : Log D C) (b : IoBuf) (ss : List SegmentBuffer) : Type 0 where
+  line : line_at mid.site b ss ≡ at_last (closed_now sum size) (line_of mid)
+  waits : b.written_len < size
+  short : length b.bytes.items ≤ size
+  count : length ss ≡ length mid.behind.items
+  follow : FollowOn size (mid.site.place + size) ss
+
+-- what the type of a log asks of its segments
+record IsBegun (size to : ℕ) (site : SegmentPosition) (b : IoBuf) (ss : List SegmentBuffer) : Type 0 where
+  short : length b.bytes.items ≤ size
+  place_small : site.place + size < 2 ^ 63
+  slot_small : site.slot + size < 2 ^ 63
+  waits : b.written_len < size
+  follow : FollowOn size (site.place + size) ss
+  filled : AreFilled size to (line_at site b ss)
+
+module _ {D C : Type 0} (sum : List ℕ → ℕ) (mid : Log D C) (site : SegmentPosition) (its_site : site ≡ (current_of mid).parts.site) (new : IoBuf) where
+  abbrev size : ℕ
+  size = segment_size_of mid
+
+  abbrev first : SegmentView
+  first = view_at mid.site mid.buffer
+
+  closes : IsClosable size (current_of mid)
+  closes = closable size _ (current_of mid) (current_facts mid) (filled_last size mid.reserved_to first (map segment_view mid.behind.items) mid.filled).0
+
+  -- It may be the first one,
+  closed_first : length mid.behind.items ≡ 0 → view_at site new ≡ closed_now sum size (view_at site mid.buffer) → IsClosed sum size mid new mid.behind.items
+  closed_first none is =
+      let current : current_of mid ≡ first = last_none first mid.behind.items none in
+      let lies : site ≡ mid.site = its_site ∙ ap (λ (v : SegmentView). v.parts.site) current in
+      let here : view_at mid.site new ≡ closed_now sum size first = subst (λ (p : SegmentPosition). view_at p new ≡ closed_now sum size (view_at p mid.buffer)) lies is in
+      let its : IsClosable size first = subst (IsClosable size) current closes in
+      let long : length new.bytes.items ≡ size = ap (λ (v : SegmentView). length v.parts.bytes) here ∙ filled_length sum size first its.short its.small in
+      let written : new.written_len ≡ mid.buffer.written_len = ap (λ (v : SegmentView). v.parts.written_len) here ∙ filled_written sum size first in
+      let facts = (nth_facts mid 0 first refl).are in
+      let up = ends_up mid.buffer.written_len mid.buffer.reserved.items mid.buffer.sealed.items facts in
+      let some = its.some in
+      record {
+        line = line_first (closed_now sum size) mid.site mid.buffer new mid.behind.items none here;
+        waits = omega (arith, written, up, some);
+        short = omega (arith, long);
+        count = refl;
+        follow = mid.follow;
+      }
+
+  -- or the last one behind it.
+  closed_last : (n : ℕ) (s : SegmentBuffer) → suc n ≡ length mid.behind.items → slice_get mid.behind.items n ≡ Some s → view_at site new ≡ closed_now sum size (view_at site s.buffer)
+      → IsClosed sum size mid mid.buffer (set mid.behind.items n (record { site = s.site; buffer = new }))
+  closed_last n s at there is =
+      let current : current_of mid ≡ segment_view s = is_current mid size refl n s at there in
+      let lies : site ≡ s.site = its_site ∙ ap (λ (v : SegmentView). v.parts.site) current in
+      let here : view_at s.site new ≡ closed_now sum size (segment_view s) = subst (λ (p : SegmentPosition). view_at p new ≡ closed_now sum size (view_at p s.buffer)) lies is in
+      let its : IsClosable size (segment_view s) = subst (IsClosable size) current closes in
+      let long : length new.bytes.items ≡ size = ap (λ (v : SegmentView). length v.parts.bytes) here ∙ filled_length sum size (segment_view s) its.short its.small in
+      record {
+        line = line_last (closed_now sum size) first mid.behind.items n s (record { site = s.site; buffer = new }) at there here;
+        waits = mid.waits (omega (arith, at));
+        short = mid.in_segment;
+        count = length-set mid.behind.items n (record { site = s.site; buffer = new });
+        follow = follow_with size (mid.site.place + size) mid.behind.items n s (record { site = s.site; buffer = new }) there refl (omega (arith, long)) mid.follow;
+      }
+
+-- One more is begun behind it.
+module _ {D C : Type 0} (sum : List ℕ → ℕ) (old mid : Log D C) (line : line_of mid ≡ line_of old) (rest : ChangesLine old mid) (b : IoBuf) (ss : List SegmentBuffer) (is : IsClosed sum (segment_size_of mid) mid b ss)
+    (s : SegmentBuffer) (at : s.site.place ≡ (current_of old).parts.site.place + segment_size_of old) (slot : s.site.slot ≡ next_slot (machine_at mid) * segment_size_of mid) (begun : IsBegunView sum s.site (synced_end old) s.buffer) where
+  abbrev its_size : ℕ
+  its_size = segment_size_of old
+
+  sizes : segment_size_of mid ≡ its_size
+  sizes = ap (λ (x : RunningConfig D C). x.config.segment_size) rest.config
+
+  machines : machine_at mid ≡ machine_at old
+  machines = ap machine_of rest.accountant
+
+  slot_is : s.site.slot ≡ next_slot (machine_at old) * its_size
+  slot_is = slot ∙ (λ i. next_slot (machines i) * sizes i)
+
+  view : segment_view s ≡ begun_view sum its_size (machine_at old) (synced_end old) (current_of old)
+  view = begun_is sum its_size (machine_at old) (synced_end old) (current_of old) s.site s.buffer at slot_is begun
+
+  next_is : line_at mid.site b (ss ++ s ∷ []) ≡ next_line sum its_size (machine_at old) (synced_end old) (line_of old)
+  next_is =
+      line_more mid.site b ss s
+      ∙ ap (λ (l : List SegmentView). l ++ segment_view s ∷ []) (is.line ∙ (λ i. at_last (closed_now sum (sizes i)) (line i)))
+      ∙ ap (λ (v : SegmentView). at_last (closed_now sum its_size) (line_of old) ++ v ∷ []) view
+
+  begun_next : (to : ℕ) → reserved_end old ≤ to → current_begin old < to → to ≤ (current_of old).parts.site.place + its_size + 20 → MayHandOut its_size s.site.place (machine_at old) → IsBegun its_size to mid.site b (ss ++ s ∷ [])
+  begun_next to grows low within may =
+      let facts = current_facts old in
+      let big : 256 ≤ its_size = old.config.config.least in
+      let header = length-short_header sum (pos ((current_of old).parts.site.place + its_size)) (pos (synced_end old) -ℤ pos 1) in
+      let long : length s.buffer.bytes.items ≡ 20 = ap (λ (v : SegmentView). length v.parts.bytes) view ∙ header in
+      let lies : s.site.place ≡ mid.site.place + its_size + length ss * its_size =
+      (let here = (current_facts mid).at in
+      let same : (current_of mid).parts.site.place ≡ (current_of old).parts.site.place = ap (λ (l : List SegmentView). (last_of (view_at mid.site mid.buffer) l).parts.site.place) line in
+      let count : length ss * its_size ≡ length mid.behind.items * its_size = ap (λ n. n * its_size) is.count in
+      let many : length mid.behind.items * segment_size_of mid ≡ length mid.behind.items * its_size = ap (λ n. length mid.behind.items * n) sizes in
+      omega (arith, at, here, same, count, many)) in
+      let small = mid.place_in_reach in
+      let small_slot = mid.slot_in_reach in
+      let waits = is.waits in
+      let short = is.short in
+      let place_end = may.place in
+      let slot_end = may.offset in
+      record {
+        short = omega (arith, short, sizes);
+        place_small = omega (arith, small, sizes);
+        slot_small = omega (arith, small_slot, sizes);
+        waits = omega (arith, waits, sizes);
+        follow = follow_one its_size (mid.site.place + its_size) ss s lies (omega (arith, long, big)) (omega (arith, place_end)) (omega (arith, slot_end, slot_is)) (subst (λ n. FollowOn n (mid.site.place + n) ss) sizes is.follow);
+        filled = subst (AreFilled its_size to) (sym next_is)
+            (filled_next sum its_size old.reserved_to to (machine_at old) (synced_end old) (old.site.place + length old.behind.items * its_size) (view_at old.site old.buffer) (map segment_view old.behind.items) facts (omega (arith, big)) grows low within old.filled);
+      }
+
+pub invariant_of-self-2 : goal.invariant_of-self-2
+invariant_of-self-2 g c =
+    let old = c.args.self.now in
+    let mid = c.room_to_close.new.self in
+    let sum : List ℕ → ℕ = g.C.Checksum.sum_of in
+    let size : ℕ = segment_size_of mid in
+    let rest = c.in_ok-room_to_close.ensures.rest in
+    let same : current_of mid ≡ current_of old = ap (last_of (view_at mid.site mid.buffer)) c.in_ok-room_to_close.ensures.line in
+    let its_site : c.current.result.0 ≡ (current_of mid).parts.site = ap (λ (v : SegmentView). v.parts.site) (c.current.ensures.view ∙ sym same) in
+    let its_sizes : size ≡ segment_size_of old = ap (λ x. x.config.segment_size) rest.config in
+    let next : SegmentBuffer = record { site = record { place = c.current.result.0.place + segment_size_of old; slot = c.in_ok-slot.slot }; buffer = c.in_ok-buffer.buffer } in
+    let at : next.site.place ≡ (current_of old).parts.site.place + segment_size_of old = ap (λ (v : SegmentView). v.parts.site.place + segment_size_of old) c.current.ensures.view in
+    let begun = c.in_ok-buffer.ensures.view next.site refl in
+    let counted : deque_len mid.behind ≡ length mid.behind.items = search rules in
+    let b : IoBuf = c.if-n-eq0.self.1.1.1.0 in
+    let ss : List SegmentBuffer = c.if-n-eq0.self.1.1.1.1.0.items in
+    let closed : IsClosed sum size mid b ss = elim c.if-n-eq0.branch [
+      | then-n-eq0 w ↦ (
+          let new : IoBuf = w.close.new.self in
+          let made = w.close.ensures.closed ∙ ap (λ n. closed_now sum n (view_at c.current.result.0 mid.buffer)) (sym its_sizes) in
+          let none : length mid.behind.items ≡ 0 = omega (arith, counted, c.len-n.ensures, w.if-n-eq0.true) in
+          subst (λ (x : IoBuf). IsClosed sum size mid x ss) (sym (λ i. (w.self-is i).1.1.1.0))
+          (subst (λ (l : List SegmentBuffer). IsClosed sum size mid new l) (sym (λ i. (w.self-is i).1.1.1.1.0.items)) (closed_first sum mid c.current.result.0 its_site new none made)))
+      | else-n-eq0 w ↦ (
+          let s : SegmentBuffer = w.index_mut.result.now in
+          let new : IoBuf = w.close-else-n-eq0.new.self in
+          let made = w.close-else-n-eq0.ensures.closed ∙ ap (λ n. closed_now sum n (view_at c.current.result.0 s.buffer)) (sym its_sizes) in
+          let is = read_last mid.behind.items c.len-n.result s (c.len-n.ensures ∙ counted) w.if-n-eq0.false w.index_mut.ensures.value in
+          subst (λ (x : IoBuf). IsClosed sum size mid x ss) (sym (λ i. (w.self-is i).1.1.1.0))
+          (subst (λ (l : List SegmentBuffer). IsClosed sum size mid mid.buffer l) (sym (λ i. (w.self-is i).1.1.1.1.0.items)) (closed_last sum mid c.current.result.0 its_site new (c.len-n.result - 1) s is.0 is.1 made)))
+    ] in
+    let config : c.if-n-eq0.self.1.0 ≡ mid.config = elim c.if-n-eq0.branch [ then-n-eq0 w ↦ (λ i. (w.self-is i).1.0) ∙ c.next.ensures.config | else-n-eq0 w ↦ (λ i. (w.self-is i).1.0) ∙ c.next.ensures.config ] in
+    let new_size : ℕ = c.if-n-eq0.self.1.0.config.segment_size in
+    let new_sizes : new_size ≡ size = ap (λ x. x.config.segment_size) config in
+    let may = c.has_further.ensures.0 c.if-not-has_further.false in
+    let all : IsBegun (segment_size_of old) c.args.to mid.site b (ss ++ next ∷ []) =
+    begun_next sum old mid c.in_ok-room_to_close.ensures.line rest b ss closed next at c.in_ok-slot.ensures.offset begun c.args.to c.requires.grows c.requires.behind c.requires.within may in
+    let are : IsBegun new_size c.args.to mid.site b c.push_back_reserved.new.self.items =
+    subst (λ n. IsBegun n c.args.to mid.site b c.push_back_reserved.new.self.items) (sym (new_sizes ∙ its_sizes)) (subst (λ (l : List SegmentBuffer). IsBegun (segment_size_of old) c.args.to mid.site b l) (sym c.push_back_reserved.ensures.items) all) in
+    record {
+      in_segment = are.short;
+      place_in_reach = are.place_small;
+      slot_in_reach = are.slot_small;
+      waits = λ some. are.waits;
+      follow = are.follow;
+      filled = are.filled;
+      account = subst (λ n. IsAccountant n c.next.new.self) (sym new_sizes) c.next.ensures.account;
+    }
+
+pub returns-clause-line : goal.returns-clause-line
+returns-clause-line g c =
+    let old = c.args.self.now in
+    let mid = c.room_to_close.new.self in
+    let sum : List ℕ → ℕ = g.C.Checksum.sum_of in
+    let size : ℕ = segment_size_of mid in
+    let rest = c.in_ok-room_to_close.ensures.rest in
+    let same : current_of mid ≡ current_of old = ap (last_of (view_at mid.site mid.buffer)) c.in_ok-room_to_close.ensures.line in
+    let its_site : c.current.result.0 ≡ (current_of mid).parts.site = ap (λ (v : SegmentView). v.parts.site) (c.current.ensures.view ∙ sym same) in
+    let its_sizes : size ≡ segment_size_of old = ap (λ x. x.config.segment_size) rest.config in
+    let next : SegmentBuffer = record { site = record { place = c.current.result.0.place + segment_size_of old; slot = c.in_ok-slot.slot }; buffer = c.in_ok-buffer.buffer } in
+    let at : next.site.place ≡ (current_of old).parts.site.place + segment_size_of old = ap (λ (v : SegmentView). v.parts.site.place + segment_size_of old) c.current.ensures.view in
+    let begun = c.in_ok-buffer.ensures.view next.site refl in
+    let counted : deque_len mid.behind ≡ length mid.behind.items = search rules in
+    let b : IoBuf = c.if-n-eq0.self.1.1.1.0 in
+    let ss : List SegmentBuffer = c.if-n-eq0.self.1.1.1.1.0.items in
+    let closed : IsClosed sum size mid b ss = elim c.if-n-eq0.branch [
+      | then-n-eq0 w ↦ (
+          let new : IoBuf = w.close.new.self in
+          let made = w.close.ensures.closed ∙ ap (λ n. closed_now sum n (view_at c.current.result.0 mid.buffer)) (sym its_sizes) in
+          let none : length mid.behind.items ≡ 0 = omega (arith, counted, c.len-n.ensures, w.if-n-eq0.true) in
+          subst (λ (x : IoBuf). IsClosed sum size mid x ss) (sym (λ i. (w.self-is i).1.1.1.0))
+          (subst (λ (l : List SegmentBuffer). IsClosed sum size mid new l) (sym (λ i. (w.self-is i).1.1.1.1.0.items)) (closed_first sum mid c.current.result.0 its_site new none made)))
+      | else-n-eq0 w ↦ (
+          let s : SegmentBuffer = w.index_mut.result.now in
+          let new : IoBuf = w.close-else-n-eq0.new.self in
+          let made = w.close-else-n-eq0.ensures.closed ∙ ap (λ n. closed_now sum n (view_at c.current.result.0 s.buffer)) (sym its_sizes) in
+          let is = read_last mid.behind.items c.len-n.result s (c.len-n.ensures ∙ counted) w.if-n-eq0.false w.index_mut.ensures.value in
+          subst (λ (x : IoBuf). IsClosed sum size mid x ss) (sym (λ i. (w.self-is i).1.1.1.0))
+          (subst (λ (l : List SegmentBuffer). IsClosed sum size mid mid.buffer l) (sym (λ i. (w.self-is i).1.1.1.1.0.items)) (closed_last sum mid c.current.result.0 its_site new (c.len-n.result - 1) s is.0 is.1 made)))
+    ] in
+    ap (line_at mid.site b) c.push_back_reserved.ensures.items ∙ next_is sum old mid c.in_ok-room_to_close.ensures.line rest b ss closed next at c.in_ok-slot.ensures.offset begun
+
+pub returns-clause-room : goal.returns-clause-room
+returns-clause-room g c =
+    let old = c.args.self.now in
+    let next : SegmentBuffer = record { site = record { place = c.current.result.0.place + segment_size_of old; slot = c.in_ok-slot.slot }; buffer = c.in_ok-buffer.buffer } in
+    let b : IoBuf = c.if-n-eq0.self.1.1.1.0 in
+    subst (λ (x : IoBuf). HasRoomIn x (segment_size_of old - 20)) (sym (ap (last_buffer b) c.push_back_reserved.ensures.items ∙ last_one b c.if-n-eq0.self.1.1.1.1.0.items next)) c.in_ok-buffer.ensures.room

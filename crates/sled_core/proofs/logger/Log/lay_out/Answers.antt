@@ -1,0 +1,142 @@
+-- A placeholder is laid out in the first segment or in the last one behind it, whichever is being filled.
+use Rattle.std.proofs.Common.{◌≡◌, ◌∙◌, ◌+◌, ◌-◌, ◌<◌, sym, ap, refl, subst, arith, rules, ℕ, suc, List, [], ◌∷◌, ◌++◌, append_assoc, length, length-append, map, drop, take, set, deque_len, Some}
+use Rattle.std.specs.List.{slice_get}
+use Rattle.sled_core.specs.Begun.{AreFilled, SegmentView, line_at, segment_view, view_at}
+use Rattle.sled_core.specs.Buffers.{placeholder_head, reserved_for}
+use Rattle.sled_core.specs.declared.iobuf.IoBuf.{IoBuf}
+use Rattle.sled_core.specs.declared.iobuf.Reserved.{Reserved}
+use Rattle.sled_core.specs.declared.iobuf.SegmentPosition.{SegmentPosition}
+use Rattle.sled_core.specs.declared.logger.Log.{Log}
+use Rattle.sled_core.specs.declared.logger.segments.SegmentBuffer.{SegmentBuffer}
+use Rattle.sled_core.specs.Fits.{current_of, line_of}
+use Rattle.sled_core.specs.Turned.{HasRoomIn, reserved_now}
+use Rattle.sled_core.specs.Waiting.{at_last}
+use Rattle.sled_core.proofs.Line.Facts.{current_facts}
+use Rattle.sled_core.proofs.Line.Filling.{follow_with, last_none, line_first, line_last, read_last}
+use Rattle.sled_core.proofs.Line.Nth.{last_behind, last_buffer_behind}
+use Rattle.sled_core.proofs.Line.Reserves.{filled_reserved}
+use Rattle.sled_core.proofs.logger.Log.lay_out.Given.{Over}
+use Rattle.sled_core.proofs.logger.Log.lay_out.Goals as goal
+
+-- what code makes of a buffer
+reserved_view : (site : SegmentPosition) (old new : IoBuf) (head item : List ℕ) (r : Reserved) → new.bytes.items ≡ (old.bytes.items ++ head) ++ item → new.reserved.items ≡ old.reserved.items ++ r ∷ [] → new.written_len ≡ old.written_len → new.gone ≡ old.gone → new.sealed.items ≡ old.sealed.items
+    → view_at site new ≡ reserved_now (head ++ item) r (view_at site old)
+reserved_view site old new head item r bytes reserved from gone sealed =
+    let all = bytes ∙ append_assoc old.bytes.items head item in
+    λ j. record { parts = record { site = site; bytes = all j; written_len = from j; sealed = sealed j; reserved = reserved j }; gone = gone j }
+
+placeholder_some : (head item : List ℕ) → 0 < length (placeholder_head head ++ item)
+placeholder_some head item = omega arith
+
+-- as many bytes as there are
+laid_long : (old head item new : List ℕ) (n : ℕ) → new ≡ (old ++ head) ++ item → length new ≡ length old + n → length (head ++ item) ≡ n
+laid_long old head item new n is long = omega (arith, ap length is, long, length-append (old ++ head) item, length-append old head, length-append head item)
+
+-- The segments are filled as they have to be.
+laid_filled : {D C : Type 0} (log : Log D C) (more : List ℕ) (r : Reserved) (to : ℕ) (line : List SegmentView) → line ≡ at_last (reserved_now more r) (line_of log) → 0 < length more → to ≡ (current_of log).parts.site.place + length (current_of log).parts.bytes + length more
+    → AreFilled log.config.config.segment_size to line
+laid_filled log more r to line is some end =
+    let facts = current_facts log in
+    subst (AreFilled log.config.config.segment_size to) (sym is)
+    (filled_reserved (λ _. 0) log.config.config.segment_size more r log.reserved_to to (view_at log.site log.buffer) (map segment_view log.behind.items) facts.begins facts.are some end log.filled).1
+
+pub invariant_of-self : goal.invariant_of-self
+invariant_of-self g c =
+    let log = c.args.self.now in
+    let none : length log.behind.items ≡ 0 = (let long : deque_len log.behind ≡ length log.behind.items = search rules in omega (arith, long, c.len-n.ensures, c.if-n-eq0.true)) in
+    let current : current_of log ≡ view_at log.site log.buffer = last_none (view_at log.site log.buffer) log.behind.items none in
+    let bytes : length (current_of log).parts.bytes ≡ length log.buffer.bytes.items = ap (λ (v : SegmentView). length v.parts.bytes) current in
+    let head : List ℕ = placeholder_head (take c.args.head.now.len c.args.head.now.bytes) in
+    let item : List ℕ = g.T.Serialize.short (g.T.Serialize.meaning c.args.item.now) in
+    let long : length (head ++ item) ≡ c.args.head.now.len + c.args.item_len = laid_long log.buffer.bytes.items head item c.append.new.self.bytes.items (c.args.head.now.len + c.args.item_len) c.append.ensures.bytes (omega (arith, c.append.ensures.len)) in
+    let fits = c.requires.place.record_fits in
+    record {
+      in_segment = omega (arith, c.append.ensures.len, bytes, fits);
+      place_in_reach = log.place_in_reach;
+      slot_in_reach = log.slot_in_reach;
+      waits = λ some. absurd (omega (arith, some, none));
+      follow = log.follow;
+      filled = laid_filled log (head ++ item) _ c.args.to (line_at log.site c.append.new.self log.behind.items)
+          (line_first (reserved_now (head ++ item) _) log.site log.buffer c.append.new.self log.behind.items none
+          (reserved_view log.site log.buffer c.append.new.self head item _ c.append.ensures.bytes c.append.ensures.reserved c.append.ensures.from c.append.ensures.gone c.append.ensures.sealed))
+          (placeholder_some (take c.args.head.now.len c.args.head.now.bytes) item) (omega (arith, c.requires.end, long));
+      account = log.account;
+    }
+
+-- The last one behind the first is the one that is being filled.
+
+abbrev last : (g : Over) (c : goal.After-append-arg-else-n-eq0-1 g) → SegmentBuffer
+last g c = c.index_mut.result.now
+
+is_last : (g : Over) (c : goal.After-append-arg-else-n-eq0-1 g) → (suc (c.len-n.result - 1) ≡ length c.args.self.now.behind.items) × (slice_get c.args.self.now.behind.items (c.len-n.result - 1) ≡ Some (last g c))
+is_last g c =
+    let long : deque_len c.args.self.now.behind ≡ length c.args.self.now.behind.items = search rules in
+    read_last c.args.self.now.behind.items c.len-n.result (last g c) (c.len-n.ensures ∙ long) c.if-n-eq0.false c.index_mut.ensures.value
+
+has_room : (g : Over) (c : goal.After-append-arg-else-n-eq0-1 g) → HasRoomIn (last g c).buffer (c.args.head.now.len + c.args.item_len)
+has_room g c =
+    let there = is_last g c in
+    subst (λ (b : IoBuf). HasRoomIn b (c.args.head.now.len + c.args.item_len)) (last_buffer_behind c.args.self.now.buffer c.args.self.now.behind.items (last g c) (c.len-n.result - 1) there.0 there.1) c.requires.room
+
+pub append-requires-else-n-eq0-clause-room : goal.append-requires-else-n-eq0-clause-room
+append-requires-else-n-eq0-clause-room g c = let room = (has_room g c).bytes in omega (arith, room)
+
+pub append-requires-else-n-eq0-clause-place : goal.append-requires-else-n-eq0-clause-place
+append-requires-else-n-eq0-clause-place g c = (has_room g c).reserved
+
+pub append-requires-else-n-eq0-clause-few : goal.append-requires-else-n-eq0-clause-few
+append-requires-else-n-eq0-clause-few g c = (has_room g c).few
+
+-- what code makes of it
+module _ {D C : Type 0} (log : Log D C) (n : ℕ) (s : SegmentBuffer) (at : suc n ≡ length log.behind.items) (there : slice_get log.behind.items n ≡ Some s) (new : IoBuf) (head item : List ℕ) (r : Reserved)
+    (bytes : new.bytes.items ≡ (s.buffer.bytes.items ++ head) ++ item) (reserved : new.reserved.items ≡ s.buffer.reserved.items ++ r ∷ []) (from : new.written_len ≡ s.buffer.written_len) (gone : new.gone ≡ s.buffer.gone)
+    (sealed : new.sealed.items ≡ s.buffer.sealed.items) where
+  is_current : current_of log ≡ segment_view s
+  is_current = last_behind (view_at log.site log.buffer) log.behind.items s n at there
+
+  abbrev now : SegmentBuffer
+  now = record { site = s.site; buffer = new }
+
+  laid_line : line_at log.site log.buffer (set log.behind.items n now) ≡ at_last (reserved_now (head ++ item) r) (line_of log)
+  laid_line = line_last (reserved_now (head ++ item) r) (view_at log.site log.buffer) log.behind.items n s now at there (reserved_view s.site s.buffer new head item r bytes reserved from gone sealed)
+
+pub invariant_of-self-else-n-eq0 : goal.invariant_of-self-else-n-eq0
+invariant_of-self-else-n-eq0 g c =
+    let log = c.args.self.now in
+    let s : SegmentBuffer = c.index_mut.result.now in
+    let n : ℕ = c.len-n.result - 1 in
+    let counted : deque_len log.behind ≡ length log.behind.items = search rules in
+    let is = read_last log.behind.items c.len-n.result s (c.len-n.ensures ∙ counted) c.if-n-eq0.false c.index_mut.ensures.value in
+    let head : List ℕ = placeholder_head (take c.args.head.now.len c.args.head.now.bytes) in
+    let item : List ℕ = g.T.Serialize.short (g.T.Serialize.meaning c.args.item.now) in
+    let new : IoBuf = c.append-else-n-eq0.new.self in
+    let made = c.append-else-n-eq0.ensures in
+    let long : length (head ++ item) ≡ c.args.head.now.len + c.args.item_len = laid_long s.buffer.bytes.items head item new.bytes.items (c.args.head.now.len + c.args.item_len) made.bytes (omega (arith, made.len)) in
+    let current : current_of log ≡ segment_view s = is_current log n s is.0 is.1 new head item _ made.bytes made.reserved made.from made.gone made.sealed in
+    let bytes : length (current_of log).parts.bytes ≡ length s.buffer.bytes.items = ap (λ (v : SegmentView). length v.parts.bytes) current in
+    let fits = c.requires.place.record_fits in
+    record {
+      in_segment = log.in_segment;
+      place_in_reach = log.place_in_reach;
+      slot_in_reach = log.slot_in_reach;
+      waits = λ some. log.waits (omega (arith, is.0));
+      follow = follow_with log.config.config.segment_size (log.site.place + log.config.config.segment_size) log.behind.items n s (record { site = s.site; buffer = new }) is.1 refl (omega (arith, made.len, bytes, fits)) log.follow;
+      filled = laid_filled log (head ++ item) _ c.args.to (line_at log.site log.buffer (set log.behind.items n (record { site = s.site; buffer = new })))
+          (laid_line log n s is.0 is.1 new head item _ made.bytes made.reserved made.from made.gone made.sealed)
+          (placeholder_some (take c.args.head.now.len c.args.head.now.bytes) item) (omega (arith, c.requires.end, long));
+      account = log.account;
+    }
+
+pub returns-else-n-eq0-clause-line : goal.returns-else-n-eq0-clause-line
+returns-else-n-eq0-clause-line g c =
+    let log = c.args.self.now in
+    let s : SegmentBuffer = c.index_mut.result.now in
+    let n : ℕ = c.len-n.result - 1 in
+    let counted : deque_len log.behind ≡ length log.behind.items = search rules in
+    let is = read_last log.behind.items c.len-n.result s (c.len-n.ensures ∙ counted) c.if-n-eq0.false c.index_mut.ensures.value in
+    let head : List ℕ = placeholder_head (take c.args.head.now.len c.args.head.now.bytes) in
+    let item : List ℕ = g.T.Serialize.short (g.T.Serialize.meaning c.args.item.now) in
+    let made = c.append-else-n-eq0.ensures in
+    let current : current_of log ≡ segment_view s = is_current log n s is.0 is.1 c.append-else-n-eq0.new.self head item _ made.bytes made.reserved made.from made.gone made.sealed in
+    laid_line log n s is.0 is.1 c.append-else-n-eq0.new.self head item _ made.bytes made.reserved made.from made.gone made.sealed
+    ∙ ap (λ (v : SegmentView). at_last (reserved_now (head ++ item) (reserved_for c.args.purpose.now (length v.parts.bytes) c.args.head.now.len c.args.item_len (g.C.Checksum.sum_of (item ++ drop 4 (take c.args.head.now.len c.args.head.now.bytes))))) (line_of log)) (sym current)

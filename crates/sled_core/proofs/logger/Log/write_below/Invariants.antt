@@ -1,9 +1,0 @@
-use Rattle.std.proofs.Common.{length}
-use Rattle.sled_core.proofs.Holds.Writes.{Advanced}
-use Rattle.sled_core.proofs.logger.Log.write_below.Given as goal
-
-abbrev pub invariant-loop-self : goal.invariant-loop-self
-invariant-loop-self g l = record { advanced : Advanced g.D.Device.trace g.C.Checksum.sum_of g.D.Device.faults l.to l.fn.self l.self }
-
-abbrev pub decreases-loop-self : goal.decreases-loop-self
-decreases-loop-self g l = length l.self.buffer.sealed.items

@@ -1,0 +1,171 @@
+use Rattle.std.proofs.Common.{rules, ◌≡◌, ◌∙◌, ◌+◌, true, sym, refl, arith, w64, SFits, List, subst}
+use Rattle.std.proofs.lemmas.Int.{to_z-of_z}
+use Rattle.std.proofs.lemmas.Result.{err_from_is_err_and}
+use Rattle.sled_store.proofs.Traces.ScriptLemmas.{performs_whole}
+use Rattle.sled_core.specs.Fits.{line_of, waiting_of}
+use Rattle.sled_core.specs.Turned.{ready_below}
+use Rattle.sled_core.proofs.Holds.KeptCalls.{kept_further}
+use Rattle.sled_core.proofs.Line.Advanced.{advanced_further, advanced_still, all_made, failed_further, failed_one, failed_position, failed_tickets, first_step, first_view, holds_up, past_left, ready_in, same_current, stuck_left, stuck_one, write_failed}
+use Rattle.sled_core.proofs.Line.Below.{IsStuck, begin_none, first_fewer, held_past, writes_past}
+use Rattle.sled_core.proofs.Line.LogSpans.{IsLeft, leaves_above, leaves_some, same_buffers}
+use Rattle.sled_core.specs.Waiting.{BufferAt}
+use Rattle.sled_core.proofs.logger.Log.write_sealed_below.Given as given
+use Rattle.sled_core.proofs.logger.Log.write_sealed_below.Goals as goal
+
+pub loop-self-init : goal.loop-self-init
+loop-self-init g c = record { advanced = advanced_still g.D.Device.trace g.C.Checksum.sum_of g.D.Device.faults c.args.to c.args.self.now c.requires.fault }
+
+pub write_buffer-requires-clause-fault : goal.write_buffer-requires-clause-fault
+write_buffer-requires-clause-fault g c = c.loop-self.invariant.advanced.fault
+
+pub write_buffer-requires-clause-ready : goal.write_buffer-requires-clause-ready
+write_buffer-requires-clause-ready g c = ready_in c.loop-self.self c.args.to (sym c.has_ready_below.ensures ∙ c.loop-self-test.true)
+
+pub loop-self-smaller : goal.loop-self-smaller
+loop-self-smaller g c =
+    let mid = c.loop-self.self in
+    let new = c.write_buffer.new.self in
+    let ready : ready_below (line_of mid) c.args.to ≡ true = sym c.has_ready_below.ensures ∙ c.loop-self-test.true in
+    let fewer = first_fewer c.args.to (waiting_of mid) (waiting_of new) _ (first_step c.args.to mid new ready (c.in_ok-write_buffer.ensures.line (first_view mid) refl)) in
+    omega (arith, fewer)
+
+pub loop-self-preserved : goal.loop-self-preserved
+loop-self-preserved g c =
+    let mid = c.loop-self.self in
+    let ready : ready_below (line_of mid) c.args.to ≡ true = sym c.has_ready_below.ensures ∙ c.loop-self-test.true in
+    record {
+      advanced = advanced_further g.D.Device.trace g.C.Checksum.sum_of g.D.Device.faults c.args.to c.args.self.now mid c.write_buffer.new.self c.loop-self.invariant.advanced ready (c.in_ok-write_buffer.ensures.line (first_view mid) refl)
+          c.write_buffer.ensures.keeps c.write_buffer.ensures.tickets c.write_buffer.ensures.position c.in_ok-write_buffer.ensures.calls c.in_ok-write_buffer.ensures.answers.1 c.in_ok-write_buffer.ensures.answers.2;
+    }
+
+-- A write failed.
+
+pub returns-in_err-write_buffer-clause-at_most : goal.returns-in_err-write_buffer-clause-at_most
+returns-in_err-write_buffer-clause-at_most g c =
+    failed_further g.D.Device.trace g.C.Checksum.sum_of g.D.Device.faults c.args.to c.args.self.now c.loop-self.self c.write_buffer.new.self c.requires.sealed c.loop-self.invariant.advanced (sym c.has_ready_below.ensures ∙ c.loop-self-test.true) c.write_buffer.ensures.at_most
+
+pub returns-in_err-write_buffer-clause-keeps : goal.returns-in_err-write_buffer-clause-keeps
+returns-in_err-write_buffer-clause-keeps g c =
+    kept_further g.D.Device.trace g.C.Checksum.sum_of c.args.self.now c.loop-self.self c.write_buffer.new.self c.loop-self.invariant.advanced.keeps c.write_buffer.ensures.keeps
+
+pub returns-in_err-write_buffer-clause-tickets : goal.returns-in_err-write_buffer-clause-tickets
+returns-in_err-write_buffer-clause-tickets g c = failed_tickets g.D.Device.trace g.C.Checksum.sum_of g.D.Device.faults c.args.to c.args.self.now c.loop-self.self c.write_buffer.new.self c.loop-self.invariant.advanced c.write_buffer.ensures.tickets
+
+pub returns-in_err-write_buffer-clause-position : goal.returns-in_err-write_buffer-clause-position
+returns-in_err-write_buffer-clause-position g c = failed_position g.D.Device.trace g.C.Checksum.sum_of g.D.Device.faults c.args.to c.args.self.now c.loop-self.self c.write_buffer.new.self c.loop-self.invariant.advanced c.write_buffer.ensures.position
+
+pub returns-in_err-write_buffer-clause-answers : goal.returns-in_err-write_buffer-clause-answers
+returns-in_err-write_buffer-clause-answers g c =
+    let e = err_from_is_err_and c.from_residual.result c.from_residual.ensures.1 in
+    rw (e.1, e.2) (write_failed (Unit {0}) (Unit {0}) c.in_err-write_buffer.field-0.0 _ ⊥ _ _ _ _ c.loop-self.invariant.advanced.counted c.in_err-write_buffer.ensures.answers)
+
+pub returns-in_err-write_buffer-clause-current : goal.returns-in_err-write_buffer-clause-current
+returns-in_err-write_buffer-clause-current g c = same_current c.loop-self.self c.write_buffer.new.self c.in_err-write_buffer.ensures.same ∙ c.loop-self.invariant.advanced.current
+
+pub returns-in_err-write_buffer-clause-one : goal.returns-in_err-write_buffer-clause-one
+returns-in_err-write_buffer-clause-one g c = λ few.
+    let e = err_from_is_err_and c.from_residual.result c.from_residual.ensures.1 in
+    rw e.1 (failed_one g.D.Device.trace g.C.Checksum.sum_of g.D.Device.faults c.args.to c.args.self.now c.loop-self.self c.write_buffer.new.self c.loop-self.invariant.advanced (sym c.has_ready_below.ensures ∙ c.loop-self-test.true) c.in_err-write_buffer.ensures.same few)
+
+pub returns-in_err-write_buffer-clause-some : goal.returns-in_err-write_buffer-clause-some
+returns-in_err-write_buffer-clause-some g c =
+    let same = same_buffers c.loop-self.self c.write_buffer.new.self c.in_err-write_buffer.ensures.same in
+    let so_far = c.loop-self.invariant.advanced in
+    let e = err_from_is_err_and c.from_residual.result c.from_residual.ensures.1 in
+    rw e.1 (leaves_some g.C.Checksum.sum_of c.args.to c.args.self.now c.write_buffer.new.self c.requires.sealed (same.1 ∙ so_far.start)
+    (subst (λ (l : List BufferAt). IsLeft c.args.to (waiting_of c.args.self.now) l) (sym same.0) so_far.left))
+
+-- An open reservation holds the rest up.
+
+pub least_held-requires : goal.least_held-requires
+least_held-requires g c =
+    (stuck_left g.D.Device.trace g.C.Checksum.sum_of g.D.Device.faults c.args.to c.args.self.now c.loop-self.self c.requires.sealed c.loop-self.invariant.advanced (omega (arith, c.stable_end.ensures.is, c.if-stable_end-to.true)) (sym c.has_ready_below.ensures ∙ c.loop-self-test.false)).some
+
+stuck : (g : given.Over) (c : goal.After-least_held g) → IsStuck c.args.to c.loop-self.self.site.place (waiting_of c.loop-self.self) c.loop-self.self.buffer.reserved.items
+stuck g c =
+    stuck_left g.D.Device.trace g.C.Checksum.sum_of g.D.Device.faults c.args.to c.args.self.now c.loop-self.self c.requires.sealed c.loop-self.invariant.advanced (omega (arith, c.stable_end.ensures.is, c.if-stable_end-to.true)) (sym c.has_ready_below.ensures ∙ c.loop-self-test.false)
+
+pub returns-then-stable_end-to-clause-calls : goal.returns-then-stable_end-to-clause-calls
+returns-then-stable_end-to-clause-calls g c = all_made g.D.Device.trace g.C.Checksum.sum_of g.D.Device.faults c.args.to c.args.self.now c.loop-self.self c.requires.sealed c.loop-self.invariant.advanced (stuck g c).writes
+
+pub returns-then-stable_end-to-clause-at_most : goal.returns-then-stable_end-to-clause-at_most
+returns-then-stable_end-to-clause-at_most g c =
+    performs_whole _ _ _ (all_made g.D.Device.trace g.C.Checksum.sum_of g.D.Device.faults c.args.to c.args.self.now c.loop-self.self c.requires.sealed c.loop-self.invariant.advanced (stuck g c).writes)
+
+pub returns-then-stable_end-to-clause-keeps : goal.returns-then-stable_end-to-clause-keeps
+returns-then-stable_end-to-clause-keeps g c = c.loop-self.invariant.advanced.keeps
+
+pub returns-then-stable_end-to-clause-tickets : goal.returns-then-stable_end-to-clause-tickets
+returns-then-stable_end-to-clause-tickets g c = c.loop-self.invariant.advanced.tickets
+
+pub returns-then-stable_end-to-clause-position : goal.returns-then-stable_end-to-clause-position
+returns-then-stable_end-to-clause-position g c = c.loop-self.invariant.advanced.position
+
+pub returns-then-stable_end-to-clause-answers : goal.returns-then-stable_end-to-clause-answers
+returns-then-stable_end-to-clause-answers g c =
+    let held = stuck g c in
+    let now = c.loop-self.self in
+    let fits : SFits w64 c.least_held.result = search rules in (
+      (now.site.place + held.from, holds_up g.D.Device.trace g.C.Checksum.sum_of g.D.Device.faults c.args.to c.args.self.now now c.requires.sealed c.loop-self.invariant.advanced ∙ held.holds, to_z-of_z w64 c.least_held.result fits ∙ c.least_held.ensures held.from held.first),
+      (λ none. none),
+      refl,
+      c.loop-self.invariant.advanced.fault,
+      c.loop-self.invariant.advanced.counted,
+    )
+
+pub returns-then-stable_end-to-clause-current : goal.returns-then-stable_end-to-clause-current
+returns-then-stable_end-to-clause-current g c = c.loop-self.invariant.advanced.current
+
+pub returns-then-stable_end-to-clause-one : goal.returns-then-stable_end-to-clause-one
+returns-then-stable_end-to-clause-one g c = λ few. stuck_one g.D.Device.trace g.C.Checksum.sum_of g.D.Device.faults c.args.to c.args.self.now c.loop-self.self c.loop-self.invariant.advanced (stuck g c) few
+
+pub returns-then-stable_end-to-clause-some : goal.returns-then-stable_end-to-clause-some
+returns-then-stable_end-to-clause-some g c = leaves_some g.C.Checksum.sum_of c.args.to c.args.self.now c.loop-self.self c.requires.sealed c.loop-self.invariant.advanced.start c.loop-self.invariant.advanced.left
+
+-- All that begins below the place is written.
+
+pub returns-clause-calls : goal.returns-clause-calls
+returns-clause-calls g c =
+    let now = c.loop-self.self in
+    all_made g.D.Device.trace g.C.Checksum.sum_of g.D.Device.faults c.args.to c.args.self.now now c.requires.sealed c.loop-self.invariant.advanced
+    (writes_past c.args.to (waiting_of now) (past_left g.D.Device.trace g.C.Checksum.sum_of g.D.Device.faults c.args.to now (omega (arith, c.stable_end.ensures.is, c.if-stable_end-to.false))))
+
+pub returns-clause-at_most : goal.returns-clause-at_most
+returns-clause-at_most g c =
+    let now = c.loop-self.self in
+    performs_whole _ _ _ (all_made g.D.Device.trace g.C.Checksum.sum_of g.D.Device.faults c.args.to c.args.self.now now c.requires.sealed c.loop-self.invariant.advanced
+    (writes_past c.args.to (waiting_of now) (past_left g.D.Device.trace g.C.Checksum.sum_of g.D.Device.faults c.args.to now (omega (arith, c.stable_end.ensures.is, c.if-stable_end-to.false)))))
+
+pub returns-clause-keeps : goal.returns-clause-keeps
+returns-clause-keeps g c = c.loop-self.invariant.advanced.keeps
+
+pub returns-clause-tickets : goal.returns-clause-tickets
+returns-clause-tickets g c = c.loop-self.invariant.advanced.tickets
+
+pub returns-clause-position : goal.returns-clause-position
+returns-clause-position g c = c.loop-self.invariant.advanced.position
+
+pub returns-clause-answers : goal.returns-clause-answers
+returns-clause-answers g c =
+    let now = c.loop-self.self in (
+      holds_up g.D.Device.trace g.C.Checksum.sum_of g.D.Device.faults c.args.to c.args.self.now now c.requires.sealed c.loop-self.invariant.advanced
+          ∙ held_past c.args.to (waiting_of now) (past_left g.D.Device.trace g.C.Checksum.sum_of g.D.Device.faults c.args.to now (omega (arith, c.stable_end.ensures.is, c.if-stable_end-to.false))),
+      (λ none. none),
+      refl,
+      c.loop-self.invariant.advanced.fault,
+      c.loop-self.invariant.advanced.counted,
+    )
+
+pub returns-clause-current : goal.returns-clause-current
+returns-clause-current g c = c.loop-self.invariant.advanced.current
+
+pub returns-clause-none : goal.returns-clause-none
+returns-clause-none g c = λ below.
+    let now = c.loop-self.self in
+    begin_none c.args.to (waiting_of now) (past_left g.D.Device.trace g.C.Checksum.sum_of g.D.Device.faults c.args.to now (omega (arith, c.stable_end.ensures.is, c.if-stable_end-to.false))) (c.loop-self.invariant.advanced.below below)
+
+pub returns-clause-above : goal.returns-clause-above
+returns-clause-above g c =
+    let now = c.loop-self.self in
+    leaves_above g.C.Checksum.sum_of c.args.to c.args.self.now now c.requires.sealed c.loop-self.invariant.advanced.start c.loop-self.invariant.advanced.left
+    (past_left g.D.Device.trace g.C.Checksum.sum_of g.D.Device.faults c.args.to now (omega (arith, c.stable_end.ensures.is, c.if-stable_end-to.false)))

@@ -1,0 +1,113 @@
+//! Which reservation a ticket is for, and ending it.
+ghost use Rattle.std.specs.Prelude.{◌≡◌, ◌+◌, ◌-◌, ◌≤◌, ◌<◌, ◌^◌, ◌↔◌, ℕ, true, All, Some, IsTrue, length, set, slice_get};
+ghost use Rattle.sled_core.specs.declared.iobuf.Reserved.{Reserved};
+ghost use Rattle.sled_core.specs.Begun.{SegmentView};
+ghost use Rattle.sled_core.specs.Buffers.{canceling, completing, none_open};
+ghost use Rattle.sled_core.specs.Fits.{IsOpen, NoneOpen, line_of};
+ghost use Rattle.sled_core.specs.Tickets.{IsFor};
+ghost use Rattle.sled_core.specs.Turned.{ChangesLine, HasOpenIn, IsOpenIn, ended_now};
+
+use crate::iobuf::{IoBuf, ReservationState, Reserved, SegmentPosition};
+use crate::logger::Log;
+use crate::logger::segments::SegmentBuffer;
+use crate::reservation::Reservation;
+use sled_codec::result::DiskPtr;
+use sled_codec::serialization::Checksum;
+use sled_store::Device;
+use std::collections::VecDeque;
+
+impl<D: Device, C: Checksum> Log<D, C> {
+    /// Completes a reservation of a segment, by their numbers.
+    pub(crate) fn complete_in(&mut self, n: usize, index: usize)
+        requires { HasOpenIn (line_of self.old) n index }
+        ensures line { (v : SegmentView) (r : Reserved) → slice_get (line_of self.old) n ≡ Some v → slice_get v.parts.reserved (index - v.gone) ≡ Some r
+            → line_of self.new ≡ set (line_of self.old) n (ended_now (index - v.gone) r (completing r) ReservationState.Completed v) }
+        ensures rest { ChangesLine self.old self.new }
+    {
+        if n == 0 {
+            let gone = self.buffer.gone;
+            self.buffer.complete(index - gone);
+        } else {
+            let gone = self.behind[n - 1].buffer.gone;
+            self.behind[n - 1].buffer.complete(index - gone);
+        }
+    }
+
+    /// Aborts one.
+    pub(crate) fn abort_in(&mut self, n: usize, index: usize)
+        requires { HasOpenIn (line_of self.old) n index }
+        ensures line { (v : SegmentView) (r : Reserved) → slice_get (line_of self.old) n ≡ Some v → slice_get v.parts.reserved (index - v.gone) ≡ Some r
+            → line_of self.new ≡ set (line_of self.old) n (ended_now (index - v.gone) r (canceling C.sum_of v.parts.bytes r) ReservationState.Canceled v) }
+        ensures rest { ChangesLine self.old self.new }
+    {
+        let checksum = &self.config.checksum;
+        if n == 0 {
+            let gone = self.buffer.gone;
+            self.buffer.abort(checksum, index - gone);
+        } else {
+            let gone = self.behind[n - 1].buffer.gone;
+            self.behind[n - 1].buffer.abort(checksum, index - gone);
+        }
+    }
+
+    /// Returns whether this ticket is for an open reservation of the log.
+    pub fn is_open(&self, ticket: &Reservation) -> bool
+        ensures { IsTrue result ↔ IsOpen self.now ticket.now }
+    {
+        let place = ticket.lsn();
+        if place < 0 || (place as u64) < self.site.place {
+            return false;
+        }
+        let n = self.segment_of(place as u64);
+        if n == 0 {
+            return is_open_in(&self.site, &self.buffer, ticket);
+        }
+        match self.behind.get(n - 1) {
+            Some(s) => is_open_in(&s.site, &s.buffer, ticket),
+            None => false,
+        }
+    }
+
+    /// Returns whether no reservation is open. One whose ticket was abandoned is.
+    pub fn none_open(&self) -> bool
+        ensures { IsTrue result ↔ NoneOpen self.now }
+    {
+        self.buffer.none_open() && none_open_behind(&self.behind)
+    }
+}
+
+/// None of these segments has an open reservation.
+fn none_open_behind(behind: &VecDeque<SegmentBuffer>) -> bool
+    ensures { IsTrue result ↔ All (λ s. none_open s.buffer.reserved.items ≡ true) behind.now.items }
+{
+    behind.iter().all(|s| s.buffer.none_open())
+}
+
+/// Whether a ticket is for an open reservation of this segment.
+fn is_open_in(site: &SegmentPosition, buffer: &IoBuf, ticket: &Reservation) -> bool
+    requires place { site.now.place + length buffer.now.bytes.items < 2 ^ 63 }
+    requires slot { site.now.slot + length buffer.now.bytes.items < 2 ^ 63 }
+    ensures { IsTrue result ↔ IsOpenIn site.now buffer.now ticket.now }
+{
+    let Some(index) = ticket.index().checked_sub(buffer.gone) else {
+        return false;
+    };
+    match buffer.reserved.get(index) {
+        Some(r) => is_for(site, r, ticket),
+        None => false,
+    }
+}
+
+/// Whether a ticket is for this reservation in a segment, and it is open.
+fn is_for(site: &SegmentPosition, r: &Reserved, ticket: &Reservation) -> bool
+    requires place { site.now.place + r.now.from < 2 ^ 64 }
+    requires slot { site.now.slot + r.now.from < 2 ^ 64 }
+    ensures { IsTrue result ↔ IsFor site.now r.now ticket.now }
+{
+    let same_pointer = match ticket.pointer() {
+        DiskPtr::Inline(lid) => lid == site.slot + r.from as u64,
+        DiskPtr::Blob(_, _) => false,
+    };
+    let same_place = ticket.lsn() >= 0 && ticket.lsn() as u64 == site.place + r.from as u64;
+    r.state.is_open() && same_place && same_pointer
+}

@@ -1,0 +1,139 @@
+//! The parts of a reservation: whether its record has a place in the current segment, the room for it, and its placeholder.
+ghost use Rattle.std.specs.Prelude.{◌≡◌, ◌+◌, ◌-◌, ◌/◌, ◌^◌, ◌<◌, ◌≤◌, ◌++◌, ◌∷◌, [], drop, length, take, IsTrue, OnOk, OnErr, ◌↔◌};
+ghost use Rattle.sled_codec.specs.Spelling.{short_header_tail};
+ghost use Rattle.sled_store.specs.Accounts.{MayHandOut, NextAnswers};
+ghost use Rattle.sled_store.specs.SegmentStates.{handed_out};
+ghost use Rattle.sled_core.specs.Begun.{last_buffer};
+ghost use Rattle.sled_core.specs.Buffers.{placeholder_head, reserved_for};
+ghost use Rattle.sled_core.specs.Causes.{MakesRoom};
+ghost use Rattle.sled_core.specs.Fits.{IsLeastOpen, IsUnchanged, current_of, line_of, machine_at, open_of, segment_size_of, synced_end};
+ghost use Rattle.sled_core.specs.Turned.{ChangesLine, ChangesSlots, HasRoomIn, HasPlace, IsTicketFor, next_line, reserved_now};
+ghost use Rattle.sled_core.specs.Waiting.{at_last};
+
+use crate::iobuf::Purpose;
+use crate::iobuf::record::{Head, head_of};
+use crate::logger::Log;
+use crate::reservation::Reservation;
+use sled_codec::result::{DiskPtr, Error, Result};
+use sled_codec::serialization::{Checksum, SegmentNumber, Serialize};
+use sled_store::Device;
+use sled_store::segment::{MAX_MSG_HEADER_LEN, SEG_HEADER_LEN};
+
+impl<D: Device, C: Checksum> Log<D, C> {
+    /// The header of a message of the current segment whose body is this long.
+    pub(crate) fn head_for(&self, purpose: &Purpose, item_len: usize) -> Head
+        ensures bytes { drop 4 (take result.len result.bytes)
+            ≡ short_header_tail purpose.now.kind item_len ((current_of self.now).parts.site.place / segment_size_of self.now) purpose.now.page }
+        ensures len { result.len ≡ 4 + length (short_header_tail purpose.now.kind item_len ((current_of self.now).parts.site.place / segment_size_of self.now) purpose.now.page) }
+    {
+        let (site, _) = self.current();
+        let number = SegmentNumber(site.place / self.config.config.segment_size);
+        head_of(purpose.kind, number, purpose.page, item_len as u64)
+    }
+
+    /// A record of this length has a place in the current segment.
+    pub(crate) fn has_place(&self, len: usize) -> bool
+        ensures { IsTrue result ↔ HasPlace self.now len }
+    {
+        let size = self.config.config.segment_size as usize;
+        let (_, buffer) = self.current();
+        let next = buffer.bytes.len();
+        next <= size - MAX_MSG_HEADER_LEN && len <= size - next
+    }
+
+    /// Makes room for a record of this length in the current buffer, and for its reservation.
+    pub(crate) fn room_for(&mut self, len: usize) -> Result<()>
+        requires { len < 2 ^ 32 }
+        ensures line { line_of self.new ≡ line_of self.old }
+        ensures room { OnOk result (HasRoomIn (last_buffer self.new.buffer self.new.behind.items) len) }
+        ensures rest { ChangesLine self.old self.new }
+        ensures answers { MakesRoom result (open_of self.old) (IsLeastOpen self.old) }
+    {
+        let (site, buffer) = self.current();
+        if buffer.is_full_of_open() {
+            return Err(Error::Held(buffer.least_open(buffer.first, &site)));
+        }
+        let n = self.behind.len();
+        if n == 0 {
+            return self.buffer.make_room(len);
+        }
+        self.behind[n - 1].buffer.make_room(len)
+    }
+
+    /// Begins the next segment for a record, which will begin it.
+    pub(crate) fn begin_segment(&mut self) -> Result<()>
+        ensures line { OnOk result (line_of self.new ≡ next_line C.sum_of (segment_size_of self.old) (machine_at self.old) (synced_end self.old) (line_of self.old)) }
+        ensures machine { OnOk result (machine_at self.new ≡ handed_out ((current_of self.old).parts.site.place + segment_size_of self.old) (machine_at self.old)) }
+        ensures room { OnOk result (HasRoomIn (last_buffer self.new.buffer self.new.behind.items) (segment_size_of self.old - 20)) }
+        ensures rest { ChangesSlots self.old self.new }
+        ensures err { OnErr result (IsUnchanged self.old self.new) }
+        ensures answers { NextAnswers result (MayHandOut (segment_size_of self.old) ((current_of self.old).parts.site.place + segment_size_of self.old) (machine_at self.old)) }
+    {
+        let (site, _) = self.current();
+        let to = site.place + self.config.config.segment_size + SEG_HEADER_LEN as u64;
+        self.begin_next(to)
+    }
+
+    /// Lays out the placeholder of a record behind what is there in the current segment, and returns its ticket.
+    pub(crate) fn append<T: Serialize>(
+        &mut self,
+        head: &Head,
+        purpose: &Purpose,
+        item: &T,
+        item_len: usize,
+    ) -> Reservation
+        requires fits { T.fits (T.meaning item.now) }
+        requires len { item_len ≡ length (T.short (T.meaning item.now)) }
+        requires room { HasRoomIn (last_buffer self.old.buffer self.old.behind.items) (head.now.len + item_len) }
+        requires place { HasPlace self.old (head.now.len + item_len) }
+        ensures line { line_of self.new ≡ at_last (reserved_now (placeholder_head (take head.now.len head.now.bytes) ++ T.short (T.meaning item.now))
+            (reserved_for purpose.now (length (current_of self.old).parts.bytes) head.now.len item_len (C.sum_of (T.short (T.meaning item.now)
+            ++ drop 4 (take head.now.len head.now.bytes))))) (line_of self.old) }
+        ensures ticket { IsTicketFor self.old result }
+        ensures reserved { self.new.reserved_to ≡ (current_of self.old).parts.site.place + length (current_of self.old).parts.bytes + head.now.len + item_len }
+        ensures rest { ChangesSlots self.old self.new }
+        ensures accountant { self.new.accountant ≡ self.old.accountant }
+    {
+        let (site, buffer) = self.current();
+        let at = buffer.bytes.len() as u64;
+        let index = buffer.gone + buffer.reserved.len();
+        let place = (site.place + at) as i64;
+        let to = site.place + at + (head.len + item_len) as u64;
+        self.lay_out(head, purpose, item, item_len, to);
+        Reservation::new(place, DiskPtr::Inline(site.slot + at), index)
+    }
+
+    /// Lays out the placeholder. What is reserved ends there then.
+    fn lay_out<T: Serialize>(
+        &mut self,
+        head: &Head,
+        purpose: &Purpose,
+        item: &T,
+        item_len: usize,
+        to: u64,
+    )
+        requires fits { T.fits (T.meaning item.now) }
+        requires len { item_len ≡ length (T.short (T.meaning item.now)) }
+        requires room { HasRoomIn (last_buffer self.old.buffer self.old.behind.items) (head.now.len + item_len) }
+        requires place { HasPlace self.old (head.now.len + item_len) }
+        requires end { to ≡ (current_of self.old).parts.site.place + length (current_of self.old).parts.bytes + (head.now.len + item_len) }
+        ensures line { line_of self.new ≡ at_last (reserved_now (placeholder_head (take head.now.len head.now.bytes) ++ T.short (T.meaning item.now))
+            (reserved_for purpose.now (length (current_of self.old).parts.bytes) head.now.len item_len (C.sum_of (T.short (T.meaning item.now)
+            ++ drop 4 (take head.now.len head.now.bytes))))) (line_of self.old) }
+        ensures reserved { self.new.reserved_to ≡ to }
+        ensures rest { ChangesSlots self.old self.new }
+        ensures accountant { self.new.accountant ≡ self.old.accountant }
+    {
+        let checksum = &self.config.checksum;
+        let n = self.behind.len();
+        if n == 0 {
+            self.buffer.append(checksum, head, purpose, item, item_len);
+            self.reserved_to = to;
+        } else {
+            self.behind[n - 1]
+                .buffer
+                .append(checksum, head, purpose, item, item_len);
+            self.reserved_to = to;
+        }
+    }
+}
