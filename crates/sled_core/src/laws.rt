@@ -66,7 +66,8 @@ pub fn written_messages_are_stable<D: Device, C: Checksum>()
 /// segment; each has as many bytes as places.
 pub fn a_log_shows_its_buffers<D: Device, C: Checksum>()
     ensures current { (log : Log D C) → 0 < held_len log
-        → spans (buffers_of C.sum_of log) ≡ spans (waiting_of log) ++ record { place = current_begin log; end = sealing_end log; lid = (start_of log).lid } ∷ [] }
+        → spans (buffers_of C.sum_of log)
+        ≡ spans (waiting_of log) ++ record { place = current_begin log; end = sealing_end log; lid = (start_of log).lid } ∷ [] }
     ensures empty { (log : Log D C) → held_len log ≡ 0 → buffers_of C.sum_of log ≡ waiting_of log }
     ensures behind { (log : Log D C) (page n : ℕ) → is_moved log page n ≡ true → spans (waiting_behind C.sum_of log page n)
         ≡ spans (waiting_of log) ++ record { place = current_begin log; end = (start_behind log page n).place; lid = (start_of log).lid } ∷ [] }

@@ -207,7 +207,8 @@ impl<D: Device, C: Checksum> Log<D, C> {
         ensures seals { let n = length (T.short (T.meaning item.now)) in
             OnOk result ((waiting_of self.new ≡ waiting_behind C.sum_of self.old pid n) × (start_of self.new ≡ start_behind self.old pid n)) }
         ensures answers { let n = length (T.short (T.meaning item.now)) in
-            ReserveAnswers result (fault_of self.old) (kind_written kind pid false) (IsUsedUpFor self.old pid n) (open_for self.old pid n) (IsLeastOpen self.old) }
+            ReserveAnswers result (fault_of self.old) (kind_written kind pid false) (IsUsedUpFor self.old pid n) (open_for self.old pid n)
+            (IsLeastOpen self.old) }
         ensures keeps { Preserves D.trace C.sum_of self.old self.new }
         ensures same { KeepsAll self.old self.new }
         ensures err { OnErr result (IsUnchanged self.old self.new) }

@@ -40,7 +40,8 @@ pub fn restart<D: Device, C: Checksum>(log: Log<D, C>) -> (RunningConfig<D, C>, 
         → IfOk result.1 (λ s. Ready C.sum_of (segment_size_of log) (state_of (D.trace result.0.device)) (model_of s) H
         (max A (end_below (reserved_end log) H)) (stable_place s.stable_lsn)) }
     ensures did { let old = device_of log in let new = result.0.device in
-        Restarts C.sum_of (segment_size_of log) (flushing C.sum_of log) (IsUsedUpBelow log (reserved_end log)) (fault_of log) result.1 (D.trace old) (D.trace new) (D.faults old) (D.faults new) }
+        Restarts C.sum_of (segment_size_of log) (flushing C.sum_of log) (IsUsedUpBelow log (reserved_end log)) (fault_of log) result.1
+        (D.trace old) (D.trace new) (D.faults old) (D.faults new) }
     ensures crash { (H : History) (A f : ℕ) (U : List Message) → CanRestart D.trace C.sum_of log H A f U
         → LeavesOnly (RecoverableIfOwn C.sum_of (segment_size_of log) H A f) (D.trace (device_of log)) (D.trace result.0.device) }
     ensures kept { ConfigKept (config_of log) result.0 }

@@ -24,7 +24,8 @@ impl<D: Device, C: Checksum> Log<D, C> {
     pub(crate) fn head_for(&self, purpose: &Purpose, item_len: usize) -> Head
         ensures bytes { drop 4 (take result.len result.bytes)
             ≡ short_header_tail purpose.now.kind item_len ((current_of self.now).parts.site.place / segment_size_of self.now) purpose.now.page }
-        ensures len { result.len ≡ 4 + length (short_header_tail purpose.now.kind item_len ((current_of self.now).parts.site.place / segment_size_of self.now) purpose.now.page) }
+        ensures len { result.len
+            ≡ 4 + length (short_header_tail purpose.now.kind item_len ((current_of self.now).parts.site.place / segment_size_of self.now) purpose.now.page) }
     {
         let (site, _) = self.current();
         let number = SegmentNumber(site.place / self.config.config.segment_size);
@@ -62,12 +63,15 @@ impl<D: Device, C: Checksum> Log<D, C> {
 
     /// Begins the next segment for a record, which will begin it.
     pub(crate) fn begin_segment(&mut self) -> Result<()>
-        ensures line { OnOk result (line_of self.new ≡ next_line C.sum_of (segment_size_of self.old) (machine_at self.old) (synced_end self.old) (line_of self.old)) }
-        ensures machine { OnOk result (machine_at self.new ≡ handed_out ((current_of self.old).parts.site.place + segment_size_of self.old) (machine_at self.old)) }
+        ensures line { OnOk result (line_of self.new
+            ≡ next_line C.sum_of (segment_size_of self.old) (machine_at self.old) (synced_end self.old) (line_of self.old)) }
+        ensures machine { OnOk result (machine_at self.new
+            ≡ handed_out ((current_of self.old).parts.site.place + segment_size_of self.old) (machine_at self.old)) }
         ensures room { OnOk result (HasRoomIn (last_buffer self.new.buffer self.new.behind.items) (segment_size_of self.old - 20)) }
         ensures rest { ChangesSlots self.old self.new }
         ensures err { OnErr result (IsUnchanged self.old self.new) }
-        ensures answers { NextAnswers result (MayHandOut (segment_size_of self.old) ((current_of self.old).parts.site.place + segment_size_of self.old) (machine_at self.old)) }
+        ensures answers { NextAnswers result
+            (MayHandOut (segment_size_of self.old) ((current_of self.old).parts.site.place + segment_size_of self.old) (machine_at self.old)) }
     {
         let (site, _) = self.current();
         let to = site.place + self.config.config.segment_size + SEG_HEADER_LEN as u64;

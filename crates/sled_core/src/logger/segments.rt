@@ -119,13 +119,16 @@ impl<D: Device, C: Checksum> Log<D, C> {
         requires grows { reserved_end self.old ≤ to }
         requires behind { current_begin self.old < to }
         requires within { to ≤ (current_of self.old).parts.site.place + segment_size_of self.old + 20 }
-        ensures line { OnOk result (line_of self.new ≡ next_line C.sum_of (segment_size_of self.old) (machine_at self.old) (synced_end self.old) (line_of self.old)) }
-        ensures machine { OnOk result (machine_at self.new ≡ handed_out ((current_of self.old).parts.site.place + segment_size_of self.old) (machine_at self.old)) }
+        ensures line { OnOk result (line_of self.new
+            ≡ next_line C.sum_of (segment_size_of self.old) (machine_at self.old) (synced_end self.old) (line_of self.old)) }
+        ensures machine { OnOk result (machine_at self.new
+            ≡ handed_out ((current_of self.old).parts.site.place + segment_size_of self.old) (machine_at self.old)) }
         ensures reserved { OnOk result (self.new.reserved_to ≡ to) }
         ensures room { OnOk result (HasRoomIn (last_buffer self.new.buffer self.new.behind.items) (segment_size_of self.old - 20)) }
         ensures rest { ChangesSlots self.old self.new }
         ensures err { OnErr result (IsUnchanged self.old self.new) }
-        ensures answers { NextAnswers result (MayHandOut (segment_size_of self.old) ((current_of self.old).parts.site.place + segment_size_of self.old) (machine_at self.old)) }
+        ensures answers { NextAnswers result
+            (MayHandOut (segment_size_of self.old) ((current_of self.old).parts.site.place + segment_size_of self.old) (machine_at self.old)) }
     {
         let size = self.config.config.segment_size;
         let (site, _) = self.current();

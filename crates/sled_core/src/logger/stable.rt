@@ -39,7 +39,8 @@ impl<D: Device, C: Checksum> Log<D, C> {
             → OnOk result (Fits D.trace C.sum_of self.new H (max A (end_below (synced_end self.new) H)) f U) }
         ensures tickets { KeepsTickets self.old self.new }
         ensures position { SamePosition self.old self.new }
-        ensures answers { StableAnswers result lsn (synced_end self.old) (reserved_end self.old) (held_for C.sum_of self.old lsn) (IsUsedUpBelow self.old (behind_place lsn))
+        ensures answers { StableAnswers result lsn (synced_end self.old) (reserved_end self.old) (held_for C.sum_of self.old lsn)
+            (IsUsedUpBelow self.old (behind_place lsn))
             (fault_of self.old) (fault_of self.new) (D.faults (device_of self.old)) (D.faults (device_of self.new)) }
         ensures faulty { (e : IoError) → fault_of self.old ≡ Some e → self.new ≡ self.old }
         ensures refused { IsNotReserved result → self.new ≡ self.old }
