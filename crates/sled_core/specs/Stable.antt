@@ -1,5 +1,5 @@
 -- What makes a place durable, and why that fails.
-use Rattle.std.specs.Prelude.{◌≡◌, ◌⊎◌, ◌≤ℤ◌, ◌<ℤ◌, ◌+◌, ◌%◌, ◌^◌, ℕ, ℤ, pos, negsuc, int_lt, if◌then◌else◌, List, [], Option, None, Some, IsTrue, Result, Ok, Err}
+use Rattle.std.specs.Prelude.{◌≡◌, ◌⊎◌, ◌≤ℤ◌, ◌<ℤ◌, ◌+◌, ◌%◌, ◌^◌, ℕ, ℤ, pos, negsuc, int_lt, if◌then◌else◌, List, [], ◌∷◌, Option, None, Some, IsTrue, Result, Ok, Err}
 use Rattle.std.specs.declared.io.Error.{Error as IoError}
 use Rattle.sled_codec.specs.declared.result.Error.{Error}
 use Rattle.sled_codec.specs.declared.result.Error.TheVariants.{Io, OutOfMemory, Held, NotReserved, PlacesUsedUp}
@@ -8,6 +8,8 @@ use Rattle.sled_store.specs.Device.{Event}
 use Rattle.sled_core.specs.declared.logger.Log.{Log}
 use Rattle.sled_core.specs.Causes.{Answers, HeldAnswers}
 use Rattle.sled_core.specs.Fits.{holding_below, synced_end, writing_below}
+use Rattle.sled_core.specs.Keeps.{sealed_for, start_for}
+use Rattle.sled_core.specs.Waiting.{BufferAt, BufferStart, not_below}
 
 -- the place behind one
 abbrev pub behind_place : ℤ → ℕ
@@ -44,3 +46,12 @@ CloseAnswers (Err OutOfMemory) held used fault before after = (fault ≡ None) �
 CloseAnswers (Err PlacesUsedUp) held used fault before after = used × (fault ≡ None) × (after ≡ before)
 CloseAnswers (Err (Held at)) held used fault before after = ((place : ℕ) × (held ≡ Some place) × (at ≡ pos place)) × (used → ⊥) × (fault ≡ None) × (after ≡ before)
 CloseAnswers (Err _) held used fault before after = ⊥
+
+-- where the first of these buffers begins, or else the current one
+abbrev pub first_begin : List BufferAt → BufferStart → ℕ
+first_begin [] start = start.place
+first_begin (b ∷ bs) start = b.place
+
+-- the place behind the stable end, once the buffers that begin below a place are written: there the first one begins that is left
+abbrev pub stable_behind : {D C : Type 0} → (List ℕ → ℕ) → ℕ → Log D C → ℕ
+stable_behind sum to log = first_begin (not_below to (sealed_for sum to log)) (start_for to log)

@@ -12,7 +12,7 @@ ghost use Rattle.sled_core.specs.Fits.{IsUsedUpBelow, KeepsTickets, config_of, d
 ghost use Rattle.sled_core.specs.Keeps.{ConfigKept, Preserves, SamePosition, WritesBelow};
 ghost use Rattle.sled_core.specs.Recoverable.{LeavesRecoverable, RecoverableIfOwn};
 ghost use Rattle.sled_core.specs.Running.{Fits, end_below};
-ghost use Rattle.sled_core.specs.Stable.{behind_place, held_for, stabilizing, IsNotReserved, StableAnswers, CloseAnswers};
+ghost use Rattle.sled_core.specs.Stable.{behind_place, held_for, stabilizing, stable_behind, IsNotReserved, StableAnswers, CloseAnswers};
 
 use crate::logger::Log;
 use sled_codec::result::{Error, Lsn, Result};
@@ -67,7 +67,8 @@ impl<D: Device, C: Checksum> Log<D, C> {
     ///
     /// Those of `flush`. The configuration comes back with each of them.
     pub fn close(self) -> (RunningConfig<D, C>, Result<usize>)
-        ensures answer { IfOk result.1 (λ n. reserved_end self ≤ synced_end self + n) }
+        ensures answer { IfOk result.1 (λ n. stable_behind C.sum_of (reserved_end self) self ≡ synced_end self + n) }
+        ensures whole { IfOk result.1 (λ n. reserved_end self ≤ synced_end self + n) }
         ensures made { OnDone result.1 (D.trace result.0.device ≡ after_all (flushing C.sum_of self) (D.trace (device_of self))) }
         ensures at_most { Performs (flushing C.sum_of self) (D.trace (device_of self)) (D.trace result.0.device) }
         ensures acknowledges { (H : History) (A f : ℕ) (U : List Message) → Fits D.trace C.sum_of self H A f U

@@ -1,4 +1,4 @@
-use Rattle.std.proofs.Common.{ℕ, max, subst, sym, arith, inl, inr, Option, Result, Ok, Err}
+use Rattle.std.proofs.Common.{◌≡◌, ◌∙◌, ◌+◌, IfOk, OnOk, List, [], ◌∷◌, ℕ, max, subst, sym, arith, inl, inr, Option, Result, Ok, Err}
 use Rattle.std.specs.declared.io.Error.{Error as IoError}
 use Rattle.sled_codec.specs.declared.result.Error.{Error}
 use Rattle.sled_codec.specs.declared.result.Error.TheVariants.{Held, Io, OutOfMemory, PlacesUsedUp}
@@ -6,12 +6,16 @@ use Rattle.sled_store.specs.declared.config.RunningConfig.{RunningConfig}
 use Rattle.sled_store.specs.Device.{state_of}
 use Rattle.sled_store.specs.Moments.{LeavesOnly}
 use Rattle.sled_core.specs.Causes.{HeldAnswers}
-use Rattle.sled_core.specs.Fits.{IsUsedUpBelow, device_of, fault_of, holding_below, reserved_end, segment_size_of, synced_end}
+use Rattle.sled_core.specs.Fits.{FirstWaits, IsUsedUpBelow, current_begin, device_of, fault_of, holding_below, reserved_end, segment_size_of, start_of, synced_end, waiting_of}
+use Rattle.sled_core.specs.Keeps.{LeavesAbove}
 use Rattle.sled_core.specs.Recoverable.{LeavesRecoverable, RecoverableIfOwn}
 use Rattle.sled_core.specs.Running.{end_below}
-use Rattle.sled_core.specs.Stable.{CloseAnswers}
+use Rattle.sled_core.specs.Stable.{CloseAnswers, first_begin, stable_behind}
+use Rattle.sled_core.specs.Waiting.{BufferAt}
+use Rattle.sled_core.specs.declared.logger.Log.{Log}
 use Rattle.sled_core.proofs.Flush.Settled.{leaves_less}
 use Rattle.sled_core.proofs.Holds.LastEnds.{acknowledged_up}
+use Rattle.sled_core.proofs.Line.Buffers.{first_waits}
 use Rattle.sled_core.proofs.Line.Outcomes.{on_both}
 use Rattle.sled_core.proofs.logger.Log.close.Goals as goal
 
@@ -24,6 +28,24 @@ close_answers (Err OutOfMemory) held used fault now before after (old, new, same
 close_answers (Err PlacesUsedUp) held used fault now before after (is, old, new, same) = (is, old, same)
 close_answers (Err (Held at)) held used fault now before after (place, unused, old, new, same) = (place, unused, old, same)
 close_answers (Err _) held used fault now before after answers = absurd answers
+
+-- By how much the stable end grew: what is left begins there.
+
+stable_left : {D C : Type 0} (sum : List ℕ → ℕ) (to : ℕ) (old new : Log D C) → LeavesAbove sum to old new → stable_behind sum to old ≡ synced_end new
+stable_left sum to old new above = (λ i. first_begin (sym above.left i) (sym above.start i)) ∙ by_first (waiting_of new) (first_waits new) where
+  by_first : (bs : List BufferAt) → FirstWaits (synced_end new) (current_begin new) bs → first_begin bs (start_of new) ≡ synced_end new
+  by_first [] is = sym is
+  by_first (b ∷ bs) is = sym is
+
+grown : (r : Result ℕ Error) (P : Type 0) (behind now before : ℕ) → (P → behind ≡ now) → IfOk r (λ n. now ≡ before + n) → OnOk r P → IfOk r (λ n. behind ≡ before + n)
+grown (Ok n) P behind now before left grows is = left is ∙ grows
+grown (Err e) P behind now before left grows is = tt
+
+pub returns-clause-answer : goal.returns-clause-answer
+returns-clause-answer g c =
+    let old = c.args.self in
+    let new = c.flush-flushed.new.self in
+    grown c.flush-flushed.result _ _ (synced_end new) (synced_end old) (stable_left g.C.Checksum.sum_of (reserved_end old) old new) c.flush-flushed.ensures.answer c.flush-flushed.ensures.buffers.above
 
 pub returns-clause-answers : goal.returns-clause-answers
 returns-clause-answers g c =
