@@ -24,6 +24,9 @@ pub mod Moves
 pub mod Nexts
 pub mod NoneLeft
 pub mod Nth
+pub mod OpenBetween
+pub mod OpenPlaces
+pub mod OpenSeen
 pub mod Outcomes
 pub mod Positions
 pub mod Prepares

@@ -27,6 +27,7 @@ pub use Rattle.sled_core.proofs.Holds.LastEnds.{message_acknowledged, batch_ackn
 pub use Rattle.sled_core.proofs.Holds.ReachLemmas.{fits_holds, fits_acknowledged, fits_reach, fits_apart, fits_inline, awaited, awaited_inline, awaited_small, reserved_small}
 pub use Rattle.sled_core.proofs.Holds.RunningLemmas.{fits_leaves}
 pub use Rattle.sled_core.proofs.Line.Buffers.{first_waits}
+pub use Rattle.sled_core.proofs.Line.OpenSeen.{buffers_held, current_count, current_least, none_is_empty, ticket_places}
 
 -- Where no reservation was open, none is as long as nothing is another.
 pub unchanged_ended : {D C : Type 0} (old new : Log D C) → IsUnchanged old new → NoneOpen old → NoneOpen new

@@ -12,7 +12,6 @@ use Rattle.sled_store.specs.Accounts.{MayHandOut, machine_of}
 use Rattle.sled_store.specs.Device.{Event, Trace, LogState, State, state_of, at_rest}
 use Rattle.sled_store.specs.SegmentStates.{Machine, next_slot}
 use Rattle.sled_store.specs.SnapshotFiles.{BeginsFrom}
-use Rattle.sled_core.specs.declared.iobuf.ReservationState.TheVariants.{Open}
 use Rattle.sled_core.specs.declared.iobuf.Reserved.{Reserved}
 use Rattle.sled_core.specs.declared.iobuf.Sealed.{Sealed}
 use Rattle.sled_core.specs.declared.iobuf.SegmentPosition.{SegmentPosition}
@@ -23,11 +22,12 @@ use Rattle.sled_core.specs.Begun.{SegmentParts, SegmentView, begin_of, line_at, 
 use Rattle.sled_core.specs.Buffers.{Stands, IsChain, completed_in, message_in, none_open, open_in, first_open_in}
 use Rattle.sled_core.specs.FreeSlots.{HasSlots}
 use Rattle.sled_core.specs.LogFile.{IsLogFile, StaysBelow, StaysFrom}
+use Rattle.sled_core.specs.OpenPlaces.{open_places_along}
 use Rattle.sled_core.specs.Positions.{Position, behind_record, is_short, placed_at, pointer_at, position_in, size_at}
 use Rattle.sled_core.specs.Reached.{BegunSegment, FollowApart}
 use Rattle.sled_core.specs.Recoverable.{IsMarkOf}
 use Rattle.sled_core.specs.SealedBuffers.{AreSealed, AreZeros, Laid, sealed_count, sealed_end}
-use Rattle.sled_core.specs.Tickets.{index_of, place_of, IsFor}
+use Rattle.sled_core.specs.Tickets.{index_of, IsFor}
 use Rattle.sled_core.specs.Waiting.{BufferAt, BufferStart, at_last, buffers_in, closed_now, held_below, last_of, pending_in, spans, start_in, unwritten, write_pending, writes_below}
 
 -- What a caller sees of a log.
@@ -190,12 +190,9 @@ NoneOpenIn line = (n : ℕ) (v : SegmentView) → slice_get line n ≡ Some v �
 abbrev pub NoneOpen : {D C : Type 0} → Log D C → Type 0
 NoneOpen log = NoneOpenIn (line_of log)
 
--- none is, but for the one that the ticket is for
-abbrev pub IsOnlyOpenIn : List SegmentView → Reservation → Type 0
-IsOnlyOpenIn line ticket = (n : ℕ) (v : SegmentView) (i : ℕ) (r : Reserved) → slice_get line n ≡ Some v → slice_get v.parts.reserved i ≡ Some r → r.state ≡ Open → pos (v.parts.site.place + r.from) ≡ place_of ticket
-
-abbrev pub IsOnlyOpen : {D C : Type 0} → Log D C → Reservation → Type 0
-IsOnlyOpen log ticket = IsOnlyOpenIn (line_of log) ticket
+-- the places of all that are
+abbrev pub open_places : {D C : Type 0} → Log D C → List ℕ
+open_places log = open_places_along (line_of log)
 
 -- What a log has of its current segment over its device: the size of segments, where this one lies, what is on the device, the failure that the log keeps, the bytes, how many of them were written, the buffers that were sealed since, and the reservations since.
 pub record LogParts : Type 0 where
@@ -381,10 +378,10 @@ abbrev pub sealing_end : {D C : Type 0} → Log D C → ℕ
 sealing_end log = (current_of log).parts.site.place
     + (if is_short log.config.config.segment_size (length (current_of log).parts.bytes) then log.config.config.segment_size else length (current_of log).parts.bytes)
 
--- tickets are for what they were for, and where no reservation was open none is
+-- tickets are for what they were for, and the same reservations are open
 pub record KeepsTickets {D C : Type 0} (old new : Log D C) : Type 0 where
   pub awaits : (ticket : Reservation) (m : Message) → Awaits old ticket m → Awaits new ticket m
-  pub ended : NoneOpen old → NoneOpen new
+  pub opens : open_places new ≡ open_places old
 
 -- nothing that a caller sees of the log is another
 pub record IsUnchanged {D C : Type 0} (old new : Log D C) : Type 0 where

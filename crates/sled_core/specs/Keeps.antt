@@ -7,7 +7,7 @@ use Rattle.sled_store.specs.declared.config.RunningConfig.{RunningConfig}
 use Rattle.sled_store.specs.Device.{Trace}
 use Rattle.sled_store.specs.Moments.{IsLater, LeavesOnly}
 use Rattle.sled_core.specs.declared.logger.Log.{Log}
-use Rattle.sled_core.specs.Fits.{Holds, NoneSealed, buffers_of, config_of, current_begin, current_of, device_of, machine_at, pins_of, position_of, reserved_end, segment_size_of, start_of, synced_end, waiting_of}
+use Rattle.sled_core.specs.Fits.{Holds, NoneSealed, buffers_of, config_of, current_begin, current_of, device_of, fault_of, line_of, machine_at, pins_of, position_of, reserved_end, segment_size_of, start_of, synced_end, waiting_of}
 use Rattle.sled_store.specs.SegmentStates.{next_slot}
 use Rattle.sled_core.specs.Positions.{is_short}
 use Rattle.sled_core.specs.Waiting.{BufferAt, BufferStart, not_below}
@@ -51,6 +51,18 @@ pub record SamePosition {D C : Type 0} (old new : Log D C) : Type 0 where
   pub reserved : reserved_end new ≡ reserved_end old
   pub pins : pins_of new ≡ pins_of old
   pub size : segment_size_of new ≡ segment_size_of old
+
+-- Nothing that a caller sees of the log is another, but for its device.
+pub record IsUnchangedOver {D C : Type 0} (old new : Log D C) : Type 0 where
+  pub line : line_of new ≡ line_of old
+  pub waiting : waiting_of new ≡ waiting_of old
+  pub start : start_of new ≡ start_of old
+  pub synced : synced_end new ≡ synced_end old
+  pub reserved : reserved_end new ≡ reserved_end old
+  pub fault : fault_of new ≡ fault_of old
+  pub pins : pins_of new ≡ pins_of old
+  pub machine : machine_at new ≡ machine_at old
+  pub config : ConfigKept (config_of old) (config_of new)
 
 -- where the current buffer begins once it is sealed: behind itself, or with the next segment, where no further record has room in its own
 abbrev pub start_sealed : {D C : Type 0} → Log D C → BufferStart

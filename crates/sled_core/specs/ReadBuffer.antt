@@ -1,5 +1,5 @@
 -- What a read writes first: the one buffer that has the place, where that isn't stable; and what it answers.
-use Rattle.std.specs.Prelude.{◌≡◌, ◌⊎◌, ◌≤ℤ◌, ◌<ℤ◌, ◌<◌, int_lt, unsigned_abs, ℕ, ℤ, pos, true, if◌then◌else◌, List, [], Option, None, Some, Result, Ok, Err, OnOk}
+use Rattle.std.specs.Prelude.{◌≡◌, ◌⊎◌, ◌≤ℤ◌, ◌<ℤ◌, ◌<◌, int_lt, nat_le, unsigned_abs, ℕ, ℤ, pos, true, if◌then◌else◌, List, [], Option, None, Some, Result, Ok, Err, OnOk, OnErr}
 use Rattle.std.specs.declared.io.Error.{Error as IoError}
 use Rattle.sled_codec.specs.declared.result.Error.{Error}
 use Rattle.sled_codec.specs.declared.result.Error.TheVariants.{Io, OutOfMemory, Held, NotReserved, Corruption, PlacesUsedUp}
@@ -9,10 +9,11 @@ use Rattle.sled_store.specs.Device.{Event, Trace}
 use Rattle.sled_store.specs.Script.{Performs, after_all}
 use Rattle.sled_core.specs.declared.logger.Log.{Log}
 use Rattle.sled_core.specs.Causes.{IsFault, IsHeld, OnDone}
-use Rattle.sled_core.specs.Fits.{IsUsedUp, NoneSealed, buffers_of, current_begin, device_of, fault_of, reserved_end, sealing_end, segment_size_of, synced_end, waiting_of}
+use Rattle.sled_core.specs.Fits.{IsUsedUp, NoneSealed, buffers_of, current_begin, device_of, fault_of, reserved_end, sealing_end, segment_size_of, start_of, synced_end, waiting_of}
+use Rattle.sled_core.specs.Keeps.{start_sealed}
 use Rattle.sled_core.specs.Reading.{IsNoPlace}
 use Rattle.sled_core.specs.Stable.{IsNotReserved}
-use Rattle.sled_core.specs.Waiting.{held_around, none_around, write_around}
+use Rattle.sled_core.specs.Waiting.{BufferAt, BufferStart, held_around, none_around, without_around, write_around}
 
 -- The calls that bring the buffer of a place to the device: none where the place is stable, or its buffer is written or has an open reservation; else one write of that whole buffer, and a sync.
 abbrev pub settling : {D C : Type 0} → (List ℕ → ℕ) → Log D C → ℤ → List Event
@@ -46,6 +47,33 @@ pub record SealsAround {T D C : Type 0} (result : Result T Error) (lsn : ℤ) (o
   pub once : (current_begin new ≡ current_begin old) ⊎ (current_begin new ≡ sealing_end old)
   pub held : IsHeld result → lsn <ℤ pos (current_begin new)
   pub none : NoneSealed old → OnOk result (NoneSealed new)
+
+-- the sealed buffers, once the current one is sealed where it has a place
+abbrev pub sealed_at : {D C : Type 0} → (List ℕ → ℕ) → ℕ → Log D C → List BufferAt
+sealed_at sum place log = if nat_le (current_begin log) place then buffers_of sum log else waiting_of log
+
+-- and where the current one begins then
+abbrev pub start_at : {D C : Type 0} → ℕ → Log D C → BufferStart
+start_at place log = if nat_le (current_begin log) place then start_sealed log else start_of log
+
+-- the buffers are as they were
+abbrev pub LeavesUnsealed : {D C : Type 0} → (List ℕ → ℕ) → ℕ → Log D C → Log D C → Type 0
+LeavesUnsealed sum place old new = (waiting_of new ≡ waiting_of old) × (start_of new ≡ start_of old)
+
+-- the current one is sealed where it has the place
+abbrev pub LeavesSealed : {D C : Type 0} → (List ℕ → ℕ) → ℕ → Log D C → Log D C → Type 0
+LeavesSealed sum place old new = (waiting_of new ≡ sealed_at sum place old) × (start_of new ≡ start_at place old)
+
+-- and the one that has the place is written besides
+abbrev pub LeavesWritten : {D C : Type 0} → (List ℕ → ℕ) → ℕ → Log D C → Log D C → Type 0
+LeavesWritten sum place old new = (waiting_of new ≡ without_around place (sealed_at sum place old)) × (start_of new ≡ start_at place old)
+
+-- What a read of a place that isn't stable leaves of the buffers: where it succeeds the one that has the place is written; where it is held that one is sealed; else one of the three.
+pub record WritesAround {T D C : Type 0} (sum : List ℕ → ℕ) (result : Result T Error) (lsn : ℤ) (old new : Log D C) : Type 0 where
+  pub still : lsn <ℤ pos (synced_end old) → LeavesUnsealed sum (unsigned_abs lsn) old new
+  pub written : pos (synced_end old) ≤ℤ lsn → OnOk result (LeavesWritten sum (unsigned_abs lsn) old new)
+  pub held : IsHeld result → LeavesSealed sum (unsigned_abs lsn) old new
+  pub some : OnErr result (LeavesUnsealed sum (unsigned_abs lsn) old new ⊎ LeavesSealed sum (unsigned_abs lsn) old new ⊎ LeavesWritten sum (unsigned_abs lsn) old new)
 
 -- What a read refuses, where the log keeps no failure: what is no place as damage, and then a place that wasn't reserved as that. The log is as it was.
 pub record RefusesPlace {T D C : Type 0} (result : Result T Error) (lsn : ℤ) (lid : ℕ) (old new : Log D C) : Type 0 where

@@ -6,7 +6,7 @@ use Rattle.sled_codec.specs.declared.result.Error.TheVariants.{Io, OutOfMemory, 
 use Rattle.sled_store.specs.Answers.{is_fault}
 use Rattle.sled_store.specs.Device.{Event}
 use Rattle.sled_core.specs.declared.logger.Log.{Log}
-use Rattle.sled_core.specs.Causes.{Answers, HeldAnswers}
+use Rattle.sled_core.specs.Causes.{HeldAnswers, IsFault}
 use Rattle.sled_core.specs.Fits.{holding_below, synced_end, writing_below}
 use Rattle.sled_core.specs.Keeps.{sealed_for, start_for}
 use Rattle.sled_core.specs.Waiting.{BufferAt, BufferStart, not_below}
@@ -29,14 +29,15 @@ abbrev pub IsNotReserved : {T : Type 0} → Result T Error → Type 0
 IsNotReserved (Err (NotReserved at)) = Unit {0}
 IsNotReserved _ = ⊥
 
--- A call that makes a place durable, where what was reserved ends before this one: as each that may touch the device. That the place was not reserved it answers exactly where that lies behind it and behind the stable end, and no failure is kept.
+-- A call that makes a place durable, where what was reserved ends before this one: as each that may touch the device. That the place was not reserved it answers exactly where that lies behind it and behind the stable end, and no failure is kept. The device fails in it only where the place was reserved.
 abbrev pub StableAnswers : {T : Type 0} → Result T Error → ℤ → ℕ → ℕ → Option ℕ → Type 0 → Option IoError → Option IoError → ℕ → ℕ → Type 0
 StableAnswers (Err (NotReserved at)) lsn stable end held used old new before after = (at ≡ lsn) × (pos stable ≤ℤ lsn) × (pos end ≤ℤ lsn) × (old ≡ None) × (new ≡ None) × (after ≡ before)
 StableAnswers (Ok n) lsn stable end held used old new before after = ((lsn <ℤ pos stable) ⊎ (lsn <ℤ pos end)) × HeldAnswers (Ok n) held used old new before after
 StableAnswers (Err OutOfMemory) lsn stable end held used old new before after = (pos stable ≤ℤ lsn) × (lsn <ℤ pos end) × (old ≡ None) × (new ≡ None) × (after ≡ before)
 StableAnswers (Err (Held at)) lsn stable end held used old new before after = (lsn <ℤ pos end) × HeldAnswers {T = ℕ} (Err (Held at)) held used old new before after
 StableAnswers (Err PlacesUsedUp) lsn stable end held used old new before after = (lsn <ℤ pos end) × HeldAnswers {T = ℕ} (Err PlacesUsedUp) held used old new before after
-StableAnswers (Err e) lsn stable end held used old new before after = Answers {T = ℕ} (Err e) old new before after
+StableAnswers (Err (Io e)) lsn stable end held used old new before after = (old ≡ None → lsn <ℤ pos end) × IsFault e old new before after
+StableAnswers (Err _) lsn stable end held used old new before after = ⊥
 
 -- The last flush of a log, of which a reservation may be open: it failed for the failure that the log kept, for one of this call, which is counted, for want of memory or of a further segment, or was held.
 abbrev pub CloseAnswers : {T : Type 0} → Result T Error → Option ℕ → Type 0 → Option IoError → ℕ → ℕ → Type 0

@@ -19,8 +19,13 @@ pointer_of ticket = ticket.pointer
 abbrev pub index_of : Reservation → ℕ
 index_of ticket = ticket.index
 
+-- how long its record is
+abbrev pub len_of : Reservation → ℕ
+len_of ticket = ticket.len
+
 -- a ticket is for this reservation in the segment that lies there, and that is open
 pub record IsFor (site : SegmentPosition) (r : Reserved) (ticket : Reservation) : Type 0 where
   pub open_yet : r.state ≡ Open
   pub place : place_of ticket ≡ pos (site.place + r.from)
   pub pointer : pointer_of ticket ≡ Inline (site.slot + r.from)
+  pub long : len_of ticket ≡ r.len

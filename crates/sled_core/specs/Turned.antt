@@ -18,7 +18,7 @@ use Rattle.sled_core.specs.Buffers.{ended, most_open, open_in}
 use Rattle.sled_core.specs.Fits.{current_of, segment_size_of}
 use Rattle.sled_core.specs.SealedBuffers.{behind_run, bytes_between, first_ready, is_ready, one_ended, run_count, run_end, sealed_count, sealed_end, writing, written_at}
 use Rattle.sled_core.specs.declared.reservation.Reservation.{Reservation}
-use Rattle.sled_core.specs.Tickets.{IsFor, index_of, place_of, pointer_of}
+use Rattle.sled_core.specs.Tickets.{IsFor, index_of, len_of, place_of, pointer_of}
 use Rattle.sled_core.specs.Waiting.{at_last, closed_now, last_of, with_parts}
 
 -- the segment behind one of these, in the slot that is handed out next: its header alone, whose mark is the last stable place
@@ -97,11 +97,12 @@ pub record HasPlace {D C : Type 0} (log : Log D C) (len : ℕ) : Type 0 where
   pub header : length (current_of log).parts.bytes + 32 ≤ segment_size_of log
   pub record_fits : length (current_of log).parts.bytes + len ≤ segment_size_of log
 
--- the ticket is for what is reserved next behind all bytes of that segment
-pub record IsTicketFor {D C : Type 0} (log : Log D C) (ticket : Reservation) : Type 0 where
+-- the ticket is for what is reserved next behind all bytes of that segment, with a record of this length
+pub record IsTicketFor {D C : Type 0} (log : Log D C) (ticket : Reservation) (len : ℕ) : Type 0 where
   pub index : index_of ticket ≡ (current_of log).gone + length (current_of log).parts.reserved
   pub place : place_of ticket ≡ pos ((current_of log).parts.site.place + length (current_of log).parts.bytes)
   pub pointer : pointer_of ticket ≡ Inline ((current_of log).parts.site.slot + length (current_of log).parts.bytes)
+  pub long : len_of ticket ≡ len
 
 -- A reservation of a segment is open, by their numbers.
 pub record HasOpenIn (line : List SegmentView) (n index : ℕ) : Type 0 where

@@ -158,6 +158,11 @@ abbrev pub none_around : ℕ → List BufferAt → Bool
 none_around at [] = true
 none_around at (b ∷ bs) = if has_place at b then false else none_around at bs
 
+-- all of them but the first that has a place
+abbrev pub without_around : ℕ → List BufferAt → List BufferAt
+without_around at [] = []
+without_around at (b ∷ bs) = if has_place at b then bs else b ∷ without_around at bs
+
 -- What is seen of a buffer: its places, and where it begins in the file.
 pub record Span : Type 0 where
   pub place : ℕ

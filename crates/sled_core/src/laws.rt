@@ -1,6 +1,6 @@
 //! Laws of logs, each the contract of a function that does nothing. A proof cites them by the lemmas of
 //! `proofs/PublicLaws.antt`.
-ghost use Rattle.std.specs.Prelude.{◌≡◌, ◌⊎◌, ◌≤◌, ◌<◌, ◌≤ℤ◌, ◌<ℤ◌, ◌+◌, ◌/◌, ◌%◌, ◌^◌, ◌∷◌, ◌++◌, ℕ, ℤ, pos, true, List, [], replicate, None, length, ◌-◌, Contains};
+ghost use Rattle.std.specs.Prelude.{◌≡◌, ◌↔◌, ◌⊎◌, ◌≤◌, ◌<◌, ◌≤ℤ◌, ◌<ℤ◌, ◌+◌, ◌/◌, ◌%◌, ◌^◌, ◌∷◌, ◌++◌, ℕ, ℤ, pos, true, List, [], replicate, None, length, ◌-◌, Contains};
 ghost use Rattle.std.specs.Int.{w64, cast_signed, cast_unsigned};
 ghost use Rattle.std.specs.List.{All};
 ghost use Rattle.sled_codec.specs.History.{Message, Batch, History, no_history};
@@ -8,15 +8,16 @@ ghost use Rattle.sled_codec.specs.Record.{IsHeader};
 ghost use Rattle.sled_codec.specs.WellFormed.{LieApart};
 ghost use Rattle.sled_store.specs.Device.{Trace, State, Left, Leaves, Crashed, state_of, content_of, content_left, at_rest, fresh, Content, Settled, Wrote, Synced, step};
 ghost use Rattle.sled_store.specs.Moments.{IsLater, LeavesOnly};
-ghost use Rattle.sled_core.specs.Fits.{Awaits, Holds, IsUnchanged, IsWritten, NoneOpen, buffers_of, current_begin, device_of, held_len, is_moved, next_place, reserved_end, sealing_end, segment_size_of, start_behind, start_of, synced_end, waiting_behind, waiting_of};
+ghost use Rattle.sled_core.specs.Fits.{Awaits, Holds, IsLeastOpen, IsUnchanged, IsWritten, NoneOpen, buffers_of, current_begin, device_of, held_len, is_moved, next_place, open_of, open_places, reserved_end, sealing_end, segment_size_of, start_behind, start_of, synced_end, waiting_behind, waiting_of};
 ghost use Rattle.sled_codec.specs.Snapshots.{SnapshotModel, empty_model};
 ghost use Rattle.sled_core.specs.Waiting.{HasLength, spans};
 ghost use Rattle.sled_core.specs.Keeps.{GoesOn, Preserves};
 ghost use Rattle.sled_core.specs.Reading.{IsInline};
 ghost use Rattle.sled_core.specs.Ready.{IsReady};
 ghost use Rattle.sled_core.specs.Recoverable.{NoForeign, Recoverable, RecoverableIfOwn, LeavesRecoverable, NoHeaderOfZeros};
+ghost use Rattle.sled_core.specs.OpenPlaces.{first_between, places_from};
 ghost use Rattle.sled_core.specs.Running.{Fits, Ready, end_below};
-ghost use Rattle.sled_core.specs.Tickets.{place_of, pointer_of};
+ghost use Rattle.sled_core.specs.Tickets.{len_of, place_of, pointer_of};
 ghost use Rattle.sled_core.specs.Own.{IsSomeRecord, written_out_of_order, IsReachedToEnd};
 ghost use Rattle.sled_core.specs.StableEnds.{LiesIn, IsContiguousEnd, IsHalfSynced, IsStableEnd, AreApart};
 ghost use Rattle.sled_codec.specs.Sums.{place_sum};
@@ -79,6 +80,19 @@ pub fn where_none_is_open_none_is_held<D: Device, C: Checksum>()
     ensures { (log : Log D C) → NoneOpen log → All (λ b. b.held ≡ None) (buffers_of C.sum_of log) }
 {}
 
+/// The places of the open reservations of a log say what is seen of them: there are none exactly where none is open; a buffer
+/// that isn't on the device, the current one as it would be sealed, is held up by the first of them within it; those from
+/// where the current buffer begins on are its own: as many as it has open ones, and the first is the least place of these;
+/// and a ticket is for one of them.
+pub fn open_reservations_are_seen<D: Device, C: Checksum>()
+    ensures none { (log : Log D C) → NoneOpen log ↔ (open_places log ≡ []) }
+    ensures held { (log : Log D C) → All (λ b. b.held ≡ first_between b.place b.end (open_places log)) (buffers_of C.sum_of log) }
+    ensures count { (log : Log D C) → open_of log ≡ length (places_from (current_begin log) (open_places log)) }
+    ensures least { (log : Log D C) (at : ℤ) → IsLeastOpen log at
+        → (place : ℕ) × (rest : List ℕ) × (places_from (current_begin log) (open_places log) ≡ place ∷ rest) × (at ≡ pos place) }
+    ensures awaits { (log : Log D C) (ticket : Reservation) (m : Message) → Awaits log ticket m → Contains (open_places log) m.place }
+{}
+
 /// What is ready for a log with more acknowledged is ready for it with less.
 pub fn less_is_acknowledged_before<C: Checksum>()
     ensures { (size : ℕ) (device : State) (s : SnapshotModel) (H : History) (A less f : ℕ) → less ≤ A → Ready C.sum_of size device s H A f
@@ -95,9 +109,10 @@ pub fn a_place_comes_back()
     ensures { (z : ℤ) (n : ℕ) → z ≡ pos n → n < 2 ^ 63 → pos n ≡ cast_signed w64 (cast_unsigned w64 z) }
 {}
 
-/// A ticket says where its message lies.
+/// A ticket says where its message lies, and how long its record is.
 pub fn a_ticket_says_the_place<D: Device, C: Checksum>()
-    ensures { (log : Log D C) (ticket : Reservation) (m : Message) → Awaits log ticket m → (pos m.place ≡ place_of ticket) × (m.pointer ≡ pointer_of ticket) }
+    ensures { (log : Log D C) (ticket : Reservation) (m : Message) → Awaits log ticket m
+        → (pos m.place ≡ place_of ticket) × (m.pointer ≡ pointer_of ticket) × (m.size ≡ len_of ticket) }
 {}
 
 /// What a crash leaves now of the device of a log can be recovered, without any call.

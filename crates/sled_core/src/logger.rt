@@ -2,7 +2,7 @@
 //!
 //! A log keeps the bytes of its segments that aren't wholly on the device, the reservations in them, the accountant of all
 //! segments, the count of pins, and the first failure of its device, which it answers from then on. `specs/Fits.antt` says which history it holds.
-ghost use Rattle.std.specs.Prelude.{List, ◌≡◌, ◌≢◌, ◌↔◌, ◌+◌, ◌-◌, ◌<◌, ◌≤◌, ◌^◌, ◌∷◌, ◌-ℤ◌, ◌<ℤ◌, ◌≤ℤ◌, pos, [], ℕ, length, drop, false, IsTrue, IfOk, IfErr, OnOk, OnErr, Contains, None, Some, ◌⊎◌, ◌/◌, unsigned_abs, ℤ, max};
+ghost use Rattle.std.specs.Prelude.{List, ◌++◌, ◌≡◌, ◌≢◌, ◌↔◌, ◌+◌, ◌-◌, ◌<◌, ◌≤◌, ◌^◌, ◌∷◌, ◌-ℤ◌, ◌<ℤ◌, ◌≤ℤ◌, pos, [], ℕ, length, drop, false, IsTrue, IfOk, IfErr, OnOk, OnErr, Contains, None, Some, ◌⊎◌, ◌/◌, unsigned_abs, ℤ, max};
 ghost use Rattle.std.specs.declared.io.Error.{Error as IoError};
 ghost use Rattle.sled_codec.specs.Kinds.{kind_written};
 ghost use Rattle.sled_codec.specs.History.{History, Message, Completed, Step};
@@ -27,6 +27,7 @@ ghost use Rattle.sled_core.specs.Begun.{AreFilled, AreFilled-prop, FollowOn, Fol
 ghost use Rattle.sled_core.specs.Causes.{FaultAnswers, RecordAnswers, ReserveAnswers, failure_in};
 
 mod abort;
+mod crash;
 mod ending;
 pub mod read_at;
 pub mod read_message;
@@ -76,9 +77,10 @@ pub struct Log<D, C> {
 }
 
 impl<D: Device, C: Checksum> Log<D, C> {
-    ghost use Rattle.sled_core.specs.Fits.{Holds, NoneOpen, Awaits, IsOpen, IsOnlyOpen, FitsInline, IsUnchanged, IsUsedUpFor, fault_of, open_for, IsLeastOpen, synced_end, reserved_end, pins_of, config_of, device_of, HasRecordOf, line_of, manifest_page, message_for, position_behind, position_of, segment_size_of, size_for, target_of, waiting_behind, waiting_of, current_begin, FirstWaits, KeepsBuffers, start_behind, start_of, KeepsAll, KeepsTickets};
+    ghost use Rattle.sled_core.specs.Fits.{Holds, open_places, Awaits, IsOpen, FitsInline, IsUnchanged, IsUsedUpFor, fault_of, open_for, IsLeastOpen, synced_end, reserved_end, pins_of, config_of, device_of, HasRecordOf, line_of, manifest_page, message_for, position_behind, position_of, segment_size_of, size_for, target_of, waiting_behind, waiting_of, current_begin, FirstWaits, KeepsBuffers, start_behind, start_of, KeepsAll, KeepsTickets};
+    ghost use Rattle.sled_core.specs.OpenPlaces.{TakesOut};
     ghost use Rattle.sled_core.specs.Keeps.{ConfigKept, GoesOn, Preserves, SamePosition};
-    ghost use Rattle.sled_core.specs.ReadBuffer.{IsUsedUpAt, ReadAnswers, RefusesPlace, SealsAround, Settles, held_at};
+    ghost use Rattle.sled_core.specs.ReadBuffer.{IsUsedUpAt, ReadAnswers, RefusesPlace, SealsAround, Settles, WritesAround, held_at};
     ghost use Rattle.sled_core.specs.Ready.{IsReady};
     ghost use Rattle.sled_core.specs.Running.{Fits, Ready, end_below};
     ghost use Rattle.sled_core.specs.Starts.{BeginsBehind, StartsOrRefuses, config_left};
@@ -203,7 +205,8 @@ impl<D: Device, C: Checksum> Log<D, C> {
         ensures reserved { let n = length (T.short (T.meaning item.now)) in
             OnOk result (reserved_end self.new ≡ (target_of self.old pid n).place + size_for self.old pid n) }
         ensures others { (ticket : Reservation) (m : Message) → Awaits self.old ticket m → Awaits self.new ticket m }
-        ensures open { NoneOpen self.old → IfOk result (IsOnlyOpen self.new) }
+        ensures opens { let n = length (T.short (T.meaning item.now)) in
+            OnOk result (open_places self.new ≡ open_places self.old ++ (target_of self.old pid n).place ∷ []) }
         ensures seals { let n = length (T.short (T.meaning item.now)) in
             OnOk result ((waiting_of self.new ≡ waiting_behind C.sum_of self.old pid n) × (start_of self.new ≡ start_behind self.old pid n)) }
         ensures answers { let n = length (T.short (T.meaning item.now)) in
@@ -249,7 +252,7 @@ impl<D: Device, C: Checksum> Log<D, C> {
             → OnOk result ((H' : History) × Step H (Completed m) H' × Holds D.trace C.sum_of self.new H') }
         ensures others { (H : History) (other : Reservation) (m : Message) → Holds D.trace C.sum_of self.old H
             → Awaits self.old other m → place_of other ≢ place_of ticket → Awaits self.new other m }
-        ensures ended { IsOnlyOpen self.old ticket → OnOk result (NoneOpen self.new) }
+        ensures opens { (place : ℕ) → pos place ≡ place_of ticket → OnOk result (TakesOut place (open_places self.old) (open_places self.new)) }
         ensures answers { FaultAnswers result (fault_of self.old) }
         ensures fits { (H : History) (A f : ℕ) (U : List Message) (m : Message)
             → Fits D.trace C.sum_of self.old H A f U → Awaits self.old ticket m → 0 < pins_of self.old
@@ -299,6 +302,7 @@ impl<D: Device, C: Checksum> Log<D, C> {
         ensures calls { Settles D.trace C.sum_of result lsn (lid_of ptr) self.old self.new }
         ensures refused { RefusesPlace result lsn (lid_of ptr) self.old self.new }
         ensures seals { SealsAround result lsn self.old self.new }
+        ensures buffers { WritesAround C.sum_of result lsn self.old self.new }
         ensures keeps { Preserves D.trace C.sum_of self.old self.new }
         ensures tickets { KeepsTickets self.old self.new }
         ensures position { SamePosition self.old self.new }

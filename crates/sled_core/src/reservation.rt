@@ -10,21 +10,25 @@ pub struct Reservation {
     pointer: DiskPtr,
     // Which reservation of its buffer it is.
     index: usize,
+    // How long the record is.
+    len: usize,
 }
 
 impl Reservation {
     ghost use Rattle.std.specs.Prelude.{◌≡◌, pos};
-    ghost use Rattle.sled_core.specs.Tickets.{place_of, pointer_of, index_of};
+    ghost use Rattle.sled_core.specs.Tickets.{place_of, pointer_of, index_of, len_of};
 
-    pub(crate) fn new(lsn: Lsn, pointer: DiskPtr, index: usize) -> Reservation
+    pub(crate) fn new(lsn: Lsn, pointer: DiskPtr, index: usize, len: usize) -> Reservation
         ensures place { place_of result ≡ lsn }
         ensures pointer { pointer_of result ≡ pointer }
         ensures index { index_of result ≡ index }
+        ensures len { len_of result ≡ len }
     {
         Reservation {
             lsn,
             pointer,
             index,
+            len,
         }
     }
 
@@ -42,6 +46,13 @@ impl Reservation {
         self.pointer
     }
 
+    /// Returns how many bytes the record has in the log, its header counted.
+    pub fn reservation_len(&self) -> usize
+        ensures { result ≡ len_of self.now }
+    {
+        self.len
+    }
+
     pub(crate) fn index(&self) -> usize
         ensures { result ≡ index_of self.now }
     {
@@ -55,6 +66,7 @@ impl Reservation {
             lsn: _,
             pointer: _,
             index: _,
+            len: _,
         } = self;
     }
 }

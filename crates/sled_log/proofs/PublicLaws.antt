@@ -13,7 +13,8 @@ use Rattle.sled_log.specs.Replaces.{HasLast, IsOfReplaces}
 use Rattle.sled_store.proofs.Histories.Ascending.{Ascends, apart_ascends, in_first, in_rest, in_cases, in_nothing, later_above}
 use Rattle.sled_log.proofs.PageTable.PageRuns.{links_behind}
 use Rattle.sled_store.proofs.Histories.TableParts.{in_page, page_ascends, has_page}
-pub use Rattle.sled_log.proofs.Sessions.RunHistories.{orderly, none_orderly, completed, forgotten, new_there}
+pub use Rattle.sled_log.proofs.Sessions.RunHistories.{orderly, none_orderly, completed, forgotten}
+pub use Rattle.sled_log.proofs.Sessions.MadeHistories.{new_there}
 pub use Rattle.sled_log.proofs.PageTable.TableCuts.{table_below}
 pub use Rattle.sled_store.proofs.Histories.TableParts.{from_page, from_table}
 

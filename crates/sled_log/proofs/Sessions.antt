@@ -1,4 +1,14 @@
-pub mod RunBuffers
+pub mod Carried
+pub mod EndedTickets
+pub mod Endings
+pub mod MadeHistories
+pub mod MadePages
+pub mod MadeTables
+pub mod Reading
+pub mod Reserving
 pub mod RunHistories
 pub mod RunLemmas
 pub mod RunLogs
+pub mod SpentTickets
+pub mod TicketsSeen
+pub mod Writing

@@ -1,53 +1,30 @@
--- What stands in each phase of a run.
-use Rattle.std.specs.Prelude.{◌≡◌, ◌^◌, ◌-◌, ◌<◌, ℕ, List, length, Option, None, Some, Contains, Bool}
+-- What stands in each phase of a session.
+use Rattle.std.specs.Prelude.{◌≡◌, ◌+◌, ◌≤◌, ◌<◌, ℕ, Bool, false, List, [], ◌∷◌, length, map, get_or, slice_get, Option, None, Some}
 use Rattle.std.specs.List.{All}
-use Rattle.sled_codec.specs.declared.serialization.message.LogKind.TheVariants.{Replace}
 use Rattle.sled_codec.specs.History.{Message, History}
-use Rattle.sled_codec.specs.WellFormed.{LieApart}
-use Rattle.sled_codec.specs.Snapshots.{SnapshotModel, model_of, stable_place}
+use Rattle.sled_codec.specs.PageTables.{IsTable}
+use Rattle.sled_codec.specs.Snapshots.{SnapshotModel, page_of, stable_place}
 use Rattle.sled_store.specs.Device.{Trace, state_of}
 use Rattle.sled_store.specs.Moments.{IsLater}
 use Rattle.sled_store.specs.declared.config.RunningConfig.{RunningConfig}
-use Rattle.sled_core.specs.Fits.{NoneOpen, Awaits, IsOnlyOpen, IsOpen, config_of, fault_of, pins_of, position_of, reserved_end, start_of, synced_end, waiting_of}
+use Rattle.sled_core.specs.declared.logger.Log.{Log}
+use Rattle.sled_core.specs.Fits.{Awaits, config_of, fault_of, open_places, pins_of, position_of, reserved_end, start_of, synced_end, waiting_of}
 use Rattle.sled_core.specs.Waiting.{spans}
 use Rattle.sled_core.specs.Keeps.{ConfigKept}
 use Rattle.sled_core.specs.Recoverable.{LeavesRecoverable}
 use Rattle.sled_core.specs.Running.{Fits, Ready}
-use Rattle.sled_log.specs.declared.session.step.Phase.{Phase}
-use Rattle.sled_log.specs.declared.session.step.Phase.TheVariants.{Closed, Open, Waiting}
-use Rattle.sled_log.specs.declared.session.step.Opened.{Opened}
-use Rattle.sled_log.specs.declared.session.step.Ticket.{Ticket}
+use Rattle.sled_log.specs.declared.session.Session.{Session}
+use Rattle.sled_log.specs.declared.session.Phase.{Phase}
+use Rattle.sled_log.specs.declared.session.Phase.TheVariants.{Closed, Open}
+use Rattle.sled_log.specs.declared.session.opened.Opened.{Opened}
+use Rattle.sled_log.specs.declared.session.opened.Ticket.{Ticket}
 use Rattle.sled_log.specs.declared.session.command.Command.{Command}
 use Rattle.sled_log.specs.declared.session.command.Reply.{Reply}
 use Rattle.sled_log.specs.declared.session.command.Reply.TheVariants as reply
-use Rattle.sled_log.specs.RunStates.{DeviceView, LogView, RunState, ShowsActive, length_of, started_on}
-use Rattle.sled_log.specs.Runs.{IsOwn, IsOutOfTurn, IsRefusedWhere, IsStartCause, Acts, IsStep}
-
--- a message of a page lies below a place
-pub record HasBelow (messages : List Message) (page place : ℕ) : Type 0 where
-  pub message : Message
-  pub there : Contains messages message
-  pub of : message.page ≡ page
-  pub below : message.place < place
-
--- A history of Replaces alone that lie one behind another, each with one of each lower page before it.
-pub record IsOfReplaces (H : History) : Type 0 where
-  pub apart : LieApart H.messages
-  pub replaces : All (λ m. m.kind ≡ Replace) H.messages
-  pub pages : All (λ m. m.page < 2 ^ 64 - 1) H.messages
-  pub lower : (m : Message) → Contains H.messages m → (page : ℕ) → page < m.page → HasBelow H.messages page m.place
-
--- a Replace that may come to such a history
-pub record MayCome (H : History) (m : Message) : Type 0 where
-  pub replaces : m.kind ≡ Replace
-  pub small : m.page < 2 ^ 64 - 1
-  pub lower : (page : ℕ) → page < m.page → HasBelow H.messages page m.place
-
--- a page has a message
-pub record HasMessageOf (messages : List Message) (page : ℕ) : Type 0 where
-  pub message : Message
-  pub there : Contains messages message
-  pub of : message.page ≡ page
+use Rattle.sled_log.specs.Made.{IsMade, MayJoin}
+use Rattle.sled_log.specs.Refusals.{reason_of, refusal_for}
+use Rattle.sled_log.specs.RunStates.{DeviceView, LogView, RunState, ShowsActive, has_page, length_of, open_messages, started_on, top}
+use Rattle.sled_log.specs.Runs.{IsOwn, IsStartCause, Acts, Carries, IsStep}
 
 -- What is seen of what code has.
 
@@ -59,38 +36,41 @@ view_by trace faults stopped stops device = record { trace = trace device; failu
 abbrev pub traces : {D : Type 0} → (D → DeviceView) → D → Trace
 traces view device = (view device).trace
 
--- what is seen of a log that is open, with the message of its reservation
-abbrev pub seen : {D C : Type 0} → Opened D C → Option Message → LogView
-seen opened reserved =
+-- what is seen of a log, with so many pages begun and with the messages of its tickets
+abbrev pub seen_log : {D C : Type 0} → Log D C → ℕ → List (Option Message) → LogView
+seen_log log begun tickets =
     record {
-      position = position_of opened.log;
-      stable = synced_end opened.log;
-      end = reserved_end opened.log;
-      waiting = spans (waiting_of opened.log);
-      start = start_of opened.log;
-      begun = opened.begun;
-      fault = fault_of opened.log;
-      reserved = reserved;
+      position = position_of log;
+      stable = synced_end log;
+      end = reserved_end log;
+      waiting = spans (waiting_of log);
+      start = start_of log;
+      begun = begun;
+      fault = fault_of log;
+      outstanding = open_places log;
+      tickets = tickets;
     }
 
--- What a run keeps in mind that its code doesn't store.
+-- the same of one that is open in a session
+abbrev pub seen : {D C : Type 0} → Opened D C → List (Option Message) → LogView
+seen opened tickets = seen_log opened.log (length opened.pages.items) tickets
+
+-- What a session keeps in mind that its code doesn't store.
 pub record Unstored : Type 0 where
   pub history : History
   pub acknowledged : ℕ
   pub floor : ℕ
-  pub reserved : Option Message
+  pub tickets : List (Option Message)
 
 -- the log in a phase
-abbrev pub log_in : {D C : Type 0} → Phase D C → Option Message → Option LogView
-log_in (Closed config) reserved = None
-log_in (Open opened) reserved = Some (seen opened None)
-log_in (Waiting opened ticket) reserved = Some (seen opened reserved)
+abbrev pub log_in : {D C : Type 0} → Phase D C → List (Option Message) → Option LogView
+log_in (Closed config) tickets = None
+log_in (Open opened) tickets = Some (seen opened tickets)
 
 -- what a phase runs on
 abbrev pub running : {D C : Type 0} → Phase D C → RunningConfig D C
 running (Closed config) = config
 running (Open opened) = config_of opened.log
-running (Waiting opened ticket) = config_of opened.log
 
 -- the device that is seen in a phase
 abbrev pub device_in : {D C : Type 0} → (D → DeviceView) → Phase D C → DeviceView
@@ -99,7 +79,7 @@ device_in view phase = view (running phase).device
 -- where a run stands in a phase
 abbrev pub stands : {D C : Type 0} → (D → DeviceView) → Phase D C → Unstored → RunState
 stands view phase k =
-    record { device = device_in view phase; history = k.history; acknowledged = k.acknowledged; floor = k.floor; log = log_in phase k.reserved }
+    record { device = device_in view phase; history = k.history; acknowledged = k.acknowledged; floor = k.floor; log = log_in phase k.tickets }
 
 -- the size of its segments
 abbrev pub size_of : {D C : Type 0} → Phase D C → ℕ
@@ -109,98 +89,96 @@ size_of phase = (running phase).config.segment_size
 
 -- No log is open: a recovery can go on from what the device has.
 pub record IsClosedAt (sum : List ℕ → ℕ) (size : ℕ) (trace : Trace) (k : Unstored) : Type 0 where
-  pub formed : IsOfReplaces k.history
+  pub made : IsMade k.history
   pub left : LeavesRecoverable sum size k.history k.acknowledged k.floor (state_of trace)
 
--- A log is open that fits the history, with a pin out.
+-- The ticket of a number is for this message, which may come to the history.
+pub record IsTicketFor {D C : Type 0} (opened : Opened D C) (H : History) (n : ℕ) (m : Message) : Type 0 where
+  pub ticket : Ticket
+  pub there : slice_get opened.tickets.items n ≡ Some (Some ticket)
+  pub kind : ticket.kind ≡ m.kind
+  pub page : ticket.page ≡ m.page
+  pub awaits : Awaits opened.log ticket.reservation m
+  pub may_join : MayJoin H m
+  pub begins : m.place < reserved_end opened.log
+  pub ends : m.place + m.size ≤ reserved_end opened.log
+
+-- places one above another
+abbrev pub AreRising : List ℕ → Type 0
+AreRising [] = Unit {0}
+AreRising (p ∷ ps) = All (λ q. p < q) ps × AreRising ps
+
+-- The tickets that are open are for these messages, by number and so by place; no two are of one page, and as long as the log keeps no failure no other reservation of it is open.
+pub record HasTickets {D C : Type 0} (opened : Opened D C) (H : History) (tickets : List (Option Message)) : Type 0 where
+  pub as_many : length opened.tickets.items ≡ length tickets
+  pub each : (n : ℕ) (m : Message) → slice_get tickets n ≡ Some (Some m) → IsTicketFor opened H n m
+  pub gone : (n : ℕ) → slice_get tickets n ≡ Some None → slice_get opened.tickets.items n ≡ Some None
+  pub apart : (i j : ℕ) (m n : Message) → slice_get tickets i ≡ Some (Some m) → slice_get tickets j ≡ Some (Some n) → m.page ≡ n.page → i ≡ j
+  pub rising : AreRising (map (λ m. m.place) (open_messages tickets))
+  pub are_all : fault_of opened.log ≡ None → open_places opened.log ≡ map (λ m. m.place) (open_messages tickets)
+  pub busy : (page : ℕ) → get_or opened.busy.items page false ≡ has_page page (open_messages tickets)
+
+-- A log is open that fits the history, with a pin out, and with the table of it.
 pub record IsOpenAt {D C : Type 0} (trace : D → Trace) (sum : List ℕ → ℕ) (opened : Opened D C) (k : Unstored) : Type 0 where
-  pub formed : IsOfReplaces k.history
+  pub made : IsMade k.history
   pub unmarked : List Message
   pub fits : Fits trace sum opened.log k.history k.acknowledged k.floor unmarked
   pub pinned : 0 < pins_of opened.log
-  pub begun : (page : ℕ) → page < opened.begun → HasMessageOf k.history.messages page
-
--- A reservation is open for a Replace that may come.
-pub record IsWaitingFor {D C : Type 0} (opened : Opened D C) (ticket : Ticket) (k : Unstored) : Type 0 where
-  pub message : Message
-  pub reserved : k.reserved ≡ Some message
-  pub awaits : Awaits opened.log ticket.reservation message
-  pub page : message.page ≡ ticket.page
-  pub may_come : MayCome k.history message
+  pub table : IsTable (map page_of opened.pages.items) k.history top
+  pub tickets : HasTickets opened k.history k.tickets
+  pub ends : All (λ m. m.place + m.size ≤ reserved_end opened.log) k.history.messages
 
 -- What holds in a phase.
 abbrev pub IsAt : {D C : Type 0} → (D → Trace) → (List ℕ → ℕ) → Phase D C → Unstored → Type 0
 IsAt trace sum (Closed config) k = IsClosedAt sum config.config.segment_size (trace config.device) k
 IsAt trace sum (Open opened) k = IsOpenAt trace sum opened k
-IsAt trace sum (Waiting opened ticket) k = IsOpenAt trace sum opened k × IsWaitingFor opened ticket k
 
--- no reservation of the log is open
-abbrev pub HasNoneOpen : {D C : Type 0} → Opened D C → Type 0
-HasNoneOpen opened = NoneOpen opened.log
-
--- the ticket is for the one reservation of the log that is open, and the log keeps no failure
-pub record HasOneOpen {D C : Type 0} (opened : Opened D C) (ticket : Ticket) : Type 0 where
-  pub open_yet : IsOpen opened.log ticket.reservation
-  pub only : IsOnlyOpen opened.log ticket.reservation
-  pub page : ticket.page < 2 ^ 64 - 1
-  pub fault : fault_of opened.log ≡ None
-
--- whatever happened, the phase is one in which calls can be made
-abbrev pub CanGoOn : {D C : Type 0} → Phase D C → Type 0
-CanGoOn (Closed config) = Unit {0}
-CanGoOn (Open opened) = HasNoneOpen opened
-CanGoOn (Waiting opened ticket) = HasOneOpen opened ticket
-
--- A command is answered in its turn, and leads from a phase to the next one: what holds there holds again, unless what is foreign was read or left.
-pub record CarriesOutAt {D C : Type 0} (view : D → DeviceView) (sum : List ℕ → ℕ) (phase : Phase D C) (command : Command) (result : Phase D C × Reply)
-    (k : Unstored) : Type 0 where
-  pub turn : IsRefusedWhere (IsOutOfTurn (size_of phase) (log_in phase k.reserved) command) result.1
+-- A command that isn't refused leads from a phase to the next one: what holds there holds again, unless what is foreign was read or left.
+pub record Does {D C : Type 0} (view : D → DeviceView) (sum : List ℕ → ℕ) (phase : Phase D C) (command : Command) (result : Phase D C × Reply) (k : Unstored) : Type 0 where
+  pub not_refused : reason_of result.1 ≡ None
   pub acts : Acts sum (size_of phase) (stands view phase k) command result.1 (device_in view result.0)
   pub step : IsOwn sum (size_of phase) (state_of (device_in view phase).trace) command result.1
       → (l : Unstored) × IsStep sum (size_of phase) (stands view phase k) command result.1 (device_in view result.0) (stands view result.0 l)
       × IsAt (traces view) sum result.0 l
 
 abbrev pub CarriesOut : {D C : Type 0} → (D → DeviceView) → (List ℕ → ℕ) → Phase D C → Command → Phase D C × Reply → Type 0
-CarriesOut view sum phase command result = (k : Unstored) → IsAt (traces view) sum phase k → CarriesOutAt view sum phase command result k
+CarriesOut view sum phase command result =
+    (k : Unstored) → IsAt (traces view) sum phase k → refusal_for (size_of phase) (stands view phase k) command ≡ None → Does view sum phase command result k
+
+-- Where a run stands in a phase, with what holds there.
+abbrev pub StandsIn : {D C : Type 0} → (D → DeviceView) → (List ℕ → ℕ) → Phase D C → RunState → Type 0
+StandsIn view sum phase a = (k : Unstored) × (a ≡ stands view phase k) × IsAt (traces view) sum phase k
+
+-- A command is answered from a phase, and leads to the next one.
+abbrev pub AnswersIn : {D C : Type 0} → (D → DeviceView) → (List ℕ → ℕ) → Phase D C → Command → Phase D C × Reply → Type 0
+AnswersIn view sum phase command result = (a : RunState) → StandsIn view sum phase a → Carries sum (size_of phase) a command result.1 (StandsIn view sum result.0)
 
 -- the trace goes on, with the same sizes and the same checksum
 pub record RunsOn {D C : Type 0} (trace : D → Trace) (old new : RunningConfig D C) : Type 0 where
   pub later : IsLater (trace old.device) (trace new.device)
   pub kept : ConfigKept old new
 
--- whatever happened, the next phase goes on from the one before
-pub record Continues {D C : Type 0} (trace : D → Trace) (phase next : Phase D C) : Type 0 where
-  pub runs_on : RunsOn trace (running phase) (running next)
-  pub can_go_on : CanGoOn next
-
--- A recovery has left this: a table of which each page has a message, with the segment in which a log goes on, and on which a log can be started.
+-- A recovery has left this: a table of which each page is begun, with the segment in which a log goes on, and on which a log can be started.
 pub record IsRecoveredAt {D C : Type 0} (trace : D → Trace) (sum : List ℕ → ℕ) (config : RunningConfig D C) (s : SnapshotModel) (k : Unstored) : Type 0 where
   pub closed : IsClosedAt sum config.config.segment_size (trace config.device) k
   pub active : ShowsActive config.config.segment_size (stable_place s.stable) s.active
   pub ready : Ready sum config.config.segment_size (state_of (trace config.device)) s k.history k.acknowledged k.floor
-  pub begun : (page : ℕ) → page < length s.pages → HasMessageOf k.history.messages page
+  pub table : IsTable s.pages k.history top
+  pub ends : All (λ m. m.place + m.size ≤ stable_place s.stable) k.history.messages
 
--- a reply that shows this recovered table
-abbrev pub Shows : SnapshotModel → Reply → Type 0
-Shows s (reply.Opened t) = model_of t ≡ s
-Shows s (reply.Recovered t e) = model_of t ≡ s
-Shows s _ = ⊥
+-- Where a session stands.
 
--- the log that a reply shows, started on a log file of this length, and why none is open
-abbrev pub log_shown : ℕ → ℕ → SnapshotModel → Reply → Option LogView
-log_shown size len s (reply.Opened t) = Some (started_on size len s)
-log_shown size len s _ = None
+abbrev pub StandsAtPhase : {D C : Type 0} → (D → DeviceView) → (List ℕ → ℕ) → Option (Phase D C) → RunState → Type 0
+StandsAtPhase view sum None a = ⊥
+StandsAtPhase view sum (Some phase) a = StandsIn view sum phase a
 
-abbrev pub SaysWhy : Reply → ℕ → ℕ → Type 0
-SaysWhy (reply.Recovered t e) before after = IsStartCause e before after
-SaysWhy _ before after = Unit {0}
+unfoldable pub StandsAt : {D C : Type 0} → (D → DeviceView) → (List ℕ → ℕ) → Session D C → RunState → Type 0
+StandsAt view sum session a = StandsAtPhase view sum session.phase a
 
--- What a start makes of a table that was recovered.
-pub record HasStarted {D C : Type 0} (view : D → DeviceView) (sum : List ℕ → ℕ) (config : RunningConfig D C) (s : SnapshotModel) (result : Phase D C × Reply)
-    (k : Unstored) : Type 0 where
-  pub log : log_in result.0 None ≡ log_shown config.config.segment_size (length_of (view config.device)) s result.1
-  pub at : IsAt (traces view) sum result.0 k
-  pub why : SaysWhy result.1 (view config.device).failures (device_in view result.0).failures
+-- the size of its segments
+abbrev pub size_in : {D C : Type 0} → Option (Phase D C) → ℕ
+size_in None = 0
+size_in (Some phase) = size_of phase
 
-abbrev pub Starts : {D C : Type 0} → (D → DeviceView) → (List ℕ → ℕ) → RunningConfig D C → SnapshotModel → Phase D C × Reply → Type 0
-Starts view sum config s result = (k : Unstored) → IsRecoveredAt (traces view) sum config s k → HasStarted view sum config s result k
+abbrev pub segment_size_in : {D C : Type 0} → Session D C → ℕ
+segment_size_in session = size_in session.phase

@@ -1,13 +1,14 @@
 -- Where a run of commands stands between two commands.
-use Rattle.std.specs.Prelude.{◌≡◌, ◌≤◌, ◌<◌, ◌+◌, ◌-◌, ◌%◌, ◌^◌, ◌∷◌, ◌++◌, nat_lt, if◌then◌else◌, ℕ, Bool, List, [], length, Option, None, Some}
+use Rattle.std.specs.Prelude.{◌≡◌, ◌≤◌, ◌<◌, ◌≤ℤ◌, ◌<ℤ◌, ◌+◌, ◌-◌, ◌%◌, ◌^◌, ◌&&◌, ◌==◌, ◌∷◌, ◌++◌, nat_lt, nat_le, zero, suc, if◌then◌else◌, ℕ, Bool, true, false, List, [], length, map, Option, None, Some}
 use Rattle.std.specs.declared.io.Error.{Error as IoError}
-use Rattle.sled_codec.specs.declared.serialization.message.LogKind.TheVariants as does
+use Rattle.sled_codec.specs.declared.serialization.message.LogKind.{LogKind}
 use Rattle.sled_codec.specs.Snapshots.{SnapshotModel, stable_place}
-use Rattle.sled_codec.specs.History.{Message, History, no_history, below}
+use Rattle.sled_codec.specs.History.{Message, History, no_history, below, is_replace, table}
 use Rattle.sled_store.specs.Device.{Trace, state_of}
 use Rattle.sled_core.specs.Positions.{Position, placed_at, pointer_at, size_at}
 use Rattle.sled_core.specs.Starts.{position_from, start_from}
-use Rattle.sled_core.specs.Waiting.{BufferStart, Span}
+use Rattle.sled_core.specs.OpenPlaces.{first_between}
+use Rattle.sled_core.specs.Waiting.{BufferStart, Span, first_held, is_unheld}
 
 -- What is seen of a device between two commands.
 pub record DeviceView : Type 0 where
@@ -40,8 +41,10 @@ pub record LogView : Type 0 where
   pub begun : ℕ
   -- the failure of the device that it keeps
   pub fault : Option IoError
-  -- the message of the reservation that is open
-  pub reserved : Option Message
+  -- the places of the reservations that are open
+  pub outstanding : List ℕ
+  -- the messages of those that have a ticket, by number: each of them, but for a ticket that was spent while the log kept a failure
+  pub tickets : List (Option Message)
 
 -- Where a run stands: its device, the completed messages, the end of what was acknowledged, the cut of the last recovery, and the log, where one is open.
 pub record RunState : Type 0 where
@@ -76,18 +79,19 @@ started_on size len s = record {
   start = start_from size len s;
   begun = length s.pages;
   fault = None;
-  reserved = None;
+  outstanding = [];
+  tickets = [];
 }
 
 -- where the record of a page with an item of n bytes is put
 abbrev pub target_in : ℕ → LogView → ℕ → ℕ → Position
 target_in size l page n = placed_at size l.position page n
 
--- the message of a Replace of a page with these bytes that is reserved next
-abbrev pub replace_at : ℕ → LogView → ℕ → List ℕ → Message
-replace_at size l page bytes =
+-- the message of a page with these bytes that is reserved next
+abbrev pub message_at : ℕ → LogView → LogKind → ℕ → List ℕ → Message
+message_at size l kind page bytes =
     let q = target_in size l page (length bytes) in
-    record { kind = does.Replace; page = page; place = q.place; pointer = pointer_at q; size = size_at size l.position page (length bytes); bytes = bytes }
+    record { kind = kind; page = page; place = q.place; pointer = pointer_at q; size = size_at size l.position page (length bytes); bytes = bytes }
 
 -- The segment of a position ends in reach, in the log and in the file.
 pub record EndsInReach (size : ℕ) (q : Position) : Type 0 where
@@ -116,15 +120,28 @@ waiting_with l q = if is_behind l q then l.waiting ++ current_span l q ∷ [] el
 abbrev pub start_with : LogView → Position → BufferStart
 start_with l q = if is_behind l q then next_start l q else l.start
 
--- The sealed buffers, once the current one is sealed, where anything in it was reserved; and where the current one begins then.
-abbrev pub is_pending : LogView → Bool
-is_pending l = nat_lt l.start.place l.end
+-- The sealed buffers, once those that begin below a place are sealed; and where the current one begins then.
+abbrev pub sealed_below : ℕ → LogView → List Span
+sealed_below to l = if nat_lt l.start.place to then l.waiting ++ current_span l l.position ∷ [] else l.waiting
 
-abbrev pub sealed_in : LogView → List Span
-sealed_in l = if is_pending l then l.waiting ++ current_span l l.position ∷ [] else l.waiting
+abbrev pub start_below : ℕ → LogView → BufferStart
+start_below to l = if nat_lt l.start.place to then next_start l l.position else l.start
 
-abbrev pub start_sealed_in : LogView → BufferStart
-start_sealed_in l = if is_pending l then next_start l l.position else l.start
+-- The same once the buffer of a place is sealed.
+abbrev pub sealed_around : ℕ → LogView → List Span
+sealed_around at l = if nat_le l.start.place at then l.waiting ++ current_span l l.position ∷ [] else l.waiting
+
+abbrev pub start_around : ℕ → LogView → BufferStart
+start_around at l = if nat_le l.start.place at then next_start l l.position else l.start
+
+-- a buffer has a place
+abbrev pub spans_place : ℕ → Span → Bool
+spans_place at s = nat_le s.place at && nat_lt at s.end
+
+-- all of them but the first that has a place
+abbrev pub spans_without : ℕ → List Span → List Span
+spans_without at [] = []
+spans_without at (s ∷ ss) = if spans_place at s then ss else s ∷ spans_without at ss
 
 -- of buffers one behind another, those that begin below a place, and the others
 abbrev pub spans_below : ℕ → List Span → List Span
@@ -144,3 +161,72 @@ first_waiting (b ∷ bs) start = b.place
 abbrev pub ShowsActive : ℕ → ℕ → Option ℕ → Type 0
 ShowsActive size place None = place % size ≡ 0
 ShowsActive size place (Some slot) = (slot % size ≡ 0) × (20 ≤ place % size) × (place % size + 32 ≤ size)
+
+-- Tickets.
+
+-- the messages of those that are open
+abbrev pub open_messages : List (Option Message) → List Message
+open_messages [] = []
+open_messages (None ∷ ts) = open_messages ts
+open_messages (Some m ∷ ts) = m ∷ open_messages ts
+
+-- the places of the open reservations
+abbrev pub opens : LogView → List ℕ
+opens l = l.outstanding
+
+-- the others, once one of them is ended
+abbrev pub places_without : ℕ → List ℕ → List ℕ
+places_without place [] = []
+places_without place (p ∷ ps) = if p == place then ps else p ∷ places_without place ps
+
+-- one of them is of a page
+abbrev pub has_page : ℕ → List Message → Bool
+has_page page [] = false
+has_page page (m ∷ ms) = if m.page == page then true else has_page page ms
+
+-- a ticket is open
+abbrev pub is_some : Option Message → Bool
+is_some None = false
+is_some (Some m) = true
+
+abbrev pub has_ticket : ℕ → List (Option Message) → Bool
+has_ticket n [] = false
+has_ticket zero (t ∷ ts) = is_some t
+has_ticket (suc n) (t ∷ ts) = has_ticket n ts
+
+-- the least place of the open reservations of a buffer, and of several
+abbrev pub held : List ℕ → Span → Option ℕ
+held places s = first_between s.place s.end places
+
+abbrev pub held_among : List ℕ → List Span → Option ℕ
+held_among places [] = None
+held_among places (s ∷ ss) = first_held (held places s) (held_among places ss)
+
+-- how many of these buffers can be written
+abbrev pub count_unheld : List ℕ → List Span → ℕ
+count_unheld places [] = 0
+count_unheld places (s ∷ ss) = if is_unheld (held places s) then suc (count_unheld places ss) else count_unheld places ss
+
+abbrev pub pending_in_view : LogView → ℕ
+pending_in_view l = count_unheld (opens l) l.waiting
+
+-- all of them but the i-th that can be written
+abbrev pub without_unheld : List ℕ → ℕ → List Span → List Span
+without_unheld places i [] = []
+without_unheld places i (s ∷ ss) =
+    if is_unheld (held places s) then (if i == 0 then ss else s ∷ without_unheld places (i - 1) ss) else s ∷ without_unheld places i ss
+
+-- Pages.
+
+-- above all places
+abbrev pub top : ℕ
+top = 2 ^ 63
+
+-- what a page is: its last Replace or Free, and behind a Replace the Links on it
+abbrev pub page_now : History → ℕ → List Message
+page_now H page = table H top page
+
+-- it is present
+abbrev pub is_present : List Message → Bool
+is_present [] = false
+is_present (m ∷ ms) = is_replace m.kind

@@ -1,12 +1,15 @@
 -- What runs of commands come to: what each command does to the device, what it is answered, and where the run stands then.
-use Rattle.std.specs.Prelude.{◌≡◌, ◌⊎◌, ◌↔◌, ◌+◌, ◌-◌, ◌%◌, ◌^◌, ◌==◌, ◌<◌, ◌≤◌, ◌∷◌, ℕ, ℤ, pos, max, if◌then◌else◌, IsTrue, IsSome, List, [], length, drop, Option, None, Some, false}
+use Rattle.std.specs.Prelude.{◌≡◌, ◌⊎◌, ◌↔◌, ◌+◌, ◌≤◌, ◌≤ℤ◌, ◌<ℤ◌, ◌<◌, ◌%◌, ◌^◌, ◌==◌, ◌∷◌, ◌++◌, nat_lt, ℕ, ℤ, pos, max, set, if◌then◌else◌, Bool, true, false, IsTrue, IsSome, List, [], length, map, drop, slice_get, Option, None, Some, Vec}
 use Rattle.std.specs.List.{All}
+use Rattle.std.specs.declared.alloc.Global.{Global}
 use Rattle.std.specs.declared.io.Error.{Error as IoError}
 use Rattle.sled_codec.specs.declared.result.DiskPtr.{DiskPtr}
 use Rattle.sled_codec.specs.declared.result.Error.{Error}
-use Rattle.sled_codec.specs.declared.result.Error.TheVariants.{Io, OutOfMemory, PlacesUsedUp}
+use Rattle.sled_codec.specs.declared.result.Error.TheVariants.{Held, Io, NotReserved, OutOfMemory, PlacesUsedUp}
+use Rattle.sled_codec.specs.declared.serialization.message.LogKind.{LogKind}
+use Rattle.sled_codec.specs.declared.serialization.message.LogKind.TheVariants as does
 use Rattle.sled_codec.specs.Spelling.{short_bytes}
-use Rattle.sled_codec.specs.Snapshots.{SnapshotModel, model_of, stable_place}
+use Rattle.sled_codec.specs.Snapshots.{SnapshotModel, stable_place}
 use Rattle.sled_codec.specs.History.{Message, History, Step, Completed}
 use Rattle.sled_store.specs.declared.device.choice.Choice.{Choice}
 use Rattle.sled_store.specs.Device.{Event, Left, Trace, State, Synced, NamesSynced, Crashed, Settled, state_of, content_of, content_left}
@@ -17,11 +20,15 @@ use Rattle.sled_store.specs.Script.{Performs, after_all}
 use Rattle.sled_store.specs.Begin.{IsStartable, IsInReach}
 use Rattle.sled_store.specs.Started.{started}
 use Rattle.sled_store.specs.Causes.{StartRefuses}
+use Rattle.sled_core.specs.Buffers.{most_open}
 use Rattle.sled_core.specs.Causes.{IsFault}
 use Rattle.sled_core.specs.declared.iobuf.SegmentPosition.{SegmentPosition}
-use Rattle.sled_core.specs.Fits.{FitsInline, IsKept}
+use Rattle.sled_core.specs.Fits.{IsKept}
+use Rattle.sled_core.specs.OpenPlaces.{places_from}
 use Rattle.sled_core.specs.Positions.{Position, behind_record}
-use Rattle.sled_core.specs.Waiting.{BufferAt, BufferStart, HasLength, Span, all_writes, spans}
+use Rattle.sled_core.specs.SealedBuffers.{writing}
+use Rattle.sled_core.specs.Stable.{behind_place}
+use Rattle.sled_core.specs.Waiting.{BufferAt, BufferStart, HasLength, Span, spans, unless_held, write_around, write_pending}
 use Rattle.sled_core.specs.Good.{IsGood}
 use Rattle.sled_core.specs.Recoverable.{NoForeign}
 use Rattle.sled_core.specs.Running.{end_below}
@@ -30,7 +37,8 @@ use Rattle.sled_log.specs.declared.session.command.Command.TheVariants as comman
 use Rattle.sled_log.specs.declared.session.command.Reply.{Reply}
 use Rattle.sled_log.specs.declared.session.command.Reply.TheVariants as reply
 use Rattle.sled_log.specs.Recovery.{RecoveryResult, Recovered, Recovers}
-use Rattle.sled_log.specs.RunStates.{DeviceView, EndsInReach, LogView, RunState, first_waiting, length_of, with_log, recovered, sealed_in, spans_below, spans_from, start_sealed_in, start_with, started_on, replace_at, target_in, waiting_with, ShowsActive}
+use Rattle.sled_log.specs.Refusals.{reason_of, refusal_for}
+use Rattle.sled_log.specs.RunStates.{DeviceView, EndsInReach, LogView, RunState, ShowsActive, first_waiting, held, held_among, is_behind, is_present, length_of, message_at, opens, page_now, places_without, recovered, sealed_around, sealed_below, spans_below, spans_from, spans_place, spans_without, start_around, start_below, start_with, started_on, target_in, waiting_with, with_log, without_unheld}
 use Rattle.sled_log.specs.WritesBack.{HasWrittenBack}
 use Rattle.sled_log.specs.Restores.{RecoveryCalls}
 
@@ -47,27 +55,6 @@ IsOwn sum size s command.Open r = NoForeign sum size s (content_of s)
 IsOwn sum size s (command.Crash choice) r = NoForeign sum size s (content_left (left_after choice r) s)
 IsOwn sum size s _ r = Unit {0}
 
--- Turns.
-
--- A command is out of its turn, at a log that is open or none.
-abbrev pub IsOutOfTurn : ℕ → Option LogView → Command → Type 0
-IsOutOfTurn size log (command.Crash choice) = ⊥
-IsOutOfTurn size None command.Open = ⊥
-IsOutOfTurn size None (command.Stop n) = ⊥
-IsOutOfTurn size None _ = Unit {0}
-IsOutOfTurn size (Some l) command.Open = Unit {0}
-IsOutOfTurn size (Some l) (command.Stop n) = Unit {0}
-IsOutOfTurn size (Some l) command.Halt = ⊥
-IsOutOfTurn size (Some l) command.Complete = l.reserved ≡ None
-IsOutOfTurn size (Some l) command.Flush = IsSome l.reserved
-IsOutOfTurn size (Some l) (command.Replace page item) =
-    IsSome l.reserved ⊎ (l.begun < page) ⊎ (page ≡ 2 ^ 64 - 1) ⊎ (FitsInline size (length (short_bytes item.items)) → ⊥)
-
--- a command is refused exactly where it is out of its turn
-abbrev pub IsRefusedWhere : Type 0 → Reply → Type 0
-IsRefusedWhere out reply.Refused = out
-IsRefusedWhere out _ = out → ⊥
-
 -- What a command does to the device, whatever that has.
 
 -- A recovery was made that shows this: the device was settled, and what the newest snapshot and the log file come to was written back.
@@ -82,57 +69,87 @@ pub record HasRecovered (sum : List ℕ → ℕ) (size : ℕ) (old new : DeviceV
 abbrev pub starting : ℕ → Trace → SnapshotModel → List Event
 starting size trace s = (started size (length (state_of trace).log.bytes) s).calls
 
--- A log was started on what was recovered, where one can begin on that and a further segment is in reach; or the calls for it were made up to one that failed; or none where it is refused.
-abbrev pub StartActs : ℕ → DeviceView → Reply → DeviceView → Type 0
-StartActs size old (reply.Opened s) new =
-    IsStartable size (length_of old) (model_of s) × IsInReach size (length_of old) (model_of s)
-    × (new.trace ≡ after_all (starting size old.trace (model_of s)) old.trace) × (new.failures ≡ old.failures)
-StartActs size old (reply.Recovered s e) new =
-    StartRefuses e (IsStartable size (length_of old) (model_of s)) (IsInReach size (length_of old) (model_of s)) (new.trace ≡ old.trace) old.failures new.failures
-    × Performs (starting size old.trace (model_of s)) old.trace new.trace
-StartActs size old _ new = ⊥
+-- A log was started on what was recovered: one can begin on that, and a further segment is in reach.
+pub record HasStarted (size : ℕ) (old new : DeviceView) (s : SnapshotModel) : Type 0 where
+  pub startable : IsStartable size (length_of old) s
+  pub in_reach : IsInReach size (length_of old) s
+  pub made : new.trace ≡ after_all (starting size old.trace s) old.trace
+  pub failures : new.failures ≡ old.failures
+
+-- None was: the calls for it were made up to one that failed, or none where it is refused.
+pub record StartFailed (size : ℕ) (e : Error) (old new : DeviceView) (s : SnapshotModel) : Type 0 where
+  pub cause : StartRefuses e (IsStartable size (length_of old) s) (IsInReach size (length_of old) s) (new.trace ≡ old.trace) old.failures new.failures
+  pub calls : Performs (starting size old.trace s) old.trace new.trace
 
 -- A recovery was made and a log started on what it shows, or its calls were made up to one that failed.
 abbrev pub OpenActs : (List ℕ → ℕ) → ℕ → DeviceView → Reply → DeviceView → Type 0
-OpenActs sum size old (reply.Opened s) new =
-    (mid : DeviceView) × HasRecovered sum size old mid (model_of s) × StartActs size mid (reply.Opened s) new
-OpenActs sum size old (reply.Recovered s e) new =
-    (mid : DeviceView) × HasRecovered sum size old mid (model_of s) × StartActs size mid (reply.Recovered s e) new
-OpenActs sum size old (reply.Failed e) new = RecoveryCalls sum size old.trace new.trace
-OpenActs sum size old reply.Refused new = new ≡ old
+OpenActs sum size old (reply.Opened stable active pages) new = (s : SnapshotModel) × (mid : DeviceView) × HasRecovered sum size old mid s × HasStarted size mid new s
+OpenActs sum size old (reply.Failed e) new =
+    RecoveryCalls sum size old.trace new.trace ⊎ ((s : SnapshotModel) × (mid : DeviceView) × HasRecovered sum size old mid s × StartFailed size e mid new s)
 OpenActs sum size old _ new = ⊥
 
--- What a flush writes of a log: the buffers that begin below the end of what was reserved, each as a whole.
-pub record Flushes (l : LogView) : Type 0 where
-  pub buffers : List BufferAt
-  pub are : spans buffers ≡ spans_below l.end (sealed_in l)
-  pub long : All HasLength buffers
+-- These buffers of a log, with its open reservations at these places, are seen so: each as a whole, and what holds it up.
+pub record ShowsBuffers (places : List ℕ) (ss : List Span) (bs : List BufferAt) : Type 0 where
+  pub are : spans bs ≡ ss
+  pub long : All HasLength bs
+  pub held : All (λ b. b.held ≡ held places (record { place = b.place; end = b.end; lid = b.lid })) bs
 
--- Their calls were made, one write and one sync for each, all of them or up to one that failed, and none by a log that keeps a failure.
+-- the calls that write buffers, one write and one sync for each, up to the first that is held up
+abbrev pub writes_free : List BufferAt → List Event
+writes_free [] = []
+writes_free (b ∷ bs) = unless_held b.held (writing b.lid b.bytes (writes_free bs))
+
+-- the buffers of a log that begin below a place
+pub record WritesTo (to : ℕ) (l : LogView) : Type 0 where
+  pub buffers : List BufferAt
+  pub shown : ShowsBuffers (opens l) (spans_below to (sealed_below to l)) buffers
+
+-- These calls were made, all of them where nothing failed, or up to one that failed, and none by a log that keeps a failure.
+abbrev pub CallsMade : List Event → Option IoError → DeviceView → Reply → DeviceView → Type 0
+CallsMade es fault old (reply.Failed (Held at)) new = (new.trace ≡ after_all es old.trace) × (new.failures ≡ old.failures)
+CallsMade es fault old (reply.Failed e) new = Performs es old.trace new.trace × (IsSome fault → new ≡ old)
+CallsMade es fault old _ new = (new.trace ≡ after_all es old.trace) × (new.failures ≡ old.failures)
+
+-- The buffers were written that begin below a place, up to one that is held up.
+abbrev pub WritesActs : ℕ → Option LogView → DeviceView → Reply → DeviceView → Type 0
+WritesActs to (Some l) old r new = (w : WritesTo to l) × CallsMade (writes_free w.buffers) l.fault old r new
+WritesActs to None old r new = new ≡ old
+
 abbrev pub FlushActs : Option LogView → DeviceView → Reply → DeviceView → Type 0
-FlushActs (Some l) old (reply.Flushed n) new = (w : Flushes l) × (new.trace ≡ after_all (all_writes w.buffers) old.trace) × (new.failures ≡ old.failures)
-FlushActs (Some l) old (reply.Failed e) new = (w : Flushes l) × Performs (all_writes w.buffers) old.trace new.trace × (IsSome l.fault → new ≡ old)
-FlushActs log old _ new = new ≡ old
+FlushActs (Some l) old r new = WritesActs l.end (Some l) old r new
+FlushActs None old r new = new ≡ old
+
+-- One sealed buffer was written, the i-th of those that nothing holds up.
+abbrev pub WriteActs : ℕ → Option LogView → DeviceView → Reply → DeviceView → Type 0
+WriteActs i (Some l) old r new = (bs : List BufferAt) × ShowsBuffers (opens l) l.waiting bs × CallsMade (write_pending i bs) l.fault old r new
+WriteActs i None old r new = new ≡ old
 
 -- The device crashed: what was chosen was taken exactly where a crash may leave that, and else what was synced. It is no longer stopped, nor is it to be.
 abbrev pub CrashActs : Choice → DeviceView → Reply → DeviceView → Type 0
 CrashActs choice old (reply.Crashed taken) new =
     (IsTrue taken ↔ MayBeChosen choice (state_of old.trace))
     × (new ≡ record { trace = Crashed (left_after choice (reply.Crashed taken)) ∷ old.trace; failures = old.failures; is_stopped = false; stops_in = None })
-CrashActs choice old _ new = ⊥
+CrashActs choice old _ new = new ≡ old
 
 -- It is to be stopped within a call.
 abbrev pub StopActs : ℕ → DeviceView → Reply → DeviceView → Type 0
 StopActs n old reply.Armed new = new ≡ record { trace = old.trace; failures = old.failures; is_stopped = old.is_stopped; stops_in = Some n }
 StopActs n old _ new = new ≡ old
 
--- All other commands leave it as it was.
+-- What a command does that isn't refused. (What a read does stands with what it is answered, `ReadStep`.) All others leave the device as it was.
+abbrev pub ActsBy : (List ℕ → ℕ) → ℕ → RunState → Command → Reply → DeviceView → Type 0
+ActsBy sum size a command.Open r new = OpenActs sum size a.device r new
+ActsBy sum size a command.Flush r new = FlushActs a.log a.device r new
+ActsBy sum size a (command.Stable place) r new = WritesActs (behind_place place) a.log a.device r new
+ActsBy sum size a (command.Write i) r new = WriteActs i a.log a.device r new
+ActsBy sum size a (command.Crash choice) r new = CrashActs choice a.device r new
+ActsBy sum size a (command.Stop n) r new = StopActs n a.device r new
+ActsBy sum size a (command.Read page) r new = Unit {0}
+ActsBy sum size a _ r new = new ≡ a.device
+
 abbrev pub Acts : (List ℕ → ℕ) → ℕ → RunState → Command → Reply → DeviceView → Type 0
-Acts sum size a command.Open r new = OpenActs sum size a.device r new
-Acts sum size a command.Flush r new = FlushActs a.log a.device r new
-Acts sum size a (command.Crash choice) r new = CrashActs choice a.device r new
-Acts sum size a (command.Stop n) r new = StopActs n a.device r new
-Acts sum size a _ r new = new ≡ a.device
+Acts sum size a c (reply.Refused w) new = new ≡ a.device
+Acts sum size a c r new = ActsBy sum size a c r new
 
 -- What it is answered, and where the run stands then.
 
@@ -152,13 +169,23 @@ pub record IsGoodFor (sum : List ℕ → ℕ) (size : ℕ) (a : RunState) (new :
   pub good : IsGood sum size (content_of (state_of new.trace)) a.history a.acknowledged a.floor s
   pub active : ShowsActive size (stable_place s.stable) s.active
 
+-- A log goes on where the snapshot says, over as many pages as it has.
+pub record HasOpened (sum : List ℕ → ℕ) (size : ℕ) (a : RunState) (stable : Option ℤ) (active : Option ℕ) (pages : ℕ) (new : DeviceView) (b : RunState) : Type 0 where
+  pub snapshot : SnapshotModel
+  pub stable_is : stable ≡ snapshot.stable
+  pub active_is : active ≡ snapshot.active
+  pub pages_are : pages ≡ length snapshot.pages
+  pub good : IsGoodFor sum size a new snapshot
+  pub mid : DeviceView
+  pub started : HasStarted size mid new snapshot
+  pub leads : b ≡ recovered a new snapshot (Some (started_on size (length_of mid) snapshot))
+
+-- A recovery failed; or it succeeded, and no log could be started on it.
 abbrev pub OpenStep : (List ℕ → ℕ) → ℕ → RunState → Reply → DeviceView → RunState → Type 0
-OpenStep sum size a (reply.Opened s) new b =
-    IsGoodFor sum size a new (model_of s)
-    × ((mid : DeviceView) × StartActs size mid (reply.Opened s) new × (b ≡ recovered a new (model_of s) (Some (started_on size (length_of mid) (model_of s)))))
-OpenStep sum size a (reply.Recovered s e) new b =
-    IsGoodFor sum size a new (model_of s) × IsStartCause e a.device.failures new.failures × (b ≡ recovered a new (model_of s) None)
-OpenStep sum size a (reply.Failed e) new b = IsCause e a.device.failures new.failures × (b ≡ with_log a new None)
+OpenStep sum size a (reply.Opened stable active pages) new b = HasOpened sum size a stable active pages new b
+OpenStep sum size a (reply.Failed e) new b =
+    (IsCause e a.device.failures new.failures × (b ≡ with_log a new None))
+    ⊎ ((s : SnapshotModel) × IsGoodFor sum size a new s × IsStartCause e a.device.failures new.failures × (b ≡ recovered a new s None))
 OpenStep sum size a _ new b = ⊥
 
 -- the place and the pointer that are answered are those of a message
@@ -175,27 +202,50 @@ reserving size l q m = record {
   start = start_with l q;
   begun = l.begun;
   fault = l.fault;
-  reserved = Some m;
+  outstanding = opens l ++ m.place ∷ [];
+  tickets = l.tickets ++ Some m ∷ [];
 }
 
-abbrev pub ReplaceStep : ℕ → RunState → LogView → ℕ → List ℕ → Reply → DeviceView → RunState → Type 0
-ReplaceStep size a l page bytes (reply.Reserved place pointer) new b =
-    let m = replace_at size l page bytes in
-    (l.fault ≡ None) × EndsInReach size (target_in size l page (length bytes)) × IsAnswerFor m place pointer
-    × (b ≡ with_log a new (Some (reserving size l (target_in size l page (length bytes)) m)))
-ReplaceStep size a l page bytes (reply.Failed (Io e)) new b = (l.fault ≡ Some e) × (b ≡ a)
-ReplaceStep size a l page bytes (reply.Failed OutOfMemory) new b = (l.fault ≡ None) × (b ≡ a)
-ReplaceStep size a l page bytes (reply.Failed PlacesUsedUp) new b = (l.fault ≡ None) × (EndsInReach size (target_in size l page (length bytes)) → ⊥) × (b ≡ a)
-ReplaceStep size a l page bytes _ new b = ⊥
+-- the places of the open reservations of the buffer that a record would be of that begins at this position
+abbrev pub opens_beside : LogView → Position → List ℕ
+opens_beside l q = if is_behind l q then [] else places_from l.start.place (opens l)
 
--- the log with no reservation open, and this many pages begun
-abbrev pub ended : LogView → ℕ → LogView
-ended l begun = record { position = l.position; stable = l.stable; end = l.end; waiting = l.waiting; start = l.start; begun = begun; fault = l.fault; reserved = None }
+-- A place was kept for this message, under the next number.
+pub record HasReserved (size : ℕ) (a : RunState) (l : LogView) (q : Position) (m : Message) (ticket : ℕ) (place : ℤ) (pointer : DiskPtr) (new : DeviceView) (b : RunState) : Type 0 where
+  pub fault : l.fault ≡ None
+  pub in_reach : EndsInReach size q
+  pub few : length (opens_beside l q) < most_open
+  pub number : ticket ≡ length l.tickets
+  pub answer : IsAnswerFor m place pointer
+  pub leads : b ≡ with_log a new (Some (reserving size l q m))
 
--- The message of the open reservation comes to the history. Where it is the first of its page, that is begun.
-pub record HasCompleted (a : RunState) (l : LogView) (place : ℤ) (pointer : DiskPtr) (new : DeviceView) (b : RunState) : Type 0 where
+-- The buffer of the record has 127 open reservations, and this is the least place of them.
+pub record IsFullOfOpen (l : LogView) (q : Position) (at : ℤ) : Type 0 where
+  pub fault : l.fault ≡ None
+  pub full : length (opens_beside l q) ≡ most_open
+  pub least : ℕ
+  pub others : List ℕ
+  pub first : opens_beside l q ≡ least ∷ others
+  pub is : at ≡ pos least
+
+abbrev pub ReserveStep : ℕ → RunState → LogView → LogKind → ℕ → List ℕ → Reply → DeviceView → RunState → Type 0
+ReserveStep size a l kind page bytes (reply.Reserved ticket place pointer) new b =
+    HasReserved size a l (target_in size l page (length bytes)) (message_at size l kind page bytes) ticket place pointer new b
+ReserveStep size a l kind page bytes (reply.Failed (Io e)) new b = (l.fault ≡ Some e) × (b ≡ a)
+ReserveStep size a l kind page bytes (reply.Failed OutOfMemory) new b = b ≡ a
+ReserveStep size a l kind page bytes (reply.Failed PlacesUsedUp) new b = (l.fault ≡ None) × (EndsInReach size (target_in size l page (length bytes)) → ⊥) × (b ≡ a)
+ReserveStep size a l kind page bytes (reply.Failed (Held at)) new b = IsFullOfOpen l (target_in size l page (length bytes)) at × (b ≡ a)
+ReserveStep size a l kind page bytes _ new b = ⊥
+
+-- the log with a ticket spent, with reservations open at these places, and this many pages begun
+abbrev pub spent : LogView → ℕ → List ℕ → ℕ → LogView
+spent l t places begun =
+    record { position = l.position; stable = l.stable; end = l.end; waiting = l.waiting; start = l.start; begun = begun; fault = l.fault; outstanding = places; tickets = set l.tickets t None }
+
+-- The message of an open reservation comes to the history. Where it is the first of its page, that is begun.
+pub record HasCompleted (a : RunState) (l : LogView) (t : ℕ) (place : ℤ) (pointer : DiskPtr) (new : DeviceView) (b : RunState) : Type 0 where
   pub message : Message
-  pub reserved : l.reserved ≡ Some message
+  pub reserved : slice_get l.tickets t ≡ Some (Some message)
   pub fault : l.fault ≡ None
   pub answer : IsAnswerFor message place pointer
   pub history : History
@@ -205,13 +255,28 @@ pub record HasCompleted (a : RunState) (l : LogView) (place : ℤ) (pointer : Di
     history = history;
     acknowledged = a.acknowledged;
     floor = a.floor;
-    log = Some (ended l (if message.page == l.begun then l.begun + 1 else l.begun));
+    log = Some (spent l t (places_without message.place (opens l)) (if message.page == l.begun then l.begun + 1 else l.begun));
   }
 
-abbrev pub CompleteStep : RunState → LogView → Reply → DeviceView → RunState → Type 0
-CompleteStep a l (reply.Done place pointer) new b = HasCompleted a l place pointer new b
-CompleteStep a l (reply.Failed (Io e)) new b = (l.fault ≡ Some e) × (b ≡ with_log a new (Some (ended l l.begun)))
-CompleteStep a l _ new b = ⊥
+-- Without memory for it nothing is done. Where the log keeps a failure the ticket is spent, and the reservation stays open.
+abbrev pub CompleteStep : RunState → LogView → ℕ → Reply → DeviceView → RunState → Type 0
+CompleteStep a l t (reply.Done place pointer) new b = HasCompleted a l t place pointer new b
+CompleteStep a l t (reply.Failed (Io e)) new b = (l.fault ≡ Some e) × (b ≡ with_log a new (Some (spent l t (opens l) l.begun)))
+CompleteStep a l t (reply.Failed OutOfMemory) new b = b ≡ a
+CompleteStep a l t _ new b = ⊥
+
+-- The message of an open reservation is given up.
+pub record HasAborted (a : RunState) (l : LogView) (t : ℕ) (place : ℤ) (pointer : DiskPtr) (new : DeviceView) (b : RunState) : Type 0 where
+  pub message : Message
+  pub reserved : slice_get l.tickets t ≡ Some (Some message)
+  pub fault : l.fault ≡ None
+  pub answer : IsAnswerFor message place pointer
+  pub leads : b ≡ with_log a new (Some (spent l t (places_without message.place (opens l)) l.begun))
+
+abbrev pub AbortStep : RunState → LogView → ℕ → Reply → DeviceView → RunState → Type 0
+AbortStep a l t (reply.Done place pointer) new b = HasAborted a l t place pointer new b
+AbortStep a l t (reply.Failed (Io e)) new b = (l.fault ≡ Some e) × (b ≡ with_log a new (Some (spent l t (opens l) l.begun)))
+AbortStep a l t _ new b = ⊥
 
 -- the log with these buffers left, the current one from there on, and this failure kept: all before the first of them is stable
 abbrev pub flushed : LogView → List Span → BufferStart → Option IoError → LogView
@@ -223,49 +288,173 @@ flushed l waiting start fault = record {
   start = start;
   begun = l.begun;
   fault = fault;
-  reserved = l.reserved;
+  outstanding = l.outstanding;
+  tickets = l.tickets;
 }
 
--- the buffers that a flush leaves, those that begin at the end of what was reserved or behind it, and all before them is stable then
-abbrev pub left_in : LogView → List Span
-left_in l = spans_from l.end (sealed_in l)
+-- the buffers that are left once those are written that begin below a place, and where all before them is stable then
+abbrev pub left_from : ℕ → LogView → List Span
+left_from to l = spans_from to (sealed_below to l)
 
-abbrev pub flushed_to : LogView → ℕ
-flushed_to l = first_waiting (left_in l) (start_sealed_in l)
+abbrev pub stable_from : ℕ → LogView → ℕ
+stable_from to l = first_waiting (left_from to l) (start_below to l)
 
--- All that was reserved is written and synced. Each completed message is acknowledged, and what is answered is by how much the stable end grew.
-pub record HasFlushed (sum : List ℕ → ℕ) (size : ℕ) (a : RunState) (l : LogView) (n : ℕ) (new : DeviceView) (b : RunState) : Type 0 where
+-- the least place of an open reservation that holds that up
+abbrev pub holding : ℕ → LogView → Option ℕ
+holding to l = held_among (opens l) (spans_below to (sealed_below to l))
+
+-- All that begins below a place is written and synced. Each completed message of it is acknowledged, and what is answered is by how much the stable end grew.
+pub record HasWrittenTo (a : RunState) (l : LogView) (to n : ℕ) (new : DeviceView) (b : RunState) : Type 0 where
   pub fault : l.fault ≡ None
-  pub growth : l.stable + n ≡ flushed_to l
-  pub reaches : l.end ≤ flushed_to l
-  pub more : a.acknowledged ≤ flushed_to l
-  pub all : All (λ m. m.place + m.size ≤ flushed_to l) a.history.messages
-  -- the segment in which the stable end lies, and how much of it is written
-  pub site : SegmentPosition
-  pub from : ℕ
-  pub at : site.place + from ≡ flushed_to l
-  pub kept : IsKept sum size site from (state_of new.trace) a.history
+  pub free : holding to l ≡ None
+  pub growth : l.stable + n ≡ stable_from to l
+  pub reaches : to ≤ stable_from to l
+  pub more : a.acknowledged ≤ stable_from to l
   pub leads : b ≡ record {
     device = new;
     history = a.history;
-    acknowledged = max a.acknowledged (end_below (flushed_to l) a.history);
+    acknowledged = max a.acknowledged (end_below (stable_from to l) a.history);
     floor = a.floor;
-    log = Some (flushed l (left_in l) (start_sealed_in l) None);
+    log = Some (flushed l (left_from to l) (start_below to l) None);
   }
 
--- A flush failed: nothing was sealed and written, or the current buffer was sealed, where anything in it was reserved, and so many buffers at the front were written.
-pub record HasStopped (a : RunState) (l : LogView) (fault : Option IoError) (new : DeviceView) (b : RunState) : Type 0 where
+-- All that was reserved is, so all completed messages are on the device.
+pub record HasFlushed (sum : List ℕ → ℕ) (size : ℕ) (a : RunState) (l : LogView) (n : ℕ) (new : DeviceView) (b : RunState) : Type 0 where
+  pub written : HasWrittenTo a l l.end n new b
+  pub all : All (λ m. m.place + m.size ≤ stable_from l.end l) a.history.messages
+  -- the segment in which the stable end lies, and how much of it is written
+  pub site : SegmentPosition
+  pub from : ℕ
+  pub at : site.place + from ≡ stable_from l.end l
+  pub kept : IsKept sum size site from (state_of new.trace) a.history
+
+-- A flush up to a place failed: nothing was sealed and written, or the current buffer was sealed, where it begins below that, and so many buffers at the front were written.
+pub record HasStopped (a : RunState) (l : LogView) (to : ℕ) (fault : Option IoError) (new : DeviceView) (b : RunState) : Type 0 where
   pub waiting : List Span
   pub start : BufferStart
-  pub left : ((waiting ≡ l.waiting) × (start ≡ l.start)) ⊎ ((n : ℕ) × (waiting ≡ drop n (sealed_in l)) × (start ≡ start_sealed_in l))
+  pub left : ((waiting ≡ l.waiting) × (start ≡ l.start)) ⊎ ((n : ℕ) × (waiting ≡ drop n (sealed_below to l)) × (start ≡ start_below to l))
   pub leads : b ≡ with_log a new (Some (flushed l waiting start fault))
+
+abbrev pub StopsStep : ℕ → RunState → LogView → ℕ → Error → DeviceView → RunState → Type 0
+StopsStep size a l to (Io e) new b = IsFault e l.fault (Some e) a.device.failures new.failures × HasStopped a l to (Some e) new b
+StopsStep size a l to OutOfMemory new b = (l.fault ≡ None) × (new.failures ≡ a.device.failures) × HasStopped a l to None new b
+StopsStep size a l to PlacesUsedUp new b =
+    (l.fault ≡ None) × (l.start.place < to) × (EndsInReach size l.position → ⊥) × (new.failures ≡ a.device.failures) × HasStopped a l to None new b
+StopsStep size a l to (Held at) new b =
+    (l.fault ≡ None) × ((place : ℕ) × (holding to l ≡ Some place) × (at ≡ pos place)) × (new.failures ≡ a.device.failures) × HasStopped a l to None new b
+StopsStep size a l to _ new b = ⊥
 
 abbrev pub FlushStep : (List ℕ → ℕ) → ℕ → RunState → LogView → Reply → DeviceView → RunState → Type 0
 FlushStep sum size a l (reply.Flushed n) new b = HasFlushed sum size a l n new b
-FlushStep sum size a l (reply.Failed (Io e)) new b = IsFault e l.fault (Some e) a.device.failures new.failures × HasStopped a l (Some e) new b
-FlushStep sum size a l (reply.Failed OutOfMemory) new b = (l.fault ≡ None) × (new.failures ≡ a.device.failures) × HasStopped a l None new b
-FlushStep sum size a l (reply.Failed PlacesUsedUp) new b = (l.fault ≡ None) × (EndsInReach size l.position → ⊥) × (new.failures ≡ a.device.failures) × HasStopped a l None new b
+FlushStep sum size a l (reply.Failed e) new b = StopsStep size a l l.end e new b
 FlushStep sum size a l _ new b = ⊥
+
+-- a place is stable, or was reserved
+abbrev pub IsKnownPlace : LogView → ℤ → Type 0
+IsKnownPlace l place = (place <ℤ pos l.stable) ⊎ (place <ℤ pos l.end)
+
+abbrev pub StableStep : ℕ → RunState → LogView → ℤ → Reply → DeviceView → RunState → Type 0
+StableStep size a l place (reply.Flushed n) new b = IsKnownPlace l place × HasWrittenTo a l (behind_place place) n new b
+StableStep size a l place (reply.Failed (NotReserved at)) new b =
+    (at ≡ place) × (pos l.stable ≤ℤ place) × (pos l.end ≤ℤ place) × (l.fault ≡ None) × (new ≡ a.device) × (b ≡ a)
+StableStep size a l place (reply.Failed e) new b = StopsStep size a l (behind_place place) e new b
+StableStep size a l place _ new b = ⊥
+
+abbrev pub WriteStep : RunState → LogView → ℕ → Reply → DeviceView → RunState → Type 0
+WriteStep a l i reply.Written new b = (l.fault ≡ None) × (b ≡ with_log a new (Some (flushed l (without_unheld (opens l) i l.waiting) l.start None)))
+WriteStep a l i (reply.Failed (Io e)) new b =
+    IsFault e l.fault (Some e) a.device.failures new.failures × (b ≡ with_log a new (Some (flushed l l.waiting l.start (Some e))))
+WriteStep a l i (reply.Failed OutOfMemory) new b =
+    (l.fault ≡ None) × (new.failures ≡ a.device.failures) × (b ≡ with_log a new (Some (flushed l l.waiting l.start None)))
+WriteStep a l i _ new b = ⊥
+
+-- Reads.
+
+-- the log once the buffer of a place is on the device, where the place wasn't stable
+abbrev pub read_around : LogView → ℕ → LogView
+read_around l at = if nat_lt at l.stable then l else flushed l (spans_without at (sealed_around at l)) (start_around at l) l.fault
+
+-- what holds the buffer of a place up that isn't stable
+abbrev pub held_around_place : List ℕ → ℕ → List Span → Option ℕ
+held_around_place places at [] = None
+held_around_place places at (s ∷ ss) = if spans_place at s then held places s else held_around_place places at ss
+
+abbrev pub holding_read : LogView → ℕ → Option ℕ
+holding_read l at = if nat_lt at l.stable then None else held_around_place (opens l) at (sealed_around at l)
+
+-- The buffer with a place is on the device: it was written, where the place wasn't stable.
+pub record ReadsAt (l : LogView) (at : ℕ) (old new : DeviceView) : Type 0 where
+  pub buffers : List BufferAt
+  pub shown : ShowsBuffers (opens l) (sealed_around at l) buffers
+  pub made : new.trace ≡ after_all (if nat_lt at l.stable then [] else write_around at buffers) old.trace
+  pub free : holding_read l at ≡ None
+  pub failures : new.failures ≡ old.failures
+
+-- These messages were read, one behind another, and lead from one log to another.
+abbrev pub ReadsAll : LogView → List Message → DeviceView → DeviceView → LogView → Type 0
+ReadsAll l [] old new end = (new.trace ≡ old.trace) × (new.failures ≡ old.failures) × (end ≡ l)
+ReadsAll l (m ∷ ms) old new end = (mid : DeviceView) × ReadsAt l m.place old mid × ReadsAll (read_around l m.place) ms mid new end
+
+-- A read of a place failed: its buffer was not sealed, or sealed, or written too.
+pub record ReadFails (a : RunState) (l : LogView) (at : ℕ) (fault : Option IoError) (old new : DeviceView) (b : RunState) : Type 0 where
+  pub buffers : List BufferAt
+  pub shown : ShowsBuffers (opens l) (sealed_around at l) buffers
+  pub calls : Performs (if nat_lt at l.stable then [] else write_around at buffers) old.trace new.trace
+  pub waiting : List Span
+  pub start : BufferStart
+  pub left : ((waiting ≡ l.waiting) × (start ≡ l.start))
+      ⊎ ((waiting ≡ sealed_around at l) × (start ≡ start_around at l))
+      ⊎ ((waiting ≡ spans_without at (sealed_around at l)) × (start ≡ start_around at l))
+  pub leads : b ≡ with_log a new (Some (flushed l waiting start fault))
+
+-- and why
+abbrev pub ReadFailsFor : ℕ → RunState → LogView → ℕ → Error → DeviceView → DeviceView → RunState → Type 0
+ReadFailsFor size a l at (Io e) old new b = IsFault e l.fault (Some e) old.failures new.failures × ReadFails a l at (Some e) old new b
+ReadFailsFor size a l at OutOfMemory old new b = (l.fault ≡ None) × (new.failures ≡ old.failures) × ReadFails a l at None old new b
+ReadFailsFor size a l at PlacesUsedUp old new b =
+    (l.fault ≡ None) × (l.start.place ≤ at) × (EndsInReach size l.position → ⊥) × (new.failures ≡ old.failures) × ReadFails a l at None old new b
+ReadFailsFor size a l at (Held place) old new b =
+    (l.fault ≡ None) × ((least : ℕ) × (holding_read l at ≡ Some least) × (place ≡ pos least)) × (new.failures ≡ old.failures) × ReadFails a l at None old new b
+ReadFailsFor size a l at _ old new b = ⊥
+
+-- Some messages of a page were read, and the next one was not.
+pub record ReadStops (size : ℕ) (a : RunState) (l : LogView) (ms : List Message) (e : Error) (new : DeviceView) (b : RunState) : Type 0 where
+  pub done : List Message
+  pub message : Message
+  pub rest : List Message
+  pub split : ms ≡ done ++ message ∷ rest
+  pub mid : DeviceView
+  pub log : LogView
+  pub so_far : ReadsAll l done a.device mid log
+  pub fails : ReadFailsFor size a log message.place e mid new b
+
+-- the bytes of items
+abbrev pub item_bytes : List (Vec ℕ Global) → List (List ℕ)
+item_bytes items = map (λ v. v.items) items
+
+-- All messages of a page that is present were read, and their items are answered.
+pub record HasRead (a : RunState) (l : LogView) (ms : List Message) (items : List (List ℕ)) (new : DeviceView) (b : RunState) : Type 0 where
+  pub present : is_present ms ≡ true
+  pub fault : l.fault ≡ None
+  pub items_are : items ≡ map (λ m. m.bytes) ms
+  pub log : LogView
+  pub reads : ReadsAll l ms a.device new log
+  pub leads : b ≡ with_log a new (Some log)
+
+-- The page was given back, and nothing is read.
+pub record IsFreed (a : RunState) (ms : List Message) (new : DeviceView) (b : RunState) : Type 0 where
+  pub message : Message
+  pub is : ms ≡ message ∷ []
+  pub frees : message.kind ≡ does.Free
+  pub unread : new ≡ a.device
+  pub leads : b ≡ a
+
+abbrev pub ReadStep : ℕ → RunState → LogView → List Message → Reply → DeviceView → RunState → Type 0
+ReadStep size a l ms (reply.Page items) new b = HasRead a l ms (item_bytes items.items) new b
+ReadStep size a l ms reply.FreePage new b = IsFreed a ms new b
+ReadStep size a l ms (reply.Failed OutOfMemory) new b = ((new ≡ a.device) × (b ≡ a)) ⊎ ReadStops size a l ms OutOfMemory new b
+ReadStep size a l ms (reply.Failed e) new b = ReadStops size a l ms e new b
+ReadStep size a l ms _ new b = ⊥
 
 abbrev pub HaltStep : RunState → Reply → DeviceView → RunState → Type 0
 HaltStep a reply.Halted new b = b ≡ with_log a new None
@@ -275,35 +464,54 @@ abbrev pub StopStep : RunState → Reply → DeviceView → RunState → Type 0
 StopStep a reply.Armed new b = b ≡ with_log a new a.log
 StopStep a _ new b = ⊥
 
+-- A crash closes the log. Without memory for what was chosen nothing is done.
 abbrev pub CrashStep : RunState → Reply → DeviceView → RunState → Type 0
 CrashStep a (reply.Crashed taken) new b = b ≡ with_log a new None
+CrashStep a (reply.Failed OutOfMemory) new b = b ≡ a
 CrashStep a _ new b = ⊥
 
--- of a command in its turn
-abbrev pub TurnStep : (List ℕ → ℕ) → ℕ → RunState → Option LogView → Command → Reply → DeviceView → RunState → Type 0
-TurnStep sum size a log (command.Crash choice) r new b = CrashStep a r new b
-TurnStep sum size a None command.Open r new b = OpenStep sum size a r new b
-TurnStep sum size a None (command.Stop n) r new b = StopStep a r new b
-TurnStep sum size a (Some l) (command.Replace page item) r new b = ReplaceStep size a l page (short_bytes item.items) r new b
-TurnStep sum size a (Some l) command.Complete r new b = CompleteStep a l r new b
-TurnStep sum size a (Some l) command.Flush r new b = FlushStep sum size a l r new b
-TurnStep sum size a (Some l) command.Halt r new b = HaltStep a r new b
-TurnStep sum size a log _ r new b = ⊥
+-- of a command that isn't refused
+abbrev pub StepBy : (List ℕ → ℕ) → ℕ → RunState → Option LogView → Command → Reply → DeviceView → RunState → Type 0
+StepBy sum size a log (command.Crash choice) r new b = CrashStep a r new b
+StepBy sum size a log (command.Stop n) r new b = StopStep a r new b
+StepBy sum size a None command.Open r new b = OpenStep sum size a r new b
+StepBy sum size a (Some l) (command.Replace page item) r new b = ReserveStep size a l does.Replace page (short_bytes item.items) r new b
+StepBy sum size a (Some l) (command.Link page item) r new b = ReserveStep size a l does.Link page (short_bytes item.items) r new b
+StepBy sum size a (Some l) (command.Free page) r new b = ReserveStep size a l does.Free page [] r new b
+StepBy sum size a (Some l) (command.Complete t) r new b = CompleteStep a l t r new b
+StepBy sum size a (Some l) (command.Abort t) r new b = AbortStep a l t r new b
+StepBy sum size a (Some l) (command.Write i) r new b = WriteStep a l i r new b
+StepBy sum size a (Some l) command.Flush r new b = FlushStep sum size a l r new b
+StepBy sum size a (Some l) (command.Stable place) r new b = StableStep size a l place r new b
+StepBy sum size a (Some l) (command.Read page) r new b = ReadStep size a l (page_now a.history page) r new b
+StepBy sum size a (Some l) command.Halt r new b = HaltStep a r new b
+StepBy sum size a log _ r new b = ⊥
 
 -- What a command comes to: one that is refused changes nothing.
 abbrev pub IsStep : (List ℕ → ℕ) → ℕ → RunState → Command → Reply → DeviceView → RunState → Type 0
-IsStep sum size a c reply.Refused new b = (new ≡ a.device) × (b ≡ a)
-IsStep sum size a c r new b = TurnStep sum size a a.log c r new b
+IsStep sum size a c (reply.Refused w) new b = b ≡ a
+IsStep sum size a c r new b = StepBy sum size a a.log c r new b
 
 -- Runs.
 
--- These commands are answered by these replies, from where a run stands on, and leave this of the device. Each is refused exactly where it is out of its turn.
+-- what is told of what came of a command: a failure of a device that is stopped then is that
+abbrev pub told : Bool → Reply → Reply
+told true (reply.Failed (Io e)) = reply.Stopped
+told stopped r = r
+
+-- A command was carried out from where a run stands, and told so: it is refused exactly where a reason fits, with the first one. Where it reads or leaves nothing foreign, it comes to a step, and what is claimed of where that leads holds.
+pub record Carries (sum : List ℕ → ℕ) (size : ℕ) (a : RunState) (c : Command) (r : Reply) (Leads : RunState → Type 0) : Type 0 where
+  pub refused : reason_of r ≡ refusal_for size a c
+  pub new : DeviceView
+  pub came : Reply
+  pub is_told : r ≡ told new.is_stopped came
+  pub acts : Acts sum size a c came new
+  pub step : IsOwn sum size (state_of a.device.trace) c came → (b : RunState) × IsStep sum size a c came new b × Leads b
+
+-- These commands are answered by these replies, from where a run stands on, and what is claimed of where they lead holds.
 -- Where a command reads or leaves what is foreign, nothing more is claimed from there on.
-unfoldable pub Runs : (List ℕ → ℕ) → ℕ → RunState → List Command → List Reply → DeviceView → Type 0
-Runs sum size a [] [] end = a.device ≡ end
-Runs sum size a (c ∷ cs) (r ∷ rs) end =
-    IsRefusedWhere (IsOutOfTurn size a.log c) r
-    × (new : DeviceView) × Acts sum size a c r new
-    × (IsOwn sum size (state_of a.device.trace) c r → (b : RunState) × IsStep sum size a c r new b × Runs sum size b cs rs end)
-Runs sum size a [] (r ∷ rs) end = ⊥
-Runs sum size a (c ∷ cs) [] end = ⊥
+unfoldable pub Runs : (List ℕ → ℕ) → ℕ → RunState → List Command → List Reply → (RunState → Type 0) → Type 0
+Runs sum size a [] [] Leads = Leads a
+Runs sum size a (c ∷ cs) (r ∷ rs) Leads = Carries sum size a c r (λ b. Runs sum size b cs rs Leads)
+Runs sum size a [] (r ∷ rs) Leads = ⊥
+Runs sum size a (c ∷ cs) [] Leads = ⊥

@@ -1,52 +1,125 @@
-//! Runs of commands over a log, with crashes: what a log's users rely on, said of whole runs
+//! Sessions: runs of commands over a log, with crashes. What a log's users rely on is said of them
 //! (`specs/Runs.antt`).
 //!
-//! A run begins on an empty device with no log open. One reservation is open at a time, and all messages are
-//! Replaces. A command that is out of its turn is refused.
-ghost use Rattle.std.specs.Prelude.{◌≡◌, IfOk, IfErr};
-ghost use Rattle.sled_store.specs.Device.{state_of, fresh};
-ghost use Rattle.sled_log.specs.RunStates.{begins_on};
-ghost use Rattle.sled_log.specs.Runs.{Runs};
-ghost use Rattle.sled_log.specs.RunPhases.{RunsOn};
-ghost use Rattle.sled_log.specs.RunPhases.{view_by};
+//! A session begins with no log open. A command that can't be carried out is refused (`specs/Refusals.antt`).
+ghost use Rattle.std.specs.Prelude.{IsSome};
 
 pub mod command;
+mod ending;
+mod known;
+mod opened;
+mod opening;
+mod reading;
+mod reserving;
 mod step;
+mod writing;
 
-pub use crate::session::command::{Command, Reply};
-use crate::session::step::{Phase, close, step};
+pub use crate::session::command::{Command, Refusal, Reply};
+use crate::session::opened::Opened;
+use crate::session::step::{close, step};
 use sled_codec::serialization::Checksum;
-use sled_store::{CrashDevice, RunningConfig};
-use std::alloc::AllocError;
+use sled_codec::serialization::snapshot::PageState;
+use sled_store::{Config, CrashDevice, RunningConfig};
+use std::alloc::{AllocError, Global};
 
-/// Runs these commands in order on a device that is empty, and returns what it ran on, and what came of each. It
-/// ends with no log open.
-///
-/// # Errors
-///
-/// `AllocError` where memory for the replies was refused; nothing was done then. An error of a command is its reply.
-pub fn run<D: CrashDevice, C: Checksum>(
-    config: RunningConfig<D, C>,
-    commands: Vec<Command>,
-) -> (RunningConfig<D, C>, Result<Vec<Reply>, AllocError>)
-    ensures refused { IfErr result.1 (λ e. result.0 ≡ config) }
-    ensures headline { let view = view_by D.trace D.faults D.is_stopped D.stops_in in
-        state_of (D.trace config.device) ≡ fresh
-        → IfOk result.1 (λ replies. Runs C.sum_of config.config.segment_size (begins_on (view config.device)) commands.items replies.items
-        (view result.0.device)) }
-    ensures runs_on { RunsOn D.trace config result.0 }
-{
-    let mut replies = match Vec::with_capacity(config.alloc(), commands.len()) {
-        Ok(replies) => replies,
-        Err(e) => return (config, Err(e)),
-    };
-    let mut rest = commands;
-    rest.reverse();
-    let mut phase = Phase::Closed(config);
-    while let Some(command) = rest.pop() {
-        let (next, reply) = step(phase, command);
-        phase = next;
-        replies.push_reserved(reply);
+/// What a session is at: the device while no log is open, or a log that is open.
+pub(crate) enum Phase<D, C> {
+    Closed(RunningConfig<D, C>),
+    Open(Opened<D, C>),
+}
+
+/// A log that is told what to do by commands, with its device. It is given up by `end`.
+pub struct Session<D, C> {
+    alloc: Global,
+    // What it is at. It is missing only while a command is carried out.
+    phase: Option<Phase<D, C>>,
+    ghost present: { IsSome phase },
+}
+
+impl<D: CrashDevice, C: Checksum> Session<D, C> {
+    ghost use Rattle.std.specs.Prelude.{◌≡◌, map, None, IfOk, IsSome, MatchOption, OnErr};
+    ghost use Rattle.sled_codec.specs.PageTables.{IsTable};
+    ghost use Rattle.sled_codec.specs.Snapshots.{page_of};
+    ghost use Rattle.sled_store.specs.Device.{state_of, fresh};
+    ghost use Rattle.sled_log.specs.RunStates.{RunState, begins_on, top};
+    ghost use Rattle.sled_log.specs.Runs.{Carries, Runs};
+    ghost use Rattle.sled_log.specs.RunPhases.{StandsAt, segment_size_in, view_by};
+
+    /// Returns a session over a device that no log was written to, with no log open.
+    pub fn new(alloc: Global, config: Config, device: D, checksum: C) -> Session<D, C>
+        ensures size { segment_size_in result ≡ config.segment_size }
+        ensures begins { let view = view_by D.trace D.faults D.is_stopped D.stops_in in
+            state_of (D.trace device) ≡ fresh → StandsAt view C.sum_of result (begins_on (view device)) }
+    {
+        let config = RunningConfig::new(alloc, config, device, checksum);
+        Session {
+            alloc,
+            phase: Some(Phase::Closed(config)),
+        }
     }
-    (close(phase), Ok(replies))
+
+    /// Runs these commands in order, and returns what came of each.
+    ///
+    /// For every list of commands, crashes among them, within a call of the device and within a recovery too: a recovery
+    /// fails only for a failure of the device or want of memory; where it succeeds, its page table is that of the completed
+    /// messages below one cut, which passes every acknowledged message, isn't below an earlier cut and splits no batch; every
+    /// pointer reads its own bytes; and what lies past the cut is forgotten.
+    ///
+    /// # Errors
+    ///
+    /// `AllocError` where memory for the replies was refused; nothing was done then. An error of a command is its reply.
+    pub fn run(&mut self, commands: &[Command]) -> Result<Vec<Reply>, AllocError>
+        ensures headline { let view = view_by D.trace D.faults D.is_stopped D.stops_in in
+            (a : RunState) → StandsAt view C.sum_of self.old a → IfOk result (λ replies.
+            Runs C.sum_of (segment_size_in self.old) a commands.now replies.items (StandsAt view C.sum_of self.new)) }
+        ensures size { segment_size_in self.new ≡ segment_size_in self.old }
+        ensures refused { OnErr result (self.new ≡ self.old) }
+    {
+        let mut replies = Vec::with_capacity(self.alloc, commands.len())?;
+        for command in commands {
+            replies.push_reserved(self.step(command));
+        }
+        Ok(replies)
+    }
+
+    /// Carries out a command, unless it is refused.
+    fn step(&mut self, command: &Command) -> Reply
+        ensures step { let view = view_by D.trace D.faults D.is_stopped D.stops_in in (a : RunState) → StandsAt view C.sum_of self.old a
+            → Carries C.sum_of (segment_size_in self.old) a command.now result (StandsAt view C.sum_of self.new) }
+        ensures size { segment_size_in self.new ≡ segment_size_in self.old }
+    {
+        let phase = self.phase.take().unwrap();
+        let (next, reply) = step(phase, command);
+        match self.phase.replace(next) {
+            None => reply,
+            Some(_) => unreachable!(),
+        }
+    }
+
+    /// Returns what each page is of which a message is completed, by number, where a log is open.
+    pub fn pages(&self) -> Option<&[PageState]>
+        ensures table { let view = view_by D.trace D.faults D.is_stopped D.stops_in in (a : RunState) → StandsAt view C.sum_of self.now a
+            → MatchOption result (a.log ≡ None) (λ pages. IsSome a.log × IsTable (map page_of pages.now) a.history top) }
+    {
+        match &self.phase {
+            Some(Phase::Open(opened)) => Some(&opened.pages),
+            Some(Phase::Closed(_)) | None => None,
+        }
+    }
+}
+
+impl<D: CrashDevice, C: Checksum + Drop> Session<D, C> {
+    ghost use Rattle.std.specs.Prelude.{◌≡◌};
+    ghost use Rattle.sled_log.specs.RunStates.{RunState};
+    ghost use Rattle.sled_log.specs.RunPhases.{StandsAt, view_by};
+
+    /// Closes the log that is open, if one is, and returns the device. What isn't durable is lost. It takes no memory.
+    pub fn end(self) -> D
+        ensures device { let view = view_by D.trace D.faults D.is_stopped D.stops_in in
+            (a : RunState) → StandsAt view C.sum_of self a → a.device ≡ view result }
+    {
+        let Session { alloc: _, phase } = self;
+        let phase = phase.unwrap();
+        close(phase).into_device()
+    }
 }

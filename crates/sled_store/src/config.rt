@@ -62,3 +62,18 @@ impl<D, C> RunningConfig<D, C> {
         self.alloc
     }
 }
+
+impl<D, C: Drop> RunningConfig<D, C> {
+    /// Returns its device, and drops the rest.
+    pub fn into_device(self) -> D
+        ensures { result ≡ self.device }
+    {
+        let RunningConfig {
+            config: _,
+            device,
+            checksum: _,
+            alloc: _,
+        } = self;
+        device
+    }
+}

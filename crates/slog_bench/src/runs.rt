@@ -5,8 +5,8 @@ use crate::lines::{Fault, Outcome, Words};
 use crate::tally::Tally;
 use crate::texts::Text;
 use crate::world::Running;
-use sled_log::session::{Command, Reply, run};
-use sled_log::snapshot::Snapshot;
+use sled_log::config::RunningConfig;
+use sled_log::session::{Command, Refusal, Reply, Session};
 use std::alloc::{AllocError, Global};
 
 /// A command, and the reply that is wanted.
@@ -36,8 +36,14 @@ fn command_of(alloc: Global, words: &mut Words<'_>) -> Command {
     match words.word() {
         "open" => Command::Open,
         "replace" => Command::Replace(words.number(), words.bytes(alloc)),
-        "complete" => Command::Complete,
+        "link" => Command::Link(words.number(), words.bytes(alloc)),
+        "free" => Command::Free(words.number()),
+        "complete" => Command::Complete(words.number() as usize),
+        "abort" => Command::Abort(words.number() as usize),
+        "write" => Command::Write(words.number() as usize),
         "flush" => Command::Flush,
+        "stable" => Command::Stable(words.signed()),
+        "read" => Command::Read(words.number()),
         "halt" => Command::Halt,
         "stop" => Command::Stop(words.number()),
         "crash" => Command::Crash(choice(alloc, words)),
@@ -59,13 +65,16 @@ pub fn compare(
     told: Vec<Told>,
     tally: &mut Tally<'_>,
 ) -> (Running, Outcome<()>) {
-    match commands_of(alloc, told) {
-        Ok((commands, wanted)) => {
-            let (config, answer) = run(config, commands);
-            (config, compare_answer(alloc, &wanted, answer, tally))
-        }
-        Err(fault) => (config, Err(fault)),
-    }
+    let (commands, wanted) = match commands_of(alloc, told) {
+        Ok(both) => both,
+        Err(fault) => return (config, Err(fault)),
+    };
+    let sizes = config.config;
+    let checksum = config.checksum;
+    let mut session = Session::new(alloc, sizes, config.into_device(), checksum);
+    let answer = session.run(&commands);
+    let config = RunningConfig::new(alloc, sizes, session.end(), checksum);
+    (config, compare_answer(alloc, &wanted, answer, tally))
 }
 
 // The line and the text of each reply that is wanted.
@@ -101,40 +110,65 @@ fn compare_answer(
 // Adds a reply.
 fn push_reply(out: &mut Text, reply: &Reply) {
     match reply {
-        Reply::Opened(s) => push_table(out, "opened ", s),
-        Reply::Recovered(s, error) => {
-            push_table(out, "recovered ", s);
-            out.push(" ");
-            out.error(error);
+        Reply::Opened {
+            stable,
+            active,
+            pages,
+        } => {
+            out.push("opened ");
+            out.table(*stable, *active, *pages);
         }
-        Reply::Reserved(place, at) => {
+        Reply::Reserved(ticket, place, at) => {
             out.push("reserved ");
+            out.number(*ticket as u64);
+            out.push(" ");
             out.spot(*place, *at);
         }
         Reply::Done(place, at) => {
             out.push("done ");
             out.spot(*place, *at);
         }
-        Reply::Failed(e) => {
-            out.push("failed ");
-            out.error(e);
-        }
         Reply::Flushed(grown) => {
             out.push("flushed ");
             out.number(*grown as u64);
+        }
+        Reply::Page(items) => {
+            out.push("page");
+            for item in items {
+                out.push(" ");
+                out.hex(item);
+            }
         }
         Reply::Crashed(taken) => {
             out.push("crashed ");
             out.truth(*taken);
         }
+        Reply::Failed(e) => {
+            out.push("failed ");
+            out.error(e);
+        }
+        Reply::Refused(why) => {
+            out.push("refused ");
+            out.push(word_of(*why));
+        }
+        Reply::Written => out.push("written"),
+        Reply::FreePage => out.push("page free"),
         Reply::Halted => out.push("halted"),
         Reply::Armed => out.push("armed"),
-        Reply::Refused => out.push("refused"),
+        Reply::Stopped => out.push("stopped"),
     }
 }
 
-// Adds what was recovered.
-fn push_table(out: &mut Text, word: &str, s: &Snapshot) {
-    out.push(word);
-    out.table(s.stable_lsn, s.active_segment, s.pt.len());
+fn word_of(why: Refusal) -> &'static str {
+    match why {
+        Refusal::Stopped => "stopped",
+        Refusal::Open => "open",
+        Refusal::Closed => "closed",
+        Refusal::Page => "page",
+        Refusal::Busy => "busy",
+        Refusal::Fragments => "fragments",
+        Refusal::Ticket => "ticket",
+        Refusal::Index => "index",
+        Refusal::Item => "item",
+    }
 }

@@ -6,13 +6,48 @@
 
 ghost use Rattle.std.specs.Prelude.{◌≤◌};
 
-mod driver;
 mod line;
 mod text;
 
-use driver::{Driver, Stop};
-use std::alloc::Global;
-use std::io::{BufRead, Write};
+use line::Asked;
+use sled_log::config::Config;
+use sled_log::device::{MemDevice, PlaceSum};
+use sled_log::session::{Command, Refusal, Reply, Session};
+use std::alloc::{AllocError, AllocFailed, Global};
+use std::io::{self, BufRead, Write};
+
+// A session over a device in memory, once the size of segments was told.
+type Running = Option<Session<MemDevice, PlaceSum>>;
+
+// Why the program ends before its input does.
+#[derive(Debug, Clone, Copy, PartialEq, Eq)]
+enum Stop {
+    // The line is not one that can be carried out: it is none, or its item is too long for a record.
+    BadLine,
+    // The reader or the writer failed, or memory for the program itself was refused.
+    Failed,
+}
+
+// Memory for the program itself.
+impl From<AllocError> for Stop {
+    fn from(_e: AllocError) -> Stop {
+        Stop::Failed
+    }
+}
+
+// Memory for the program itself.
+impl<T: Drop> From<AllocFailed<T>> for Stop {
+    fn from(_e: AllocFailed<T>) -> Stop {
+        Stop::Failed
+    }
+}
+
+// A failure of the reader or the writer.
+impl From<io::Error> for Stop {
+    fn from(_e: io::Error) -> Stop {
+        Stop::Failed
+    }
+}
 
 /// Runs the lines of a reader up to its end or to a bad one, and prints on a writer. Returns the exit status:
 /// 0 at the end of the lines, 2 after a bad line, and 1 where the reader or the writer fails or memory for
@@ -24,9 +59,9 @@ pub fn run_lines<R: BufRead + Drop, W: Write + Drop>(
 ) -> u8
     ensures { result ≤ 2 }
 {
-    let mut driver = Driver::new(alloc);
-    let outcome = run_all(alloc, &mut driver, &mut reader, &mut writer);
-    driver.close();
+    let mut running = None;
+    let outcome = run_all(alloc, &mut running, &mut reader, &mut writer);
+    end(running);
     let flushed = writer.flush();
     match (outcome, flushed) {
         (Ok(()), Ok(())) => 0,
@@ -35,10 +70,17 @@ pub fn run_lines<R: BufRead + Drop, W: Write + Drop>(
     }
 }
 
+// Ends the session, if one was begun.
+fn end(running: Running) {
+    if let Some(session) = running {
+        let _ = session.end();
+    }
+}
+
 // Runs one line after another, and says which one is bad.
 fn run_all<R: BufRead, W: Write>(
     alloc: Global,
-    driver: &mut Driver,
+    running: &mut Running,
     reader: &mut R,
     writer: &mut W,
 ) -> Result<(), Stop> {
@@ -48,7 +90,7 @@ fn run_all<R: BufRead, W: Write>(
         if reader.read_until(b'\n', &mut line)? == 0 {
             return Ok(());
         }
-        if let Err(stop) = run_line(alloc, driver, &line, writer) {
+        if let Err(stop) = run_line(alloc, running, &line, writer) {
             return Err(told(stop, writer, number + 1));
         }
     }
@@ -59,18 +101,46 @@ fn run_all<R: BufRead, W: Write>(
 // wait for each reply.
 fn run_line<W: Write>(
     alloc: Global,
-    driver: &mut Driver,
+    running: &mut Running,
     line: &[u8],
     writer: &mut W,
 ) -> Result<(), Stop> {
-    let Some(command) = line::parse(alloc, line)? else {
+    match line::parse(alloc, line)? {
+        Some(Asked::Size(size)) => begin(alloc, running, size),
+        Some(Asked::Command(command)) => {
+            let reply = run_command(running, command)?;
+            text::print(alloc, writer, &reply)?;
+            Ok(writer.flush()?)
+        }
+        None => Err(Stop::BadLine),
+    }
+}
+
+// Takes the size of segments, once, and an empty device.
+fn begin(alloc: Global, running: &mut Running, size: u64) -> Result<(), Stop> {
+    let Some(config) = Config::new(size) else {
         return Err(Stop::BadLine);
     };
-    if let Some(reply) = driver.run(command)? {
-        text::print(alloc, writer, &reply)?;
-        writer.flush()?;
+    if running.is_some() {
+        return Err(Stop::BadLine);
     }
+    let session = Session::new(alloc, config, MemDevice::new(alloc), PlaceSum);
+    end(running.replace(session));
     Ok(())
+}
+
+// Runs a command. Before the size of segments it is a bad line.
+fn run_command(running: &mut Running, command: Command) -> Result<Reply, Stop> {
+    let Some(session) = running else {
+        return Err(Stop::BadLine);
+    };
+    let commands = [command];
+    let mut replies = session.run(&commands)?;
+    match replies.pop() {
+        Some(Reply::Refused(Refusal::Item)) => Err(Stop::BadLine),
+        Some(reply) => Ok(reply),
+        None => Err(Stop::Failed),
+    }
 }
 
 // Prints the number of a bad line.

@@ -8,74 +8,72 @@ ghost use Rattle.std.specs.Option.{SomeIff};
 ghost use Rattle.std.specs.Str.Parse.{IsNumeral, digits_value};
 
 use crate::text;
-use sled_log::result::PageId;
+use sled_log::device::Choice;
+use sled_log::result::{Lsn, PageId};
+use sled_log::session::Command;
 use std::alloc::{AllocError, Global};
 
 /// What a line asks for.
-#[derive(Debug, Drop)]
-pub enum Command {
+#[derive(Drop)]
+pub enum Asked {
     /// Segments have this size.
     Size(u64),
-    /// Open the log, on what the device has.
-    Open,
-    /// Close the log.
-    Halt,
-    /// Do this with the log that is open.
-    OfLog(LogCommand),
+    /// Carry this command out.
+    Command(Command),
 }
 
-/// What is done with a log that is open.
-#[derive(Debug, Drop)]
-pub enum LogCommand {
-    /// Reserve a place for a message that replaces a page by this item.
-    Replace(PageId, Vec<u8>),
-    /// Complete the message of this ticket.
-    Complete(u64),
-    /// Give the message of this ticket up.
-    Abort(u64),
-    /// Write what was completed, and sync it.
-    Flush,
-    /// Read what a page is.
-    Read(PageId),
-}
-
-/// The command of a line, with or without its line feed; `None` for a line that is none.
-pub fn parse(alloc: Global, line: &[u8]) -> Result<Option<Command>, AllocError> {
+/// What a line asks for, with or without its line feed; `None` for a line that is none.
+pub fn parse(alloc: Global, line: &[u8]) -> Result<Option<Asked>, AllocError> {
     let Ok(line) = str::from_utf8(line) else {
         return Ok(None);
     };
     let line = line.strip_suffix('\n').unwrap_or(line);
     match line.split_once(' ') {
         None => Ok(alone(line)),
-        Some(("replace", words)) => replace(alloc, words),
-        Some((word, operand)) => Ok(with_number(word, operand)),
+        Some((word, operands)) => with_operands(alloc, word, operands),
     }
 }
 
 // A command of one word.
-fn alone(word: &str) -> Option<Command> {
-    match word {
-        "open" => Some(Command::Open),
-        "flush" => Some(Command::OfLog(LogCommand::Flush)),
-        "halt" => Some(Command::Halt),
-        _ => None,
-    }
+fn alone(word: &str) -> Option<Asked> {
+    let command = match word {
+        "open" => Command::Open,
+        "flush" => Command::Flush,
+        "halt" => Command::Halt,
+        _ => return None,
+    };
+    Some(Asked::Command(command))
+}
+
+// A command of a word and more.
+fn with_operands(alloc: Global, word: &str, operands: &str) -> Result<Option<Asked>, AllocError> {
+    let command = match word {
+        "size" => return Ok(number(operands).map(Asked::Size)),
+        "replace" => with_item(alloc, operands)?.map(|(page, item)| Command::Replace(page, item)),
+        "link" => with_item(alloc, operands)?.map(|(page, item)| Command::Link(page, item)),
+        "crash" => crash(alloc, operands)?,
+        "stable" => place(operands).map(Command::Stable),
+        _ => with_number(word, operands),
+    };
+    Ok(command.map(Asked::Command))
 }
 
 // A command of a word and a number.
 fn with_number(word: &str, operand: &str) -> Option<Command> {
     let n = number(operand)?;
     match word {
-        "size" => Some(Command::Size(n)),
-        "complete" => Some(Command::OfLog(LogCommand::Complete(n))),
-        "abort" => Some(Command::OfLog(LogCommand::Abort(n))),
-        "read" => Some(Command::OfLog(LogCommand::Read(n))),
+        "free" => Some(Command::Free(n)),
+        "complete" => Some(Command::Complete(n as usize)),
+        "abort" => Some(Command::Abort(n as usize)),
+        "write" => Some(Command::Write(n as usize)),
+        "read" => Some(Command::Read(n)),
+        "stop" => Some(Command::Stop(n)),
         _ => None,
     }
 }
 
-// A page and the bytes that are to replace it.
-fn replace(alloc: Global, words: &str) -> Result<Option<Command>, AllocError> {
+// A page and the bytes of an item.
+fn with_item(alloc: Global, words: &str) -> Result<Option<(PageId, Vec<u8>)>, AllocError> {
     let Some((page, bytes)) = words.split_once(' ') else {
         return Ok(None);
     };
@@ -83,7 +81,62 @@ fn replace(alloc: Global, words: &str) -> Result<Option<Command>, AllocError> {
         return Ok(None);
     };
     let item = text::bytes_of(alloc, bytes.as_bytes())?;
-    Ok(item.map(|item| Command::OfLog(LogCommand::Replace(page, item))))
+    Ok(item.map(|item| (page, item)))
+}
+
+// A crash, which leaves what is durable or what was written last, under a patch.
+fn crash(alloc: Global, operands: &str) -> Result<Option<Command>, AllocError> {
+    let (word, rest) = operands.split_once(' ').unwrap_or((operands, ""));
+    let is_old = match word {
+        "old" => true,
+        "new" => false,
+        _ => return Ok(None),
+    };
+    if word.len() < operands.len() && rest.is_empty() {
+        return Ok(None);
+    }
+    let Some(patch) = patch(alloc, rest)? else {
+        return Ok(None);
+    };
+    let choice = if is_old {
+        Choice::Old(patch)
+    } else {
+        Choice::New(patch)
+    };
+    Ok(Some(Command::Crash(choice)))
+}
+
+// Offsets and the bytes there, each as OFFSET:BYTE.
+fn patch(alloc: Global, words: &str) -> Result<Option<Vec<(u64, u8)>>, AllocError> {
+    let mut patch = Vec::new(alloc);
+    if words.is_empty() {
+        return Ok(Some(patch));
+    }
+    for word in words.split(' ') {
+        let Some(one) = patched(word) else {
+            return Ok(None);
+        };
+        patch.push(one)?;
+    }
+    Ok(Some(patch))
+}
+
+// One offset and its byte.
+fn patched(word: &str) -> Option<(u64, u8)> {
+    let (offset, byte) = word.split_once(':')?;
+    let byte = number(byte)?;
+    if byte > 255 {
+        return None;
+    }
+    Some((number(offset)?, byte as u8))
+}
+
+// A place: a number that fits it, which may have a minus before it.
+fn place(word: &str) -> Option<Lsn> {
+    match word.as_bytes() {
+        [b'+', ..] => None,
+        _ => word.parse().ok(),
+    }
 }
 
 // A number below 2^64 of digits alone. Signs make none.

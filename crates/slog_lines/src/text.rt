@@ -6,8 +6,8 @@
 ghost use Rattle.std.specs.Prelude.{◌≡◌, ◌↔◌, ◌<◌, ◌/◌, ◌%◌, ◌++◌, ◌∷◌, ℕ, List, [], All, IfOk, IfSome, string_bytes, OnOk, IsTrue};
 ghost use Rattle.slog_lines.specs.Hex.{digit_of, digits_of, hex_of};
 
-use crate::driver::{Recovered, Refusal, Reply};
-use sled_log::result::{DiskPtr, Error, Lsn};
+use sled_log::result::{DiskPtr, Error, LogOffset, Lsn};
+use sled_log::session::{Refusal, Reply};
 use std::alloc::{AllocError, Global};
 use std::io::{self, Write};
 
@@ -198,35 +198,41 @@ impl Line {
     // Adds a reply.
     fn reply(&mut self, alloc: Global, reply: &Reply) {
         match reply {
-            Reply::Opened(recovered) => self.recovered("opened ", recovered),
-            Reply::Reserved {
-                ticket,
-                place,
-                pointer,
-            } => self.reserved(*ticket, *place, *pointer),
+            Reply::Opened {
+                stable,
+                active,
+                pages,
+            } => self.opened(*stable, *active, *pages),
+            Reply::Reserved(ticket, place, pointer) => self.reserved(*ticket, *place, *pointer),
             Reply::Done(place, pointer) => self.done(*place, *pointer),
+            Reply::Written => self.push("written"),
             Reply::Flushed(grown) => self.flushed(*grown),
+            Reply::Page(items) => self.page(alloc, items),
+            Reply::FreePage => self.push("page free"),
             Reply::Halted => self.push("halted"),
-            Reply::Page(item) => self.page(alloc, item),
+            Reply::Armed => self.push("armed"),
+            Reply::Crashed(true) => self.push("crashed"),
+            Reply::Crashed(false) => self.push("crashed settled"),
             Reply::Failed(e) => self.error(e),
+            Reply::Stopped => self.push("stopped"),
             Reply::Refused(refusal) => self.refused(*refusal),
         }
     }
 
     // Adds what a recovery found, with a dash for what is missing.
-    fn recovered(&mut self, word: &str, recovered: &Recovered) {
-        self.push(word);
-        match recovered.stable {
+    fn opened(&mut self, stable: Option<Lsn>, active: Option<LogOffset>, pages: usize) {
+        self.push("opened ");
+        match stable {
             Some(place) => self.place(place),
             None => self.push("-"),
         }
         self.push(" ");
-        match recovered.active {
+        match active {
             Some(slot) => self.number(slot),
             None => self.push("-"),
         }
         self.push(" ");
-        self.number(recovered.pages as u64);
+        self.number(pages as u64);
     }
 
     fn reserved(&mut self, ticket: usize, place: Lsn, at: DiskPtr) {
@@ -246,9 +252,12 @@ impl Line {
         self.number(grown as u64);
     }
 
-    fn page(&mut self, alloc: Global, item: &[u8]) {
-        self.push("page ");
-        self.bytes(alloc, item);
+    fn page(&mut self, alloc: Global, items: &[Vec<u8>]) {
+        self.push("page");
+        for item in items {
+            self.push(" ");
+            self.bytes(alloc, item);
+        }
     }
 
     fn refused(&mut self, refusal: Refusal) {
@@ -267,14 +276,18 @@ impl Line {
     }
 }
 
-// The word that says why a command was refused.
+// The word that says why a command was refused. An item that is too long for a record makes a bad line.
 fn word_of(refusal: Refusal) -> &'static str {
     match refusal {
+        Refusal::Stopped => "stopped",
         Refusal::Open => "open",
         Refusal::Closed => "closed",
         Refusal::Page => "page",
         Refusal::Busy => "busy",
+        Refusal::Fragments => "fragments",
         Refusal::Ticket => "ticket",
+        Refusal::Index => "index",
+        Refusal::Item => "item",
     }
 }
 

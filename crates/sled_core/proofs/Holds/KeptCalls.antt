@@ -49,10 +49,10 @@ module _ {D C : Type 0} (trace : D → Trace) (sum : List ℕ → ℕ) where
 
 -- So it is with its tickets,
 pub tickets_still : {D C : Type 0} (log : Log D C) → KeepsTickets log log
-tickets_still log = record { awaits = λ ticket m awaits. awaits; ended = λ ended. ended }
+tickets_still log = record { awaits = λ ticket m awaits. awaits; opens = refl }
 
 pub tickets_further : {D C : Type 0} (old mid new : Log D C) → KeepsTickets old mid → KeepsTickets mid new → KeepsTickets old new
-tickets_further old mid new first then = record { awaits = λ ticket m awaits. then.awaits ticket m (first.awaits ticket m awaits); ended = λ ended. then.ended (first.ended ended) }
+tickets_further old mid new first then = record { awaits = λ ticket m awaits. then.awaits ticket m (first.awaits ticket m awaits); opens = then.opens ∙ first.opens }
 
 -- and with where the next record begins.
 pub position_still : {D C : Type 0} (log : Log D C) → SamePosition log log

@@ -13,7 +13,7 @@ use Rattle.sled_core.specs.declared.iobuf.Sealed.{Sealed}
 use Rattle.sled_core.specs.declared.iobuf.SegmentPosition.{SegmentPosition}
 use Rattle.sled_core.specs.SealedBuffers.{AreSealed, sealed_count, sealed_end, writing, written_at}
 use Rattle.sled_core.specs.Turned.{written_now}
-use Rattle.sled_core.specs.Waiting.{BufferAt, buffer_at, has_place, held_around, none_around, unless_held, unwritten, unwritten_in, unwritten_of, write_around}
+use Rattle.sled_core.specs.Waiting.{BufferAt, buffer_at, has_place, held_around, none_around, unless_held, unwritten, unwritten_in, unwritten_of, without_around, write_around}
 use Rattle.sled_core.proofs.Line.Below.{BeginFrom, lie_begin}
 use Rattle.sled_core.proofs.Line.Lying.{LieBetween, end_of, lie_up, line_lie, unwritten_lie, unwritten_run}
 use Rattle.sled_core.proofs.Line.Nth.{nth_set}
@@ -99,6 +99,38 @@ found_above at (b ∷ bs) begin =
 pub found_front : (at : ℕ) (xs ys : List BufferAt) → BeginFrom (suc at) ys → found at (xs ++ ys) ≡ found at xs
 found_front at xs ys begin = found_on at xs ys ∙ ap (or_found (found at xs)) (found_above at ys begin) ∙ or_none (found at xs)
 
+-- The buffers without the first that has the place.
+
+-- all of them, where none has it
+pub without_none : (at : ℕ) (bs : List BufferAt) → found at bs ≡ None → without_around at bs ≡ bs
+without_none at [] none = refl
+without_none at (b ∷ bs) none = by_test (without_none at bs) (has_place at b) none where
+  by_test : (found at bs ≡ None → without_around at bs ≡ bs) → (o : Bool) → (if o then Some b else found at bs) ≡ None → (if o then bs else b ∷ without_around at bs) ≡ b ∷ bs
+  by_test rest true some = cc
+  by_test rest false none = ap (λ (l : List BufferAt). b ∷ l) (rest none)
+
+-- of two parts, where none of the second has it, or none of the first
+without_front : (at : ℕ) (xs ys : List BufferAt) → found at ys ≡ None → without_around at (xs ++ ys) ≡ without_around at xs ++ ys
+without_front at [] ys none = without_none at ys none
+without_front at (x ∷ xs) ys none = by_test (without_front at xs ys none) (has_place at x) where
+  by_test : without_around at (xs ++ ys) ≡ without_around at xs ++ ys → (o : Bool) → (if o then xs ++ ys else x ∷ without_around at (xs ++ ys)) ≡ (if o then xs else x ∷ without_around at xs) ++ ys
+  by_test rest true = refl
+  by_test rest false = ap (λ (l : List BufferAt). x ∷ l) rest
+
+without_behind : (at : ℕ) (xs ys : List BufferAt) → found at xs ≡ None → without_around at (xs ++ ys) ≡ xs ++ without_around at ys
+without_behind at [] ys none = refl
+without_behind at (x ∷ xs) ys none = by_test (without_behind at xs ys) (has_place at x) none where
+  by_test : (found at xs ≡ None → without_around at (xs ++ ys) ≡ xs ++ without_around at ys) → (o : Bool) → (if o then Some x else found at xs) ≡ None → (if o then xs ++ ys else x ∷ without_around at (xs ++ ys)) ≡ x ∷ (xs ++ without_around at ys)
+  by_test rest true some = cc
+  by_test rest false none = ap (λ (l : List BufferAt). x ∷ l) (rest none)
+
+-- the first one ends before it
+keep_ended : (at : ℕ) (b : BufferAt) (bs : List BufferAt) → b.end ≤ at → without_around at (b ∷ bs) ≡ b ∷ without_around at bs
+keep_ended at b bs le = by_test (let no : nat_lt at b.end ≡ false = grind (arith, nat_tests, le) in no) (nat_le b.place at) where
+  by_test : nat_lt at b.end ≡ false → (o : Bool) → (if o && nat_lt at b.end then bs else b ∷ without_around at bs) ≡ b ∷ without_around at bs
+  by_test behind true = ap (λ (p : Bool). if p then bs else b ∷ without_around at bs) behind
+  by_test behind false = refl
+
 -- Of a segment: the buffer at this index is the first that ends behind an offset.
 pub record IsAround (off from : ℕ) (bs : List Sealed) (k : ℕ) (b : Sealed) : Type 0 where
   pub above : from ≤ off
@@ -160,6 +192,37 @@ module _ (site : SegmentPosition) (bytes : List ℕ) (off : ℕ) where
   found_written from (c ∷ cs) rs zero b are is = above_none c.end cs (drop c.count rs) are.1 (is.point.1 0 c (omega arith) (omega arith))
   found_written from (c ∷ cs) rs (suc k) b are is = let rest = around_behind from c cs k b is in ended_front from c (written_at k cs) rs rest.0 ∙ found_written c.end cs (drop c.count rs) k b are.1 rest.1
 
+  -- and once that one is written the others are left
+  pub without_in : (from : ℕ) (bs : List Sealed) (rs : List Reserved) (k : ℕ) (b : Sealed) → AreSealed from rs bs → IsAround off from bs k b
+      → without_around (site.place + off) (unwritten_in site bytes from bs rs) ≡ unwritten_in site bytes from (written_at k bs) rs
+  without_in from [] rs k b are is = let no = is.there in cc
+  without_in from (c ∷ cs) rs zero b are is =
+      let high : off < c.end = is.point.1 0 c (omega arith) (omega arith) in
+      by_test high is.above (above_none c.end cs (drop c.count rs) are.1 high) c.is_written
+    where
+      by_test : off < c.end → from ≤ off → found (site.place + off) (unwritten_in site bytes c.end cs (drop c.count rs)) ≡ None → (o : Bool)
+          → without_around (site.place + off) (if o then unwritten_in site bytes c.end cs (drop c.count rs) else buffer_at site bytes from c.end (take c.count rs) ∷ unwritten_in site bytes c.end cs (drop c.count rs))
+          ≡ unwritten_in site bytes c.end cs (drop c.count rs)
+      by_test high low none true = without_none (site.place + off) (unwritten_in site bytes c.end cs (drop c.count rs)) none
+      by_test high low none false =
+          let own : BufferAt = buffer_at site bytes from c.end (take c.count rs) in
+          let more : List BufferAt = unwritten_in site bytes c.end cs (drop c.count rs) in
+          let lower : nat_le (site.place + from) (site.place + off) ≡ true = let le : site.place + from ≤ site.place + off = omega (arith, low) in grind (arith, nat_tests, le) in
+          let upper : nat_lt (site.place + off) (site.place + c.end) ≡ true = let lt : site.place + off < site.place + c.end = omega (arith, high) in grind (arith, nat_tests, lt) in
+          ap (λ (o : Bool). if o && nat_lt (site.place + off) (site.place + c.end) then more else own ∷ without_around (site.place + off) more) lower
+          ∙ ap (λ (o : Bool). if o then more else own ∷ without_around (site.place + off) more) upper
+  without_in from (c ∷ cs) rs (suc k) b are is =
+      let rest = around_behind from c cs k b is in
+      by_test rest.0 (without_in c.end cs (drop c.count rs) k b are.1 rest.1) c.is_written
+    where
+      by_test : c.end ≤ off → without_around (site.place + off) (unwritten_in site bytes c.end cs (drop c.count rs)) ≡ unwritten_in site bytes c.end (written_at k cs) (drop c.count rs) → (o : Bool)
+          → without_around (site.place + off) (if o then unwritten_in site bytes c.end cs (drop c.count rs) else buffer_at site bytes from c.end (take c.count rs) ∷ unwritten_in site bytes c.end cs (drop c.count rs))
+          ≡ (if o then unwritten_in site bytes c.end (written_at k cs) (drop c.count rs) else buffer_at site bytes from c.end (take c.count rs) ∷ unwritten_in site bytes c.end (written_at k cs) (drop c.count rs))
+      by_test low rest true = rest
+      by_test low rest false =
+          keep_ended (site.place + off) (buffer_at site bytes from c.end (take c.count rs)) (unwritten_in site bytes c.end cs (drop c.count rs)) (omega (arith, low))
+          ∙ ap (λ (l : List BufferAt). buffer_at site bytes from c.end (take c.count rs) ∷ l) rest
+
 -- Of a line: where its n-th segment has the place, whichever that is, no buffer of another does.
 
 segment_low : (size place : ℕ) (vs : List SegmentView) (n : ℕ) (v : SegmentView) → AreSegments size place vs → slice_get vs n ≡ Some v → place ≤ v.parts.site.place
@@ -189,6 +252,26 @@ found_line size place at (x ∷ xs) (suc n) v w are there low high =
     (found_below at (x.parts.site.place + x.parts.written_len) (unwritten_of x.parts) (x.parts.site.place + begin_of x) (unwritten_lie x.parts.site x.parts.bytes x.parts.written_len x.parts.sealed x.parts.reserved here.are)
     (omega (arith, above, low, begins, short, is_at)))
     ∙ found_line size (place + size) at xs n v w are.1 there low high
+
+-- and where that one is left out of its segment, it is left out of them all
+pub without_line : (size place at : ℕ) (vs : List SegmentView) (n : ℕ) (v w : SegmentView) → AreSegments size place vs → slice_get vs n ≡ Some v → v.parts.site.place ≤ at → at < v.parts.site.place + size
+    → unwritten_of w.parts ≡ without_around at (unwritten_of v.parts) → unwritten (set vs n w) ≡ without_around at (unwritten vs)
+without_line size place at [] n v w are there low high is = cc
+without_line size place at (x ∷ xs) zero v w are there low high is =
+    let here = are.0.at in
+    let same : x ≡ v = cc in
+    ap (λ (l : List BufferAt). l ++ unwritten xs) (is ∙ ap (λ (y : SegmentView). without_around at (unwritten_of y.parts)) (sym same))
+    ∙ sym (without_front at (unwritten_of x.parts) (unwritten xs) (found_above at (unwritten xs) (rest_above size (place + size) at xs are.1 (omega (arith, here, high, ap (λ (y : SegmentView). y.parts.site.place) same)))))
+without_line size place at (x ∷ xs) (suc n) v w are there low high is =
+    let here = are.0 in
+    let above = segment_low size (place + size) xs n v are.1 there in
+    let begins = here.begins in
+    let short = here.short in
+    let is_at = here.at in
+    ap (λ (l : List BufferAt). unwritten_of x.parts ++ l) (without_line size (place + size) at xs n v w are.1 there low high is)
+    ∙ sym (without_behind at (unwritten_of x.parts) (unwritten xs)
+    (found_below at (x.parts.site.place + x.parts.written_len) (unwritten_of x.parts) (x.parts.site.place + begin_of x) (unwritten_lie x.parts.site x.parts.bytes x.parts.written_len x.parts.sealed x.parts.reserved here.are)
+    (omega (arith, above, low, begins, short, is_at))))
 
 pub found_there : (size place at : ℕ) (vs : List SegmentView) (n : ℕ) (v : SegmentView) → AreSegments size place vs → slice_get vs n ≡ Some v → v.parts.site.place ≤ at → at < v.parts.site.place + size → found at (unwritten vs) ≡ found at (unwritten_of v.parts)
 found_there size place at vs n v are there low high = ap (λ (l : List SegmentView). found at (unwritten l)) (there_split vs n v there ∙ sym (nth_set vs n v v there)) ∙ found_line size place at vs n v v are there low high

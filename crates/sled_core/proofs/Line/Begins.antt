@@ -1,5 +1,5 @@
 -- A further segment is begun: the one that was being filled is filled to its end and sealed, and the log holds and fits what it did.
-use Rattle.std.proofs.Common.{◌≡◌, ◌⊎◌, ◌∙◌, ◌<◌, ◌≤◌, ◌+◌, ◌-◌, ◌*◌, ◌/◌, ◌^◌, ◌-ℤ◌, ap, sym, refl, arith, subst, inl, inr, ℕ, zero, suc, pos, List, [], ◌∷◌, ◌++◌, length, map, Option, Some, true, false, if◌then◌else◌, Bool}
+use Rattle.std.proofs.Common.{◌≡◌, ◌∙◌, ◌<◌, ◌≤◌, ◌+◌, ◌-◌, ◌*◌, ◌/◌, ◌^◌, ◌-ℤ◌, ap, sym, refl, arith, subst, inl, inr, ℕ, zero, suc, pos, List, [], ◌∷◌, ◌++◌, length, map, Option, Some, false, if◌then◌else◌, Bool}
 use Rattle.std.specs.List.{slice_get}
 use Rattle.std.specs.declared.io.Error.{Error as IoError}
 use Rattle.std.proofs.Math.Nat.{div-le_self, mul-mod_left, suc-mul}
@@ -17,12 +17,13 @@ use Rattle.sled_core.specs.declared.iobuf.SegmentPosition.{SegmentPosition}
 use Rattle.sled_core.specs.declared.logger.Log.{Log}
 use Rattle.sled_core.specs.declared.reservation.Reservation.{Reservation}
 use Rattle.sled_core.specs.Begun.{SegmentParts, SegmentView, begin_of, segment_view, view_at}
-use Rattle.sled_core.specs.Buffers.{IsHeaded, none_open}
+use Rattle.sled_core.specs.Buffers.{IsHeaded}
 use Rattle.sled_core.specs.Tickets.{IsFor, index_of}
 use Rattle.sled_core.specs.declared.iobuf.Reserved.{Reserved}
-use Rattle.sled_core.specs.Fits.{AwaitsIn, CloseBelow, HasMark, Holds, HoldsIn, HoldsLine, HoldsWith, KeepsAll, KeepsTickets, NoneOpenIn, current_of, device_of, fault_of, line_of, log_parts, machine_at, parts_in, pins_of, position_of, segment_size_of, synced_end, waiting_of}
+use Rattle.sled_core.specs.Fits.{AwaitsIn, CloseBelow, HasMark, Holds, HoldsIn, HoldsLine, HoldsWith, KeepsAll, KeepsTickets, current_of, device_of, fault_of, line_of, log_parts, machine_at, parts_in, pins_of, position_of, segment_size_of, synced_end, waiting_of}
 use Rattle.sled_core.specs.FreeSlots.{HasSlot, HasSlots}
 use Rattle.sled_core.specs.Keeps.{Preserves}
+use Rattle.sled_core.specs.OpenPlaces.{open_places_along}
 use Rattle.sled_core.specs.Positions.{is_short, next_segment_at, position_in}
 use Rattle.sled_core.specs.Recoverable.{IsMarkOf}
 use Rattle.sled_core.specs.Running.{Fits, FitsIn, FitsLine, FitsWith}
@@ -32,10 +33,11 @@ use Rattle.sled_core.proofs.Behind.Around.{behind_place, behind_place_is}
 use Rattle.sled_core.proofs.Behind.Begins.{behind-begins}
 use Rattle.sled_core.proofs.Behind.FitsBegun.{behind-fits-begun}
 use Rattle.sled_core.proofs.Holds.KeptCalls.{goes_on_quietly}
-use Rattle.sled_core.proofs.Line.Closes.{IsClosable, filled_ended, filled_gone, filled_length, filled_message, filled_site, filled_there, filled_written, line_closed, line_fits_closed}
+use Rattle.sled_core.proofs.Line.Closes.{IsClosable, filled_gone, filled_length, filled_message, filled_site, filled_there, filled_written, line_closed, line_fits_closed}
 use Rattle.sled_core.proofs.Line.Facts.{IsSegment, current_facts, nth_facts}
-use Rattle.sled_core.proofs.Line.Last.{All-at_last, get_last, last_behind_all, last_get_of, unwritten-append}
+use Rattle.sled_core.proofs.Line.Last.{All-at_last, last_behind_all, last_get_of, unwritten-append}
 use Rattle.sled_core.proofs.Line.Moves.{fits_as, holds_as, written_to}
+use Rattle.sled_core.proofs.Line.OpenPlaces.{places_begun, places_closed}
 use Rattle.sled_core.proofs.Line.Slots.{next_free, next_other, next_others, slots_begun}
 use Rattle.sled_core.proofs.Reached.BufferPath.{buffer_mark, mark_lower}
 use Rattle.sled_core.proofs.Reached.Recoverable.{less_than}
@@ -223,25 +225,6 @@ module _ (sum : List ℕ → ℕ) (size : ℕ) where
     message = awaits.message;
   }
 
-  -- and none is open where none was.
-  none_open_closed : (v : SegmentView) (vs : List SegmentView) → NoneOpenIn (v ∷ vs) → NoneOpenIn (closed (v ∷ vs))
-  none_open_closed v vs ended n w there = elim (get_last (closed_now sum size) v vs n w there) [
-    | inl still ↦ ended n w still
-    | inr changed ↦ ap (λ (x : SegmentView). none_open x.parts.reserved) changed.1 ∙ filled_ended sum size (last_of v vs) (ended n (last_of v vs) changed.0)
-  ]
-
-  get_one : (vs : List SegmentView) (x : SegmentView) (n : ℕ) (w : SegmentView) → slice_get (vs ++ x ∷ []) n ≡ Some w → (slice_get vs n ≡ Some w) ⊎ (w ≡ x)
-  get_one [] x zero w there = let is : x ≡ w = cc in inr (sym is)
-  get_one [] x (suc n) w there = cc
-  get_one (v ∷ vs) x zero w there = inl there
-  get_one (v ∷ vs) x (suc n) w there = get_one vs x n w there
-
-  pub none_open_one : (vs : List SegmentView) (x : SegmentView) → none_open x.parts.reserved ≡ true → NoneOpenIn vs → NoneOpenIn (vs ++ x ∷ [])
-  none_open_one vs x own ended n w there = elim (get_one vs x n w there) [
-    | inl had ↦ ended n w had
-    | inr is ↦ ap (λ (y : SegmentView). none_open y.parts.reserved) is ∙ own
-  ]
-
 -- A segment of a log is closable where its current buffer begins within it.
 pub closable : (size place : ℕ) (v : SegmentView) → IsSegment size place v → begin_of v < size → IsClosable size v
 closable size place v f begins =
@@ -314,8 +297,9 @@ module _ {D C : Type 0} (trace : D → Trace) (sum : List ℕ → ℕ) (old new 
     awaits = λ ticket m awaits. subst (λ (l : List SegmentView). AwaitsIn l ticket m) (sym line)
         (awaits_more sum its_size (closed sum its_size (line_of old)) (begun_view sum its_size (machine_at old) (synced_end old) (current_of old) ∷ []) ticket m
         (awaits_closed sum its_size first behind (old.site.place + length old.behind.items * its_size) facts ticket m awaits));
-    ended = λ ended. subst NoneOpenIn (sym line)
-        (none_open_one sum its_size (closed sum its_size (line_of old)) (begun_view sum its_size (machine_at old) (synced_end old) (current_of old)) refl (none_open_closed sum its_size first behind ended));
+    opens = ap open_places_along line
+        ∙ places_begun (closed sum its_size (line_of old)) (begun_view sum its_size (machine_at old) (synced_end old) (current_of old)) refl
+        ∙ places_closed sum its_size first behind;
   }
 
   closes : IsClosable its_size (current_of old)

@@ -37,10 +37,10 @@ pub record IsClosable (size : ℕ) (v : SegmentView) : Type 0 where
 
 module _ (sum : List ℕ → ℕ) (size : ℕ) where
   -- what is put behind its bytes
-  abbrev more_of : SegmentView → List ℕ
+  abbrev pub more_of : SegmentView → List ℕ
   more_of v = segment_rest sum size (v.parts.site.place / size) (length v.parts.bytes)
 
-  abbrev filled_up : SegmentView → SegmentView
+  abbrev pub filled_up : SegmentView → SegmentView
   filled_up v = with_parts v (v.parts.bytes ++ more_of v) v.parts.sealed (v.parts.reserved ++ padding_at size (length v.parts.bytes) ∷ [])
 
   -- Something of a segment is so once it is filled, where it is so with that behind it, and as it is.

@@ -1,12 +1,11 @@
--- Tickets by the segments of a log: which segment a ticket is of, which tickets stay for what they were for once one has ended, and when none is open.
+-- Tickets by the segments of a log: which segment a ticket is of, which tickets stay for what they were for once one has ended, and which are open then.
 use Rattle.std.proofs.lemmas.Bool.{cases_eq}
-use Rattle.std.proofs.Common.{◌≡◌, ◌≢◌, ◌∙◌, ◌≤◌, ◌<◌, ◌+◌, ◌-◌, ◌*◌, ◌/◌, ◌^◌, ap, sym, refl, arith, subst, to_z, of_z, w64, ℕ, ℤ, zero, suc, pos, max, true, List, [], ◌∷◌, length, set, Option, Some, inl, inr}
+use Rattle.std.proofs.Common.{false, ◌≡◌, ◌≢◌, ◌∙◌, ◌≤◌, ◌<◌, ◌+◌, ◌-◌, ◌*◌, ◌/◌, ◌^◌, ap, sym, arith, subst, to_z, of_z, w64, ℕ, ℤ, pos, max, List, length, set, Option, Some, inl, inr}
 use lib.Signed.{mag}
 use Rattle.std.specs.Prelude.{unsigned_abs}
 use Rattle.std.specs.declared.io.Error.{Error as IoError}
-use Rattle.std.specs.List.{All, slice_get}
+use Rattle.std.specs.List.{slice_get}
 use Rattle.std.proofs.lemmas.Int.{to_z-of_z}
-use Rattle.std.proofs.lemmas.List.Elements.{All-tail}
 use Rattle.std.proofs.lemmas.Nat.{div-mul-add}
 use Rattle.sled_codec.specs.declared.serialization.message.MessageKind.{MessageKind}
 use Rattle.sled_codec.specs.History.{History, Message}
@@ -17,16 +16,17 @@ use Rattle.sled_core.specs.declared.iobuf.Reserved.{Reserved}
 use Rattle.sled_core.specs.declared.logger.Log.{Log}
 use Rattle.sled_core.specs.declared.reservation.Reservation.{Reservation}
 use Rattle.sled_core.specs.Begun.{SegmentView}
-use Rattle.sled_core.specs.Buffers.{IsChain, IsHeaded, ended, ending, message_in, none_open}
-use Rattle.sled_core.specs.Fits.{Awaits, AwaitsIn, HoldsLine, IsOnlyOpenIn, NoneOpenIn, line_of}
+use Rattle.sled_core.specs.Buffers.{IsChain, IsHeaded, ended, ending, message_in, open_state}
+use Rattle.sled_core.specs.Fits.{Awaits, AwaitsIn, HoldsLine, line_of}
+use Rattle.sled_core.specs.OpenPlaces.{TakesOut, open_places_along}
 use Rattle.sled_core.specs.Tickets.{IsFor, index_of, place_of}
 use Rattle.sled_core.specs.Turned.{HasOpenIn, ended_now}
 use Rattle.sled_core.proofs.Holds.CompletedLemmas.{others_stay}
-use Rattle.sled_core.proofs.Holds.OpenTickets.{ended_each, only_closed}
 use Rattle.sled_core.proofs.Line.Ends.{with_segment}
 use Rattle.sled_core.proofs.Line.Facts.{IsSegment, nth_facts}
 use Rattle.sled_core.proofs.Line.Nth.{set_get, set_other}
-use Rattle.sled_core.proofs.Reserve.Ranges.{at_there, chain_within}
+use Rattle.sled_core.proofs.Line.OpenPlaces.{takes_ended, takes_in}
+use Rattle.sled_core.proofs.Reserve.Ranges.{at_there}
 use Rattle.sled_core.proofs.Sealed.Around.{whole_chain}
 
 -- all entries of a segment are one chain
@@ -41,32 +41,12 @@ entry_low v i r facts there =
     let some = headed.0 in let short = facts.short in
     omega (arith, inside, some, short)
 
--- The place of an entry says which segment it is of,
+-- The place of an entry says which segment it is of.
 pub number_is : {size : ℕ} (base n : ℕ) (v : SegmentView) (i : ℕ) (r : Reserved) → IsSegment size (base + n * size) v → slice_get v.parts.reserved i ≡ Some r → (v.parts.site.place + r.from - base) / size ≡ n
 number_is {size} base n v i r facts there =
     let at = facts.at in
     let over : v.parts.site.place + r.from - base ≡ n * size + r.from = omega (arith, at) in
     ap (λ (k : ℕ). k / size) over ∙ div-mul-add n size r.from (entry_low v i r facts there)
-
--- and which entry it is.
-entry_is : (from end : ℕ) (rs : List Reserved) (i j : ℕ) (r x : Reserved) → IsChain from rs end → All IsHeaded rs → slice_get rs i ≡ Some r → slice_get rs j ≡ Some x → x.from ≡ r.from → j ≡ i
-entry_is from end [] i j r x chain headed at_i at_j same = cc
-entry_is from end (y ∷ ys) zero zero r x chain headed at_i at_j same = refl
-entry_is from end (y ∷ ys) zero (suc j) r x chain headed at_i at_j same =
-    let is : y ≡ r = cc in
-    let begins : y.from ≡ from = chain.0 in
-    let mine : y.from ≡ r.from = ap (λ (z : Reserved). z.from) is in
-    let long = (headed 0 y (omega arith)).0 in
-    let later = at_there (λ (z : Reserved). (from + y.len ≤ z.from) × (z.from + z.len ≤ end)) ys j x at_j (chain_within (from + y.len) end ys chain.1) in
-    absurd (omega (arith, begins, mine, long, later.0, same))
-entry_is from end (y ∷ ys) (suc i) zero r x chain headed at_i at_j same =
-    let is : y ≡ x = cc in
-    let begins : y.from ≡ from = chain.0 in
-    let mine : y.from ≡ x.from = ap (λ (z : Reserved). z.from) is in
-    let long = (headed 0 y (omega arith)).0 in
-    let later = at_there (λ (z : Reserved). (from + y.len ≤ z.from) × (z.from + z.len ≤ end)) ys i r at_i (chain_within (from + y.len) end ys chain.1) in
-    absurd (omega (arith, begins, mine, long, later.0, same))
-entry_is from end (y ∷ ys) (suc i) (suc j) r x chain headed at_i at_j same = ap suc (entry_is (from + y.len) end ys i j r x chain.1 (All-tail IsHeaded y ys headed) at_i at_j same)
 
 -- What a ticket is for is found by what it says.
 
@@ -110,25 +90,9 @@ module _ (size : ℕ) (line : List SegmentView) (base n : ℕ) (v : SegmentView)
   abbrev e : SegmentView
   e = ended_now i r (ending word kind) state v
 
-  -- Where it was the only open one, none is.
-  pub only_ended : (ticket : Reservation) → place_of ticket ≡ pos (v.parts.site.place + r.from) → (state ≡ Open → ⊥) → IsOnlyOpenIn line ticket → NoneOpenIn (set line n e)
-  only_ended ticket place closed only = λ k w among. elim (cases_eq k n) [
-    | inl same ↦ (
-        let mine : slice_get (set line n e) n ≡ Some w = subst (λ (j : ℕ). slice_get (set line n e) j ≡ Some w) same among in
-        let both : Some e ≡ Some w = sym (set_get line n v e there) ∙ mine in
-        let is : e ≡ w = cc in
-        subst (λ (x : SegmentView). none_open x.parts.reserved ≡ true) is
-        (only_closed v.parts.reserved i (ended state r) closed (λ j x at_j open_j.
-        let says : pos (v.parts.site.place + x.from) ≡ pos (v.parts.site.place + r.from) = only n v j x there at_j open_j ∙ place in
-        let abs : v.parts.site.place + x.from ≡ v.parts.site.place + r.from = ap unsigned_abs says in
-        entry_is (max 20 v.parts.written_len) (length v.parts.bytes) v.parts.reserved i j r x (segment_chain v (facts n v there)) (facts n v there).headed at at_j (omega (arith, abs)))))
-    | inr other ↦ (
-        let was : slice_get line k ≡ Some w = sym (set_other line n k e other) ∙ among in
-        ended_each w.parts.reserved (λ j x at_j open_j.
-        let says : pos (w.parts.site.place + x.from) ≡ pos (v.parts.site.place + r.from) = only k w j x was at_j open_j ∙ place in
-        let abs : w.parts.site.place + x.from ≡ v.parts.site.place + r.from = ap unsigned_abs says in
-        absurd (other (sym (number_is base k w j x (facts k w was) at_j) ∙ ap (λ (p : ℕ). (p - base) / size) abs ∙ number_is base n v i r (facts n v there) at))))
-  ]
+  -- Its place is taken out of those of the open ones.
+  pub ended_takes : open_state state ≡ false → TakesOut (v.parts.site.place + r.from) (open_places_along line) (open_places_along (set line n e))
+  ended_takes closed = takes_in (v.parts.site.place + r.from) line n v e there (takes_ended v.parts.site.place v.parts.reserved i r (ended state r) at is_open closed)
 
   -- Other tickets are for what they were for.
   pub others_await : (sum : List ℕ → ℕ) (device : State) (fault : Option IoError) (H : History) → HoldsLine sum size device fault line H → (ticket other : Reservation) (m : Message) → place_of ticket ≡ pos (v.parts.site.place + r.from)

@@ -17,15 +17,7 @@ by_last P Q f first behind v (w ∷ ws) its holds = from v [] w ws its holds whe
       subst P (ap (λ (l : List SegmentView). v ∷ l) (append_assoc pre (w ∷ []) (at_last f (x ∷ xs))))
       (from v (pre ++ w ∷ []) x xs its (subst P (ap (λ (l : List SegmentView). v ∷ l) (sym (append_assoc pre (w ∷ []) (x ∷ xs)))) holds))
 
--- Each segment is the one that was there, or the last one as it is now.
-pub get_last : (f : SegmentView → SegmentView) (v : SegmentView) (vs : List SegmentView) (n : ℕ) (w : SegmentView) → slice_get (at_last f (v ∷ vs)) n ≡ Some w
-    → (slice_get (v ∷ vs) n ≡ Some w) ⊎ ((slice_get (v ∷ vs) n ≡ Some (last_of v vs)) × (w ≡ f (last_of v vs)))
-get_last f v [] zero w there = let is : f v ≡ w = cc in inr (refl, sym is)
-get_last f v [] (suc n) w there = inl there
-get_last f v (x ∷ xs) zero w there = inl there
-get_last f v (x ∷ xs) (suc n) w there = get_last f x xs n w there
-
--- and the other way round
+-- Each segment is there still, or it is the last one, and there as it is now.
 pub last_get_of : (f : SegmentView → SegmentView) (v : SegmentView) (vs : List SegmentView) (n : ℕ) (w : SegmentView) → slice_get (v ∷ vs) n ≡ Some w
     → (slice_get (at_last f (v ∷ vs)) n ≡ Some w) ⊎ ((w ≡ last_of v vs) × (slice_get (at_last f (v ∷ vs)) n ≡ Some (f w)))
 last_get_of f v [] zero w there = let is : v ≡ w = cc in inr (sym is, ap (λ (x : SegmentView). Some (f x)) is)

@@ -1,5 +1,5 @@
 -- A reservation is made in the segment that is being filled: where it is put, and what the log holds and fits then.
-use Rattle.std.proofs.Common.{◌≡◌, ◌∙◌, ◌<◌, ◌≤◌, ◌+◌, ◌-◌, ◌/◌, ◌^◌, nat_lt, ap, sym, refl, arith, subst, ℕ, pos, Bool, true, false, if◌then◌else◌, List, [], ◌∷◌, ◌++◌, length, length-append, map, drop, Some}
+use Rattle.std.proofs.Common.{◌≡◌, ◌∙◌, ◌<◌, ◌≤◌, ◌+◌, ◌-◌, ◌/◌, ◌^◌, nat_lt, ap, sym, refl, arith, subst, ℕ, Bool, true, false, if◌then◌else◌, List, [], ◌∷◌, ◌++◌, length, length-append, map, drop, Some}
 use Rattle.std.proofs.lemmas.Bool.Decides.{nat_tests}
 use Rattle.sled_codec.specs.Kinds.{kind_written}
 use Rattle.sled_codec.specs.Spelling.{short_header_tail}
@@ -15,18 +15,19 @@ use Rattle.sled_core.specs.declared.iobuf.Purpose.{Purpose}
 use Rattle.sled_core.specs.declared.iobuf.Reserved.{Reserved}
 use Rattle.sled_core.specs.declared.logger.Log.{Log}
 use Rattle.sled_core.specs.declared.reservation.Reservation.{Reservation}
-use Rattle.sled_core.specs.Fits.{Awaits, AwaitsIn, FitsInline, Holds, IsOnlyOpen, IsOnlyOpenIn, KeepsAll, NoneOpen, current_of, device_of, fault_of, line_of, machine_at, pins_of, position_of, segment_size_of, synced_end}
+use Rattle.sled_core.specs.Fits.{Awaits, AwaitsIn, FitsInline, Holds, open_places, KeepsAll, current_of, device_of, fault_of, line_of, machine_at, pins_of, position_of, segment_size_of, synced_end}
 use Rattle.sled_core.specs.Keeps.{Preserves}
+use Rattle.sled_core.specs.OpenPlaces.{open_places_along}
 use Rattle.sled_core.specs.Positions.{Position, behind_record, is_short, moved_on, next_segment_at, placed_at, position_in}
 use Rattle.sled_core.specs.Running.{Fits}
-use Rattle.sled_core.specs.Tickets.{place_of}
 use Rattle.sled_core.specs.Turned.{ChangesSlots, HasPlace, reserved_now}
 use Rattle.sled_core.specs.Waiting.{at_last, last_of}
 use Rattle.sled_core.proofs.Holds.KeptCalls.{goes_on_quietly}
 use Rattle.sled_core.proofs.Line.Facts.{current_facts}
 use Rattle.sled_core.proofs.Line.Last.{last_changed}
 use Rattle.sled_core.proofs.Line.Moves.{fits_as, holds_as, written_to}
-use Rattle.sled_core.proofs.Line.Reserves.{HasPlaceFor, awaits_reserved, line_fits_reserved, line_reserved, only_reserved, slots_reserved}
+use Rattle.sled_core.proofs.Line.OpenPlaces.{places_reserved}
+use Rattle.sled_core.proofs.Line.Reserves.{HasPlaceFor, awaits_reserved, line_fits_reserved, line_reserved, slots_reserved}
 use Rattle.sled_core.proofs.Line.Targets.{record_short}
 use Rattle.sled_core.proofs.Reserve.Heads.{length-short_header_tail}
 use Rattle.sled_core.proofs.Reserve.ReserveLemmas.{head_whole, more_long, stands}
@@ -161,8 +162,9 @@ module _ {D C : Type 0} (trace : D → Trace) (sum : List ℕ → ℕ) (old new 
   pub reserves_others : (ticket : Reservation) (m : Message) → Awaits old ticket m → Awaits new ticket m
   reserves_others ticket m awaits = subst (λ (l : List SegmentView). AwaitsIn l ticket m) (sym line) (awaits_reserved sum its_size more r v vs fits ticket m awaits)
 
-  pub reserves_open : (ticket : Reservation) → place_of ticket ≡ pos ((current_of old).parts.site.place + r.from) → NoneOpen old → IsOnlyOpen new ticket
-  reserves_open ticket place ended = subst (λ (l : List SegmentView). IsOnlyOpenIn l ticket) (sym line) (only_reserved sum its_size more r v vs ticket place ended)
+  -- the new reservation is open behind those that were,
+  pub reserves_opens : open_places new ≡ open_places old ++ ((current_of old).parts.site.place + r.from) ∷ []
+  reserves_opens = ap open_places_along line ∙ places_reserved more r v vs fits.open_yet
 
   -- and the log holds and fits what it did.
   pub reserves_keeps : Preserves trace sum old new

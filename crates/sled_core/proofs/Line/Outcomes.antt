@@ -19,6 +19,10 @@ pub all_ok : {T E : Type 0} (r : Result T E) (P : Type 0) → P → OnOk r P
 all_ok (Ok x) P is = is
 all_ok (Err e) P is = tt
 
+pub all_err : {T E : Type 0} (r : Result T E) (P : Type 0) → P → OnErr r P
+all_err (Ok x) P is = tt
+all_err (Err e) P is = is
+
 -- It is the same where it failed,
 pub on_err : {T E : Type 0} (r : Result T E) (A B : Type 0) → (A → B) → OnErr r A → OnErr r B
 on_err (Ok x) A B f a = tt
@@ -44,6 +48,11 @@ either (Err e) A B P f g a b = g b
 pub held_alike : (T T' : Type 0) (e : Error) → IsHeld {T = T'} (Err e) → IsHeld {T = T} (Err e)
 held_alike T T' (Held at) is = tt
 held_alike T T' _ is = absurd is
+
+-- Held up it failed.
+pub held_err : {T : Type 0} (r : Result T Error) (P : Type 0) → IsHeld r → OnErr r P → P
+held_err (Ok x) P held is = absurd held
+held_err (Err e) P held is = is
 
 -- What it answers is what its caller does, of which the same is held up, and which saw as many faults before.
 pub answers_used : {T : Type 0} (result : Result T Error) (held held' : Option ℕ) (used : Type 0) (now : Option IoError) (before before' after : ℕ) → held ≡ held' → before ≡ before' → (used → ⊥) → HeldAnswers result held ⊥ None now before after → HeldAnswers result held' used None now before' after

@@ -1,5 +1,5 @@
 -- A log is made ready for a record: that has a place in its current segment, or a further one is begun; and what a reservation makes of it then.
-use Rattle.std.proofs.Common.{◌≡◌, ◌∙◌, ◌<◌, ◌≤◌, ◌+◌, ◌-◌, ◌*◌, ◌/◌, ◌^◌, ◌-ℤ◌, ap, sym, refl, arith, subst, ℕ, pos, Bool, true, false, if◌then◌else◌, List, ◌++◌, length, map, drop, Some}
+use Rattle.std.proofs.Common.{◌∷◌, [], ◌≡◌, ◌∙◌, ◌<◌, ◌≤◌, ◌+◌, ◌-◌, ◌*◌, ◌/◌, ◌^◌, ◌-ℤ◌, ap, sym, refl, arith, subst, ℕ, pos, Bool, true, false, if◌then◌else◌, List, ◌++◌, length, map, drop, Some}
 use Rattle.std.proofs.lemmas.Bool.Decides.{nat_tests}
 use Rattle.sled_codec.proofs.Segments.{length-short_header}
 use Rattle.sled_codec.specs.Kinds.{kind_written}
@@ -16,14 +16,14 @@ use Rattle.sled_core.specs.declared.iobuf.Purpose.{Purpose}
 use Rattle.sled_core.specs.declared.iobuf.Reserved.{Reserved}
 use Rattle.sled_core.specs.declared.logger.Log.{Log}
 use Rattle.sled_core.specs.declared.reservation.Reservation.{Reservation}
-use Rattle.sled_core.specs.Fits.{Awaits, AwaitsIn, FitsInline, IsOnlyOpen, IsUnchanged, IsUsedUpFor, KeepsAll, KeepsTickets, NoFurther, NoneOpen, current_of, is_moved, line_of, machine_at, message_for, open_for, open_of, position_behind, position_of, reserved_end, segment_size_of, size_for, start_behind, start_of, synced_end, target_of, waiting_behind, waiting_of}
+use Rattle.sled_core.specs.Fits.{Awaits, AwaitsIn, FitsInline, open_places, IsUnchanged, IsUsedUpFor, KeepsAll, KeepsTickets, NoFurther, current_of, is_moved, line_of, machine_at, message_for, open_for, open_of, position_behind, position_of, reserved_end, segment_size_of, size_for, start_behind, start_of, synced_end, target_of, waiting_behind, waiting_of}
 use Rattle.sled_core.specs.Keeps.{Preserves}
 use Rattle.sled_core.specs.Positions.{Position, behind_record, next_segment_at}
 use Rattle.sled_core.specs.Turned.{ChangesLine, ChangesSlots, HasPlace, IsTicketFor, begun_view, next_line, reserved_now}
 use Rattle.sled_core.specs.Waiting.{BufferAt, BufferStart, at_last, closed_now, unwritten}
 use Rattle.sled_core.proofs.Holds.KeptCalls.{kept_further}
 use Rattle.sled_core.proofs.Line.Begins.{begins_current, begins_keeps, begins_same, begins_tickets}
-use Rattle.sled_core.proofs.Line.LogReserves.{placeholder_fits, reserves_keeps, reserves_open, reserves_others, reserves_position, reserves_same, target_here, target_next}
+use Rattle.sled_core.proofs.Line.LogReserves.{placeholder_fits, reserves_keeps, reserves_opens, reserves_others, reserves_position, reserves_same, target_here, target_next}
 use Rattle.sled_core.proofs.Line.LogSpans.{next_buffers, reserved_buffers, same_buffers}
 use Rattle.sled_core.proofs.Line.Reserves.{HasPlaceFor, ticket_reserved}
 use Rattle.sled_core.proofs.Line.Targets.{record_short}
@@ -230,11 +230,13 @@ module _ {D C : Type 0} (trace : D → Trace) (sum : List ℕ → ℕ) (old mid 
   pub made_seals : (waiting_of new ≡ waiting_behind sum old kept.page len) × (start_of new ≡ start_behind old kept.page len)
   made_seals = let same = reserved_buffers mid new more r line in (same.0 ∙ ready.seals.0, same.1 ∙ ready.seals.1)
 
-  -- The ticket is for its message.
-  module _ (ticket : Reservation) (own : IsTicketFor mid ticket) where
-    pub made_open : NoneOpen old → IsOnlyOpen new ticket
-    made_open ended = reserves_open trace sum mid new more r line rest accountant fits ticket own.place (ready.tickets.ended ended)
+  pub made_opens : open_places new ≡ open_places old ++ (target_of old kept.page len).place ∷ []
+  made_opens =
+      let at = sym (ap (λ (q : Position). q.place) ready.target) in
+      reserves_opens trace sum mid new more r line rest accountant fits ∙ (λ i. ready.tickets.opens i ++ at i ∷ [])
 
+  -- The ticket is for its message.
+  module _ (ticket : Reservation) (own : IsTicketFor mid ticket r.len) where
     message_here : message_for old kept.log_kind kept.page item
         ≡ record { kind = kept.log_kind; page = kept.page; place = w.parts.site.place + length w.parts.bytes; pointer = Inline (w.parts.site.slot + length w.parts.bytes); size = here_size; bytes = item }
     message_here =
@@ -247,4 +249,4 @@ module _ {D C : Type 0} (trace : D → Trace) (sum : List ℕ → ℕ) (old mid 
         let is = message_here ∙ message_is sum (number_of mid) w.parts.bytes head item kept known small ready.tail whole w.parts.site in
         subst (λ (m : Message). Awaits new ticket m) (sym is)
         (subst (λ (l : List SegmentView). AwaitsIn l ticket (message_in w.parts.site (w.parts.bytes ++ more) r)) (sym line)
-        (ticket_reserved sum (segment_size_of mid) more r (view_at mid.site mid.buffer) (map segment_view mid.behind.items) ticket own.index (record { open_yet = refl; place = own.place; pointer = own.pointer })))
+        (ticket_reserved sum (segment_size_of mid) more r (view_at mid.site mid.buffer) (map segment_view mid.behind.items) ticket own.index (record { open_yet = refl; place = own.place; pointer = own.pointer; long = own.long })))

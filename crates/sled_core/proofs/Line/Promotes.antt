@@ -9,7 +9,7 @@ use Rattle.sled_store.specs.Device.{State}
 use Rattle.sled_core.specs.Begun.{AreFilled, SegmentView}
 use Rattle.sled_core.specs.declared.iobuf.Reserved.{Reserved}
 use Rattle.sled_core.specs.declared.reservation.Reservation.{Reservation}
-use Rattle.sled_core.specs.Fits.{AwaitsIn, HoldsLine, NoneOpenIn, parts_in}
+use Rattle.sled_core.specs.Fits.{AwaitsIn, HoldsLine, parts_in}
 use Rattle.sled_core.specs.Full.{FitsFull}
 use Rattle.sled_core.specs.Running.{FitsLine}
 use Rattle.sled_core.specs.Tickets.{index_of}
@@ -19,7 +19,7 @@ use Rattle.sled_core.proofs.Behind.FullFurther.{full_further}
 use Rattle.sled_core.proofs.Behind.FullNext.{full_next, here}
 use Rattle.sled_core.proofs.Behind.Promoted.{promoted as promoted_first}
 use Rattle.sled_core.proofs.Line.Moves.{written_to}
-use Rattle.sled_core.proofs.Line.Segments.{AreSegments, by_front, full_empty, promoted_get, promoted_same}
+use Rattle.sled_core.proofs.Line.Segments.{AreSegments, by_front, full_empty, promoted_same}
 use Rattle.sled_core.proofs.Sealed.Ended.{ends_up}
 
 -- What the segments hold those that are left hold.
@@ -71,9 +71,6 @@ awaits_promoted size place vs ticket m big are awaits =
           let never : None ≡ Some a.reserved = sym (ap (λ (l : List Reserved). slice_get l (index_of ticket - a.segment.gone)) none) ∙ there in
           absurd (let no : ⊥ = cc in no)
       at (suc j) among = record { number = j; segment = a.segment; among = among; reserved = a.reserved; numbered = a.numbered; there = a.there; own = a.own; message = a.message }
-
-pub ended_promoted : (size : ℕ) (vs : List SegmentView) → NoneOpenIn vs → NoneOpenIn (promoted size vs)
-ended_promoted size vs ended n v there = let at = promoted_get size vs n v there in ended at.0 v at.1
 
 -- The last one is the same.
 pub last_promoted : (size : ℕ) (d : SegmentView) (vs : List SegmentView) → last_of d (promoted size vs) ≡ last_of d vs

@@ -20,9 +20,9 @@ use Rattle.sled_store.proofs.Traces.ScriptLemmas.{performs_whole}
 use Rattle.sled_core.specs.Begun.{segment_view, view_at}
 use Rattle.sled_core.specs.Causes.{HeldAnswers, IsHeld, OnDone, RecordAnswers}
 use Rattle.sled_core.specs.declared.logger.Log.{Log}
-use Rattle.sled_core.specs.Fits.{HasRecordOf, Holds, HoldsLine, current_begin, device_of, fault_of, line_of, reserved_end, segment_size_of, synced_end, waiting_of}
+use Rattle.sled_core.specs.Fits.{HasRecordOf, Holds, HoldsLine, current_begin, device_of, fault_of, line_of, reserved_end, segment_size_of, start_of, synced_end, waiting_of}
 use Rattle.sled_core.specs.LogFile.{StaysFrom}
-use Rattle.sled_core.specs.ReadBuffer.{IsWrittenPlace, ReadAnswers, RefusesPlace, SealsAround, Settles, held_at, settling}
+use Rattle.sled_core.specs.ReadBuffer.{IsWrittenPlace, LeavesWritten, ReadAnswers, RefusesPlace, SealsAround, Settles, WritesAround, held_at, settling}
 use Rattle.sled_core.specs.Reading.{IsNoPlace}
 use Rattle.sled_core.specs.Running.{Fits}
 use Rattle.sled_core.specs.SealedBuffers.{writing}
@@ -30,10 +30,11 @@ use Rattle.sled_core.specs.Stable.{IsNotReserved}
 use Rattle.sled_core.specs.Waiting.{BufferAt, has_place, unless_held, write_around}
 use Rattle.sled_core.specs.Fits.{buffers_of}
 use Rattle.sled_core.proofs.Line.Around.{is_none, none_found}
-use Rattle.sled_core.proofs.Line.Outcomes.{all_done, all_ok, held_alike}
+use Rattle.sled_core.proofs.Line.Outcomes.{all_done, all_err, all_ok, held_alike}
 use Rattle.sled_core.proofs.Line.Records.{IsHeldAt, entry_stays, first_stable, line_begins, line_record}
 use Rattle.sled_core.proofs.Line.Segments.{line_segments}
 use Rattle.sled_core.proofs.Line.Settles.{stable_written}
+use Rattle.sled_core.proofs.Stable.EndLemmas.{or_beyond}
 
 -- The calls that settle a place leave the snapshots as they were.
 around_names : (at : ℕ) (bs : List BufferAt) (t : Trace) → (state_of (after_all (write_around at bs) t)).snapshots ≡ (state_of t).snapshots
@@ -194,6 +195,19 @@ module _ {D C : Type 0} (lsn : ℤ) (old mid : Log D C) where
     held = λ held. absurd (free held);
     none = λ none. all_ok r _ (waiting ∙ is.none none);
   }
+
+  pub around_err : {T T' : Type 0} (sum : List ℕ → ℕ) (e : Error) → WritesAround {T = T} sum (Err e) lsn old mid → WritesAround {T = T'} sum (Err e) lsn old mid
+  around_err {T = T} {T' = T'} sum e is = record { still = is.still; written = λ _. tt; held = λ held. is.held (held_alike T T' e held); some = is.some }
+
+  pub around_read : {T T' : Type 0} (sum : List ℕ → ℕ) (r : Result T' Error) (new : Log D C) (x : T) → WritesAround {T = T} sum (Ok x) lsn old mid → waiting_of new ≡ waiting_of mid → start_of new ≡ start_of mid → (IsHeld r → ⊥) → WritesAround sum r lsn old new
+  around_read sum r new x is waiting start free = record {
+    still = λ below. (waiting ∙ (is.still below).0, start ∙ (is.still below).1);
+    written = λ behind. all_ok r _ (left behind);
+    held = λ held. absurd (free held);
+    some = elim (or_beyond (pos (synced_end old)) lsn) [ inl behind ↦ all_err r _ (inr (inr (left behind))) | inr below ↦ all_err r _ (inl (waiting ∙ (is.still below).0, start ∙ (is.still below).1)) ];
+  } where
+    left : pos (synced_end old) ≤ℤ lsn → LeavesWritten sum (unsigned_abs lsn) old new
+    left behind = (waiting ∙ (is.written behind).0, start ∙ (is.written behind).1)
 
 -- a place that isn't negative
 pub pos_abs : (z : ℤ) → pos 0 ≤ℤ z → pos (unsigned_abs z) ≡ z

@@ -1,5 +1,5 @@
 -- A place is reserved in the segment that is being filled: its placeholder stands behind what is there, and the log holds and fits what it did.
-use Rattle.std.proofs.Common.{◌≡◌, ◌∙◌, ◌<◌, ◌≤◌, ◌+◌, ◌-◌, ◌/◌, ap, sym, refl, arith, subst, inl, inr, ℕ, List, [], ◌∷◌, ◌++◌, length, length-append, length-take, map, take, drop, Option, Some, pos, if◌then◌else◌}
+use Rattle.std.proofs.Common.{◌≡◌, ◌∙◌, ◌<◌, ◌≤◌, ◌+◌, ◌-◌, ◌/◌, ap, sym, refl, arith, subst, inl, inr, ℕ, List, [], ◌∷◌, ◌++◌, length, length-append, length-take, map, take, drop, Option, Some, if◌then◌else◌}
 use Rattle.std.specs.List.{All, slice_get}
 use Rattle.std.specs.declared.io.Error.{Error as IoError}
 use Rattle.std.proofs.lemmas.List.{drop-append-le, map-append, take-append-le}
@@ -13,25 +13,23 @@ use Rattle.sled_core.specs.declared.iobuf.ReservationState.TheVariants.{Open}
 use Rattle.sled_core.specs.declared.iobuf.Sealed.{Sealed}
 use Rattle.sled_core.specs.declared.iobuf.SegmentPosition.{SegmentPosition}
 use Rattle.sled_core.specs.declared.reservation.Reservation.{Reservation}
-use Rattle.sled_core.specs.Fits.{AwaitsIn, HoldsIn, HoldsLine, IsOnlyOpenIn, NoneOpenIn, log_parts, parts_in}
+use Rattle.sled_core.specs.Fits.{AwaitsIn, HoldsIn, HoldsLine, log_parts, parts_in}
 use Rattle.sled_core.specs.FreeSlots.{HasSlot, HasSlots}
 use Rattle.sled_core.specs.Running.{FitsIn, FitsLine}
 use Rattle.sled_core.specs.SealedBuffers.{AreSealed, sealed_end}
-use Rattle.sled_core.specs.Tickets.{IsFor, index_of, place_of}
+use Rattle.sled_core.specs.Tickets.{IsFor, index_of}
 use Rattle.sled_core.specs.Turned.{reserved_now}
 use Rattle.sled_core.specs.Waiting.{BufferAt, at_last, buffer_at, last_of, unwritten, unwritten_in, unwritten_of}
 use Rattle.sled_core.proofs.Behind.Calls.{behind-append}
 use Rattle.sled_core.proofs.Behind.FitsCalls.{behind-fits-reserved}
 use Rattle.sled_core.proofs.Holds.HoldsLemmas.{body-append}
-use Rattle.sled_core.proofs.Holds.OpenTickets.{only_new}
 use Rattle.sled_core.proofs.Holds.RunningLemmas.{fits-moved}
 use Rattle.sled_core.proofs.Holds.WholeLemmas.{holds-append}
 use Rattle.sled_core.proofs.Line.Entered.{entered_up}
-use Rattle.sled_core.proofs.Line.Last.{All-at_last, by_last, get_last, last_get_of}
+use Rattle.sled_core.proofs.Line.Last.{All-at_last, by_last, last_get_of}
 use Rattle.sled_core.proofs.Reserve.Ranges.{at_there}
 use Rattle.sled_core.proofs.Reserve.ReserveLemmas.{there_append, there_last}
 use Rattle.sled_core.proofs.Sealed.Ended.{ends_rise}
-use Rattle.sled_core.proofs.Sealed.EndedParts.{not_open}
 use Rattle.sled_core.proofs.Sealed.LaidLemmas.{EndsRise, ends_below}
 
 -- A reservation with these bytes has a place behind what is there in a segment of this size.
@@ -132,19 +130,6 @@ module _ (sum : List ℕ → ℕ) (size : ℕ) (more : List ℕ) (r : Reserved) 
         own = own;
         message = refl;
       }
-
-  -- Where none was open, it is for the only open one.
-  pub only_reserved : (v : SegmentView) (vs : List SegmentView) (ticket : Reservation) → place_of ticket ≡ pos ((last_of v vs).parts.site.place + r.from) → NoneOpenIn (v ∷ vs) → IsOnlyOpenIn (at_last now (v ∷ vs)) ticket
-  only_reserved v vs ticket place ended n w i x among there is_open = elim (get_last now v vs n w among) [
-    | inl still ↦ absurd (not_open w.parts.reserved i x (ended n w still) there is_open)
-    | inr changed ↦ (
-        let s : SegmentView = last_of v vs in
-        let its : slice_get (s.parts.reserved ++ r ∷ []) i ≡ Some x = subst (λ (y : SegmentView). slice_get y.parts.reserved i ≡ Some x) changed.1 there in
-        let at : i ≡ length s.parts.reserved = only_new s.parts.reserved r (ended n s changed.0) i x its is_open in
-        let one : Some r ≡ Some x = sym (there_last s.parts.reserved r) ∙ ap (slice_get (s.parts.reserved ++ r ∷ [])) (sym at) ∙ its in
-        let same : r ≡ x = cc in
-        ap (λ (y : SegmentView). pos (y.parts.site.place + x.from)) changed.1 ∙ ap (λ (y : Reserved). pos (s.parts.site.place + y.from)) (sym same) ∙ sym place)
-  ]
 
   -- The buffers that aren't written are the same.
   unwritten_more : (site : SegmentPosition) (bytes : List ℕ) (from : ℕ) (bs : List Sealed) (rs : List Reserved) → AreSealed from rs bs → EndsRise from bs (length bytes) → unwritten_in site (bytes ++ more) from bs (rs ++ r ∷ []) ≡ unwritten_in site bytes from bs rs

@@ -9,12 +9,12 @@ use Rattle.sled_store.specs.SegmentStates.{Machine}
 use Rattle.sled_store.specs.Accounts.{machine_of}
 use Rattle.sled_store.specs.declared.config.RunningConfig.{RunningConfig}
 use Rattle.sled_core.specs.Begun.{SegmentParts, SegmentView, begin_of, segment_view, view_at}
-use Rattle.sled_core.specs.Buffers.{none_open}
 use Rattle.sled_core.specs.declared.logger.Log.{Log}
 use Rattle.sled_core.specs.declared.reservation.Reservation.{Reservation}
-use Rattle.sled_core.specs.Fits.{AwaitsIn, Holds, HoldsIn, HoldsLine, KeepsAll, KeepsTickets, NoneOpenIn, buffers_of, current_begin, current_of, device_of, fault_of, line_of, log_parts, machine_at, parts_in, pins_of, segment_size_of, synced_end, waiting_of}
+use Rattle.sled_core.specs.Fits.{AwaitsIn, Holds, HoldsIn, HoldsLine, KeepsAll, KeepsTickets, buffers_of, current_begin, current_of, device_of, fault_of, line_of, log_parts, machine_at, parts_in, pins_of, segment_size_of, synced_end, waiting_of}
 use Rattle.sled_core.specs.FreeSlots.{HasSlot, HasSlots}
 use Rattle.sled_core.specs.Keeps.{Preserves, SamePosition}
+use Rattle.sled_core.specs.OpenPlaces.{open_places_along}
 use Rattle.sled_core.specs.Positions.{is_short, position_in}
 use Rattle.sled_core.specs.Running.{Fits, FitsIn, FitsLine}
 use Rattle.sled_core.specs.SealedBuffers.{seal_at, sealed_count}
@@ -26,8 +26,9 @@ use Rattle.sled_core.proofs.Holds.KeptCalls.{goes_on_quietly}
 use Rattle.sled_core.proofs.Holds.RunningLemmas.{fits-moved}
 use Rattle.sled_core.proofs.Holds.WholeLemmas.{holds-sealed}
 use Rattle.sled_core.proofs.Line.Facts.{current_facts}
-use Rattle.sled_core.proofs.Line.Last.{All-at_last, at_last_same, at_last_twice, by_last, get_last, last_changed, last_get_of}
+use Rattle.sled_core.proofs.Line.Last.{All-at_last, at_last_same, at_last_twice, by_last, last_changed, last_get_of}
 use Rattle.sled_core.proofs.Line.Moves.{fits_as, holds_as, written_to}
+use Rattle.sled_core.proofs.Line.OpenPlaces.{places_sealed}
 use Rattle.sled_core.proofs.Sealed.Appended.{end_one}
 
 -- The current buffer holds something, in a segment of this size.
@@ -66,18 +67,11 @@ slots_sealed size line log fault m slots = record {
   zeros = slots.zeros;
 }
 
--- Tickets are for what they were for,
+-- Tickets are for what they were for.
 pub awaits_sealed : (v : SegmentView) (vs : List SegmentView) (ticket : Reservation) (m : Message) → AwaitsIn (v ∷ vs) ticket m → AwaitsIn (at_last sealed_now (v ∷ vs)) ticket m
 awaits_sealed v vs ticket m awaits = elim (last_get_of sealed_now v vs awaits.number awaits.segment awaits.among) [
   | inl still ↦ record { number = awaits.number; segment = awaits.segment; among = still; reserved = awaits.reserved; numbered = awaits.numbered; there = awaits.there; own = awaits.own; message = awaits.message }
   | inr changed ↦ record { number = awaits.number; segment = sealed_now awaits.segment; among = changed.1; reserved = awaits.reserved; numbered = awaits.numbered; there = awaits.there; own = awaits.own; message = awaits.message }
-]
-
--- and none is open where none was.
-pub none_open_sealed : (v : SegmentView) (vs : List SegmentView) → NoneOpenIn (v ∷ vs) → NoneOpenIn (at_last sealed_now (v ∷ vs))
-none_open_sealed v vs ended n w there = elim (get_last sealed_now v vs n w there) [
-  | inl still ↦ ended n w still
-  | inr changed ↦ ap (λ (x : SegmentView). none_open x.parts.reserved) changed.1 ∙ ended n (last_of v vs) changed.0
 ]
 
 -- A log whose current buffer was sealed.
@@ -128,11 +122,11 @@ module _ {D C : Type 0} (trace : D → Trace) (sum : List ℕ → ℕ) (old new 
       let end = end_one w.parts.written_len w.parts.sealed (seal_at (length w.parts.bytes) (drop (sealed_count w.parts.sealed) w.parts.reserved)) in
       ap (λ (x : SegmentView). x.parts.site.place + begin_of x) sealed_current ∙ ap (λ n. w.parts.site.place + n) end
 
-  -- Tickets are for what they were for,
+  -- Tickets are for what they were for, and the same reservations are open,
   pub sealed_tickets : KeepsTickets old new
   sealed_tickets = record {
     awaits = λ ticket m awaits. subst (λ (l : List SegmentView). AwaitsIn l ticket m) (sym line) (awaits_sealed v vs ticket m awaits);
-    ended = λ ended. subst NoneOpenIn (sym line) (none_open_sealed v vs ended);
+    opens = ap open_places_along line ∙ places_sealed v vs;
   }
 
   -- and the log holds and fits what it did.

@@ -1,22 +1,24 @@
 -- Where the current buffer has a place it is sealed first: what has the place is the same then.
-use Rattle.std.proofs.Common.{◌≡◌, ◌∙◌, ◌⊎◌, ◌≤◌, ◌<◌, ◌+◌, ◌&&◌, nat_le, ap, sym, refl, arith, subst, inl, inr, ℕ, suc, Bool, true, pos, nat_lt, if◌then◌else◌, List, [], ◌∷◌, ◌++◌, length, map, None}
+use Rattle.std.proofs.Common.{◌≡◌, ◌∙◌, ◌⊎◌, ◌≤◌, ◌<◌, ◌+◌, ◌&&◌, nat_le, ap, sym, refl, arith, subst, inl, inr, ℕ, suc, Bool, true, false, pos, nat_lt, if◌then◌else◌, List, [], ◌∷◌, ◌++◌, length, map, None, Result, OnOk, OnErr}
 use Rattle.std.specs.List.{Contains}
 use Rattle.std.specs.Prelude.{int_lt}
 use Rattle.std.proofs.lemmas.Bool.Decides.{nat_tests}
 use Rattle.std.proofs.lemmas.Int.{ints}
+use Rattle.sled_codec.specs.declared.result.Error.{Error}
 use Rattle.sled_store.specs.Device.{Trace}
 use Rattle.sled_store.specs.declared.config.RunningConfig.{RunningConfig}
 use Rattle.sled_store.proofs.Segments.Elements.{in_nothing, only_in}
 use Rattle.sled_core.specs.Begun.{SegmentView, segment_view, view_at}
 use Rattle.sled_core.specs.declared.logger.Log.{Log}
-use Rattle.sled_core.specs.Fits.{AddsBuffers, IsUsedUp, KeepsAll, KeepsTickets, buffers_of, current_begin, current_of, device_of, fault_of, held_len, reserved_end, sealing_end, segment_size_of, synced_end, waiting_of}
-use Rattle.sled_core.specs.Keeps.{Preserves, SamePosition}
-use Rattle.sled_core.specs.ReadBuffer.{IsUsedUpAt, held_at, settling}
-use Rattle.sled_core.specs.Waiting.{BufferAt, Span, has_place}
+use Rattle.sled_core.specs.Fits.{AddsBuffers, IsUsedUp, KeepsAll, KeepsTickets, buffers_of, current_begin, current_of, device_of, fault_of, held_len, reserved_end, sealing_end, segment_size_of, start_of, synced_end, waiting_of}
+use Rattle.sled_core.specs.Keeps.{Preserves, SamePosition, start_sealed}
+use Rattle.sled_core.specs.ReadBuffer.{IsUsedUpAt, LeavesSealed, LeavesWritten, WritesAround, held_at, settling}
+use Rattle.sled_core.specs.Waiting.{BufferAt, Span, has_place, without_around}
 use Rattle.sled_core.proofs.Holds.KeptCalls.{kept_still, position_still, tickets_still}
 use Rattle.sled_core.proofs.Line.Around.{found, found_front, held_found, held_of, writes_found, writes_of}
 use Rattle.sled_core.proofs.Line.Below.{begin_all}
 use Rattle.sled_core.proofs.Line.Entered.{filled_last}
+use Rattle.sled_core.proofs.Line.Outcomes.{held_err, on_err, on_ok}
 use Rattle.sled_core.proofs.Line.SealFirst.{ends_behind}
 use Rattle.sled_core.proofs.Line.Shows.{buffers_add}
 
@@ -33,6 +35,7 @@ pub record SealsFor {D C : Type 0} (trace : D → Trace) (sum : List ℕ → ℕ
   pub unused : IsUsedUpAt old (pos place) → ⊥
   pub apart : place < current_begin old → current_begin mid ≡ current_begin old
   pub once : (current_begin mid ≡ current_begin old) ⊎ (current_begin mid ≡ sealing_end old)
+  pub sealed : LeavesSealed sum place old mid
   pub none : waiting_of old ≡ [] → (b : BufferAt) → Contains (waiting_of mid) b → has_place place b ≡ true
 
 -- It hasn't.
@@ -49,8 +52,14 @@ seals_still trace sum place log lower = record {
   unused = λ used. let up = used.0 in omega (arith, ints, up, lower);
   apart = λ _. refl;
   once = inl refl;
+  sealed = still (let no : nat_le (current_begin log) place ≡ false = grind (arith, nat_tests, lower) in no);
   none = λ none b has. absurd (in_nothing b (subst (λ (l : List BufferAt). Contains l b) none has));
-}
+} where
+  still : nat_le (current_begin log) place ≡ false → LeavesSealed sum place log log
+  still test = (
+    sym (ap (λ (o : Bool). if o then buffers_of sum log else waiting_of log) test),
+    sym (ap (λ (o : Bool). if o then start_sealed log else start_of log) test),
+  )
 
 -- what the current buffer holds, where that has a place that was reserved
 pub holds_reserved : {D C : Type 0} (log : Log D C) (place : ℕ) → current_begin log ≤ place → place < log.reserved_to → (0 < held_len log) × (place < sealing_end log)
@@ -62,9 +71,9 @@ holds_reserved log place above reserved =
     (omega (arith, above, reserved, raw), omega (arith, reserved, up))
 
 -- It has.
-pub seals_current : {D C : Type 0} (trace : D → Trace) (sum : List ℕ → ℕ) (place : ℕ) (old mid : Log D C) → current_begin old ≤ place → place < reserved_end old → AddsBuffers sum old mid → waiting_of mid ≡ buffers_of sum old → current_begin mid ≡ sealing_end old
+pub seals_current : {D C : Type 0} (trace : D → Trace) (sum : List ℕ → ℕ) (place : ℕ) (old mid : Log D C) → current_begin old ≤ place → place < reserved_end old → AddsBuffers sum old mid → waiting_of mid ≡ buffers_of sum old → current_begin mid ≡ sealing_end old → start_of mid ≡ start_sealed old
     → Preserves trace sum old mid → KeepsTickets old mid → SamePosition old mid → KeepsAll old mid → (IsUsedUp old → ⊥) → SealsFor trace sum place old mid
-seals_current {D} {C} trace sum place old mid above reserved adds waiting begins keeps tickets position same unused =
+seals_current {D} {C} trace sum place old mid above reserved adds waiting begins start keeps tickets position same unused =
     let held = holds_reserved old place above reserved in
     let current = buffers_add sum old held.0 in
     record {
@@ -79,9 +88,16 @@ seals_current {D} {C} trace sum place old mid above reserved adds waiting begins
       unused = λ used. unused used.1;
       apart = λ lower. absurd (omega (arith, above, lower));
       once = inr begins;
+      sealed = by_test (let yes : nat_le (current_begin old) place ≡ true = grind (arith, nat_tests, above) in yes);
       none = λ none b has. by_more (ap (λ (s : Span). s.place) current.seen) (ap (λ (s : Span). s.end) current.seen) held.1 (only_in current.more b (subst (λ (l : List BufferAt). Contains l b) (waiting ∙ current.is ∙ ap (λ (l : List BufferAt). l ++ current.more ∷ []) none) has));
     }
   where
+    by_test : nat_le (current_begin old) place ≡ true → LeavesSealed sum place old mid
+    by_test test = (
+      waiting ∙ sym (ap (λ (o : Bool). if o then buffers_of sum old else waiting_of old) test),
+      start ∙ sym (ap (λ (o : Bool). if o then start_sealed old else start_of old) test),
+    )
+
     by_more : {x b : BufferAt} → x.place ≡ current_begin old → x.end ≡ sealing_end old → place < sealing_end old → x ≡ b → has_place place b ≡ true
     by_more {x} begin end lt is = subst (λ (y : BufferAt). has_place place y ≡ true) is (let lower : nat_le x.place place ≡ true = grind (arith, nat_tests, begin, above) in let upper : nat_lt place x.end ≡ true = grind (arith, nat_tests, end, lt) in ap (λ (o : Bool). o && nat_lt place x.end) lower ∙ upper)
 
@@ -92,3 +108,19 @@ module _ {D C : Type 0} (trace : D → Trace) (sum : List ℕ → ℕ) (place : 
 
   pub held_at_same : held_at sum mid (pos place) ≡ held_at sum old (pos place)
   held_at_same = λ i. if int_lt (pos place) (pos (seals.synced i)) then None else (held_found place (buffers_of sum mid) ∙ ap held_of seals.has ∙ sym (held_found place (buffers_of sum old))) i
+
+  -- and the buffer that has the place is left out, where it is written.
+  module _ (new : Log D C) (start : start_of new ≡ start_of mid) where
+    pub leaves_sealed : waiting_of new ≡ waiting_of mid → LeavesSealed sum place old new
+    leaves_sealed same = (same ∙ seals.sealed.0, start ∙ seals.sealed.1)
+
+    pub leaves_written : waiting_of new ≡ without_around place (waiting_of mid) → LeavesWritten sum place old new
+    leaves_written is = (is ∙ ap (without_around place) seals.sealed.0, start ∙ seals.sealed.1)
+
+    pub writes_around : {T : Type 0} (r : Result T Error) → synced_end old ≤ place → OnOk r (waiting_of new ≡ without_around place (waiting_of mid)) → OnErr r (waiting_of new ≡ waiting_of mid) → WritesAround sum r (pos place) old new
+    writes_around r behind done failed = record {
+      still = λ below. absurd (omega (arith, ints, below, behind));
+      written = λ _. on_ok r _ _ leaves_written done;
+      held = λ held. leaves_sealed (held_err r _ held failed);
+      some = on_err r _ _ (λ same. inr (inl (leaves_sealed same))) failed;
+    }

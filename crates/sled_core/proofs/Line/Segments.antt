@@ -145,10 +145,6 @@ filled_promoted size to vs filled = by_front size (AreFilled size to) (λ v w ws
 pub all_promoted : (size : ℕ) (P : SegmentView → Type 0) (vs : List SegmentView) → All P vs → All P (promoted size vs)
 all_promoted size P vs all = by_front size (All P) (λ v w ws full has. All-drop P 1 (v ∷ w ∷ ws) has) vs all
 
--- each of those that are left was there
-pub promoted_get : (size : ℕ) (vs : List SegmentView) (n : ℕ) (v : SegmentView) → slice_get (promoted size vs) n ≡ Some v → (m : ℕ) × (slice_get vs m ≡ Some v)
-promoted_get size vs = by_front size (λ l. (n : ℕ) (v : SegmentView) → slice_get l n ≡ Some v → (m : ℕ) × (slice_get vs m ≡ Some v)) (λ v w ws full has. λ n x there. has (suc n) x there) vs (λ n v there. (n, there))
-
 -- The first one isn't wholly on the device, unless it is alone.
 pub promoted_waits : (size : ℕ) (vs : List SegmentView) (v w : SegmentView) (ws : List SegmentView) → promoted size vs ≡ v ∷ w ∷ ws → v.parts.written_len ≢ size
 promoted_waits size [] v w ws is = absurd (let never : ⊥ = cc in never)

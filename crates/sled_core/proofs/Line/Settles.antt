@@ -18,8 +18,8 @@ use Rattle.sled_core.specs.Fits.{buffers_of, current_begin, held_len, line_of, s
 use Rattle.sled_core.specs.ReadBuffer.{IsWrittenPlace, held_at, settling}
 use Rattle.sled_core.specs.SealedBuffers.{IsSealed, bytes_between, sealed_count, sealed_end, writing, written_at}
 use Rattle.sled_core.specs.Turned.{IsReadyIn, promoted, write_in, write_of, written_now}
-use Rattle.sled_core.specs.Waiting.{BufferAt, Span, buffer_at, has_place, held_around, none_around, placed, unless_held, unwritten, unwritten_of, write_around}
-use Rattle.sled_core.proofs.Line.Around.{IsAround, all_found, begin_above, fewer_line, found, found_above, found_front, found_in, found_line, found_there, found_written, held_found, held_of, is_none, left_of, none_found, writes_found, writes_of}
+use Rattle.sled_core.specs.Waiting.{BufferAt, Span, buffer_at, has_place, held_around, none_around, placed, unless_held, unwritten, unwritten_of, without_around, write_around}
+use Rattle.sled_core.proofs.Line.Around.{IsAround, all_found, begin_above, fewer_line, found, found_above, found_front, found_in, found_line, found_there, found_written, held_found, held_of, is_none, left_of, none_found, without_in, without_line, without_none, writes_found, writes_of}
 use Rattle.sled_core.proofs.Line.Below.{lie_begin, none_first}
 use Rattle.sled_core.proofs.Line.Entered.{filled_last}
 use Rattle.sled_core.proofs.Line.Facts.{IsSegment, current_facts, nth_facts}
@@ -131,6 +131,10 @@ module _ {D C : Type 0} (log : Log D C) (place : ℕ) (looked : LooksAt log plac
   pub nothing_waits : found place (unwritten_of v.parts) ≡ None → ((b : BufferAt) → Contains (waiting_of log) b → has_place place b ≡ true) → waiting_of log ≡ []
   nothing_waits is all = all_found place (waiting_of log) all (waiting_found ∙ is)
 
+  -- nothing is left out
+  pub without_still : found place (unwritten_of v.parts) ≡ None → waiting_of log ≡ without_around place (waiting_of log)
+  without_still is = sym (without_none place (waiting_of log) (waiting_found ∙ is))
+
   -- It lies in what was written without a gap,
   pub found_early : place - v.parts.site.place < v.parts.written_len → found place (unwritten_of v.parts) ≡ None
   found_early early =
@@ -221,15 +225,25 @@ module _ {D C : Type 0} (log : Log D C) (place : ℕ) (looked : LooksAt log plac
           ∙ ap (found (v.parts.site.place + (place - v.parts.site.place))) (unwritten_run v.parts.site v.parts.bytes v.parts.written_len (written_at k v.parts.sealed) v.parts.reserved)
           ∙ found_written v.parts.site v.parts.bytes (place - v.parts.site.place) v.parts.written_len v.parts.sealed v.parts.reserved k b facts.are around
 
+      left_out : unwritten_of (written_now k v).parts ≡ without_around place (unwritten_of v.parts)
+      left_out =
+          unwritten_run v.parts.site v.parts.bytes v.parts.written_len (written_at k v.parts.sealed) v.parts.reserved
+          ∙ sym (without_in v.parts.site v.parts.bytes (place - v.parts.site.place) v.parts.written_len v.parts.sealed v.parts.reserved k b facts.are around)
+          ∙ ap (λ p. without_around p (unwritten_of v.parts)) (sym off)
+
       -- Once that is written, the place is.
       module _ (new : Log D C) (wrote : line_of new ≡ promoted size (set line n (written_now k v))) where
-        pub wrote_current : current_begin new ≡ current_begin log
+        wrote_current : current_begin new ≡ current_begin log
         wrote_current = ap end_of wrote ∙ promoted_end size (set line n (written_now k v)) ∙ set_end line n v k looked.among
 
         wrote_waiting : waiting_of new ≡ unwritten (set line n (written_now k v))
         wrote_waiting =
             ap unwritten wrote
             ∙ promoted_unwritten size (set line n (written_now k v)) (set_within size line n v k b looked.among there is_ready_there.ready (segments_within size log.site.place line (line_segments log)))
+
+        -- and that buffer is left out
+        pub wrote_without : waiting_of new ≡ without_around place (waiting_of log)
+        wrote_without = wrote_waiting ∙ without_line size log.site.place place line n v (written_now k v) (line_segments log) looked.among looked.low looked.high left_out
 
         wrote_found : found place (waiting_of new) ≡ None
         wrote_found = ap (found place) wrote_waiting ∙ found_line size log.site.place place line n v (written_now k v) (line_segments log) looked.among looked.low looked.high ∙ found_marked

@@ -5,8 +5,9 @@ use Rattle.sled_store.specs.Device.{Trace}
 use Rattle.sled_store.specs.declared.config.RunningConfig.{RunningConfig}
 use Rattle.sled_core.specs.Begun.{SegmentView, view_at}
 use Rattle.sled_core.specs.declared.logger.Log.{Log}
-use Rattle.sled_core.specs.Fits.{AwaitsIn, Holds, IsUnchanged, KeepsAll, KeepsTickets, NoneOpenIn, current_of, line_of, machine_at, segment_size_of, synced_end}
+use Rattle.sled_core.specs.Fits.{AwaitsIn, Holds, IsUnchanged, KeepsAll, KeepsTickets, current_of, line_of, machine_at, segment_size_of, synced_end}
 use Rattle.sled_core.specs.Keeps.{Preserves, SamePosition}
+use Rattle.sled_core.specs.OpenPlaces.{open_places_along}
 use Rattle.sled_core.specs.Positions.{position_in}
 use Rattle.sled_core.specs.Running.{Fits}
 use Rattle.sled_core.specs.Turned.{ChangesLine}
@@ -34,7 +35,7 @@ module _ {D C : Type 0} (old new : Log D C) (same : IsUnchanged old new) where
   pub unchanged_tickets : KeepsTickets old new
   unchanged_tickets = record {
     awaits = λ ticket m awaits. subst (λ (l : List SegmentView). AwaitsIn l ticket m) (sym same.line) awaits;
-    ended = λ ended. subst NoneOpenIn (sym same.line) ended;
+    opens = ap open_places_along same.line;
   }
 
   pub unchanged_position : SamePosition old new

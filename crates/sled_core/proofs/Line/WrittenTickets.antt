@@ -1,5 +1,5 @@
 -- Tickets are for what they were for once a sealed buffer of one of the segments is written: the reservations that go with it have ended.
-use Rattle.std.proofs.Common.{◌≡◌, ◌∙◌, ◌≤◌, ◌+◌, ◌-◌, ap, sym, arith, subst, ℕ, true, List, take, drop, set, Some, inl, inr}
+use Rattle.std.proofs.Common.{◌++◌, ◌≡◌, ◌∙◌, ◌≤◌, ◌+◌, ◌-◌, ap, sym, arith, subst, ℕ, true, List, take, drop, set, Some, inl, inr}
 use Rattle.std.specs.List.{slice_get}
 use Rattle.std.proofs.lemmas.Bool.{cases_eq, cases_lt}
 use Rattle.sled_codec.specs.History.{Message}
@@ -8,14 +8,16 @@ use Rattle.sled_core.specs.Buffers.{message_in, none_open}
 use Rattle.sled_core.specs.declared.iobuf.Reserved.{Reserved}
 use Rattle.sled_core.specs.declared.iobuf.Sealed.{Sealed}
 use Rattle.sled_core.specs.declared.reservation.Reservation.{Reservation}
-use Rattle.sled_core.specs.Fits.{AwaitsIn, NoneOpenIn}
+use Rattle.sled_core.specs.Fits.{AwaitsIn}
+use Rattle.sled_core.specs.OpenPlaces.{open_places_in}
 use Rattle.sled_core.specs.SealedBuffers.{AreSealed, is_ready, run_count, written_at}
 use Rattle.sled_core.specs.Tickets.{IsFor, index_of}
 use Rattle.sled_core.specs.Turned.{written_now}
 use Rattle.sled_core.proofs.Line.Nth.{set_get, set_other}
+use Rattle.sled_core.proofs.Line.OpenPlaces.{none_placed, places_of, places_parted}
 use Rattle.sled_core.proofs.Line.Segments.{run_written}
 use Rattle.sled_core.proofs.Sealed.Ended.{get_behind, get_front}
-use Rattle.sled_core.proofs.Sealed.EndedParts.{ended_behind, not_open}
+use Rattle.sled_core.proofs.Sealed.EndedParts.{not_open}
 
 module _ (line : List SegmentView) (n k : ℕ) (v : SegmentView) (b : Sealed) (among : slice_get line n ≡ Some v) (there : slice_get v.parts.sealed k ≡ Some b) (ready : is_ready b ≡ true) (are : AreSealed v.parts.written_len v.parts.reserved v.parts.sealed) where
   abbrev gone : ℕ
@@ -67,11 +69,6 @@ module _ (line : List SegmentView) (n k : ℕ) (v : SegmentView) (b : Sealed) (a
     }
   ]
 
-  pub ended_written : NoneOpenIn line → NoneOpenIn (set line n (written_now k v))
-  ended_written ended j u at = elim (cases_eq j n) [
-    | inl same ↦ (
-        let both : Some (written_now k v) ≡ Some u = sym (set_get line n v (written_now k v) among) ∙ ap (slice_get (set line n (written_now k v))) (sym same) ∙ at in
-        let one : written_now k v ≡ u = cc in
-        subst (λ (w : SegmentView). none_open w.parts.reserved ≡ true) one (ended_behind gone entries (ended n v among)))
-    | inr other ↦ ended j u (sym (set_other line n j (written_now k v) other) ∙ at)
-  ]
+  -- and the same reservations are open
+  pub places_written : places_of (written_now k v) ≡ places_of v
+  places_written = sym (places_parted v.parts.site.place gone entries ∙ ap (λ (l : List ℕ). l ++ open_places_in v.parts.site.place (drop gone entries)) (none_placed v.parts.site.place (take gone entries) closed))

@@ -1,12 +1,13 @@
 //! Giving a reservation up.
 //!
 //! Its record is written all the same, as one that every reader passes over (`specs/Canceled.antt`).
-ghost use Rattle.std.specs.Prelude.{◌≡◌, ◌≢◌, IfOk, OnOk, OnErr};
+ghost use Rattle.std.specs.Prelude.{◌≡◌, ◌≢◌, ℕ, pos, IfOk, OnOk, OnErr};
 ghost use Rattle.sled_codec.specs.History.{History, Message};
 ghost use Rattle.sled_core.specs.Canceled.{WritesCanceled};
 ghost use Rattle.sled_core.specs.Causes.{FaultAnswers};
-ghost use Rattle.sled_core.specs.Fits.{Awaits, Holds, IsOnlyOpen, IsOpen, KeepsAll, KeepsBuffers, NoneOpen, fault_of};
+ghost use Rattle.sled_core.specs.Fits.{Awaits, Holds, IsOpen, KeepsAll, KeepsBuffers, fault_of, open_places};
 ghost use Rattle.sled_core.specs.Keeps.{Preserves, SamePosition};
+ghost use Rattle.sled_core.specs.OpenPlaces.{TakesOut};
 ghost use Rattle.sled_core.specs.Tickets.{place_of, pointer_of};
 
 use crate::logger::Log;
@@ -30,7 +31,7 @@ impl<D: Device, C: Checksum> Log<D, C> {
             → OnOk result (WritesCanceled C.sum_of self.new m) }
         ensures others { (H : History) (other : Reservation) (m : Message) → Holds D.trace C.sum_of self.old H
             → Awaits self.old other m → place_of other ≢ place_of ticket → Awaits self.new other m }
-        ensures ended { IsOnlyOpen self.old ticket → OnOk result (NoneOpen self.new) }
+        ensures opens { (place : ℕ) → pos place ≡ place_of ticket → OnOk result (TakesOut place (open_places self.old) (open_places self.new)) }
         ensures answers { FaultAnswers result (fault_of self.old) }
         ensures keeps { Preserves D.trace C.sum_of self.old self.new }
         ensures same { KeepsAll self.old self.new }

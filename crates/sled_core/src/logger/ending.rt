@@ -109,5 +109,6 @@ fn is_for(site: &SegmentPosition, r: &Reserved, ticket: &Reservation) -> bool
         DiskPtr::Blob(_, _) => false,
     };
     let same_place = ticket.lsn() >= 0 && ticket.lsn() as u64 == site.place + r.from as u64;
-    r.state.is_open() && same_place && same_pointer
+    let same_len = ticket.reservation_len() == r.len;
+    r.state.is_open() && same_place && same_pointer && same_len
 }

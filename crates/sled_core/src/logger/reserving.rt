@@ -93,7 +93,7 @@ impl<D: Device, C: Checksum> Log<D, C> {
         ensures line { line_of self.new ≡ at_last (reserved_now (placeholder_head (take head.now.len head.now.bytes) ++ T.short (T.meaning item.now))
             (reserved_for purpose.now (length (current_of self.old).parts.bytes) head.now.len item_len (C.sum_of (T.short (T.meaning item.now)
             ++ drop 4 (take head.now.len head.now.bytes))))) (line_of self.old) }
-        ensures ticket { IsTicketFor self.old result }
+        ensures ticket { IsTicketFor self.old result (head.now.len + item_len) }
         ensures reserved { self.new.reserved_to ≡ (current_of self.old).parts.site.place + length (current_of self.old).parts.bytes + head.now.len + item_len }
         ensures rest { ChangesSlots self.old self.new }
         ensures accountant { self.new.accountant ≡ self.old.accountant }
@@ -104,7 +104,7 @@ impl<D: Device, C: Checksum> Log<D, C> {
         let place = (site.place + at) as i64;
         let to = site.place + at + (head.len + item_len) as u64;
         self.lay_out(head, purpose, item, item_len, to);
-        Reservation::new(place, DiskPtr::Inline(site.slot + at), index)
+        Reservation::new(place, DiskPtr::Inline(site.slot + at), index, head.len + item_len)
     }
 
     /// Lays out the placeholder. What is reserved ends there then.

@@ -1,13 +1,13 @@
 //! Bringing the buffer of one place to the device.
 //!
 //! The others aren't written, so it may lie behind a gap (`specs/ReadBuffer.antt`).
-ghost use Rattle.std.specs.Prelude.{◌≡◌, ◌<◌, ◌≤◌, ◌⊎◌, Contains, pos, None, true, OnOk};
+ghost use Rattle.std.specs.Prelude.{◌≡◌, ◌<◌, ◌≤◌, ◌⊎◌, Contains, pos, None, true, OnErr, OnOk};
 ghost use Rattle.sled_store.specs.Script.{after_all, Performs};
 ghost use Rattle.sled_core.specs.Causes.{HeldAnswers, IsHeld, OnDone};
-ghost use Rattle.sled_core.specs.Fits.{KeepsTickets, NoneSealed, current_begin, device_of, fault_of, reserved_end, synced_end, waiting_of};
+ghost use Rattle.sled_core.specs.Fits.{KeepsTickets, NoneSealed, current_begin, device_of, fault_of, reserved_end, start_of, synced_end, waiting_of};
 ghost use Rattle.sled_core.specs.Keeps.{Preserves, SamePosition};
-ghost use Rattle.sled_core.specs.ReadBuffer.{IsUsedUpAt, IsWrittenPlace, SealsAround, held_at, settling};
-ghost use Rattle.sled_core.specs.Waiting.{BufferAt, has_place};
+ghost use Rattle.sled_core.specs.ReadBuffer.{IsUsedUpAt, IsWrittenPlace, SealsAround, WritesAround, held_at, settling};
+ghost use Rattle.sled_core.specs.Waiting.{BufferAt, has_place, without_around};
 
 use crate::logger::Log;
 use sled_codec::result::{Error, Result};
@@ -29,6 +29,7 @@ impl<D: Device, C: Checksum> Log<D, C> {
         ensures answers { HeldAnswers result (held_at C.sum_of self.old (pos place)) (IsUsedUpAt self.old (pos place)) None (fault_of self.new)
             (D.faults (device_of self.old)) (D.faults (device_of self.new)) }
         ensures seals { SealsAround result (pos place) self.old self.new }
+        ensures buffers { WritesAround C.sum_of result (pos place) self.old self.new }
     {
         if place < self.stable_end() {
             return Ok(());
@@ -52,7 +53,9 @@ impl<D: Device, C: Checksum> Log<D, C> {
         ensures position { SamePosition self.old self.new }
         ensures answers { HeldAnswers result (held_at C.sum_of self.old (pos place)) ⊥ None (fault_of self.new)
             (D.faults (device_of self.old)) (D.faults (device_of self.new)) }
-        ensures current { current_begin self.new ≡ current_begin self.old }
+        ensures start { start_of self.new ≡ start_of self.old }
+        ensures without { OnOk result (waiting_of self.new ≡ without_around place (waiting_of self.old)) }
+        ensures same { OnErr result (waiting_of self.new ≡ waiting_of self.old) }
         ensures one { ((b : BufferAt) → Contains (waiting_of self.old) b → has_place place b ≡ true) → OnOk result (NoneSealed self.new) }
     {
         let n = self.segment_of(place);

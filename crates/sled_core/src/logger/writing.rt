@@ -14,7 +14,7 @@ ghost use Rattle.sled_store.specs.Script.{after_all, Performs};
 ghost use Rattle.sled_core.specs.Begun.{SegmentView, line_at};
 ghost use Rattle.sled_core.specs.Buffers.{first_open_in, open_in};
 ghost use Rattle.sled_core.specs.Causes.{Answers, FaultOrMemory, HeldAnswers, OnDone};
-ghost use Rattle.sled_core.specs.Fits.{Holds, IsUnchanged, IsUsedUp, IsUsedUpBelow, IsWritten, KeepsAll, KeepsTickets, NoneSealed, buffers_of, current_begin, current_of, device_of, fault_of, flushing, held_len, holding_below, line_of, pending_of, reserved_end, sealing_end, segment_size_of, synced_end, waiting_of, writing_below, writing_pending};
+ghost use Rattle.sled_core.specs.Fits.{Holds, IsUnchanged, IsUsedUp, IsUsedUpBelow, IsWritten, KeepsAll, KeepsTickets, NoneSealed, buffers_of, current_begin, current_of, device_of, fault_of, flushing, held_len, holding_below, line_of, pending_of, reserved_end, sealing_end, segment_size_of, start_of, synced_end, waiting_of, writing_below, writing_pending};
 ghost use Rattle.sled_core.specs.Keeps.{LeavesAbove, LeavesSome, Preserves, SamePosition, SealsBelow, WritesBelow};
 ghost use Rattle.sled_core.specs.Running.{Fits, end_below};
 ghost use Rattle.sled_core.specs.Turned.{ChangesDevice, HasBufferAt, IsReadyIn, promoted, ready_below, write_in, written_now};
@@ -57,7 +57,7 @@ impl<D: Device, C: Checksum> Log<D, C> {
         ensures keeps { Preserves D.trace C.sum_of self.old self.new }
         ensures tickets { KeepsTickets self.old self.new }
         ensures position { SamePosition self.old self.new }
-        ensures current { current_begin self.new ≡ current_begin self.old }
+        ensures start { start_of self.new ≡ start_of self.old }
         ensures answers { Answers result (fault_of self.old) (fault_of self.new) (D.faults (device_of self.old)) (D.faults (device_of self.new)) }
         ensures faulty { (e : IoError) → fault_of self.old ≡ Some e → self.new ≡ self.old }
         ensures err { OnErr result ((synced_end self.new ≡ synced_end self.old) × (waiting_of self.new ≡ waiting_of self.old)) }

@@ -1,16 +1,27 @@
 -- What lies below a cut of an orderly history is orderly.
-use Rattle.std.proofs.Common.{◌≡◌, ◌≢◌, ◌∙◌, ◌&&◌, ◌==◌, ◌^◌, ◌-◌, ◌+◌, ◌≤◌, ℕ, Bool, true, false, cond, nat_lt, List, [], ◌∷◌, ◌++◌, length, refl, sym, ap, subst, inl, inr, arith, ltb-true, lt-ltb}
+use Rattle.std.proofs.Common.{◌≡◌, ◌≢◌, ◌∙◌, ◌&&◌, ◌==◌, ◌^◌, ◌-◌, ◌+◌, ◌<◌, ◌≤◌, ℕ, Bool, true, false, cond, nat_lt, List, [], ◌∷◌, ◌++◌, length, refl, sym, ap, subst, inl, inr, arith, ltb-true, lt-ltb}
 use Rattle.std.specs.List.{All, filter}
 use Rattle.std.proofs.lemmas.Bool.{cases_lt, ltb-false}
 use Rattle.std.proofs.lemmas.List.{append_assoc}
-use Rattle.std.proofs.lemmas.List.Elements.{All-weaker, All-filter}
+use Rattle.std.proofs.lemmas.List.Elements.{All-weaker, All-filter, All-contains}
 use Rattle.sled_codec.specs.History.{Message, History, page_state, of_page, table, below}
 use Rattle.sled_codec.specs.WellFormed.{LieApart, ChangesPage, IsWellFormed}
 use Rattle.sled_log.specs.Orderly.{IsOrderly}
-use Rattle.sled_store.proofs.Histories.Ascending.{filter_sublist}
+use Rattle.sled_store.proofs.Histories.Ascending.{IsSublist, all_from_in, filter_sublist, sublist_in}
 use Rattle.sled_log.proofs.PageTable.BelowLemmas.{drops_high}
 use Rattle.sled_log.proofs.PageTable.TableCuts.{below_same}
-use Rattle.sled_log.proofs.Sessions.RunHistories.{sublist_apart}
+
+-- some of the messages that lie apart lie apart
+pub sublist_apart : (xs ys : List Message) → IsSublist xs ys → LieApart ys → LieApart xs
+sublist_apart [] ys sub apart = tt
+sublist_apart (x ∷ xs) [] sub apart = absurd sub
+sublist_apart (x ∷ xs) (y ∷ ys) (inl both) apart = (
+  subst (λ (z : Message). 0 < z.size) (sym both.0) apart.0,
+  all_from_in (λ n. x.place + x.size ≤ n.place) xs (λ n there.
+      subst (λ (z : Message). z.place + z.size ≤ n.place) (sym both.0) (All-contains (λ z. y.place + y.size ≤ z.place) ys n apart.1 (sublist_in xs ys n both.1 there))),
+  sublist_apart xs ys both.1 apart.2,
+)
+sublist_apart (x ∷ xs) (y ∷ ys) (inr sub) apart = sublist_apart (x ∷ xs) ys sub apart.2
 
 -- messages below a cut are the first ones of all
 first_ones : (cut : ℕ) (ms : List Message) → LieApart ms → (rest : List Message) × (ms ≡ filter (λ m. nat_lt m.place cut) ms ++ rest)
@@ -34,7 +45,7 @@ same_filters {X} p q r same (x ∷ xs) = by (r x) refl (same_filters p q r same 
 
 module _ (H : History) (cut : ℕ) where
   -- a table is that of the history, below the cut at most
-  table_of_page : (bound page : ℕ) → cut ≤ bound → of_page (below H cut).messages bound page ≡ of_page (below H cut).messages cut page
+  pub table_of_page : (bound page : ℕ) → cut ≤ bound → of_page (below H cut).messages bound page ≡ of_page (below H cut).messages cut page
   unfolding of_page below
   table_of_page bound page le =
       same_filters (λ m. (m.page == page) && nat_lt m.place bound) (λ m. (m.page == page) && nat_lt m.place cut) (λ m. nat_lt m.place cut)

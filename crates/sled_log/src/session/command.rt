@@ -1,24 +1,35 @@
 //! What a session is told, and what it answers.
 
-use crate::snapshot::Snapshot;
-use sled_codec::result::{DiskPtr, Error, Lsn, PageId};
+use sled_codec::result::{DiskPtr, Error, LogOffset, Lsn, PageId};
 use sled_store::Choice;
 
-/// What a run is told to do.
+/// What a session is told to do. Tickets are counted from 0 on in each log that is opened.
 #[derive(Drop)]
 pub enum Command {
     /// Recovers what the device has, and opens a log on it, where none is open.
     Open,
-    /// Keeps a place for a Replace of this page with these bytes, where no other reservation is open. Pages are
-    /// begun in order: the page is one that has a Replace already, or the next one.
+    /// Keeps a place for a message that replaces a page by these bytes. Pages are begun in order: the page is one that is
+    /// begun, or the next one.
     Replace(PageId, Vec<u8>),
-    /// Completes the message of the reservation that is open.
-    Complete,
-    /// Writes what was completed and syncs it, where no reservation is open.
+    /// Keeps a place for a message that puts a fragment of these bytes on a page that is present.
+    Link(PageId, Vec<u8>),
+    /// Keeps a place for a message that gives a page back that is present.
+    Free(PageId),
+    /// Completes the message of a ticket.
+    Complete(usize),
+    /// Gives the message of a ticket up.
+    Abort(usize),
+    /// Writes one of the sealed buffers that can be written, counted by place, and syncs it.
+    Write(usize),
+    /// Writes all that was reserved, and syncs it.
     Flush,
-    /// Closes the log that is open. What was not flushed is lost.
+    /// Makes the message at a place durable, and all before it.
+    Stable(Lsn),
+    /// Reads what a page is.
+    Read(PageId),
+    /// Closes the log that is open. What isn't durable is lost.
     Halt,
-    /// Has the device stop within a call, after so many more calls that change or sync; where no log is open.
+    /// Has the device stop within a call, after so many more calls that change or sync.
     Stop(u64),
     /// Closes the log, if one is open, and has the device crash and leave this, where it may, and else what was
     /// durable.
@@ -28,16 +39,27 @@ pub enum Command {
 /// What came of a command.
 #[derive(Drop)]
 pub enum Reply {
-    /// This was recovered, and a log is open on it.
-    Opened(Snapshot),
-    /// This was recovered, and no log is open: none could be started for this error.
-    Recovered(Snapshot, Error),
-    /// A place is kept for the message, with this pointer.
-    Reserved(Lsn, DiskPtr),
-    /// The message of this place was completed.
+    /// A log is open on what was recovered.
+    Opened {
+        /// The place at which the log goes on, if it was ever begun.
+        stable: Option<Lsn>,
+        /// The slot of the segment in which it goes on, if that was begun.
+        active: Option<LogOffset>,
+        /// How many pages are begun.
+        pages: usize,
+    },
+    /// A place is kept for a message: the number of its ticket, its place, and where it lies on the disk.
+    Reserved(usize, Lsn, DiskPtr),
+    /// The message of a ticket was completed or given up, which has this place and lies there.
     Done(Lsn, DiskPtr),
+    /// The buffer was written.
+    Written,
     /// The stable end grew by so many bytes.
     Flushed(usize),
+    /// What a page is: the encodings of its items, that of its Replace first.
+    Page(Vec<Vec<u8>>),
+    /// The page was given back.
+    FreePage,
     /// The log is closed.
     Halted,
     /// The device will stop.
@@ -46,6 +68,32 @@ pub enum Reply {
     Crashed(bool),
     /// The command failed with this error.
     Failed(Error),
-    /// The command was out of its turn, and nothing was done.
-    Refused,
+    /// The device stopped within the command.
+    Stopped,
+    /// Nothing was done.
+    Refused(Refusal),
+}
+
+/// Why nothing was done. Where several of these hold, the first one is told.
+#[derive(Debug, Clone, Copy, PartialEq, Eq)]
+pub enum Refusal {
+    /// The device is stopped, and the command is no `Crash`.
+    Stopped,
+    /// A log is open already.
+    Open,
+    /// No log is open.
+    Closed,
+    /// A `Replace` of a page above the next one, a `Read` of a page that isn't begun, or a `Link` or `Free` of one that isn't
+    /// present.
+    Page,
+    /// The page has an open ticket, and the command is no `Read`.
+    Busy,
+    /// The page has 254 fragments.
+    Fragments,
+    /// No such ticket is open.
+    Ticket,
+    /// There are no more buffers that can be written.
+    Index,
+    /// The item is too long for a record.
+    Item,
 }

@@ -1,267 +1,223 @@
 //! One command of a session, carried out in its phase (`specs/RunPhases.antt`).
-ghost use Rattle.std.specs.Prelude.{◌≡◌};
-ghost use Rattle.sled_codec.specs.Snapshots.{model_of};
+ghost use Rattle.std.specs.Prelude.{Bool, ◌≡◌};
 ghost use Rattle.sled_core.specs.Fits.{config_of};
-ghost use Rattle.sled_log.specs.Runs.{StartActs};
-ghost use Rattle.sled_log.specs.RunPhases.{HasNoneOpen, HasOneOpen, CanGoOn, Shows, Starts, CarriesOut, Continues};
-ghost use Rattle.sled_log.specs.RunPhases.{view_by, running, device_in};
+ghost use Rattle.sled_log.specs.declared.session.command.Command.TheVariants as command;
+ghost use Rattle.sled_log.specs.Refusals.{is_crash, refusal_for, refused_closed};
+ghost use Rattle.sled_log.specs.Runs.{told};
+ghost use Rattle.sled_log.specs.RunPhases.{AnswersIn, CarriesOut, IsAt, RunsOn, Unstored, device_in, running, size_of, stands, view_by};
 
-use crate::session::command::{Command, Reply};
-use crate::snapshot::{Snapshot, read_snapshot_or_default};
-use sled_codec::result::PageId;
+use crate::session::Phase;
+use crate::session::command::{Command, Refusal, Reply};
+use crate::session::ending::{abort, complete};
+use crate::session::opened::Opened;
+use crate::session::opening::open;
+use crate::session::reading::read;
+use crate::session::reserving::reserve;
+use crate::session::writing::{flush, stabilize, write};
+use sled_codec::result::Error;
 use sled_codec::serialization::{Checksum, LogKind};
-use sled_core::logger::Log;
-use sled_core::reservation::{Guard, Reservation};
 use sled_store::{Choice, CrashDevice, RunningConfig};
 
-/// What a run is at: the device while no log is open, a log that is open, or one with an open reservation.
-pub(crate) enum Phase<D, C> {
-    Closed(RunningConfig<D, C>),
-    Open(Opened<D, C>),
-    Waiting(Opened<D, C>, Ticket),
-}
-
-/// A log that is open. A pin is out, since no message is marked yet.
-pub(crate) struct Opened<D, C> {
-    log: Log<D, C>,
-    guard: Guard,
-    /// How many pages have a Replace.
-    begun: u64,
-}
-
-/// The reservation that is open.
-pub(crate) struct Ticket {
-    page: PageId,
-    reservation: Reservation,
-}
-
-/// Carries out a command.
+/// Carries out a command, unless it is refused.
 pub(crate) fn step<D: CrashDevice, C: Checksum>(
     phase: Phase<D, C>,
-    command: Command,
+    command: &Command,
 ) -> (Phase<D, C>, Reply)
-    requires can_go_on { CanGoOn phase }
-    ensures step { CarriesOut (view_by D.trace D.faults D.is_stopped D.stops_in) C.sum_of phase command result }
-    ensures on { Continues D.trace phase result.0 }
+    ensures step { AnswersIn (view_by D.trace D.faults D.is_stopped D.stops_in) C.sum_of phase command.now result }
+    ensures on { RunsOn D.trace (running phase) (running result.0) }
 {
+    if let Some(why) = refusal(&phase, command) {
+        return (phase, Reply::Refused(why));
+    }
+    let (next, reply) = carry_out(phase, command);
+    let told = tell(&next, reply);
+    (next, told)
+}
+
+/// Why a command is refused, if it is.
+fn refusal<D: CrashDevice, C: Checksum>(phase: &Phase<D, C>, command: &Command) -> Option<Refusal>
+    ensures why { let view = view_by D.trace D.faults D.is_stopped D.stops_in in (k : Unstored) → IsAt D.trace C.sum_of phase.now k
+        → result ≡ refusal_for (size_of phase.now) (stands view phase.now k) command.now }
+{
+    if is_stopped(phase) && !is_crash(command) {
+        return Some(Refusal::Stopped);
+    }
     match phase {
-        Phase::Closed(config) => step_closed(config, command),
-        Phase::Open(opened) => step_open(opened, command),
-        Phase::Waiting(opened, ticket) => step_waiting(opened, ticket, command),
+        Phase::Closed(_) => refuse_closed(command),
+        Phase::Open(opened) => opened.refusal(command),
     }
 }
 
-/// Carries out a command while no log is open.
-fn step_closed<D: CrashDevice, C: Checksum>(
-    config: RunningConfig<D, C>,
-    command: Command,
+/// Why a command is refused while no log is open.
+fn refuse_closed(command: &Command) -> Option<Refusal>
+    ensures { result ≡ refused_closed command.now }
+{
+    match command {
+        Command::Open | Command::Stop(_) | Command::Crash(_) => None,
+        Command::Replace(_, _)
+        | Command::Link(_, _)
+        | Command::Free(_)
+        | Command::Complete(_)
+        | Command::Abort(_)
+        | Command::Write(_)
+        | Command::Flush
+        | Command::Stable(_)
+        | Command::Read(_)
+        | Command::Halt => Some(Refusal::Closed),
+    }
+}
+
+/// Whether a command is a `Crash`.
+fn is_crash(command: &Command) -> bool
+    ensures { result ≡ is_crash command.now }
+{
+    matches!(command, Command::Crash(_))
+}
+
+/// Whether the device is stopped.
+fn is_stopped<D: CrashDevice, C: Checksum>(phase: &Phase<D, C>) -> bool
+    ensures { result ≡ D.is_stopped (running phase.now).device }
+{
+    match phase {
+        Phase::Closed(config) => config.device.stopped(),
+        Phase::Open(opened) => opened.log.is_stopped(),
+    }
+}
+
+/// What is told of a reply: a failure of a device that is stopped is that.
+fn tell<D: CrashDevice, C: Checksum>(phase: &Phase<D, C>, reply: Reply) -> Reply
+    ensures { result ≡ told (D.is_stopped (running phase.now).device) reply }
+{
+    match reply {
+        Reply::Failed(Error::Io(e)) => {
+            if is_stopped(phase) {
+                Reply::Stopped
+            } else {
+                Reply::Failed(Error::Io(e))
+            }
+        }
+        other => other,
+    }
+}
+
+/// Carries out a command that is not refused.
+fn carry_out<D: CrashDevice, C: Checksum>(
+    phase: Phase<D, C>,
+    command: &Command,
 ) -> (Phase<D, C>, Reply)
-    ensures step { CarriesOut (view_by D.trace D.faults D.is_stopped D.stops_in) C.sum_of (Phase.Closed config) command result }
-    ensures on { Continues D.trace (Phase.Closed config) result.0 }
+    ensures step { CarriesOut (view_by D.trace D.faults D.is_stopped D.stops_in) C.sum_of phase command.now result }
+    ensures on { RunsOn D.trace (running phase) (running result.0) }
+{
+    match phase {
+        Phase::Closed(config) => carry_out_closed(config, command),
+        Phase::Open(opened) => carry_out_open(opened, command),
+    }
+}
+
+/// Does that while no log is open.
+fn carry_out_closed<D: CrashDevice, C: Checksum>(
+    config: RunningConfig<D, C>,
+    command: &Command,
+) -> (Phase<D, C>, Reply)
+    ensures step { CarriesOut (view_by D.trace D.faults D.is_stopped D.stops_in) C.sum_of (Phase.Closed config) command.now result }
+    ensures on { RunsOn D.trace config (running result.0) }
 {
     match command {
         Command::Open => open(config),
-        Command::Stop(n) => stop(config, n),
+        Command::Stop(n) => {
+            let mut config = config;
+            config.device.stop_after(*n);
+            (Phase::Closed(config), Reply::Armed)
+        }
         Command::Crash(choice) => crash(config, choice),
-        Command::Replace(_, _) | Command::Complete | Command::Flush | Command::Halt => {
-            (Phase::Closed(config), Reply::Refused)
-        }
+        _ => (Phase::Closed(config), Reply::Refused(Refusal::Closed)),
     }
 }
 
-/// Carries out a command while a log is open and no reservation is.
-fn step_open<D: CrashDevice, C: Checksum>(
+/// Does that while a log is open.
+fn carry_out_open<D: CrashDevice, C: Checksum>(
     opened: Opened<D, C>,
-    command: Command,
+    command: &Command,
 ) -> (Phase<D, C>, Reply)
-    requires no_open_batch { HasNoneOpen opened }
-    ensures step { CarriesOut (view_by D.trace D.faults D.is_stopped D.stops_in) C.sum_of (Phase.Open opened) command result }
-    ensures on { Continues D.trace (Phase.Open opened) result.0 }
+    ensures step { CarriesOut (view_by D.trace D.faults D.is_stopped D.stops_in) C.sum_of (Phase.Open opened) command.now result }
+    ensures on { RunsOn D.trace (config_of opened.log) (running result.0) }
 {
-    match command {
-        Command::Replace(page, item) => replace(opened, page, &item),
-        Command::Flush => flush(opened),
-        Command::Halt => (Phase::Closed(halt(opened)), Reply::Halted),
-        Command::Crash(choice) => crash(halt(opened), choice),
-        Command::Open | Command::Complete | Command::Stop(_) => {
-            (Phase::Open(opened), Reply::Refused)
-        }
-    }
+    let mut opened = opened;
+    let reply = match command {
+        Command::Replace(page, item) => reserve(&mut opened, LogKind::Replace, *page, item),
+        Command::Link(page, item) => reserve(&mut opened, LogKind::Link, *page, item),
+        Command::Free(page) => reserve(&mut opened, LogKind::Free, *page, &()),
+        Command::Complete(number) => complete(&mut opened, *number),
+        Command::Abort(number) => abort(&mut opened, *number),
+        Command::Write(i) => write(&mut opened, *i),
+        Command::Flush => flush(&mut opened),
+        Command::Stable(place) => stabilize(&mut opened, *place),
+        Command::Read(page) => read(&mut opened, *page),
+        Command::Stop(n) => stop_open(&mut opened, *n),
+        Command::Halt => return (Phase::Closed(opened.halt()), Reply::Halted),
+        Command::Crash(choice) => return crash_open(opened, choice),
+        Command::Open => Reply::Refused(Refusal::Open),
+    };
+    (Phase::Open(opened), reply)
 }
 
-/// Carries out a command while a reservation is open.
-fn step_waiting<D: CrashDevice, C: Checksum>(
+/// Has the device of a log stop.
+fn stop_open<D: CrashDevice, C: Checksum>(opened: &mut Opened<D, C>, n: u64) -> Reply
+    ensures step { CarriesOut (view_by D.trace D.faults D.is_stopped D.stops_in) C.sum_of (Phase.Open opened.old) (command.Stop n) (Phase.Open opened.new, result) }
+    ensures on { RunsOn D.trace (config_of opened.old.log) (config_of opened.new.log) }
+{
+    opened.log.stop_after(n);
+    Reply::Armed
+}
+
+/// Closes the log, and has its device crash, where memory for a copy of the choice is found.
+fn crash_open<D: CrashDevice, C: Checksum>(
     opened: Opened<D, C>,
-    ticket: Ticket,
-    command: Command,
+    choice: &Choice,
 ) -> (Phase<D, C>, Reply)
-    requires one_open { HasOneOpen opened ticket }
-    ensures step { CarriesOut (view_by D.trace D.faults D.is_stopped D.stops_in) C.sum_of (Phase.Waiting opened ticket) command result }
-    ensures on { Continues D.trace (Phase.Waiting opened ticket) result.0 }
+    ensures step { CarriesOut (view_by D.trace D.faults D.is_stopped D.stops_in) C.sum_of (Phase.Open opened) (command.Crash choice.now) result }
+    ensures on { RunsOn D.trace (config_of opened.log) (running result.0) }
 {
-    match command {
-        Command::Complete => complete(opened, ticket),
-        Command::Halt => (Phase::Closed(give_up(opened, ticket)), Reply::Halted),
-        Command::Crash(choice) => crash(give_up(opened, ticket), choice),
-        Command::Open | Command::Replace(_, _) | Command::Flush | Command::Stop(_) => {
-            (Phase::Waiting(opened, ticket), Reply::Refused)
-        }
+    match choice.try_clone() {
+        Ok(choice) => crash_now(opened.halt(), choice),
+        Err(_) => (Phase::Open(opened), Reply::Failed(Error::OutOfMemory)),
     }
 }
 
-/// Recovers what the device has, and opens a log on it.
-fn open<D: CrashDevice, C: Checksum>(config: RunningConfig<D, C>) -> (Phase<D, C>, Reply)
-    ensures step { CarriesOut (view_by D.trace D.faults D.is_stopped D.stops_in) C.sum_of (Phase.Closed config) (Command.Open) result }
-    ensures on { Continues D.trace (Phase.Closed config) result.0 }
-{
-    let mut config = config;
-    match read_snapshot_or_default(&mut config) {
-        Ok(snapshot) => start(config, snapshot),
-        Err(e) => (Phase::Closed(config), Reply::Failed(e)),
-    }
-}
-
-/// Opens a log on what was recovered.
-fn start<D: CrashDevice, C: Checksum>(
+/// Has the device crash, where memory for a copy of the choice is found.
+fn crash<D: CrashDevice, C: Checksum>(
     config: RunningConfig<D, C>,
-    snapshot: Snapshot,
+    choice: &Choice,
 ) -> (Phase<D, C>, Reply)
-    ensures shows { Shows (model_of snapshot) result.1 }
-    ensures acts { let view = view_by D.trace D.faults D.is_stopped D.stops_in in
-        StartActs config.config.segment_size (view config.device) result.1 (device_in view result.0) }
-    ensures starts { Starts (view_by D.trace D.faults D.is_stopped D.stops_in) C.sum_of config (model_of snapshot) result }
-    ensures on { Continues D.trace (Phase.Closed config) result.0 }
+    ensures step { CarriesOut (view_by D.trace D.faults D.is_stopped D.stops_in) C.sum_of (Phase.Closed config) (command.Crash choice.now) result }
+    ensures on { RunsOn D.trace config (running result.0) }
 {
-    match Log::start(config, &snapshot) {
-        Ok(log) => {
-            let mut log = log;
-            let guard = log.pin();
-            let begun = snapshot.pt.len() as u64;
-            (
-                Phase::Open(Opened { log, guard, begun }),
-                Reply::Opened(snapshot),
-            )
-        }
-        Err((e, config)) => (Phase::Closed(config), Reply::Recovered(snapshot, e)),
+    match choice.try_clone() {
+        Ok(choice) => crash_now(config, choice),
+        Err(_) => (Phase::Closed(config), Reply::Failed(Error::OutOfMemory)),
     }
-}
-
-/// Has the device stop.
-fn stop<D: CrashDevice, C: Checksum>(config: RunningConfig<D, C>, n: u64) -> (Phase<D, C>, Reply)
-    ensures step { CarriesOut (view_by D.trace D.faults D.is_stopped D.stops_in) C.sum_of (Phase.Closed config) (Command.Stop n) result }
-    ensures on { Continues D.trace (Phase.Closed config) result.0 }
-{
-    let mut config = config;
-    config.device.stop_after(n);
-    (Phase::Closed(config), Reply::Armed)
 }
 
 /// Has the device crash.
-fn crash<D: CrashDevice, C: Checksum>(
+fn crash_now<D: CrashDevice, C: Checksum>(
     config: RunningConfig<D, C>,
     choice: Choice,
 ) -> (Phase<D, C>, Reply)
-    ensures step { CarriesOut (view_by D.trace D.faults D.is_stopped D.stops_in) C.sum_of (Phase.Closed config) (Command.Crash choice) result }
-    ensures on { Continues D.trace (Phase.Closed config) result.0 }
+    ensures crashed { (taken : Bool) × (result.1 ≡ Reply.Crashed taken) }
+    ensures step { CarriesOut (view_by D.trace D.faults D.is_stopped D.stops_in) C.sum_of (Phase.Closed config) (command.Crash choice) result }
+    ensures on { RunsOn D.trace config (running result.0) }
 {
     let mut config = config;
     let taken = config.device.crash(choice);
     (Phase::Closed(config), Reply::Crashed(taken))
 }
 
-/// Keeps a place for a Replace of a page that is begun, or of the next one, where its record has the item.
-fn replace<D: CrashDevice, C: Checksum>(
-    opened: Opened<D, C>,
-    page: PageId,
-    item: &Vec<u8>,
-) -> (Phase<D, C>, Reply)
-    requires no_open_batch { HasNoneOpen opened }
-    ensures step { CarriesOut (view_by D.trace D.faults D.is_stopped D.stops_in) C.sum_of (Phase.Open opened) (Command.Replace page item.now) result }
-    ensures on { Continues D.trace (Phase.Open opened) result.0 }
-{
-    let mut opened = opened;
-    if page > opened.begun || page == u64::MAX || !opened.log.fits_inline(item) {
-        return (Phase::Open(opened), Reply::Refused);
-    }
-    match opened
-        .log
-        .reserve(LogKind::Replace, page, item, &opened.guard)
-    {
-        Ok(reservation) => {
-            let reply = Reply::Reserved(reservation.lsn(), reservation.pointer());
-            (Phase::Waiting(opened, Ticket { page, reservation }), reply)
-        }
-        Err(e) => (Phase::Open(opened), Reply::Failed(e)),
-    }
-}
-
-/// Completes the message of the reservation that is open.
-fn complete<D: CrashDevice, C: Checksum>(
-    opened: Opened<D, C>,
-    ticket: Ticket,
-) -> (Phase<D, C>, Reply)
-    requires one_open { HasOneOpen opened ticket }
-    ensures step { CarriesOut (view_by D.trace D.faults D.is_stopped D.stops_in) C.sum_of (Phase.Waiting opened ticket) (Command.Complete) result }
-    ensures on { Continues D.trace (Phase.Waiting opened ticket) result.0 }
-{
-    let mut opened = opened;
-    let Ticket { page, reservation } = ticket;
-    match opened.log.complete(reservation) {
-        Ok((place, pointer)) => {
-            if page == opened.begun {
-                opened.begun += 1;
-            }
-            (Phase::Open(opened), Reply::Done(place, pointer))
-        }
-        Err(e) => (Phase::Open(opened), Reply::Failed(e)),
-    }
-}
-
-/// Writes what was completed, and settles it.
-fn flush<D: CrashDevice, C: Checksum>(opened: Opened<D, C>) -> (Phase<D, C>, Reply)
-    requires no_open_batch { HasNoneOpen opened }
-    ensures step { CarriesOut (view_by D.trace D.faults D.is_stopped D.stops_in) C.sum_of (Phase.Open opened) (Command.Flush) result }
-    ensures on { Continues D.trace (Phase.Open opened) result.0 }
-{
-    let mut opened = opened;
-    match opened.log.flush() {
-        Ok(grown) => (Phase::Open(opened), Reply::Flushed(grown)),
-        Err(e) => (Phase::Open(opened), Reply::Failed(e)),
-    }
-}
-
-/// Gives a log up, with its pin.
-fn halt<D: CrashDevice, C: Checksum>(opened: Opened<D, C>) -> RunningConfig<D, C>
-    ensures { result ≡ config_of opened.log }
-{
-    let Opened {
-        log,
-        guard,
-        begun: _,
-    } = opened;
-    guard.abandon();
-    log.halt()
-}
-
-/// Gives a log up, with the reservation that is open.
-fn give_up<D: CrashDevice, C: Checksum>(opened: Opened<D, C>, ticket: Ticket) -> RunningConfig<D, C>
-    ensures { result ≡ config_of opened.log }
-{
-    let Ticket {
-        page: _,
-        reservation,
-    } = ticket;
-    reservation.abandon();
-    halt(opened)
-}
-
-/// What a run ran on.
+/// Closes the log that is open, and returns what it ran on.
 pub(crate) fn close<D: CrashDevice, C: Checksum>(phase: Phase<D, C>) -> RunningConfig<D, C>
     ensures { result ≡ running phase }
 {
     match phase {
         Phase::Closed(config) => config,
-        Phase::Open(opened) => halt(opened),
-        Phase::Waiting(opened, ticket) => give_up(opened, ticket),
+        Phase::Open(opened) => opened.halt(),
     }
 }

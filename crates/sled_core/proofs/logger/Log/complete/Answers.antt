@@ -1,5 +1,5 @@
 -- The message of a ticket is completed, in whichever segment it lies: its reservation ends there, and nothing else changes.
-use Rattle.std.proofs.Common.{◌≡◌, ◌∙◌, ◌-◌, ◌∷◌, sym, subst, arith, refl, ℕ, List, Some}
+use Rattle.std.proofs.Common.{◌≡◌, ◌∙◌, ap, ◌+◌, ◌-◌, ◌∷◌, sym, subst, arith, refl, ℕ, List, Some}
 use Rattle.std.specs.Prelude.{unsigned_abs}
 use Rattle.std.specs.List.{slice_get}
 use Rattle.sled_codec.specs.History.{AddsMessage, Message, Step}
@@ -9,12 +9,13 @@ use Rattle.sled_core.specs.declared.iobuf.ReservationState.TheVariants.{Complete
 use Rattle.sled_core.specs.declared.iobuf.Reserved.{Reserved}
 use Rattle.sled_core.specs.Begun.{SegmentView}
 use Rattle.sled_core.specs.Buffers.{completing}
-use Rattle.sled_core.specs.Fits.{AwaitsIn, Holds, NoneOpenIn, line_of}
+use Rattle.sled_core.specs.Fits.{AwaitsIn, Holds, line_of, open_places}
+use Rattle.sled_core.specs.OpenPlaces.{TakesOut, open_places_along}
 use Rattle.sled_core.specs.Running.{Fits}
 use Rattle.sled_core.specs.Tickets.{place_of}
 use Rattle.sled_core.proofs.Holds.KeptCalls.{goes_on_still}
 use Rattle.sled_core.proofs.Line.EndedKeeps.{fits_ended, goes_on_ended, holds_ended, keeps_ended, position_ended}
-use Rattle.sled_core.proofs.Line.EndedTickets.{only_ended, others_await, says_place, ticket_above, ticket_among, ticket_open, ticket_there}
+use Rattle.sled_core.proofs.Line.EndedTickets.{ended_takes, others_await, says_place, ticket_above, ticket_among, ticket_open, ticket_there}
 use Rattle.sled_core.proofs.Line.Ends.{fits_completed, holds_completed}
 use Rattle.sled_core.proofs.Line.Facts.{nth_facts}
 use Rattle.sled_core.proofs.Line.LogSpans.{ended_buffers}
@@ -92,14 +93,16 @@ returns-clause-others g c = λ H other m holds awaits apart.
     subst (λ (l : List SegmentView). AwaitsIn l other m) (sym (c.complete_in.ensures.line own.segment own.reserved at its))
     (others_await old.config.config.segment_size (line_of old) old.site.place c.segment_of-n.result own.segment at (nth_facts old) (c.index-index.result - own.segment.gone) own.reserved its own.own.open_yet own.reserved.sum own.reserved.kind Completed g.C.Checksum.sum_of (state_of (g.D.Device.trace old.config.device)) old.fault H holds.holds c.args.ticket other m own.own.place awaits apart)
 
-pub returns-clause-ended : goal.returns-clause-ended
-returns-clause-ended g c = λ only.
+pub returns-clause-opens : goal.returns-clause-opens
+returns-clause-opens g c = λ place is.
     let old = c.args.self.now in
     let own : AwaitsIn (line_of old) c.args.ticket c.requires.0 = c.requires.1 in
     let at = among g c c.requires.0 own in
     let its = there g c c.requires.0 own in
-    subst (λ (l : List SegmentView). NoneOpenIn l) (sym (c.complete_in.ensures.line own.segment own.reserved at its))
-    (only_ended old.config.config.segment_size (line_of old) old.site.place c.segment_of-n.result own.segment at (nth_facts old) (c.index-index.result - own.segment.gone) own.reserved its own.own.open_yet own.reserved.sum own.reserved.kind Completed c.args.ticket own.own.place (λ same. cc) only)
+    let here : own.segment.parts.site.place + own.reserved.from ≡ place = sym (ap unsigned_abs (is ∙ own.own.place)) in
+    subst (λ (p : ℕ). TakesOut p (open_places old) (open_places c.complete_in.new.self)) here
+    (subst (λ (l : List SegmentView). TakesOut (own.segment.parts.site.place + own.reserved.from) (open_places old) (open_places_along l)) (sym (c.complete_in.ensures.line own.segment own.reserved at its))
+    (ended_takes old.config.config.segment_size (line_of old) old.site.place c.segment_of-n.result own.segment at (nth_facts old) (c.index-index.result - own.segment.gone) own.reserved its own.own.open_yet own.reserved.sum own.reserved.kind Completed refl))
 
 pub returns-clause-goes_on : goal.returns-clause-goes_on
 returns-clause-goes_on g c =

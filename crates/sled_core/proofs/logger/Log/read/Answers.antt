@@ -18,13 +18,13 @@ use Rattle.sled_core.specs.declared.logger.Log.{Log}
 use Rattle.sled_core.specs.declared.logger.read_message.LogRead.{LogRead}
 use Rattle.sled_core.specs.Fits.{HasRecordOf, Holds, device_of, reserved_end, segment_size_of, synced_end}
 use Rattle.sled_core.specs.LogFile.{MessageStands}
-use Rattle.sled_core.specs.ReadBuffer.{IsUsedUpAt, IsWrittenPlace, ReadAnswers, SealsAround, held_at, settling}
+use Rattle.sled_core.specs.ReadBuffer.{IsUsedUpAt, IsWrittenPlace, ReadAnswers, SealsAround, WritesAround, held_at, settling}
 use Rattle.sled_core.specs.Reading.{IsNoPlace, IsReading, IsUnreadable, GivesMessage}
 use Rattle.sled_core.proofs.Holds.KeptCalls.{kept_further, kept_still, tickets_further}
 use Rattle.sled_core.proofs.Holds.ReachLemmas.{fits_holds}
 use Rattle.sled_core.proofs.Line.Advanced.{same_current}
 use Rattle.sled_core.proofs.Line.LogSpans.{same_buffers}
-use Rattle.sled_core.proofs.Line.Reads.{err_answers, err_damaged, err_reserved, err_settles, fits_begins, pos_abs, read_answers, read_held, read_reserved, read_settles, refuses_none, seals_err, seals_read, settled_names, settled_record}
+use Rattle.sled_core.proofs.Line.Reads.{around_err, around_read, err_answers, err_damaged, err_reserved, err_settles, fits_begins, pos_abs, read_answers, read_held, read_reserved, read_settles, refuses_none, seals_err, seals_read, settled_names, settled_record}
 use Rattle.sled_core.proofs.Line.Records.{inline_is}
 use Rattle.sled_core.proofs.Line.Settles.{held_stable, stable_up, written_still}
 use Rattle.sled_core.proofs.Read.GivesLemmas.{gives}
@@ -203,6 +203,15 @@ returns-in_err-settle-clause-seals g c =
     let e = err_from_is_err_and c.from_residual.result c.from_residual.ensures.1 in
     rw (e.1, e.2) (seals_err c.args.lsn old c.settle.new.self c.in_err-settle.field-0.0 (subst (λ z. SealsAround {T = Unit {0}} (Err c.in_err-settle.field-0.0) z old c.settle.new.self) at c.in_err-settle.ensures.seals))
 
+pub returns-in_err-settle-clause-buffers : goal.returns-in_err-settle-clause-buffers
+returns-in_err-settle-clause-buffers g c =
+    let old = c.args.self.now in
+    let sum = g.C.Checksum.sum_of in
+    let above : pos 0 ≤ℤ c.args.lsn = above_zero c.args.lsn c.ranges.lsn c.if-lsn-lt0.false in
+    let at : pos c.unsigned_abs-place.result ≡ c.args.lsn = at_place c.args.lsn _ c.unsigned_abs-place.result c.unsigned_abs-place.ensures.value (to_z-of_z w64 c.args.lsn c.ranges.lsn) above in
+    let e = err_from_is_err_and c.from_residual.result c.from_residual.ensures.1 in
+    rw (e.1, e.2) (around_err c.args.lsn old c.settle.new.self sum c.in_err-settle.field-0.0 (subst (λ z. WritesAround {T = Unit {0}} sum (Err c.in_err-settle.field-0.0) z old c.settle.new.self) at c.in_err-settle.ensures.buffers))
+
 pub returns-in_err-settle-clause-answers : goal.returns-in_err-settle-clause-answers
 returns-in_err-settle-clause-answers g c =
     let old = c.args.self.now in
@@ -261,6 +270,18 @@ returns-clause-seals g c =
     let at : pos c.unsigned_abs-place.result ≡ c.args.lsn = at_place c.args.lsn _ c.unsigned_abs-place.result c.unsigned_abs-place.ensures.value (to_z-of_z w64 c.args.lsn c.ranges.lsn) above in
     seals_read c.args.lsn old mid c.read_settled.result new tt (subst (λ z. SealsAround {T = Unit {0}} (Ok tt) z old mid) at c.in_ok-settle.ensures.seals)
     (same_buffers mid new c.read_settled.ensures.line).0 (same_current mid new c.read_settled.ensures.line) (read_held g.C.Checksum.sum_of _ c.read_settled.result _ _ _ _ c.read_settled.ensures.answers)
+
+pub returns-clause-buffers : goal.returns-clause-buffers
+returns-clause-buffers g c =
+    let old = c.args.self.now in
+    let sum = g.C.Checksum.sum_of in
+    let mid = c.settle.new.self in
+    let new = c.read_settled.new.self in
+    let above : pos 0 ≤ℤ c.args.lsn = above_zero c.args.lsn c.ranges.lsn c.if-lsn-lt0.false in
+    let at : pos c.unsigned_abs-place.result ≡ c.args.lsn = at_place c.args.lsn _ c.unsigned_abs-place.result c.unsigned_abs-place.ensures.value (to_z-of_z w64 c.args.lsn c.ranges.lsn) above in
+    let same = same_buffers mid new c.read_settled.ensures.line in
+    around_read c.args.lsn old mid sum c.read_settled.result new tt (subst (λ z. WritesAround {T = Unit {0}} sum (Ok tt) z old mid) at c.in_ok-settle.ensures.buffers)
+    same.0 same.1 (read_held sum _ c.read_settled.result _ _ _ _ c.read_settled.ensures.answers)
 
 pub returns-clause-answers : goal.returns-clause-answers
 returns-clause-answers g c =

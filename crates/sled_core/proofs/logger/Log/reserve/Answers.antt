@@ -17,11 +17,11 @@ use Rattle.sled_core.specs.declared.iobuf.Purpose.{Purpose}
 use Rattle.sled_core.specs.declared.iobuf.record.Head.{Head}
 use Rattle.sled_core.specs.declared.logger.Log.{Log}
 use Rattle.sled_core.specs.Fits.{FitsInline, current_of, line_of, machine_at, open_of, segment_size_of, synced_end}
-use Rattle.sled_core.specs.Turned.{ChangesLine, ChangesSlots, HasPlace, next_line, reserved_now}
+use Rattle.sled_core.specs.Turned.{ChangesLine, ChangesSlots, HasPlace, IsTicketFor, next_line, reserved_now}
 use Rattle.sled_core.specs.Waiting.{at_last}
 use Rattle.sled_core.proofs.Holds.KeptCalls.{kept_still}
 use Rattle.sled_core.proofs.Line.LogReserves.{record_long}
-use Rattle.sled_core.proofs.Line.Prepares.{IsPrepared, here_further, here_open, made_end, made_keeps, made_open, made_others, made_position, made_same, made_seals, made_ticket, next_open, next_used, number_of, prepared_here, prepared_next}
+use Rattle.sled_core.proofs.Line.Prepares.{IsPrepared, here_further, here_open, made_end, made_keeps, made_opens, made_others, made_position, made_same, made_seals, made_ticket, next_open, next_used, number_of, prepared_here, prepared_next}
 use Rattle.sled_core.proofs.Line.Unchanged.{left_alone, unchanged_keeps}
 use Rattle.sled_core.proofs.Reserve.ReserveLemmas.{head_whole}
 use Rattle.sled_core.proofs.logger.Log.reserve.Given as given
@@ -214,8 +214,14 @@ its_line g c =
     c.append.ensures.line
     ∙ (λ i. at_last (reserved_now (placeholder_head head ++ item) (reserved_for (its_kept g c) (length (current_of c.if-has_place.self).parts.bytes) (long i) (counted i) (g.C.Checksum.sum_of (item ++ drop 4 head)))) (line_of c.if-has_place.self))
 
+its_ticket : (g : given.Over) (c : goal.After-append g) → IsTicketFor c.if-has_place.self c.append.result (length (text_of c.if-has_place.head) + length (its_item g c))
+its_ticket g c =
+    let long = (is_ready g c).long in
+    let counted = c.serialized_size-item_len.ensures in
+    subst (IsTicketFor c.if-has_place.self c.append.result) (λ i. long i + counted i) c.append.ensures.ticket
+
 pub returns-clause-ticket : goal.returns-clause-ticket
-returns-clause-ticket g c = made_ticket g.D.Device.trace g.C.Checksum.sum_of c.args.self.now c.if-has_place.self c.append.new.self (its_kept g c) (text_of c.if-has_place.head) (its_item g c) (is_ready g c).prepared (its_known g c) c.ranges.pid.fits (its_line g c) c.append.ensures.rest c.append.ensures.accountant c.append.result c.append.ensures.ticket
+returns-clause-ticket g c = made_ticket g.D.Device.trace g.C.Checksum.sum_of c.args.self.now c.if-has_place.self c.append.new.self (its_kept g c) (text_of c.if-has_place.head) (its_item g c) (is_ready g c).prepared (its_known g c) c.ranges.pid.fits (its_line g c) c.append.ensures.rest c.append.ensures.accountant c.append.result (its_ticket g c)
 
 pub returns-clause-position : goal.returns-clause-position
 returns-clause-position g c = made_position g.D.Device.trace g.C.Checksum.sum_of c.args.self.now c.if-has_place.self c.append.new.self (its_kept g c) (text_of c.if-has_place.head) (its_item g c) (is_ready g c).prepared (its_known g c) c.ranges.pid.fits (its_line g c) c.append.ensures.rest c.append.ensures.accountant
@@ -230,8 +236,8 @@ returns-clause-reserved g c =
 pub returns-clause-others : goal.returns-clause-others
 returns-clause-others g c = made_others g.D.Device.trace g.C.Checksum.sum_of c.args.self.now c.if-has_place.self c.append.new.self (its_kept g c) (text_of c.if-has_place.head) (its_item g c) (is_ready g c).prepared (its_known g c) c.ranges.pid.fits (its_line g c) c.append.ensures.rest c.append.ensures.accountant
 
-pub returns-clause-open : goal.returns-clause-open
-returns-clause-open g c = made_open g.D.Device.trace g.C.Checksum.sum_of c.args.self.now c.if-has_place.self c.append.new.self (its_kept g c) (text_of c.if-has_place.head) (its_item g c) (is_ready g c).prepared (its_known g c) c.ranges.pid.fits (its_line g c) c.append.ensures.rest c.append.ensures.accountant c.append.result c.append.ensures.ticket
+pub returns-clause-opens : goal.returns-clause-opens
+returns-clause-opens g c = made_opens g.D.Device.trace g.C.Checksum.sum_of c.args.self.now c.if-has_place.self c.append.new.self (its_kept g c) (text_of c.if-has_place.head) (its_item g c) (is_ready g c).prepared (its_known g c) c.ranges.pid.fits (its_line g c) c.append.ensures.rest c.append.ensures.accountant
 
 pub returns-clause-seals : goal.returns-clause-seals
 returns-clause-seals g c = made_seals g.D.Device.trace g.C.Checksum.sum_of c.args.self.now c.if-has_place.self c.append.new.self (its_kept g c) (text_of c.if-has_place.head) (its_item g c) (is_ready g c).prepared (its_known g c) c.ranges.pid.fits (its_line g c) c.append.ensures.rest c.append.ensures.accountant

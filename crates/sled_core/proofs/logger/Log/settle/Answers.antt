@@ -11,10 +11,12 @@ use Rattle.sled_core.specs.Causes.{OnDone}
 use Rattle.sled_core.specs.declared.logger.Log.{Log}
 use Rattle.sled_core.specs.Fits.{current_begin, synced_end}
 use Rattle.sled_core.specs.ReadBuffer.{IsUsedUpAt, settling}
+use Rattle.sled_core.specs.Waiting.{BufferStart}
 use Rattle.sled_core.proofs.Holds.KeptCalls.{kept_further, kept_still, position_further, tickets_further}
 use Rattle.sled_core.proofs.Line.Advanced.{same_current}
+use Rattle.sled_core.proofs.Line.LogSpans.{same_buffers}
 use Rattle.sled_core.proofs.Line.Outcomes.{answers_used, seal_answers, seal_not_done, seal_not_held}
-use Rattle.sled_core.proofs.Line.SealsFor.{SealsFor, held_at_same, holds_reserved, seals_current, seals_still, settling_same}
+use Rattle.sled_core.proofs.Line.SealsFor.{SealsFor, held_at_same, holds_reserved, seals_current, seals_still, settling_same, writes_around}
 use Rattle.sled_core.proofs.Line.Settles.{held_stable, stable_written}
 use Rattle.sled_core.proofs.logger.Log.settle.Given.{Over}
 use Rattle.sled_core.proofs.logger.Log.settle.Goals.{then-place-current_begin+in_ok-seal, else-place-current_begin}
@@ -40,6 +42,11 @@ returns-then-place-stable_end-clause-answers g c =
 
 pub returns-then-place-stable_end-clause-seals : goal.returns-then-place-stable_end-clause-seals
 returns-then-place-stable_end-clause-seals g c = record { still = λ _. refl; apart = λ _. refl; once = inl refl; held = λ is. absurd is; none = λ none. none }
+
+pub returns-then-place-stable_end-clause-buffers : goal.returns-then-place-stable_end-clause-buffers
+returns-then-place-stable_end-clause-buffers g c =
+    let below : c.args.place < synced_end c.args.self.now = omega (arith, c.if-place-stable_end.true, c.stable_end.ensures.is) in
+    record { still = λ _. (refl, refl); written = λ behind. absurd (omega (arith, ints, below, behind)); held = λ is. absurd is; some = tt }
 
 -- The current buffer could not be sealed.
 
@@ -88,6 +95,16 @@ returns-in_err-seal-clause-seals g c =
       none = λ _. tt;
     })
 
+pub returns-in_err-seal-clause-buffers : goal.returns-in_err-seal-clause-buffers
+returns-in_err-seal-clause-buffers g c =
+    let e = err_from_is_err_and c.from_residual.result c.from_residual.ensures.1 in
+    rw (e.1, e.2) (record {
+      still = λ below. absurd (omega (arith, ints, below, c.if-place-stable_end.false, c.stable_end.ensures.is));
+      written = λ _. tt;
+      held = λ is. absurd (seal_not_held (Unit {0}) (Unit {0}) c.in_err-seal.field-0.0 _ c.in_err-seal.ensures.answers is);
+      some = inl (same_buffers c.args.self.now c.seal.new.self c.in_err-seal.ensures.err.line);
+    })
+
 -- The buffer that has the place is sealed now.
 
 sealed_for : (g : Over) (c : goal.After-write_around-arg-1 g) → SealsFor g.D.Device.trace g.C.Checksum.sum_of c.args.place c.args.self.now c.if-place-current_begin.self
@@ -101,7 +118,7 @@ sealed_for g c =
       | then-place-current_begin+in_ok-seal w ↦ subst (λ (l : Log g.row.D.Denot g.row.C.Denot). SealsFor trace sum place old l) (sym w.self-is)
           (seals_current trace sum place old w.seal.new.self (let up = w.if-place-current_begin.true in omega (arith, up, begin))
           (elim c.requires.reserved [ inl below ↦ absurd (omega (arith, below, c.if-place-stable_end.false, c.stable_end.ensures.is)) | inr lower ↦ lower ])
-          w.in_ok-seal.ensures.buffers w.in_ok-seal.ensures.waiting w.in_ok-seal.ensures.begins w.seal.ensures.keeps w.seal.ensures.tickets w.seal.ensures.position w.seal.ensures.same w.in_ok-seal.ensures.answers.0)
+          w.in_ok-seal.ensures.buffers w.in_ok-seal.ensures.waiting w.in_ok-seal.ensures.begins w.in_ok-seal.ensures.start w.seal.ensures.keeps w.seal.ensures.tickets w.seal.ensures.position w.seal.ensures.same w.in_ok-seal.ensures.answers.0)
       | else-place-current_begin w ↦ subst (λ (l : Log g.row.D.Denot g.row.C.Denot). SealsFor trace sum place old l) (sym w.self-is)
           (seals_still trace sum place old (let low = w.if-place-current_begin.false in omega (arith, low, begin)))
     ]
@@ -126,7 +143,7 @@ seals g c =
       | then-place-current_begin+in_ok-seal w ↦ subst (λ (l : Log g.row.D.Denot g.row.C.Denot). SealsFor trace sum place old l) (sym w.self-is)
           (seals_current trace sum place old w.seal.new.self (let up = w.if-place-current_begin.true in omega (arith, up, begin))
           (elim c.requires.reserved [ inl below ↦ absurd (omega (arith, below, c.if-place-stable_end.false, c.stable_end.ensures.is)) | inr lower ↦ lower ])
-          w.in_ok-seal.ensures.buffers w.in_ok-seal.ensures.waiting w.in_ok-seal.ensures.begins w.seal.ensures.keeps w.seal.ensures.tickets w.seal.ensures.position w.seal.ensures.same w.in_ok-seal.ensures.answers.0)
+          w.in_ok-seal.ensures.buffers w.in_ok-seal.ensures.waiting w.in_ok-seal.ensures.begins w.in_ok-seal.ensures.start w.seal.ensures.keeps w.seal.ensures.tickets w.seal.ensures.position w.seal.ensures.same w.in_ok-seal.ensures.answers.0)
       | else-place-current_begin w ↦ subst (λ (l : Log g.row.D.Denot g.row.C.Denot). SealsFor trace sum place old l) (sym w.self-is)
           (seals_still trace sum place old (let low = w.if-place-current_begin.false in omega (arith, low, begin)))
     ]
@@ -176,10 +193,17 @@ returns-clause-seals g c =
     let first = seals g c in
     let then = c.write_around.ensures in
     let lower = first.lower in
+    let begin : current_begin c.write_around.new.self ≡ current_begin c.if-place-current_begin.self = ap (λ (s : BufferStart). s.place) then.start in
     record {
       still = λ below. absurd (omega (arith, ints, below, c.if-place-stable_end.false, c.stable_end.ensures.is));
-      apart = λ below. then.current ∙ first.apart (omega (arith, ints, below));
-      once = elim first.once [ inl same ↦ inl (then.current ∙ same) | inr sealed ↦ inr (then.current ∙ sealed) ];
-      held = λ _. (let same = then.current in omega (arith, ints, lower, same));
+      apart = λ below. begin ∙ first.apart (omega (arith, ints, below));
+      once = elim first.once [ inl same ↦ inl (begin ∙ same) | inr sealed ↦ inr (begin ∙ sealed) ];
+      held = λ _. (omega (arith, ints, lower, begin));
       none = λ none. then.one (first.none none);
     }
+
+pub returns-clause-buffers : goal.returns-clause-buffers
+returns-clause-buffers g c =
+    let did = c.write_around.ensures in
+    writes_around g.D.Device.trace g.C.Checksum.sum_of c.args.place c.args.self.now c.if-place-current_begin.self (seals g c) c.write_around.new.self did.start c.write_around.result
+    (omega (arith, c.if-place-stable_end.false, c.stable_end.ensures.is)) did.without did.same

@@ -1,13 +1,14 @@
 -- The segment that has the place is looked at, and in it the first sealed buffer that ends behind it.
-use Rattle.std.proofs.Common.{rules, ◌∙◌, ◌≤◌, ◌+◌, None, ap, sym, refl, arith, w64, SFits, List, subst, length}
+use Rattle.std.proofs.Common.{rules, ◌≡◌, ◌∙◌, ◌≤◌, ◌+◌, None, ap, sym, refl, arith, w64, SFits, List, subst, length}
 use Rattle.std.proofs.lemmas.Int.{to_z-of_z}
 use Rattle.sled_store.specs.Device.{Event}
 use Rattle.sled_store.specs.Script.{Performs, after_all}
 use Rattle.sled_store.proofs.Traces.ScriptLemmas.{performs_nothing}
+use Rattle.sled_core.specs.Fits.{segment_size_of, start_of}
 use Rattle.sled_core.proofs.Holds.KeptCalls.{kept_still}
-use Rattle.sled_core.proofs.Line.Advanced.{same_current}
-use Rattle.sled_core.proofs.Line.Outcomes.{answers_free, done_free, either, on_ok}
-use Rattle.sled_core.proofs.Line.Settles.{found_early, found_gone, found_held, held_at_found, held_none, inside, is_ready_there, looks, nothing_waits, number_within, settling_found, settling_it, some_held, wrote_all, wrote_current, wrote_place, written_found}
+use Rattle.sled_core.proofs.Line.LogSpans.{same_buffers, written_starts}
+use Rattle.sled_core.proofs.Line.Outcomes.{answers_free, done_free, either, on_err, on_ok}
+use Rattle.sled_core.proofs.Line.Settles.{found_early, found_gone, found_held, held_at_found, held_none, inside, is_ready_there, looks, nothing_waits, number_within, settling_found, settling_it, some_held, without_still, wrote_all, wrote_place, wrote_without, written_found}
 use Rattle.sled_core.proofs.logger.Log.write_around.Goals as goal
 
 pub segment-requires : goal.segment-requires
@@ -51,6 +52,11 @@ returns-then-at-buffer-clause-one g c = λ all.
     let looked = looks c.args.self.now c.args.place c.segment_of-n.result c.segment.result.0 c.segment.result.1.now c.requires.behind c.requires.sealed c.segment_of-n.ensures c.segment.ensures.view c.segment.ensures.place in
     nothing_waits c.args.self.now c.args.place looked (found_early c.args.self.now c.args.place looked c.if-at-buffer.true) all
 
+pub returns-then-at-buffer-clause-without : goal.returns-then-at-buffer-clause-without
+returns-then-at-buffer-clause-without g c =
+    let looked = looks c.args.self.now c.args.place c.segment_of-n.result c.segment.result.0 c.segment.result.1.now c.requires.behind c.requires.sealed c.segment_of-n.ensures c.segment.ensures.view c.segment.ensures.place in
+    without_still c.args.self.now c.args.place looked (found_early c.args.self.now c.args.place looked c.if-at-buffer.true)
+
 -- That buffer is written.
 
 pub returns-then-b-clause-written : goal.returns-then-b-clause-written
@@ -78,6 +84,11 @@ pub returns-then-b-clause-one : goal.returns-then-b-clause-one
 returns-then-b-clause-one g c = λ all.
     let looked = looks c.args.self.now c.args.place c.segment_of-n.result c.segment.result.0 c.segment.result.1.now c.requires.behind c.requires.sealed c.segment_of-n.ensures c.segment.ensures.view c.segment.ensures.place in
     nothing_waits c.args.self.now c.args.place looked (found_gone c.args.self.now c.args.place looked c.around-k.result.0 c.around-k.result.1 c.if-at-buffer.false c.around-k.ensures.there c.around-k.ensures.point c.if-b.true) all
+
+pub returns-then-b-clause-without : goal.returns-then-b-clause-without
+returns-then-b-clause-without g c =
+    let looked = looks c.args.self.now c.args.place c.segment_of-n.result c.segment.result.0 c.segment.result.1.now c.requires.behind c.requires.sealed c.segment_of-n.ensures c.segment.ensures.view c.segment.ensures.place in
+    without_still c.args.self.now c.args.place looked (found_gone c.args.self.now c.args.place looked c.around-k.result.0 c.around-k.result.1 c.if-at-buffer.false c.around-k.ensures.there c.around-k.ensures.point c.if-b.true)
 
 -- It has an open reservation.
 
@@ -134,11 +145,21 @@ returns-clause-answers g c =
     let looked = looks c.args.self.now c.args.place c.segment_of-n.result c.segment.result.0 c.segment.result.1.now c.requires.behind c.requires.sealed c.segment_of-n.ensures c.segment.ensures.view c.segment.ensures.place in
     answers_free c.write_buffer.result _ _ _ _ (held_none c.args.self.now c.args.place looked c.around-k.result.0 c.around-k.result.1 c.if-at-buffer.false c.around-k.ensures.there c.around-k.ensures.point c.if-b.false (let none = c.if-b-gt0.false in omega (arith, none)) g.C.Checksum.sum_of) c.write_buffer.ensures.answers
 
-pub returns-clause-current : goal.returns-clause-current
-returns-clause-current g c =
+pub returns-clause-start : goal.returns-clause-start
+returns-clause-start g c =
+    let old = c.args.self.now in
+    let new = c.write_buffer.new.self in
     let looked = looks c.args.self.now c.args.place c.segment_of-n.result c.segment.result.0 c.segment.result.1.now c.requires.behind c.requires.sealed c.segment_of-n.ensures c.segment.ensures.view c.segment.ensures.place in
-    either c.write_buffer.result _ _ _ (λ wrote. wrote_current c.args.self.now c.args.place looked c.around-k.result.0 c.around-k.result.1 c.if-at-buffer.false c.around-k.ensures.there c.around-k.ensures.point c.if-b.false (let none = c.if-b-gt0.false in omega (arith, none)) c.write_buffer.new.self wrote)
-    (λ same. same_current c.args.self.now c.write_buffer.new.self same) (c.write_buffer.ensures.line looked.segment looked.among) c.write_buffer.ensures.same
+    either c.write_buffer.result _ _ (start_of new ≡ start_of old) (λ wrote. written_starts old new (segment_size_of old) c.segment_of-n.result looked.segment c.around-k.result.0 looked.among wrote)
+    (λ same. (same_buffers old new same).1) (c.write_buffer.ensures.line looked.segment looked.among) c.write_buffer.ensures.same
+
+pub returns-clause-without : goal.returns-clause-without
+returns-clause-without g c =
+    let looked = looks c.args.self.now c.args.place c.segment_of-n.result c.segment.result.0 c.segment.result.1.now c.requires.behind c.requires.sealed c.segment_of-n.ensures c.segment.ensures.view c.segment.ensures.place in
+    on_ok c.write_buffer.result _ _ (λ wrote. wrote_without c.args.self.now c.args.place looked c.around-k.result.0 c.around-k.result.1 c.if-at-buffer.false c.around-k.ensures.there c.around-k.ensures.point c.if-b.false (let none = c.if-b-gt0.false in omega (arith, none)) c.write_buffer.new.self wrote) (c.write_buffer.ensures.line looked.segment looked.among)
+
+pub returns-clause-same : goal.returns-clause-same
+returns-clause-same g c = on_err c.write_buffer.result _ _ (λ same. (same_buffers c.args.self.now c.write_buffer.new.self same).0) c.write_buffer.ensures.same
 
 pub returns-clause-one : goal.returns-clause-one
 returns-clause-one g c = λ all.

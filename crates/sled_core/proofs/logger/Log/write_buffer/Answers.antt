@@ -8,7 +8,8 @@ use Rattle.sled_core.specs.declared.iobuf.IoBuf.{IoBuf}
 use Rattle.sled_core.specs.declared.iobuf.SegmentPosition.{SegmentPosition}
 use Rattle.sled_core.specs.declared.logger.segments.SegmentBuffer.{SegmentBuffer}
 use Rattle.sled_core.specs.declared.logger.Log.{Log}
-use Rattle.sled_core.specs.Fits.{AwaitsIn, Holds, NoneOpenIn, line_of, segment_size_of}
+use Rattle.sled_core.specs.Fits.{AwaitsIn, Holds, line_of, segment_size_of}
+use Rattle.sled_core.specs.OpenPlaces.{open_places_along}
 use Rattle.sled_core.specs.Positions.{Position, position_in}
 use Rattle.sled_core.specs.Running.{Fits}
 use Rattle.sled_core.specs.Turned.{ChangesDevice, IsReadyIn, promoted, written_now}
@@ -16,9 +17,10 @@ use Rattle.sled_core.specs.Waiting.{last_of}
 use Rattle.sled_core.proofs.Line.Faulty.{fits_with_same, holds_with_same}
 use Rattle.sled_core.proofs.Line.LogWrites.{KeepsInvariants, crash_write, end_grows, fits_done, fits_failed, holds_done, holds_failed, keeps_invariants, line_after, same_line, segments_written}
 use Rattle.sled_core.proofs.Line.Moves.{written_to}
-use Rattle.sled_core.proofs.Line.Promotes.{awaits_promoted, ended_promoted, last_promoted, last_set}
+use Rattle.sled_core.proofs.Line.OpenPlaces.{places_promoted, set_places}
+use Rattle.sled_core.proofs.Line.Promotes.{awaits_promoted, last_promoted, last_set}
 use Rattle.sled_core.proofs.Line.Segments.{line_segments, nth_segment}
-use Rattle.sled_core.proofs.Line.WrittenTickets.{awaits_written, ended_written}
+use Rattle.sled_core.proofs.Line.WrittenTickets.{awaits_written, places_written}
 use Rattle.sled_core.proofs.logger.Log.write_buffer.Goals as goal
 
 pub returns-in_err-write_bytes-clause-keeps : goal.returns-in_err-write_bytes-clause-keeps
@@ -100,9 +102,9 @@ returns-clause-tickets g c =
           subst (λ (l : List SegmentView). AwaitsIn l ticket m) (sym line)
           (awaits_promoted (segment_size_of old) old.site.place (set (line_of old) c.args.n (written_now c.args.k r.segment)) ticket m old.config.config.least (segments_written old c.args.n c.args.k r)
           (awaits_written (line_of old) c.args.n c.args.k r.segment r.buffer r.among r.there r.ready is.are ticket m awaits));
-      ended = λ ended.
-          subst NoneOpenIn (sym line)
-          (ended_promoted (segment_size_of old) (set (line_of old) c.args.n (written_now c.args.k r.segment)) (ended_written (line_of old) c.args.n c.args.k r.segment r.buffer r.among r.there r.ready is.are ended));
+      opens = ap open_places_along line
+          ∙ places_promoted (segment_size_of old) old.site.place (set (line_of old) c.args.n (written_now c.args.k r.segment)) old.config.config.least (segments_written old c.args.n c.args.k r)
+          ∙ set_places (line_of old) c.args.n r.segment (written_now c.args.k r.segment) r.among (places_written (line_of old) c.args.n c.args.k r.segment r.buffer r.among r.there r.ready is.are);
     }
 
 pub returns-clause-position : goal.returns-clause-position

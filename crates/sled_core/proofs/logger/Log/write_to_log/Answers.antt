@@ -1,13 +1,12 @@
 -- The one that is asked for is written, and isn't left.
 use Rattle.std.proofs.Common.{refl, ap, set, ◌≡◌, ◌∙◌}
 use Rattle.sled_store.proofs.Traces.ScriptLemmas.{performs_nothing}
-use Rattle.sled_core.specs.Fits.{current_begin, line_of, segment_size_of}
+use Rattle.sled_core.specs.Fits.{line_of, segment_size_of, start_of}
 use Rattle.sled_core.specs.Turned.{written_now}
-use Rattle.sled_core.specs.Waiting.{BufferStart, unwritten}
+use Rattle.sled_core.specs.Waiting.{unwritten}
 use Rattle.sled_core.proofs.Holds.KeptCalls.{kept_still}
-use Rattle.sled_core.proofs.Line.Advanced.{same_current}
 use Rattle.sled_core.proofs.Line.Buffers.{unwritten_promoted}
-use Rattle.sled_core.proofs.Line.LogSpans.{written_starts}
+use Rattle.sled_core.proofs.Line.LogSpans.{same_buffers, written_starts}
 use Rattle.sled_core.proofs.Line.LogWrites.{segments_written}
 use Rattle.sled_core.proofs.Line.Outcomes.{either, on_ok}
 use Rattle.sled_core.proofs.logger.Log.write_to_log.Goals as goal
@@ -28,12 +27,12 @@ returns-clause-written g c =
     (λ is. ap unwritten is ∙ unwritten_promoted (segment_size_of old) old.site.place (set (line_of old) n (written_now k r.segment)) (segments_written old n k r) ∙ c.ready_at-n.ensures.left r.segment r.among)
     (c.write_buffer.ensures.line r.segment r.among)
 
-pub returns-clause-current : goal.returns-clause-current
-returns-clause-current g c =
+pub returns-clause-start : goal.returns-clause-start
+returns-clause-start g c =
     let old = c.args.self.now in
     let new = c.write_buffer.new.self in
     let r = c.ready_at-n.ensures.ready in
-    either c.write_buffer.result _ _ (current_begin new ≡ current_begin old)
-    (λ is. ap (λ (s : BufferStart). s.place) (written_starts old new (segment_size_of old) c.ready_at-n.result.0 r.segment c.ready_at-n.result.1 r.among is))
-    (λ same. same_current old new same)
+    either c.write_buffer.result _ _ (start_of new ≡ start_of old)
+    (λ is. written_starts old new (segment_size_of old) c.ready_at-n.result.0 r.segment c.ready_at-n.result.1 r.among is)
+    (λ same. (same_buffers old new same).1)
     (c.write_buffer.ensures.line r.segment r.among) c.write_buffer.ensures.same

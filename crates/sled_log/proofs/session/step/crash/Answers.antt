@@ -1,36 +1,11 @@
-use Rattle.std.proofs.Common.{refl, if◌then◌else◌, []}
-use Rattle.sled_store.specs.Device.{Settled}
-use Rattle.sled_store.specs.Noted.{left_of}
-use Rattle.sled_log.proofs.Sessions.RunLemmas.{later_one, crash_recoverable, may_be_left}
+use Rattle.std.proofs.Common.{refl}
+use Rattle.sled_log.specs.declared.session.Phase.TheVariants as phase
+use Rattle.sled_log.specs.RunPhases.{view_by}
+use Rattle.sled_log.proofs.Sessions.RunLemmas.{crashed}
 use Rattle.sled_log.proofs.session.step.crash.Goals as goal
 
--- the crash left what was chosen, or what was settled, and a recovery can go on from either
-pub returns-clause-step : goal.returns-clause-step
-returns-clause-step g c = λ k at.
-    let sum = g.C.Checksum.sum_of in
-    let old = g.D.Device.trace c.args.config.device in
-    let new = g.D.Device.trace c.crash-taken.new.self in
-    let taken = c.crash-taken.result in
-    let left = c.crash-taken.ensures.left in
-    let faults = c.crash-taken.ensures.faults in
-    let stopped = c.crash-taken.ensures.stopped in
-    let stops = c.crash-taken.ensures.stops in
-    record {
-      turn = λ no. no;
-      acts = (c.crash-taken.ensures.taken, λ i. record { trace = left i; failures = faults i; is_stopped = stopped i; stops_in = stops i });
-      step = λ own. (
-        k,
-        refl,
-        record {
-          formed = at.formed;
-          left = crash_recoverable sum c.args.config.config.segment_size k.history k.acknowledged k.floor old new (if taken then left_of c.args.choice else Settled []) at.left left
-              (may_be_left old c.args.choice taken c.crash-taken.ensures.taken.0) own;
-        },
-      );
-    }
-
-pub returns-clause-on : goal.returns-clause-on
-returns-clause-on g c = record {
-  runs_on = record { later = later_one (g.D.Device.trace c.args.config.device) (g.D.Device.trace c.crash-taken.new.self) _ c.crash-taken.ensures.left; kept = record { config = refl; checksum = refl } };
-  can_go_on = tt;
-}
+pub returns-in-Ok-clause-step : goal.returns-in-Ok-clause-step
+returns-in-Ok-clause-step g c =
+    let view = view_by g.D.Device.trace g.D.Device.faults g.D.CrashDevice.is_stopped g.D.CrashDevice.stops_in in
+    let done = c.crash_now.ensures.crashed in
+    crashed view g.C.Checksum.sum_of (phase.Closed c.args.config) c.args.config c.args.choice.now c.in-Ok.choice c.crash_now.result done.0 refl c.in-Ok.ensures done.1 c.crash_now.ensures.step

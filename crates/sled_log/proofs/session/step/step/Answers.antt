@@ -1,19 +1,18 @@
+-- A command is refused, or carried out and told.
 use Rattle.std.proofs.Common.{sym, subst}
-use Rattle.sled_log.specs.declared.session.step.Phase.{Phase}
-use Rattle.sled_log.specs.RunPhases.{view_by, CarriesOut}
+use Rattle.sled_log.specs.declared.session.command.Reply.{Reply}
+use Rattle.sled_log.specs.RunPhases.{AnswersIn, view_by}
+use Rattle.sled_log.proofs.Sessions.RunLemmas.{answered, refused}
 use Rattle.sled_log.proofs.session.step.step.Goals as goal
 
-pub returns-in-Closed-clause-step : goal.returns-in-Closed-clause-step
-returns-in-Closed-clause-step g c =
+pub returns-in-Some-clause-step : goal.returns-in-Some-clause-step
+returns-in-Some-clause-step g c =
     let view = view_by g.D.Device.trace g.D.Device.faults g.D.CrashDevice.is_stopped g.D.CrashDevice.stops_in in
-    subst (λ (x : Phase _ _). CarriesOut view g.C.Checksum.sum_of x c.args.command c.step_closed.result) (sym c.in-Closed.is) c.step_closed.ensures.step
+    refused view g.C.Checksum.sum_of c.args.phase c.args.command.now c.in-Some.why c.in-Some.ensures.why
 
-pub returns-in-Open-clause-step : goal.returns-in-Open-clause-step
-returns-in-Open-clause-step g c =
+pub returns-clause-step : goal.returns-clause-step
+returns-clause-step g c =
     let view = view_by g.D.Device.trace g.D.Device.faults g.D.CrashDevice.is_stopped g.D.CrashDevice.stops_in in
-    subst (λ (x : Phase _ _). CarriesOut view g.C.Checksum.sum_of x c.args.command c.step_open.result) (sym c.in-Open.is) c.step_open.ensures.step
-
-pub returns-in-Waiting-clause-step : goal.returns-in-Waiting-clause-step
-returns-in-Waiting-clause-step g c =
-    let view = view_by g.D.Device.trace g.D.Device.faults g.D.CrashDevice.is_stopped g.D.CrashDevice.stops_in in
-    subst (λ (x : Phase _ _). CarriesOut view g.C.Checksum.sum_of x c.args.command c.step_waiting.result) (sym c.in-Waiting.is) c.step_waiting.ensures.step
+    let next = c.carry_out-next.result in
+    subst (λ (r : Reply). AnswersIn view g.C.Checksum.sum_of c.args.phase c.args.command.now (next.0, r)) (sym c.tell-told.ensures)
+    (answered view g.C.Checksum.sum_of c.args.phase c.args.command.now next.0 next.1 c.carry_out-next.ensures.step c.in_default.ensures.why)

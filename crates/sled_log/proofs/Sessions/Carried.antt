@@ -1,0 +1,109 @@
+-- What a command comes to that isn't refused: what its refusal would say, and how a reservation is carried out.
+use Rattle.std.proofs.Common.{◌≡◌, ◌∙◌, ◌≤◌, ◌+◌, ◌-◌, ◌/◌, nat_le, nat_lt, arith, ℕ, Bool, true, false, List, [], length, Option, None, Some, refl, sym, ap, inl, inr}
+use Rattle.std.specs.Prelude.{Vec, not, ◌&&◌}
+use Rattle.std.specs.declared.alloc.Global.{Global}
+use Rattle.std.proofs.lemmas.Bool.Decides.{nat_tests}
+use Rattle.sled_codec.specs.declared.serialization.message.LogKind.{LogKind}
+use Rattle.sled_codec.specs.declared.serialization.message.LogKind.TheVariants as does
+use Rattle.sled_codec.specs.History.{Message, History}
+use Rattle.sled_codec.specs.Spelling.{short_bytes}
+use Rattle.sled_log.specs.declared.session.Phase.TheVariants.{Open}
+use Rattle.sled_log.specs.declared.session.opened.Opened.{Opened}
+use Rattle.sled_log.specs.declared.session.command.Command.{Command}
+use Rattle.sled_log.specs.declared.session.command.Command.TheVariants as command
+use Rattle.sled_log.specs.declared.session.command.Refusal.{Refusal}
+use Rattle.sled_log.specs.declared.session.command.Reply.{Reply}
+use Rattle.sled_log.specs.declared.session.command.Reply.TheVariants as reply
+use Rattle.sled_log.specs.Refusals.{is_absent, is_busy, is_too_long, reason_of, refusal_for, when}
+use Rattle.sled_log.specs.Reservations.{HasTried, MayReserve}
+use Rattle.sled_log.specs.RunStates.{DeviceView, LogView, RunState, is_present, page_now}
+use Rattle.sled_log.specs.Runs.{Acts, ActsBy, IsStep, StepBy}
+use Rattle.sled_log.specs.RunPhases.{Does, Unstored, device_in, seen, size_of, stands}
+
+-- Where no reason is told the first one doesn't fit, and none of the others is told.
+pub passes : (b : Bool) (w : Refusal) (o : Option Refusal) → when b w o ≡ None → (b ≡ false) × (o ≡ None)
+passes true w o none = cc
+passes false w o none = (refl, none)
+
+-- A reply that refuses nothing is one of what the command comes to.
+pub acting : (sum : List ℕ → ℕ) (size : ℕ) (a : RunState) (c : Command) (r : Reply) (new : DeviceView) → reason_of r ≡ None → ActsBy sum size a c r new → Acts sum size a c r new
+acting sum size a c (reply.Refused w) new none acts = cc
+acting sum size a c r new none acts = acts
+
+pub stepping : (sum : List ℕ → ℕ) (size : ℕ) (a : RunState) (c : Command) (r : Reply) (new : DeviceView) (b : RunState) → reason_of r ≡ None → StepBy sum size a a.log c r new b → IsStep sum size a c r new b
+stepping sum size a c (reply.Refused w) new b none steps = cc
+stepping sum size a c r new b none steps = steps
+
+-- An item isn't too long.
+inline : (size n : ℕ) → is_too_long size n ≡ false → 32 + n ≤ size / 4 - 20
+inline size n short = grind (arith, nat_tests, short)
+
+module _ {D C : Type 0} (view : D → DeviceView) (sum : List ℕ → ℕ) (old : Opened D C) (k : Unstored) (page : ℕ) where
+  abbrev l : LogView
+  l = seen old k.tickets
+
+  abbrev size : ℕ
+  size = size_of (Open old)
+
+  -- What may be reserved.
+
+  pub replace_may : (item : Vec ℕ Global) → refusal_for size (stands view (Open old) k) (command.Replace page item) ≡ None → MayReserve size k.history l does.Replace page (length (short_bytes item.items))
+  replace_may item free =
+      let first = passes _ _ _ free in
+      let above = passes (nat_lt l.begun page) _ _ first.1 in
+      let busy = passes (is_busy l page) _ _ above.1 in
+      let long = passes (is_too_long size (length (short_bytes item.items))) _ _ busy.1 in
+      let low = above.0 in
+      record { known = inl (refl, grind (arith, nat_tests, low)); idle = busy.0; few = λ is. cc; fits = inline size _ long.0 }
+
+  present : is_absent k.history page ≡ false → is_present (page_now k.history page) ≡ true
+  present here = by (is_present (page_now k.history page)) here where
+    by : (b : Bool) → not b ≡ false → b ≡ true
+    by true is = refl
+    by false is = sym is
+
+  pub link_may : (item : Vec ℕ Global) → refusal_for size (stands view (Open old) k) (command.Link page item) ≡ None → MayReserve size k.history l does.Link page (length (short_bytes item.items))
+  link_may item free =
+      let first = passes _ _ _ free in
+      let absent = passes (is_absent k.history page) _ _ first.1 in
+      let busy = passes (is_busy l page) _ _ absent.1 in
+      let many = passes (nat_le 255 (length (page_now k.history page))) _ _ busy.1 in
+      let long = passes (is_too_long size (length (short_bytes item.items))) _ _ many.1 in
+      let few = many.0 in
+      record { known = inr (present absent.0); idle = busy.0; few = λ is. grind (arith, nat_tests, few); fits = inline size _ long.0 }
+
+  pub free_may : 256 ≤ size → refusal_for size (stands view (Open old) k) (command.Free page) ≡ None → MayReserve size k.history l does.Free page 0
+  free_may big free =
+      let first = passes _ _ _ free in
+      let absent = passes (is_absent k.history page) _ _ first.1 in
+      let busy = passes (is_busy l page) _ _ absent.1 in
+      record { known = inr (present absent.0); idle = busy.0; few = λ is. cc; fits = omega (arith, big) }
+
+  -- A reservation is what the command comes to.
+  module _ (new : Opened D C) (result : Reply) where
+    abbrev a : RunState
+    a = stands view (Open old) k
+
+    abbrev now : DeviceView
+    now = device_in view (Open new)
+
+    pub replace_does : (item : Vec ℕ Global) → HasTried view sum old does.Replace page (short_bytes item.items) new result k → Does view sum (Open old) (command.Replace page item) (Open new, result) k
+    replace_does item tried = record {
+      not_refused = tried.not_refused;
+      acts = acting sum size a (command.Replace page item) result now tried.not_refused tried.device;
+      step = λ own. (tried.tickets, stepping sum size a (command.Replace page item) result now (stands view (Open new) tried.tickets) tried.not_refused tried.step, tried.at);
+    }
+
+    pub link_does : (item : Vec ℕ Global) → HasTried view sum old does.Link page (short_bytes item.items) new result k → Does view sum (Open old) (command.Link page item) (Open new, result) k
+    link_does item tried = record {
+      not_refused = tried.not_refused;
+      acts = acting sum size a (command.Link page item) result now tried.not_refused tried.device;
+      step = λ own. (tried.tickets, stepping sum size a (command.Link page item) result now (stands view (Open new) tried.tickets) tried.not_refused tried.step, tried.at);
+    }
+
+    pub free_does : HasTried view sum old does.Free page [] new result k → Does view sum (Open old) (command.Free page) (Open new, result) k
+    free_does tried = record {
+      not_refused = tried.not_refused;
+      acts = acting sum size a (command.Free page) result now tried.not_refused tried.device;
+      step = λ own. (tried.tickets, stepping sum size a (command.Free page) result now (stands view (Open new) tried.tickets) tried.not_refused tried.step, tried.at);
+    }

@@ -1,0 +1,324 @@
+-- What it comes to where a ticket is ended: its message is completed, or given up.
+use Rattle.std.proofs.Common.{⊎_elim, ◌≡◌, ◌∙◌, ◌≢◌, ◌==◌, ◌&&◌, not, ◌<◌, ◌≤◌, ◌+◌, ℕ, ℤ, Bool, true, false, if◌then◌else◌, List, [], ◌∷◌, ◌++◌, length, map, get_or, set, sym, ap, subst, arith, refl, Option, None, Some, Result, Ok, Err, Vec, Global}
+use Rattle.std.specs.List.{All, slice_get}
+use Rattle.std.specs.Result.{OnOk, is_err}
+use Rattle.std.specs.declared.io.Error.{Error as IoError}
+use Rattle.std.proofs.lemmas.Bool.{ne_eqb}
+use Rattle.std.proofs.lemmas.List.{length-map, length-set, length_push}
+use Rattle.std.proofs.lemmas.List.Elements.{All-contains}
+use Rattle.sled_codec.specs.declared.result.DiskPtr.{DiskPtr}
+use Rattle.sled_codec.specs.declared.result.Error.{Error}
+use Rattle.sled_codec.specs.declared.result.Error.TheVariants as error
+use Rattle.sled_codec.specs.declared.serialization.message.LogKind.{LogKind}
+use Rattle.sled_codec.specs.declared.serialization.message.LogKind.TheVariants as does
+use Rattle.sled_codec.specs.declared.serialization.snapshot.PageState.{PageState}
+use Rattle.sled_codec.specs.History.{Message, History, Completed, Step, ChangesPage}
+use Rattle.sled_codec.specs.PageTables.{IsTable, entry_of}
+use Rattle.sled_codec.specs.Snapshots.{Entry, Page, page_of}
+use Rattle.sled_store.proofs.Segments.Elements.{all_from_in}
+use Rattle.sled_core.specs.declared.logger.Log.{Log}
+use Rattle.sled_core.specs.declared.reservation.Reservation.{Reservation}
+use Rattle.sled_core.specs.Causes.{FaultAnswers}
+use Rattle.sled_core.specs.Fits.{Awaits, KeepsAll, KeepsBuffers, config_of, fault_of, open_places, pins_of, reserved_end, segment_size_of}
+use Rattle.sled_core.specs.Keeps.{SamePosition}
+use Rattle.sled_core.specs.OpenPlaces.{TakesOut}
+use Rattle.sled_core.specs.Running.{Fits}
+use Rattle.sled_core.specs.Tickets.{place_of}
+use Rattle.sled_core.proofs.PublicLaws.{awaited, fits_apart}
+use Rattle.sled_core.proofs.Read.FoundLemmas.{pos_injective}
+use Rattle.sled_log.specs.declared.session.opened.Opened.{Opened}
+use Rattle.sled_log.specs.declared.session.opened.Ticket.{Ticket}
+use Rattle.sled_log.specs.declared.session.Phase.{Phase}
+use Rattle.sled_log.specs.declared.session.Phase.TheVariants.{Open}
+use Rattle.sled_log.specs.declared.session.command.Command.TheVariants as command
+use Rattle.sled_log.specs.declared.session.command.Refusal.TheVariants as why
+use Rattle.sled_log.specs.declared.session.command.Reply.{Reply}
+use Rattle.sled_log.specs.declared.session.command.Reply.TheVariants as reply
+use Rattle.sled_log.specs.Endings.{KeepsPages, TakesTicket, applied_to, put_at}
+use Rattle.sled_log.specs.Made.{IsMade, MayJoin}
+use Rattle.sled_log.specs.Refusals.{when}
+use Rattle.sled_log.specs.RunPhases.{AreRising, Does, HasTickets, IsOpenAt, IsTicketFor, Unstored, device_in, seen, seen_log, stands, traces}
+use Rattle.sled_log.specs.RunStates.{DeviceView, RunState, has_ticket, open_messages, opens, places_without, top, with_log}
+use Rattle.sled_log.specs.Runs.{IsAnswerFor, IsStep, Acts, spent}
+use Rattle.sled_log.proofs.Sessions.Endings.{one_there}
+use Rattle.sled_log.proofs.Sessions.MadeHistories.{came, join_still, made_completed}
+use Rattle.sled_log.proofs.Sessions.MadeTables.{page_of_replace, table_completed}
+use Rattle.sled_log.proofs.Sessions.SpentTickets.{spent_places, spent_tickets, taken_out, ticket_there}
+
+-- A ticket that may be ended is open.
+pub open_there : (stopped : Bool) (n : ℕ) (ts : List (Option Message)) → when (stopped && true) why.Stopped (when (not (has_ticket n ts)) why.Ticket None) ≡ None → (m : Message) × (slice_get ts n ≡ Some (Some m))
+open_there stopped n ts asked = ticket_there n ts (by stopped (has_ticket n ts) asked) where
+  by : (s b : Bool) → when (s && true) why.Stopped (when (not b) why.Ticket None) ≡ None → b ≡ true
+  by s true is = refl
+  by true false is = cc
+  by false false is = cc
+
+-- what holds of an answer that is no error
+pub ok_gives : {T E : Type 0} (r : Result T E) (P : Type 0) → OnOk r P → is_err r ≡ false → P
+ok_gives (Ok x) P holds is = holds
+ok_gives (Err e) P holds is = cc
+
+-- How many pages are known once an entry came.
+
+put_length : (ps : List Page) (page : ℕ) (s : Page) → length (put_at ps page s) ≡ (if page == length ps then length ps + 1 else length ps)
+put_length ps page s = by (page == length ps) where
+  by : (o : Bool) → length (if o then ps ++ s ∷ [] else set ps page s) ≡ (if o then length ps + 1 else length ps)
+  by true = let long = length_push ps s in omega (arith, long)
+  by false = length-set ps page s
+
+applied_length : (ps : List Page) (kind : LogKind) (page : ℕ) (e : Entry) → ChangesPage kind → (kind ≡ does.Link → page < length ps)
+    → length (applied_to ps kind page e) ≡ (if page == length ps then length ps + 1 else length ps)
+applied_length ps does.Replace page e changes known = put_length ps page _
+applied_length ps does.Free page e changes known = put_length ps page _
+applied_length ps does.Link page e changes known =
+    length-set ps page _ ∙ sym (ap (λ (o : Bool). if o then length ps + 1 else length ps) (ne_eqb page (length ps) (λ same. let lt = known refl in omega (arith, lt, same))))
+applied_length ps does.Skip page e changes known = ⊎_elim (λ is. cc) (λ rest. ⊎_elim (λ is. cc) (λ is. cc) rest) changes
+applied_length ps does.Corrupted page e changes known = ⊎_elim (λ is. cc) (λ rest. ⊎_elim (λ is. cc) (λ is. cc) rest) changes
+
+module _ {D C : Type 0} (view : D → DeviceView) (sum : List ℕ → ℕ) (old : Opened D C) (k : Unstored) (at : IsOpenAt (traces view) sum old k) (n : ℕ) (m : Message) (there : slice_get k.tickets n ≡ Some (Some m)) where
+  abbrev had : IsTicketFor old k.history n m
+  had = at.tickets.each n m there
+
+  -- it is taken
+  pub takes_it : (mid : Opened D C) (result : Option Ticket) → TakesTicket old n mid result → result ≡ Some had.ticket
+  takes_it mid result takes = takes.taken had.ticket had.there (m, had.awaits)
+
+  module _ (mid : Opened D C) (ticket : Ticket) (takes : TakesTicket old n mid (Some ticket)) where
+    same_ticket : had.ticket ≡ ticket
+    same_ticket = one_there old.tickets.items n had.ticket ticket had.there takes.there
+
+    -- for its message
+    pub awaits_it : Awaits old.log ticket.reservation m
+    awaits_it = subst (λ (t : Ticket). Awaits old.log t.reservation m) same_ticket had.awaits
+
+    pub of_kind : ticket.kind ≡ m.kind
+    of_kind = sym (ap (λ (t : Ticket). t.kind) same_ticket) ∙ had.kind
+
+    pub of_page : ticket.page ≡ m.page
+    of_page = sym (ap (λ (t : Ticket). t.page) same_ticket) ∙ had.page
+
+    busy : mid.busy.items ≡ set old.busy.items m.page false
+    busy = takes.busy ∙ ap (λ page. set old.busy.items page false) of_page
+
+    -- another ticket is for another place
+    other_place : (t : Reservation) (x : Message) → Awaits old.log t x → (x.place ≡ m.place → ⊥) → place_of t ≢ place_of ticket.reservation
+    other_place t x awaits apart same = apart (pos_injective x.place m.place ((awaited old.log t x awaits).0 ∙ same ∙ sym (awaited old.log ticket.reservation m awaits_it).0))
+
+    -- what is kept in mind then
+    abbrev pub left : History → Unstored
+    left H = record { history = H; acknowledged = k.acknowledged; floor = k.floor; tickets = set k.tickets n None }
+
+    module _ (log : Log D C) (pages : Vec PageState Global) where
+      abbrev pub now : Opened D C
+      now = record { alloc = mid.alloc; log = log; guard = mid.guard; pages = pages; busy = mid.busy; tickets = mid.tickets }
+
+      -- Where the log keeps a failure nothing but the ticket is another.
+      module _ (is : log ≡ old.log) (pages_are : map page_of pages.items ≡ map page_of old.pages.items) (e : IoError) (fault : fault_of old.log ≡ Some e) where
+        failed_open : IsOpenAt (traces view) sum now (left k.history)
+        failed_open = record {
+          made = at.made;
+          unmarked = at.unmarked;
+          fits = subst (λ (x : Log D C). Fits (traces view) sum x k.history k.acknowledged k.floor at.unmarked) (sym is) at.fits;
+          pinned = subst (λ (x : Log D C). 0 < pins_of x) (sym is) at.pinned;
+          table = subst (λ (ps : List Page). IsTable ps k.history top) (sym pages_are) at.table;
+          tickets = spent_tickets old now k.history k.history k.tickets n m there at.tickets takes.tickets busy (ap reserved_end is)
+              (λ t x awaits apart. subst (λ (y : Log D C). Awaits y t.reservation x) (sym is) awaits) (λ x ne may. may)
+              (λ none. absurd (let both : None ≡ Some e = sym none ∙ ap fault_of is ∙ fault in cc));
+          ends = subst (λ (x : Log D C). All (λ y. y.place + y.size ≤ reserved_end x) k.history.messages) (sym is) at.ends;
+        }
+
+        begun : length pages.items ≡ length old.pages.items
+        begun = sym (length-map pages.items page_of) ∙ ap length pages_are ∙ length-map old.pages.items page_of
+
+        failed_leads : stands view (Open now) (left k.history) ≡ with_log (stands view (Open old) k) (view (config_of log).device) (Some (spent (seen old k.tickets) n (opens (seen old k.tickets)) (length old.pages.items)))
+        failed_leads i = record {
+          device = view (config_of log).device;
+          history = k.history;
+          acknowledged = k.acknowledged;
+          floor = k.floor;
+          log = Some (seen_log (is i) (begun i) (set k.tickets n None));
+        }
+
+      pub abort_fails : (T : Type 0) (e : Error) → FaultAnswers {T = T} (Err e) (fault_of old.log) → log ≡ old.log → map page_of pages.items ≡ map page_of old.pages.items
+          → Does view sum (Open old) (command.Abort n) (Open now, reply.Failed e) k
+      abort_fails T (error.Io x) answers is pages_are = record {
+        not_refused = refl;
+        acts = ap (λ (y : Log D C). view (config_of y).device) is;
+        step = λ own. (left k.history, (answers, failed_leads is pages_are x answers), failed_open is pages_are x answers);
+      }
+      abort_fails T _ answers is pages_are = absurd answers
+
+      pub complete_fails : (T : Type 0) (e : Error) → FaultAnswers {T = T} (Err e) (fault_of old.log) → log ≡ old.log → map page_of pages.items ≡ map page_of old.pages.items
+          → Does view sum (Open old) (command.Complete n) (Open now, reply.Failed e) k
+      complete_fails T (error.Io x) answers is pages_are = record {
+        not_refused = refl;
+        acts = ap (λ (y : Log D C). view (config_of y).device) is;
+        step = λ own. (left k.history, (answers, failed_leads is pages_are x answers), failed_open is pages_are x answers);
+      }
+      complete_fails T _ answers is pages_are = absurd answers
+
+      -- Where it keeps none, the reservation is ended.
+      module _ (same : KeepsAll old.log log) (position : SamePosition old.log log) (buffers : KeepsBuffers old.log log) (fault : fault_of old.log ≡ None)
+          (others : (t : Reservation) (x : Message) → Awaits old.log t x → place_of t ≢ place_of ticket.reservation → Awaits log t x)
+          (opens_left : TakesOut m.place (open_places old.log) (open_places log)) where
+        outstanding : open_places log ≡ places_without m.place (open_places old.log)
+        outstanding = taken_out m.place (open_places old.log) (open_places log) (subst AreRising (sym (at.tickets.are_all fault)) at.tickets.rising) opens_left
+
+        device : view (config_of log).device ≡ view (config_of old.log).device
+        device = ap (λ c. view c.device) same.config
+
+        ended_view : (count : ℕ) → length pages.items ≡ count → seen now (set k.tickets n None) ≡ spent (seen old k.tickets) n (places_without m.place (opens (seen old k.tickets))) count
+        ended_view count is i = record {
+          position = position.position i;
+          stable = same.synced i;
+          end = position.reserved i;
+          waiting = buffers.waiting i;
+          start = buffers.start i;
+          begun = is i;
+          fault = same.fault i;
+          outstanding = outstanding i;
+          tickets = set k.tickets n None;
+        }
+
+        ended_open : (H' : History) (U : List Message) → IsMade H' → Fits (traces view) sum log H' k.acknowledged k.floor U → IsTable (map page_of pages.items) H' top
+            → ((x : Message) → (m.page ≡ x.page → ⊥) → MayJoin k.history x → MayJoin H' x) → All (λ x. x.place + x.size ≤ reserved_end old.log) H'.messages → IsOpenAt (traces view) sum now (left H')
+        ended_open H' U made fits table joins ends = record {
+          made = made;
+          unmarked = U;
+          fits = fits;
+          pinned = subst (λ p. 0 < p) (sym same.pins) at.pinned;
+          table = table;
+          tickets = spent_tickets old now k.history H' k.tickets n m there at.tickets takes.tickets busy position.reserved
+              (λ t x awaits apart. others t.reservation x awaits (other_place t.reservation x awaits apart)) joins
+              (λ none. outstanding ∙ ap (places_without m.place) (at.tickets.are_all fault) ∙ sym (spent_places k.tickets n m there at.tickets.rising));
+          ends = subst (λ e. All (λ x. x.place + x.size ≤ e) H'.messages) (sym position.reserved) ends;
+        }
+
+        -- Its message is given up.
+        pub aborts : (place : ℤ) (pointer : DiskPtr) → IsAnswerFor m place pointer → map page_of pages.items ≡ map page_of old.pages.items
+            → Fits (traces view) sum log k.history k.acknowledged k.floor at.unmarked → Does view sum (Open old) (command.Abort n) (Open now, reply.Done place pointer) k
+        aborts place pointer answer pages_are fits =
+            let begun : length pages.items ≡ length old.pages.items = sym (length-map pages.items page_of) ∙ ap length pages_are ∙ length-map old.pages.items page_of in
+            let seen_is = ended_view (length old.pages.items) begun in
+            record {
+              not_refused = refl;
+              acts = device;
+              step = λ own. (
+                left k.history,
+                record {
+                  message = m;
+                  reserved = there;
+                  fault = fault;
+                  answer = answer;
+                  leads = λ i. record { device = view (config_of log).device; history = k.history; acknowledged = k.acknowledged; floor = k.floor; log = Some (seen_is i) };
+                },
+                ended_open k.history at.unmarked at.made fits (subst (λ (ps : List Page). IsTable ps k.history top) (sym pages_are) at.table) (λ x ne may. may) at.ends,
+              );
+            }
+
+        -- It comes to the history.
+        pub completes : (place : ℤ) (pointer : DiskPtr) → IsAnswerFor m place pointer → (H' : History) → Step k.history (Completed m) H'
+            → Fits (traces view) sum log H' k.acknowledged k.floor (m ∷ at.unmarked) → (e : Entry) → e ≡ entry_of m
+            → map page_of pages.items ≡ applied_to (map page_of old.pages.items) ticket.kind ticket.page e → Does view sum (Open old) (command.Complete n) (Open now, reply.Done place pointer) k
+        completes place pointer answer H' step fits e e_is applied =
+            let known : List Page = map page_of old.pages.items in
+            let entry : map page_of pages.items ≡ applied_to known m.kind m.page (entry_of m) = applied ∙ (λ i. applied_to known (of_kind i) (of_page i) (e_is i)) in
+            let may : MayJoin k.history m = had.may_join in
+            let made : IsMade H' = made_completed k.history H' m at.made may step (fits_apart (traces view) sum log H' k.acknowledged k.floor (m ∷ at.unmarked) fits) in
+            let table : IsTable (map page_of pages.items) H' top = subst (λ (ps : List Page). IsTable ps H' top) (sym entry) (table_completed k.history H' m known at.made may step at.table) in
+            let linked : m.kind ≡ does.Link → m.page < length known = λ link. ⊎_elim (λ replaces. absurd (let both : does.Link ≡ does.Replace = sym link ∙ replaces in cc))
+            (λ has. (at.table.begun m.page).1 (page_of_replace k.history m.page m.place at.made has)) may.own in
+            let count : length known ≡ length old.pages.items = length-map old.pages.items page_of in
+            let begun : length pages.items ≡ (if m.page == length old.pages.items then length old.pages.items + 1 else length old.pages.items) =
+            sym (length-map pages.items page_of) ∙ ap length entry ∙ applied_length known m.kind m.page (entry_of m) may.changes linked
+            ∙ ap (λ j. if m.page == j then j + 1 else j) count in
+            let seen_is = ended_view (if m.page == length old.pages.items then length old.pages.items + 1 else length old.pages.items) begun in
+            record {
+              not_refused = refl;
+              acts = device;
+              step = λ own. (
+                left H',
+                record {
+                  message = m;
+                  reserved = there;
+                  fault = fault;
+                  answer = answer;
+                  history = H';
+                  step = step;
+                  leads = λ i. record { device = view (config_of log).device; history = H'; acknowledged = k.acknowledged; floor = k.floor; log = Some (seen_is i) };
+                },
+                ended_open H' (m ∷ at.unmarked) made fits table (λ x ne next. join_still k.history H' m x may step ne next)
+                    (all_from_in (λ x. x.place + x.size ≤ reserved_end old.log) H'.messages (λ x among. ⊎_elim
+                    (λ is. subst (λ (z : Message). z.place + z.size ≤ reserved_end old.log) is had.ends)
+                    (λ was. All-contains (λ z. z.place + z.size ≤ reserved_end old.log) k.history.messages x at.ends was) (came k.history H' m step x among))),
+              );
+            }
+
+-- Room for a page.
+
+module _ {D C : Type 0} (view : D → DeviceView) (sum : List ℕ → ℕ) (old new : Opened D C) (kept : KeepsPages old new) (k : Unstored) where
+  kept_tickets : HasTickets old k.history k.tickets → HasTickets new k.history k.tickets
+  kept_tickets was = record {
+    as_many = ap (λ x. length x.items) kept.tickets ∙ was.as_many;
+    each = λ n m at. let had = was.each n m at in record {
+      ticket = had.ticket;
+      there = ap (λ x. slice_get x.items n) kept.tickets ∙ had.there;
+      kind = had.kind;
+      page = had.page;
+      awaits = subst (λ (x : Log D C). Awaits x had.ticket.reservation m) (sym kept.log) had.awaits;
+      may_join = had.may_join;
+      begins = subst (λ (x : Log D C). m.place < reserved_end x) (sym kept.log) had.begins;
+      ends = subst (λ (x : Log D C). m.place + m.size ≤ reserved_end x) (sym kept.log) had.ends;
+    };
+    gone = λ n at. ap (λ x. slice_get x.items n) kept.tickets ∙ was.gone n at;
+    apart = was.apart;
+    rising = was.rising;
+    are_all = subst (λ (x : Log D C). fault_of x ≡ None → open_places x ≡ map (λ m. m.place) (open_messages k.tickets)) (sym kept.log) was.are_all;
+    busy = λ page. ap (λ x. get_or x.items page false) kept.busy ∙ was.busy page;
+  }
+
+  -- leaves all as it is seen,
+  pub room_open : IsOpenAt (traces view) sum old k → IsOpenAt (traces view) sum new k
+  room_open at = record {
+    made = at.made;
+    unmarked = at.unmarked;
+    fits = subst (λ (x : Log D C). Fits (traces view) sum x k.history k.acknowledged k.floor at.unmarked) (sym kept.log) at.fits;
+    pinned = subst (λ (x : Log D C). 0 < pins_of x) (sym kept.log) at.pinned;
+    table = subst (λ (ps : List Page). IsTable ps k.history top) (sym kept.pages) at.table;
+    tickets = kept_tickets at.tickets;
+    ends = subst (λ (x : Log D C). All (λ y. y.place + y.size ≤ reserved_end x) k.history.messages) (sym kept.log) at.ends;
+  }
+
+  room_begun : length new.pages.items ≡ length old.pages.items
+  room_begun = sym (length-map new.pages.items page_of) ∙ ap length kept.pages ∙ length-map old.pages.items page_of
+
+  room_stands : stands view (Open new) k ≡ stands view (Open old) k
+  room_stands i = record {
+    device = view (config_of (kept.log i)).device;
+    history = k.history;
+    acknowledged = k.acknowledged;
+    floor = k.floor;
+    log = Some (seen_log (kept.log i) (room_begun i) k.tickets);
+  }
+
+  -- so what a completion comes to then it comes to,
+  pub room_does : (n : ℕ) (result : Phase D C × Reply) → Does view sum (Open new) (command.Complete n) result k → Does view sum (Open old) (command.Complete n) result k
+  room_does n result did =
+      let same : (segment_size_of new.log, stands view (Open new) k) ≡ (segment_size_of old.log, stands view (Open old) k) = λ i. (segment_size_of (kept.log i), room_stands i) in
+      record {
+        not_refused = did.not_refused;
+        acts = subst (λ (z : ℕ × RunState). Acts sum z.0 z.1 (command.Complete n) result.1 (device_in view result.0)) same did.acts;
+        step = λ own. let came_to = did.step tt in (
+          came_to.0,
+          subst (λ (z : ℕ × RunState). IsStep sum z.0 z.1 (command.Complete n) result.1 (device_in view result.0) (stands view result.0 came_to.0)) same came_to.1,
+          came_to.2,
+        );
+      }
+
+  -- and where memory for it was refused nothing is done.
+  pub room_fails : (n : ℕ) → IsOpenAt (traces view) sum old k → Does view sum (Open old) (command.Complete n) (Open new, reply.Failed error.OutOfMemory) k
+  room_fails n at = record {
+    not_refused = refl;
+    acts = ap (λ (y : Log D C). view (config_of y).device) kept.log;
+    step = λ own. (k, room_stands, room_open at);
+  }

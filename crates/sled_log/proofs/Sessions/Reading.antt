@@ -1,0 +1,442 @@
+-- What a read leaves of a log, as it is seen.
+use Rattle.std.proofs.Common.{◌≡◌, ◌∙◌, ◌≤◌, ◌<◌, ◌+◌, ◌⊎◌, ◌&&◌, inl, inr, ℕ, ℤ, pos, Bool, true, false, nat_lt, nat_le, if◌then◌else◌, List, [], ◌∷◌, ◌++◌, length, map, Option, Some, None, Result, Ok, Err, refl, sym, ap, subst, arith, append_assoc, get_or, to_z, of_z}
+use Rattle.std.specs.Prelude.{Vec}
+use Rattle.std.specs.Int.{w64}
+use Rattle.std.specs.List.{All, Contains}
+use Rattle.std.specs.declared.alloc.Global.{Global}
+use Rattle.std.specs.declared.io.Error.{Error as IoError}
+use Rattle.std.proofs.lemmas.Bool.Decides.{nat_tests}
+use Rattle.std.proofs.lemmas.Bool.{cases_lt}
+use Rattle.std.proofs.lemmas.Int.{ints}
+use Rattle.std.proofs.lemmas.List.{append-nil, get_or-map, map-append}
+use Rattle.std.proofs.lemmas.List.Elements.{All-cons, All-contains, All-contains_itself, All-head, All-nil, All-tail, All-weaker}
+use Rattle.sled_codec.specs.declared.result.Error.{Error}
+use Rattle.sled_codec.specs.declared.result.Error.TheVariants as error
+use Rattle.sled_codec.specs.Errors.{IsCorruption}
+use Rattle.sled_codec.specs.History.{History, Message, table}
+use Rattle.sled_codec.specs.WellFormed.{LieApart}
+use Rattle.sled_codec.specs.declared.serialization.snapshot.PageState.{PageState}
+use Rattle.sled_codec.specs.PageTables.{entry_of}
+use Rattle.sled_codec.specs.Snapshots.{Entry, Page, Present, Uninitialized, page_of}
+use Rattle.sled_store.specs.Device.{Event}
+use Rattle.sled_store.specs.Script.{Performs, after_all}
+use Rattle.sled_store.proofs.Segments.TableEntries.{from_table}
+use Rattle.sled_core.specs.Reading.{IsInline}
+use Rattle.sled_core.specs.declared.logger.Log.{Log}
+use Rattle.sled_core.specs.Begun.{segment_view, view_at}
+use Rattle.sled_core.specs.Fits.{HasRecordOf, buffers_of, current_begin, current_of, device_of, fault_of, held_len, open_places, reserved_end, segment_size_of, start_of, synced_end, waiting_of}
+use Rattle.sled_core.specs.Keeps.{SamePosition, start_sealed}
+use Rattle.sled_core.specs.OpenPlaces.{first_between}
+use Rattle.sled_core.specs.ReadBuffer.{IsUsedUpAt, ReadAnswers, Settles, WritesAround, held_at, sealed_at, settling, start_at}
+use Rattle.sled_core.specs.SealedBuffers.{writing}
+use Rattle.sled_core.specs.Waiting.{BufferAt, BufferStart, Span, has_place, held_around, span_of, spans, unless_held, without_around, write_around}
+use Rattle.sled_core.proofs.Holds.BufferEnds.{written_behind}
+use Rattle.sled_core.proofs.Holds.KeptCalls.{kept_further, kept_still, position_further, position_still, tickets_further}
+use Rattle.sled_core.proofs.Line.Entered.{filled_last}
+use Rattle.sled_core.proofs.Line.Facts.{current_facts}
+use Rattle.sled_core.proofs.Line.Shows.{buffers_add}
+use Rattle.sled_core.proofs.PublicLaws.{place_back, reserved_small, shows_current, shows_empty, shows_long}
+use Rattle.sled_log.proofs.Sessions.MadePages.{page_present}
+use Rattle.sled_log.specs.Made.{IsMade}
+use Rattle.sled_log.specs.declared.session.Phase.TheVariants.{Open}
+use Rattle.sled_log.specs.declared.session.opened.Opened.{Opened}
+use Rattle.sled_log.specs.declared.session.command.Reply.TheVariants as reply
+use Rattle.sled_log.proofs.Sessions.Writing.{IsHeldBy, StaysPut, all_held, first_seen, flush_out, next_start_seen, over, shows_waiting, span_seen, still_open}
+use Rattle.sled_log.specs.Readings.{IsItem, IsOfPage, IsRead, KeepsOpen, ReadsEntries, ReadsItem, page_told}
+use Rattle.sled_log.specs.RunPhases.{IsOpenAt, Unstored, seen, seen_log, stands, traces}
+use Rattle.sled_log.specs.RunStates.{DeviceView, LogView, RunState, current_span, first_waiting, held, is_present, next_start, opens, page_now, sealed_around, spans_without, start_around, top, with_log}
+use Rattle.sled_log.specs.Runs.{ReadFails, ReadFailsFor, ReadStep, ReadStops, ReadsAll, ReadsAt, ShowsBuffers, flushed, held_around_place, holding_read, item_bytes, read_around}
+
+-- Buffers that have a place.
+
+-- those without the one that has it, as they are seen
+without_seen : (at : ℕ) (bs : List BufferAt) → spans (without_around at bs) ≡ spans_without at (spans bs)
+without_seen at [] = refl
+without_seen at (b ∷ bs) = by (without_seen at bs) (has_place at b) where
+  by : spans (without_around at bs) ≡ spans_without at (spans bs) → (o : Bool) → spans (if o then bs else b ∷ without_around at bs) ≡ (if o then spans bs else span_of b ∷ spans_without at (spans bs))
+  by rest true = refl
+  by rest false = ap (λ (ss : List Span). span_of b ∷ ss) rest
+
+-- what holds that one up
+around_seen : (places : List ℕ) (at : ℕ) (bs : List BufferAt) → All (IsHeldBy places) bs → held_around at bs ≡ held_around_place places at (spans bs)
+around_seen places at [] all = refl
+around_seen places at (b ∷ bs) all = by (All-head (IsHeldBy places) b bs all) (around_seen places at bs (All-tail (IsHeldBy places) b bs all)) (has_place at b) where
+  by : b.held ≡ first_between b.place b.end places → held_around at bs ≡ held_around_place places at (spans bs) → (o : Bool)
+      → (if o then b.held else held_around at bs) ≡ (if o then held places (span_of b) else held_around_place places at (spans bs))
+  by here rest true = here
+  by here rest false = rest
+
+-- a buffer behind the place doesn't have it
+not_behind : (at : ℕ) (b : BufferAt) → at < b.place → has_place at b ≡ false
+not_behind at b far = by (nat_le b.place at) refl where
+  by : (o : Bool) → nat_le b.place at ≡ o → (o && nat_lt at b.end) ≡ false
+  by true is = absurd (grind (arith, nat_tests, far, is))
+  by false is = refl
+
+write_front : (at : ℕ) (bs : List BufferAt) (b : BufferAt) → at < b.place → write_around at (bs ++ b ∷ []) ≡ write_around at bs
+write_front at [] b far = ap (λ (o : Bool). if o then unless_held b.held (writing b.lid b.bytes []) else []) (not_behind at b far)
+write_front at (x ∷ xs) b far = ap (λ (es : List Event). if has_place at x then unless_held x.held (writing x.lid x.bytes []) else es) (write_front at xs b far)
+
+around_front : (at : ℕ) (bs : List BufferAt) (b : BufferAt) → at < b.place → held_around at (bs ++ b ∷ []) ≡ held_around at bs
+around_front at [] b far = ap (λ (o : Bool). if o then b.held else None) (not_behind at b far)
+around_front at (x ∷ xs) b far = ap (λ (o : Option ℕ). if has_place at x then x.held else o) (around_front at xs b far)
+
+-- A message of what a page is has its record.
+pub has_record : {D C : Type 0} (log : Log D C) (H : History) (end : ℕ) (m : Message) → IsOfPage H end m → HasRecordOf log H m
+has_record log H end m of =
+    let low = log.place_in_reach in
+    let inside = log.in_segment in
+    let written = written_behind log.buffer in
+    inr (top, omega (arith, low, inside, written), of.entry)
+
+module _ {D C : Type 0} (log : Log D C) (sum : List ℕ → ℕ) (at begun : ℕ) (k : Unstored) (below : at < reserved_end log) where
+  abbrev l : LogView
+  l = seen_log log begun k.tickets
+
+  -- what is reserved of the current buffer has bytes
+  some_held : current_begin log ≤ at → 0 < held_len log
+  some_held le =
+      let inside : reserved_end log ≤ (current_of log).parts.site.place + length (current_of log).parts.bytes = (filled_last (segment_size_of log) (reserved_end log) (view_at log.site log.buffer) (map segment_view log.behind.items) log.filled).1 in
+      let low = (current_facts log).begins in
+      omega (arith, le, below, inside, low)
+
+  -- The sealed buffers and where the current one begins, once that of the place is sealed.
+
+  shows : ShowsBuffers (opens l) (sealed_around at l) (sealed_at sum at log)
+  shows = by (nat_le (current_begin log) at) refl where
+    by : (o : Bool) → nat_le (current_begin log) at ≡ o
+        → ShowsBuffers (opens l) (if o then spans (waiting_of log) ++ current_span l l.position ∷ [] else spans (waiting_of log)) (if o then buffers_of sum log else waiting_of log)
+    by true is = record {
+      are = shows_current sum log (some_held (grind (arith, nat_tests, is))) ∙ ap (λ (s : Span). spans (waiting_of log) ++ s ∷ []) (span_seen log sum begun k.tickets);
+      long = shows_long sum log;
+      held = all_held log sum begun k.tickets;
+    }
+    by false is = shows_waiting log sum begun k.tickets
+
+  start_seen : start_at at log ≡ start_around at l
+  start_seen = by (nat_le (current_begin log) at) where
+    by : (o : Bool) → (if o then start_sealed log else start_of log) ≡ (if o then next_start l l.position else start_of log)
+    by true = next_start_seen log sum begun k.tickets
+    by false = refl
+
+  without_around_seen : spans (without_around at (sealed_at sum at log)) ≡ spans_without at (sealed_around at l)
+  without_around_seen = without_seen at (sealed_at sum at log) ∙ ap (spans_without at) shows.are
+
+  -- the one behind them doesn't have the place
+  module _ {T : Type 0} (f : List BufferAt → T) (front : (bs : List BufferAt) (b : BufferAt) → at < b.place → f (bs ++ b ∷ []) ≡ f bs) where
+    of_sealed : f (buffers_of sum log) ≡ f (sealed_at sum at log)
+    of_sealed = by (nat_le (current_begin log) at) refl where
+      by : (o : Bool) → nat_le (current_begin log) at ≡ o → f (buffers_of sum log) ≡ f (if o then buffers_of sum log else waiting_of log)
+      by true is = refl
+      by false is = elim (cases_lt 0 (held_len log)) [
+        | inl some ↦ (
+            let adds = buffers_add sum log some in
+            let place : adds.more.place ≡ current_begin log = ap (λ (s : Span). s.place) adds.seen in
+            ap f adds.is ∙ front (waiting_of log) adds.more (grind (arith, nat_tests, is, place)))
+        | inr none ↦ ap f (shows_empty sum log (omega (arith, none)))
+      ]
+
+  calls_seen : settling sum log (pos at) ≡ (if nat_lt at l.stable then [] else write_around at (sealed_at sum at log))
+  calls_seen = ap (λ (es : List Event). if nat_lt at l.stable then [] else es) (of_sealed (write_around at) (write_front at))
+
+  holding_seen : held_at sum log (pos at) ≡ holding_read l at
+  holding_seen = ap (λ (o : Option ℕ). if nat_lt at l.stable then None else o)
+      (of_sealed (held_around at) (around_front at) ∙ around_seen (opens l) at (sealed_at sum at log) shows.held ∙ ap (held_around_place (opens l) at) shows.are)
+
+-- One message is read.
+module _ {D C : Type 0} (view : D → DeviceView) (sum : List ℕ → ℕ) (old new : Log D C) (k : Unstored) (m : Message) (begun lid : ℕ) (is : IsRead (traces view) sum old k) (of : IsOfPage k.history (reserved_end old) m) (position : StaysPut old new) where
+  abbrev before : LogView
+  before = seen_log old begun k.tickets
+
+  abbrev after : LogView
+  after = seen_log new begun k.tickets
+
+  abbrev old_view : DeviceView
+  old_view = view (device_of old)
+
+  abbrev new_view : DeviceView
+  new_view = view (device_of new)
+
+  -- these buffers are left
+  leaves : (waiting : List Span) (start : BufferStart) (fault : Option IoError) → spans (waiting_of new) ≡ waiting → start_of new ≡ start → fault_of new ≡ fault → after ≡ flushed before waiting start fault
+  leaves waiting start fault left first kept = λ i. record {
+    position = position.position i;
+    stable = (first_seen new ∙ λ j. first_waiting (left j) (first j)) i;
+    end = position.reserved i;
+    waiting = left i;
+    start = first i;
+    begun = begun;
+    fault = kept i;
+    outstanding = position.opens i;
+    tickets = k.tickets;
+  }
+
+  -- It failed.
+
+  read_fails : {T : Type 0} (e : Error) (a : RunState) (fault : Option IoError) → Settles {T = T} (traces view) sum (Err e) (pos m.place) lid old new → WritesAround {T = T} sum (Err e) (pos m.place) old new → fault_of new ≡ fault
+      → ReadFails a before m.place fault old_view new_view (with_log a new_view (Some after))
+  read_fails e a fault settles writes kept = record {
+    buffers = sealed_at sum m.place old;
+    shown = shows old sum m.place begun k of.below;
+    calls = subst (λ (es : List Event). Performs es old_view.trace new_view.trace) (calls_seen old sum m.place begun k of.below) settles.at_most;
+    waiting = spans (waiting_of new);
+    start = start_of new;
+    left = elim writes.some [
+      | inl same ↦ inl (ap spans same.0, same.1)
+      | inr (inl sealed) ↦ inr (inl (ap spans sealed.0 ∙ (shows old sum m.place begun k of.below).are, sealed.1 ∙ start_seen old sum m.place begun k of.below))
+      | inr (inr written) ↦ inr (inr (ap spans written.0 ∙ without_around_seen old sum m.place begun k of.below, written.1 ∙ start_seen old sum m.place begun k of.below))
+    ];
+    leads = ap (λ (x : LogView). with_log a new_view (Some x)) (leaves (spans (waiting_of new)) (start_of new) fault refl refl kept);
+  }
+
+  pub read_failed : (T : Type 0) (blobs : ℤ → Option (List ℕ)) (e : Error) → Settles {T = T} (traces view) sum (Err e) (pos m.place) lid old new → WritesAround {T = T} sum (Err e) (pos m.place) old new
+      → ReadAnswers {T = T} sum blobs (Err e) (pos m.place) (synced_end old) (reserved_end old) (held_at sum old (pos m.place)) (IsUsedUpAt old (pos m.place)) (fault_of old) (fault_of new) old_view.failures new_view.failures
+      → (IsCorruption {T = T} (Err e) → ⊥) → (a : RunState) → ReadFailsFor (segment_size_of old) a before m.place e old_view new_view (with_log a new_view (Some after))
+  read_failed T blobs (error.Io x) settles writes answers whole a = elim answers [
+    | inl kept ↦ (inl (kept.0, refl, kept.2), read_fails (error.Io x) a (Some x) settles writes kept.1)
+    | inr failed ↦ (inr (failed.0, refl, failed.2, failed.3), read_fails (error.Io x) a (Some x) settles writes failed.1)
+  ]
+  read_failed T blobs error.OutOfMemory settles writes answers whole a = (answers.1, answers.3, read_fails error.OutOfMemory a None settles writes answers.2)
+  read_failed T blobs error.PlacesUsedUp settles writes answers whole a =
+      let used = answers.1 in
+      (answers.2, (let low = used.0 in omega (arith, ints, low)), flush_out old sum begun k.tickets used.1, answers.4, read_fails error.PlacesUsedUp a None settles writes answers.3)
+  read_failed T blobs (error.Held place) settles writes answers whole a =
+      let up = answers.1 in
+      (answers.3, (up.0, sym (holding_seen old sum m.place begun k of.below) ∙ up.1, up.2), answers.5, read_fails (error.Held place) a None settles writes answers.4)
+  read_failed T blobs (error.NotReserved place) settles writes answers whole a = let high = answers.2 in let low = of.below in absurd (omega (arith, ints, high, low))
+  read_failed T blobs (error.Corruption place) settles writes answers whole a = absurd (whole tt)
+  read_failed T blobs _ settles writes answers whole a = absurd answers
+
+  -- It was read.
+
+  around : {T : Type 0} (r : T) → WritesAround sum (Ok r) (pos m.place) old new → fault_of new ≡ fault_of old → after ≡ read_around before m.place
+  around r writes kept = by (nat_lt m.place (synced_end old)) refl where
+    by : (o : Bool) → nat_lt m.place (synced_end old) ≡ o → after ≡ (if o then before else flushed before (spans_without m.place (sealed_around m.place before)) (start_around m.place before) (fault_of old))
+    by true below =
+        let low = writes.still (grind (arith, ints, nat_tests, below)) in
+        leaves (spans (waiting_of old)) (start_of old) (fault_of old) (ap spans low.0) low.1 kept
+        ∙ (λ i. record { position = before.position; stable = sym (first_seen old) i; end = before.end; waiting = before.waiting; start = before.start; begun = begun; fault = before.fault; outstanding = before.outstanding; tickets = k.tickets })
+    by false beyond =
+        let high = writes.written (grind (arith, ints, nat_tests, beyond)) in
+        leaves (spans_without m.place (sealed_around m.place before)) (start_around m.place before) (fault_of old)
+        (ap spans high.0 ∙ without_around_seen old sum m.place begun k of.below) (high.1 ∙ start_seen old sum m.place begun k of.below) kept
+
+  pub was_read : {T : Type 0} (blobs : ℤ → Option (List ℕ)) (r : T) → Settles (traces view) sum (Ok r) (pos m.place) lid old new → WritesAround sum (Ok r) (pos m.place) old new
+      → ReadAnswers sum blobs (Ok r) (pos m.place) (synced_end old) (reserved_end old) (held_at sum old (pos m.place)) (IsUsedUpAt old (pos m.place)) (fault_of old) (fault_of new) old_view.failures new_view.failures
+      → (before.fault ≡ None) × ReadsAt before m.place old_view new_view × (after ≡ read_around before m.place)
+  was_read blobs r settles writes answers =
+      (answers.3, record {
+        buffers = sealed_at sum m.place old;
+        shown = shows old sum m.place begun k of.below;
+        made = settles.made ∙ ap (λ (es : List Event). after_all es old_view.trace) (calls_seen old sum m.place begun k of.below);
+        free = sym (holding_seen old sum m.place begun k of.below) ∙ answers.1;
+        failures = answers.5;
+      }, around r writes (answers.4 ∙ sym answers.3))
+
+-- Several messages are read, one behind another.
+
+-- one more
+reads_more : (done : List Message) (m : Message) (l end : LogView) (old mid new : DeviceView) → ReadsAll l done old mid end → ReadsAt end m.place mid new → ReadsAll l (done ++ m ∷ []) old new (read_around end m.place)
+reads_more [] m l end old mid new is more = (
+  new,
+  record {
+    buffers = more.buffers;
+    shown = subst (λ (x : LogView). ShowsBuffers (opens x) (sealed_around m.place x) more.buffers) is.2 more.shown;
+    made = more.made ∙ (λ i. after_all (if nat_lt m.place (is.2 i).stable then [] else write_around m.place more.buffers) (is.0 i));
+    free = subst (λ (x : LogView). holding_read x m.place ≡ None) is.2 more.free;
+    failures = more.failures ∙ is.1;
+  },
+  (refl, refl, ap (λ (x : LogView). read_around x m.place) is.2),
+)
+reads_more (n ∷ done) m l end old mid new is more = (is.0, is.1, reads_more done m (read_around l n.place) end is.0 mid new is.2 more)
+
+-- what all have this one has
+all_at : (P : Message → Type 0) (done : List Message) (m : Message) (rest : List Message) → All P (done ++ m ∷ rest) → P m
+all_at P [] m rest all = All-head P m rest all
+all_at P (n ∷ done) m rest all = all_at P done m rest (All-tail P n (done ++ m ∷ rest) all)
+
+-- Of these messages some were read, and the others have the entries that are left.
+pub record AreRead (l : LogView) (ms : List Message) (rest : List Entry) (old now : DeviceView) (items : List (Vec ℕ Global)) (l' : LogView) : Type 0 where
+  pub done : List Message
+  pub left : List Message
+  pub split : ms ≡ done ++ left
+  pub entries : map entry_of left ≡ rest
+  pub reads : ReadsAll l done old now l'
+  pub items_are : item_bytes items ≡ map (λ m. m.bytes) done
+  pub fault : (done ≡ []) ⊎ (l.fault ≡ None)
+
+-- So many of a page's entries are read.
+pub record HasReadSome {D C : Type 0} (view : D → DeviceView) (sum : List ℕ → ℕ) (old : Log D C) (entries : List Entry) (now : Log D C) (items : List (Vec ℕ Global)) (rest : List Entry) : Type 0 where
+  pub only : KeepsOpen (traces view) sum old now
+  pub so_far : (k : Unstored) (ms : List Message) (begun : ℕ) → IsRead (traces view) sum old k → All (IsOfPage k.history (reserved_end old)) ms → map entry_of ms ≡ entries
+      → AreRead (seen_log old begun k.tickets) ms rest (view (device_of old)) (view (device_of now)) items (seen_log now begun k.tickets)
+
+-- a read that stopped is a step
+stops_step : (n : ℕ) (a : RunState) (l : LogView) (ms : List Message) (e : Error) (new : DeviceView) (b : RunState) → ReadStops n a l ms e new b → ReadStep n a l ms (reply.Failed e) new b
+stops_step n a l ms error.OutOfMemory new b stops = inr stops
+stops_step n a l ms _ new b stops = stops
+
+module _ {D C : Type 0} (view : D → DeviceView) (sum : List ℕ → ℕ) (old : Log D C) where
+  -- nothing was done
+  pub only_same : KeepsOpen (traces view) sum old old
+  only_same = record { keeps = kept_still (traces view) sum old; tickets = record { awaits = λ ticket m awaits. awaits; opens = refl }; position = position_still old; free = λ none. none }
+
+  pub none_read : (entries : List Entry) → HasReadSome view sum old entries old [] entries
+  none_read entries = record {
+    only = only_same;
+    so_far = λ k ms begun is all are. record { done = []; left = ms; split = refl; entries = are; reads = (refl, refl, refl); items_are = refl; fault = inl refl };
+  }
+
+  pub unread : (entries : List Entry) → ReadsEntries view sum old entries old (Err error.OutOfMemory)
+  unread entries = record {
+    only = only_same;
+    step = λ k ms begun a is all are present device log. inl (sym device, λ i. record { device = sym device i; history = a.history; acknowledged = a.acknowledged; floor = a.floor; log = sym log i });
+  }
+
+  module _ (entries : List Entry) (mid : Log D C) (items : List (Vec ℕ Global)) where
+    -- what was kept up to there
+    further : (new : Log D C) → KeepsOpen (traces view) sum old mid → KeepsOpen (traces view) sum mid new → KeepsOpen (traces view) sum old new
+    further new first second = record {
+      keeps = kept_further (traces view) sum old mid new first.keeps second.keeps;
+      tickets = tickets_further old mid new first.tickets second.tickets;
+      position = position_further old mid new first.position second.position;
+      free = λ none. first.free (second.free none);
+    }
+
+    is_read : (k : Unstored) → KeepsOpen (traces view) sum old mid → IsRead (traces view) sum old k → IsRead (traces view) sum mid k
+    is_read k only is = record {
+      unmarked = is.unmarked;
+      fits = only.keeps.fits k.history k.acknowledged k.floor is.unmarked is.fits;
+    }
+
+    -- the next message, at the place that code has of its entry
+    pub record IsNext (H : History) (ms done : List Message) (e : Entry) (rest : List Entry) : Type 0 where
+      pub message : Message
+      pub later : List Message
+      pub split : ms ≡ done ++ message ∷ later
+      pub place : pos message.place ≡ to_z w64 (of_z w64 e.0)
+      pub pointer : message.pointer ≡ e.1
+      pub others : map entry_of later ≡ rest
+      pub of : IsOfPage H (reserved_end mid) message
+
+    next : (H : History) (ms done left : List Message) (e : Entry) (rest : List Entry) → ms ≡ done ++ left → map entry_of left ≡ e ∷ rest → SamePosition old mid → All (IsOfPage H (reserved_end old)) ms → IsNext H ms done e rest
+    next H ms done [] e rest split are position all = absurd (let bad : [] ≡ e ∷ rest = are in cc)
+    next H ms done (m ∷ later) e rest split are position all =
+        let own : entry_of m ≡ e = cc in
+        let of : IsOfPage H (reserved_end mid) m = subst (λ n. IsOfPage H n m) (sym position.reserved) (all_at (IsOfPage H (reserved_end old)) done m later (subst (All (IsOfPage H (reserved_end old))) split all)) in
+        let small = reserved_small mid in
+        let low = of.below in
+        record {
+          message = m;
+          later = later;
+          split = split;
+          place = place_back e.0 m.place (sym (ap (λ (x : Entry). x.0) own)) (omega (arith, small, low));
+          pointer = ap (λ (x : Entry). x.1) own;
+          others = cc;
+          of = of;
+        }
+
+    pub one_more : (new : Log D C) (e : Entry) (rest : List Entry) (item : Vec ℕ Global) → HasReadSome view sum old entries mid items (e ∷ rest) → ReadsItem view sum mid (to_z w64 (of_z w64 e.0)) e.1 new (Ok item)
+        → HasReadSome view sum old entries new (items ++ item ∷ []) rest
+    one_more new e rest item some reads = record {
+      only = further new some.only reads.only;
+      so_far = λ k ms begun is all are.
+          let came = some.so_far k ms begun is all are in
+          let one = next k.history ms came.done came.left e rest came.split came.entries some.only.position all in
+          let l : LogView = seen_log old begun k.tickets in
+          let now : LogView = seen_log mid begun k.tickets in
+          let got = reads.item k one.message begun (is_read k some.only is) one.of one.place one.pointer in
+          record {
+            done = came.done ++ one.message ∷ [];
+            left = one.later;
+            split = one.split ∙ sym (append_assoc came.done (one.message ∷ []) one.later);
+            entries = one.others;
+            reads = subst (λ (x : LogView). ReadsAll l (came.done ++ one.message ∷ []) (view (device_of old)) (view (device_of new)) x) (sym got.3)
+                (reads_more came.done one.message l now (view (device_of old)) (view (device_of mid)) (view (device_of new)) came.reads got.2);
+            items_are = map-append (λ (v : Vec ℕ Global). v.items) items (item ∷ []) ∙ (λ i. came.items_are i ++ got.0 i ∷ []) ∙ sym (map-append (λ (m : Message). m.bytes) came.done (one.message ∷ []));
+            fault = inr (elim came.fault [
+              | inl none ↦ (let same : now ≡ l = (subst (λ ds. ReadsAll l ds (view (device_of old)) (view (device_of mid)) now) none came.reads).2 in ap (λ (x : LogView). x.fault) (sym same) ∙ got.1)
+              | inr free ↦ free
+            ]);
+          };
+    }
+
+    pub one_failed : (new : Log D C) (e : Entry) (rest : List Entry) (why : Error) → HasReadSome view sum old entries mid items (e ∷ rest) → ReadsItem view sum mid (to_z w64 (of_z w64 e.0)) e.1 new (Err why)
+        → ReadsEntries view sum old entries new (Err why)
+    one_failed new e rest why some reads = record {
+      only = further new some.only reads.only;
+      step = λ k ms begun a is all are present device log.
+          let came = some.so_far k ms begun is all are in
+          let one = next k.history ms came.done came.left e rest came.split came.entries some.only.position all in
+          let l : LogView = seen_log old begun k.tickets in
+          let b : RunState = with_log a (view (device_of new)) (Some (seen_log new begun k.tickets)) in
+          stops_step (segment_size_of old) a l ms why (view (device_of new)) b (record {
+            done = came.done;
+            message = one.message;
+            rest = one.later;
+            split = one.split;
+            mid = view (device_of mid);
+            log = seen_log mid begun k.tickets;
+            so_far = subst (λ (x : DeviceView). ReadsAll l came.done x (view (device_of mid)) (seen_log mid begun k.tickets)) (sym device) came.reads;
+            fails = subst (λ n. ReadFailsFor n a (seen_log mid begun k.tickets) one.message.place why (view (device_of mid)) (view (device_of new)) b) some.only.position.size
+                (reads.item k one.message begun (is_read k some.only is) one.of one.place one.pointer a);
+          });
+    }
+
+    pub all_read : (vs : Vec (Vec ℕ Global) Global) → vs.items ≡ items → HasReadSome view sum old entries mid items [] → ReadsEntries view sum old entries mid (Ok vs)
+    all_read vs items_is some = record {
+      only = some.only;
+      step = λ k ms begun a is all are present device log.
+          let came = some.so_far k ms begun is all are in
+          let l : LogView = seen_log old begun k.tickets in
+          let done : ms ≡ came.done = came.split ∙ ap (λ xs. came.done ++ xs) (none_left came.left came.entries) ∙ append-nil came.done in
+          record {
+            present = present;
+            fault = elim came.fault [ inl none ↦ absurd (let bad = subst (λ xs. is_present xs ≡ true) (done ∙ none) present in cc) | inr free ↦ free ];
+            items_are = ap item_bytes items_is ∙ came.items_are ∙ ap (map (λ m. m.bytes)) (sym done);
+            log = seen_log mid begun k.tickets;
+            reads = subst (λ xs. ReadsAll l xs a.device (view (device_of mid)) (seen_log mid begun k.tickets)) (sym done) (subst (λ (x : DeviceView). ReadsAll l came.done x (view (device_of mid)) (seen_log mid begun k.tickets)) (sym device) came.reads);
+            leads = refl;
+          };
+    } where
+      none_left : (left : List Message) → map entry_of left ≡ [] → left ≡ []
+      none_left [] are = refl
+      none_left (m ∷ left) are = absurd (let bad : entry_of m ∷ map entry_of left ≡ [] = are in cc)
+
+-- The messages of a page.
+
+-- each message has a size where they lie apart
+sized : (ms : List Message) → LieApart ms → All (λ m. 0 < m.size) ms
+sized [] apart = All-nil (λ m. 0 < m.size)
+sized (m ∷ ms) apart = All-cons (λ x. 0 < x.size) m ms apart.0 (sized ms apart.2)
+
+all_of_page : (H : History) (end page : ℕ) → IsMade H → All (λ m. m.place + m.size ≤ end) H.messages → All (IsOfPage H end) (page_now H page)
+all_of_page H end page made ends = All-weaker (Contains (page_now H page)) (IsOfPage H end) each (page_now H page) (All-contains_itself (page_now H page)) where
+  each : (m : Message) → Contains (page_now H page) m → IsOfPage H end m
+  each m there =
+      let found = from_table H top page m there in
+      let some = All-contains (λ x. 0 < x.size) H.messages m (sized H.messages made.orderly.formed.apart) found.0 in
+      let low = All-contains (λ x. x.place + x.size ≤ end) H.messages m ends found.0 in
+      record {
+        there = found.0;
+        entry = subst (λ n. Contains (table H top n) m) (sym found.1) there;
+        inline = All-contains (λ x. IsInline x.pointer) H.messages m made.inline found.0;
+        below = omega (arith, some, low);
+      }
+
+-- a page that code finds among those that it has
+pub page_found : (states seen : List PageState) (page : ℕ) (s : PageState) (p : Page) → seen ≡ states → page < length seen → s ≡ get_or seen page s → page_of s ≡ p → get_or (map page_of states) page Uninitialized ≡ p
+page_found states seen page s p same lt at is =
+    subst (λ xs. get_or (map page_of xs) page Uninitialized ≡ p) same (get_or-map page_of seen page s Uninitialized lt ∙ ap page_of (sym at) ∙ is)
+
+-- The messages of a page that is present are read, and the log stays open.
+module _ {D C : Type 0} (view : D → DeviceView) (sum : List ℕ → ℕ) (opened : Opened D C) (page : ℕ) (k : Unstored) (at : IsOpenAt (traces view) sum opened k) (new : Log D C) (base : Entry) (frags : List Entry) (r : Result (Vec (Vec ℕ Global) Global) Error)
+    (has : get_or (map page_of opened.pages.items) page Uninitialized ≡ Present base frags) (reads : ReadsEntries view sum opened.log (base ∷ frags) new r) where
+  pub page_read : ReadStep (segment_size_of opened.log) (stands view (Open opened) k) (seen opened k.tickets) (page_now k.history page) (page_told r) (view (device_of new)) (stands view (Open (over opened new)) k)
+  page_read =
+      let present = page_present k.history (map page_of opened.pages.items) page base frags at.table has in
+      reads.step k (page_now k.history page) (length opened.pages.items) (stands view (Open opened) k) (record { unmarked = at.unmarked; fits = at.fits })
+      (all_of_page k.history (reserved_end opened.log) page at.made at.ends) (sym present.entries) present.present refl refl
+
+  pub open_still : IsOpenAt (traces view) sum (over opened new) k
+  open_still = still_open (traces view) sum opened new k k.acknowledged at reads.only.tickets reads.only.position reads.only.free (reads.only.keeps.fits k.history k.acknowledged k.floor at.unmarked at.fits)

@@ -1,0 +1,642 @@
+-- What writing buffers comes to in a session: what is seen of those that are written and of those that are left, what holds them up, and where the run stands then.
+use Rattle.std.proofs.Common.{◌≡◌, ◌∙◌, ◌≤◌, ◌<◌, ◌<ℤ◌, ◌+◌, ◌-◌, ◌==◌, ◌⊎◌, inl, inr, nat_lt, if◌then◌else◌, max, ℕ, ℤ, pos, negsuc, int_lt, zero, suc, Bool, true, false, List, [], ◌∷◌, ◌++◌, length, map, drop, get_or, replicate, append-nil, Option, None, Some, ap, sym, subst, refl, arith}
+use Rattle.std.specs.Prelude.{Err, IsSome}
+use Rattle.std.specs.List.{All}
+use Rattle.std.specs.declared.io.Error.{Error as IoError}
+use Rattle.std.proofs.lemmas.Bool.Decides.{nat_tests}
+use Rattle.std.proofs.lemmas.Bool.{cases_lt}
+use Rattle.std.proofs.lemmas.Int.{ints}
+use Rattle.std.proofs.lemmas.List.{length-replicate}
+use Rattle.std.proofs.lemmas.List.Elements.{All-append, All-cons, All-head, All-map, All-nil, All-tail}
+use Rattle.sled_codec.specs.declared.result.Error.{Error}
+use Rattle.sled_codec.specs.declared.result.Error.TheVariants as error
+use Rattle.sled_codec.specs.History.{History, Message}
+use Rattle.sled_store.specs.Accounts.{machine_of}
+use Rattle.sled_store.specs.Device.{Event, Trace}
+use Rattle.sled_store.specs.Script.{Performs, after_all}
+use Rattle.sled_core.specs.Begun.{begin_of, segment_view, view_at}
+use Rattle.sled_core.specs.Causes.{Answers, HeldAnswers, IsFault, OnDone}
+use Rattle.sled_core.specs.declared.logger.Log.{Log}
+use Rattle.sled_core.specs.Fits.{FirstWaits, IsUsedUp, IsUsedUpBelow, KeepsTickets, buffers_of, current_begin, current_of, device_of, fault_of, held_len, holding_below, open_places, pending_of, position_of, reserved_end, sealing_end, segment_size_of, start_of, synced_end, waiting_of, writing_below}
+use Rattle.sled_core.specs.Keeps.{LeavesAbove, LeavesSome, SamePosition, sealed_for, start_for, start_sealed}
+use Rattle.sled_core.specs.OpenPlaces.{first_between}
+use Rattle.sled_core.specs.Positions.{next_segment_at, is_short}
+use Rattle.sled_core.specs.Running.{Fits, end_below}
+use Rattle.sled_core.specs.SealedBuffers.{writing}
+use Rattle.sled_core.specs.Stable.{IsNotReserved, StableAnswers, behind_place, held_for, stabilizing}
+use Rattle.sled_core.specs.Waiting.{BufferAt, BufferStart, HasLength, Span, begun_below, first_held, held_below, is_unheld, not_below, pending_in, span_of, spans, unless_held, without_pending, writes_below}
+use Rattle.sled_store.proofs.Traces.ScriptLemmas.{performs_nothing}
+use Rattle.sled_core.proofs.Line.Entered.{filled_last}
+use Rattle.sled_core.proofs.Line.Facts.{current_facts}
+use Rattle.sled_core.proofs.Line.Positions.{end_seen, next_seen}
+use Rattle.sled_core.proofs.Line.Settles.{stable_up}
+use Rattle.sled_core.proofs.Line.Shows.{buffers_add}
+use Rattle.sled_core.proofs.PublicLaws.{buffers_held, first_waits, shows_current, shows_empty, shows_long}
+use Rattle.sled_log.specs.declared.session.opened.Opened.{Opened}
+use Rattle.sled_log.specs.declared.session.command.Reply.TheVariants as reply
+use Rattle.sled_log.specs.declared.session.command.Refusal.{Refusal}
+use Rattle.sled_log.specs.Refusals.{when}
+use Rattle.sled_log.specs.RunPhases.{IsOpenAt, IsTicketFor, Unstored, seen_log}
+use Rattle.sled_log.specs.Runs.{CallsMade, HasStopped, HasWrittenTo, IsKnownPlace, ShowsBuffers, StableStep, StopsStep, WriteStep, WritesActs, WritesTo, flushed, holding, left_from, stable_from, writes_free}
+use Rattle.sled_log.specs.RunStates.{DeviceView, EndsInReach, LogView, RunState, count_unheld, current_span, first_waiting, held, held_among, next_start, opens, pending_in_view, sealed_below, spans_below, spans_from, start_below, with_log, without_unheld}
+
+-- The next record of a log begins where it did, what was reserved ends there, and the same reservations are open.
+pub record StaysPut {D C : Type 0} (old new : Log D C) : Type 0 where
+  pub position : position_of new ≡ position_of old
+  pub reserved : reserved_end new ≡ reserved_end old
+  pub opens : open_places new ≡ open_places old
+
+pub stays_put : {D C : Type 0} (old new : Log D C) → KeepsTickets old new → SamePosition old new → StaysPut old new
+stays_put old new tickets position = record { position = position.position; reserved = position.reserved; opens = tickets.opens }
+
+-- a log that keeps no failure kept none, where one that does is left as it was
+pub was_free : {D C : Type 0} (old new : Log D C) → ((e : IoError) → fault_of old ≡ Some e → new ≡ old) → fault_of new ≡ None → fault_of old ≡ None
+was_free old new same none = by (fault_of old) refl where
+  by : (o : Option IoError) → fault_of old ≡ o → fault_of old ≡ None
+  by None is = is
+  by (Some e) is = absurd (let both : Some e ≡ None = sym is ∙ ap fault_of (sym (same e is)) ∙ none in cc)
+
+-- Buffers as they are seen.
+
+-- those that begin below a place
+pub below_seen : (to : ℕ) (bs : List BufferAt) → spans (begun_below to bs) ≡ spans_below to (spans bs)
+below_seen to [] = refl
+below_seen to (b ∷ bs) = by (below_seen to bs) (nat_lt b.place to) where
+  by : spans (begun_below to bs) ≡ spans_below to (spans bs) → (o : Bool) → spans (if o then b ∷ begun_below to bs else []) ≡ (if o then record { place = b.place; end = b.end; lid = b.lid } ∷ spans_below to (spans bs) else [])
+  by rest true = ap (λ (l : List Span). record { place = b.place; end = b.end; lid = b.lid } ∷ l) rest
+  by rest false = refl
+
+-- and the others
+pub above_seen : (to : ℕ) (bs : List BufferAt) → spans (not_below to bs) ≡ spans_from to (spans bs)
+above_seen to [] = refl
+above_seen to (b ∷ bs) = by (above_seen to bs) (nat_lt b.place to) where
+  by : spans (not_below to bs) ≡ spans_from to (spans bs) → (o : Bool) → spans (if o then not_below to bs else b ∷ bs) ≡ (if o then spans_from to (spans bs) else record { place = b.place; end = b.end; lid = b.lid } ∷ spans bs)
+  by rest true = rest
+  by rest false = refl
+
+pub drop_seen : (n : ℕ) (bs : List BufferAt) → spans (drop n bs) ≡ drop n (spans bs)
+drop_seen zero bs = refl
+drop_seen (suc n) [] = refl
+drop_seen (suc n) (b ∷ bs) = drop_seen n bs
+
+-- Those that begin below a place are none of the last one, where that begins there or behind it.
+pub below_front : (to : ℕ) (ss : List Span) (s : Span) → to ≤ s.place → spans_below to (ss ++ s ∷ []) ≡ spans_below to ss
+below_front to [] s far = by (nat_lt s.place to) refl where
+  by : (o : Bool) → nat_lt s.place to ≡ o → (if o then s ∷ [] else []) ≡ []
+  by true is = absurd (grind (arith, nat_tests, far, is))
+  by false is = refl
+below_front to (x ∷ xs) s far = by (below_front to xs s far) (nat_lt x.place to) where
+  by : spans_below to (xs ++ s ∷ []) ≡ spans_below to xs → (o : Bool) → (if o then x ∷ spans_below to (xs ++ s ∷ []) else []) ≡ (if o then x ∷ spans_below to xs else [])
+  by rest true = ap (λ (l : List Span). x ∷ l) rest
+  by rest false = refl
+
+-- what all buffers have those have that begin below a place
+pub below_all : (P : BufferAt → Type 0) (to : ℕ) (bs : List BufferAt) → All P bs → All P (begun_below to bs)
+below_all P to [] all = all
+below_all P to (b ∷ bs) all = by (nat_lt b.place to) (All-head P b bs all) (below_all P to bs (All-tail P b bs all)) where
+  by : (o : Bool) → P b → All P (begun_below to bs) → All P (if o then b ∷ begun_below to bs else [])
+  by true here rest = All-cons P b (begun_below to bs) here rest
+  by false here rest = All-nil P
+
+-- and so have those in front of others
+pub all_front : (P : BufferAt → Type 0) (bs cs : List BufferAt) → All P (bs ++ cs) → All P bs
+all_front P [] cs all = All-nil P
+all_front P (b ∷ bs) cs all = All-cons P b bs (All-head P b (bs ++ cs) all) (all_front P bs cs (All-tail P b (bs ++ cs) all))
+
+-- Those that begin below a place are written up to the first that is held up.
+pub below_writes : (to : ℕ) (bs : List BufferAt) → writes_below to bs ≡ writes_free (begun_below to bs)
+below_writes to [] = refl
+below_writes to (b ∷ bs) = by (below_writes to bs) (nat_lt b.place to) where
+  by : writes_below to bs ≡ writes_free (begun_below to bs) → (o : Bool) → (if o then unless_held b.held (writing b.lid b.bytes (writes_below to bs)) else []) ≡ writes_free (if o then b ∷ begun_below to bs else [])
+  by rest true = ap (λ (es : List Event). unless_held b.held (writing b.lid b.bytes es)) rest
+  by rest false = refl
+
+-- What holds them up.
+
+-- a buffer is held up by the first of these places that lies in it
+abbrev pub IsHeldBy : List ℕ → BufferAt → Type 0
+IsHeldBy places b = b.held ≡ first_between b.place b.end places
+
+module _ (places : List ℕ) where
+  pub below_held : (to : ℕ) (bs : List BufferAt) → All (IsHeldBy places) bs → held_below to bs ≡ held_among places (spans_below to (spans bs))
+  below_held to [] are = refl
+  below_held to (b ∷ bs) are = by (All-head (IsHeldBy places) b bs are) (below_held to bs (All-tail (IsHeldBy places) b bs are)) (nat_lt b.place to) where
+    by : IsHeldBy places b → held_below to bs ≡ held_among places (spans_below to (spans bs)) → (o : Bool)
+        → (if o then first_held b.held (held_below to bs) else None) ≡ held_among places (if o then record { place = b.place; end = b.end; lid = b.lid } ∷ spans_below to (spans bs) else [])
+    by own rest true = ap (λ (h : Option ℕ). first_held h (held_below to bs)) own ∙ ap (λ (h : Option ℕ). first_held (first_between b.place b.end places) h) rest
+    by own rest false = refl
+
+  -- how many of them can be written
+  pub count_seen : (bs : List BufferAt) → All (IsHeldBy places) bs → pending_in bs ≡ count_unheld places (spans bs)
+  count_seen [] are = refl
+  count_seen (b ∷ bs) are =
+      ap (λ (h : Option ℕ). if is_unheld h then suc (pending_in bs) else pending_in bs) (All-head (IsHeldBy places) b bs are)
+      ∙ ap (λ n. if is_unheld (first_between b.place b.end places) then suc n else n) (count_seen bs (All-tail (IsHeldBy places) b bs are))
+
+  -- and all but one of these
+  pub without_seen : (i : ℕ) (bs : List BufferAt) → All (IsHeldBy places) bs → spans (without_pending i bs) ≡ without_unheld places i (spans bs)
+  without_seen i [] are = refl
+  without_seen i (b ∷ bs) are =
+      ap (λ (h : Option ℕ). spans (if is_unheld h then (if i == 0 then bs else b ∷ without_pending (i - 1) bs) else b ∷ without_pending i bs)) (All-head (IsHeldBy places) b bs are)
+      ∙ by (without_seen (i - 1) bs (All-tail (IsHeldBy places) b bs are)) (without_seen i bs (All-tail (IsHeldBy places) b bs are)) (is_unheld (first_between b.place b.end places)) (i == 0) where
+        by : spans (without_pending (i - 1) bs) ≡ without_unheld places (i - 1) (spans bs) → spans (without_pending i bs) ≡ without_unheld places i (spans bs) → (u o : Bool)
+            → spans (if u then (if o then bs else b ∷ without_pending (i - 1) bs) else b ∷ without_pending i bs)
+            ≡ (if u then (if o then spans bs else record { place = b.place; end = b.end; lid = b.lid } ∷ without_unheld places (i - 1) (spans bs)) else record { place = b.place; end = b.end; lid = b.lid } ∷ without_unheld places i (spans bs))
+        by fewer same true true = refl
+        by fewer same true false = ap (λ (l : List Span). record { place = b.place; end = b.end; lid = b.lid } ∷ l) fewer
+        by fewer same false o = ap (λ (l : List Span). record { place = b.place; end = b.end; lid = b.lid } ∷ l) same
+
+-- A log as it is seen.
+
+-- all is stable before the first buffer that waits, or the current one
+pub first_seen : {D C : Type 0} (log : Log D C) → synced_end log ≡ first_waiting (spans (waiting_of log)) (start_of log)
+first_seen log = by (waiting_of log) (first_waits log) where
+  by : (bs : List BufferAt) → FirstWaits (synced_end log) (current_begin log) bs → synced_end log ≡ first_waiting (spans bs) (start_of log)
+  by [] is = is
+  by (b ∷ bs) is = is
+
+module _ {D C : Type 0} (log : Log D C) (sum : List ℕ → ℕ) (begun : ℕ) (tickets : List (Option Message)) where
+  abbrev l : LogView
+  l = seen_log log begun tickets
+
+  abbrev size : ℕ
+  size = segment_size_of log
+
+  -- the current buffer begins within its segment, and what was reserved ends with its bytes at most
+  filled : (begin_of (current_of log) < size) × (reserved_end log ≤ (current_of log).parts.site.place + length (current_of log).parts.bytes)
+  filled = let is = filled_last size (reserved_end log) (view_at log.site log.buffer) (map segment_view log.behind.items) log.filled in (is.0, is.1)
+
+  begins : begin_of (current_of log) ≤ length (current_of log).parts.bytes
+  begins = (current_facts log).begins
+
+  -- The current buffer, as the view has it.
+
+  pub span_seen : record { place = current_begin log; end = sealing_end log; lid = (start_of log).lid } ≡ current_span l l.position
+  span_seen = ap (λ n. record { place = current_begin log; end = n; lid = (start_of log).lid }) (sym (end_seen size (current_of log) (machine_of log.accountant) filled.0 begins))
+
+  pub next_start_seen : start_sealed log ≡ next_start l l.position
+  next_start_seen = sym (next_seen size (current_of log) (machine_of log.accountant) filled.0 begins)
+
+  -- A flush needs a further segment where the next record would begin one that isn't in reach.
+  pub flush_out : IsUsedUp log → EndsInReach size l.position → ⊥
+  flush_out used reach = by used.0 reach where
+    by : is_short size (length (current_of log).parts.bytes) ≡ true → EndsInReach size l.position → ⊥
+    by short ends =
+        let at : l.position ≡ next_segment_at size (current_of log).parts.site.place (machine_of log.accountant) =
+        ap (λ (b : Bool). if b then next_segment_at size (current_of log).parts.site.place (machine_of log.accountant)
+        else record { place = (current_of log).parts.site.place + length (current_of log).parts.bytes; begins = (current_of log).parts.site.place; slot = (current_of log).parts.site.slot; machine = machine_of log.accountant }) short in
+        let begins = ap (λ x. x.begins) at in
+        let slot = ap (λ x. x.slot) at in
+        let low = ends.place in
+        let high = ends.slot in
+        used.1 (record { place = omega (arith, low, begins); offset = omega (arith, high, slot) })
+
+  -- What is open of it holds its buffers up.
+  pub all_held : All (IsHeldBy (opens l)) (buffers_of sum log)
+  all_held = buffers_held sum log
+
+  -- what holds of all buffers holds of the sealed ones
+  sealed_too : (P : BufferAt → Type 0) → All P (buffers_of sum log) → All P (waiting_of log)
+  sealed_too P all = elim (cases_lt 0 (held_len log)) [
+    | inl some ↦ (let adds = buffers_add sum log some in all_front P (waiting_of log) (adds.more ∷ []) (subst (All P) adds.is all))
+    | inr none ↦ subst (All P) (shows_empty sum log (omega (arith, none))) all
+  ]
+
+  pub waiting_held : All (IsHeldBy (opens l)) (waiting_of log)
+  waiting_held = sealed_too (IsHeldBy (opens l)) all_held
+
+  pub shows_waiting : ShowsBuffers (opens l) l.waiting (waiting_of log)
+  shows_waiting = record { are = refl; long = sealed_too HasLength (shows_long sum log); held = waiting_held }
+
+  pub pending_seen : pending_of log ≡ pending_in_view l
+  pending_seen = count_seen (opens l) (waiting_of log) waiting_held
+
+  -- Where a run stands that goes on with another log in the same place, over a device that is seen so.
+  module _ (new : Log D C) (device now : DeviceView) (H : History) (A f : ℕ) (position : StaysPut log new) where
+    abbrev before : RunState
+    before = record { device = device; history = H; acknowledged = A; floor = f; log = Some l }
+
+    abbrev after : ℕ → RunState
+    after reached = record { device = now; history = H; acknowledged = reached; floor = f; log = Some (seen_log new begun tickets) }
+
+    pub leaves : (waiting : List Span) (start : BufferStart) (fault : Option IoError) → spans (waiting_of new) ≡ waiting → start_of new ≡ start → fault_of new ≡ fault
+        → after A ≡ with_log before now (Some (flushed l waiting start fault))
+    leaves waiting start fault left from kept =
+        let stable : synced_end new ≡ first_waiting waiting start = first_seen new ∙ (λ i. first_waiting (left i) (from i)) in
+        λ i. record {
+          device = now;
+          history = H;
+          acknowledged = A;
+          floor = f;
+          log = Some (record { position = position.position i; stable = stable i; end = position.reserved i; waiting = left i; start = from i; begun = begun; fault = kept i; outstanding = position.opens i; tickets = tickets });
+        }
+
+  -- Once what begins below a place is sealed.
+  module _ (to : ℕ) where
+    -- so much was reserved
+    pub some_reserved : to ≤ reserved_end log → current_begin log < to → 0 < held_len log
+    some_reserved le less = let is = filled in let low = begins in omega (arith, le, less, is.1, low)
+
+    -- or nothing of that is in the current buffer
+    pub some_stable : to ≤ synced_end log → current_begin log < to → 0 < held_len log
+    some_stable le less = let up = stable_up log (pos (current_begin log)) (omega (arith, ints)) in absurd (omega (arith, ints, le, less, up))
+
+    module _ (some : current_begin log < to → 0 < held_len log) where
+      -- The sealed buffers and where the current one begins, once it is sealed.
+      pub sealed_seen : spans (sealed_for sum to log) ≡ sealed_below to l
+      sealed_seen = by (nat_lt (current_begin log) to) refl where
+        by : (o : Bool) → nat_lt (current_begin log) to ≡ o
+            → spans (if o then buffers_of sum log else waiting_of log) ≡ (if o then spans (waiting_of log) ++ current_span l l.position ∷ [] else spans (waiting_of log))
+        by true is = shows_current sum log (some (grind (arith, nat_tests, is))) ∙ ap (λ (s : Span). spans (waiting_of log) ++ s ∷ []) span_seen
+        by false is = refl
+
+      pub start_seen : start_for to log ≡ start_below to l
+      start_seen = by (nat_lt (current_begin log) to) where
+        by : (o : Bool) → (if o then start_sealed log else start_of log) ≡ (if o then next_start l l.position else start_of log)
+        by true = next_start_seen
+        by false = refl
+
+      -- of all buffers those that begin below the place are seen, whether the current one is among them or not
+      pub flushed_seen : spans (begun_below to (buffers_of sum log)) ≡ spans_below to (sealed_below to l)
+      flushed_seen =
+          below_seen to (buffers_of sum log)
+          ∙ by (nat_lt (current_begin log) to) refl (cases_lt 0 (held_len log)) where
+            by : (o : Bool) → nat_lt (current_begin log) to ≡ o → (0 < held_len log) ⊎ (held_len log ≤ 0)
+                → spans_below to (spans (buffers_of sum log)) ≡ spans_below to (if o then spans (waiting_of log) ++ current_span l l.position ∷ [] else spans (waiting_of log))
+            by true is any = ap (spans_below to) (shows_current sum log (some (grind (arith, nat_tests, is))) ∙ ap (λ (s : Span). spans (waiting_of log) ++ s ∷ []) span_seen)
+            by false is (inl any) =
+                ap (spans_below to) (shows_current sum log any)
+                ∙ below_front to (spans (waiting_of log)) (record { place = current_begin log; end = sealing_end log; lid = (start_of log).lid }) (grind (arith, nat_tests, is))
+            by false is (inr none) = ap (λ (bs : List BufferAt). spans_below to (spans bs)) (shows_empty sum log (omega (arith, none)))
+
+      abbrev pub writes_to : WritesTo to l
+      writes_to = record {
+        buffers = begun_below to (buffers_of sum log);
+        shown = record {
+          are = flushed_seen;
+          long = below_all HasLength to (buffers_of sum log) (shows_long sum log);
+          held = below_all (IsHeldBy (opens l)) to (buffers_of sum log) all_held;
+        };
+      }
+
+      pub holding_seen : holding_below sum log to ≡ holding to l
+      holding_seen = below_held (opens l) to (buffers_of sum log) all_held ∙ ap (held_among (opens l)) (sym (below_seen to (buffers_of sum log)) ∙ flushed_seen)
+
+      pub writes_seen : writing_below sum log to ≡ writes_free (begun_below to (buffers_of sum log))
+      writes_seen = below_writes to (buffers_of sum log)
+
+      -- What is left of it.
+      module _ (new : Log D C) where
+        pub left_seen : LeavesAbove sum to log new → spans (waiting_of new) ≡ left_from to l
+        left_seen above = ap spans above.left ∙ above_seen to (sealed_for sum to log) ∙ ap (spans_from to) sealed_seen
+
+        pub stable_seen : LeavesAbove sum to log new → synced_end new ≡ stable_from to l
+        stable_seen above = let waiting = left_seen above in let first = above.start ∙ start_seen in first_seen new ∙ (λ i. first_waiting (waiting i) (first i))
+
+        abbrev SomeLeft : List Span → BufferStart → Type 0
+        SomeLeft waiting start = ((waiting ≡ l.waiting) × (start ≡ l.start)) ⊎ ((n : ℕ) × (waiting ≡ drop n (sealed_below to l)) × (start ≡ start_below to l))
+
+        some_seen : LeavesSome sum to log new → SomeLeft (spans (waiting_of new)) (start_of new)
+        some_seen (inl same) = inl (ap spans same.0, same.1)
+        some_seen (inr some_left) = inr (some_left.0, ap spans some_left.1 ∙ drop_seen some_left.0 (sealed_for sum to log) ∙ ap (λ (ss : List Span). drop some_left.0 ss) sealed_seen, some_left.2 ∙ start_seen)
+
+        -- Where the run stands then.
+        module _ (device now : DeviceView) (H : History) (A f : ℕ) (position : StaysPut log new) where
+          pub has_written : (n : ℕ) → fault_of log ≡ None → fault_of new ≡ None → holding_below sum log to ≡ None → synced_end new ≡ synced_end log + n → to ≤ synced_end new → A ≤ synced_end log
+              → LeavesAbove sum to log new → HasWrittenTo (before new device now H A f position) l to n now (after new device now H A f position (max A (end_below (synced_end new) H)))
+          has_written n none still free answer whole past above =
+              let ends = stable_seen above in
+              let waiting = left_seen above in
+              let first : start_of new ≡ start_below to l = above.start ∙ start_seen in
+              record {
+                fault = none;
+                free = sym holding_seen ∙ free;
+                growth = sym answer ∙ ends;
+                reaches = omega (arith, whole, ends);
+                more = omega (arith, past, answer, ends);
+                leads = λ i. record {
+                  device = now;
+                  history = H;
+                  acknowledged = max A (end_below (ends i) H);
+                  floor = f;
+                  log = Some (record { position = position.position i; stable = ends i; end = position.reserved i; waiting = waiting i; start = first i; begun = begun; fault = still i; outstanding = position.opens i; tickets = tickets });
+                };
+              }
+
+          pub has_stopped : LeavesSome sum to log new → HasStopped (before new device now H A f position) l to (fault_of new) now (after new device now H A f position A)
+          has_stopped left = record {
+            waiting = spans (waiting_of new);
+            start = start_of new;
+            left = some_seen left;
+            leads = leaves new device now H A f position (spans (waiting_of new)) (start_of new) (fault_of new) refl refl refl;
+          }
+
+-- Why it failed.
+
+-- the calls that were made then
+pub calls_failed : (T : Type 0) (es : List Event) (fault now : Option IoError) (e : Error) (held : Option ℕ) (used : Type 0) (old new : DeviceView) → OnDone {T = T} (Err e) (new.trace ≡ after_all es old.trace) → Performs es old.trace new.trace
+    → (IsSome fault → new ≡ old) → HeldAnswers {T = T} (Err e) held used fault now old.failures new.failures → CallsMade es fault old (reply.Failed e) new
+calls_failed T es fault now (error.Held at) held used old new done made kept answers = (done, answers.4)
+calls_failed T es fault now _ held used old new done made kept answers = (made, kept)
+
+-- It fails for the failure that the log keeps then, for want of memory or of a further segment, or where it is held up.
+pub writing_stops : (width : ℕ) (a : RunState) (l : LogView) (to : ℕ) (T : Type 0) (e : Error) (held : Option ℕ) (used : Type 0) (fault : Option IoError) (new : DeviceView) (b : RunState)
+    → held ≡ holding to l → (used → (l.start.place < to) × (EndsInReach width l.position → ⊥)) → HeldAnswers {T = T} (Err e) held used l.fault fault a.device.failures new.failures → HasStopped a l to fault new b → StopsStep width a l to e new b
+writing_stops width a l to T (error.Io x) held used fault new b same out (inl kept) stops = (inl (kept.0, refl, kept.2), subst (λ (f : Option IoError). HasStopped a l to f new b) kept.1 stops)
+writing_stops width a l to T (error.Io x) held used fault new b same out (inr failed) stops = (inr (failed.0, refl, failed.2, failed.3), subst (λ (f : Option IoError). HasStopped a l to f new b) failed.1 stops)
+writing_stops width a l to T error.OutOfMemory held used fault new b same out answers stops = (answers.0, answers.2, subst (λ (f : Option IoError). HasStopped a l to f new b) answers.1 stops)
+writing_stops width a l to T error.PlacesUsedUp held used fault new b same out answers stops = (answers.1, (out answers.0).0, (out answers.0).1, answers.3, subst (λ (f : Option IoError). HasStopped a l to f new b) answers.2 stops)
+writing_stops width a l to T (error.Held at) held used fault new b same out answers stops =
+    (answers.2, (answers.0.0, sym same ∙ answers.0.1, answers.0.2), answers.4, subst (λ (f : Option IoError). HasStopped a l to f new b) answers.3 stops)
+writing_stops width a l to T _ held used fault new b same out answers stops = absurd answers
+
+-- One buffer is written, or that fails for the failure that the log keeps then, or for want of memory.
+pub write_stops : (a : RunState) (l : LogView) (i : ℕ) (T : Type 0) (e : Error) (fault : Option IoError) (new : DeviceView) (b : RunState)
+    → Answers {T = T} (Err e) l.fault fault a.device.failures new.failures → b ≡ with_log a new (Some (flushed l l.waiting l.start fault)) → WriteStep a l i (reply.Failed e) new b
+write_stops a l i T (error.Io x) fault new b (inl kept) leads = (inl (kept.0, refl, kept.2), subst (λ (f : Option IoError). b ≡ with_log a new (Some (flushed l l.waiting l.start f))) kept.1 leads)
+write_stops a l i T (error.Io x) fault new b (inr failed) leads = (inr (failed.0, refl, failed.2, failed.3), subst (λ (f : Option IoError). b ≡ with_log a new (Some (flushed l l.waiting l.start f))) failed.1 leads)
+write_stops a l i T error.OutOfMemory fault new b answers leads = (answers.0, answers.2, subst (λ (f : Option IoError). b ≡ with_log a new (Some (flushed l l.waiting l.start f))) answers.1 leads)
+write_stops a l i T _ fault new b answers leads = absurd answers
+
+-- its calls were made up to one that failed
+pub write_failed : (T : Type 0) (es : List Event) (fault now : Option IoError) (e : Error) (old new : DeviceView) → Performs es old.trace new.trace → (IsSome fault → new ≡ old) → Answers {T = T} (Err e) fault now old.failures new.failures → CallsMade es fault old (reply.Failed e) new
+write_failed T es fault now (error.Held at) old new made kept answers = absurd answers
+write_failed T es fault now _ old new made kept answers = (made, kept)
+
+-- a command that isn't refused has an index that fits
+pub index_fits : (stopped above : Bool) (w v : Refusal) → when stopped w (when above v None) ≡ None → above ≡ false
+index_fits true above w v free = cc
+index_fits false true w v free = cc
+index_fits false false w v free = refl
+
+-- A place that is made stable.
+
+-- what all begins behind a place begins not below it
+none_front : (to stable begin : ℕ) (ws more : List BufferAt) → to ≤ stable → FirstWaits stable begin ws → begun_below to more ≡ [] → begun_below to (ws ++ more) ≡ []
+none_front to stable begin [] more le first rest = rest
+none_front to stable begin (b ∷ bs) more le first rest = by (nat_lt b.place to) refl where
+  by : (o : Bool) → nat_lt b.place to ≡ o → (if o then b ∷ begun_below to (bs ++ more) else []) ≡ []
+  by true is = absurd (grind (arith, nat_tests, le, first, is))
+  by false is = refl
+
+none_one : (to : ℕ) (b : BufferAt) → to ≤ b.place → begun_below to (b ∷ []) ≡ []
+none_one to b le = by (nat_lt b.place to) refl where
+  by : (o : Bool) → nat_lt b.place to ≡ o → (if o then b ∷ [] else []) ≡ []
+  by true is = absurd (grind (arith, nat_tests, le, is))
+  by false is = refl
+
+module _ {D C : Type 0} (log : Log D C) (sum : List ℕ → ℕ) (begun : ℕ) (tickets : List (Option Message)) where
+  -- what is stable lies below the current buffer
+  up : synced_end log ≤ current_begin log
+  up = let is = stable_up log (pos (current_begin log)) (omega (arith, ints)) in omega (arith, ints, is)
+
+  -- No buffer begins below the stable end.
+  pub none_below : (to : ℕ) → to ≤ synced_end log → begun_below to (buffers_of sum log) ≡ []
+  none_below to le = elim (cases_lt 0 (held_len log)) [
+    | inl some ↦ (
+        let adds = buffers_add sum log some in
+        let at : adds.more.place ≡ current_begin log = ap (λ (x : Span). x.place) adds.seen in
+        let low = up in
+        ap (begun_below to) adds.is ∙ none_front to (synced_end log) (current_begin log) (waiting_of log) (adds.more ∷ []) le (first_waits log) (none_one to adds.more (omega (arith, at, low, le))))
+    | inr none ↦ ap (begun_below to) (shows_empty sum log (omega (arith, none)) ∙ sym (append-nil (waiting_of log))) ∙ none_front to (synced_end log) (current_begin log) (waiting_of log) [] le (first_waits log) refl
+  ]
+
+  module _ (place : ℤ) where
+    abbrev target : ℕ
+    target = behind_place place
+
+    abbrev view_of : LogView
+    view_of = seen_log log begun tickets
+
+    below_test : (n : ℕ) → int_lt place (pos n) ≡ true → place <ℤ pos n
+    below_test n is = grind (arith, ints, is)
+
+    pub behind_end : (n : ℕ) → place <ℤ pos n → target ≤ n
+    behind_end n below = by place below where
+      by : (z : ℤ) → z <ℤ pos n → behind_place z ≤ n
+      by (pos k) low = omega (arith, ints, low)
+      by (negsuc k) low = omega arith
+
+    pub some_known : IsKnownPlace view_of place → current_begin log < target → 0 < held_len log
+    some_known (inl stable) = some_stable log sum begun tickets target (behind_end (synced_end log) stable)
+    some_known (inr reserved) = some_reserved log sum begun tickets target (behind_end (reserved_end log) reserved)
+
+    -- what makes it stable
+    pub stabilizing_seen : stabilizing sum log place ≡ writes_free (begun_below target (buffers_of sum log))
+    stabilizing_seen = by (int_lt place (pos (synced_end log))) refl where
+      by : (o : Bool) → int_lt place (pos (synced_end log)) ≡ o → (if o then [] else writing_below sum log target) ≡ writes_free (begun_below target (buffers_of sum log))
+      by true is = sym (ap writes_free (none_below target (behind_end (synced_end log) (below_test (synced_end log) is))))
+      by false is = below_writes target (buffers_of sum log)
+
+    -- and what holds that up
+    pub held_seen : (known : IsKnownPlace view_of place) → held_for sum log place ≡ holding target view_of
+    held_seen known = by (int_lt place (pos (synced_end log))) refl where
+      by : (o : Bool) → int_lt place (pos (synced_end log)) ≡ o → (if o then None else holding_below sum log target) ≡ holding target view_of
+      by true is =
+          sym (ap (λ (bs : List BufferAt). held_among (opens view_of) (spans bs)) (none_below target (behind_end (synced_end log) (below_test (synced_end log) is))))
+          ∙ ap (held_among (opens view_of)) (flushed_seen log sum begun tickets target (some_known known))
+      by false is = holding_seen log sum begun tickets target (some_known known)
+
+    -- Where it fails, and was reserved.
+    module _ (reserved : place <ℤ pos (reserved_end log)) where
+      abbrev known : IsKnownPlace view_of place
+      known = inr reserved
+
+      module _ (new : Log D C) (device now : DeviceView) (H : History) (A f : ℕ) (position : StaysPut log new) (e : Error) where
+        pub reserved_acts : OnDone {T = ℕ} (Err e) (now.trace ≡ after_all (stabilizing sum log place) device.trace) → Performs (stabilizing sum log place) device.trace now.trace → (IsSome (fault_of log) → now ≡ device)
+            → HeldAnswers {T = ℕ} (Err e) (held_for sum log place) (IsUsedUpBelow log target) (fault_of log) (fault_of new) device.failures now.failures → WritesActs target (Some view_of) device (reply.Failed e) now
+        reserved_acts done made kept answers = (
+          writes_to log sum begun tickets target (some_known known),
+          calls_failed ℕ _ (fault_of log) (fault_of new) e (held_for sum log place) (IsUsedUpBelow log target) device now
+              (subst (λ (es : List Event). OnDone {T = ℕ} (Err e) (now.trace ≡ after_all es device.trace)) stabilizing_seen done)
+              (subst (λ (es : List Event). Performs es device.trace now.trace) stabilizing_seen made) kept answers,
+        )
+
+        pub reserved_step : HeldAnswers {T = ℕ} (Err e) (held_for sum log place) (IsUsedUpBelow log target) (fault_of log) (fault_of new) device.failures now.failures → LeavesSome sum target log new
+            → StopsStep (segment_size_of log) (before log sum begun tickets new device now H A f position) view_of target e now (after log sum begun tickets new device now H A f position A)
+        reserved_step answers left =
+            writing_stops (segment_size_of log) (before log sum begun tickets new device now H A f position) view_of target ℕ e (held_for sum log place) (IsUsedUpBelow log target) (fault_of new) now _
+            (held_seen known) (λ used. (used.0, flush_out log sum begun tickets used.1)) answers (has_stopped log sum begun tickets target (some_known known) new device now H A f position left)
+
+-- Buffers that are seen so, of which nothing is written.
+module _ (places : List ℕ) where
+  abbrev some_bytes : Span → BufferAt
+  some_bytes s = record { place = s.place; end = s.end; lid = s.lid; bytes = replicate (s.end - s.place) 0; held = held places s }
+
+  some_spans : (ss : List Span) → spans (map some_bytes ss) ≡ ss
+  some_spans [] = refl
+  some_spans (s ∷ ss) = ap (λ (l : List Span). s ∷ l) (some_spans ss)
+
+  pub some_shown : (ss : List Span) → All (λ s. s.place ≤ s.end) ss → ShowsBuffers places ss (map some_bytes ss)
+  some_shown ss rise = record {
+    are = some_spans ss;
+    long = All-map HasLength some_bytes ss (λ k d lt. let low = rise k d lt in omega (arith, low, length-replicate {A = ℕ} ((get_or ss k d).end - (get_or ss k d).place) 0));
+    held = All-map (λ b. b.held ≡ held places (record { place = b.place; end = b.end; lid = b.lid })) some_bytes ss (λ k d lt. refl);
+  }
+
+-- what all have those have that begin below a place
+spans_all : (P : Span → Type 0) (to : ℕ) (ss : List Span) → All P ss → All P (spans_below to ss)
+spans_all P to [] all = all
+spans_all P to (s ∷ ss) all = by (nat_lt s.place to) (All-head P s ss all) (spans_all P to ss (All-tail P s ss all)) where
+  by : (o : Bool) → P s → All P (spans_below to ss) → All P (if o then s ∷ spans_below to ss else [])
+  by true here rest = All-cons P s (spans_below to ss) here rest
+  by false here rest = All-nil P
+
+-- such an error is answered where nothing was done
+abbrev pub IsIdle : Error → Type 0
+IsIdle (error.Io x) = Unit {0}
+IsIdle (error.NotReserved at) = Unit {0}
+IsIdle _ = ⊥
+
+none_some : (fault : Option IoError) → fault ≡ None → IsSome fault → ⊥
+none_some None none some = cc
+none_some (Some x) none some = cc
+
+-- A log that is as it was.
+module _ {D C : Type 0} (log : Log D C) (sum : List ℕ → ℕ) (begun : ℕ) (tickets : List (Option Message)) (to : ℕ) where
+  abbrev shown : LogView
+  shown = seen_log log begun tickets
+
+  abbrev Rises : Span → Type 0
+  Rises s = s.place ≤ s.end
+
+  current_rises : current_begin log ≤ sealing_end log
+  current_rises = by (is_short (segment_size_of log) (length (current_of log).parts.bytes)) where
+    by : (o : Bool) → current_begin log ≤ (current_of log).parts.site.place + (if o then segment_size_of log else length (current_of log).parts.bytes)
+    by true = let is = (filled log sum begun tickets).0 in omega (arith, is)
+    by false = let is = begins log sum begun tickets in omega (arith, is)
+
+  sealed_rise : All Rises (sealed_below to shown)
+  sealed_rise = by (nat_lt (current_begin log) to) where
+    waiting_rise : All Rises (spans (waiting_of log))
+    waiting_rise = All-map Rises span_of (waiting_of log) (λ k d lt. let long = (shows_waiting log sum begun tickets).long k d lt in omega (arith, long))
+
+    by : (o : Bool) → All Rises (if o then spans (waiting_of log) ++ current_span shown shown.position ∷ [] else spans (waiting_of log))
+    by true =
+        All-append Rises (spans (waiting_of log)) (current_span shown shown.position ∷ []) waiting_rise
+        (All-cons Rises (current_span shown shown.position) [] (subst Rises (span_seen log sum begun tickets) current_rises) (All-nil Rises))
+    by false = waiting_rise
+
+  any_written : WritesTo to shown
+  any_written = record {
+    buffers = map (some_bytes (opens shown)) (spans_below to (sealed_below to shown));
+    shown = some_shown (opens shown) (spans_below to (sealed_below to shown)) (spans_all Rises to (sealed_below to shown) sealed_rise);
+  }
+
+  -- nothing of what begins below a place is written
+  pub nothing_made : (e : Error) (device now : DeviceView) → IsIdle e → now ≡ device → WritesActs to (Some shown) device (reply.Failed e) now
+  nothing_made (error.Io x) device now idle same = (any_written, (performs_nothing _ device.trace now.trace (ap (λ (x : DeviceView). x.trace) same), λ some. same))
+  nothing_made (error.NotReserved at) device now idle same = (any_written, (performs_nothing _ device.trace now.trace (ap (λ (x : DeviceView). x.trace) same), λ some. same))
+  nothing_made _ device now idle same = absurd idle
+
+-- A call that makes a place stable, and failed: nothing was done, or the place was reserved.
+module _ {D C : Type 0} (view : D → DeviceView) (sum : List ℕ → ℕ) (log new : Log D C) (begun : ℕ) (tickets : List (Option Message)) (place : ℤ) (H : History) (A f : ℕ) (position : StaysPut log new) where
+  abbrev old_device : DeviceView
+  old_device = view (device_of log)
+
+  abbrev new_device : DeviceView
+  new_device = view (device_of new)
+
+  abbrev from : RunState
+  from = record { device = old_device; history = H; acknowledged = A; floor = f; log = Some (seen_log log begun tickets) }
+
+  abbrev leads_to : RunState
+  leads_to = record { device = new_device; history = H; acknowledged = A; floor = f; log = Some (seen_log new begun tickets) }
+
+  abbrev Fails : Error → Type 0
+  Fails e =
+      WritesActs (behind_place place) (Some (seen_log log begun tickets)) old_device (reply.Failed e) new_device
+      × StableStep (segment_size_of log) from (seen_log log begun tickets) place (reply.Failed e) new_device leads_to
+
+  same_device : new ≡ log → new_device ≡ old_device
+  same_device same = ap (λ (x : Log D C). view (device_of x)) same
+
+  abbrev StableFails : Error → Type 0
+  StableFails e = StableAnswers {T = ℕ} (Err e) place (synced_end log) (reserved_end log) (held_for sum log place) (IsUsedUpBelow log (behind_place place)) (fault_of log) (fault_of new) old_device.failures new_device.failures
+
+  abbrev known_acts : (e : Error) → place <ℤ pos (reserved_end log) → OnDone {T = ℕ} (Err e) (new_device.trace ≡ after_all (stabilizing sum log place) old_device.trace) → Performs (stabilizing sum log place) old_device.trace new_device.trace
+      → fault_of log ≡ None → HeldAnswers {T = ℕ} (Err e) (held_for sum log place) (IsUsedUpBelow log (behind_place place)) (fault_of log) (fault_of new) old_device.failures new_device.failures
+      → WritesActs (behind_place place) (Some (seen_log log begun tickets)) old_device (reply.Failed e) new_device
+  known_acts e reserved done made none answers =
+      reserved_acts log sum begun tickets place reserved new old_device new_device H A f position e done made (λ some. absurd (none_some (fault_of log) none some)) answers
+
+  pub stable_failed : (e : Error) → StableFails e
+      → OnDone {T = ℕ} (Err e) (new_device.trace ≡ after_all (stabilizing sum log place) old_device.trace) → Performs (stabilizing sum log place) old_device.trace new_device.trace
+      → ((x : IoError) → fault_of log ≡ Some x → new ≡ log) → (IsNotReserved {T = ℕ} (Err e) → new ≡ log) → LeavesSome sum (behind_place place) log new → Fails e
+  stable_failed (error.NotReserved at) answers done made faulty refused left = (
+    nothing_made log sum begun tickets (behind_place place) (error.NotReserved at) old_device new_device tt (same_device (refused tt)),
+    (answers.0, answers.1, answers.2, answers.3, same_device (refused tt), ap (λ (x : Log D C). record { device = view (device_of x); history = H; acknowledged = A; floor = f; log = Some (seen_log x begun tickets) }) (refused tt)),
+  )
+  stable_failed (error.Io x) answers done made faulty refused left = by answers.1 where
+    by : IsFault x (fault_of log) (fault_of new) old_device.failures new_device.failures → Fails (error.Io x)
+    by (inl kept) =
+        let same : new ≡ log = faulty x kept.0 in (
+          nothing_made log sum begun tickets (behind_place place) (error.Io x) old_device new_device tt (same_device same),
+          (
+            inl (kept.0, refl, kept.2),
+            record {
+              waiting = spans (waiting_of log);
+              start = start_of log;
+              left = inl (refl, refl);
+              leads = leaves log sum begun tickets new old_device new_device H A f position (spans (waiting_of log)) (start_of log) (Some x) (ap (λ (y : Log D C). spans (waiting_of y)) same) (ap (λ (y : Log D C). start_of y) same) kept.1;
+            },
+          ),
+        )
+    by (inr failed) = (
+      known_acts (error.Io x) (answers.0 failed.0) done made failed.0 answers.1,
+      reserved_step log sum begun tickets place (answers.0 failed.0) new old_device new_device H A f position (error.Io x) answers.1 left,
+    )
+  stable_failed error.OutOfMemory answers done made faulty refused left = (
+    known_acts error.OutOfMemory answers.1 done made answers.2 (answers.2, answers.3, answers.4),
+    reserved_step log sum begun tickets place answers.1 new old_device new_device H A f position error.OutOfMemory (answers.2, answers.3, answers.4) left,
+  )
+  stable_failed error.PlacesUsedUp answers done made faulty refused left = (
+    known_acts error.PlacesUsedUp answers.0 done made answers.1.1 answers.1,
+    reserved_step log sum begun tickets place answers.0 new old_device new_device H A f position error.PlacesUsedUp answers.1 left,
+  )
+  stable_failed (error.Held at) answers done made faulty refused left = (
+    known_acts (error.Held at) answers.0 done made answers.1.2 answers.1,
+    reserved_step log sum begun tickets place answers.0 new old_device new_device H A f position (error.Held at) answers.1 left,
+  )
+  stable_failed _ answers done made faulty refused left = absurd answers
+
+-- what is open, with another log
+abbrev pub over : {D C : Type 0} → Opened D C → Log D C → Opened D C
+over opened log = record { alloc = opened.alloc; log = log; guard = opened.guard; pages = opened.pages; busy = opened.busy; tickets = opened.tickets }
+
+-- It stays open so, where that has the same tickets and the same position.
+module _ {D C : Type 0} (trace : D → Trace) (sum : List ℕ → ℕ) (opened : Opened D C) (log : Log D C) (k : Unstored) (A : ℕ) where
+  abbrev kept : Unstored
+  kept = record { history = k.history; acknowledged = A; floor = k.floor; tickets = k.tickets }
+
+  ticket_still : KeepsTickets opened.log log → SamePosition opened.log log → (n : ℕ) (m : Message) → IsTicketFor opened k.history n m → IsTicketFor (over opened log) k.history n m
+  ticket_still tickets position n m is = record {
+    ticket = is.ticket;
+    there = is.there;
+    kind = is.kind;
+    page = is.page;
+    awaits = tickets.awaits is.ticket.reservation m is.awaits;
+    may_join = is.may_join;
+    begins = (let low = is.begins in let same = position.reserved in omega (arith, low, same));
+    ends = (let low = is.ends in let same = position.reserved in omega (arith, low, same));
+  }
+
+  pub still_open : (at : IsOpenAt trace sum opened k) → KeepsTickets opened.log log → SamePosition opened.log log → (fault_of log ≡ None → fault_of opened.log ≡ None)
+      → Fits trace sum log k.history A k.floor at.unmarked → IsOpenAt trace sum (over opened log) kept
+  still_open at tickets position free fits = record {
+    made = at.made;
+    unmarked = at.unmarked;
+    fits = fits;
+    pinned = subst (λ n. 0 < n) (sym position.pins) at.pinned;
+    table = at.table;
+    tickets = record {
+      as_many = at.tickets.as_many;
+      each = λ n m there. ticket_still tickets position n m (at.tickets.each n m there);
+      gone = at.tickets.gone;
+      apart = at.tickets.apart;
+      rising = at.tickets.rising;
+      are_all = λ none. tickets.opens ∙ at.tickets.are_all (free none);
+      busy = at.tickets.busy;
+    };
+    ends = λ i d lt. let low = at.ends i d lt in let same = position.reserved in omega (arith, low, same);
+  }

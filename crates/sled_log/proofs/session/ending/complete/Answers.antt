@@ -1,0 +1,86 @@
+use Rattle.std.proofs.Common.{◌≡◌, ◌∙◌, ap, sym, subst, ◌<◌, Some, Err, map, ℤ}
+use Rattle.sled_codec.specs.Snapshots.{Entry, page_of}
+use Rattle.std.specs.Int.{w64, cast_signed, cast_unsigned}
+use Rattle.sled_core.specs.Fits.{Awaits, KeepsAll, KeepsBuffers, fault_of, open_places, pins_of}
+use Rattle.sled_core.specs.Keeps.{SamePosition}
+use Rattle.sled_core.specs.OpenPlaces.{TakesOut}
+use Rattle.sled_core.specs.Running.{Fits}
+use Rattle.sled_core.specs.Causes.{FaultAnswers}
+use Rattle.sled_core.proofs.PublicLaws.{awaited, awaited_small, fits_holds, place_back}
+use Rattle.sled_codec.specs.declared.result.DiskPtr.{DiskPtr}
+use Rattle.sled_log.specs.Endings.{HasRoomFor, HasRoomToApply, TakesTicket, applied_to}
+use Rattle.sled_log.specs.RunPhases.{view_by}
+use Rattle.sled_log.proofs.Sessions.EndedTickets.{complete_fails, completes, awaits_it, ok_gives, open_there, room_does, room_fails, room_open, takes_it}
+use Rattle.sled_log.proofs.session.ending.complete.Goals as goal
+
+pub returns-then-is_err-clause-step : goal.returns-then-is_err-clause-step
+returns-then-is_err-clause-step g c = λ k at asked.
+    let view = view_by g.D.Device.trace g.D.Device.faults g.D.CrashDevice.is_stopped g.D.CrashDevice.stops_in in
+    room_fails view g.C.Checksum.sum_of c.args.opened.now c.room_for.new.opened c.room_for.ensures.kept k c.args.number at
+
+pub returns-in_default-clause-step : goal.returns-in_default-clause-step
+returns-in_default-clause-step g c = λ k at asked.
+    let view = view_by g.D.Device.trace g.D.Device.faults g.D.CrashDevice.is_stopped g.D.CrashDevice.stops_in in
+    let sum = g.C.Checksum.sum_of in
+    let given = c.args.opened.now in
+    let old = c.room_for.new.opened in
+    let its = open_there (view given.log.config.device).is_stopped c.args.number k.tickets asked in
+    let roomy = room_open view sum given old c.room_for.ensures.kept k at in
+    absurd (c.in_default.not-Some _ (takes_it view sum old k roomy c.args.number its.0 its.1 c.take_open.new.opened c.take_open.result c.take_open.ensures))
+
+pub apply-requires : goal.apply-requires
+apply-requires g c =
+    let old = c.room_for.new.opened in
+    let mid = c.take_open.new.opened in
+    let takes : TakesTicket old c.args.number mid (Some c.in-Some.field-0) = subst (TakesTicket old c.args.number mid) c.in-Some.is c.take_open.ensures in
+    let room : HasRoomFor old c.args.number = ok_gives c.room_for.result (HasRoomFor old c.args.number) c.room_for.ensures.room (sym c.is_err.ensures.value ∙ c.if-is_err.false) in
+    subst (λ x. HasRoomToApply x c.in-Some.field-0.kind c.in-Some.field-0.page) (sym takes.pages) (room c.in-Some.field-0 takes.there)
+
+pub returns-in-Err-clause-step : goal.returns-in-Err-clause-step
+returns-in-Err-clause-step g c = λ k at asked.
+    let view = view_by g.D.Device.trace g.D.Device.faults g.D.CrashDevice.is_stopped g.D.CrashDevice.stops_in in
+    let sum = g.C.Checksum.sum_of in
+    let given = c.args.opened.now in
+    let old = c.room_for.new.opened in
+    let mid = c.take_open.new.opened in
+    let its = open_there (view given.log.config.device).is_stopped c.args.number k.tickets asked in
+    let roomy = room_open view sum given old c.room_for.ensures.kept k at in
+    let takes : TakesTicket old c.args.number mid (Some c.in-Some.field-0) = subst (TakesTicket old c.args.number mid) c.in-Some.is c.take_open.ensures in
+    room_does view sum given old c.room_for.ensures.kept k c.args.number _
+    (complete_fails view sum old k roomy c.args.number its.0 its.1 mid c.in-Some.field-0 takes c.complete.new.self mid.pages (ℤ × DiskPtr) c.in-Err.e
+    (subst (λ x. FaultAnswers {T = ℤ × DiskPtr} (Err c.in-Err.e) (fault_of x)) takes.log c.in-Err.ensures.answers) (c.in-Err.ensures.err ∙ takes.log) (ap (λ x. map page_of x.items) takes.pages))
+
+pub returns-in-Ok-clause-step : goal.returns-in-Ok-clause-step
+returns-in-Ok-clause-step g c = λ k at asked.
+    let view = view_by g.D.Device.trace g.D.Device.faults g.D.CrashDevice.is_stopped g.D.CrashDevice.stops_in in
+    let sum = g.C.Checksum.sum_of in
+    let trace = g.D.Device.trace in
+    let given = c.args.opened.now in
+    let old = c.room_for.new.opened in
+    let mid = c.take_open.new.opened in
+    let new = c.complete.new.self in
+    let its = open_there (view given.log.config.device).is_stopped c.args.number k.tickets asked in
+    let roomy = room_open view sum given old c.room_for.ensures.kept k at in
+    let takes : TakesTicket old c.args.number mid (Some c.in-Some.field-0) = subst (TakesTicket old c.args.number mid) c.in-Some.is c.take_open.ensures in
+    let ticket = c.in-Some.field-0.reservation in
+    let m = its.0 in
+    let fits : Fits trace sum mid.log k.history k.acknowledged k.floor roomy.unmarked = subst (λ x. Fits trace sum x k.history k.acknowledged k.floor roomy.unmarked) (sym takes.log) roomy.fits in
+    let awaits : Awaits old.log ticket m = awaits_it view sum old k roomy c.args.number m its.1 mid c.in-Some.field-0 takes in
+    let awaits_mid : Awaits mid.log ticket m = subst (λ x. Awaits x ticket m) (sym takes.log) awaits in
+    let says = awaited old.log ticket m awaits in
+    let done = c.in-Ok.ensures in
+    let small = awaited_small old.log ticket m awaits in
+    let pinned : 0 < pins_of mid.log = subst (λ x. 0 < pins_of x) (sym takes.log) roomy.pinned in
+    let gives = done.fits k.history k.acknowledged k.floor roomy.unmarked m fits awaits_mid pinned in
+    let place = place_back c.in-Ok.place m.place (done.place.0 ∙ sym says.0) small in
+    let pointer : c.in-Ok.pointer ≡ m.pointer = done.place.1 ∙ sym says.1 in
+    let size : c.reservation_len-size.result ≡ m.size = c.reservation_len-size.ensures ∙ sym says.2 in
+    let entry : Entry = (cast_signed w64 (cast_unsigned w64 c.in-Ok.place), c.in-Ok.pointer, c.reservation_len-size.result) in
+    room_does view sum given old c.room_for.ensures.kept k c.args.number _
+    (completes view sum old k roomy c.args.number m its.1 mid c.in-Some.field-0 takes new c.apply.new.pages
+    (subst (λ x. KeepsAll x new) takes.log c.complete.ensures.same) (subst (λ x. SamePosition x new) takes.log c.complete.ensures.position) (subst (λ x. KeepsBuffers x new) takes.log c.complete.ensures.buffers)
+    (sym (ap (λ x. fault_of x) takes.log) ∙ done.answers)
+    (λ t x holds ne. c.complete.ensures.others k.history t x (fits_holds trace sum mid.log k.history k.acknowledged k.floor roomy.unmarked fits) (subst (λ y. Awaits y t x) (sym takes.log) holds) ne)
+    (subst (λ x. TakesOut m.place (open_places x) (open_places new)) takes.log (done.opens m.place says.0))
+    _ c.in-Ok.pointer (sym place, pointer) gives.0 gives.1 gives.2 entry (λ i. (sym place i, pointer i, size i))
+    (c.apply.ensures ∙ ap (λ x. applied_to (map page_of x.items) c.in-Some.field-0.kind c.in-Some.field-0.page entry) takes.pages))

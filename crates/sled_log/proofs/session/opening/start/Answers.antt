@@ -1,0 +1,89 @@
+-- A log that is started goes on where the recovered table ends, and a start that fails leaves what can be recovered.
+use Rattle.std.proofs.Common.{◌≡◌, ◌≤◌, get_or, false, ◌<◌, ◌+◌, ◌∙◌, ℕ, [], None, Some, length, refl, sym, ap, subst, arith, rules}
+use Rattle.std.proofs.lemmas.List.{length-map}
+use Rattle.sled_codec.specs.Snapshots.{SnapshotModel, model_of, stable_place}
+use Rattle.sled_store.specs.Device.{Trace, state_of}
+use Rattle.sled_store.proofs.Traces.MomentLemmas.{at_last}
+use Rattle.sled_core.specs.Fits.{NoneOpen, fault_of, open_places, pins_of, position_of, reserved_end, start_of, synced_end, waiting_of}
+use Rattle.sled_core.specs.Recoverable.{LeavesRecoverable}
+use Rattle.sled_core.specs.Waiting.{spans}
+use Rattle.sled_log.proofs.Sessions.RunLemmas.{later_is, later_both, start_cause}
+use Rattle.sled_log.proofs.Sessions.RunLogs.{starts_at}
+use Rattle.std.specs.List.{All}
+use Rattle.sled_core.proofs.PublicLaws.{none_is_empty}
+use Rattle.sled_log.specs.Openings.{unreserved}
+use Rattle.sled_log.specs.RunPhases.{Unstored}
+use Rattle.sled_log.proofs.session.opening.start.Goals as goal
+
+pub returns-in-Ok-clause-acts : goal.returns-in-Ok-clause-acts
+returns-in-Ok-clause-acts g c = (
+  record {
+    startable = c.in-Ok.ensures.answers.0;
+    in_reach = c.in-Ok.ensures.answers.1;
+    made = ap (λ l. g.D.Device.trace l.config.device) c.pin-guard.ensures.taken ∙ c.in-Ok.ensures.made;
+    failures = ap (λ l. g.D.Device.faults l.config.device) c.pin-guard.ensures.taken ∙ c.in-Ok.ensures.answers.2;
+  },
+  refl,
+  refl,
+  (let long : c.len-pages.result ≡ length c.args.snapshot.pt.items = search rules in let shown : length c.args.snapshot.pt.items ≡ length (model_of c.args.snapshot).pages = simp length-map in long ∙ shown),
+)
+
+pub returns-in-Ok-clause-starts : goal.returns-in-Ok-clause-starts
+returns-in-Ok-clause-starts g c = λ H A f at.
+    let trace = g.D.Device.trace in
+    let sum = g.C.Checksum.sum_of in
+    let size : ℕ = c.args.config.config.segment_size in
+    let s : SnapshotModel = model_of c.args.snapshot in
+    let begins = c.in-Ok.ensures.begins in
+    let taken = c.pin-guard.ensures.taken in
+    let new = c.pin-guard.new.self in
+    let some : 0 < size = let least = c.args.config.config.least in omega (arith, least) in
+    let place = starts_at size (stable_place s.stable) s.active some at.active in
+    let position : position_of new ≡ _ = ap position_of taken ∙ begins.position in
+    let stable : synced_end new ≡ stable_place s.stable = ap synced_end taken ∙ begins.synced ∙ place in
+    let end : reserved_end new ≡ stable_place s.stable = ap reserved_end taken ∙ begins.reserved ∙ begins.synced ∙ place in
+    let waiting : spans (waiting_of new) ≡ [] = ap (λ x. spans (waiting_of x)) taken ∙ ap spans begins.unsealed in
+    let first : start_of new ≡ _ = ap start_of taken ∙ begins.start in
+    let fault : fault_of new ≡ None = ap fault_of taken ∙ begins.fault in
+    let empty : open_places new ≡ [] = ap open_places taken ∙ (none_is_empty c.in-Ok.log).0 begins.ended in
+    let pages : length c.args.snapshot.pt.items ≡ length s.pages = simp length-map in
+    let pinned : pins_of new ≡ 1 = ap pins_of taken ∙ ap (λ n. n + 1) begins.pins in
+    record {
+      log = λ i. Some (record { position = position i; stable = stable i; end = end i; waiting = waiting i; start = first i; begun = pages i; fault = fault i; outstanding = empty i; tickets = [] });
+      at = record {
+        made = at.closed.made;
+        unmarked = [];
+        fits = c.pin-guard.ensures.keeps.fits H A f [] (c.in-Ok.ensures.fits H A f at.ready);
+        pinned = omega (arith, pinned);
+        table = at.table;
+        tickets = record {
+          as_many = search rules;
+          each = λ n m there. cc;
+          gone = λ n there. cc;
+          apart = λ i j m n there. cc;
+          rising = tt;
+          are_all = λ none. empty;
+          busy = λ page. search rules;
+        };
+        ends = subst (λ e. All (λ m. m.place + m.size ≤ e) H.messages) (sym end) at.ends;
+      };
+      why = tt;
+    }
+
+-- a start that was refused left what can be recovered
+pub returns-in-Err-clause-starts : goal.returns-in-Err-clause-starts
+returns-in-Err-clause-starts g c = λ H A f at.
+    let trace = g.D.Device.trace in
+    let sum = g.C.Checksum.sum_of in
+    let size : ℕ = c.args.config.config.segment_size in
+    let old : Trace = trace c.args.config.device in
+    let starts = c.in-Err.ensures.starts H A f at.ready in
+    record {
+      log = refl;
+      at = record {
+        made = at.closed.made;
+        left = subst (λ n. LeavesRecoverable sum n H A f (state_of (trace c.in-Err.config.device))) (sym (ap (λ x. x.segment_size) c.in-Err.ensures.config.config))
+            (at_last (LeavesRecoverable sum size H A f) old (trace c.in-Err.config.device) (c.in-Err.ensures.crash H A f at.ready));
+      };
+      why = start_cause c.in-Err.e _ _ _ _ _ c.in-Err.ensures.answers starts;
+    }

@@ -1,0 +1,70 @@
+-- The messages of a page that is present are read, and of one that was given back nothing is. A page that isn't refused is one of these.
+use Rattle.std.proofs.Common.{◌<◌, ◌∷◌, List, length, map, arith, subst, ap, refl, Err, Ok}
+use Rattle.std.proofs.lemmas.List.{length-map}
+use Rattle.sled_codec.specs.declared.serialization.snapshot.PageState.{PageState}
+use Rattle.sled_codec.specs.Snapshots.{Entry, Free, Page, Present, Uninitialized, page_of}
+use Rattle.sled_log.specs.Readings.{ReadsEntries}
+use Rattle.sled_log.specs.RunPhases.{view_by}
+use Rattle.sled_log.proofs.Sessions.MadePages.{page_free, page_not_nothing}
+use Rattle.sled_log.proofs.Sessions.Reading.{open_still, page_found, page_read}
+use Rattle.sled_log.proofs.session.reading.read.Goals as goal
+
+-- src/session/reading.rt:20:1
+pub returns-in-Ok-clause-step : goal.returns-in-Ok-clause-step
+returns-in-Ok-clause-step g c = λ k at free.
+    let view = view_by g.D.Device.trace g.D.Device.faults g.D.CrashDevice.is_stopped g.D.CrashDevice.stops_in in
+    let sum = g.C.Checksum.sum_of in
+    let opened = c.args.opened.now in
+    let new = c.read_entries.new.log in
+    let base : Entry = c.in-Present.base in
+    let frags : List Entry = c.in-Present.frags.items in
+    let look = c.in-Some.ensures.lookup in
+    let has = page_found opened.pages.items c.deref.result.now c.args.page c.in-Some.state.now (Present base frags) c.deref.ensures.value look.3.0 look.1 (ap page_of c.in-Present.is) in
+    let reads = subst (λ l. ReadsEntries view sum opened.log (base ∷ l) new (Ok c.in-Ok.items)) c.deref-in-Present.ensures.value c.in-Ok.ensures.reads in
+    record {
+      not_refused = refl;
+      acts = tt;
+      step = λ own. (k, page_read view sum opened c.args.page k at new base frags (Ok c.in-Ok.items) has reads, open_still view sum opened c.args.page k at new base frags (Ok c.in-Ok.items) has reads);
+    }
+
+-- src/session/reading.rt:20:1
+pub returns-in-Err-clause-step : goal.returns-in-Err-clause-step
+returns-in-Err-clause-step g c = λ k at free.
+    let view = view_by g.D.Device.trace g.D.Device.faults g.D.CrashDevice.is_stopped g.D.CrashDevice.stops_in in
+    let sum = g.C.Checksum.sum_of in
+    let opened = c.args.opened.now in
+    let new = c.read_entries.new.log in
+    let base : Entry = c.in-Present.base in
+    let frags : List Entry = c.in-Present.frags.items in
+    let look = c.in-Some.ensures.lookup in
+    let has = page_found opened.pages.items c.deref.result.now c.args.page c.in-Some.state.now (Present base frags) c.deref.ensures.value look.3.0 look.1 (ap page_of c.in-Present.is) in
+    let reads = subst (λ l. ReadsEntries view sum opened.log (base ∷ l) new (Err c.in-Err.e)) c.deref-in-Present.ensures.value c.in-Err.ensures.reads in
+    record {
+      not_refused = refl;
+      acts = tt;
+      step = λ own. (k, page_read view sum opened c.args.page k at new base frags (Err c.in-Err.e) has reads, open_still view sum opened c.args.page k at new base frags (Err c.in-Err.e) has reads);
+    }
+
+-- src/session/reading.rt:20:1
+pub returns-in-Free-clause-step : goal.returns-in-Free-clause-step
+returns-in-Free-clause-step g c = λ k at free.
+    let opened = c.args.opened.now in
+    let look = c.in-Some.ensures.lookup in
+    let page : Page = Free c.in-Free.field-0 c.in-Free.field-1 in
+    let has = page_found opened.pages.items c.deref.result.now c.args.page c.in-Some.state.now page c.deref.ensures.value look.3.0 look.1 (ap page_of c.in-Free.is) in
+    let freed = page_free k.history (map page_of opened.pages.items) c.args.page c.in-Free.field-0 c.in-Free.field-1 at.made at.table has in
+    record {
+      not_refused = refl;
+      acts = tt;
+      step = λ own. (k, record { message = freed.message; is = freed.are; frees = freed.frees; unread = refl; leads = refl }, at);
+    }
+
+-- src/session/reading.rt:20:1
+pub returns-in-Uninitialized-clause-step : goal.returns-in-Uninitialized-clause-step
+returns-in-Uninitialized-clause-step g c = λ k at free.
+    let opened = c.args.opened.now in
+    let look = c.in-Some.ensures.lookup in
+    let has = page_found opened.pages.items c.deref.result.now c.args.page c.in-Some.state.now Uninitialized c.deref.ensures.value look.3.0 look.1 (ap page_of c.in-Uninitialized.is) in
+    let within : c.args.page < length (map page_of opened.pages.items) =
+    let count = length-map opened.pages.items page_of in let same = ap (λ (l : List PageState). length l) c.deref.ensures.value in let lt = look.3.0 in omega (arith, lt, count, same) in
+    absurd (page_not_nothing k.history (map page_of opened.pages.items) c.args.page at.made at.table within has)

@@ -1,0 +1,62 @@
+-- A place is kept for a message, or nothing is done but that room is made.
+use Rattle.std.proofs.Common.{◌∙◌, length, sym}
+use Rattle.sled_log.specs.RunPhases.{view_by}
+use Rattle.sled_core.specs.declared.reservation.Reservation.{Reservation}
+use Rattle.sled_log.proofs.Sessions.Reserving.{failed_tried, held_tried, on_success, room_at, room_may, room_tried, roomless_tried}
+use Rattle.sled_log.proofs.session.reserving.reserve.Goals as goal
+
+-- Without room for a ticket nothing is done.
+pub returns-then-is_err-clause-step : goal.returns-then-is_err-clause-step
+returns-then-is_err-clause-step g c = λ k at may.
+    roomless_tried (view_by g.D.Device.trace g.D.Device.faults g.D.CrashDevice.is_stopped g.D.CrashDevice.stops_in) g.C.Checksum.sum_of c.args.opened.now c.room_for.new.opened c.args.kind c.args.page
+    (g.T.Serialize.short (g.T.Serialize.meaning c.args.item.now)) k c.room_for.ensures.room at
+
+-- The room that was made is there still.
+pub hold-requires-clause-room : goal.hold-requires-clause-room
+hold-requires-clause-room g c =
+    (on_success c.room_for.result _ (sym c.is_err.ensures.value ∙ c.if-is_err.false) c.room_for.ensures.enough).0
+
+pub hold-requires-clause-page : goal.hold-requires-clause-page
+hold-requires-clause-page g c = (on_success c.room_for.result _ (sym c.is_err.ensures.value ∙ c.if-is_err.false) c.room_for.ensures.enough).1
+
+-- The place that the log kept has a ticket.
+pub returns-in-Ok-clause-step : goal.returns-in-Ok-clause-step
+returns-in-Ok-clause-step g c = λ k at may.
+    let view = view_by g.D.Device.trace g.D.Device.faults g.D.CrashDevice.is_stopped g.D.CrashDevice.stops_in in
+    let sum = g.C.Checksum.sum_of in
+    let bytes = g.T.Serialize.short (g.T.Serialize.meaning c.args.item.now) in
+    let old = c.args.opened.now in
+    let mid = c.room_for.new.opened in
+    let room = c.room_for.ensures.room in
+    let n = length bytes in
+    room_tried view sum old mid c.hold.new.opened c.args.kind c.args.page bytes c.hold.result k room
+    (held_tried view sum mid c.hold.new.opened c.reserve.new.self c.args.kind c.args.page bytes c.in-Ok.reservation c.hold.result k c.requires.kind
+    (record {
+      ticket = c.in-Ok.ensures.ticket;
+      position = c.in-Ok.ensures.position;
+      reserved = c.in-Ok.ensures.reserved;
+      others = c.reserve.ensures.others;
+      opens = c.in-Ok.ensures.opens;
+      waiting = c.in-Ok.ensures.seals.0;
+      start = c.in-Ok.ensures.seals.1;
+      fault = c.in-Ok.ensures.answers.0;
+      free = c.in-Ok.ensures.answers.2;
+      few = c.in-Ok.ensures.answers.3;
+      fits = c.reserve.ensures.keeps.fits;
+      same = c.reserve.ensures.same;
+    })
+    c.hold.ensures.held (on_success c.room_for.result _ (sym c.is_err.ensures.value ∙ c.if-is_err.false) c.room_for.ensures.enough).1
+    (room_at _ sum old mid k room at) (room_may old mid k c.args.kind c.args.page n room may))
+
+-- A log that kept no place is as it was.
+pub returns-in-Err-clause-step : goal.returns-in-Err-clause-step
+returns-in-Err-clause-step g c = λ k at may.
+    let view = view_by g.D.Device.trace g.D.Device.faults g.D.CrashDevice.is_stopped g.D.CrashDevice.stops_in in
+    let sum = g.C.Checksum.sum_of in
+    let bytes = g.T.Serialize.short (g.T.Serialize.meaning c.args.item.now) in
+    let old = c.args.opened.now in
+    let mid = c.room_for.new.opened in
+    let room = c.room_for.ensures.room in
+    room_tried view sum old mid _ c.args.kind c.args.page bytes _ k room
+    (failed_tried view sum mid c.reserve.new.self c.args.kind c.args.page bytes k (room_at _ sum old mid k room at) Reservation c.in-Err.e c.requires.kind (room_may old mid k c.args.kind c.args.page (length bytes) room may)
+    c.reserve.ensures.keeps.fits c.in-Err.ensures.err c.reserve.ensures.same c.in-Err.ensures.answers)

@@ -1,0 +1,39 @@
+-- The device of a log is to be stopped, and nothing else is another.
+use Rattle.std.proofs.Common.{refl, sym, ◌∙◌, length, Some}
+use Rattle.sled_core.specs.Waiting.{spans}
+use Rattle.sled_log.specs.RunPhases.{view_by}
+use Rattle.sled_log.proofs.Sessions.Writing.{still_open}
+use Rattle.sled_log.proofs.session.step.stop_open.Goals as goal
+
+pub returns-clause-step : goal.returns-clause-step
+returns-clause-step g c = λ k at free.
+    let trace = g.D.Device.trace in
+    let view = view_by g.D.Device.trace g.D.Device.faults g.D.CrashDevice.is_stopped g.D.CrashDevice.stops_in in
+    let opened = c.args.opened.now in
+    let new = c.stop_after.new.self in
+    let did = c.stop_after.ensures in
+    record {
+      not_refused = refl;
+      acts = λ i. record { trace = did.trace i; failures = did.faults i; is_stopped = did.stopped i; stops_in = did.stops i };
+      step = λ own. (
+        k,
+        (λ i. record {
+          device = view new.config.device;
+          history = k.history;
+          acknowledged = k.acknowledged;
+          floor = k.floor;
+          log = Some (record {
+            position = did.position.position i;
+            stable = did.rest.synced i;
+            end = did.rest.reserved i;
+            waiting = spans (did.rest.waiting i);
+            start = did.rest.start i;
+            begun = length opened.pages.items;
+            fault = did.rest.fault i;
+            outstanding = did.tickets.opens i;
+            tickets = k.tickets;
+          });
+        }),
+        still_open trace g.C.Checksum.sum_of opened new k k.acknowledged at did.tickets did.position (λ none. sym did.rest.fault ∙ none) (did.keeps.fits k.history k.acknowledged k.floor at.unmarked at.fits),
+      );
+    }

@@ -1,0 +1,75 @@
+-- All up to a place is written and synced, unless a reservation of it is open, it wasn't reserved, memory or a further segment is wanting, the device fails, or the log keeps a failure.
+use Rattle.std.proofs.Common.{◌<◌, ◌∙◌, max, ℕ, ℤ, to_z, of_z, List, length, subst, sym, ap, refl}
+use Rattle.std.specs.Int.{w64}
+use Rattle.std.proofs.lemmas.Int.{to_z-of_z}
+use Rattle.sled_store.specs.Device.{Event}
+use Rattle.sled_store.specs.Script.{after_all}
+use Rattle.sled_core.specs.Fits.{current_begin, device_of, held_len, synced_end}
+use Rattle.sled_core.specs.Running.{end_below}
+use Rattle.sled_core.specs.Stable.{behind_place}
+use Rattle.sled_core.proofs.Holds.ReachLemmas.{fits_acknowledged}
+use Rattle.sled_log.specs.RunPhases.{Does, view_by}
+use Rattle.sled_log.proofs.Sessions.Writing.{behind_end, has_written, held_seen, holding_seen, over, some_known, stabilizing_seen, stable_failed, stays_put, still_open, was_free, writes_to}
+use Rattle.sled_log.specs.declared.session.Phase.TheVariants as phase
+use Rattle.sled_log.specs.declared.session.command.Command.TheVariants as told
+use Rattle.sled_log.specs.declared.session.command.Reply.TheVariants as reply
+use Rattle.sled_log.proofs.session.writing.stabilize.Goals as goal
+
+pub returns-in-Ok-clause-step : goal.returns-in-Ok-clause-step
+returns-in-Ok-clause-step g c = λ k at free.
+    let trace = g.D.Device.trace in
+    let sum = g.C.Checksum.sum_of in
+    let view = view_by g.D.Device.trace g.D.Device.faults g.D.CrashDevice.is_stopped g.D.CrashDevice.stops_in in
+    let opened = c.args.opened.now in
+    let place : ℤ = to_z w64 (of_z w64 c.args.place) in
+    let old = opened.log in
+    let new = c.make_stable.new.self in
+    let begun = length opened.pages.items in
+    let H = k.history in
+    let to = behind_place place in
+    let answers = c.in-Ok.ensures.answers in
+    let some : current_begin old < to → 0 < held_len old = some_known old sum begun k.tickets place answers.0 in
+    let past = fits_acknowledged trace sum old H k.acknowledged k.floor at.unmarked at.fits in
+    let position = c.make_stable.ensures.position in
+    let reached : ℕ = max k.acknowledged (end_below (synced_end new) H) in
+    let unheld = holding_seen old sum begun k.tickets to some ∙ sym (held_seen old sum begun k.tickets place answers.0) ∙ answers.1.0 in
+    let done : Does view sum (phase.Open opened) (told.Stable place) (phase.Open (over opened new), reply.Flushed c.in-Ok.grown) k =
+    record {
+      not_refused = refl;
+      acts = (writes_to old sum begun k.tickets to some, (c.in-Ok.ensures.made ∙ ap (λ (es : List Event). after_all es (trace (device_of old))) (stabilizing_seen old sum begun k.tickets place), answers.1.4));
+      step = λ own. (
+        record { history = H; acknowledged = reached; floor = k.floor; tickets = k.tickets },
+        (
+          answers.0,
+          has_written old sum begun k.tickets to some new (view old.config.device) (view new.config.device) H k.acknowledged k.floor (stays_put old new c.make_stable.ensures.tickets position) c.in-Ok.grown answers.1.2 answers.1.3 unheld c.in-Ok.ensures.answer
+              (behind_end old sum begun k.tickets place (synced_end new) c.in-Ok.ensures.target) past c.in-Ok.ensures.buffers.above,
+        ),
+        still_open trace sum opened new k reached at c.make_stable.ensures.tickets position (was_free old new c.make_stable.ensures.faulty) (c.in-Ok.ensures.acknowledges H k.acknowledged k.floor at.unmarked at.fits),
+      );
+    } in
+    subst (λ (z : ℤ). Does view sum (phase.Open opened) (told.Stable z) (phase.Open (over opened new), reply.Flushed c.in-Ok.grown) k) (to_z-of_z w64 c.args.place c.ranges.place) done
+
+-- where it fails nothing of the history is another
+pub returns-in-Err-clause-step : goal.returns-in-Err-clause-step
+returns-in-Err-clause-step g c = λ k at free.
+    let trace = g.D.Device.trace in
+    let sum = g.C.Checksum.sum_of in
+    let view = view_by g.D.Device.trace g.D.Device.faults g.D.CrashDevice.is_stopped g.D.CrashDevice.stops_in in
+    let opened = c.args.opened.now in
+    let old = opened.log in
+    let new = c.make_stable.new.self in
+    let position = c.make_stable.ensures.position in
+    let place : ℤ = to_z w64 (of_z w64 c.args.place) in
+    let fails = stable_failed view sum old new (length opened.pages.items) k.tickets place k.history k.acknowledged k.floor (stays_put old new c.make_stable.ensures.tickets position) c.in-Err.e c.in-Err.ensures.answers c.in-Err.ensures.made c.make_stable.ensures.at_most
+    c.make_stable.ensures.faulty c.in-Err.ensures.refused c.in-Err.ensures.buffers.some in
+    let done : Does view sum (phase.Open opened) (told.Stable place) (phase.Open (over opened new), reply.Failed c.in-Err.e) k =
+    record {
+      not_refused = refl;
+      acts = fails.0;
+      step = λ own. (
+        k,
+        fails.1,
+        still_open trace sum opened new k k.acknowledged at c.make_stable.ensures.tickets position (was_free old new c.make_stable.ensures.faulty) (c.make_stable.ensures.keeps.fits k.history k.acknowledged k.floor at.unmarked at.fits),
+      );
+    } in
+    subst (λ (z : ℤ). Does view sum (phase.Open opened) (told.Stable z) (phase.Open (over opened new), reply.Failed c.in-Err.e) k) (to_z-of_z w64 c.args.place c.ranges.place) done

@@ -1,0 +1,52 @@
+-- How a session keeps a place for a message.
+use Rattle.std.specs.Prelude.{◌≡◌, ◌⊎◌, ◌≤◌, ℕ, Bool, true, false, List, [], ◌∷◌, ◌++◌, length, get_or, set, Option, None, Some}
+use Rattle.sled_codec.specs.declared.serialization.message.LogKind.{LogKind}
+use Rattle.sled_codec.specs.declared.serialization.message.LogKind.TheVariants.{Link, Replace}
+use Rattle.sled_codec.specs.History.{ChangesPage, History}
+use Rattle.sled_core.specs.declared.reservation.Reservation.{Reservation}
+use Rattle.sled_core.specs.Fits.{FitsInline, segment_size_of}
+use Rattle.sled_core.specs.Tickets.{place_of, pointer_of}
+use Rattle.sled_log.specs.declared.session.Phase.TheVariants.{Open}
+use Rattle.sled_log.specs.declared.session.opened.Opened.{Opened}
+use Rattle.sled_log.specs.declared.session.opened.Ticket.{Ticket}
+use Rattle.sled_log.specs.declared.session.command.Reply.{Reply}
+use Rattle.sled_log.specs.declared.session.command.Reply.TheVariants as reply
+use Rattle.sled_log.specs.Refusals.{is_busy, reason_of}
+use Rattle.sled_log.specs.RunPhases.{IsOpenAt, Unstored, device_in, seen, stands, traces}
+use Rattle.sled_log.specs.RunStates.{DeviceView, LogView, is_present, page_now}
+use Rattle.sled_log.specs.Runs.{ReserveStep}
+
+-- A message of this kind and page with an item of n bytes isn't refused.
+pub record MayReserve (size : ℕ) (H : History) (l : LogView) (kind : LogKind) (page n : ℕ) : Type 0 where
+  pub known : ((kind ≡ Replace) × (page ≤ l.begun)) ⊎ (is_present (page_now H page) ≡ true)
+  pub idle : is_busy l page ≡ false
+  pub few : kind ≡ Link → length (page_now H page) ≤ 254
+  pub fits : FitsInline size n
+
+-- Only room was made.
+pub record MakesRoom {D C : Type 0} (old new : Opened D C) : Type 0 where
+  pub log : new.log ≡ old.log
+  pub pages : new.pages ≡ old.pages
+  pub tickets : new.tickets.items ≡ old.tickets.items
+  pub busy : (page : ℕ) → get_or new.busy.items page false ≡ get_or old.busy.items page false
+
+-- A ticket came under the next number, and its page is noted.
+pub record HoldsTicket {D C : Type 0} (old new : Opened D C) (kind : LogKind) (page : ℕ) (reservation : Reservation) (result : Reply) : Type 0 where
+  pub log : new.log ≡ old.log
+  pub pages : new.pages ≡ old.pages
+  pub tickets : new.tickets.items ≡ old.tickets.items ++ Some (record { kind = kind; page = page; reservation = reservation }) ∷ []
+  pub busy : new.busy.items ≡ set old.busy.items page true
+  pub told : result ≡ reply.Reserved (length old.tickets.items) (place_of reservation) (pointer_of reservation)
+
+-- What a reservation comes to.
+pub record HasTried {D C : Type 0} (view : D → DeviceView) (sum : List ℕ → ℕ) (old : Opened D C) (kind : LogKind) (page : ℕ) (bytes : List ℕ) (new : Opened D C) (result : Reply) (k : Unstored) : Type 0 where
+  pub not_refused : reason_of result ≡ None
+  pub device : device_in view (Open new) ≡ device_in view (Open old)
+  pub tickets : Unstored
+  pub step : ReserveStep (segment_size_of old.log) (stands view (Open old) k) (seen old k.tickets) kind page bytes result (device_in view (Open new)) (stands view (Open new) tickets)
+  pub at : IsOpenAt (traces view) sum new tickets
+
+abbrev pub Reserves : {D C : Type 0} → (D → DeviceView) → (List ℕ → ℕ) → Opened D C → LogKind → ℕ → List ℕ → Opened D C → Reply → Type 0
+Reserves view sum old kind page bytes new result =
+    (k : Unstored) → IsOpenAt (traces view) sum old k → MayReserve (segment_size_of old.log) k.history (seen old k.tickets) kind page (length bytes)
+    → HasTried view sum old kind page bytes new result k

@@ -1,0 +1,96 @@
+//! Completing messages, and giving them up.
+ghost use Rattle.std.specs.Prelude.{◌≡◌, OnOk};
+ghost use Rattle.sled_core.specs.Fits.{config_of};
+ghost use Rattle.sled_log.specs.declared.session.command.Command.TheVariants as told;
+ghost use Rattle.sled_log.specs.Endings.{HasRoomFor, KeepsPages, TakesTicket};
+ghost use Rattle.sled_log.specs.RunPhases.{CarriesOut, RunsOn, view_by};
+
+use crate::session::Phase;
+use crate::session::command::{Refusal, Reply};
+use crate::session::known::{apply, room_to_apply};
+use crate::session::opened::{Opened, Ticket};
+use sled_codec::result::{Error, Result};
+use sled_codec::serialization::Checksum;
+use sled_store::CrashDevice;
+
+/// Completes the message of a ticket. The room for its entry in the table is made first.
+pub(crate) fn complete<D: CrashDevice, C: Checksum>(
+    opened: &mut Opened<D, C>,
+    number: usize,
+) -> Reply
+    ensures step { CarriesOut (view_by D.trace D.faults D.is_stopped D.stops_in) C.sum_of (Phase.Open opened.old) (told.Complete number) (Phase.Open opened.new, result) }
+    ensures on { RunsOn D.trace (config_of opened.old.log) (config_of opened.new.log) }
+{
+    if room_for(opened, number).is_err() {
+        return Reply::Failed(Error::OutOfMemory);
+    }
+    let Some(
+        Ticket {
+            kind,
+            page,
+            reservation,
+        },
+    ) = take_open(opened, number)
+    else {
+        return Reply::Refused(Refusal::Ticket);
+    };
+    let size = reservation.reservation_len() as u64;
+    match opened.log.complete(reservation) {
+        Ok((place, pointer)) => {
+            let entry = (place, pointer, size);
+            apply(opened.alloc, &mut opened.pages, kind, page, entry);
+            Reply::Done(place, pointer)
+        }
+        Err(e) => Reply::Failed(e),
+    }
+}
+
+/// Makes room for the entry of a ticket's message in the table.
+fn room_for<D: CrashDevice, C: Checksum>(opened: &mut Opened<D, C>, number: usize) -> Result<()>
+    ensures kept { KeepsPages opened.old opened.new }
+    ensures room { OnOk result (HasRoomFor opened.new number) }
+{
+    match opened.tickets.get(number) {
+        Some(Some(ticket)) => room_to_apply(&mut opened.pages, ticket.kind, ticket.page),
+        Some(None) | None => Ok(()),
+    }
+}
+
+/// Gives the message of a ticket up.
+pub(crate) fn abort<D: CrashDevice, C: Checksum>(opened: &mut Opened<D, C>, number: usize) -> Reply
+    ensures step { CarriesOut (view_by D.trace D.faults D.is_stopped D.stops_in) C.sum_of (Phase.Open opened.old) (told.Abort number) (Phase.Open opened.new, result) }
+    ensures on { RunsOn D.trace (config_of opened.old.log) (config_of opened.new.log) }
+{
+    let Some(
+        Ticket {
+            kind: _,
+            page: _,
+            reservation,
+        },
+    ) = take_open(opened, number)
+    else {
+        return Reply::Refused(Refusal::Ticket);
+    };
+    match opened.log.abort(reservation) {
+        Ok((place, pointer)) => Reply::Done(place, pointer),
+        Err(e) => Reply::Failed(e),
+    }
+}
+
+/// Takes the ticket of this number, where its reservation is open. Its page has no open ticket then.
+fn take_open<D: CrashDevice, C: Checksum>(
+    opened: &mut Opened<D, C>,
+    number: usize,
+) -> Option<Ticket>
+    ensures { TakesTicket opened.old number opened.new result }
+{
+    let ticket = opened.tickets.get_mut(number)?.take()?;
+    if !opened.log.is_open(&ticket.reservation) {
+        ticket.abandon();
+        return None;
+    }
+    if let Some(is_busy) = opened.busy.get_mut(ticket.page as usize) {
+        *is_busy = false;
+    }
+    Some(ticket)
+}

@@ -1,0 +1,204 @@
+//! A log that is open, with the tickets of its reservations and the table of its pages.
+ghost use Rattle.std.specs.Prelude.{None, ◌≡◌, if◌then◌else◌, length};
+ghost use Rattle.sled_codec.specs.Spelling.{short_bytes};
+ghost use Rattle.sled_core.specs.Fits.{config_of, segment_size_of};
+ghost use Rattle.sled_log.specs.declared.session.command.Command.TheVariants as told;
+ghost use Rattle.sled_log.specs.declared.session.command.Refusal.TheVariants as why;
+ghost use Rattle.sled_log.specs.Refusals.{is_busy, is_too_long, refused_open, when};
+ghost use Rattle.sled_log.specs.RunStates.{is_present, page_now};
+ghost use Rattle.sled_log.specs.RunPhases.{IsOpenAt, Unstored, seen};
+
+use crate::session::command::{Command, Refusal};
+use sled_codec::result::PageId;
+use sled_codec::serialization::snapshot::PageState;
+use sled_codec::serialization::{Checksum, LogKind};
+use sled_core::logger::Log;
+use sled_core::reservation::{Guard, Reservation};
+use sled_store::{CrashDevice, RunningConfig};
+use std::alloc::Global;
+
+/// A log that is open. A pin is out, since no message is marked yet.
+pub(crate) struct Opened<D, C> {
+    pub(crate) alloc: Global,
+    pub(crate) log: Log<D, C>,
+    pub(crate) guard: Guard,
+    /// The table of what is completed.
+    pub(crate) pages: Vec<PageState>,
+    /// Which pages have an open ticket, by number. Pages behind its end have none.
+    pub(crate) busy: Vec<bool>,
+    /// By number. One that was spent is gone.
+    pub(crate) tickets: Vec<Option<Ticket>>,
+}
+
+/// A reservation that is open.
+pub(crate) struct Ticket {
+    pub(crate) kind: LogKind,
+    pub(crate) page: PageId,
+    pub(crate) reservation: Reservation,
+}
+
+/// How many entries a page may have: its Replace, and 254 fragments.
+const MOST_ENTRIES: usize = 255;
+
+impl<D: CrashDevice, C: Checksum> Opened<D, C> {
+    /// Why a command is refused while the log is open, if it is.
+    pub(crate) fn refusal(&self, command: &Command) -> Option<Refusal>
+        ensures why { (k : Unstored) → IsOpenAt D.trace C.sum_of self.now k
+            → result ≡ refused_open (segment_size_of self.now.log) k.history (seen self.now k.tickets) command.now }
+    {
+        match command {
+            Command::Open => Some(Refusal::Open),
+            Command::Replace(page, item) => self.refuse_replace(*page, item),
+            Command::Link(page, item) => self.refuse_link(*page, item),
+            Command::Free(page) => self.refuse_free(*page),
+            Command::Complete(t) | Command::Abort(t) => self.refuse_ticket(*t),
+            Command::Write(i) => self.refuse_index(*i),
+            Command::Read(page) => self.refuse_read(*page),
+            Command::Flush
+            | Command::Stable(_)
+            | Command::Halt
+            | Command::Stop(_)
+            | Command::Crash(_) => None,
+        }
+    }
+
+    fn refuse_replace(&self, page: PageId, item: &Vec<u8>) -> Option<Refusal>
+        ensures why { (k : Unstored) → IsOpenAt D.trace C.sum_of self.now k
+            → result ≡ refused_open (segment_size_of self.now.log) k.history (seen self.now k.tickets) (told.Replace page item.now) }
+    {
+        if page > self.pages.len() as u64 {
+            return Some(Refusal::Page);
+        }
+        if self.is_busy(page) {
+            return Some(Refusal::Busy);
+        }
+        self.refuse_item(item)
+    }
+
+    fn refuse_link(&self, page: PageId, item: &Vec<u8>) -> Option<Refusal>
+        ensures why { (k : Unstored) → IsOpenAt D.trace C.sum_of self.now k
+            → result ≡ refused_open (segment_size_of self.now.log) k.history (seen self.now k.tickets) (told.Link page item.now) }
+    {
+        let entries = self.entries_of(page);
+        if entries == 0 {
+            return Some(Refusal::Page);
+        }
+        if self.is_busy(page) {
+            return Some(Refusal::Busy);
+        }
+        if entries >= MOST_ENTRIES {
+            return Some(Refusal::Fragments);
+        }
+        self.refuse_item(item)
+    }
+
+    fn refuse_free(&self, page: PageId) -> Option<Refusal>
+        ensures why { (k : Unstored) → IsOpenAt D.trace C.sum_of self.now k
+            → result ≡ refused_open (segment_size_of self.now.log) k.history (seen self.now k.tickets) (told.Free page) }
+    {
+        if self.entries_of(page) == 0 {
+            return Some(Refusal::Page);
+        }
+        if self.is_busy(page) {
+            return Some(Refusal::Busy);
+        }
+        None
+    }
+
+    fn refuse_item(&self, item: &Vec<u8>) -> Option<Refusal>
+        ensures { result ≡ when (is_too_long (segment_size_of self.now.log) (length (short_bytes item.now.items))) why.Item None }
+    {
+        if self.log.fits_inline(item) {
+            None
+        } else {
+            Some(Refusal::Item)
+        }
+    }
+
+    fn refuse_ticket(&self, number: usize) -> Option<Refusal>
+        ensures why { (k : Unstored) → IsOpenAt D.trace C.sum_of self.now k
+            → result ≡ refused_open (segment_size_of self.now.log) k.history (seen self.now k.tickets) (told.Complete number) }
+    {
+        if number >= self.tickets.len() || self.tickets[number].is_none() {
+            return Some(Refusal::Ticket);
+        }
+        None
+    }
+
+    fn refuse_index(&self, i: usize) -> Option<Refusal>
+        ensures why { (k : Unstored) → IsOpenAt D.trace C.sum_of self.now k
+            → result ≡ refused_open (segment_size_of self.now.log) k.history (seen self.now k.tickets) (told.Write i) }
+    {
+        if i < self.log.pending() {
+            None
+        } else {
+            Some(Refusal::Index)
+        }
+    }
+
+    fn refuse_read(&self, page: PageId) -> Option<Refusal>
+        ensures why { (k : Unstored) → IsOpenAt D.trace C.sum_of self.now k
+            → result ≡ refused_open (segment_size_of self.now.log) k.history (seen self.now k.tickets) (told.Read page) }
+    {
+        if page < self.pages.len() as u64 {
+            None
+        } else {
+            Some(Refusal::Page)
+        }
+    }
+
+    /// Whether a page has an open ticket.
+    fn is_busy(&self, page: PageId) -> bool
+        ensures { (k : Unstored) → IsOpenAt D.trace C.sum_of self.now k → result ≡ is_busy (seen self.now k.tickets) page }
+    {
+        match self.busy.get(page as usize) {
+            Some(is_busy) => *is_busy,
+            None => false,
+        }
+    }
+
+    /// How many entries a page has that is present; 0 for any other.
+    fn entries_of(&self, page: PageId) -> usize
+        ensures { (k : Unstored) → IsOpenAt D.trace C.sum_of self.now k
+            → result ≡ (if is_present (page_now k.history page) then length (page_now k.history page) else 0) }
+    {
+        match self.pages.get(page as usize) {
+            Some(PageState::Present { base: _, frags }) => frags.len() + 1,
+            Some(PageState::Free(_, _)) | Some(PageState::Uninitialized) | None => 0,
+        }
+    }
+
+    /// Gives all tickets up, and then the log with its pin, and returns what that ran on.
+    pub(crate) fn halt(self) -> RunningConfig<D, C>
+        ensures { result ≡ config_of self.log }
+    {
+        let Opened {
+            alloc: _,
+            log,
+            guard,
+            pages: _,
+            busy: _,
+            mut tickets,
+        } = self;
+        while let Some(ticket) = tickets.pop() {
+            if let Some(ticket) = ticket {
+                ticket.abandon();
+            }
+        }
+        tickets.destroy_empty();
+        guard.abandon();
+        log.halt()
+    }
+}
+
+impl Ticket {
+    /// Gives the ticket up.
+    pub(crate) fn abandon(self) {
+        let Ticket {
+            kind: _,
+            page: _,
+            reservation,
+        } = self;
+        reservation.abandon();
+    }
+}

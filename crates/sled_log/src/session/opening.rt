@@ -1,0 +1,63 @@
+//! Opening a log on what a recovery gives.
+ghost use Rattle.std.specs.Prelude.{◌≡◌};
+ghost use Rattle.sled_codec.specs.Snapshots.{model_of};
+ghost use Rattle.sled_log.specs.declared.session.command.Command.TheVariants as told;
+ghost use Rattle.sled_log.specs.RunPhases.{CarriesOut, RunsOn, device_in, running, view_by};
+ghost use Rattle.sled_log.specs.Openings.{StartActs, Starts};
+
+use crate::session::Phase;
+use crate::session::command::Reply;
+use crate::session::opened::Opened;
+use crate::snapshot::{Snapshot, read_snapshot_or_default};
+use sled_codec::serialization::Checksum;
+use sled_core::logger::Log;
+use sled_store::{CrashDevice, RunningConfig};
+
+/// Recovers what the device has, and opens a log on it.
+pub(crate) fn open<D: CrashDevice, C: Checksum>(
+    config: RunningConfig<D, C>,
+) -> (Phase<D, C>, Reply)
+    ensures step { CarriesOut (view_by D.trace D.faults D.is_stopped D.stops_in) C.sum_of (Phase.Closed config) told.Open result }
+    ensures on { RunsOn D.trace config (running result.0) }
+{
+    let mut config = config;
+    match read_snapshot_or_default(&mut config) {
+        Ok(snapshot) => start(config, snapshot),
+        Err(e) => (Phase::Closed(config), Reply::Failed(e)),
+    }
+}
+
+/// Opens a log on what was recovered.
+fn start<D: CrashDevice, C: Checksum>(
+    config: RunningConfig<D, C>,
+    snapshot: Snapshot,
+) -> (Phase<D, C>, Reply)
+    ensures acts { let view = view_by D.trace D.faults D.is_stopped D.stops_in in
+        StartActs config.config.segment_size (view config.device) (model_of snapshot) result.1 (device_in view result.0) }
+    ensures starts { Starts (view_by D.trace D.faults D.is_stopped D.stops_in) C.sum_of config (model_of snapshot) result }
+    ensures on { RunsOn D.trace config (running result.0) }
+{
+    let alloc = config.alloc();
+    match Log::start(config, &snapshot) {
+        Ok(log) => {
+            let mut log = log;
+            let guard = log.pin();
+            let pages = snapshot.pt.len();
+            let reply = Reply::Opened {
+                stable: snapshot.stable_lsn,
+                active: snapshot.active_segment,
+                pages,
+            };
+            let opened = Opened {
+                alloc,
+                log,
+                guard,
+                pages: snapshot.pt,
+                busy: Vec::new(alloc),
+                tickets: Vec::new(alloc),
+            };
+            (Phase::Open(opened), reply)
+        }
+        Err((e, config)) => (Phase::Closed(config), Reply::Failed(e)),
+    }
+}

@@ -1,0 +1,80 @@
+//! Reading pages.
+ghost use Rattle.std.specs.Prelude.{◌≡◌, ◌∷◌, length, map};
+ghost use Rattle.sled_core.specs.Fits.{config_of};
+ghost use Rattle.sled_log.specs.declared.session.command.Command.TheVariants as told;
+ghost use Rattle.sled_log.specs.Readings.{ReadsEntries, ReadsItem};
+ghost use Rattle.sled_log.specs.RunPhases.{CarriesOut, RunsOn, view_by};
+
+use crate::session::Phase;
+use crate::session::command::{Refusal, Reply};
+use crate::session::opened::Opened;
+use sled_codec::result::{DiskPtr, Error, Lsn, PageId, Result};
+use sled_codec::serialization::Checksum;
+use sled_codec::serialization::snapshot::{Entry, PageState};
+use sled_core::logger::Log;
+use sled_core::logger::read_message::LogRead;
+use sled_store::CrashDevice;
+use std::alloc::Global;
+
+/// Reads what a page is.
+pub(crate) fn read<D: CrashDevice, C: Checksum>(opened: &mut Opened<D, C>, page: PageId) -> Reply
+    ensures step { CarriesOut (view_by D.trace D.faults D.is_stopped D.stops_in) C.sum_of (Phase.Open opened.old) (told.Read page) (Phase.Open opened.new, result) }
+    ensures on { RunsOn D.trace (config_of opened.old.log) (config_of opened.new.log) }
+{
+    let Some(state) = opened.pages.get(page as usize) else {
+        return Reply::Refused(Refusal::Page);
+    };
+    match state {
+        PageState::Present { base, frags } => {
+            match read_entries(opened.alloc, &mut opened.log, page, base, frags) {
+                Ok(items) => Reply::Page(items),
+                Err(e) => Reply::Failed(e),
+            }
+        }
+        PageState::Free(_, _) => Reply::FreePage,
+        PageState::Uninitialized => Reply::Refused(Refusal::Page),
+    }
+}
+
+/// Reads the messages of a page, its Replace first.
+fn read_entries<D: CrashDevice, C: Checksum>(
+    alloc: Global,
+    log: &mut Log<D, C>,
+    page: PageId,
+    base: &Entry,
+    frags: &[Entry],
+) -> Result<Vec<Vec<u8>>>
+    ensures reads { ReadsEntries (view_by D.trace D.faults D.is_stopped D.stops_in) C.sum_of log.old (base.now ∷ frags.now) log.new result }
+    ensures on { RunsOn D.trace (config_of log.old) (config_of log.new) }
+{
+    let mut items = Vec::with_capacity(alloc, frags.len() + 1)?;
+    items.push_reserved(read_item(log, page, base.0, base.1)?);
+    for frag in frags {
+        items.push_reserved(read_item(log, page, frag.0, frag.1)?);
+    }
+    Ok(items)
+}
+
+/// Reads the item of a message.
+fn read_item<D: CrashDevice, C: Checksum>(
+    log: &mut Log<D, C>,
+    page: PageId,
+    place: Lsn,
+    pointer: DiskPtr,
+) -> Result<Vec<u8>>
+    ensures reads { ReadsItem (view_by D.trace D.faults D.is_stopped D.stops_in) C.sum_of log.old place pointer log.new result }
+    ensures on { RunsOn D.trace (config_of log.old) (config_of log.new) }
+{
+    let DiskPtr::Inline(lid) = pointer else {
+        return Err(Error::Corruption { at: None });
+    };
+    match log.read(page, place, DiskPtr::Inline(lid))? {
+        LogRead::Inline(_, item, _) => Ok(item),
+        LogRead::Blob(_, _, _, _)
+        | LogRead::Canceled(_)
+        | LogRead::Cap(_)
+        | LogRead::Corrupted
+        | LogRead::DanglingBlob(_, _, _)
+        | LogRead::BatchManifest(_, _) => Err(Error::Corruption { at: None }),
+    }
+}

@@ -1,0 +1,48 @@
+//! Writing what was reserved.
+ghost use Rattle.std.specs.Prelude.{◌≡◌};
+ghost use Rattle.sled_core.specs.Fits.{config_of};
+ghost use Rattle.sled_log.specs.declared.session.command.Command.TheVariants as told;
+ghost use Rattle.sled_log.specs.RunPhases.{CarriesOut, RunsOn, view_by};
+
+use crate::session::Phase;
+use crate::session::command::{Refusal, Reply};
+use crate::session::opened::Opened;
+use sled_codec::result::Lsn;
+use sled_codec::serialization::Checksum;
+use sled_store::CrashDevice;
+
+/// Writes one of the sealed buffers that can be written, and syncs it.
+pub(crate) fn write<D: CrashDevice, C: Checksum>(opened: &mut Opened<D, C>, i: usize) -> Reply
+    ensures step { CarriesOut (view_by D.trace D.faults D.is_stopped D.stops_in) C.sum_of (Phase.Open opened.old) (told.Write i) (Phase.Open opened.new, result) }
+    ensures on { RunsOn D.trace (config_of opened.old.log) (config_of opened.new.log) }
+{
+    if i >= opened.log.pending() {
+        return Reply::Refused(Refusal::Index);
+    }
+    match opened.log.write_to_log(i) {
+        Ok(()) => Reply::Written,
+        Err(e) => Reply::Failed(e),
+    }
+}
+
+/// Writes all that was reserved, and syncs it.
+pub(crate) fn flush<D: CrashDevice, C: Checksum>(opened: &mut Opened<D, C>) -> Reply
+    ensures step { CarriesOut (view_by D.trace D.faults D.is_stopped D.stops_in) C.sum_of (Phase.Open opened.old) told.Flush (Phase.Open opened.new, result) }
+    ensures on { RunsOn D.trace (config_of opened.old.log) (config_of opened.new.log) }
+{
+    match opened.log.flush() {
+        Ok(grown) => Reply::Flushed(grown),
+        Err(e) => Reply::Failed(e),
+    }
+}
+
+/// Makes the message at a place durable, and all before it.
+pub(crate) fn stabilize<D: CrashDevice, C: Checksum>(opened: &mut Opened<D, C>, place: Lsn) -> Reply
+    ensures step { CarriesOut (view_by D.trace D.faults D.is_stopped D.stops_in) C.sum_of (Phase.Open opened.old) (told.Stable place) (Phase.Open opened.new, result) }
+    ensures on { RunsOn D.trace (config_of opened.old.log) (config_of opened.new.log) }
+{
+    match opened.log.make_stable(place) {
+        Ok(grown) => Reply::Flushed(grown),
+        Err(e) => Reply::Failed(e),
+    }
+}
