@@ -1,10 +1,12 @@
 -- What a ticket says.
-use Rattle.std.specs.Prelude.{◌≡◌, ◌+◌, ℕ, ℤ, pos}
+use Rattle.std.specs.Prelude.{◌≡◌, ◌+◌, ℕ, ℤ, pos, Bool, true, false}
 use Rattle.sled_codec.specs.declared.result.DiskPtr.TheVariants.{Inline}
 use Rattle.sled_core.specs.declared.iobuf.ReservationState.TheVariants.{Open}
 use Rattle.sled_core.specs.declared.iobuf.Reserved.{Reserved}
 use Rattle.sled_core.specs.declared.iobuf.SegmentPosition.{SegmentPosition}
 use Rattle.sled_codec.specs.declared.result.DiskPtr.{DiskPtr}
+use Rattle.sled_codec.specs.declared.serialization.message.MessageKind.{MessageKind}
+use Rattle.sled_codec.specs.declared.serialization.message.MessageKind.TheVariants.{BatchManifest}
 use Rattle.sled_core.specs.declared.reservation.Reservation.{Reservation}
 
 -- where the record begins in the log
@@ -22,6 +24,15 @@ index_of ticket = ticket.index
 -- how long its record is
 abbrev pub len_of : Reservation → ℕ
 len_of ticket = ticket.len
+
+-- whether it is of the manifest of a batch
+abbrev pub is_manifest_of : Reservation → Bool
+is_manifest_of ticket = ticket.is_manifest
+
+-- this kind is that of such a manifest
+abbrev pub begins_batch : MessageKind → Bool
+begins_batch BatchManifest = true
+begins_batch _ = false
 
 -- a ticket is for this reservation in the segment that lies there, and that is open
 pub record IsFor (site : SegmentPosition) (r : Reserved) (ticket : Reservation) : Type 0 where

@@ -11,7 +11,7 @@ ghost use Rattle.std.specs.declared.io.ErrorKind.TheVariants.{OutOfMemory};
 ghost use Rattle.sled_codec.specs.Errors.{IsErrorOf, IsCorrupt, IsCorruption};
 ghost use Rattle.sled_store.specs.Device.{state_of, Wrote, Synced};
 ghost use Rattle.sled_store.specs.Answers.{Counts, FailsOr};
-ghost use Rattle.sled_core.specs.Tickets.{place_of, pointer_of};
+ghost use Rattle.sled_core.specs.Tickets.{place_of, pointer_of, is_manifest_of};
 ghost use Rattle.sled_core.specs.Reading.{GivesMessage, IsInline, IsReading, IsUnreadable, IsNoPlace};
 ghost use Rattle.sled_codec.specs.Places.{MayBegin};
 ghost use Rattle.sled_codec.specs.Pointers.{lid_of};
@@ -77,7 +77,7 @@ pub struct Log<D, C> {
 }
 
 impl<D: Device, C: Checksum> Log<D, C> {
-    ghost use Rattle.sled_core.specs.Fits.{Holds, open_places, Awaits, IsOpen, FitsInline, IsUnchanged, IsUsedUpFor, fault_of, open_for, IsLeastOpen, synced_end, reserved_end, pins_of, config_of, device_of, HasRecordOf, line_of, manifest_page, message_for, position_behind, position_of, segment_size_of, size_for, target_of, waiting_behind, waiting_of, current_begin, FirstWaits, KeepsBuffers, start_behind, start_of, KeepsAll, KeepsTickets};
+    ghost use Rattle.sled_core.specs.Fits.{Holds, open_places, Awaits, IsOpen, FitsInline, IsUnchanged, IsUsedUpFor, fault_of, open_for, IsLeastOpen, synced_end, reserved_end, pins_of, config_of, device_of, HasRecordOf, line_of, is_manifest, manifest_page, message_for, position_behind, position_of, segment_size_of, size_for, target_of, waiting_behind, waiting_of, current_begin, FirstWaits, KeepsBuffers, start_behind, start_of, KeepsAll, KeepsTickets};
     ghost use Rattle.sled_core.specs.OpenPlaces.{TakesOut};
     ghost use Rattle.sled_core.specs.Keeps.{ConfigKept, GoesOn, Preserves, SamePosition};
     ghost use Rattle.sled_core.specs.ReadBuffer.{IsUsedUpAt, ReadAnswers, RefusesPlace, SealsAround, Settles, WritesAround, held_at};
@@ -177,6 +177,13 @@ impl<D: Device, C: Checksum> Log<D, C> {
         (self.site.place + self.buffer.synced_len() as u64) as i64 - 1
     }
 
+    /// Returns the failure of its device that the log keeps, the first one. Such a log changes nothing any more.
+    pub fn failure(&self) -> Option<io::Error>
+        ensures { result ≡ fault_of self.now }
+    {
+        self.fault
+    }
+
     /// Keeps a place for a message of this page, at the end of what was reserved, and returns the ticket for it. Where its
     /// record has no room in the current segment, that is filled to its end and sealed, and the record begins the next one.
     /// The guard shows that a pin is out.
@@ -201,6 +208,7 @@ impl<D: Device, C: Checksum> Log<D, C> {
         requires inline { FitsInline (segment_size_of self.old) (length (T.short (T.meaning item.now))) }
         requires no_manifest { kind ≡ LogKind.Skip → pid ≢ manifest_page }
         ensures ticket { IfOk result (λ ticket. Awaits self.new ticket (message_for self.old kind pid (T.short (T.meaning item.now)))) }
+        ensures manifest { IfOk result (λ ticket. is_manifest_of ticket ≡ is_manifest kind pid) }
         ensures position { OnOk result (position_of self.new ≡ position_behind self.old pid (length (T.short (T.meaning item.now)))) }
         ensures reserved { let n = length (T.short (T.meaning item.now)) in
             OnOk result (reserved_end self.new ≡ (target_of self.old pid n).place + size_for self.old pid n) }

@@ -12,23 +12,33 @@ pub struct Reservation {
     index: usize,
     // How long the record is.
     len: usize,
+    // Whether it is of the manifest of a batch.
+    is_manifest: bool,
 }
 
 impl Reservation {
     ghost use Rattle.std.specs.Prelude.{◌≡◌, pos};
-    ghost use Rattle.sled_core.specs.Tickets.{place_of, pointer_of, index_of, len_of};
+    ghost use Rattle.sled_core.specs.Tickets.{place_of, pointer_of, index_of, len_of, is_manifest_of};
 
-    pub(crate) fn new(lsn: Lsn, pointer: DiskPtr, index: usize, len: usize) -> Reservation
+    pub(crate) fn new(
+        lsn: Lsn,
+        pointer: DiskPtr,
+        index: usize,
+        len: usize,
+        is_manifest: bool,
+    ) -> Reservation
         ensures place { place_of result ≡ lsn }
         ensures pointer { pointer_of result ≡ pointer }
         ensures index { index_of result ≡ index }
         ensures len { len_of result ≡ len }
+        ensures manifest { is_manifest_of result ≡ is_manifest }
     {
         Reservation {
             lsn,
             pointer,
             index,
             len,
+            is_manifest,
         }
     }
 
@@ -53,6 +63,13 @@ impl Reservation {
         self.len
     }
 
+    /// Whether the message is the manifest of a batch.
+    pub fn is_manifest(&self) -> bool
+        ensures { result ≡ is_manifest_of self.now }
+    {
+        self.is_manifest
+    }
+
     pub(crate) fn index(&self) -> usize
         ensures { result ≡ index_of self.now }
     {
@@ -67,6 +84,7 @@ impl Reservation {
             pointer: _,
             index: _,
             len: _,
+            is_manifest: _,
         } = self;
     }
 }

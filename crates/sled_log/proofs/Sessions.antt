@@ -9,6 +9,7 @@ pub mod Reserving
 pub mod RunHistories
 pub mod RunLemmas
 pub mod RunLogs
+pub mod SessionLemmas
 pub mod SpentTickets
 pub mod TicketsSeen
 pub mod Writing

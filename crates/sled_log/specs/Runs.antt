@@ -232,7 +232,7 @@ abbrev pub ReserveStep : ℕ → RunState → LogView → LogKind → ℕ → Li
 ReserveStep size a l kind page bytes (reply.Reserved ticket place pointer) new b =
     HasReserved size a l (target_in size l page (length bytes)) (message_at size l kind page bytes) ticket place pointer new b
 ReserveStep size a l kind page bytes (reply.Failed (Io e)) new b = (l.fault ≡ Some e) × (b ≡ a)
-ReserveStep size a l kind page bytes (reply.Failed OutOfMemory) new b = b ≡ a
+ReserveStep size a l kind page bytes (reply.Failed OutOfMemory) new b = (l.fault ≡ None) × (b ≡ a)
 ReserveStep size a l kind page bytes (reply.Failed PlacesUsedUp) new b = (l.fault ≡ None) × (EndsInReach size (target_in size l page (length bytes)) → ⊥) × (b ≡ a)
 ReserveStep size a l kind page bytes (reply.Failed (Held at)) new b = IsFullOfOpen l (target_in size l page (length bytes)) at × (b ≡ a)
 ReserveStep size a l kind page bytes _ new b = ⊥
@@ -262,7 +262,7 @@ pub record HasCompleted (a : RunState) (l : LogView) (t : ℕ) (place : ℤ) (po
 abbrev pub CompleteStep : RunState → LogView → ℕ → Reply → DeviceView → RunState → Type 0
 CompleteStep a l t (reply.Done place pointer) new b = HasCompleted a l t place pointer new b
 CompleteStep a l t (reply.Failed (Io e)) new b = (l.fault ≡ Some e) × (b ≡ with_log a new (Some (spent l t (opens l) l.begun)))
-CompleteStep a l t (reply.Failed OutOfMemory) new b = b ≡ a
+CompleteStep a l t (reply.Failed OutOfMemory) new b = (l.fault ≡ None) × (b ≡ a)
 CompleteStep a l t _ new b = ⊥
 
 -- The message of an open reservation is given up.

@@ -101,9 +101,9 @@ impl<D: CrashDevice, C: Checksum> Session<D, C> {
         ensures table { let view = view_by D.trace D.faults D.is_stopped D.stops_in in (a : RunState) → StandsAt view C.sum_of self.now a
             → MatchOption result (a.log ≡ None) (λ pages. IsSome a.log × IsTable (map page_of pages.now) a.history top) }
     {
-        match &self.phase {
-            Some(Phase::Open(opened)) => Some(&opened.pages),
-            Some(Phase::Closed(_)) | None => None,
+        match self.phase.as_ref()? {
+            Phase::Open(opened) => Some(&opened.pages),
+            Phase::Closed(_) => None,
         }
     }
 }

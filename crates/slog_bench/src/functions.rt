@@ -1,6 +1,8 @@
 //! What a line of a file can't say: equality and conversion of errors, constants, functions over a format that answer
 //! no value of their own, and laws.
 
+use crate::orders;
+use crate::sessions;
 use crate::tally::Tally;
 use sled_codec::history::{Message, entries_of_page};
 use sled_codec::serialization::bytes::copy_in;
@@ -62,6 +64,19 @@ pub fn run(alloc: Global, tally: &mut Tally<'_>) {
     holds(tally, 16, "a writer that fails", ends_with_writer(alloc));
     holds(tally, 17, "replies are flushed", flushes_replies(alloc));
     holds(tally, 18, "slots are handed out", known(hands_out(alloc)));
+    holds(
+        tally,
+        19,
+        "links on a page",
+        known(sessions::links_pages(alloc)),
+    );
+    holds(
+        tally,
+        20,
+        "a failure is kept",
+        known(sessions::keeps_failure(alloc)),
+    );
+    holds(tally, 21, "orders of writes", known(orders::hold(alloc)));
 }
 
 // The laws of histories, devices and logs, each called at one type.

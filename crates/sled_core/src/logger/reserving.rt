@@ -7,6 +7,7 @@ ghost use Rattle.sled_core.specs.Begun.{last_buffer};
 ghost use Rattle.sled_core.specs.Buffers.{placeholder_head, reserved_for};
 ghost use Rattle.sled_core.specs.Causes.{MakesRoom};
 ghost use Rattle.sled_core.specs.Fits.{IsLeastOpen, IsUnchanged, current_of, line_of, machine_at, open_of, segment_size_of, synced_end};
+ghost use Rattle.sled_core.specs.Tickets.{begins_batch, is_manifest_of};
 ghost use Rattle.sled_core.specs.Turned.{ChangesLine, ChangesSlots, HasRoomIn, HasPlace, IsTicketFor, next_line, reserved_now};
 ghost use Rattle.sled_core.specs.Waiting.{at_last};
 
@@ -15,7 +16,7 @@ use crate::iobuf::record::{Head, head_of};
 use crate::logger::Log;
 use crate::reservation::Reservation;
 use sled_codec::result::{DiskPtr, Error, Result};
-use sled_codec::serialization::{Checksum, SegmentNumber, Serialize};
+use sled_codec::serialization::{Checksum, MessageKind, SegmentNumber, Serialize};
 use sled_store::Device;
 use sled_store::segment::{MAX_MSG_HEADER_LEN, SEG_HEADER_LEN};
 
@@ -94,6 +95,7 @@ impl<D: Device, C: Checksum> Log<D, C> {
             (reserved_for purpose.now (length (current_of self.old).parts.bytes) head.now.len item_len (C.sum_of (T.short (T.meaning item.now)
             ++ drop 4 (take head.now.len head.now.bytes))))) (line_of self.old) }
         ensures ticket { IsTicketFor self.old result (head.now.len + item_len) }
+        ensures manifest { is_manifest_of result ≡ begins_batch purpose.now.kind }
         ensures reserved { self.new.reserved_to ≡ (current_of self.old).parts.site.place + length (current_of self.old).parts.bytes + head.now.len + item_len }
         ensures rest { ChangesSlots self.old self.new }
         ensures accountant { self.new.accountant ≡ self.old.accountant }
@@ -104,7 +106,9 @@ impl<D: Device, C: Checksum> Log<D, C> {
         let place = (site.place + at) as i64;
         let to = site.place + at + (head.len + item_len) as u64;
         self.lay_out(head, purpose, item, item_len, to);
-        Reservation::new(place, DiskPtr::Inline(site.slot + at), index, head.len + item_len)
+        let is_manifest = matches!(purpose.kind, MessageKind::BatchManifest);
+        let pointer = DiskPtr::Inline(site.slot + at);
+        Reservation::new(place, pointer, index, head.len + item_len, is_manifest)
     }
 
     /// Lays out the placeholder. What is reserved ends there then.

@@ -1,7 +1,6 @@
 -- What it comes to where a ticket is ended: its message is completed, or given up.
 use Rattle.std.proofs.Common.{⊎_elim, ◌≡◌, ◌∙◌, ◌≢◌, ◌==◌, ◌&&◌, not, ◌<◌, ◌≤◌, ◌+◌, ℕ, ℤ, Bool, true, false, if◌then◌else◌, List, [], ◌∷◌, ◌++◌, length, map, get_or, set, sym, ap, subst, arith, refl, Option, None, Some, Result, Ok, Err, Vec, Global}
 use Rattle.std.specs.List.{All, slice_get}
-use Rattle.std.specs.Result.{OnOk, is_err}
 use Rattle.std.specs.declared.io.Error.{Error as IoError}
 use Rattle.std.proofs.lemmas.Bool.{ne_eqb}
 use Rattle.std.proofs.lemmas.List.{length-map, length-set, length_push}
@@ -52,11 +51,6 @@ open_there stopped n ts asked = ticket_there n ts (by stopped (has_ticket n ts) 
   by s true is = refl
   by true false is = cc
   by false false is = cc
-
--- what holds of an answer that is no error
-pub ok_gives : {T E : Type 0} (r : Result T E) (P : Type 0) → OnOk r P → is_err r ≡ false → P
-ok_gives (Ok x) P holds is = holds
-ok_gives (Err e) P holds is = cc
 
 -- How many pages are known once an entry came.
 
@@ -316,9 +310,9 @@ module _ {D C : Type 0} (view : D → DeviceView) (sum : List ℕ → ℕ) (old 
       }
 
   -- and where memory for it was refused nothing is done.
-  pub room_fails : (n : ℕ) → IsOpenAt (traces view) sum old k → Does view sum (Open old) (command.Complete n) (Open new, reply.Failed error.OutOfMemory) k
-  room_fails n at = record {
+  pub room_fails : (n : ℕ) → fault_of old.log ≡ None → IsOpenAt (traces view) sum old k → Does view sum (Open old) (command.Complete n) (Open new, reply.Failed error.OutOfMemory) k
+  room_fails n whole at = record {
     not_refused = refl;
     acts = ap (λ (y : Log D C). view (config_of y).device) kept.log;
-    step = λ own. (k, room_stands, room_open at);
+    step = λ own. (k, (whole, room_stands), room_open at);
   }

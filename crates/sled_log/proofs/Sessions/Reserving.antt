@@ -1,5 +1,5 @@
 -- What a reservation makes of a session: where its record is put as a caller sees it, and the tickets with the one that comes.
-use Rattle.std.proofs.Common.{◌≡◌, ◌∙◌, ◌≤◌, ◌<◌, ◌+◌, ◌-◌, ◌*◌, ◌^◌, ◌==◌, ◌⊎◌, inl, inr, ℕ, ℤ, pos, zero, suc, Bool, true, false, if◌then◌else◌, List, [], ◌∷◌, ◌++◌, length, map, set, get_or, Option, Some, None, Result, Ok, Err, OnOk, is_err, refl, sym, ap, subst, arith, length-append}
+use Rattle.std.proofs.Common.{◌≡◌, ◌∙◌, ◌≤◌, ◌<◌, ◌+◌, ◌-◌, ◌*◌, ◌^◌, ◌==◌, ◌⊎◌, inl, inr, ℕ, ℤ, pos, zero, suc, Bool, true, false, if◌then◌else◌, List, [], ◌∷◌, ◌++◌, length, map, set, get_or, Option, Some, None, Result, Ok, Err, refl, sym, ap, subst, arith, length-append}
 use Rattle.std.specs.List.{All, slice_get}
 use Rattle.std.proofs.lemmas.Bool.Decides.{nat_tests}
 use Rattle.std.proofs.lemmas.Bool.{cases_lt}
@@ -513,7 +513,7 @@ reserve_failed : (size : ℕ) (a : RunState) (l : LogView) (kind : LogKind) (pag
     → (used → EndsInReach size (target_in size l page (length bytes)) → ⊥) → ((at : ℤ) → l.fault ≡ None → open_count ≡ most_open → least at → IsFullOfOpen l (target_in size l page (length bytes)) at)
     → ReserveAnswers {T = T} (Err e) l.fault (kind_written kind page false) used open_count least → b ≡ a → ReserveStep size a l kind page bytes (reply.Failed e) new b
 reserve_failed s a l kind page bytes T (error.Io x) new b used n least changes out full answers leads = (answers, leads)
-reserve_failed s a l kind page bytes T error.OutOfMemory new b used n least changes out full answers leads = leads
+reserve_failed s a l kind page bytes T error.OutOfMemory new b used n least changes out full answers leads = (answers.0, leads)
 reserve_failed s a l kind page bytes T error.PlacesUsedUp new b used n least changes out full answers leads = (answers.0, out answers.2, leads)
 reserve_failed s a l kind page bytes T (error.Unsupported text) new b used n least changes out full answers leads = absurd (kind_some kind page changes answers.1)
 reserve_failed s a l kind page bytes T (error.Held at) new b used n least changes out full answers leads = (full at answers.0 answers.3 answers.4, leads)
@@ -615,25 +615,20 @@ room_tried view sum old mid new kind page bytes result k room tried = record {
   at = tried.at;
 }
 
--- what holds of a call that succeeds holds where it doesn't fail
-pub on_success : {T E : Type 0} (r : Result T E) (P : Type 0) → is_err r ≡ false → OnOk r P → P
-on_success (Ok x) P none holds = holds
-on_success (Err e) P none holds = cc
-
 -- without room for a ticket
-pub roomless_tried : {D C : Type 0} (view : D → DeviceView) (sum : List ℕ → ℕ) (old new : Opened D C) (kind : LogKind) (page : ℕ) (bytes : List ℕ) (k : Unstored) → MakesRoom old new → IsOpenAt (traces view) sum old k
+pub roomless_tried : {D C : Type 0} (view : D → DeviceView) (sum : List ℕ → ℕ) (old new : Opened D C) (kind : LogKind) (page : ℕ) (bytes : List ℕ) (k : Unstored) → MakesRoom old new → fault_of old.log ≡ None → IsOpenAt (traces view) sum old k
     → HasTried view sum old kind page bytes new (reply.Failed error.OutOfMemory) k
-roomless_tried view sum old new kind page bytes k room at = record {
+roomless_tried view sum old new kind page bytes k room whole at = record {
   not_refused = refl;
   device = ap (λ x. view x.config.device) room.log;
   tickets = k;
-  step = λ i. record {
+  step = (whole, λ i. record {
     device = view (room.log i).config.device;
     history = k.history;
     acknowledged = k.acknowledged;
     floor = k.floor;
     log = Some (seen_log (room.log i) (length (room.pages i).items) k.tickets);
-  };
+  });
   at = room_at (traces view) sum old new k room at;
 }
 

@@ -1,6 +1,6 @@
 -- What holds at the joints of a run: one trace behind another, what a crash leaves, and how a phase leads to the next one.
 use Rattle.std.proofs.Common.{◌≡◌, ◌∙◌, ◌<◌, ◌≤◌, ◌^◌, ℕ, ℤ, pos, Bool, true, false, if◌then◌else◌, rules, IsTrue, List, [], ◌∷◌, ◌++◌, Option, None, Some, refl, sym, ap, subst, append_assoc, inl, inr}
-use Rattle.std.specs.Prelude.{FitsSigned, Err, ◌&&◌, ◌↔◌}
+use Rattle.std.specs.Prelude.{FitsSigned, Result, Ok, Err, OnErr, OnOk, is_err, ◌&&◌, ◌↔◌}
 use Rattle.std.specs.Int.{w64, cast_signed, cast_unsigned}
 use Rattle.std.proofs.lemmas.Int.{to_z-of_z}
 use Rattle.sled_codec.specs.declared.result.Error.{Error}
@@ -42,6 +42,20 @@ use Rattle.sled_log.proofs.Sessions.MadeHistories.{none_made}
 -- a place as code holds it
 pub place_back : (z : ℤ) (n : ℕ) → z ≡ pos n → n < 2 ^ 63 → pos n ≡ cast_signed w64 (cast_unsigned w64 z)
 place_back z n is small = let fits : FitsSigned w64 (pos n) = search rules in sym (ap (λ (x : ℤ). cast_signed w64 (cast_unsigned w64 x)) is ∙ to_z-of_z w64 (pos n) fits)
+
+-- What holds of a call that succeeds holds where it doesn't fail, and what holds of one that fails where it does.
+module _ {T E : Type 0} (r : Result T E) (P : Type 0) where
+  pub on_success : is_err r ≡ false → OnOk r P → P
+  on_success none holds = by r none holds where
+    by : (x : Result T E) → is_err x ≡ false → OnOk x P → P
+    by (Ok x) none holds = holds
+    by (Err e) none holds = cc
+
+  pub on_failure : is_err r ≡ true → OnErr r P → P
+  on_failure some holds = by r some holds where
+    by : (x : Result T E) → is_err x ≡ true → OnErr x P → P
+    by (Ok x) some holds = cc
+    by (Err e) some holds = holds
 
 -- One trace later than another.
 

@@ -1,6 +1,6 @@
 //! Completing messages, and giving them up.
-ghost use Rattle.std.specs.Prelude.{◌≡◌, OnOk};
-ghost use Rattle.sled_core.specs.Fits.{config_of};
+ghost use Rattle.std.specs.Prelude.{◌≡◌, None, OnErr, OnOk};
+ghost use Rattle.sled_core.specs.Fits.{config_of, fault_of};
 ghost use Rattle.sled_log.specs.declared.session.command.Command.TheVariants as told;
 ghost use Rattle.sled_log.specs.Endings.{HasRoomFor, KeepsPages, TakesTicket};
 ghost use Rattle.sled_log.specs.RunPhases.{CarriesOut, RunsOn, view_by};
@@ -45,11 +45,15 @@ pub(crate) fn complete<D: CrashDevice, C: Checksum>(
     }
 }
 
-/// Makes room for the entry of a ticket's message in the table.
+/// Makes room for the entry of a ticket's message in the table, unless the log keeps a failure.
 fn room_for<D: CrashDevice, C: Checksum>(opened: &mut Opened<D, C>, number: usize) -> Result<()>
     ensures kept { KeepsPages opened.old opened.new }
-    ensures room { OnOk result (HasRoomFor opened.new number) }
+    ensures room { OnOk result (fault_of opened.old.log ≡ None → HasRoomFor opened.new number) }
+    ensures whole { OnErr result (fault_of opened.old.log ≡ None) }
 {
+    if opened.log.failure().is_some() {
+        return Ok(());
+    }
     match opened.tickets.get(number) {
         Some(Some(ticket)) => room_to_apply(&mut opened.pages, ticket.kind, ticket.page),
         Some(None) | None => Ok(()),

@@ -1,10 +1,10 @@
 //! Keeping places for messages.
-ghost use Rattle.std.specs.Prelude.{◌≡◌, ◌<◌, ◌≤◌, false, get_or, length, vec_capacity, vec_len, OnOk};
+ghost use Rattle.std.specs.Prelude.{◌≡◌, ◌<◌, ◌≤◌, false, get_or, length, vec_capacity, vec_len, None, OnErr, OnOk};
 ghost use Rattle.sled_codec.specs.History.{ChangesPage};
 ghost use Rattle.sled_core.specs.Tickets.{place_of, pointer_of};
 ghost use Rattle.sled_log.specs.Reservations.{HoldsTicket, MakesRoom, Reserves};
 ghost use Rattle.sled_log.specs.RunPhases.{RunsOn, view_by};
-ghost use Rattle.sled_core.specs.Fits.{config_of};
+ghost use Rattle.sled_core.specs.Fits.{config_of, fault_of};
 
 use crate::session::command::{Refusal, Reply};
 use crate::session::opened::{Opened, Ticket};
@@ -37,11 +37,15 @@ pub(crate) fn reserve<D: CrashDevice, C: Checksum, T: Serialize>(
     }
 }
 
-/// Makes room for one more ticket, and for the note that its page has one.
+/// Makes room for one more ticket, and for the note that its page has one, unless the log keeps a failure.
 fn room_for<D: CrashDevice, C: Checksum>(opened: &mut Opened<D, C>, page: PageId) -> Result<()>
     ensures room { MakesRoom opened.old opened.new }
-    ensures enough { OnOk result ((vec_len opened.new.tickets < vec_capacity opened.new.tickets) × (page < length opened.new.busy.items)) }
+    ensures enough { OnOk result (fault_of opened.old.log ≡ None → (vec_len opened.new.tickets < vec_capacity opened.new.tickets) × (page < length opened.new.busy.items)) }
+    ensures whole { OnErr result (fault_of opened.old.log ≡ None) }
 {
+    if opened.log.failure().is_some() {
+        return Ok(());
+    }
     opened.tickets.reserve(1)?;
     while opened.busy.len() as u64 <= page {
         opened.busy.push(false)?;

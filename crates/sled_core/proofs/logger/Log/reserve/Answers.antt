@@ -1,5 +1,5 @@
 -- A record has a place in the current segment, or a further one is begun for it; then its placeholder is laid out there.
-use Rattle.std.proofs.Common.{◌≡◌, ◌∙◌, ◌<◌, ◌+◌, ◌++◌, ap, sym, refl, arith, subst, ℕ, ℤ, List, length, take, drop, Some, None, Option, true, false, Err}
+use Rattle.std.proofs.Common.{◌≡◌, ◌∙◌, ◌<◌, ◌+◌, ◌++◌, ◌==◌, if◌then◌else◌, Bool, ap, sym, refl, arith, subst, ℕ, ℤ, List, length, take, drop, Some, None, Option, true, false, Err}
 use Rattle.std.specs.Option.{IsSome}
 use Rattle.std.specs.declared.io.Error.{Error as IoError}
 use Rattle.std.proofs.lemmas.Result.{err_from_is_err_and}
@@ -7,7 +7,10 @@ use Rattle.sled_codec.specs.Kinds.{kind_written}
 use Rattle.sled_codec.specs.Spelling.{short_header_tail}
 use Rattle.sled_codec.specs.declared.result.Error.{Error}
 use Rattle.sled_codec.specs.declared.result.Error.TheVariants as error
+use Rattle.sled_codec.specs.declared.serialization.message.LogKind.{LogKind}
+use Rattle.sled_codec.specs.declared.serialization.message.LogKind.TheVariants as does
 use Rattle.sled_codec.specs.declared.serialization.message.MessageKind.{MessageKind}
+use Rattle.sled_codec.specs.declared.serialization.message.MessageKind.TheVariants.{Counter, InlineMeta, InlineNode}
 use Rattle.sled_store.specs.Accounts.{MayHandOut, NextAnswers}
 use Rattle.sled_store.specs.Device.{Trace}
 use Rattle.sled_store.specs.SegmentStates.{handed_out}
@@ -16,7 +19,8 @@ use Rattle.sled_core.specs.Causes.{MakesRoom, ReserveAnswers}
 use Rattle.sled_core.specs.declared.iobuf.Purpose.{Purpose}
 use Rattle.sled_core.specs.declared.iobuf.record.Head.{Head}
 use Rattle.sled_core.specs.declared.logger.Log.{Log}
-use Rattle.sled_core.specs.Fits.{FitsInline, current_of, line_of, machine_at, open_of, segment_size_of, synced_end}
+use Rattle.sled_core.specs.Fits.{FitsInline, current_of, is_manifest, line_of, machine_at, open_of, segment_size_of, synced_end}
+use Rattle.sled_core.specs.Tickets.{begins_batch}
 use Rattle.sled_core.specs.Turned.{ChangesLine, ChangesSlots, HasPlace, IsTicketFor, next_line, reserved_now}
 use Rattle.sled_core.specs.Waiting.{at_last}
 use Rattle.sled_core.proofs.Holds.KeptCalls.{kept_still}
@@ -222,6 +226,28 @@ its_ticket g c =
 
 pub returns-clause-ticket : goal.returns-clause-ticket
 returns-clause-ticket g c = made_ticket g.D.Device.trace g.C.Checksum.sum_of c.args.self.now c.if-has_place.self c.append.new.self (its_kept g c) (text_of c.if-has_place.head) (its_item g c) (is_ready g c).prepared (its_known g c) c.ranges.pid.fits (its_line g c) c.append.ensures.rest c.append.ensures.accountant c.append.result (its_ticket g c)
+
+-- No kind is that of a manifest yet.
+none_begins : (kind : LogKind) (page : ℕ) (k : MessageKind) → kind_written kind page false ≡ Some k → begins_batch k ≡ is_manifest kind page
+none_begins kind page k is = sym (ap begins is) ∙ by kind is where
+  begins : Option MessageKind → Bool
+  begins None = false
+  begins (Some k) = begins_batch k
+
+  of_page : (one none : Bool) → begins (if one then Some Counter else if none then Some InlineMeta else Some InlineNode) ≡ false
+  of_page true none = refl
+  of_page false true = refl
+  of_page false false = refl
+
+  by : (x : LogKind) → kind_written x page false ≡ Some k → begins (kind_written x page false) ≡ is_manifest x page
+  by does.Replace is = of_page (page == 1) (page == 0)
+  by does.Link is = refl
+  by does.Free is = refl
+  by does.Skip is = cc
+  by does.Corrupted is = refl
+
+pub returns-clause-manifest : goal.returns-clause-manifest
+returns-clause-manifest g c = c.append.ensures.manifest ∙ none_begins c.args.kind c.args.pid c.in-Some-message_kind.message_kind (its_known g c)
 
 pub returns-clause-position : goal.returns-clause-position
 returns-clause-position g c = made_position g.D.Device.trace g.C.Checksum.sum_of c.args.self.now c.if-has_place.self c.append.new.self (its_kept g c) (text_of c.if-has_place.head) (its_item g c) (is_ready g c).prepared (its_known g c) c.ranges.pid.fits (its_line g c) c.append.ensures.rest c.append.ensures.accountant

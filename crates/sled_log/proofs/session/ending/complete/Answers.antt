@@ -1,4 +1,4 @@
-use Rattle.std.proofs.Common.{◌≡◌, ◌∙◌, ap, sym, subst, ◌<◌, Some, Err, map, ℤ}
+use Rattle.std.proofs.Common.{◌≡◌, ◌∙◌, ap, sym, subst, ◌<◌, None, Some, Err, map, ℤ}
 use Rattle.sled_codec.specs.Snapshots.{Entry, page_of}
 use Rattle.std.specs.Int.{w64, cast_signed, cast_unsigned}
 use Rattle.sled_core.specs.Fits.{Awaits, KeepsAll, KeepsBuffers, fault_of, open_places, pins_of}
@@ -10,13 +10,14 @@ use Rattle.sled_core.proofs.PublicLaws.{awaited, awaited_small, fits_holds, plac
 use Rattle.sled_codec.specs.declared.result.DiskPtr.{DiskPtr}
 use Rattle.sled_log.specs.Endings.{HasRoomFor, HasRoomToApply, TakesTicket, applied_to}
 use Rattle.sled_log.specs.RunPhases.{view_by}
-use Rattle.sled_log.proofs.Sessions.EndedTickets.{complete_fails, completes, awaits_it, ok_gives, open_there, room_does, room_fails, room_open, takes_it}
+use Rattle.sled_log.proofs.Sessions.EndedTickets.{complete_fails, completes, awaits_it, open_there, room_does, room_fails, room_open, takes_it}
+use Rattle.sled_log.proofs.Sessions.RunLemmas.{on_failure, on_success}
 use Rattle.sled_log.proofs.session.ending.complete.Goals as goal
 
 pub returns-then-is_err-clause-step : goal.returns-then-is_err-clause-step
 returns-then-is_err-clause-step g c = λ k at asked.
     let view = view_by g.D.Device.trace g.D.Device.faults g.D.CrashDevice.is_stopped g.D.CrashDevice.stops_in in
-    room_fails view g.C.Checksum.sum_of c.args.opened.now c.room_for.new.opened c.room_for.ensures.kept k c.args.number at
+    room_fails view g.C.Checksum.sum_of c.args.opened.now c.room_for.new.opened c.room_for.ensures.kept k c.args.number (on_failure c.room_for.result _ (sym c.is_err.ensures.value ∙ c.if-is_err.true) c.room_for.ensures.whole) at
 
 pub returns-in_default-clause-step : goal.returns-in_default-clause-step
 returns-in_default-clause-step g c = λ k at asked.
@@ -33,7 +34,8 @@ apply-requires g c =
     let old = c.room_for.new.opened in
     let mid = c.take_open.new.opened in
     let takes : TakesTicket old c.args.number mid (Some c.in-Some.field-0) = subst (TakesTicket old c.args.number mid) c.in-Some.is c.take_open.ensures in
-    let room : HasRoomFor old c.args.number = ok_gives c.room_for.result (HasRoomFor old c.args.number) c.room_for.ensures.room (sym c.is_err.ensures.value ∙ c.if-is_err.false) in
+    let whole : fault_of c.args.opened.now.log ≡ None = sym (ap (λ x. fault_of x) c.room_for.ensures.kept.log) ∙ sym (ap (λ x. fault_of x) takes.log) ∙ c.in-Ok.ensures.answers in
+    let room : HasRoomFor old c.args.number = on_success c.room_for.result _ (sym c.is_err.ensures.value ∙ c.if-is_err.false) c.room_for.ensures.room whole in
     subst (λ x. HasRoomToApply x c.in-Some.field-0.kind c.in-Some.field-0.page) (sym takes.pages) (room c.in-Some.field-0 takes.there)
 
 pub returns-in-Err-clause-step : goal.returns-in-Err-clause-step

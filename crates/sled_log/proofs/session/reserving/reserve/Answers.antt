@@ -1,23 +1,31 @@
 -- A place is kept for a message, or nothing is done but that room is made.
-use Rattle.std.proofs.Common.{◌∙◌, length, sym}
+use Rattle.std.proofs.Common.{◌≡◌, ◌∙◌, false, None, ap, length, sym}
+use Rattle.std.specs.Prelude.{Result, OnOk, is_err}
+use Rattle.sled_core.specs.Fits.{fault_of}
+use Rattle.sled_log.specs.declared.session.opened.Opened.{Opened}
 use Rattle.sled_log.specs.RunPhases.{view_by}
 use Rattle.sled_core.specs.declared.reservation.Reservation.{Reservation}
-use Rattle.sled_log.proofs.Sessions.Reserving.{failed_tried, held_tried, on_success, room_at, room_may, room_tried, roomless_tried}
+use Rattle.sled_log.proofs.Sessions.Reserving.{failed_tried, held_tried, room_at, room_may, room_tried, roomless_tried}
+use Rattle.sled_log.proofs.Sessions.RunLemmas.{on_failure, on_success}
 use Rattle.sled_log.proofs.session.reserving.reserve.Goals as goal
 
 -- Without room for a ticket nothing is done.
 pub returns-then-is_err-clause-step : goal.returns-then-is_err-clause-step
 returns-then-is_err-clause-step g c = λ k at may.
     roomless_tried (view_by g.D.Device.trace g.D.Device.faults g.D.CrashDevice.is_stopped g.D.CrashDevice.stops_in) g.C.Checksum.sum_of c.args.opened.now c.room_for.new.opened c.args.kind c.args.page
-    (g.T.Serialize.short (g.T.Serialize.meaning c.args.item.now)) k c.room_for.ensures.room at
+    (g.T.Serialize.short (g.T.Serialize.meaning c.args.item.now)) k c.room_for.ensures.room (on_failure c.room_for.result _ (sym c.is_err.ensures.value ∙ c.if-is_err.true) c.room_for.ensures.whole) at
 
--- The room that was made is there still.
+-- The room that was made is there still, where the log keeps no failure.
+enough : {T E D C : Type 0} (r : Result T E) (old new : Opened D C) (P : Type 0) → is_err r ≡ false → OnOk r (fault_of old.log ≡ None → P) → new.log ≡ old.log → fault_of new.log ≡ None → P
+enough r old new P none room same whole = on_success r _ none room (sym (ap (λ x. fault_of x) same) ∙ whole)
+
 pub hold-requires-clause-room : goal.hold-requires-clause-room
 hold-requires-clause-room g c =
-    (on_success c.room_for.result _ (sym c.is_err.ensures.value ∙ c.if-is_err.false) c.room_for.ensures.enough).0
+    (enough c.room_for.result c.args.opened.now c.room_for.new.opened _ (sym c.is_err.ensures.value ∙ c.if-is_err.false) c.room_for.ensures.enough c.room_for.ensures.room.log c.in-Ok.ensures.answers.0).0
 
 pub hold-requires-clause-page : goal.hold-requires-clause-page
-hold-requires-clause-page g c = (on_success c.room_for.result _ (sym c.is_err.ensures.value ∙ c.if-is_err.false) c.room_for.ensures.enough).1
+hold-requires-clause-page g c =
+    (enough c.room_for.result c.args.opened.now c.room_for.new.opened _ (sym c.is_err.ensures.value ∙ c.if-is_err.false) c.room_for.ensures.enough c.room_for.ensures.room.log c.in-Ok.ensures.answers.0).1
 
 -- The place that the log kept has a ticket.
 pub returns-in-Ok-clause-step : goal.returns-in-Ok-clause-step
@@ -45,7 +53,7 @@ returns-in-Ok-clause-step g c = λ k at may.
       fits = c.reserve.ensures.keeps.fits;
       same = c.reserve.ensures.same;
     })
-    c.hold.ensures.held (on_success c.room_for.result _ (sym c.is_err.ensures.value ∙ c.if-is_err.false) c.room_for.ensures.enough).1
+    c.hold.ensures.held (enough c.room_for.result old mid _ (sym c.is_err.ensures.value ∙ c.if-is_err.false) c.room_for.ensures.enough room.log c.in-Ok.ensures.answers.0).1
     (room_at _ sum old mid k room at) (room_may old mid k c.args.kind c.args.page n room may))
 
 -- A log that kept no place is as it was.

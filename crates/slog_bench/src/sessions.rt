@@ -1,0 +1,91 @@
+//! What a session tells beside its replies, and a log and a ticket beside their answers.
+
+use sled_log::config::{Config, RunningConfig};
+use sled_log::device::{MemDevice, PlaceSum};
+use sled_log::logger::{Log, LogKind};
+use sled_log::reservation::{Guard, Reservation};
+use sled_log::result::{Error, Result};
+use sled_log::serialization::Snapshot;
+use sled_log::serialization::snapshot::PageState;
+use sled_log::session::{Command, Refusal, Reply, Session};
+use std::alloc::Global;
+
+/// A page takes 254 links and no further one, as the replies and the table of a session say. Once it is halted no table is shown.
+pub fn links_pages(alloc: Global) -> Result<bool> {
+    let Some(size) = Config::new(8192) else {
+        return Ok(false);
+    };
+    let commands = links(alloc)?;
+    let mut session = Session::new(alloc, size, MemDevice::new(alloc), PlaceSum);
+    let linked = session.run(&commands);
+    let is_shown = has_full_page(session.pages());
+    let halted = session.run(&[Command::Halt]);
+    let is_hidden = session.pages().is_none();
+    session.end();
+    let _ = halted?;
+    let is_refused = matches!(
+        linked?.last(),
+        Some(Reply::Refused(Refusal::Fragments))
+    );
+    Ok(is_shown && is_hidden && is_refused)
+}
+
+// A page with 254 links, and one more.
+fn links(alloc: Global) -> Result<Vec<Command>> {
+    let mut commands = Vec::new(alloc);
+    commands.push(Command::Open)?;
+    commands.push(Command::Replace(0, [7].to_vec(alloc)?))?;
+    commands.push(Command::Complete(0))?;
+    for ticket in 1..255 {
+        commands.push(Command::Link(0, [8].to_vec(alloc)?))?;
+        commands.push(Command::Complete(ticket))?;
+    }
+    commands.push(Command::Link(0, [8].to_vec(alloc)?))?;
+    Ok(commands)
+}
+
+fn has_full_page(pages: Option<&[PageState]>) -> bool {
+    match pages {
+        Some([PageState::Present { base: _, frags }]) => frags.len() == 254,
+        _ => false,
+    }
+}
+
+/// A log keeps the failure with which a flush ends, and no other one; and its device is stopped then.
+pub fn keeps_failure(alloc: Global) -> Result<bool> {
+    let Some(size) = Config::new(256) else {
+        return Ok(false);
+    };
+    let config = RunningConfig::new(alloc, size, MemDevice::new(alloc), PlaceSum);
+    let mut log = match Log::start(config, &Snapshot::empty(alloc)) {
+        Ok(log) => log,
+        Err((e, _config)) => return Err(e),
+    };
+    let guard = log.pin();
+    let is_kept = stops(alloc, &mut log, &guard);
+    guard.abandon();
+    log.halt();
+    is_kept
+}
+
+fn stops(alloc: Global, log: &mut Log<MemDevice, PlaceSum>, guard: &Guard) -> Result<bool> {
+    let item = [7].to_vec(alloc)?;
+    if !log.fits_inline(&item) {
+        return Ok(false);
+    }
+    let ticket = log.reserve(LogKind::Replace, 0, &item, guard)?;
+    let is_plain = is_plain(&ticket);
+    log.complete(ticket)?;
+    let none_yet = log.failure().is_none() && !log.is_stopped();
+    log.stop_after(0);
+    let is_told = match (log.flush(), log.failure()) {
+        (Err(told), Some(kept)) => told == Error::Io(kept),
+        _ => false,
+    };
+    Ok(is_plain && none_yet && is_told && log.is_stopped())
+}
+
+// The record has a header of eight bytes, and a body of two.
+fn is_plain(ticket: &Reservation) -> bool {
+    !ticket.is_manifest() && ticket.reservation_len() == 10
+}
