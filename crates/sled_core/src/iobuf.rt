@@ -3,6 +3,7 @@
 ghost use Rattle.std.specs.Prelude.{◌≡◌, ◌+◌, ◌-◌, ◌<◌, ◌≤◌, ◌^◌, ◌++◌, ◌∷◌, [], ℕ, List, true, false, length, max, take, drop, set, replicate, vec_capacity, slice_get, OnOk, OnErr, IfOk, IsOkUnless, IsTrue, ◌↔◌, pos, All, Some};
 ghost use Rattle.std.specs.VecDeque.{deque_len, deque_capacity};
 ghost use Rattle.sled_codec.specs.Written.{written};
+ghost use Rattle.sled_store.specs.Words.{writers_of};
 ghost use Rattle.sled_core.specs.declared.iobuf.Reserved.{Reserved};
 ghost use Rattle.sled_core.specs.Buffers.{IsChain, IsHeaded, canceling, completing, ended, ending, first_open_in, most_open, open_in, open_state, placeholder_head, reserved_for};
 ghost use Rattle.sled_core.specs.SealedBuffers.{AreSealed, FirstUnwritten, one_ended, sealed_count, sealed_end};
@@ -18,12 +19,10 @@ use crate::iobuf::record::{Head, push_item, push_placeholder, sum_around, sum_be
 use crate::iobuf::sealing::{all_ended, end_sealed};
 use sled_codec::result::{Error, LogOffset, Lsn, PageId, Result};
 use sled_codec::serialization::{Checksum, LogKind, MessageKind, Serialize};
+use sled_store::header::{Header, MAX_WRITERS, decr_writers, incr_writers, n_writers};
 use sled_store::segment::MAX_MSG_HEADER_LEN;
 use std::alloc::Global;
 use std::collections::VecDeque;
-
-/// How many reservations of a buffer may be open.
-pub(crate) const MAX_WRITERS: usize = 127;
 
 /// Where a segment lies.
 #[derive(Debug, Clone, Copy)]
@@ -116,8 +115,8 @@ pub(crate) struct IoBuf {
     pub(crate) begin: usize,
     /// How many of the reservations are of sealed buffers.
     pub(crate) first: usize,
-    /// How many reservations of the current buffer are open.
-    pub(crate) open_count: usize,
+    /// The packed word of the current buffer: how many of its reservations are open, and a salt that tells its uses apart.
+    pub(crate) word: Header,
     ghost begun: { 20 ≤ length bytes.items },
     ghost behind: { begin ≤ length bytes.items },
     ghost within: { All (λ r. r.from + r.len ≤ length bytes.items) reserved.items },
@@ -129,8 +128,8 @@ pub(crate) struct IoBuf {
     ghost before: { first ≡ sealed_count sealed.items },
     ghost parted: { first ≤ length reserved.items },
     ghost chain: { IsChain (max 20 begin) (drop first reserved.items) (length bytes.items) } by { IsChain-prop _ _ _ },
-    ghost counted: { open_count ≡ open_in (drop first reserved.items) },
-    ghost few: { open_count ≤ most_open },
+    ghost counted: { writers_of word ≡ open_in (drop first reserved.items) },
+    ghost few: { writers_of word ≤ most_open },
 }
 
 impl IoBuf {
@@ -159,7 +158,7 @@ impl IoBuf {
             sealed: VecDeque::new(alloc),
             begin: 0,
             first: 0,
-            open_count: 0,
+            word: 0,
         })
     }
 
@@ -181,7 +180,7 @@ impl IoBuf {
             sealed: VecDeque::new(alloc),
             begin: from,
             first: 0,
-            open_count: 0,
+            word: 0,
         })
     }
 
@@ -189,14 +188,14 @@ impl IoBuf {
     pub(crate) fn none_open(&self) -> bool
         ensures { result ≡ none_open self.now.reserved.items }
     {
-        self.open_count == 0 && all_ended(&self.sealed)
+        n_writers(self.word) == 0 && all_ended(&self.sealed)
     }
 
     /// No further reservation of the current buffer may be open.
     pub(crate) fn is_full_of_open(&self) -> bool
         ensures { IsTrue result ↔ (open_in (drop (sealed_count self.now.sealed.items) self.now.reserved.items) ≡ most_open) }
     {
-        self.open_count == MAX_WRITERS
+        n_writers(self.word) == MAX_WRITERS
     }
 
     /// The least place of an open reservation, from one of them on, in a segment that lies there.
@@ -265,7 +264,7 @@ impl IoBuf {
             sum,
             state: ReservationState::Open,
         });
-        self.open_count += 1;
+        self.word = incr_writers(self.word);
     }
 
     /// Completes a reservation: stores the flipped sum and the kind in its header.
@@ -333,7 +332,7 @@ impl IoBuf {
         if index < self.first {
             end_sealed(&mut self.sealed, r.from);
         } else {
-            self.open_count -= 1;
+            self.word = decr_writers(self.word);
         }
     }
 

@@ -1,5 +1,5 @@
 -- Histories that a session makes: what holds of them, and which messages may come to them.
-use Rattle.std.specs.Prelude.{◌≡◌, ◌⊎◌, ◌^◌, ◌-◌, ◌<◌, ◌≤◌, ℕ, List, length, Contains}
+use Rattle.std.specs.Prelude.{◌≡◌, ◌⊎◌, ◌^◌, ◌-◌, ◌<◌, ◌≤◌, ℕ, length, Contains}
 use Rattle.std.specs.List.{All}
 use Rattle.sled_codec.specs.declared.serialization.message.LogKind.TheVariants.{Link, Replace}
 use Rattle.sled_codec.specs.History.{Message, History, ChangesPage}

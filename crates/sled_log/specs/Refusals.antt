@@ -1,6 +1,6 @@
 -- Which commands are refused, and why: the first reason that fits.
-use Rattle.std.specs.Prelude.{◌≡◌, ◌+◌, ◌-◌, ◌/◌, ◌&&◌, nat_lt, nat_le, not, ℕ, Bool, true, false, if◌then◌else◌, List, length, Option, None, Some}
-use Rattle.sled_codec.specs.History.{Message, History}
+use Rattle.std.specs.Prelude.{◌+◌, ◌-◌, ◌/◌, ◌&&◌, nat_lt, nat_le, not, ℕ, Bool, true, false, if◌then◌else◌, length, Option, None, Some}
+use Rattle.sled_codec.specs.History.{History}
 use Rattle.sled_codec.specs.Spelling.{short_bytes}
 use Rattle.sled_log.specs.declared.session.command.Command.{Command}
 use Rattle.sled_log.specs.declared.session.command.Command.TheVariants as command

@@ -1,14 +1,13 @@
 -- How a session keeps a place for a message.
-use Rattle.std.specs.Prelude.{◌≡◌, ◌⊎◌, ◌≤◌, ℕ, Bool, true, false, List, [], ◌∷◌, ◌++◌, length, get_or, set, Option, None, Some}
+use Rattle.std.specs.Prelude.{◌≡◌, ◌⊎◌, ◌≤◌, ℕ, true, false, List, [], ◌∷◌, ◌++◌, length, get_or, set, None, Some}
 use Rattle.sled_codec.specs.declared.serialization.message.LogKind.{LogKind}
 use Rattle.sled_codec.specs.declared.serialization.message.LogKind.TheVariants.{Link, Replace}
-use Rattle.sled_codec.specs.History.{ChangesPage, History}
+use Rattle.sled_codec.specs.History.{History}
 use Rattle.sled_core.specs.declared.reservation.Reservation.{Reservation}
 use Rattle.sled_core.specs.Fits.{FitsInline, segment_size_of}
 use Rattle.sled_core.specs.Tickets.{place_of, pointer_of}
 use Rattle.sled_log.specs.declared.session.Phase.TheVariants.{Open}
 use Rattle.sled_log.specs.declared.session.opened.Opened.{Opened}
-use Rattle.sled_log.specs.declared.session.opened.Ticket.{Ticket}
 use Rattle.sled_log.specs.declared.session.command.Reply.{Reply}
 use Rattle.sled_log.specs.declared.session.command.Reply.TheVariants as reply
 use Rattle.sled_log.specs.Refusals.{is_busy, reason_of}

@@ -20,11 +20,10 @@ use Rattle.sled_log.specs.declared.session.opened.Opened.{Opened}
 use Rattle.sled_log.specs.declared.session.opened.Ticket.{Ticket}
 use Rattle.sled_log.specs.declared.session.command.Command.{Command}
 use Rattle.sled_log.specs.declared.session.command.Reply.{Reply}
-use Rattle.sled_log.specs.declared.session.command.Reply.TheVariants as reply
 use Rattle.sled_log.specs.Made.{IsMade, MayJoin}
 use Rattle.sled_log.specs.Refusals.{reason_of, refusal_for}
-use Rattle.sled_log.specs.RunStates.{DeviceView, LogView, RunState, ShowsActive, has_page, length_of, open_messages, started_on, top}
-use Rattle.sled_log.specs.Runs.{IsOwn, IsStartCause, Acts, Carries, IsStep}
+use Rattle.sled_log.specs.RunStates.{DeviceView, LogView, RunState, ShowsActive, has_page, open_messages, top}
+use Rattle.sled_log.specs.Runs.{IsOwn, Acts, Carries, IsStep}
 
 -- What is seen of what code has.
 

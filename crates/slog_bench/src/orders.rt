@@ -166,10 +166,10 @@ fn push_writes(commands: &mut Vec<Command>, written: &[u64], buffer: u64, at: u6
 
 // Which one it is of those that are left.
 fn index_of(left: &[bool], buffer: u64) -> usize {
-    let mut index = 0;
+    let mut index = 0usize;
     for (n, is_left) in left.iter().enumerate() {
         if *is_left && (n as u64) < buffer {
-            index += 1;
+            index = index.saturating_add(1);
         }
     }
     index
@@ -205,7 +205,17 @@ fn behind_crash(alloc: Global) -> Result<Vec<Command>> {
 }
 
 fn are_as_told(replies: &[Reply], stands: u64, cut: i64) -> bool {
-    let [opened, pages @ .., reserved, done, flushed, halted, again, read] = replies else {
+    let [
+        opened,
+        pages @ ..,
+        reserved,
+        done,
+        flushed,
+        halted,
+        again,
+        read,
+    ] = replies
+    else {
         return false;
     };
     let goes_on = matches!(reserved, Reply::Reserved(0, _, _))

@@ -23,10 +23,7 @@ pub fn links_pages(alloc: Global) -> Result<bool> {
     let is_hidden = session.pages().is_none();
     session.end();
     let _ = halted?;
-    let is_refused = matches!(
-        linked?.last(),
-        Some(Reply::Refused(Refusal::Fragments))
-    );
+    let is_refused = matches!(linked?.last(), Some(Reply::Refused(Refusal::Fragments)));
     Ok(is_shown && is_hidden && is_refused)
 }
 

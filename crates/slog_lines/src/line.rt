@@ -133,9 +133,9 @@ fn patched(word: &str) -> Option<(u64, u8)> {
 
 // A place: a number that fits it, which may have a minus before it.
 fn place(word: &str) -> Option<Lsn> {
-    match word.as_bytes() {
-        [b'+', ..] => None,
-        _ => word.parse().ok(),
+    match word.strip_prefix('+') {
+        Some(_) => None,
+        None => word.parse().ok(),
     }
 }
 

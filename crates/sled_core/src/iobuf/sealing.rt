@@ -8,6 +8,7 @@ ghost use Rattle.sled_core.specs.SealedBuffers.{HasOpenAt, behind_run, is_ready,
 
 use crate::iobuf::{IoBuf, Reserved, Sealed};
 use sled_codec::result::{Error, Result};
+use sled_store::header::{bump_salt, n_writers};
 use std::collections::VecDeque;
 
 impl IoBuf {
@@ -42,12 +43,12 @@ impl IoBuf {
         self.sealed.push_back_reserved(Sealed {
             end: self.bytes.len(),
             count: self.reserved.len() - self.first,
-            open_count: self.open_count,
+            open_count: n_writers(self.word) as usize,
             is_written: false,
         });
         self.begin = self.bytes.len();
         self.first = self.reserved.len();
-        self.open_count = 0;
+        self.word = bump_salt(self.word);
     }
 
     /// One of the sealed buffers is on the device now. Those at the front that are go.

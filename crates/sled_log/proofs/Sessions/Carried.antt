@@ -1,11 +1,9 @@
 -- What a command comes to that isn't refused: what its refusal would say, and how a reservation is carried out.
-use Rattle.std.proofs.Common.{◌≡◌, ◌∙◌, ◌≤◌, ◌+◌, ◌-◌, ◌/◌, nat_le, nat_lt, arith, ℕ, Bool, true, false, List, [], length, Option, None, Some, refl, sym, ap, inl, inr}
-use Rattle.std.specs.Prelude.{Vec, not, ◌&&◌}
+use Rattle.std.proofs.Common.{◌≡◌, ◌≤◌, ◌+◌, ◌-◌, ◌/◌, nat_le, nat_lt, arith, ℕ, Bool, true, false, List, [], length, Option, None, refl, sym, inl, inr}
+use Rattle.std.specs.Prelude.{Vec, not}
 use Rattle.std.specs.declared.alloc.Global.{Global}
 use Rattle.std.proofs.lemmas.Bool.Decides.{nat_tests}
-use Rattle.sled_codec.specs.declared.serialization.message.LogKind.{LogKind}
 use Rattle.sled_codec.specs.declared.serialization.message.LogKind.TheVariants as does
-use Rattle.sled_codec.specs.History.{Message, History}
 use Rattle.sled_codec.specs.Spelling.{short_bytes}
 use Rattle.sled_log.specs.declared.session.Phase.TheVariants.{Open}
 use Rattle.sled_log.specs.declared.session.opened.Opened.{Opened}

@@ -126,8 +126,8 @@ pub page_free : (H : History) (pages : List Page) (page : ℕ) (place : ℤ) (po
     → IsFree (page_now H page)
 page_free H pages page place pointer made is has = ⊎_elim
     (λ r. let absent : is_present (page_now H page) ≡ false = free_absent (page_now H page) place pointer (sym (is.states page) ∙ has) in
-          let present : is_present (page_now H page) ≡ true = ap is_present r.are ∙ ap is_replace r.replaces in
-          absurd (true≢false (sym present ∙ absent)))
+    let present : is_present (page_now H page) ≡ true = ap is_present r.are ∙ ap is_replace r.replaces in
+    absurd (true≢false (sym present ∙ absent)))
     (λ free. free) (within_begun H pages page made is within) where
       within : page < length pages
       within = ⊎_elim (λ lt. lt) beyond (cases_lt page (length pages)) where

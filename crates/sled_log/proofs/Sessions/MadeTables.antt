@@ -1,5 +1,5 @@
 -- The table of a history that a session makes: what a message that is completed or a recovery makes of it, and what it says of a page.
-use Rattle.std.proofs.Common.{⊎_elim, ◌≡◌, ◌∙◌, ◌⊎◌, ◌<◌, ◌≤◌, ◌+◌, ◌-◌, ℕ, pos, Bool, true, false, ◌==◌, if◌then◌else◌, List, [], ◌∷◌, ◌++◌, length, map, get_or, set, refl, sym, ap, subst, inl, inr, arith, eqb-true, length-set}
+use Rattle.std.proofs.Common.{⊎_elim, ◌≡◌, ◌∙◌, ◌⊎◌, ◌<◌, ◌≤◌, ◌-◌, ℕ, pos, Bool, true, false, ◌==◌, if◌then◌else◌, List, [], ◌∷◌, ◌++◌, length, map, get_or, set, refl, sym, ap, subst, inl, inr, arith, eqb-true, length-set}
 use Rattle.std.specs.List.{All, Contains}
 use Rattle.std.proofs.lemmas.Bool.{eqb-false, cases_lt, cases_eq}
 use Rattle.std.proofs.lemmas.List.{map-append, get_or_push, get_or_append_left, get_or_past, get_or-set_same, get_or-set_other, set_past, length_push}
@@ -191,4 +191,3 @@ table_below H cut pages le is = record {
 
   had_too : (page : ℕ) → HasPage (below H cut) top page → HasPage H cut page
   had_too page has = record { message = has.message; there = subst (λ (ms : List Message). Contains ms has.message) (whole page) has.there; replaces = has.replaces }
-

@@ -24,7 +24,7 @@ use Rattle.sled_store.proofs.Segments.TableEntries.{from_table}
 use Rattle.sled_core.specs.Reading.{IsInline}
 use Rattle.sled_core.specs.declared.logger.Log.{Log}
 use Rattle.sled_core.specs.Begun.{segment_view, view_at}
-use Rattle.sled_core.specs.Fits.{HasRecordOf, buffers_of, current_begin, current_of, device_of, fault_of, held_len, open_places, reserved_end, segment_size_of, start_of, synced_end, waiting_of}
+use Rattle.sled_core.specs.Fits.{HasRecordOf, buffers_of, current_begin, current_of, device_of, fault_of, held_len, reserved_end, segment_size_of, start_of, synced_end, waiting_of}
 use Rattle.sled_core.specs.Keeps.{SamePosition, start_sealed}
 use Rattle.sled_core.specs.OpenPlaces.{first_between}
 use Rattle.sled_core.specs.ReadBuffer.{IsUsedUpAt, ReadAnswers, Settles, WritesAround, held_at, sealed_at, settling, start_at}
@@ -42,7 +42,7 @@ use Rattle.sled_log.specs.declared.session.Phase.TheVariants.{Open}
 use Rattle.sled_log.specs.declared.session.opened.Opened.{Opened}
 use Rattle.sled_log.specs.declared.session.command.Reply.TheVariants as reply
 use Rattle.sled_log.proofs.Sessions.Writing.{IsHeldBy, StaysPut, all_held, first_seen, flush_out, next_start_seen, over, shows_waiting, span_seen, still_open}
-use Rattle.sled_log.specs.Readings.{IsItem, IsOfPage, IsRead, KeepsOpen, ReadsEntries, ReadsItem, page_told}
+use Rattle.sled_log.specs.Readings.{IsOfPage, IsRead, KeepsOpen, ReadsEntries, ReadsItem, page_told}
 use Rattle.sled_log.specs.RunPhases.{IsOpenAt, Unstored, seen, seen_log, stands, traces}
 use Rattle.sled_log.specs.RunStates.{DeviceView, LogView, RunState, current_span, first_waiting, held, is_present, next_start, opens, page_now, sealed_around, spans_without, start_around, top, with_log}
 use Rattle.sled_log.specs.Runs.{ReadFails, ReadFailsFor, ReadStep, ReadStops, ReadsAll, ReadsAt, ShowsBuffers, flushed, held_around_place, holding_read, item_bytes, read_around}
@@ -224,14 +224,17 @@ module _ {D C : Type 0} (view : D → DeviceView) (sum : List ℕ → ℕ) (old 
   pub was_read : {T : Type 0} (blobs : ℤ → Option (List ℕ)) (r : T) → Settles (traces view) sum (Ok r) (pos m.place) lid old new → WritesAround sum (Ok r) (pos m.place) old new
       → ReadAnswers sum blobs (Ok r) (pos m.place) (synced_end old) (reserved_end old) (held_at sum old (pos m.place)) (IsUsedUpAt old (pos m.place)) (fault_of old) (fault_of new) old_view.failures new_view.failures
       → (before.fault ≡ None) × ReadsAt before m.place old_view new_view × (after ≡ read_around before m.place)
-  was_read blobs r settles writes answers =
-      (answers.3, record {
-        buffers = sealed_at sum m.place old;
-        shown = shows old sum m.place begun k of.below;
-        made = settles.made ∙ ap (λ (es : List Event). after_all es old_view.trace) (calls_seen old sum m.place begun k of.below);
-        free = sym (holding_seen old sum m.place begun k of.below) ∙ answers.1;
-        failures = answers.5;
-      }, around r writes (answers.4 ∙ sym answers.3))
+  was_read blobs r settles writes answers = (
+    answers.3,
+    record {
+      buffers = sealed_at sum m.place old;
+      shown = shows old sum m.place begun k of.below;
+      made = settles.made ∙ ap (λ (es : List Event). after_all es old_view.trace) (calls_seen old sum m.place begun k of.below);
+      free = sym (holding_seen old sum m.place begun k of.below) ∙ answers.1;
+      failures = answers.5;
+    },
+    around r writes (answers.4 ∙ sym answers.3),
+  )
 
 -- Several messages are read, one behind another.
 

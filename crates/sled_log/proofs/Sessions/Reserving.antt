@@ -1,5 +1,5 @@
 -- What a reservation makes of a session: where its record is put as a caller sees it, and the tickets with the one that comes.
-use Rattle.std.proofs.Common.{◌≡◌, ◌∙◌, ◌≤◌, ◌<◌, ◌+◌, ◌-◌, ◌*◌, ◌^◌, ◌==◌, ◌⊎◌, inl, inr, ℕ, ℤ, pos, zero, suc, Bool, true, false, if◌then◌else◌, List, [], ◌∷◌, ◌++◌, length, map, set, get_or, Option, Some, None, Result, Ok, Err, refl, sym, ap, subst, arith, length-append}
+use Rattle.std.proofs.Common.{◌≡◌, ◌∙◌, ◌≤◌, ◌<◌, ◌+◌, ◌-◌, ◌*◌, ◌^◌, ◌==◌, ◌⊎◌, inl, inr, ℕ, ℤ, pos, zero, suc, Bool, true, false, if◌then◌else◌, List, [], ◌∷◌, ◌++◌, length, map, set, get_or, Option, Some, None, Err, refl, sym, ap, subst, arith, length-append}
 use Rattle.std.specs.List.{All, slice_get}
 use Rattle.std.proofs.lemmas.Bool.Decides.{nat_tests}
 use Rattle.std.proofs.lemmas.Bool.{cases_lt}
@@ -622,13 +622,16 @@ roomless_tried view sum old new kind page bytes k room whole at = record {
   not_refused = refl;
   device = ap (λ x. view x.config.device) room.log;
   tickets = k;
-  step = (whole, λ i. record {
-    device = view (room.log i).config.device;
-    history = k.history;
-    acknowledged = k.acknowledged;
-    floor = k.floor;
-    log = Some (seen_log (room.log i) (length (room.pages i).items) k.tickets);
-  });
+  step = (
+    whole,
+    λ i. record {
+      device = view (room.log i).config.device;
+      history = k.history;
+      acknowledged = k.acknowledged;
+      floor = k.floor;
+      log = Some (seen_log (room.log i) (length (room.pages i).items) k.tickets);
+    },
+  );
   at = room_at (traces view) sum old new k room at;
 }
 

@@ -1,5 +1,5 @@
 -- What holds at the joints of a run: one trace behind another, what a crash leaves, and how a phase leads to the next one.
-use Rattle.std.proofs.Common.{◌≡◌, ◌∙◌, ◌<◌, ◌≤◌, ◌^◌, ℕ, ℤ, pos, Bool, true, false, if◌then◌else◌, rules, IsTrue, List, [], ◌∷◌, ◌++◌, Option, None, Some, refl, sym, ap, subst, append_assoc, inl, inr}
+use Rattle.std.proofs.Common.{◌≡◌, ◌∙◌, ◌<◌, ◌≤◌, ◌^◌, ℕ, ℤ, pos, Bool, true, false, if◌then◌else◌, rules, IsTrue, List, [], ◌∷◌, ◌++◌, Option, None, Some, refl, sym, ap, subst, append_assoc}
 use Rattle.std.specs.Prelude.{FitsSigned, Result, Ok, Err, OnErr, OnOk, is_err, ◌&&◌, ◌↔◌}
 use Rattle.std.specs.Int.{w64, cast_signed, cast_unsigned}
 use Rattle.std.proofs.lemmas.Int.{to_z-of_z}
@@ -34,8 +34,8 @@ use Rattle.sled_log.specs.declared.session.command.Refusal.TheVariants as why
 use Rattle.sled_log.specs.declared.session.command.Reply.{Reply}
 use Rattle.sled_log.specs.declared.session.command.Reply.TheVariants as reply
 use Rattle.sled_log.specs.Refusals.{reason_of, refusal_for, when}
-use Rattle.sled_log.specs.RunStates.{DeviceView, RunState, with_log}
-use Rattle.sled_log.specs.Runs.{Acts, Carries, IsCause, IsOwn, IsStartCause, IsStep, Runs, left_after, told}
+use Rattle.sled_log.specs.RunStates.{DeviceView, RunState}
+use Rattle.sled_log.specs.Runs.{Acts, Carries, IsCause, IsOwn, IsStartCause, IsStep, told}
 use Rattle.sled_log.specs.RunPhases.{AnswersIn, CarriesOut, Does, IsAt, IsClosedAt, IsOpenAt, RunsOn, StandsIn, Unstored, device_in, running, size_of, stands, traces}
 use Rattle.sled_log.proofs.Sessions.MadeHistories.{none_made}
 

@@ -1,5 +1,5 @@
 -- What stands in a session is what stands in the phase that it is at; and runs go on, one command behind another.
-use Rattle.std.proofs.Common.{◌≡◌, ◌∙◌, ℕ, Bool, List, [], ◌∷◌, ◌++◌, map, Option, None, Some, refl, sym, ap, subst}
+use Rattle.std.proofs.Common.{◌≡◌, ℕ, List, [], ◌∷◌, ◌++◌, map, Option, None, Some, refl, sym, ap, subst}
 use Rattle.std.specs.Prelude.{IsSome}
 use Rattle.sled_codec.specs.PageTables.{IsTable}
 use Rattle.sled_codec.specs.Snapshots.{page_of}
@@ -12,7 +12,7 @@ use Rattle.sled_log.specs.declared.session.command.Command.{Command}
 use Rattle.sled_log.specs.declared.session.command.Reply.{Reply}
 use Rattle.sled_log.specs.RunStates.{DeviceView, RunState, top}
 use Rattle.sled_log.specs.Runs.{Carries, Runs}
-use Rattle.sled_log.specs.RunPhases.{AnswersIn, StandsAt, StandsAtPhase, StandsIn, device_in, segment_size_in, size_in, size_of}
+use Rattle.sled_log.specs.RunPhases.{AnswersIn, StandsAt, StandsAtPhase, StandsIn, device_in, segment_size_in, size_in}
 
 -- Where a session stands.
 module _ {D C : Type 0} (view : D → DeviceView) (sum : List ℕ → ℕ) (session : Session D C) (a : RunState) where

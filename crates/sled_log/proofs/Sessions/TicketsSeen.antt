@@ -1,5 +1,5 @@
 -- Which tickets are open is seen of the messages that are awaited.
-use Rattle.std.proofs.Common.{◌≡◌, ◌<◌, ◌≤◌, ◌∙◌, get_or, sym, ap, refl, ℕ, zero, suc, Bool, true, false, List, [], ◌∷◌, length, arith, Option, None, Some}
+use Rattle.std.proofs.Common.{◌≡◌, ◌<◌, ◌≤◌, ◌∙◌, get_or, sym, refl, ℕ, zero, suc, true, false, List, [], ◌∷◌, length, arith, Option, None, Some}
 use Rattle.std.specs.List.{slice_get}
 use Rattle.sled_codec.specs.History.{Message, History}
 use Rattle.sled_log.specs.declared.session.opened.Opened.{Opened}

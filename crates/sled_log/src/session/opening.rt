@@ -14,9 +14,7 @@ use sled_core::logger::Log;
 use sled_store::{CrashDevice, RunningConfig};
 
 /// Recovers what the device has, and opens a log on it.
-pub(crate) fn open<D: CrashDevice, C: Checksum>(
-    config: RunningConfig<D, C>,
-) -> (Phase<D, C>, Reply)
+pub(crate) fn open<D: CrashDevice, C: Checksum>(config: RunningConfig<D, C>) -> (Phase<D, C>, Reply)
     ensures step { CarriesOut (view_by D.trace D.faults D.is_stopped D.stops_in) C.sum_of (Phase.Closed config) told.Open result }
     ensures on { RunsOn D.trace config (running result.0) }
 {

@@ -2,6 +2,7 @@
 use Rattle.std.proofs.Common.{rules, refl, sym, ap, arith, ◌∙◌, ◌≡◌, ◌+◌, ◌≤◌, ◌++◌, ◌∷◌, length, max, drop, vec_len, List, [], ℕ, subst, length-append}
 use Rattle.std.specs.List.{All}
 use Rattle.std.proofs.lemmas.List.{drop-append-le}
+use Rattle.sled_store.specs.Words.{Fields}
 use Rattle.sled_core.specs.declared.iobuf.Reserved.{Reserved}
 use Rattle.sled_core.specs.Buffers.{IsChain, IsHeaded, open_in}
 use Rattle.sled_core.specs.SealedBuffers.{AreSealed}
@@ -12,7 +13,7 @@ use Rattle.sled_core.proofs.iobuf.IoBuf.append.Given as given
 use Rattle.sled_core.proofs.iobuf.IoBuf.append.Goals as goal
 
 -- how long the bytes are then
-long : (g : given.Over) (c : goal.After-push_back_reserved g) → length c.sum_behind-sum.new.bytes.items ≡ c.len-from.result + c.args.head.now.len + c.args.item_len
+long : (g : given.Over) (c : goal.After-incr_writers-self g) → length c.sum_behind-sum.new.bytes.items ≡ c.len-from.result + c.args.head.now.len + c.args.item_len
 long g c =
     let from = c.len-from.ensures in
     let bytes : length c.args.self.now.bytes.items ≡ vec_len c.args.self.now.bytes = search rules in
@@ -48,6 +49,6 @@ invariant_of-self g c =
       chain = subst (λ n. IsChain (max 20 c.args.self.now.begin) (drop first c.push_back_reserved.new.self.items) n) (let at : length c.args.self.now.bytes.items + (c.args.head.now.len + c.args.item_len) ≡ length bytes = omega (arith, len, from, before) in at)
           (subst (λ (rs : List Reserved). IsChain (max 20 c.args.self.now.begin) rs (length c.args.self.now.bytes.items + (c.args.head.now.len + c.args.item_len))) (sym apart)
           (chain-append (max 20 c.args.self.now.begin) (length c.args.self.now.bytes.items) (drop first old) _ c.args.self.now.chain (from ∙ sym before)));
-      counted = ap (λ n. n + 1) c.args.self.now.counted ∙ sym (ap open_in apart ∙ open_more (drop first old) _ refl);
-      few = (let less = c.requires.few in let count = c.args.self.now.counted in let same = c.args.self.now.before in let is = ap (λ n. open_in (drop n old)) same in omega (arith, less, count, is));
+      counted = ap (λ (f : Fields). f.writers) c.incr_writers-self.ensures ∙ ap (λ n. n + 1) c.args.self.now.counted ∙ sym (ap open_in apart ∙ open_more (drop first old) _ refl);
+      few = (let one = ap (λ (f : Fields). f.writers) c.incr_writers-self.ensures in let less = c.requires.few in let count = c.args.self.now.counted in let same = c.args.self.now.before in let is = ap (λ n. open_in (drop n old)) same in omega (arith, one, less, count, is));
     }

@@ -6,6 +6,7 @@ use Rattle.std.proofs.lemmas.List.Elements.{All-set}
 use Rattle.sled_codec.specs.Written.{written}
 use Rattle.sled_core.specs.declared.iobuf.ReservationState.{ReservationState}
 use Rattle.sled_core.specs.declared.iobuf.ReservationState.TheVariants.{Open}
+use Rattle.sled_store.specs.Words.{Fields}
 use Rattle.sled_core.specs.declared.iobuf.Reserved.{Reserved}
 use Rattle.sled_core.specs.declared.iobuf.Sealed.{Sealed}
 use Rattle.sled_core.specs.Buffers.{IsChain, IsHeaded, ended, ending, open_in, open_state}
@@ -70,8 +71,8 @@ end_sealed-requires c =
     let before = c.args.self.now.before in
     record { some = (c.args.self.now.written_len, c.args.index, rs, has_open c.args.self.now.written_len rs bs c.args.index r there (c.requires.awaited r there) c.args.self.now.are (omega (arith, theirs, before)) c.args.self.now.headed) }
 
-pub overflow_sub-self : goal.overflow_sub-self
-overflow_sub-self c =
+pub decr_writers-self-requires : goal.decr_writers-self-requires
+decr_writers-self-requires c =
     let rs : List Reserved = c.args.self.now.reserved.items in
     let r : Reserved = c.index-r.result.now in
     let there : slice_get rs c.args.index ≡ Some r = there_is rs c.args.index r (search rules) c.index-r.ensures in
@@ -146,8 +147,8 @@ invariant_of-self-else-index-self c =
       chain = subst (λ n. IsChain (max 20 c.args.self.now.begin) (drop first c.close.new.reserved.items) n) len
           (subst (λ (l : List Reserved). IsChain (max 20 c.args.self.now.begin) (drop first l) (length c.args.self.now.bytes.items)) (sym new)
           (chain_behind from rs bs i r there open_yet c.args.state c.requires.ends first behind (max 20 c.args.self.now.begin) (length c.args.self.now.bytes.items) c.args.self.now.chain));
-      counted = (let counted = c.args.self.now.counted in let less = fewer_behind from rs bs i r there open_yet c.args.state c.requires.ends first behind in let is = ap (λ (l : List Reserved). open_in (drop first l)) new in omega (arith, counted, less, is));
-      few = (let most = c.args.self.now.few in omega (arith, most));
+      counted = (let one = ap (λ (f : Fields). f.writers) c.decr_writers-self.ensures in let counted = c.args.self.now.counted in let less = fewer_behind from rs bs i r there open_yet c.args.state c.requires.ends first behind in let is = ap (λ (l : List Reserved). open_in (drop first l)) new in omega (arith, one, counted, less, is));
+      few = (let one = ap (λ (f : Fields). f.writers) c.decr_writers-self.ensures in let most = c.args.self.now.few in omega (arith, one, most));
     }
 
 -- what is written stands where the reservation begins

@@ -1,12 +1,17 @@
 -- The buffer that is sealed begins where the ones before it end, and has the reservations behind theirs.
-use Rattle.std.proofs.Common.{◌≡◌, ◌∙◌, ap, sym, refl, rules, arith, subst, ℕ, List, [], ◌∷◌, ◌++◌, max, length, drop, length-drop}
+use Rattle.std.proofs.Common.{◌≡◌, ◌∙◌, ap, sym, refl, rules, arith, subst, ◌+◌, ◌%◌, ◌^◌, ℕ, List, [], ◌∷◌, ◌++◌, max, length, drop, length-drop}
 use Rattle.std.proofs.lemmas.List.{drop_all}
+use Rattle.sled_store.specs.Words.{salt_of, writers_of}
 use Rattle.sled_core.specs.declared.iobuf.Reserved.{Reserved}
 use Rattle.sled_core.specs.declared.iobuf.Sealed.{Sealed}
 use Rattle.sled_core.specs.Buffers.{IsChain, open_in}
 use Rattle.sled_core.specs.SealedBuffers.{AreSealed, FirstUnwritten, seal_at, sealed_count, sealed_end}
 use Rattle.sled_core.proofs.Sealed.Appended.{count_one, end_one, first_one, seal_are, seal_kept}
 use Rattle.sled_core.proofs.iobuf.IoBuf.push_sealed.Goals as goal
+
+-- the word of the next buffer counts no writers
+next_word : (word next : ℕ) → next ≡ (salt_of word + 2 ^ 33) % 2 ^ 64 → writers_of next ≡ 0
+next_word word next is = omega (arith, is)
 
 pub invariant_of-self : goal.invariant_of-self
 invariant_of-self c =
@@ -18,7 +23,7 @@ invariant_of-self c =
     let end : c.len.result ≡ n = search rules in
     let count : c.len-2.result ≡ length rs = search rules in
     let new : c.push_back_reserved.new.self.items ≡ bs ++ one ∷ [] =
-    c.push_back_reserved.ensures.items ∙ (λ i. c.args.self.now.sealed.items ++ seal_kept rs first c.len.result c.len-2.result c.args.self.now.open_count n end count c.args.self.now.counted i ∷ []) in
+    c.push_back_reserved.ensures.items ∙ (λ i. c.args.self.now.sealed.items ++ seal_kept rs first c.len.result c.len-2.result c.n_writers.result n end count (c.n_writers.ensures ∙ c.args.self.now.counted) i ∷ []) in
     let at : c.len-self.result ≡ n = search rules in
     let all : c.len-self-2.result ≡ length rs = search rules in
     let none : drop c.len-self-2.result rs ≡ [] = drop_all c.len-self-2.result rs (omega (arith, all)) in
@@ -38,8 +43,8 @@ invariant_of-self c =
       before = (let counts = ap sealed_count new ∙ count_one bs one in omega (arith, all, counts, before, within, length-drop first rs));
       parted = omega (arith, all);
       chain = subst (λ (l : List Reserved). IsChain (max 20 c.len-self.result) l n) (sym none) (let begun = c.args.self.now.begun in omega (arith, at, begun));
-      counted = sym (ap open_in none);
-      few = omega arith;
+      counted = next_word c.args.self.now.word c.bump_salt-self.result c.bump_salt-self.ensures ∙ sym (ap open_in none);
+      few = let none = next_word c.args.self.now.word c.bump_salt-self.result c.bump_salt-self.ensures in omega (arith, none);
     }
 
 pub returns-clause-sealed : goal.returns-clause-sealed
@@ -49,5 +54,5 @@ returns-clause-sealed c =
     let end : c.len.result ≡ n = search rules in
     let count : c.len-2.result ≡ length rs = search rules in
     c.push_back_reserved.ensures.items
-    ∙ (λ i. c.args.self.now.sealed.items ++ seal_kept rs c.args.self.now.first c.len.result c.len-2.result c.args.self.now.open_count n end count c.args.self.now.counted i ∷ [])
+    ∙ (λ i. c.args.self.now.sealed.items ++ seal_kept rs c.args.self.now.first c.len.result c.len-2.result c.n_writers.result n end count (c.n_writers.ensures ∙ c.args.self.now.counted) i ∷ [])
     ∙ ap (λ k. c.args.self.now.sealed.items ++ seal_at n (drop k rs) ∷ []) c.args.self.now.before

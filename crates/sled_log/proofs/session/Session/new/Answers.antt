@@ -1,5 +1,5 @@
 -- A session begins with no history, on an empty device.
-use Rattle.std.proofs.Common.{◌≡◌, ◌∙◌, ℕ, [], refl, sym, ap, subst, arith}
+use Rattle.std.proofs.Common.{◌≡◌, ◌∙◌, [], refl, sym, ap, arith}
 use Rattle.sled_codec.specs.History.{no_history}
 use Rattle.sled_store.specs.Device.{fresh, state_of}
 use Rattle.sled_store.specs.declared.config.Config.{Config}

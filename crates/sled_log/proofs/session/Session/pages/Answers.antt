@@ -1,12 +1,12 @@
 -- The table is kept where a log is open.
-use Rattle.std.proofs.Common.{◌≡◌, ◌∙◌, List, Some, ap, map, sym, subst}
+use Rattle.std.proofs.Common.{◌∙◌, List, Some, ap, map, sym, subst}
 use Rattle.std.specs.Prelude.{IsSome}
 use Rattle.sled_codec.specs.PageTables.{IsTable}
 use Rattle.sled_codec.specs.Snapshots.{page_of}
 use Rattle.sled_codec.specs.declared.serialization.snapshot.PageState.{PageState}
 use Rattle.sled_log.specs.RunStates.{top}
 use Rattle.sled_log.specs.RunPhases.{view_by}
-use Rattle.sled_log.proofs.Sessions.SessionLemmas.{stands_open, stands_closed, stands_nowhere}
+use Rattle.sled_log.proofs.Sessions.SessionLemmas.{stands_open, stands_closed}
 use Rattle.sled_log.proofs.session.Session.pages.Goals as goal
 
 pub returns-in-Open : goal.returns-in-Open

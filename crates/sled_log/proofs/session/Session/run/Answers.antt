@@ -1,8 +1,7 @@
 -- A run is one command after another, by the contract of each.
-use Rattle.std.proofs.Common.{rules, ◌≡◌, ◌∙◌, ◌∷◌, ◌++◌, ◌+◌, ℕ, List, [], length, take, get_or, refl, sym, ap, subst, arith}
+use Rattle.std.proofs.Common.{rules, ◌∙◌, ◌∷◌, ◌++◌, ℕ, List, [], take, refl, sym, ap, subst, arith}
 use Rattle.std.proofs.lemmas.List.{take_all, take_more}
 use Rattle.sled_log.specs.declared.session.command.Command.{Command}
-use Rattle.sled_log.specs.declared.session.command.Command.TheVariants as command
 use Rattle.sled_log.specs.declared.session.command.Reply.{Reply}
 use Rattle.sled_log.specs.RunStates.{RunState}
 use Rattle.sled_log.specs.Runs.{Carries, Runs}

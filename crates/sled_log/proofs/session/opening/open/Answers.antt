@@ -1,11 +1,9 @@
 -- An opening goes on from what the recovery gave.
 use Rattle.std.proofs.Common.{SFits, rules, arith, ℤ, pos, negsuc, ◌≡◌, ◌≤◌, ◌<◌, ◌+◌, ℕ, List, [], refl, sym, ap, subst, inl, inr, Option, None, Some}
-use Rattle.std.specs.List.{All}
 use Rattle.std.specs.Int.{w64}
 use Rattle.sled_codec.specs.declared.serialization.snapshot.Snapshot.{Snapshot}
 use Rattle.sled_codec.specs.History.{History, below}
 use Rattle.sled_codec.specs.Snapshots.{SnapshotModel, model_of, stable_place}
-use Rattle.sled_codec.specs.PageTables.{IsTable}
 use Rattle.sled_store.specs.declared.config.Config.{Config}
 use Rattle.sled_store.specs.Device.{Trace, state_of, content_of}
 use Rattle.sled_store.specs.Script.{Performs}

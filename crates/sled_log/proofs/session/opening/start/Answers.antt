@@ -1,18 +1,16 @@
 -- A log that is started goes on where the recovered table ends, and a start that fails leaves what can be recovered.
-use Rattle.std.proofs.Common.{◌≡◌, ◌≤◌, get_or, false, ◌<◌, ◌+◌, ◌∙◌, ℕ, [], None, Some, length, refl, sym, ap, subst, arith, rules}
+use Rattle.std.proofs.Common.{◌≡◌, ◌≤◌, ◌<◌, ◌+◌, ◌∙◌, ℕ, [], None, Some, length, refl, sym, ap, subst, arith, rules}
 use Rattle.std.proofs.lemmas.List.{length-map}
 use Rattle.sled_codec.specs.Snapshots.{SnapshotModel, model_of, stable_place}
 use Rattle.sled_store.specs.Device.{Trace, state_of}
 use Rattle.sled_store.proofs.Traces.MomentLemmas.{at_last}
-use Rattle.sled_core.specs.Fits.{NoneOpen, fault_of, open_places, pins_of, position_of, reserved_end, start_of, synced_end, waiting_of}
+use Rattle.sled_core.specs.Fits.{fault_of, open_places, pins_of, position_of, reserved_end, start_of, synced_end, waiting_of}
 use Rattle.sled_core.specs.Recoverable.{LeavesRecoverable}
 use Rattle.sled_core.specs.Waiting.{spans}
-use Rattle.sled_log.proofs.Sessions.RunLemmas.{later_is, later_both, start_cause}
+use Rattle.sled_log.proofs.Sessions.RunLemmas.{start_cause}
 use Rattle.sled_log.proofs.Sessions.RunLogs.{starts_at}
 use Rattle.std.specs.List.{All}
 use Rattle.sled_core.proofs.PublicLaws.{none_is_empty}
-use Rattle.sled_log.specs.Openings.{unreserved}
-use Rattle.sled_log.specs.RunPhases.{Unstored}
 use Rattle.sled_log.proofs.session.opening.start.Goals as goal
 
 pub returns-in-Ok-clause-acts : goal.returns-in-Ok-clause-acts

@@ -11,8 +11,7 @@ use Rattle.sled_core.specs.Reading.{GivesMessage, IsInline}
 use Rattle.sled_core.specs.ReadBuffer.{IsUsedUpAt, ReadAnswers, Settles, WritesAround, held_at}
 use Rattle.sled_core.proofs.Holds.KeptCalls.{kept_still, position_still}
 use Rattle.sled_core.proofs.PublicLaws.{fits_holds}
-use Rattle.sled_log.specs.Readings.{IsOfPage, IsRead, KeepsOpen, ReadsItem}
-use Rattle.sled_log.specs.RunPhases.{Unstored, view_by}
+use Rattle.sled_log.specs.RunPhases.{view_by}
 use Rattle.sled_log.proofs.Sessions.Writing.{stays_put, was_free}
 use Rattle.sled_log.proofs.Sessions.Reading.{has_record, read_failed, was_read}
 use Rattle.sled_log.proofs.session.reading.read_item.Goals as goal

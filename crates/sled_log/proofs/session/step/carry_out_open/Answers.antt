@@ -1,5 +1,5 @@
 -- Each command is carried out by a function of its own.
-use Rattle.std.proofs.Common.{SFits, rules, ◌≡◌, refl, sym, subst, Bool, Option, None, Some}
+use Rattle.std.proofs.Common.{SFits, rules, ◌≡◌, refl, sym, subst, Bool, None, Some}
 use Rattle.std.specs.Int.{w64}
 use Rattle.std.proofs.lemmas.Int.{to_z-of_z}
 use Rattle.sled_core.specs.Fits.{config_of}

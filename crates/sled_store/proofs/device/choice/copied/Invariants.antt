@@ -1,5 +1,5 @@
 -- So far: the files up to here, and then those behind.
-use Rattle.std.proofs.Common.{◌≡◌, ◌+◌, ◌++◌, length, drop}
+use Rattle.std.proofs.Common.{◌≡◌, ◌++◌, length, drop}
 use Rattle.sled_store.specs.Noted.{files_of}
 use Rattle.sled_store.proofs.device.choice.copied.Given as goal
 

@@ -1,5 +1,5 @@
 -- A ticket is open exactly where its message is awaited.
-use Rattle.std.proofs.Common.{◌≡◌, ◌<◌, ◌∙◌, ap, sym, not, rules, refl, arith, get_or, length, ℕ, List, None, Some, Bool, Option}
+use Rattle.std.proofs.Common.{◌≡◌, ◌<◌, ◌∙◌, ap, sym, not, rules, refl, get_or, length, ℕ, List, None, Some, Bool, Option}
 use Rattle.std.specs.List.{slice_get}
 use Rattle.std.proofs.lemmas.Option.{slice_get-get_or}
 use Rattle.std.proofs.lemmas.Bool.{false≢true}
