@@ -42,7 +42,7 @@ pub(crate) fn stabilize<D: CrashDevice, C: Checksum>(opened: &mut Opened<D, C>, 
     ensures on { RunsOn D.trace (config_of opened.old.log) (config_of opened.new.log) }
 {
     match opened.log.make_stable(place) {
-        Ok(grown) => Reply::Flushed(grown),
+        Ok(more) => Reply::Flushed(more),
         Err(e) => Reply::Failed(e),
     }
 }

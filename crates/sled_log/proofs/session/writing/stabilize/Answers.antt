@@ -33,7 +33,7 @@ returns-in-Ok-clause-step g c = λ k at free.
     let position = c.make_stable.ensures.position in
     let reached : ℕ = max k.acknowledged (end_below (synced_end new) H) in
     let unheld = holding_seen old sum begun k.tickets to some ∙ sym (held_seen old sum begun k.tickets place answers.0) ∙ answers.1.0 in
-    let done : Does view sum (phase.Open opened) (told.Stable place) (phase.Open (over opened new), reply.Flushed c.in-Ok.grown) k =
+    let done : Does view sum (phase.Open opened) (told.Stable place) (phase.Open (over opened new), reply.Flushed c.in-Ok.more) k =
     record {
       not_refused = refl;
       acts = (writes_to old sum begun k.tickets to some, (c.in-Ok.ensures.made ∙ ap (λ (es : List Event). after_all es (trace (device_of old))) (stabilizing_seen old sum begun k.tickets place), answers.1.4));
@@ -41,13 +41,13 @@ returns-in-Ok-clause-step g c = λ k at free.
         record { history = H; acknowledged = reached; floor = k.floor; tickets = k.tickets },
         (
           answers.0,
-          has_written old sum begun k.tickets to some new (view old.config.device) (view new.config.device) H k.acknowledged k.floor (stays_put old new c.make_stable.ensures.tickets position) c.in-Ok.grown answers.1.2 answers.1.3 unheld c.in-Ok.ensures.answer
+          has_written old sum begun k.tickets to some new (view old.config.device) (view new.config.device) H k.acknowledged k.floor (stays_put old new c.make_stable.ensures.tickets position) c.in-Ok.more answers.1.2 answers.1.3 unheld c.in-Ok.ensures.answer
               (behind_end old sum begun k.tickets place (synced_end new) c.in-Ok.ensures.target) past c.in-Ok.ensures.buffers.above,
         ),
         still_open trace sum opened new k reached at c.make_stable.ensures.tickets position (was_free old new c.make_stable.ensures.faulty) (c.in-Ok.ensures.acknowledges H k.acknowledged k.floor at.unmarked at.fits),
       );
     } in
-    subst (λ (z : ℤ). Does view sum (phase.Open opened) (told.Stable z) (phase.Open (over opened new), reply.Flushed c.in-Ok.grown) k) (to_z-of_z w64 c.args.place c.ranges.place) done
+    subst (λ (z : ℤ). Does view sum (phase.Open opened) (told.Stable z) (phase.Open (over opened new), reply.Flushed c.in-Ok.more) k) (to_z-of_z w64 c.args.place c.ranges.place) done
 
 -- where it fails nothing of the history is another
 pub returns-in-Err-clause-step : goal.returns-in-Err-clause-step
