@@ -309,8 +309,7 @@ impl<D: Device, C: Checksum> Log<D, C> {
             IsCorruption result → IsNoPlace size lsn (lid_of ptr) ⊎ IsUnreadable C.sum_of size s.log.bytes s.blobs.file (lid_of ptr) (unsigned_abs lsn / size) }
         ensures calls { Settles D.trace C.sum_of result lsn (lid_of ptr) self.old self.new }
         ensures refused { RefusesPlace result lsn (lid_of ptr) self.old self.new }
-        ensures seals { SealsAround result lsn self.old self.new }
-        ensures buffers { WritesAround C.sum_of result lsn self.old self.new }
+        ensures buffers { SealsAround result lsn self.old self.new × WritesAround C.sum_of result lsn self.old self.new }
         ensures keeps { Preserves D.trace C.sum_of self.old self.new }
         ensures tickets { KeepsTickets self.old self.new }
         ensures position { SamePosition self.old self.new }

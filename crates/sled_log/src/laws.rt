@@ -14,7 +14,8 @@ ghost use Rattle.sled_log.specs.Replaces.{HasLast, IsOfReplaces, MayCome};
 pub fn histories_of_replaces_are_orderly()
     ensures orderly { (H : History) → IsOfReplaces H → IsOrderly H }
     ensures none { IsOfReplaces no_history }
-    ensures completed { (H H' : History) (m : Message) → IsOfReplaces H → MayCome H m → Step H (Completed m) H' → LieApart H'.messages → IsOfReplaces H' }
+    ensures completed { (H H' : History) (m : Message) → IsOfReplaces H → MayCome H m → Step H (Completed m) H' → LieApart H'.messages
+        → IsOfReplaces H' }
     ensures below { (H : History) (cut : ℕ) → IsOfReplaces H → IsOfReplaces (below H cut) }
 {}
 
@@ -27,7 +28,8 @@ pub fn a_later_message_is_appended()
 
 /// Each entry of a table is a message of its page below the cut; and the table is that of what lies below it.
 pub fn entries_stand_for_messages()
-    ensures entry { (H : History) (cut page : ℕ) (m : Message) → Contains (table H cut page) m → Contains H.messages m × (m.page ≡ page) × (m.place < cut) }
+    ensures entry { (H : History) (cut page : ℕ) (m : Message) → Contains (table H cut page) m
+        → Contains H.messages m × (m.page ≡ page) × (m.place < cut) }
     ensures below { (H : History) (cut : ℕ) (pages : List Page) → IsTable pages (below H cut) cut ↔ IsTable pages H cut }
 {}
 

@@ -18,7 +18,8 @@ pub(crate) fn complete<D: CrashDevice, C: Checksum>(
     opened: &mut Opened<D, C>,
     number: usize,
 ) -> Reply
-    ensures step { CarriesOut (view_by D.trace D.faults D.is_stopped D.stops_in) C.sum_of (Phase.Open opened.old) (told.Complete number) (Phase.Open opened.new, result) }
+    ensures step { CarriesOut (view_by D.trace D.faults D.is_stopped D.stops_in) C.sum_of
+        (Phase.Open opened.old) (told.Complete number) (Phase.Open opened.new, result) }
     ensures on { RunsOn D.trace (config_of opened.old.log) (config_of opened.new.log) }
 {
     if room_for(opened, number).is_err() {
@@ -62,7 +63,8 @@ fn room_for<D: CrashDevice, C: Checksum>(opened: &mut Opened<D, C>, number: usiz
 
 /// Gives the message of a ticket up.
 pub(crate) fn abort<D: CrashDevice, C: Checksum>(opened: &mut Opened<D, C>, number: usize) -> Reply
-    ensures step { CarriesOut (view_by D.trace D.faults D.is_stopped D.stops_in) C.sum_of (Phase.Open opened.old) (told.Abort number) (Phase.Open opened.new, result) }
+    ensures step { CarriesOut (view_by D.trace D.faults D.is_stopped D.stops_in) C.sum_of
+        (Phase.Open opened.old) (told.Abort number) (Phase.Open opened.new, result) }
     ensures on { RunsOn D.trace (config_of opened.old.log) (config_of opened.new.log) }
 {
     let Some(

@@ -18,7 +18,8 @@ use std::alloc::Global;
 
 /// Reads what a page is.
 pub(crate) fn read<D: CrashDevice, C: Checksum>(opened: &mut Opened<D, C>, page: PageId) -> Reply
-    ensures step { CarriesOut (view_by D.trace D.faults D.is_stopped D.stops_in) C.sum_of (Phase.Open opened.old) (told.Read page) (Phase.Open opened.new, result) }
+    ensures step { CarriesOut (view_by D.trace D.faults D.is_stopped D.stops_in) C.sum_of
+        (Phase.Open opened.old) (told.Read page) (Phase.Open opened.new, result) }
     ensures on { RunsOn D.trace (config_of opened.old.log) (config_of opened.new.log) }
 {
     let Some(state) = opened.pages.get(page as usize) else {

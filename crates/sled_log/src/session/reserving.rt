@@ -40,7 +40,8 @@ pub(crate) fn reserve<D: CrashDevice, C: Checksum, T: Serialize>(
 /// Makes room for one more ticket, and for the note that its page has one, unless the log keeps a failure.
 fn room_for<D: CrashDevice, C: Checksum>(opened: &mut Opened<D, C>, page: PageId) -> Result<()>
     ensures room { MakesRoom opened.old opened.new }
-    ensures enough { OnOk result (fault_of opened.old.log ≡ None → (vec_len opened.new.tickets < vec_capacity opened.new.tickets) × (page < length opened.new.busy.items)) }
+    ensures enough { OnOk result (fault_of opened.old.log ≡ None
+        → (vec_len opened.new.tickets < vec_capacity opened.new.tickets) × (page < length opened.new.busy.items)) }
     ensures whole { OnErr result (fault_of opened.old.log ≡ None) }
 {
     if opened.log.failure().is_some() {

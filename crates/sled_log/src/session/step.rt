@@ -163,7 +163,8 @@ fn carry_out_open<D: CrashDevice, C: Checksum>(
 
 /// Has the device of a log stop.
 fn stop_open<D: CrashDevice, C: Checksum>(opened: &mut Opened<D, C>, n: u64) -> Reply
-    ensures step { CarriesOut (view_by D.trace D.faults D.is_stopped D.stops_in) C.sum_of (Phase.Open opened.old) (command.Stop n) (Phase.Open opened.new, result) }
+    ensures step { CarriesOut (view_by D.trace D.faults D.is_stopped D.stops_in) C.sum_of
+        (Phase.Open opened.old) (command.Stop n) (Phase.Open opened.new, result) }
     ensures on { RunsOn D.trace (config_of opened.old.log) (config_of opened.new.log) }
 {
     opened.log.stop_after(n);

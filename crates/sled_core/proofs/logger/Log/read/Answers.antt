@@ -195,14 +195,6 @@ returns-in_err-settle-clause-refused g c =
     (err_reserved (Unit {0}) LogRead c.in_err-settle.field-0.0 _ _ _ _ _ c.in_err-settle.ensures.answers)
     (a_place (segment_size_of old) (lid_of c.args.ptr) c.lid-lid.result c.args.lsn _ yes c.may_begin.ensures.0 c.lid-lid.ensures above) (within g c))
 
-pub returns-in_err-settle-clause-seals : goal.returns-in_err-settle-clause-seals
-returns-in_err-settle-clause-seals g c =
-    let old = c.args.self.now in
-    let above : pos 0 ≤ℤ c.args.lsn = above_zero c.args.lsn c.ranges.lsn c.if-lsn-lt0.false in
-    let at : pos c.unsigned_abs-place.result ≡ c.args.lsn = at_place c.args.lsn _ c.unsigned_abs-place.result c.unsigned_abs-place.ensures.value (to_z-of_z w64 c.args.lsn c.ranges.lsn) above in
-    let e = err_from_is_err_and c.from_residual.result c.from_residual.ensures.1 in
-    rw (e.1, e.2) (seals_err c.args.lsn old c.settle.new.self c.in_err-settle.field-0.0 (subst (λ z. SealsAround {T = Unit {0}} (Err c.in_err-settle.field-0.0) z old c.settle.new.self) at c.in_err-settle.ensures.seals))
-
 pub returns-in_err-settle-clause-buffers : goal.returns-in_err-settle-clause-buffers
 returns-in_err-settle-clause-buffers g c =
     let old = c.args.self.now in
@@ -210,7 +202,10 @@ returns-in_err-settle-clause-buffers g c =
     let above : pos 0 ≤ℤ c.args.lsn = above_zero c.args.lsn c.ranges.lsn c.if-lsn-lt0.false in
     let at : pos c.unsigned_abs-place.result ≡ c.args.lsn = at_place c.args.lsn _ c.unsigned_abs-place.result c.unsigned_abs-place.ensures.value (to_z-of_z w64 c.args.lsn c.ranges.lsn) above in
     let e = err_from_is_err_and c.from_residual.result c.from_residual.ensures.1 in
-    rw (e.1, e.2) (around_err c.args.lsn old c.settle.new.self sum c.in_err-settle.field-0.0 (subst (λ z. WritesAround {T = Unit {0}} sum (Err c.in_err-settle.field-0.0) z old c.settle.new.self) at c.in_err-settle.ensures.buffers))
+    rw (e.1, e.2) (
+      seals_err c.args.lsn old c.settle.new.self c.in_err-settle.field-0.0 (subst (λ z. SealsAround {T = Unit {0}} (Err c.in_err-settle.field-0.0) z old c.settle.new.self) at c.in_err-settle.ensures.seals),
+      around_err c.args.lsn old c.settle.new.self sum c.in_err-settle.field-0.0 (subst (λ z. WritesAround {T = Unit {0}} sum (Err c.in_err-settle.field-0.0) z old c.settle.new.self) at c.in_err-settle.ensures.buffers),
+    )
 
 pub returns-in_err-settle-clause-answers : goal.returns-in_err-settle-clause-answers
 returns-in_err-settle-clause-answers g c =
@@ -261,16 +256,6 @@ returns-clause-refused g c =
 pub returns-clause-tickets : goal.returns-clause-tickets
 returns-clause-tickets g c = tickets_further c.args.self.now c.settle.new.self c.read_settled.new.self c.settle.ensures.tickets c.read_settled.ensures.tickets
 
-pub returns-clause-seals : goal.returns-clause-seals
-returns-clause-seals g c =
-    let old = c.args.self.now in
-    let mid = c.settle.new.self in
-    let new = c.read_settled.new.self in
-    let above : pos 0 ≤ℤ c.args.lsn = above_zero c.args.lsn c.ranges.lsn c.if-lsn-lt0.false in
-    let at : pos c.unsigned_abs-place.result ≡ c.args.lsn = at_place c.args.lsn _ c.unsigned_abs-place.result c.unsigned_abs-place.ensures.value (to_z-of_z w64 c.args.lsn c.ranges.lsn) above in
-    seals_read c.args.lsn old mid c.read_settled.result new tt (subst (λ z. SealsAround {T = Unit {0}} (Ok tt) z old mid) at c.in_ok-settle.ensures.seals)
-    (same_buffers mid new c.read_settled.ensures.line).0 (same_current mid new c.read_settled.ensures.line) (read_held g.C.Checksum.sum_of _ c.read_settled.result _ _ _ _ c.read_settled.ensures.answers)
-
 pub returns-clause-buffers : goal.returns-clause-buffers
 returns-clause-buffers g c =
     let old = c.args.self.now in
@@ -280,8 +265,10 @@ returns-clause-buffers g c =
     let above : pos 0 ≤ℤ c.args.lsn = above_zero c.args.lsn c.ranges.lsn c.if-lsn-lt0.false in
     let at : pos c.unsigned_abs-place.result ≡ c.args.lsn = at_place c.args.lsn _ c.unsigned_abs-place.result c.unsigned_abs-place.ensures.value (to_z-of_z w64 c.args.lsn c.ranges.lsn) above in
     let same = same_buffers mid new c.read_settled.ensures.line in
-    around_read c.args.lsn old mid sum c.read_settled.result new tt (subst (λ z. WritesAround {T = Unit {0}} sum (Ok tt) z old mid) at c.in_ok-settle.ensures.buffers)
-    same.0 same.1 (read_held sum _ c.read_settled.result _ _ _ _ c.read_settled.ensures.answers)
+    let free = read_held sum _ c.read_settled.result _ _ _ _ c.read_settled.ensures.answers in (
+      seals_read c.args.lsn old mid c.read_settled.result new tt (subst (λ z. SealsAround {T = Unit {0}} (Ok tt) z old mid) at c.in_ok-settle.ensures.seals) same.0 (same_current mid new c.read_settled.ensures.line) free,
+      around_read c.args.lsn old mid sum c.read_settled.result new tt (subst (λ z. WritesAround {T = Unit {0}} sum (Ok tt) z old mid) at c.in_ok-settle.ensures.buffers) same.0 same.1 free,
+    )
 
 pub returns-clause-answers : goal.returns-clause-answers
 returns-clause-answers g c =
