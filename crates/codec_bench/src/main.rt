@@ -8,6 +8,7 @@
 mod accounts;
 mod figure;
 mod headers;
+mod identifiers;
 mod logs;
 mod numbers;
 mod recoveries;
@@ -16,6 +17,7 @@ mod syncs;
 
 use recoveries::Shape;
 use sequence::Sequence;
+use std::num::NonZeroU64;
 use std::{env, io};
 
 fn main(rt: HostRuntime) -> io::Result<()> {
@@ -46,7 +48,22 @@ fn main(rt: HostRuntime) -> io::Result<()> {
     measure_accounts(&rt)?;
     syncs::measure_in_order(&rt)?;
     syncs::measure_shuffled(&rt, "intervals in windows of 64", 64, &mut sequence)?;
-    syncs::measure_shuffled(&rt, "intervals in windows of 4096", 4096, &mut sequence)
+    syncs::measure_shuffled(&rt, "intervals in windows of 4096", 4096, &mut sequence)?;
+    measure_identifiers(&rt)
+}
+
+// Identifiers with blocks of one, of a hundred and of ten thousand.
+fn measure_identifiers(rt: &HostRuntime) -> io::Result<()> {
+    for (name, block) in [
+        ("identifiers in blocks of 1", 1u64),
+        ("identifiers in blocks of 100", 100),
+        ("identifiers in blocks of 10000", 10000),
+    ] {
+        if let Some(block) = NonZeroU64::new(block) {
+            identifiers::measure(rt, name, block)?;
+        }
+    }
+    Ok(())
 }
 
 // Recovery of 100 MB with bodies of some lengths, and of more and more segments with as many pages more.

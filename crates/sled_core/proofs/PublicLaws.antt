@@ -1,26 +1,31 @@
 -- What a crate above may rely on of logs: where the messages lie that a log fits, what a crash leaves of its device, and that an empty device is ready.
-use Rattle.std.proofs.Common.{◌≡◌, ◌∙◌, ◌≤◌, ◌<◌, ◌+◌, ◌*◌, ◌^◌, ℕ, ℤ, pos, Bool, true, if◌then◌else◌, List, [], ◌∷◌, ◌++◌, None, rules, sym, ap, subst, arith}
+use Rattle.std.proofs.Common.{◌≡◌, ◌∙◌, ◌≤◌, ◌<◌, ◌+◌, ◌*◌, ◌^◌, ℕ, ℤ, pos, Bool, true, false, nat_lt, if◌then◌else◌, List, [], ◌∷◌, ◌++◌, Option, None, Some, rules, refl, sym, ap, subst, arith, inl, inr}
 use Rattle.std.specs.Prelude.{FitsSigned}
 use Rattle.std.specs.Int.{w64, cast_signed, cast_unsigned}
 use Rattle.std.specs.List.{All}
 use Rattle.std.proofs.lemmas.Int.{to_z-of_z}
+use Rattle.std.proofs.lemmas.List.Elements.{All-tail}
 use Rattle.sled_codec.specs.History.{History}
-use Rattle.sled_codec.specs.Snapshots.{SnapshotModel}
+use Rattle.sled_codec.specs.Snapshots.{SnapshotModel, stable_place}
+use Rattle.sled_store.specs.Begin.{offset_at, place_at}
 use Rattle.sled_store.specs.Device.{Trace, State, Content, Left, Leaves, Crashed, state_of, content_of, content_left, names_at_rest, step}
 use Rattle.sled_store.proofs.LogFile.LogLemmas.{at_rest_left}
 use Rattle.sled_store.proofs.Names.NamesLemmas.{settled_name_left, settled_name_at_rest}
 use Rattle.sled_store.proofs.Crashes.SettledLemmas.{read_left}
 use Rattle.sled_core.specs.declared.logger.Log.{Log}
-use Rattle.sled_core.specs.Fits.{NoneOpen, NoneOpenIn, IsUnchanged, IsWritten, synced_end, segment_size_of, buffers_of, current_begin, current_of, held_len, is_moved, line_of, machine_at, sealing_end, start_behind, start_of, waiting_behind, waiting_of}
-use Rattle.sled_core.specs.Waiting.{BufferAt, BufferStart, HasLength, at_last, closed_now, spans, unwritten}
+use Rattle.sled_core.specs.Fits.{FitsInline, NoneOpen, NoneOpenIn, IsUnchanged, IsWritten, synced_end, segment_size_of, buffers_of, current_begin, current_of, held_len, holding_below, is_moved, line_of, machine_at, next_place, reserved_end, sealing_end, start_behind, start_of, target_of, waiting_behind, waiting_of}
+use Rattle.sled_core.specs.Waiting.{BufferAt, BufferStart, HasLength, at_last, closed_now, first_held, held_below, spans, unwritten}
 use Rattle.sled_store.specs.SegmentStates.{next_slot}
 use Rattle.sled_core.specs.Recoverable.{NoForeign, Recoverable, LeavesRecoverable}
 use Rattle.sled_core.specs.Running.{Ready}
 use Rattle.sled_core.proofs.Flush.Settled.{leaves_less}
 use Rattle.sled_core.proofs.Holds.CallMoments.{own_after_crash}
 use Rattle.sled_core.proofs.Holds.ReachLemmas.{kept_past}
+use Rattle.sled_core.proofs.Line.Facts.{current_facts}
+use Rattle.sled_core.proofs.Line.Targets.{lies}
 use Rattle.sled_core.proofs.Line.Shows.{buffers_add, buffers_closed, buffers_free, buffers_long, buffers_still}
 use Rattle.sled_core.proofs.Line.Spans.{spans_added}
+use Rattle.sled_core.proofs.Start.Places.{goes_on_at}
 pub use Rattle.sled_core.proofs.Start.FreshReady.{fresh_leaves, fresh_ready, empty_ready, empty_recoverable}
 pub use Rattle.sled_core.proofs.Holds.KeptCalls.{goes_on_still, goes_on_further, kept_still, kept_further}
 pub use Rattle.sled_core.proofs.Holds.LastEnds.{message_acknowledged, batch_acknowledged, acknowledged_least}
@@ -61,6 +66,10 @@ shows_behind sum log page n moves =
     ∙ spans_added (waiting_of log) closed _ (buffers_closed sum log)
     ∙ sym (ap (λ (o : Bool). spans (waiting_of log) ++ record { place = current_begin log; end = (if o then next else start_of log).place; lid = (start_of log).lid } ∷ []) moves)
 
+-- The record of a message is put at the next place or behind it.
+pub target_above : {D C : Type 0} (log : Log D C) (page n : ℕ) → FitsInline (segment_size_of log) n → next_place log ≤ (target_of log page n).place
+target_above log page n inline = elim (lies (segment_size_of log) (current_of log) (machine_at log) page n log.config.config.least (current_facts log).short inline) [ inl here ↦ here.above | inr far ↦ far.above ]
+
 -- each has as many bytes as places,
 pub shows_long : {D C : Type 0} (sum : List ℕ → ℕ) (log : Log D C) → All HasLength (buffers_of sum log)
 shows_long sum log = buffers_long sum log
@@ -68,6 +77,19 @@ shows_long sum log = buffers_long sum log
 -- and none is held up where no reservation is open.
 pub none_are_held : {D C : Type 0} (sum : List ℕ → ℕ) (log : Log D C) → NoneOpen log → All (λ b. b.held ≡ None) (buffers_of sum log)
 none_are_held sum log ended = buffers_free sum log ended
+
+-- Of buffers of which none is held up none holds a write up,
+below_free : (to : ℕ) (bs : List BufferAt) → All (λ b. b.held ≡ None) bs → held_below to bs ≡ None
+below_free to [] free = refl
+below_free to (b ∷ bs) free = by (nat_lt b.place to) b.held (free 0 b (omega arith)) (below_free to bs (All-tail (λ x. x.held ≡ None) b bs free)) where
+  by : (o : Bool) (held : Option ℕ) → held ≡ None → held_below to bs ≡ None → (if o then first_held held (held_below to bs) else None) ≡ None
+  by true None is rest = rest
+  by true (Some place) is rest = cc
+  by false held is rest = refl
+
+-- so where no reservation is open nothing holds a flush up.
+pub none_holding : {D C : Type 0} (log : Log D C) (sum : List ℕ → ℕ) → NoneOpen log → holding_below sum log (reserved_end log) ≡ None
+none_holding log sum ended = below_free (reserved_end log) (buffers_of sum log) (none_are_held sum log ended)
 
 -- What is ready for a log with more acknowledged is ready for it with less.
 pub ready_with_less : (sum : List ℕ → ℕ) (size : ℕ) (device : State) (s : SnapshotModel) (H : History) (A less f : ℕ) → less ≤ A → Ready sum size device s H A f → Ready sum size device s H less f
@@ -101,6 +123,12 @@ module _ (sum : List ℕ → ℕ) (size : ℕ) (H : History) (A f : ℕ) where
   pub crash_recoverable : (trace : Trace) (left : Left) → LeavesRecoverable sum size H A f (state_of trace) → Leaves (state_of trace) (content_left left (state_of trace)) → NoForeign sum size (state_of trace) (content_left left (state_of trace))
       → Recoverable sum size (content_left left (state_of trace)) H A f × LeavesRecoverable sum size H A f (state_of (Crashed left ∷ trace))
   crash_recoverable trace left leaves may own = let can = leaves (content_left left (state_of trace)) may own in (can, crashed_leaves left (state_of trace) can)
+
+-- A log that is started on what is ready goes on at the place of its snapshot.
+pub ready_place : (sum : List ℕ → ℕ) (size : ℕ) (device : State) (s : SnapshotModel) (H : History) (A f : ℕ) → 0 < size → Ready sum size device s H A f
+    → place_at size (stable_place s.stable) s.active + offset_at size (stable_place s.stable) s.active ≡ stable_place s.stable
+unfolding Ready
+ready_place sum size device s H A f some ready = goes_on_at size (stable_place s.stable) s.active some ready.active
 
 -- What a crash left stays the log's own once it is what is read.
 pub own_behind_crash : (sum : List ℕ → ℕ) (size : ℕ) (left : Left) (trace : Trace) → NoForeign sum size (state_of trace) (content_left left (state_of trace))

@@ -8,6 +8,7 @@ pub mod KeptActive
 pub mod OpenLemmas
 pub mod PaddedActive
 pub mod PlacedEntries
+pub mod Places
 pub mod ReadyLemmas
 pub mod ReadyStarts
 pub mod Recoverable

@@ -8,8 +8,9 @@ ghost use Rattle.sled_codec.specs.Record.{IsHeader};
 ghost use Rattle.sled_codec.specs.WellFormed.{LieApart};
 ghost use Rattle.sled_store.specs.Device.{Trace, State, Left, Leaves, Crashed, state_of, content_of, content_left, at_rest, fresh, Content, Settled, Wrote, Synced, step};
 ghost use Rattle.sled_store.specs.Moments.{IsLater, LeavesOnly};
-ghost use Rattle.sled_core.specs.Fits.{Awaits, Holds, IsLeastOpen, IsUnchanged, IsWritten, NoneOpen, buffers_of, current_begin, device_of, held_len, is_moved, next_place, open_of, open_places, reserved_end, sealing_end, segment_size_of, start_behind, start_of, synced_end, waiting_behind, waiting_of};
-ghost use Rattle.sled_codec.specs.Snapshots.{SnapshotModel, empty_model};
+ghost use Rattle.sled_core.specs.Fits.{Awaits, FitsInline, Holds, IsLeastOpen, IsUnchanged, IsWritten, NoneOpen, buffers_of, current_begin, device_of, held_len, holding_below, is_moved, next_place, open_of, open_places, reserved_end, sealing_end, segment_size_of, start_behind, start_of, synced_end, target_of, waiting_behind, waiting_of};
+ghost use Rattle.sled_codec.specs.Snapshots.{SnapshotModel, empty_model, stable_place};
+ghost use Rattle.sled_store.specs.Begin.{offset_at, place_at};
 ghost use Rattle.sled_core.specs.Waiting.{HasLength, spans};
 ghost use Rattle.sled_core.specs.Keeps.{GoesOn, Preserves};
 ghost use Rattle.sled_core.specs.Reading.{IsInline};
@@ -35,7 +36,7 @@ pub fn a_fitting_log_holds<D: Device, C: Checksum>()
 
 /// The messages of a history that a log fits lie below its next place, one behind another. Those that are not stable yet
 /// have inline pointers, and so have the messages of tickets. The places of these, and the end of what was reserved, lie
-/// below 2^63.
+/// below 2^63. The record of a message that comes is put at the next place or behind it.
 pub fn messages_lie_in_order<D: Device, C: Checksum>()
     ensures below { (log : Log D C) (H : History) (A f : ℕ) (U : List Message) → Fits D.trace C.sum_of log H A f U
         → All (λ m. m.place < next_place log) H.messages }
@@ -45,6 +46,7 @@ pub fn messages_lie_in_order<D: Device, C: Checksum>()
     ensures awaited { (log : Log D C) (ticket : Reservation) (m : Message) → Awaits log ticket m → IsInline m.pointer }
     ensures small { (log : Log D C) (ticket : Reservation) (m : Message) → Awaits log ticket m → m.place < 2 ^ 63 }
     ensures reserved { (log : Log D C) → reserved_end log < 2 ^ 63 }
+    ensures target { (log : Log D C) (page n : ℕ) → FitsInline (segment_size_of log) n → next_place log ≤ (target_of log page n).place }
 {}
 
 /// What counts as acknowledged once all below a place is durable (`end_below`) is the greatest end of what begins there:
@@ -55,6 +57,12 @@ pub fn what_is_durable_is_acknowledged()
         → (b.low < end_below place H) × (b.peg < end_below place H) }
     ensures least { (place n : ℕ) (H : History) → ((m : Message) → Contains H.messages m → m.place < place → m.place + m.size ≤ n)
         → ((b : Batch) → Contains H.batches b → b.low < place → (b.low < n) × (b.peg < n)) → end_below place H ≤ n }
+{}
+
+/// A log that is started on what is ready goes on at the place of its snapshot.
+pub fn a_log_goes_on_where_its_snapshot_ends<C: Checksum>()
+    ensures { (size : ℕ) (device : State) (s : SnapshotModel) (H : History) (A f : ℕ) → 0 < size → Ready C.sum_of size device s H A f
+        → place_at size (stable_place s.stable) s.active + offset_at size (stable_place s.stable) s.active ≡ stable_place s.stable }
 {}
 
 /// What a flush wrote ends at the stable end at most.
@@ -75,9 +83,10 @@ pub fn a_log_shows_its_buffers<D: Device, C: Checksum>()
     ensures long { (log : Log D C) → All HasLength (buffers_of C.sum_of log) }
 {}
 
-/// Where no reservation is open, none holds a buffer up.
+/// Where no reservation is open, none holds a buffer up, nor a flush.
 pub fn where_none_is_open_none_is_held<D: Device, C: Checksum>()
-    ensures { (log : Log D C) → NoneOpen log → All (λ b. b.held ≡ None) (buffers_of C.sum_of log) }
+    ensures buffers { (log : Log D C) → NoneOpen log → All (λ b. b.held ≡ None) (buffers_of C.sum_of log) }
+    ensures flush { (log : Log D C) → NoneOpen log → holding_below C.sum_of log (reserved_end log) ≡ None }
 {}
 
 /// The places of the open reservations of a log say what is seen of them: there are none exactly where none is open; a buffer

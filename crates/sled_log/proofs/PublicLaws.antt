@@ -1,22 +1,29 @@
 -- What a crate above may rely on of histories and tables: a history of Replaces in the order of pages stays orderly, a message of a greater place is appended, and a table has the last message of each page.
+use Rattle.std.specs.Prelude.{◌↔◌}
 use Rattle.std.proofs.Common.{⊎_elim, ◌≡◌, ◌∙◌, ◌<◌, ◌≤◌, ℕ, ◌&&◌, if◌then◌else◌, cond, nat_lt, List, [], ◌∷◌, ◌++◌, length, Option, Some, None, refl, sym, ap, subst, arith, pos}
 use Rattle.std.specs.List.{All, Contains}
 use Rattle.std.proofs.lemmas.List.{append-nil}
 use Rattle.std.proofs.lemmas.List.Elements.{All-head, All-tail, All-filter, All-contains, Contains-append_right}
 use Rattle.sled_codec.specs.declared.serialization.message.LogKind.{LogKind}
 use Rattle.sled_codec.specs.declared.serialization.message.LogKind.TheVariants.{Replace}
-use Rattle.sled_codec.specs.History.{Message, History, Completed, Step, begins_page, is_replace, is_link, later_or, last_beginning, entries_from, page_state, of_page, table, HasPage}
+use Rattle.sled_codec.specs.History.{Message, History, Completed, Step, begins_page, is_replace, is_link, later_or, last_beginning, entries_from, page_state, of_page, table, below, HasPage}
 use Rattle.sled_codec.specs.PageTables.{IsTable, entry_of, page_with}
 use Rattle.sled_codec.specs.Snapshots.{Page, Present, Free}
 use Rattle.sled_store.proofs.Segments.Elements.{no_element}
 use Rattle.sled_log.specs.Replaces.{HasLast, IsOfReplaces}
 use Rattle.sled_store.proofs.Histories.Ascending.{Ascends, apart_ascends, in_first, in_rest, in_cases, in_nothing, later_above}
 use Rattle.sled_log.proofs.PageTable.PageRuns.{links_behind}
+use Rattle.sled_log.proofs.Sessions.MadeHistories.{below_in, from_below}
 use Rattle.sled_store.proofs.Histories.TableParts.{in_page, page_ascends, has_page}
 pub use Rattle.sled_log.proofs.Sessions.RunHistories.{orderly, none_orderly, completed, forgotten}
 pub use Rattle.sled_log.proofs.Sessions.MadeHistories.{new_there}
+pub use Rattle.sled_log.proofs.Sessions.RunLemmas.{may_be_left}
 pub use Rattle.sled_log.proofs.PageTable.TableCuts.{table_below}
 pub use Rattle.sled_store.proofs.Histories.TableParts.{from_page, from_table}
+
+-- What is left below a cut is what begins there.
+pub kept_below : (H : History) (cut : ℕ) (m : Message) → Contains (below H cut).messages m ↔ (Contains H.messages m × (m.place < cut))
+kept_below H cut m = (λ there. from_below H cut m there, λ old. below_in H cut m old.0 old.1)
 
 -- A message behind all others is appended.
 pub appended : (H H' : History) (m : Message) → Step H (Completed m) H' → All (λ x. x.place < m.place) H.messages → (H'.messages ≡ H.messages ++ m ∷ []) × (H'.batches ≡ H.batches)

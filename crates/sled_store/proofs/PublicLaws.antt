@@ -2,13 +2,15 @@
 use Rattle.std.proofs.Common.{◌∙◌, [], ◌++◌, refl, ap, sym, append_assoc}
 use Rattle.sled_store.specs.Device.{Trace, State, Content, state_of}
 use Rattle.sled_store.specs.Moments.{AllLeft, IsLater, LeavesOnly}
-use Rattle.sled_store.proofs.Traces.MomentLemmas.{started, joined, at_first, at_last, weaker}
 -- truthful marks: what holds of an unused log and is kept by each step, and what follows from it
 pub use Rattle.sled_store.proofs.Marks.Tracked.{IsHeld, IsActiveAt, IsActiveOrBelow, IsTracked}
 pub use Rattle.sled_store.proofs.Marks.MarkedLemmas.{IsTruthful, truthful, unused_truthful, handed_out_truthful, linked_truthful, replaced_truthful, batched_truthful, stabilized_truthful, popped_truthful}
 pub use Rattle.sled_store.proofs.Marks.MarkLaws.{linked_or_superseded, from_mark_linked, counted, none_in_done, above_mark_linked, none_in_free, next_is_free, needed_elsewhere, former_may, marked_linked}
 pub use Rattle.sled_store.proofs.Marks.HeldLemmas.{holds_standing, entry_counted}
 pub use Rattle.sled_store.proofs.Marks.MarkLaws.{one_slot, place_aligned, idle_stable, gone_there, gone_replaced, freed_stable}
+
+-- what holds at each moment between two traces: at the first one, at the last one, over the calls of both of two runs, and what it implies
+pub use Rattle.sled_store.proofs.Traces.MomentLemmas.{started, joined, at_first, at_last, weaker}
 
 -- Each trace goes on from itself.
 pub later_same : (trace : Trace) → IsLater trace trace

@@ -2,7 +2,7 @@
 //! no value of their own, and laws.
 
 use crate::tally::Tally;
-use crate::{orders, sessions};
+use crate::{identifiers, orders, sessions};
 use sled_codec::history::{Message, entries_of_page};
 use sled_codec::serialization::bytes::copy_in;
 use sled_codec::serialization::laws;
@@ -76,6 +76,35 @@ pub fn run(alloc: Global, tally: &mut Tally<'_>) {
         known(sessions::keeps_failure(alloc)),
     );
     holds(tally, 21, "orders of writes", known(orders::hold(alloc)));
+    hold_identifiers(alloc, tally);
+}
+
+// Identifiers of a generator over the log.
+fn hold_identifiers(alloc: Global, tally: &mut Tally<'_>) {
+    holds(
+        tally,
+        22,
+        "identifiers over flushes",
+        known(identifiers::ascend_over_flushes(alloc)),
+    );
+    holds(
+        tally,
+        23,
+        "identifiers over openings",
+        known(identifiers::ascend_over_openings(alloc)),
+    );
+    holds(
+        tally,
+        24,
+        "identifiers over segments",
+        known(identifiers::fill_segments(alloc)),
+    );
+    holds(
+        tally,
+        25,
+        "identifiers used up",
+        known(identifiers::are_used_up(alloc)),
+    );
 }
 
 // The laws of histories, devices and logs, each called at one type.
@@ -83,6 +112,7 @@ fn laws_of_logs() {
     store_laws::traces_go_on();
     core_laws::a_fitting_log_holds::<MemDevice, PlaceSum>();
     core_laws::messages_lie_in_order::<MemDevice, PlaceSum>();
+    core_laws::a_log_goes_on_where_its_snapshot_ends::<PlaceSum>();
     core_laws::written_messages_are_stable::<MemDevice, PlaceSum>();
     core_laws::an_unchanged_log_has_none_open::<MemDevice, PlaceSum>();
     core_laws::a_place_comes_back();
@@ -104,6 +134,8 @@ fn laws_of_logs() {
     core_laws::places_not_synced_are_beyond();
     log_laws::histories_of_replaces_are_orderly();
     log_laws::a_later_message_is_appended();
+    log_laws::a_cut_keeps_what_begins_below();
+    log_laws::a_device_leaves_what_a_crash_may_leave();
     log_laws::entries_stand_for_messages();
     log_laws::a_table_has_the_last_messages();
 }

@@ -11,6 +11,7 @@ mod codecs;
 mod devices;
 mod functions;
 mod hostile;
+mod identifiers;
 mod intervals;
 mod lines;
 mod logs;

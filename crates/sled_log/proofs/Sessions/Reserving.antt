@@ -33,7 +33,7 @@ use Rattle.sled_core.specs.Waiting.{at_last, closed_now, last_of, spans, start_i
 use Rattle.sled_core.proofs.Line.Entered.{filled_last}
 use Rattle.sled_core.proofs.Line.Facts.{current_facts}
 use Rattle.sled_core.proofs.Line.Targets.{LiesHere, LiesNext, lies}
-use Rattle.sled_core.proofs.PublicLaws.{awaited, awaited_inline, awaited_small, current_count, current_least, fits_reach, shows_behind}
+use Rattle.sled_core.proofs.PublicLaws.{awaited, awaited_inline, awaited_small, current_count, current_least, fits_reach, shows_behind, target_above as put_above}
 use Rattle.sled_core.proofs.Reserve.ReserveLemmas.{there_append, there_last}
 use Rattle.sled_store.proofs.Histories.TableParts.{from_page}
 use Rattle.sled_log.specs.declared.session.opened.Opened.{Opened}
@@ -182,7 +182,7 @@ module _ {D C : Type 0} (log : Log D C) (begun : ℕ) (tickets : List (Option Me
 
   -- the record is put behind what was reserved
   pub target_above : next_place log ≤ q.place
-  target_above = elim target [ inl here ↦ here.above | inr far ↦ far.above ]
+  target_above = put_above log page n inline
 
   pub reserved_below : reserved_end log ≤ q.place
   reserved_below =

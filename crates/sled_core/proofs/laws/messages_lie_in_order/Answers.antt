@@ -1,4 +1,4 @@
-use Rattle.sled_core.proofs.PublicLaws.{fits_reach, fits_apart, fits_inline, awaited_inline, awaited_small, reserved_small}
+use Rattle.sled_core.proofs.PublicLaws.{fits_reach, fits_apart, fits_inline, awaited_inline, awaited_small, reserved_small, target_above}
 use Rattle.sled_core.proofs.laws.messages_lie_in_order.Goals as goal
 
 pub returns-clause-below : goal.returns-clause-below
@@ -18,3 +18,6 @@ returns-clause-small g c = λ log ticket m awaits. awaited_small log ticket m aw
 
 pub returns-clause-reserved : goal.returns-clause-reserved
 returns-clause-reserved g c = λ log. reserved_small log
+
+pub returns-clause-target : goal.returns-clause-target
+returns-clause-target g c = λ log page n inline. target_above log page n inline

@@ -22,7 +22,8 @@ use Rattle.sled_log.specs.Orderly.{CanRecover}
 use Rattle.sled_log.specs.Restarts.{FlushFails}
 use Rattle.sled_log.specs.Restores.{RecoveryCalls, Restores}
 use Rattle.sled_log.proofs.Ready.ComesBack.{ready_kept}
-use Rattle.sled_log.proofs.Sessions.RunLogs.{end_rises, none_holding}
+use Rattle.sled_core.proofs.PublicLaws.{none_holding}
+use Rattle.sled_log.proofs.Sessions.RunLogs.{end_rises}
 use Rattle.sled_log.proofs.WriteBack.RestartCauses.{flush_fails, some_of}
 use Rattle.sled_log.proofs.restart.restart.Goals as goal
 

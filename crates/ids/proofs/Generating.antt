@@ -1,0 +1,244 @@
+-- A generator's log: what a further bound makes of it, and what a flush does.
+use Rattle.std.proofs.Common.{◌≡◌, ◌∙◌, inl, inr, ◌≤◌, ◌<◌, ◌+◌, ◌^◌, ℕ, ℤ, Bool, true, false, if◌then◌else◌, max, List, [], ◌∷◌, ◌++◌, length, length-append, Option, None, Some, Err, refl, sym, ap, subst, arith}
+use Rattle.std.specs.declared.io.Error.{Error as IoError}
+use Rattle.std.specs.List.{All}
+use Rattle.std.proofs.lemmas.List.Elements.{All-weaker}
+use Rattle.sled_codec.specs.declared.result.DiskPtr.{DiskPtr}
+use Rattle.sled_codec.specs.declared.result.Error.{Error}
+use Rattle.sled_codec.specs.declared.result.Error.TheVariants as error
+use Rattle.sled_codec.specs.declared.serialization.message.LogKind.TheVariants.{Replace}
+use Rattle.sled_codec.specs.declared.serialization.message.MessageKind.{MessageKind}
+use Rattle.sled_codec.specs.History.{Completed, History, Message, Step}
+use Rattle.sled_codec.specs.Spelling.{short_number}
+use Rattle.sled_codec.specs.SpellingLaws.{length-short_number, short_spells-number}
+use Rattle.sled_codec.specs.WellFormed.{LieApart}
+use Rattle.sled_store.specs.declared.config.RunningConfig.{RunningConfig}
+use Rattle.sled_store.specs.Device.{Trace, state_of}
+use Rattle.sled_store.specs.Moments.{Throughout}
+use Rattle.sled_store.proofs.PublicLaws.{joined, started}
+use Rattle.sled_core.specs.declared.logger.Log.{Log}
+use Rattle.sled_core.specs.declared.reservation.Reservation.{Reservation}
+use Rattle.sled_core.specs.Causes.{FaultAnswers, HeldAnswers, ReserveAnswers}
+use Rattle.sled_core.specs.Fits.{Awaits, FitsInline, current_begin, device_of, is_moved, message_for, next_place, open_for, open_of, open_places, reserved_end, segment_size_of, synced_end}
+use Rattle.sled_core.specs.Keeps.{ConfigKept, GoesOn, Preserves}
+use Rattle.sled_core.specs.OpenPlaces.{TakesOut, places_from}
+use Rattle.sled_core.specs.Running.{Fits, end_below}
+use Rattle.sled_core.proofs.PublicLaws.{awaited_inline, current_count, fits_apart, fits_leaves, fits_reach, message_acknowledged, target_above}
+use Rattle.ids.specs.Bounds.{GivesFrom, HasBound}
+use Rattle.ids.specs.declared.generator.IdGenerator.{IdGenerator}
+use Rattle.ids.specs.Generators.{Generates, GivesOn, HasBounds, NextFails, asked_of, block_of, bound_of, running, size_of}
+use Rattle.ids.proofs.BoundLemmas.{bound_there, bounds_added, has_size, most_added, reserves_less, reserves_still}
+use Rattle.ids.proofs.Moments.{gives_less, gives_now, gives_throughout, through_less}
+
+module _ {D C : Type 0} (trace : D → Trace) (sum : List ℕ → ℕ) where
+  -- What a log with bounds gives from now,
+  pub has_gives : (log : Log D C) (bound asked : ℕ) → HasBounds trace sum log bound asked → GivesFrom sum (segment_size_of log) bound asked (state_of (trace (device_of log)))
+  has_gives log bound asked has =
+      gives_now sum (segment_size_of log) bound asked has.history has.acknowledged has.floor has.bounds has.reserved has.most (state_of (trace (device_of log)))
+      (fits_leaves trace sum log has.history has.acknowledged has.floor has.unmarked has.fits)
+
+  -- which is what a generator has of its own;
+  pub generates_has : (g : IdGenerator D C) → Generates trace sum g → HasBounds trace sum g.log g.bound g.asked
+  unfolding Generates
+  generates_has g generates = generates
+
+  pub has_generates : (g : IdGenerator D C) → HasBounds trace sum g.log g.bound g.asked → Generates trace sum g
+  unfolding Generates
+  has_generates g has = has
+
+  -- as a generator has it,
+  pub generates_gives : (g : IdGenerator D C) → Generates trace sum g → GivesFrom sum (size_of g) (bound_of g) (asked_of g) (state_of (trace (running g).device))
+  unfolding Generates
+  generates_gives g generates = has_gives g.log g.bound g.asked generates
+
+  -- and where nothing is done,
+  pub gives_still : (g : IdGenerator D C) → GivesOn trace sum g g
+  gives_still g = record {
+    asked = omega arith;
+    block = refl;
+    generates = λ generates. generates;
+    keeps = λ generates. started (GivesFrom sum (size_of g) (bound_of g) (asked_of g + block_of g)) (trace (running g).device)
+        (gives_less sum (size_of g) (bound_of g) (bound_of g) (asked_of g) (asked_of g + block_of g) (state_of (trace (running g).device)) (omega arith) (omega arith) (generates_gives g generates));
+    config = record { config = refl; checksum = refl };
+  }
+
+  -- and while it goes on.
+  pub has_throughout : (old new : Log D C) (bound asked : ℕ) → HasBounds trace sum old bound asked → GoesOn trace sum old new
+      → Throughout (GivesFrom sum (segment_size_of old) bound asked) (trace (device_of old)) (trace (device_of new))
+  has_throughout old new bound asked has goes =
+      gives_throughout sum (segment_size_of old) bound asked has.history has.acknowledged has.floor has.bounds has.reserved has.most (trace (device_of old)) (trace (device_of new))
+      (goes.crash has.history has.acknowledged has.floor has.unmarked has.fits)
+
+  -- So it is over two calls one behind another, of which the first asks for a bound.
+  pub asked_then : (old mid : IdGenerator D C) (new : Log D C) → size_of mid ≡ size_of old → bound_of mid ≡ bound_of old → asked_of mid ≤ asked_of old + block_of old → Generates trace sum mid → GoesOn trace sum mid.log new
+      → Throughout (GivesFrom sum (size_of old) (bound_of old) (asked_of old + block_of old)) (trace (running old).device) (trace (running mid).device)
+      → Throughout (GivesFrom sum (size_of old) (bound_of old) (asked_of old + block_of old)) (trace (running old).device) (trace (device_of new))
+  asked_then old mid new size bound asked generates goes first =
+      joined (GivesFrom sum (size_of old) (bound_of old) (asked_of old + block_of old)) (trace (running old).device) (trace (running mid).device) (trace (device_of new)) first
+      (through_less sum (size_of old) (bound_of mid) (bound_of old) (asked_of mid) (asked_of old + block_of old) (trace (running mid).device) (trace (device_of new)) (omega (arith, bound)) asked
+      (subst (λ n. Throughout (GivesFrom sum n (bound_of mid) (asked_of mid)) (trace (running mid).device) (trace (device_of new))) size
+      (has_throughout mid.log new mid.bound mid.asked (generates_has mid generates) goes)))
+
+  -- A call that keeps what the log holds keeps its bounds.
+  pub has_still : (old new : Log D C) (bound asked : ℕ) → Preserves trace sum old new → reserved_end old ≤ reserved_end new → HasBounds trace sum old bound asked → HasBounds trace sum new bound asked
+  has_still old new bound asked keeps le has = record {
+    history = has.history;
+    acknowledged = has.acknowledged;
+    floor = has.floor;
+    unmarked = has.unmarked;
+    fits = keeps.fits has.history has.acknowledged has.floor has.unmarked has.fits;
+    bounds = has.bounds;
+    reserved = has.reserved;
+    most = has.most;
+    there = elim has.there [
+      | inl none ↦ inl none
+      | inr x ↦ inr (record { message = x.message; there = x.there; ends = (let ends = x.ends in omega (arith, ends, le)); bound = x.bound; has = x.has; enough = x.enough })
+    ];
+  }
+
+  -- A flush, which makes all durable that was reserved.
+  pub has_flushed : (old new : Log D C) (bound asked : ℕ) → bound ≤ asked → reserved_end old ≤ synced_end new → reserved_end new ≡ reserved_end old
+      → ((H : History) (A f : ℕ) (U : List Message) → Fits trace sum old H A f U → Fits trace sum new H (max A (end_below (synced_end new) H)) f U)
+      → HasBounds trace sum old bound asked → HasBounds trace sum new asked asked
+  has_flushed old new bound asked le whole same acknowledges has =
+      let H = has.history in
+      let A : ℕ = max has.acknowledged (end_below (synced_end new) H) in
+      record {
+        history = H;
+        acknowledged = A;
+        floor = has.floor;
+        unmarked = has.unmarked;
+        fits = acknowledges H has.acknowledged has.floor has.unmarked has.fits;
+        bounds = has.bounds;
+        reserved = elim has.there [
+          | inl none ↦ reserves_less H (max has.acknowledged has.floor) (max A has.floor) bound asked (omega arith) (omega (arith, none)) has.reserved
+          | inr x ↦ (
+              let some = has_size H.messages x.message has.bounds.replaces.apart x.there in
+              let ends = x.ends in
+              let durable = message_acknowledged (synced_end new) H x.message x.there (omega (arith, some, ends, whole)) in
+              inr (record { message = x.message; there = x.there; ends = omega (arith, durable); bound = x.bound; has = x.has; enough = x.enough }))
+        ];
+        most = has.most;
+        there = inl refl;
+      }
+
+  -- The bound of a further block, which was reserved and completed.
+  module _ (log mid new : Log D C) (ticket : Reservation) (bound most asked : ℕ) (has : HasBounds trace sum log bound most) (higher : most ≤ asked) (small : asked < 2 ^ 64)
+      (inline : FitsInline (segment_size_of log) (length (short_number asked))) (first : Preserves trace sum log mid) (awaits : Awaits mid ticket (message_for log Replace 0 (short_number asked)))
+      (put : reserved_end mid ≡ (message_for log Replace 0 (short_number asked)).place + (message_for log Replace 0 (short_number asked)).size) (same : reserved_end new ≡ reserved_end mid)
+      (goes : GoesOn trace sum mid new)
+      (fits : (H : History) (A f : ℕ) (U : List Message) → Fits trace sum mid H A f U → (H' : History) × Step H (Completed (message_for log Replace 0 (short_number asked))) H' × Fits trace sum new H' A f (message_for log Replace 0 (short_number asked) ∷ U)) where
+    abbrev m : Message
+    m = message_for log Replace 0 (short_number asked)
+
+    abbrev after : (H' : History) × Step has.history (Completed m) H' × Fits trace sum new H' has.acknowledged has.floor (m ∷ has.unmarked)
+    after = fits has.history has.acknowledged has.floor has.unmarked (first.fits has.history has.acknowledged has.floor has.unmarked has.fits)
+
+    spells : HasBound m asked
+    spells = short_spells-number asked small
+
+    behind : All (λ x. x.place < m.place) has.history.messages
+    behind =
+        let up = target_above log 0 (length (short_number asked)) inline in
+        All-weaker (λ x. x.place < next_place log) (λ x. x.place < m.place) (λ x low. omega (arith, low, up)) has.history.messages
+        (fits_reach trace sum log has.history has.acknowledged has.floor has.unmarked has.fits)
+
+    apart : LieApart after.0.messages
+    apart = fits_apart trace sum new after.0 has.acknowledged has.floor (m ∷ has.unmarked) after.2
+
+    pub has_asked : HasBounds trace sum new bound asked
+    has_asked = record {
+      history = after.0;
+      acknowledged = has.acknowledged;
+      floor = has.floor;
+      unmarked = m ∷ has.unmarked;
+      fits = after.2;
+      bounds = bounds_added has.history after.0 m asked most after.1 has.bounds has.most higher refl refl (awaited_inline mid ticket m awaits) spells behind apart;
+      reserved = reserves_still has.history after.0 m asked most after.1 has.bounds has.most higher refl refl (awaited_inline mid ticket m awaits) spells behind apart (max has.acknowledged has.floor) bound has.reserved;
+      most = most_added has.history after.0 m asked most after.1 has.bounds has.most higher refl refl (awaited_inline mid ticket m awaits) spells behind apart;
+      there = inr (record {
+        message = m;
+        there = bound_there has.history after.0 m asked most after.1 has.bounds has.most higher refl refl (awaited_inline mid ticket m awaits) spells behind apart;
+        ends = omega (arith, put, same);
+        bound = asked;
+        has = spells;
+        enough = omega arith;
+      });
+    }
+
+-- What runs it is the same over two calls.
+pub config_then : {D C : Type 0} {old mid new : RunningConfig D C} → ConfigKept old mid → ConfigKept mid new → ConfigKept old new
+config_then first second = record { config = second.config ∙ first.config; checksum = second.checksum ∙ first.checksum }
+
+-- A number has always room in a record.
+pub number_fits : (size n : ℕ) → 256 ≤ size → n < 2 ^ 64 → FitsInline size (length (short_number n))
+number_fits size n least small = let short = (length-short_number n small).1 in omega (arith, short, least)
+
+-- What a reservation answers where none is open.
+
+some_kind : (kind : MessageKind) → Some kind ≡ None → ⊥
+some_kind kind is = cc
+
+some_error : (e : IoError) → None ≡ Some e → ⊥
+some_error e is = cc
+
+some_place : (place : ℕ) → None ≡ Some place → ⊥
+some_place place is = cc
+
+-- none is open of the buffer that a record would be of
+pub none_for : {D C : Type 0} (log : Log D C) (page n : ℕ) → open_places log ≡ [] → open_for log page n ≡ 0
+none_for log page n none = by (is_moved log page n) where
+  count : open_of log ≡ 0
+  count = current_count log ∙ ap (λ (ps : List ℕ). length (places_from (current_begin log) ps)) none
+
+  by : (moved : Bool) → (if moved then 0 else open_of log) ≡ 0
+  by true = refl
+  by false = count
+
+-- Behind the end of the one reservation that was open none is.
+none_left : (place q : ℕ) (old new : List ℕ) → old ≡ q ∷ [] → TakesOut place old new → new ≡ []
+none_left place q old new one takes = takes.is ∙ by takes.before takes.after (sym one ∙ takes.was) where
+  by : (before after : List ℕ) → q ∷ [] ≡ before ++ place ∷ after → before ++ after ≡ []
+  by [] [] is = refl
+  by [] (a ∷ more) is = absurd (let long = ap (λ (l : List ℕ). length l) is in omega (arith, long))
+  by (b ∷ bs) rest is = absurd (let long = ap (λ (l : List ℕ). length l) is in let parts = length-append bs (place ∷ rest) in omega (arith, long, parts))
+
+pub none_behind : (place : ℕ) (old mid new : List ℕ) → mid ≡ old ++ place ∷ [] → old ≡ [] → TakesOut place mid new → new ≡ []
+none_behind place old mid new puts none takes = none_left place place mid new (puts ∙ ap (λ (ps : List ℕ). ps ++ place ∷ []) none) takes
+
+-- Where the log keeps no failure, an end doesn't fail.
+pub ends_well : (e : Error) (fault : Option IoError) → fault ≡ None → FaultAnswers {T = ℤ × DiskPtr} (Err e) fault → ⊥
+ends_well (error.Io e) fault none answers = some_error e (sym none ∙ answers)
+ends_well error.OutOfMemory fault none answers = answers
+ends_well error.PlacesUsedUp fault none answers = answers
+ends_well (error.Unsupported text) fault none answers = answers
+ends_well (error.Held at) fault none answers = answers
+ends_well (error.Corruption at) fault none answers = answers
+ends_well (error.NotReserved at) fault none answers = answers
+ends_well (error.CollectionNotFound name) fault none answers = answers
+ends_well (error.ReportableBug text) fault none answers = answers
+
+-- It fails only as a generator may.
+pub reserve_fails : (e : Error) (old new : Option IoError) (before now count : ℕ) (kind : MessageKind) (used : Type 0) (least : ℤ → Type 0) → new ≡ old → now ≡ before → count ≡ 0
+    → ReserveAnswers {T = Reservation} (Err e) old (Some kind) used count least → NextFails e old new before now
+reserve_fails (error.Io e) old new before now count kind used least same counted none answers = inl (answers, same ∙ answers, counted)
+reserve_fails error.OutOfMemory old new before now count kind used least same counted none answers = (answers.0, same ∙ answers.0, counted)
+reserve_fails error.PlacesUsedUp old new before now count kind used least same counted none answers = (same, counted)
+reserve_fails (error.Unsupported text) old new before now count kind used least same counted none answers = absurd (some_kind kind answers.1)
+reserve_fails (error.Held at) old new before now count kind used least same counted none answers = absurd (let full = answers.3 in omega (arith, full, none))
+reserve_fails (error.Corruption at) old new before now count kind used least same counted none answers = absurd answers
+reserve_fails (error.NotReserved at) old new before now count kind used least same counted none answers = absurd answers
+reserve_fails (error.CollectionNotFound name) old new before now count kind used least same counted none answers = absurd answers
+reserve_fails (error.ReportableBug text) old new before now count kind used least same counted none answers = absurd answers
+
+-- So does a flush that nothing holds.
+pub flush_fails : (e : Error) (held : Option ℕ) (used : Type 0) (old new : Option IoError) (before now : ℕ) → held ≡ None → HeldAnswers {T = ℕ} (Err e) held used old new before now → NextFails e old new before now
+flush_fails (error.Io e) held used old new before now free answers = answers
+flush_fails error.OutOfMemory held used old new before now free answers = answers
+flush_fails error.PlacesUsedUp held used old new before now free answers = (answers.2 ∙ sym answers.1, answers.3)
+flush_fails (error.Held at) held used old new before now free answers = absurd (some_place answers.0.0 (sym free ∙ answers.0.1))
+flush_fails (error.Unsupported text) held used old new before now free answers = absurd answers
+flush_fails (error.Corruption at) held used old new before now free answers = absurd answers
+flush_fails (error.NotReserved at) held used old new before now free answers = absurd answers
+flush_fails (error.CollectionNotFound name) held used old new before now free answers = absurd answers
+flush_fails (error.ReportableBug text) held used old new before now free answers = absurd answers

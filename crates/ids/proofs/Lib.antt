@@ -1,0 +1,8 @@
+mod BoundLemmas
+mod Generating
+mod Moments
+mod Opening
+pub mod PublicLaws
+mod ReadLemmas
+mod Running
+mod Stepping

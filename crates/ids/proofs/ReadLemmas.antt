@@ -1,0 +1,191 @@
+-- Reading a bound: what an answer of the log says of it.
+use Rattle.std.proofs.Common.{◌≡◌, ◌∙◌, inl, inr, ◌<◌, ◌++◌, ◌<ℤ◌, ℕ, ℤ, pos, Bool, true, false, if◌then◌else◌, List, [], ◌∷◌, length, map, get_or, Option, None, Some, Result, Ok, Err, Vec, Global, refl, sym, ap, subst, arith}
+use Rattle.std.specs.Prelude.{IfErr, IfOk, OnErr, OnOk, int_lt}
+use Rattle.std.specs.List.{Contains, slice_get}
+use Rattle.std.proofs.lemmas.Int.{ints}
+use Rattle.std.proofs.lemmas.Option.{same_Some}
+use Rattle.std.proofs.lemmas.List.{append-nil, length-map}
+use Rattle.std.specs.declared.io.Error.{Error as IoError}
+use Rattle.sled_codec.specs.declared.result.Error.{Error}
+use Rattle.sled_codec.specs.declared.result.Error.TheVariants as error
+use Rattle.sled_codec.specs.declared.serialization.snapshot.PageState.{PageState}
+use Rattle.sled_codec.specs.Errors.{IsCorrupt, IsCorruption}
+use Rattle.sled_codec.specs.History.{History, Message, table}
+use Rattle.sled_codec.specs.PageTables.{entry_of}
+use Rattle.sled_codec.specs.declared.result.DiskPtr.TheVariants as ptr
+use Rattle.sled_codec.specs.declared.serialization.snapshot.PageState.TheVariants as state
+use Rattle.sled_codec.specs.Snapshots.{Entry, Free, Page, Present, Uninitialized, page_of}
+use Rattle.sled_codec.specs.Spelling.{SpellsNumber}
+use Rattle.sled_codec.specs.SpellingLaws.{no_front-number, one_value-number}
+use Rattle.sled_store.specs.Device.{Trace}
+use Rattle.sled_core.specs.declared.logger.Log.{Log}
+use Rattle.sled_core.specs.declared.logger.read_message.LogRead.{LogRead}
+use Rattle.sled_core.specs.declared.logger.read_message.LogRead.TheVariants as read
+use Rattle.sled_core.specs.Reading.{GivesMessage, data_of}
+use Rattle.sled_core.specs.ReadBuffer.{ReadAnswers}
+use Rattle.sled_core.specs.Causes.{IsFault}
+use Rattle.sled_core.specs.Fits.{HasRecordOf}
+use Rattle.sled_core.proofs.PublicLaws.{kept_still}
+use Rattle.sled_log.specs.Replaces.{HasLast}
+use Rattle.sled_log.proofs.PublicLaws.{table_has_last, table_has_page}
+use Rattle.ids.specs.Bounds.{IsLastBound, IsLastMessage}
+use Rattle.ids.specs.Readings.{CountsError, CountsFailure, HasTable, HoldsAt, IsOpenError, OnlyRead}
+
+-- the item of a message that was read
+pub gives_data : (m : Message) (r : LogRead) → GivesMessage m r → data_of r ≡ Some m.bytes
+gives_data m (read.Inline h bytes len) gives = ap (λ (b : List ℕ). Some b) gives.2
+gives_data m (read.Blob h bytes place len) gives = absurd gives
+gives_data m (read.Canceled len) gives = absurd gives
+gives_data m (read.Cap number) gives = absurd gives
+gives_data m read.Corrupted gives = absurd gives
+gives_data m (read.DanglingBlob h place len) gives = absurd gives
+gives_data m (read.BatchManifest peg len) gives = absurd gives
+
+-- a number at the front of bytes that are one is that one
+pub same_number : (bytes front rest : List ℕ) (v n : ℕ) → SpellsNumber bytes n → SpellsNumber front v → bytes ≡ front ++ rest → v ≡ n
+same_number bytes front rest v n whole first is =
+    let same : front ≡ bytes = no_front-number front bytes rest [] v n first whole (sym is ∙ sym (append-nil bytes)) in
+    one_value-number bytes v n (subst (λ (t : List ℕ). SpellsNumber t v) same first) whole
+
+-- what the bytes of a number are decoded to
+pub decoded : (result : Result ℕ Error) (bytes left : List ℕ) (n : ℕ) → SpellsNumber bytes n → IfOk result (λ v. (front : List ℕ) × SpellsNumber front v × (bytes ≡ front ++ left))
+    → (IsCorruption result → (front rest : List ℕ) (v : ℕ) → bytes ≡ front ++ rest → Unit {0} → SpellsNumber front v → ⊥) → IfErr result (λ e. e ≡ error.Corruption None) → IfOk result (λ v. v ≡ n) × OnErr result ⊥
+decoded (Ok v) bytes left n whole ok corrupt damage = (same_number bytes ok.0 left v n whole ok.1 ok.2, tt)
+decoded (Err e) bytes left n whole ok corrupt damage = (tt, corrupt (subst IsCorrupt (sym damage) tt) bytes [] n (sym (append-nil bytes)) tt whole)
+
+-- what holds of no error
+pub no_error : (P : Error → Type 0) (result : Result ℕ Error) → OnErr result ⊥ → IfErr result P
+no_error P (Ok v) none = tt
+no_error P (Err e) none = absurd none
+
+pub on_ok : (P : Type 0) (result : Result ℕ Error) → P → OnOk result P
+on_ok P (Ok v) holds = holds
+on_ok P (Err e) holds = tt
+
+pub counts_damage : (result : Result ℕ Error) (before now : ℕ) → IfErr result (λ e. e ≡ error.Corruption None) → now ≡ before → CountsFailure result before now
+counts_damage (Ok v) before now damage counted = counted
+counts_damage (Err e) before now damage counted = subst (λ e. CountsError e before now) (sym damage) counted
+
+-- the failure of the device that a read answers is of this call where the log kept none
+fails_now : (e : IoError) (old new : Option IoError) (before now : ℕ) → old ≡ None → IsFault e old new before now → CountsError (error.Io e) before now
+fails_now e old new before now none fault = elim fault [
+  | inl kept ↦ absurd (kept_none (sym none ∙ kept.0))
+  | inr here ↦ (here.3, here.2)
+] where
+  kept_none : None ≡ Some e → ⊥
+  kept_none is = cc
+
+-- A log of which nothing was asked was only read.
+pub read_still : {D C : Type 0} (trace : D → Trace) (sum : List ℕ → ℕ) (log : Log D C) → OnlyRead trace sum log log
+read_still trace sum log = record {
+  keeps = kept_still trace sum log;
+  tickets = record { awaits = λ ticket m awaits. awaits; opens = refl };
+  position = record { position = refl; reserved = refl; pins = refl; size = refl };
+}
+
+-- Where a place is stable, no reservation holds the read of it.
+pub none_holds : (lsn : ℤ) (stable : ℕ) (held : Option ℕ) → lsn <ℤ pos stable → (if int_lt lsn (pos stable) then None else held) ≡ None
+none_holds lsn stable held low = by (int_lt lsn (pos stable)) refl where
+  by : (b : Bool) → int_lt lsn (pos stable) ≡ b → (if b then None else held) ≡ None
+  by true is = refl
+  by false is = absurd (grind (arith, ints, is, low))
+
+-- Tables.
+
+no_first : {X : Type 0} (xs : List X) → None ≡ slice_get xs 0 → length xs ≡ 0
+no_first [] is = refl
+no_first (x ∷ xs) is = cc
+
+pub first_page : (pages : List PageState) (page : PageState) → Some page ≡ slice_get pages 0 → (0 < length (map page_of pages)) × (get_or (map page_of pages) 0 Uninitialized ≡ page_of page)
+first_page [] page is = cc
+first_page (p ∷ ps) page is = (omega arith, ap page_of (sym (same_Some page p is)))
+
+module _ {D C : Type 0} (trace : D → Trace) (sum : List ℕ → ℕ) (log : Log D C) (pages : List PageState) (H : History) (cut : ℕ) (table_is : HasTable trace sum log (map page_of pages) H cut) where
+  -- where there is no page there is no message
+  pub none_found : None ≡ slice_get pages 0 → IsLastBound H cut 0
+  none_found is = inl (
+    (λ m there low.
+        let less = table_has_page H cut (map page_of pages) table_is.bounds.replaces table_is.table m there low in
+        let none = no_first pages is in
+        let long : length (map page_of pages) ≡ length pages = simp length-map in
+        absurd (omega (arith, less, none, long))),
+    refl,
+  )
+
+  module _ (page : PageState) (is : Some page ≡ slice_get pages 0) where
+    abbrev has : HasLast (map page_of pages) H cut 0
+    has = table_has_last H cut (map page_of pages) table_is.bounds.replaces table_is.table 0 (first_page pages page is).0
+
+    abbrev pub last_read : Message
+    last_read = has.message
+
+    abbrev pub bound_read : ℕ
+    bound_read = (table_is.bounds.bounds has.message has.is_last.there).0
+
+    is_read : IsLastMessage H cut last_read bound_read
+    is_read = record {
+      there = has.is_last.there;
+      below = has.is_last.below;
+      has = (table_is.bounds.bounds has.message has.is_last.there).1;
+      last = λ x there low. has.is_last.last x there (table_is.bounds.page x there) low;
+    }
+
+    pub holds_read : HoldsAt trace sum log H last_read cut bound_read
+    holds_read = record {
+      acknowledged = table_is.acknowledged;
+      floor = table_is.floor;
+      unmarked = table_is.unmarked;
+      fits = table_is.fits;
+      last = is_read;
+      inline = table_is.bounds.inline has.message has.is_last.there;
+      stable = table_is.stable;
+      entry = subst (λ p. Contains (table H cut p) has.message) (sym has.is_last.of) has.in_table;
+    }
+
+    pub page_read : page_of page ≡ Present (entry_of last_read) []
+    page_read = sym (first_page pages page is).1 ∙ has.entry
+
+    pub found_read : (result : Result ℕ Error) → IfOk result (λ v. v ≡ bound_read) → IfOk result (λ v. IsLastBound H cut v)
+    found_read (Ok v) same = subst (λ n. IsLastBound H cut n) (sym same) (inr (last_read, is_read))
+    found_read (Err e) same = tt
+
+-- A page is a message and nothing else.
+abbrev base_in : Page → Entry
+base_in (Present base frags) = base
+base_in (Free place pointer) = (place, pointer, 0)
+base_in Uninitialized = (pos 0, ptr.Inline 0, 0)
+
+pub same_base : (page : PageState) (base : Entry) (frags : Vec Entry Global) (m : Message) → page ≡ state.Present base frags → page_of page ≡ Present (entry_of m) [] → base ≡ entry_of m
+same_base page base frags m is same = ap base_in (sym (ap page_of is) ∙ same)
+
+-- A message that a log holds at a place has its record there.
+pub record_there : {D C : Type 0} (trace : D → Trace) (sum : List ℕ → ℕ) (log : Log D C) (H : History) (m : Message) (cut n : ℕ) → HoldsAt trace sum log H m cut n → HasRecordOf log H m
+record_there trace sum log H m cut n holds = inr (cut, (let stable = holds.stable in omega (arith, stable)), holds.entry)
+
+-- What a read answers in place of a message.
+module _ (sum : List ℕ → ℕ) (blobs : ℤ → Option (List ℕ)) (lsn : ℤ) (stable end : ℕ) (held : Option ℕ) (used : Type 0) (old new : Option IoError) (before now : ℕ) where
+  -- it counts a failure of the device, and nothing else
+  pub read_counts : (e : Error) → old ≡ None → ReadAnswers {T = LogRead} sum blobs (Err e) lsn stable end held used old new before now → CountsError e before now
+  read_counts (error.Io e) none answers = fails_now e old new before now none answers
+  read_counts error.OutOfMemory none answers = answers.3
+  read_counts error.PlacesUsedUp none answers = answers.4
+  read_counts (error.Held at) none answers = answers.5
+  read_counts (error.NotReserved at) none answers = answers.5
+  read_counts (error.Corruption at) none answers = answers.2
+  read_counts (error.Unsupported text) none answers = absurd answers
+  read_counts (error.CollectionNotFound name) none answers = absurd answers
+  read_counts (error.ReportableBug text) none answers = absurd answers
+
+  -- where the place is stable, and no damage is met, it fails only as an opening may
+  pub read_fails : (e : Error) → lsn <ℤ pos stable → held ≡ None → (IsCorruption {T = LogRead} (Err e) → ⊥) → ReadAnswers {T = LogRead} sum blobs (Err e) lsn stable end held used old new before now → IsOpenError e
+  read_fails (error.Io e) low free whole answers = tt
+  read_fails error.OutOfMemory low free whole answers = tt
+  read_fails error.PlacesUsedUp low free whole answers = tt
+  read_fails (error.Held at) low free whole answers = absurd (some_place answers.1.0 (sym free ∙ answers.1.1)) where
+    some_place : (place : ℕ) → None ≡ Some place → ⊥
+    some_place place is = cc
+  read_fails (error.NotReserved at) low free whole answers = absurd (let up = answers.1 in omega (arith, ints, low, up))
+  read_fails (error.Corruption at) low free whole answers = absurd (whole tt)
+  read_fails (error.Unsupported text) low free whole answers = absurd answers
+  read_fails (error.CollectionNotFound name) low free whole answers = absurd answers
+  read_fails (error.ReportableBug text) low free whole answers = absurd answers

@@ -1,0 +1,87 @@
+use Rattle.std.proofs.Common.{◌∙◌, ◌+◌, ap, arith, refl}
+use Rattle.std.proofs.lemmas.Bool.Decides.{nat_tests}
+use Rattle.sled_core.proofs.PublicLaws.{awaited, goes_on_further}
+use Rattle.ids.proofs.Generating.{generates_has, gives_still, has_asked, has_generates, has_still, has_throughout, none_for, none_behind, ends_well, number_fits, reserve_fails}
+use Rattle.ids.proofs.Moments.{through_less}
+use Rattle.ids.proofs.generator.IdGenerator.ask.Goals as goal
+
+pub returns-then-self-clause-gives_on : goal.returns-then-self-clause-gives_on
+returns-then-self-clause-gives_on g c = gives_still g.D.Device.trace g.C.Checksum.sum_of c.args.self.now
+
+pub returns-then-self-2-clause-gives_on : goal.returns-then-self-2-clause-gives_on
+returns-then-self-2-clause-gives_on g c = gives_still g.D.Device.trace g.C.Checksum.sum_of c.args.self.now
+
+pub reserve-requires-clause-inline : goal.reserve-requires-clause-inline
+reserve-requires-clause-inline g c = number_fits _ c.saturating_add-asked.result c.args.self.now.log.config.config.least c.saturating_add-asked.type_inv
+
+-- nothing was reserved
+pub returns-in-Err-clause-gives_on : goal.returns-in-Err-clause-gives_on
+returns-in-Err-clause-gives_on g c =
+    let trace = g.D.Device.trace in
+    let sum = g.C.Checksum.sum_of in
+    let old = c.args.self.now in
+    let same = c.in-Err.ensures.err.reserved in
+    record {
+      asked = omega arith;
+      block = refl;
+      generates = λ generates. has_generates trace sum _ (has_still trace sum old.log c.reserve.new.self old.bound old.asked c.in-Err.ensures.keeps (omega (arith, same)) (generates_has trace sum old generates));
+      keeps = λ generates. through_less sum _ old.bound old.bound old.asked (old.asked + old.block) _ _ (omega arith) (omega arith)
+          (has_throughout trace sum old.log c.reserve.new.self old.bound old.asked (generates_has trace sum old generates) c.in-Err.ensures.keeps.goes_on);
+      config = c.in-Err.ensures.keeps.goes_on.config;
+    }
+
+pub returns-in-Err-clause-answers : goal.returns-in-Err-clause-answers
+returns-in-Err-clause-answers g c =
+    let old = c.args.self.now in
+    reserve_fails c.in-Err.e _ _ _ _ _ _ _ _ c.in-Err.ensures.same.fault (ap (λ x. g.D.Device.faults x.device) c.in-Err.ensures.same.config) (none_for old.log 0 _ old.ended) c.in-Err.ensures.answers
+
+-- The bound was reserved and completed.
+
+pub invariant_of-self-in-Ok-complete : goal.invariant_of-self-in-Ok-complete
+invariant_of-self-in-Ok-complete g c =
+    let old = c.args.self.now in
+    let some = old.some in
+    let ordered = old.ordered in
+    let ahead = old.ahead in
+    let none = c.if-self.false in
+    let asked = c.saturating_add-asked.ensures in
+    let small = old.small in
+    let pins = c.in-Ok-complete.ensures.same.pins ∙ c.in-Ok.ensures.same.pins in
+    let pinned = old.pinned in
+    record {
+      ordered = ordered;
+      ahead = omega (arith, asked, small);
+      small = c.saturating_add-asked.type_inv;
+      some = some;
+      pinned = omega (arith, pins, pinned);
+      ended = none_behind _ _ _ _ c.in-Ok.ensures.opens old.ended (c.in-Ok-complete.ensures.opens _ (awaited c.reserve.new.self c.in-Ok.ticket _ c.in-Ok.ensures.ticket).0);
+    }
+
+pub invariant_of-self-in-Err-complete : goal.invariant_of-self-in-Err-complete
+invariant_of-self-in-Err-complete g c = absurd (ends_well c.in-Err-complete.e _ (c.in-Ok.ensures.same.fault ∙ c.in-Ok.ensures.answers.0) c.in-Err-complete.ensures.answers)
+
+pub returns-in-Ok-complete-clause-gives_on : goal.returns-in-Ok-complete-clause-gives_on
+returns-in-Ok-complete-clause-gives_on g c =
+    let trace = g.D.Device.trace in
+    let sum = g.C.Checksum.sum_of in
+    let old = c.args.self.now in
+    let pins = c.in-Ok.ensures.same.pins in
+    let pinned = old.pinned in
+    let ahead = old.ahead in
+    let none = c.if-self.false in
+    let asked = c.saturating_add-asked.ensures in
+    let small = old.small in
+    let both = goes_on_further trace sum old.log c.reserve.new.self c.complete.new.self c.in-Ok.ensures.keeps c.in-Ok-complete.ensures.goes_on in
+    record {
+      asked = omega (arith, asked, ahead);
+      block = refl;
+      generates = λ generates. has_generates trace sum _ (has_asked trace sum old.log c.reserve.new.self c.complete.new.self c.in-Ok.ticket old.bound old.asked c.saturating_add-asked.result (generates_has trace sum old generates)
+          (omega (arith, asked, small, ahead, none)) c.saturating_add-asked.type_inv (number_fits _ c.saturating_add-asked.result old.log.config.config.least c.saturating_add-asked.type_inv) c.in-Ok.ensures.keeps c.in-Ok.ensures.ticket c.in-Ok.ensures.reserved c.in-Ok-complete.ensures.position.reserved c.in-Ok-complete.ensures.goes_on
+          (λ H A f U fits. c.in-Ok-complete.ensures.fits H A f U _ fits c.in-Ok.ensures.ticket (omega (arith, pins, pinned))));
+      keeps = λ generates. through_less sum _ old.bound old.bound old.asked (old.asked + old.block) _ _ (omega arith) (omega arith)
+          (has_throughout trace sum old.log c.complete.new.self old.bound old.asked (generates_has trace sum old generates) both);
+      config = both.config;
+    }
+
+pub returns-in-Ok-complete-clause-end : goal.returns-in-Ok-complete-clause-end
+returns-in-Ok-complete-clause-end g c = let none = c.if-self.false in let asked = c.saturating_add-asked.ensures in grind (arith, nat_tests, none, asked)

@@ -1,0 +1,35 @@
+use Rattle.std.proofs.Common.{◌≡◌, Some, ◌∙◌, ap, List}
+use Rattle.std.specs.List.{slice_get}
+use Rattle.sled_codec.specs.declared.serialization.snapshot.PageState.{PageState}
+use Rattle.ids.proofs.ReadLemmas.{bound_read, found_read, holds_read, last_read, none_found, page_read, read_still}
+use Rattle.ids.proofs.reading.read_bound.Goals as goal
+
+pub returns-in-None-clause-found : goal.returns-in-None-clause-found
+returns-in-None-clause-found g c = λ H cut has. none_found g.D.Device.trace g.C.Checksum.sum_of c.args.log.now c.args.snapshot.now.pt.items H cut has
+    (c.in-None.ensures.value ∙ ap (λ (ps : List PageState). slice_get ps 0) c.deref.ensures.value)
+
+pub returns-in-None-clause-only : goal.returns-in-None-clause-only
+returns-in-None-clause-only g c = read_still g.D.Device.trace g.C.Checksum.sum_of c.args.log.now
+
+-- The page has the bound of its last message.
+
+pub returns-in-Some-clause-found : goal.returns-in-Some-clause-found
+returns-in-Some-clause-found g c = λ H cut has.
+    let trace = g.D.Device.trace in
+    let sum = g.C.Checksum.sum_of in
+    let log = c.args.log.now in
+    let pages = c.args.snapshot.now.pt.items in
+    let page = c.in-Some.page.now in
+    let first : Some page ≡ slice_get pages 0 = c.in-Some.ensures.value ∙ ap (λ (ps : List PageState). slice_get ps 0) c.deref.ensures.value in
+    found_read trace sum log pages H cut has page first c.read_page.result
+    (c.read_page.ensures.number H (last_read trace sum log pages H cut has page first) cut (bound_read trace sum log pages H cut has page first) (holds_read trace sum log pages H cut has page first) (page_read trace sum log pages H cut has page first))
+
+pub returns-in-Some-clause-errors : goal.returns-in-Some-clause-errors
+returns-in-Some-clause-errors g c = λ H cut has.
+    let trace = g.D.Device.trace in
+    let sum = g.C.Checksum.sum_of in
+    let log = c.args.log.now in
+    let pages = c.args.snapshot.now.pt.items in
+    let page = c.in-Some.page.now in
+    let first : Some page ≡ slice_get pages 0 = c.in-Some.ensures.value ∙ ap (λ (ps : List PageState). slice_get ps 0) c.deref.ensures.value in
+    c.read_page.ensures.errors H (last_read trace sum log pages H cut has page first) cut (bound_read trace sum log pages H cut has page first) (holds_read trace sum log pages H cut has page first) (page_read trace sum log pages H cut has page first)

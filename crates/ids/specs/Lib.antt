@@ -1,0 +1,5 @@
+pub mod Bounds
+pub mod Generators
+pub mod IdPhases
+pub mod IdRuns
+pub mod Readings

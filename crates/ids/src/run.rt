@@ -1,0 +1,81 @@
+//! Whole runs of a generator, with restarts and crashes (`specs/IdRuns.antt`).
+ghost use Rattle.std.specs.Prelude.{◌≡◌, ℕ, IfOk, OnErr};
+ghost use Rattle.sled_store.specs.Device.{state_of};
+ghost use Rattle.ids.specs.Bounds.{GivesFrom};
+ghost use Rattle.ids.specs.IdRuns.{IdRuns, IdState, begins_at};
+ghost use Rattle.ids.specs.IdPhases.{EndsAt};
+
+pub(crate) mod step;
+
+use crate::run::step::{Phase, close, step};
+use sled_log::config::RunningConfig;
+use sled_log::device::{Checksum, Choice, CrashDevice};
+use sled_log::result::Error;
+use std::alloc::AllocError;
+
+/// What is done with a generator.
+#[derive(Drop)]
+pub enum Command {
+    /// Opens one, where none is open.
+    Open,
+    /// Has one that is open give an identifier out.
+    Next,
+    /// Closes one that is open.
+    Close,
+    /// Has the device stop within a call, after so many more calls that change or sync.
+    Stop(u64),
+    /// Closes the generator, if one is open, and has the device crash and leave this, where it may, and else what was durable.
+    Crash(Choice),
+}
+
+/// What came of it.
+#[derive(Drop)]
+pub enum Reply {
+    /// A generator is open.
+    Opened,
+    /// This identifier was given out.
+    Given(u64),
+    /// The generator is closed.
+    Closed,
+    /// The device will stop.
+    Armed,
+    /// The device crashed. It left what was chosen (`true`), or what was durable.
+    Crashed(bool),
+    /// The command failed with this error.
+    Failed(Error),
+    /// Nothing was done: a generator is open that was to be opened, or none is that was to be used.
+    Refused,
+}
+
+/// Carries these commands out in order, and returns what the generator ran on, with what came of each. At last it closes a generator that is open.
+///
+/// For every list of commands, restarts and crashes among them, within a call of the device and within a recovery too: the identifiers
+/// that are given out strictly ascend, so that none comes twice, and a generator fails to open only for a failure of the device, want of memory, or
+/// where places are used up.
+///
+/// # Errors
+///
+/// `AllocError` where memory for the replies was refused; nothing was done then.
+pub fn run<D: CrashDevice, C: Checksum>(
+    config: RunningConfig<D, C>,
+    commands: &[Command],
+) -> (RunningConfig<D, C>, Result<Vec<Reply>, AllocError>)
+    ensures ascends { let size = config.config.segment_size in
+        (n most : ℕ) → GivesFrom C.sum_of size n most (state_of (D.trace config.device)) → IfOk result.1 (λ replies.
+        IdRuns C.sum_of size (begins_at (D.trace config.device) (D.faults config.device) n most) commands.now replies.items
+        (EndsAt C.sum_of size (D.trace result.0.device) (D.faults result.0.device))) }
+    ensures refused { OnErr result.1 (result.0 ≡ config) }
+{
+    let alloc = config.alloc();
+    let mut replies = match Vec::with_capacity(alloc, commands.len()) {
+        Ok(replies) => replies,
+        Err(e) => return (config, Err(e)),
+    };
+    let mut phase = Phase::Closed(config);
+    for command in commands {
+        let (next, reply) = step(phase, command);
+        phase = next;
+        replies.push_reserved(reply);
+    }
+    (close(phase), Ok(replies))
+}
