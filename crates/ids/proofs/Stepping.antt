@@ -238,7 +238,7 @@ module _ {D C : Type 0} (trace : D → Trace) (faults : D → ℕ) (sum : List �
       later_here : (a : IdState) (at : StandsAt trace faults sum (Open g) a) → IsLater a.trace (trace (running new).device)
       later_here a at = later_through (GivesFrom sum (size_of g) (bound_of g) (asked_of g + block_of g)) a.trace (trace (running g).device) (trace (running new).device) at.traced (keeps at.stands.generates)
 
-      pub gives_next : (id : ℕ) → id ≡ next_of g → next_of new ≡ id + 1 → NextAnswers {T = ℕ} (Ok id) (kept_fault g) (kept_fault new) (faults (running g).device) (faults (running new).device)
+      pub gives_next : (id : ℕ) → id ≡ next_of g → next_of new ≡ id + 1 → NextAnswers {T = ℕ} faults (Ok id) g new
           → CarriesOut trace faults sum (Open g) told.Next (Open new, reply.Given id)
       gives_next id is next answers = record {
         step = λ a at own.

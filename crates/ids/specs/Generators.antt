@@ -101,9 +101,9 @@ NextFails PlacesUsedUp old new before after = (new ≡ old) × (after ≡ before
 NextFails _ old new before after = ⊥
 
 -- An identifier was given out, and no call of the device failed; or none for one of these reasons.
-abbrev pub NextAnswers : {T : Type 0} → Result T Error → Option IoError → Option IoError → ℕ → ℕ → Type 0
-NextAnswers (Ok id) old new before after = (new ≡ old) × (after ≡ before)
-NextAnswers (Err e) old new before after = NextFails e old new before after
+abbrev pub NextAnswers : {T D C : Type 0} → (D → ℕ) → Result T Error → IdGenerator D C → IdGenerator D C → Type 0
+NextAnswers faults (Ok id) old new = (kept_fault new ≡ kept_fault old) × (faults (running new).device ≡ faults (running old).device)
+NextAnswers faults (Err e) old new = NextFails e (kept_fault old) (kept_fault new) (faults (running old).device) (faults (running new).device)
 
 -- A generator can be opened on this device: what was given out isn't given again, and what a recovery reads is what the log itself wrote.
 pub record CanOpen (sum : List ℕ → ℕ) (size n most : ℕ) (device : State) : Type 0 where

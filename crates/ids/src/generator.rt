@@ -114,7 +114,7 @@ impl<D: Device, C: Checksum> IdGenerator<D, C> {
         ensures kept { OnErr result ((next_of self.new ≡ next_of self.old) × (bound_of self.new ≡ bound_of self.old)) }
         ensures within { next_of self.old < bound_of self.old → (OnErr result ⊥) × (running self.new ≡ running self.old) }
         ensures goes_on { GivesOn D.trace C.sum_of self.old self.new }
-        ensures answers { NextAnswers result (kept_fault self.old) (kept_fault self.new) (D.faults (running self.old).device) (D.faults (running self.new).device) }
+        ensures answers { NextAnswers D.faults result self.old self.new }
     {
         match self.take_block() {
             Ok(()) => {}
@@ -133,7 +133,7 @@ impl<D: Device, C: Checksum> IdGenerator<D, C> {
         ensures same { next_of self.new ≡ next_of self.old }
         ensures same_end { OnErr result (bound_of self.new ≡ bound_of self.old) }
         ensures keeps { GivesOn D.trace C.sum_of self.old self.new }
-        ensures causes { NextAnswers result (kept_fault self.old) (kept_fault self.new) (D.faults (running self.old).device) (D.faults (running self.new).device) }
+        ensures causes { NextAnswers D.faults result self.old self.new }
     {
         if self.next < self.bound {
             return Ok(());
@@ -158,7 +158,7 @@ impl<D: Device, C: Checksum> IdGenerator<D, C> {
         ensures further { OnOk result (bound_of self.new < asked_of self.new) }
         ensures rest { SameBlock self.old self.new }
         ensures gives_on { GivesOn D.trace C.sum_of self.old self.new }
-        ensures answers { NextAnswers result (kept_fault self.old) (kept_fault self.new) (D.faults (running self.old).device) (D.faults (running self.new).device) }
+        ensures answers { NextAnswers D.faults result self.old self.new }
     {
         if self.bound < self.asked {
             return Ok(());

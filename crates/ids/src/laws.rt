@@ -23,7 +23,8 @@ pub fn a_crash_gives_no_identifier_again<C: Checksum>()
 
 /// The device of a generator gives from the end of its block on, without any call.
 pub fn a_generator_gives_from_its_bound<D: Device, C: Checksum>()
-    ensures { (g : IdGenerator D C) → Generates D.trace C.sum_of g → GivesFrom C.sum_of (size_of g) (bound_of g) (asked_of g) (state_of (D.trace (running g).device)) }
+    ensures { (g : IdGenerator D C) → Generates D.trace C.sum_of g
+        → GivesFrom C.sum_of (size_of g) (bound_of g) (asked_of g) (state_of (D.trace (running g).device)) }
 {}
 
 /// What gives from one number on gives from a lower one, too, and up to a higher one.
