@@ -8,7 +8,6 @@ pub use Rattle.sled_store.proofs.Marks.MarkedLemmas.{IsTruthful, truthful, unuse
 pub use Rattle.sled_store.proofs.Marks.MarkLaws.{linked_or_superseded, from_mark_linked, counted, none_in_done, above_mark_linked, none_in_free, next_is_free, needed_elsewhere, former_may, marked_linked}
 pub use Rattle.sled_store.proofs.Marks.HeldLemmas.{holds_standing, entry_counted}
 pub use Rattle.sled_store.proofs.Marks.MarkLaws.{one_slot, place_aligned, idle_stable, gone_there, gone_replaced, freed_stable}
-
 -- what holds at each moment between two traces: at the first one, at the last one, over the calls of both of two runs, and what it implies
 pub use Rattle.sled_store.proofs.Traces.MomentLemmas.{started, joined, at_first, at_last, weaker}
 

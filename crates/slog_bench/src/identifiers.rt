@@ -123,11 +123,11 @@ pub fn fill_segments(alloc: Global) -> Result<bool> {
     };
     let mut config = RunningConfig::new(alloc, size, MemDevice::new(alloc), PlaceSum);
     let mut is_so = true;
-    let mut next = 0;
+    let mut next = 0u64;
     for _ in 0..10 {
         let (given, left) = thousand(config, next)?;
-        is_so &= given == Some(next + 1000);
-        next += 1000;
+        next = next.wrapping_add(1000);
+        is_so &= given == Some(next);
         config = left;
     }
     Ok(is_so)
