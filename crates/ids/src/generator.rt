@@ -1,7 +1,6 @@
 //! A generator of identifiers over a log (`specs/Bounds.antt`).
 ghost use Rattle.std.specs.Prelude.{◌≡◌, ◌≤◌, ◌<◌, ◌+◌, ◌^◌, ◌-◌, [], ℕ, nat_lt, if◌then◌else◌, min, None, Some, IfOk, IfErr, OnErr, OnOk};
 ghost use Rattle.std.specs.Int.NonZero.{non_zero_u64_get};
-ghost use Rattle.sled_codec.specs.Errors.{IsCorrupt, IsCorruption};
 ghost use Rattle.sled_core.specs.Fits.{open_places, pins_of};
 ghost use Rattle.sled_core.specs.Keeps.{ConfigKept};
 ghost use Rattle.sled_store.specs.Device.{state_of};

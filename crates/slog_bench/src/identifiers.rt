@@ -116,7 +116,7 @@ fn ends_well(replies: &[Reply]) -> bool {
     )
 }
 
-/// Whether 10,000 identifiers ascend, a block each, over ten restarts: some 500 segments of 256 bytes, in slots that are used again.
+/// Whether 10,000 identifiers ascend, a block each, over ten restarts: some 400 segments of 256 bytes, in slots that are used again.
 pub fn fill_segments(alloc: Global) -> Result<bool> {
     let Some(size) = Config::new(256) else {
         return Ok(false);
