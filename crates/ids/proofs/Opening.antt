@@ -1,5 +1,6 @@
 -- Opening a generator: what a recovery and the start of a log make of a device that gives on.
-use Rattle.std.proofs.Common.{◌≡◌, ◌∙◌, inl, inr, ◌≤◌, ◌<◌, ℕ, ℤ, max, List, [], Option, Err, refl, sym, subst, arith}
+use Rattle.std.specs.List.{Contains}
+use Rattle.std.proofs.Common.{◌≡◌, ◌∙◌, inl, inr, ◌≤◌, ◌<◌, ◌+◌, ℕ, ℤ, max, List, [], Option, Err, refl, sym, subst, arith}
 use Rattle.sled_codec.specs.declared.result.Error.{Error}
 use Rattle.sled_codec.specs.declared.result.Error.TheVariants as error
 use Rattle.sled_codec.specs.declared.serialization.snapshot.Snapshot.{Snapshot}
@@ -7,14 +8,15 @@ use Rattle.sled_codec.specs.Errors.{IsCorrupt, IsCorruption}
 use Rattle.sled_codec.specs.History.{History, Message, below}
 use Rattle.sled_codec.specs.PageTables.{IsTable}
 use Rattle.sled_codec.specs.Snapshots.{SnapshotModel, stable_place}
-use Rattle.sled_store.specs.Device.{State, Trace, content_of}
+use Rattle.sled_store.specs.Device.{State, Trace, content_of, state_of}
 use Rattle.sled_store.specs.Moments.{LeavesOnly, Throughout}
 use Rattle.sled_store.specs.Blobs.{ItemAnswers}
 use Rattle.sled_store.specs.Causes.{StartRefuses}
+use Rattle.sled_store.proofs.PublicLaws.{joined}
 use Rattle.sled_core.specs.declared.logger.Log.{Log}
 use Rattle.sled_core.specs.Fits.{device_of}
 use Rattle.sled_core.specs.Good.{IsGood}
-use Rattle.sled_core.specs.Keeps.{GoesOn}
+use Rattle.sled_core.specs.Keeps.{GoesOn, Preserves}
 use Rattle.sled_core.specs.Recoverable.{RecoverableIfOwn}
 use Rattle.sled_core.specs.Running.{Fits, Ready}
 use Rattle.sled_core.specs.Starts.{BeginsBehind}
@@ -44,103 +46,110 @@ module _ (sum : List ℕ → ℕ) (size n most : ℕ) (device : State) (can : Ca
   pub recovering : (old new : Trace) → LeavesOnly (RecoverableIfOwn sum size H A f) old new → Throughout (GivesFrom sum size n most) old new
   recovering old new run = gives_throughout sum size n most H A f can.gives.bounds can.gives.reserved can.gives.greatest old new run
 
-  -- What it finds is good, with this cut.
-  module _ (s : SnapshotModel) (new : State) (good : IsGood sum size (content_of new) H A f s) where
-    abbrev pub cut : ℕ
-    cut = stable_place s.stable
+-- What a recovery gives of such a device: a table of bounds below its cut, on which a log can begin.
+pub record HasRecovered (sum : List ℕ → ℕ) (size n most : ℕ) (device : State) (s : SnapshotModel) : Type 0 where
+  pub history : History
+  pub acknowledged : ℕ
+  pub bounds : IsOfBounds history
+  pub reserved : Reserves history (stable_place s.stable) n
+  pub greatest : HasMost history most
+  pub table : IsTable s.pages history (stable_place s.stable)
+  pub below : (m : Message) → Contains history.messages m → (m.place < stable_place s.stable) × (m.place + m.size ≤ stable_place s.stable)
+  pub ready : Ready sum size device s history acknowledged (stable_place s.stable)
 
-    abbrev pub left : History
-    left = below H cut
+-- A recovery of a device that can be opened: what it gives, and that the device gives from n meanwhile. A configuration says the size of segments once more behind it.
+module _ (sum : List ℕ → ℕ) (size n most : ℕ) (old mid : Trace) (can : CanOpen sum size n most (state_of old)) (s : SnapshotModel) (again : ℕ) (same : again ≡ size) where
+  pub recovered : ((H : History) (A f : ℕ) → CanRecover sum size (state_of old) H A f → LeavesOnly (RecoverableIfOwn sum size H A f) old mid)
+      → ((H : History) (A f : ℕ) → CanRecover sum size (state_of old) H A f → IsGood sum size (content_of (state_of mid)) H A f s)
+      → ((H : History) (A f : ℕ) → CanRecover sum size (state_of old) H A f → Ready sum size (state_of mid) s (below H (stable_place s.stable)) A (stable_place s.stable))
+      → HasRecovered sum again n most (state_of mid) s × Throughout (GivesFrom sum again n most) old mid
+  recovered moments good ready =
+      let H = can.gives.history in
+      let A : ℕ = can.gives.acknowledged in
+      let f : ℕ = can.gives.floor in
+      let bounds = can.gives.bounds in
+      let cut : ℕ = stable_place s.stable in
+      let recovers = can_recover sum size n most (state_of old) can in
+      let is = good H A f recovers in (
+        record {
+          history = below H cut;
+          acknowledged = A;
+          bounds = bounds_below H cut bounds;
+          reserved = reserves_below H cut bounds cut n (omega arith) (reserves_less H (max A f) cut n n (let a = is.passes in let b = is.not_below in omega (arith, a, b)) (omega arith) can.gives.reserved);
+          greatest = most_below H cut bounds most can.gives.greatest;
+          table = (table_below H cut s.pages).1 is.table;
+          below = λ m there. let was = (kept_below H cut m).0 there in (was.1, is.fits.messages m was.0 was.1);
+          ready = subst (λ k. Ready sum k (state_of mid) s (below H cut) A cut) (sym same) (ready H A f recovers);
+        },
+        subst (λ k. Throughout (GivesFrom sum k n most) old mid) (sym same) (recovering sum size n most (state_of old) can old mid (moments H A f recovers)),
+      )
 
-    pub left_bounds : IsOfBounds left
-    left_bounds = bounds_below H cut can.gives.bounds
+  pub sized_back : (end : Trace) → Throughout (GivesFrom sum again n most) old end → Throughout (GivesFrom sum size n most) old end
+  sized_back end run = subst (λ k. Throughout (GivesFrom sum k n most) old end) same run
 
-    passes : max A f ≤ cut
-    passes = let a = good.passes in let b = good.not_below in omega (arith, a, b)
+module _ (sum : List ℕ → ℕ) (size n most : ℕ) (old mid : Trace) (s : SnapshotModel) (has : HasRecovered sum size n most (state_of mid) s) (first : Throughout (GivesFrom sum size n most) old mid) where
+  abbrev pub place : ℕ
+  place = stable_place s.stable
 
-    -- what was reserved is among it
-    reserved_left : Reserves left (max A f) n
-    reserved_left = reserves_below H cut can.gives.bounds (max A f) n passes can.gives.reserved
+  gives : (from to : Trace) → LeavesOnly (RecoverableIfOwn sum size has.history has.acknowledged place) from to → Throughout (GivesFrom sum size n most) from to
+  gives from to run = gives_throughout sum size n most has.history has.acknowledged place has.bounds (reserves_less has.history place (max has.acknowledged place) n n (omega arith) (omega arith) has.reserved) has.greatest from to run
 
-    pub left_reserves : Reserves left (max A cut) n
-    left_reserves = reserves_less left (max A f) (max A cut) n n (let le = passes in omega (arith, le)) (omega arith) reserved_left
+  -- The device gives from n until a log is started, or isn't.
+  pub starting : (end : Trace) → LeavesOnly (RecoverableIfOwn sum size has.history has.acknowledged place) mid end → Throughout (GivesFrom sum size n most) old end
+  starting end run = joined (GivesFrom sum size n most) old mid end first (gives mid end run)
 
-    pub left_most : HasMost left most
-    left_most = most_below H cut can.gives.bounds most can.gives.greatest
+  -- A log that was started there,
+  module _ {D C : Type 0} (trace : D → Trace) (log : Log D C) (len : ℕ) (begins : BeginsBehind size len s log) (some : 0 < size) (fits : Fits trace sum log has.history has.acknowledged place [])
+      (start : LeavesOnly (RecoverableIfOwn sum size has.history has.acknowledged place) mid (trace (device_of log))) where
+    -- has the table,
+    pub begun_table : HasTable trace sum log s.pages has.history place
+    begun_table = record {
+      acknowledged = has.acknowledged;
+      floor = place;
+      unmarked = [];
+      fits = fits;
+      bounds = has.bounds;
+      table = has.table;
+      stable = begins.synced ∙ ready_place sum size (state_of mid) s has.history has.acknowledged place some has.ready;
+    }
 
-    pub left_table : IsTable s.pages left cut
-    left_table = (table_below H cut s.pages).1 good.table
+    -- and gives from n while it goes on,
+    pub going_on : (next : Log D C) → GoesOn trace sum log next → Throughout (GivesFrom sum size n most) old (trace (device_of next))
+    going_on next goes = joined (GivesFrom sum size n most) old (trace (device_of log)) (trace (device_of next)) (starting (trace (device_of log)) start)
+        (gives (trace (device_of log)) (trace (device_of next)) (subst (λ k. LeavesOnly (RecoverableIfOwn sum k has.history has.acknowledged place) (trace (device_of log)) (trace (device_of next))) begins.sized (goes.crash has.history has.acknowledged place [] fits)))
 
-    pub starting : (old done : Trace) → LeavesOnly (RecoverableIfOwn sum size left A cut) old done → Throughout (GivesFrom sum size n most) old done
-    starting old done run = gives_throughout sum size n most left A cut left_bounds left_reserves left_most old done run
-
-    -- The bound that is found is no lower than what was reserved, and none is higher.
-    module _ (v : ℕ) (found : IsLastBound left cut v) where
-      pub found_enough : n ≤ v
-      found_enough = elim found [
-        | inl none ↦ (elim reserved_left [
-          | inl zero ↦ omega (arith, zero)
-          | inr x ↦ absurd (none.0 x.message x.there (((kept_below H cut x.message).0 x.there).1))
-        ])
-        | inr x ↦ last_enough left (max A f) cut n v x.0 left_bounds reserved_left passes x.1.there x.1.has (λ m there low. x.1.last m there low)
-      ]
-
-      pub found_most : v ≤ most
-      found_most = elim found [
-        | inl none ↦ omega (arith, none.1)
-        | inr x ↦ left_most x.0 v x.1.there x.1.has
-      ]
-
-      -- A log that begins there has it.
-      pub found_bounds : {D C : Type 0} (trace : D → Trace) (log : Log D C) (U : List Message) → Fits trace sum log left A cut U → HasBounds trace sum log v v
-      found_bounds trace log U fits = record {
-        history = left;
-        acknowledged = A;
-        floor = cut;
-        unmarked = U;
-        fits = fits;
-        bounds = left_bounds;
+    -- from the bound that is found in it, which is no lower than what was reserved and no higher than all.
+    pub found_bounds : (v : ℕ) → IsLastBound has.history place v → (next : Log D C) → Preserves trace sum log next → HasBounds trace sum next v v × (n ≤ v) × (v ≤ most)
+    found_bounds v found next keeps = (
+      record {
+        history = has.history;
+        acknowledged = has.acknowledged;
+        floor = place;
+        unmarked = [];
+        fits = keeps.fits has.history has.acknowledged place [] fits;
+        bounds = has.bounds;
         reserved = elim found [
           | inl none ↦ inl none.1
-          | inr x ↦ inr (record {
-            message = x.0;
-            there = x.1.there;
-            ends = (let ends = good.fits.messages x.0 (((kept_below H cut x.0).0 x.1.there).0) x.1.below in omega (arith, ends));
-            bound = v;
-            has = x.1.has;
-            enough = omega arith;
-          })
+          | inr x ↦ inr (record { message = x.0; there = x.1.there; ends = (let ends = (has.below x.0 x.1.there).1 in omega (arith, ends)); bound = v; has = x.1.has; enough = omega arith })
         ];
-        most = λ m k there has. elim found [
-          | inl none ↦ absurd (none.0 m there (((kept_below H cut m).0 there).1))
-          | inr x ↦ left_bounds.ascend m x.0 k v there x.1.there (x.1.last m there (((kept_below H cut m).0 there).1)) has x.1.has
+        most = λ m k there is. elim found [
+          | inl none ↦ absurd (none.0 m there (has.below m there).0)
+          | inr x ↦ has.bounds.ascend m x.0 k v there x.1.there (x.1.last m there (has.below m there).0) is x.1.has
         ];
         there = inl refl;
-      }
-
-    -- A log that is started there begins with that.
-    module _ (size' : ℕ) (same : size' ≡ size) (ready : Ready sum size new s left A cut) where
-      pub ready_at : Ready sum size' new s left A cut
-      ready_at = subst (λ k. Ready sum k new s left A cut) (sym same) ready
-
-      pub starting_at : (old done : Trace) → LeavesOnly (RecoverableIfOwn sum size' left A cut) old done → Throughout (GivesFrom sum size n most) old done
-      starting_at old done run = starting old done (subst (λ k. LeavesOnly (RecoverableIfOwn sum k left A cut) old done) same run)
-
-      module _ {D C : Type 0} (trace : D → Trace) (log : Log D C) (len : ℕ) (begins : BeginsBehind size' len s log) (some : 0 < size') (fits : Fits trace sum log left A cut []) where
-        pub has_table : HasTable trace sum log s.pages left cut
-        has_table = record {
-          acknowledged = A;
-          floor = cut;
-          unmarked = [];
-          fits = fits;
-          bounds = left_bounds;
-          table = left_table;
-          stable = begins.synced ∙ ready_place sum size' new s left A cut some ready_at;
-        }
-
-        pub going_on : (next : Log D C) → GoesOn trace sum log next → Throughout (GivesFrom sum size n most) (trace (device_of log)) (trace (device_of next))
-        going_on next goes = starting (trace (device_of log)) (trace (device_of next))
-            (subst (λ k. LeavesOnly (RecoverableIfOwn sum k left A cut) (trace (device_of log)) (trace (device_of next))) (begins.sized ∙ same) (goes.crash left A cut [] fits))
+      },
+      elim found [
+        | inl none ↦ (elim has.reserved [
+          | inl zero ↦ omega (arith, zero)
+          | inr x ↦ absurd (none.0 x.message x.there (has.below x.message x.there).0)
+        ])
+        | inr x ↦ last_enough has.history place place n v x.0 has.bounds has.reserved (omega arith) x.1.there x.1.has (λ m there low. x.1.last m there low)
+      ],
+      elim found [
+        | inl none ↦ omega (arith, none.1)
+        | inr x ↦ has.greatest x.0 v x.1.there x.1.has
+      ],
+    )
 
 -- Why none was opened.
 

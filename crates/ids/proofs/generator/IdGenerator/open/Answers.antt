@@ -1,14 +1,13 @@
-use Rattle.std.proofs.Common.{rules, ◌∙◌, ◌<◌, ◌^◌, ℕ, [], ap, refl, subst, sym, arith}
-use Rattle.sled_codec.specs.Snapshots.{model_of}
+use Rattle.std.proofs.Common.{rules, ◌∙◌, ◌<◌, ◌^◌, ℕ, ap, refl, subst, sym, arith}
+use Rattle.sled_codec.specs.Snapshots.{model_of, stable_place}
 use Rattle.sled_store.specs.Device.{state_of}
-use Rattle.sled_store.proofs.PublicLaws.{joined}
+use Rattle.sled_store.specs.Moments.{Throughout}
 use Rattle.sled_core.specs.Fits.{device_of, fault_of, open_places, pins_of}
 use Rattle.sled_core.proofs.PublicLaws.{kept_further, none_is_empty, reads_recoverable}
-use Rattle.sled_store.specs.Moments.{Throughout}
 use Rattle.ids.specs.Bounds.{GivesFrom}
 use Rattle.ids.specs.Readings.{CountsError}
 use Rattle.ids.proofs.Generating.{has_generates}
-use Rattle.ids.proofs.Opening.{can_recover, cut, found_bounds, found_enough, found_most, going_on, has_table, left, ready_at, recovering, recovery_fails, start_fails, starting_at}
+use Rattle.ids.proofs.Opening.{begun_table, can_recover, found_bounds, going_on, recovered, recovering, recovery_fails, sized_back, start_fails, starting}
 use Rattle.ids.proofs.generator.IdGenerator.open.Goals as goal
 
 -- The recovery failed.
@@ -19,13 +18,8 @@ returns-in-Err-clause-keeps g c = λ n most can.
     let sum = g.C.Checksum.sum_of in
     let size : ℕ = c.args.config.config.segment_size in
     let old = trace c.args.config.device in
-    let device = state_of old in
-    let mid = trace c.read_snapshot_or_default.new.config.device in
-    let H = can.gives.history in
-    let A : ℕ = can.gives.acknowledged in
-    let f : ℕ = can.gives.floor in
-    let recovers = can_recover sum size n most device can in
-    recovering sum size n most device can old mid (c.in-Err.ensures.recoverable H A f recovers)
+    let config = c.read_snapshot_or_default.new.config in
+    recovering sum size n most (state_of old) can old (trace config.device) (c.in-Err.ensures.recoverable can.gives.history can.gives.acknowledged can.gives.floor (can_recover sum size n most (state_of old) can))
 
 pub returns-in-Err-clause-fails : goal.returns-in-Err-clause-fails
 returns-in-Err-clause-fails g c = λ n most can.
@@ -33,13 +27,10 @@ returns-in-Err-clause-fails g c = λ n most can.
     let sum = g.C.Checksum.sum_of in
     let size : ℕ = c.args.config.config.segment_size in
     let old = trace c.args.config.device in
-    let device = state_of old in
-    let mid = trace c.read_snapshot_or_default.new.config.device in
-    let H = can.gives.history in
-    let A : ℕ = can.gives.acknowledged in
-    let f : ℕ = can.gives.floor in
-    let recovers = can_recover sum size n most device can in
-    recovery_fails sum _ c.in-Err.e _ _ (c.in-Err.ensures.read H A f recovers.orderly (reads_recoverable sum size H A f old can.gives.left can.own)).0 c.in-Err.ensures.answers
+    let config = c.read_snapshot_or_default.new.config in
+    let recovers = can_recover sum size n most (state_of old) can in
+    let can_read = reads_recoverable sum size can.gives.history can.gives.acknowledged can.gives.floor old can.gives.left can.own in
+    recovery_fails sum _ c.in-Err.e _ _ (c.in-Err.ensures.read can.gives.history can.gives.acknowledged can.gives.floor recovers.orderly can_read).0 c.in-Err.ensures.answers
 
 -- No log was started.
 
@@ -49,21 +40,12 @@ returns-in-Err-start-clause-keeps g c = λ n most can.
     let sum = g.C.Checksum.sum_of in
     let size : ℕ = c.args.config.config.segment_size in
     let old = trace c.args.config.device in
-    let device = state_of old in
-    let mid = trace c.read_snapshot_or_default.new.config.device in
-    let H = can.gives.history in
-    let A : ℕ = can.gives.acknowledged in
-    let f : ℕ = can.gives.floor in
-    let recovers = can_recover sum size n most device can in
+    let config = c.read_snapshot_or_default.new.config in
     let s = model_of c.in-Ok.snapshot in
-    let good = c.in-Ok.ensures.good H A f recovers in
-    let ready = c.in-Ok.ensures.ready H A f recovers in
     let same = ap (λ x. x.segment_size) c.in-Ok.ensures.config.config in
-    let size' : ℕ = c.read_snapshot_or_default.new.config.config.segment_size in
-    let first = recovering sum size n most device can old mid (c.in-Ok.ensures.recoverable H A f recovers) in
-    let second = starting_at sum size n most device can s (state_of mid) good size' same ready mid (trace c.in-Err-start.refused.1.device)
-    (c.in-Err-start.ensures.crash (left sum size n most device can s (state_of mid) good) A (cut sum size n most device can s (state_of mid) good) (ready_at sum size n most device can s (state_of mid) good size' same ready)) in
-    joined (GivesFrom sum size n most) old mid (trace c.in-Err-start.refused.1.device) first second
+    let r = recovered sum size n most old (trace config.device) can s config.config.segment_size same c.in-Ok.ensures.recoverable c.in-Ok.ensures.good c.in-Ok.ensures.ready in
+    sized_back sum size n most old (trace config.device) can s config.config.segment_size same (trace c.in-Err-start.refused.1.device)
+    (starting sum config.config.segment_size n most old (trace config.device) s r.0 r.1 (trace c.in-Err-start.refused.1.device) (c.in-Err-start.ensures.crash r.0.history r.0.acknowledged (stable_place s.stable) r.0.ready))
 
 pub returns-in-Err-start-clause-fails : goal.returns-in-Err-start-clause-fails
 returns-in-Err-start-clause-fails g c = λ n most can.
@@ -71,21 +53,11 @@ returns-in-Err-start-clause-fails g c = λ n most can.
     let sum = g.C.Checksum.sum_of in
     let size : ℕ = c.args.config.config.segment_size in
     let old = trace c.args.config.device in
-    let device = state_of old in
-    let mid = trace c.read_snapshot_or_default.new.config.device in
-    let H = can.gives.history in
-    let A : ℕ = can.gives.acknowledged in
-    let f : ℕ = can.gives.floor in
-    let recovers = can_recover sum size n most device can in
+    let config = c.read_snapshot_or_default.new.config in
     let s = model_of c.in-Ok.snapshot in
-    let good = c.in-Ok.ensures.good H A f recovers in
-    let ready = c.in-Ok.ensures.ready H A f recovers in
     let same = ap (λ x. x.segment_size) c.in-Ok.ensures.config.config in
-    let size' : ℕ = c.read_snapshot_or_default.new.config.config.segment_size in
-    let first = recovering sum size n most device can old mid (c.in-Ok.ensures.recoverable H A f recovers) in
-    start_fails c.in-Err-start.refused.0 _ _ _ _ _
-    (c.in-Err-start.ensures.starts (left sum size n most device can s (state_of mid) good) A (cut sum size n most device can s (state_of mid) good) (ready_at sum size n most device can s (state_of mid) good size' same ready))
-    c.in-Err-start.ensures.answers
+    let r = recovered sum size n most old (trace config.device) can s config.config.segment_size same c.in-Ok.ensures.recoverable c.in-Ok.ensures.good c.in-Ok.ensures.ready in
+    start_fails c.in-Err-start.refused.0 _ _ _ _ _ (c.in-Err-start.ensures.starts r.0.history r.0.acknowledged (stable_place s.stable) r.0.ready) c.in-Err-start.ensures.answers
 
 -- It was opened.
 
@@ -109,28 +81,18 @@ returns-in-Ok-read_bound-clause-opens g c = λ n most can.
     let sum = g.C.Checksum.sum_of in
     let size : ℕ = c.args.config.config.segment_size in
     let old = trace c.args.config.device in
-    let device = state_of old in
-    let mid = trace c.read_snapshot_or_default.new.config.device in
-    let H = can.gives.history in
-    let A : ℕ = can.gives.acknowledged in
-    let f : ℕ = can.gives.floor in
-    let recovers = can_recover sum size n most device can in
+    let config = c.read_snapshot_or_default.new.config in
     let s = model_of c.in-Ok.snapshot in
-    let good = c.in-Ok.ensures.good H A f recovers in
-    let ready = c.in-Ok.ensures.ready H A f recovers in
     let same = ap (λ x. x.segment_size) c.in-Ok.ensures.config.config in
-    let size' : ℕ = c.read_snapshot_or_default.new.config.config.segment_size in
-    let first = recovering sum size n most device can old mid (c.in-Ok.ensures.recoverable H A f recovers) in
-    let some = c.read_snapshot_or_default.new.config.config.least in
-    let fits = c.in-Ok-start.ensures.fits (left sum size n most device can s (state_of mid) good) A (cut sum size n most device can s (state_of mid) good) (ready_at sum size n most device can s (state_of mid) good size' same ready) in
-    let table = has_table sum size n most device can s (state_of mid) good size' same ready trace c.in-Ok-start.log _ c.in-Ok-start.ensures.begins (omega (arith, some)) fits in
-    let found = c.in-Ok-read_bound.ensures.found (left sum size n most device can s (state_of mid) good) (cut sum size n most device can s (state_of mid) good) table in
-    let both = kept_further trace sum c.in-Ok-start.log c.read_bound.new.log c.pin-guard.new.self c.read_bound.ensures.only.keeps c.pin-guard.ensures.keeps in (
-      has_generates trace sum _ (found_bounds sum size n most device can s (state_of mid) good c.in-Ok-read_bound.bound found trace c.pin-guard.new.self []
-          (both.fits (left sum size n most device can s (state_of mid) good) A (cut sum size n most device can s (state_of mid) good) [] fits)),
-      found_enough sum size n most device can s (state_of mid) good c.in-Ok-read_bound.bound found,
-      found_most sum size n most device can s (state_of mid) good c.in-Ok-read_bound.bound found,
-    )
+    let r = recovered sum size n most old (trace config.device) can s config.config.segment_size same c.in-Ok.ensures.recoverable c.in-Ok.ensures.good c.in-Ok.ensures.ready in
+    let least = config.config.least in
+    let log = c.in-Ok-start.log in
+    let fits = c.in-Ok-start.ensures.fits r.0.history r.0.acknowledged (stable_place s.stable) r.0.ready in
+    let start = c.in-Ok-start.ensures.crash r.0.history r.0.acknowledged (stable_place s.stable) r.0.ready in
+    let found = c.in-Ok-read_bound.ensures.found r.0.history (stable_place s.stable) (begun_table sum config.config.segment_size n most old (trace config.device) s r.0 r.1 trace log _ c.in-Ok-start.ensures.begins (omega (arith, least)) fits start) in
+    let both = kept_further trace sum log c.read_bound.new.log c.pin-guard.new.self c.read_bound.ensures.only.keeps c.pin-guard.ensures.keeps in
+    let bounds = found_bounds sum config.config.segment_size n most old (trace config.device) s r.0 r.1 trace log _ c.in-Ok-start.ensures.begins (omega (arith, least)) fits start c.in-Ok-read_bound.bound found c.pin-guard.new.self both in
+    (has_generates trace sum _ bounds.0, bounds.1, bounds.2)
 
 pub returns-in-Ok-read_bound-clause-begins : goal.returns-in-Ok-read_bound-clause-begins
 returns-in-Ok-read_bound-clause-begins g c = (refl, refl, refl, ap fault_of c.pin-guard.ensures.taken ∙ c.in-Ok-read_bound.ensures.fault c.in-Ok-start.ensures.begins.fault)
@@ -141,27 +103,16 @@ returns-in-Ok-read_bound-clause-keeps g c = λ n most can.
     let sum = g.C.Checksum.sum_of in
     let size : ℕ = c.args.config.config.segment_size in
     let old = trace c.args.config.device in
-    let device = state_of old in
-    let mid = trace c.read_snapshot_or_default.new.config.device in
-    let H = can.gives.history in
-    let A : ℕ = can.gives.acknowledged in
-    let f : ℕ = can.gives.floor in
-    let recovers = can_recover sum size n most device can in
+    let config = c.read_snapshot_or_default.new.config in
     let s = model_of c.in-Ok.snapshot in
-    let good = c.in-Ok.ensures.good H A f recovers in
-    let ready = c.in-Ok.ensures.ready H A f recovers in
     let same = ap (λ x. x.segment_size) c.in-Ok.ensures.config.config in
-    let size' : ℕ = c.read_snapshot_or_default.new.config.config.segment_size in
-    let first = recovering sum size n most device can old mid (c.in-Ok.ensures.recoverable H A f recovers) in
-    let some = c.read_snapshot_or_default.new.config.config.least in
-    let fits = c.in-Ok-start.ensures.fits (left sum size n most device can s (state_of mid) good) A (cut sum size n most device can s (state_of mid) good) (ready_at sum size n most device can s (state_of mid) good size' same ready) in
-    let table = has_table sum size n most device can s (state_of mid) good size' same ready trace c.in-Ok-start.log _ c.in-Ok-start.ensures.begins (omega (arith, some)) fits in
-    let second = starting_at sum size n most device can s (state_of mid) good size' same ready mid (trace (device_of c.in-Ok-start.log))
-    (c.in-Ok-start.ensures.crash (left sum size n most device can s (state_of mid) good) A (cut sum size n most device can s (state_of mid) good) (ready_at sum size n most device can s (state_of mid) good size' same ready)) in
-    let begun = joined (GivesFrom sum size n most) old mid (trace (device_of c.in-Ok-start.log)) first second in
-    let going = going_on sum size n most device can s (state_of mid) good size' same ready trace c.in-Ok-start.log _ c.in-Ok-start.ensures.begins (omega (arith, some)) fits in
-    let both = kept_further trace sum c.in-Ok-start.log c.read_bound.new.log c.pin-guard.new.self c.read_bound.ensures.only.keeps c.pin-guard.ensures.keeps in
-    joined (GivesFrom sum size n most) old (trace (device_of c.in-Ok-start.log)) (trace (device_of c.pin-guard.new.self)) begun (going c.pin-guard.new.self both.goes_on)
+    let r = recovered sum size n most old (trace config.device) can s config.config.segment_size same c.in-Ok.ensures.recoverable c.in-Ok.ensures.good c.in-Ok.ensures.ready in
+    let least = config.config.least in
+    let log = c.in-Ok-start.log in
+    let fits = c.in-Ok-start.ensures.fits r.0.history r.0.acknowledged (stable_place s.stable) r.0.ready in
+    let start = c.in-Ok-start.ensures.crash r.0.history r.0.acknowledged (stable_place s.stable) r.0.ready in
+    let both = kept_further trace sum log c.read_bound.new.log c.pin-guard.new.self c.read_bound.ensures.only.keeps c.pin-guard.ensures.keeps in
+    sized_back sum size n most old (trace config.device) can s config.config.segment_size same (trace (device_of c.pin-guard.new.self)) (going_on sum config.config.segment_size n most old (trace config.device) s r.0 r.1 trace log _ c.in-Ok-start.ensures.begins (omega (arith, least)) fits start c.pin-guard.new.self both.goes_on)
 
 pub returns-in-Ok-read_bound-clause-answers : goal.returns-in-Ok-read_bound-clause-answers
 returns-in-Ok-read_bound-clause-answers g c =
@@ -176,27 +127,16 @@ returns-clause-keeps g c = λ n most can.
     let sum = g.C.Checksum.sum_of in
     let size : ℕ = c.args.config.config.segment_size in
     let old = trace c.args.config.device in
-    let device = state_of old in
-    let mid = trace c.read_snapshot_or_default.new.config.device in
-    let H = can.gives.history in
-    let A : ℕ = can.gives.acknowledged in
-    let f : ℕ = can.gives.floor in
-    let recovers = can_recover sum size n most device can in
+    let config = c.read_snapshot_or_default.new.config in
     let s = model_of c.in-Ok.snapshot in
-    let good = c.in-Ok.ensures.good H A f recovers in
-    let ready = c.in-Ok.ensures.ready H A f recovers in
     let same = ap (λ x. x.segment_size) c.in-Ok.ensures.config.config in
-    let size' : ℕ = c.read_snapshot_or_default.new.config.config.segment_size in
-    let first = recovering sum size n most device can old mid (c.in-Ok.ensures.recoverable H A f recovers) in
-    let some = c.read_snapshot_or_default.new.config.config.least in
-    let fits = c.in-Ok-start.ensures.fits (left sum size n most device can s (state_of mid) good) A (cut sum size n most device can s (state_of mid) good) (ready_at sum size n most device can s (state_of mid) good size' same ready) in
-    let table = has_table sum size n most device can s (state_of mid) good size' same ready trace c.in-Ok-start.log _ c.in-Ok-start.ensures.begins (omega (arith, some)) fits in
-    let second = starting_at sum size n most device can s (state_of mid) good size' same ready mid (trace (device_of c.in-Ok-start.log))
-    (c.in-Ok-start.ensures.crash (left sum size n most device can s (state_of mid) good) A (cut sum size n most device can s (state_of mid) good) (ready_at sum size n most device can s (state_of mid) good size' same ready)) in
-    let begun = joined (GivesFrom sum size n most) old mid (trace (device_of c.in-Ok-start.log)) first second in
-    let going = going_on sum size n most device can s (state_of mid) good size' same ready trace c.in-Ok-start.log _ c.in-Ok-start.ensures.begins (omega (arith, some)) fits in
+    let r = recovered sum size n most old (trace config.device) can s config.config.segment_size same c.in-Ok.ensures.recoverable c.in-Ok.ensures.good c.in-Ok.ensures.ready in
+    let least = config.config.least in
+    let log = c.in-Ok-start.log in
+    let fits = c.in-Ok-start.ensures.fits r.0.history r.0.acknowledged (stable_place s.stable) r.0.ready in
+    let start = c.in-Ok-start.ensures.crash r.0.history r.0.acknowledged (stable_place s.stable) r.0.ready in
     subst (λ x. Throughout (GivesFrom sum size n most) old (trace x.device)) (sym c.halt.ensures.config)
-    (joined (GivesFrom sum size n most) old (trace (device_of c.in-Ok-start.log)) (trace (device_of c.read_bound.new.log)) begun (going c.read_bound.new.log c.read_bound.ensures.only.keeps.goes_on))
+    (sized_back sum size n most old (trace config.device) can s config.config.segment_size same (trace (device_of c.read_bound.new.log)) (going_on sum config.config.segment_size n most old (trace config.device) s r.0 r.1 trace log _ c.in-Ok-start.ensures.begins (omega (arith, least)) fits start c.read_bound.new.log c.read_bound.ensures.only.keeps.goes_on))
 
 pub returns-clause-fails : goal.returns-clause-fails
 returns-clause-fails g c = λ n most can.
@@ -204,22 +144,15 @@ returns-clause-fails g c = λ n most can.
     let sum = g.C.Checksum.sum_of in
     let size : ℕ = c.args.config.config.segment_size in
     let old = trace c.args.config.device in
-    let device = state_of old in
-    let mid = trace c.read_snapshot_or_default.new.config.device in
-    let H = can.gives.history in
-    let A : ℕ = can.gives.acknowledged in
-    let f : ℕ = can.gives.floor in
-    let recovers = can_recover sum size n most device can in
+    let config = c.read_snapshot_or_default.new.config in
     let s = model_of c.in-Ok.snapshot in
-    let good = c.in-Ok.ensures.good H A f recovers in
-    let ready = c.in-Ok.ensures.ready H A f recovers in
     let same = ap (λ x. x.segment_size) c.in-Ok.ensures.config.config in
-    let size' : ℕ = c.read_snapshot_or_default.new.config.config.segment_size in
-    let first = recovering sum size n most device can old mid (c.in-Ok.ensures.recoverable H A f recovers) in
-    let some = c.read_snapshot_or_default.new.config.config.least in
-    let fits = c.in-Ok-start.ensures.fits (left sum size n most device can s (state_of mid) good) A (cut sum size n most device can s (state_of mid) good) (ready_at sum size n most device can s (state_of mid) good size' same ready) in
-    let table = has_table sum size n most device can s (state_of mid) good size' same ready trace c.in-Ok-start.log _ c.in-Ok-start.ensures.begins (omega (arith, some)) fits in
-    c.in-Err-read_bound.ensures.errors (left sum size n most device can s (state_of mid) good) (cut sum size n most device can s (state_of mid) good) table
+    let r = recovered sum size n most old (trace config.device) can s config.config.segment_size same c.in-Ok.ensures.recoverable c.in-Ok.ensures.good c.in-Ok.ensures.ready in
+    let least = config.config.least in
+    let log = c.in-Ok-start.log in
+    let fits = c.in-Ok-start.ensures.fits r.0.history r.0.acknowledged (stable_place s.stable) r.0.ready in
+    let start = c.in-Ok-start.ensures.crash r.0.history r.0.acknowledged (stable_place s.stable) r.0.ready in
+    c.in-Err-read_bound.ensures.errors r.0.history (stable_place s.stable) (begun_table sum config.config.segment_size n most old (trace config.device) s r.0 r.1 trace log _ c.in-Ok-start.ensures.begins (omega (arith, least)) fits start)
 
 pub returns-clause-answers : goal.returns-clause-answers
 returns-clause-answers g c =
