@@ -3,12 +3,12 @@
 //! This module reads the lines: names for bytes, loops, parts, and commands that are kept for the next run. `world` makes the
 //! calls.
 
-use crate::answer::Answer;
-use crate::lines::{Fault, Outcome, bytes, number};
 use crate::runs::{Told, command};
-use crate::tally::Tally;
-use crate::texts::Text;
 use crate::world::World;
+use case_lines::answer::Answer;
+use case_lines::lines::{Fault, Outcome, bytes, number};
+use case_lines::tally::Tally;
+use case_lines::texts::Text;
 use std::alloc::Global;
 use std::collections::BTreeMap;
 use std::mem;

@@ -2,11 +2,11 @@
 ghost use Rattle.std.specs.Prelude.{◌<◌, IfSome, vec_len, vec_capacity};
 ghost use Rattle.sled_core.specs.Fits.{IsOpen};
 
-use crate::answer::Answer;
-use crate::lines::{Words, bytes};
-use crate::texts::Text;
 use crate::values::kind_of;
 use crate::world::Running;
+use case_lines::answer::Answer;
+use case_lines::lines::{Words, bytes};
+use case_lines::texts::Text;
 use sled_log::device::{MemDevice, PlaceSum};
 use sled_log::logger::{BATCH_MANIFEST_PID, DiskPtr, Log, LogKind, LogRead, PageId};
 use sled_log::reservation::{Guard, Reservation};

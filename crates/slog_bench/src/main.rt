@@ -4,41 +4,25 @@
 //! status 1 where one does, or where a file can't be read.
 #![tactic(auto)]
 
-mod accountant;
-mod answer;
 mod calls;
-mod codecs;
-mod devices;
-mod functions;
-mod hostile;
-mod identifiers;
-mod intervals;
-mod lines;
 mod logs;
-mod noted;
-mod orders;
-mod own;
 mod reads;
-mod recovery;
 mod runs;
 mod scripts;
-mod segment_headers;
-mod sessions;
-mod stops;
 mod tables;
-mod tally;
-mod texts;
 mod values;
-mod words;
 mod world;
 
-use lines::{Fault, Words, asked_and_wanted};
-use recovery::By;
+use case_lines::lines::{Fault, Words, asked_and_wanted};
+use case_lines::tally::Tally;
+use case_lines::texts::Text;
+use function_cases::functions;
+use recovery_cases::recovery::By;
+use recovery_cases::{hostile, intervals, own, recovery, stops};
 use std::alloc::Global;
 use std::fs;
 use std::process::ExitCode;
-use tally::Tally;
-use texts::Text;
+use store_cases::{accountant, codecs, segment_headers, words};
 
 // The files under `data/`, one a kind.
 const FILES: [&str; 14] = [

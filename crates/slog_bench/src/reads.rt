@@ -1,11 +1,11 @@
 //! Reading of a log file or of a buffer: bytes, records, slots, and all records of a segment.
 ghost use Rattle.std.specs.Prelude.{◌≤◌};
 
-use crate::answer::Answer;
-use crate::lines::Words;
 use crate::logs::push_read;
-use crate::texts::Text;
 use crate::world::Running;
+use case_lines::answer::Answer;
+use case_lines::lines::Words;
+use case_lines::texts::Text;
 use sled_core::iterator::scan::{RecordContent, ScanEnd, ScannedRecord, SegmentScan, scan};
 use sled_core::iterator::{Segment, read_slot, segment_in};
 use sled_log::device::{MemDevice, PlaceSum};

@@ -1,10 +1,10 @@
 //! Runs of commands, and what each is to answer.
 
-use crate::devices::choice;
-use crate::lines::{Fault, Outcome, Words};
-use crate::tally::Tally;
-use crate::texts::Text;
 use crate::world::Running;
+use case_lines::devices::choice;
+use case_lines::lines::{Fault, Outcome, Words};
+use case_lines::tally::Tally;
+use case_lines::texts::Text;
 use sled_log::config::RunningConfig;
 use sled_log::session::{Command, Refusal, Reply, Session};
 use std::alloc::{AllocError, Global};

@@ -1,8 +1,8 @@
 //! Scripts of the program `slog`: lines of input, what is printed and the exit status (`data/README.md`).
 
-use crate::lines::{bytes, number};
-use crate::tally::Tally;
-use crate::texts::Text;
+use case_lines::lines::{bytes, number};
+use case_lines::tally::Tally;
+use case_lines::texts::Text;
 use slog_lines::run_lines;
 use std::alloc::Global;
 

@@ -1,8 +1,8 @@
 //! Tables of pages: what a recovery answers, and tables that are made by hand.
 
-use crate::answer::Answer;
-use crate::lines::Words;
-use crate::texts::{freed, present};
+use case_lines::answer::Answer;
+use case_lines::lines::Words;
+use case_lines::texts::{freed, present};
 use sled_log::result::Result;
 use sled_log::snapshot::{PageState, Snapshot};
 use std::alloc::Global;

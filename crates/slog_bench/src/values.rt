@@ -1,8 +1,8 @@
 //! Values by themselves: sums, kinds of messages, pointers.
 
-use crate::answer::Answer;
-use crate::lines::Words;
 use crate::reads::name_of;
+use case_lines::answer::Answer;
+use case_lines::lines::Words;
 use sled_log::device::{Checksum, PlaceSum};
 use sled_log::logger::{DiskPtr, LogKind, MessageKind};
 use sled_log::serialization::message::message_kind;

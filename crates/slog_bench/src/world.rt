@@ -1,12 +1,13 @@
 //! What the calls of a file are made on: a device in memory, or the log that is open on it; a table of pages; and a
 //! buffer.
 
-use crate::answer::Answer;
-use crate::lines::{Fault, Outcome, Words};
 use crate::logs::Opened;
 use crate::runs::{self, Told};
-use crate::tally::Tally;
-use crate::{devices, reads, tables, values};
+use crate::{reads, tables, values};
+use case_lines::answer::Answer;
+use case_lines::devices;
+use case_lines::lines::{Fault, Outcome, Words};
+use case_lines::tally::Tally;
 use sled_log::config::{Config, RunningConfig};
 use sled_log::device::{MemDevice, PlaceSum};
 use sled_log::logger::{BasedBuf, Log};

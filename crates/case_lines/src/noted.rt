@@ -2,7 +2,7 @@
 ghost use Rattle.std.specs.Prelude.{◌≡◌};
 
 use crate::texts::Text;
-use sled_log::device::Device;
+use sled_store::Device;
 use std::alloc::Global;
 use std::io;
 

@@ -1,8 +1,7 @@
 //! What came of a call: its text, and whether it is an error.
 
 use crate::texts::{Text, kind_of};
-use sled_log::logger::{DiskPtr, Lsn};
-use sled_log::result::{Error, Result};
+use sled_codec::result::{DiskPtr, Error, Lsn, Result};
 use std::alloc::Global;
 use std::io;
 

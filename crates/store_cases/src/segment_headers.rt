@@ -1,9 +1,8 @@
 //! The headers of segments: `write PLACE MARK -> HEX`, and `read HEX -> lsn=PLACE mark=MARK ok=BOOL`.
 
-use crate::lines::Words;
-use crate::texts::Text;
-use sled_log::device::PlaceSum;
-use sled_log::logger::SegmentHeader;
+use case_lines::lines::Words;
+use case_lines::texts::Text;
+use sled_codec::serialization::{PlaceSum, SegmentHeader};
 use std::alloc::Global;
 
 /// Writes what came of a line.

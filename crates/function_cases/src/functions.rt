@@ -1,8 +1,8 @@
 //! What a line of a file can't say: equality and conversion of errors, constants, functions over a format that answer
 //! no value of their own, and laws.
 
-use crate::tally::Tally;
 use crate::{identifiers, orders, sessions};
+use case_lines::tally::Tally;
 use sled_codec::history::{Message, entries_of_page};
 use sled_codec::serialization::bytes::copy_in;
 use sled_codec::serialization::laws;

@@ -6,10 +6,10 @@
 //! `answer recovered PLACE SEGMENT PAGES` with a line a page, or `answer corruption`; the `call` lines; `start ok`,
 //! or `start` with an error; and `end`.
 
-use crate::lines::{Fault, Outcome, Words};
-use crate::noted::{Calls, Noted};
-use crate::tally::Tally;
-use crate::texts::Text;
+use case_lines::lines::{Fault, Outcome, Words};
+use case_lines::noted::{Calls, Noted};
+use case_lines::tally::Tally;
+use case_lines::texts::Text;
 use sled_log::config::{Config, RunningConfig};
 use sled_log::device::{Device, MemDevice, PlaceSum};
 use sled_log::logger::Log;

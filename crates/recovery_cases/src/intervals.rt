@@ -1,9 +1,9 @@
 //! Which places of the log are durable: intervals that are synced, batches that wait for them, and the stable end behind each
 //! (`data/README.md`). Each stable end is compared with the slow one as well, over all that was given since the beginning.
 
-use crate::lines::{Fault, Words, asked_and_wanted};
-use crate::tally::Tally;
-use crate::texts::Text;
+use case_lines::lines::{Fault, Words, asked_and_wanted};
+use case_lines::tally::Tally;
+use case_lines::texts::Text;
 use sled_log::iobuf::{StabilityIntervals, stable_end_of};
 use sled_log::logger::Lsn;
 use std::alloc::Global;

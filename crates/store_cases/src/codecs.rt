@@ -1,12 +1,13 @@
 //! The codecs of all types: `TYPE VALUE -> LENGTH HEX` for what is written, `none` for a value without an
 //! encoding, and `TYPE.dec HEX -> VALUE left N`, or `error`, for what is read.
 
-use crate::lines::{Words, bytes, number, number_or_dash, pointer, signed, signed_or_dash};
-use crate::texts::{Text, entry, freed, present};
-use sled_log::logger::{DiskPtr, MessageHeader, MessageKind, SegmentNumber};
-use sled_log::result::Error;
-use sled_log::serialization::{BatchManifest, Meta, Serialize};
-use sled_log::snapshot::{Entry, PageState, Snapshot};
+use case_lines::lines::{Words, bytes, number, number_or_dash, pointer, signed, signed_or_dash};
+use case_lines::texts::{Text, entry, freed, present};
+use sled_codec::result::{DiskPtr, Error};
+use sled_codec::serialization::snapshot::{Entry, PageState, Snapshot};
+use sled_codec::serialization::{
+    BatchManifest, MessageHeader, MessageKind, Meta, SegmentNumber, Serialize,
+};
 use std::alloc::Global;
 use std::collections::BTreeMap;
 use std::num::NonZeroU64;

@@ -1,8 +1,8 @@
 //! The packed word of a buffer: `WORD -> maxed=BOOL mk_maxed=WORD ..`, each function of it in turn; `-` where a call asks
 //! for what the word hasn't.
 
-use crate::lines::Words;
-use crate::texts::Text;
+use case_lines::lines::Words;
+use case_lines::texts::Text;
 use sled_store::header::{
     Header, MAX_WRITERS, bump_salt, decr_writers, incr_writers, is_maxed, is_sealed, mk_maxed,
     mk_sealed, n_writers, offset, salt,

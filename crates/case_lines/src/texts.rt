@@ -1,9 +1,8 @@
 //! Texts that are written piece by piece, and how values stand in the lines of data files: bytes, pointers, pages, errors.
 
 use crate::lines::{Words, pointer, signed};
-use sled_log::logger::DiskPtr;
-use sled_log::result::Error;
-use sled_log::snapshot::{Entry, PageState};
+use sled_codec::result::{DiskPtr, Error};
+use sled_codec::serialization::snapshot::{Entry, PageState};
 use std::alloc::Global;
 use std::io;
 

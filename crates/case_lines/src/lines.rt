@@ -1,6 +1,6 @@
 //! The lines of a data file: their words, the numbers, pointers and bytes in them, and why one isn't read.
 
-use sled_log::logger::DiskPtr;
+use sled_codec::result::DiskPtr;
 use std::alloc::{AllocError, AllocFailed, Global};
 use std::str::Split;
 

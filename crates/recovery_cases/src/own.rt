@@ -1,8 +1,8 @@
 //! What the log wrote itself: what a crash left, and whether nothing in it is foreign. A line is
 //! `SIZE PART WORD .. PART WORD .. -> own` or `-> foreign` (`data/README.md`).
 
-use crate::lines::{Words, bytes, number, signed};
-use crate::texts::Text;
+use case_lines::lines::{Words, bytes, number, signed};
+use case_lines::texts::Text;
 use sled_log::device::PlaceSum;
 use sled_log::own::{LeftFiles, Past, nothing_is_foreign};
 use sled_store::device::foreign::names::{NamedFile, NamesPast};

@@ -5,11 +5,11 @@
 //! The cases have the format of `recovery.txt` (`recovery.rt`). Their answers aren't read: what counts is what the plain
 //! recovery answers.
 
-use crate::devices::log_of;
-use crate::lines::{Fault, Outcome};
 use crate::recovery::{Content, device_of, done, line_of, table_of};
-use crate::tally::Tally;
-use crate::texts::Text;
+use case_lines::devices::log_of;
+use case_lines::lines::{Fault, Outcome};
+use case_lines::tally::Tally;
+use case_lines::texts::Text;
 use sled_log::config::{Config, RunningConfig};
 use sled_log::device::{Device, MemDevice, PlaceSum};
 use sled_log::logger::Log;

@@ -2,7 +2,7 @@
 
 use crate::answer::Answer;
 use crate::lines::{Words, number};
-use sled_log::device::{Choice, CrashDevice, Device, MemDevice, Offer};
+use sled_store::{Choice, CrashDevice, Device, MemDevice, Offer};
 use std::alloc::Global;
 use std::io;
 

@@ -1,0 +1,10 @@
+//! The cases that no line of a file can say: functions that are compared with others, sessions, buffers that are written in every
+//! order, and identifiers.
+//!
+//! It is for tests alone. Its functions return on every input, and their contracts say no more than that.
+#![tactic(auto)]
+
+pub mod functions;
+mod identifiers;
+mod orders;
+mod sessions;
