@@ -5,6 +5,7 @@ pub mod Higher
 pub mod KeptStands
 pub mod LeftBeside
 pub mod LongerStands
+pub mod Marks
 pub mod NextSegment
 pub mod OneWrite
 pub mod PutIn

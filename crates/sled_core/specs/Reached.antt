@@ -13,6 +13,7 @@ use Rattle.sled_core.specs.Tail.{IsOrdering, IsScanned, Scanned, AreScanned, lea
 use Rattle.sled_core.specs.Recoverable.{NoMessageBegins, NoBatchBegins, NoBatchEnds, StandsInline, IsOfHistory, IsSegmentOf, IsMarkOf, IsMarkBelow, LiesInSegment, IsPlacedBatch}
 
 -- The segments that are found from that of the snapshot on are of the history, and up to a place that the log has reached they are read without a gap. What is found beyond is of the history too, however much of it there is.
+-- A is the stable place: the log has reached it, and no batch is open there. Behind it one may be.
 pub record StandsTo (sum : List ℕ → ℕ) (size : ℕ) (log : List ℕ) (H : History) (A : ℕ) (first : SnapshotModel) (reach : ℕ) : Type 0 where
   pub ordering : List Segment
   pub numbers : IsOrdering sum size log (least_place size first) ordering
@@ -21,17 +22,17 @@ pub record StandsTo (sum : List ℕ → ℕ) (size : ℕ) (log : List ℕ) (H : 
   pub marks : (s : Segment) → Contains ordering s → IsMarkOf H s
   pub truth : (s : Scanned) (x : ScannedRecord) → Contains scanned s → Contains s.met x → IsOfHistory sum size log H x
   pub caps : (s : Scanned) → Contains scanned s → s.why ≡ Capped → NoMessageBegins H (s.segment.place + s.stop) (s.segment.place + size) × NoBatchBegins H (s.segment.place + s.stop) (s.segment.place + size)
-  pub not_below : stable_place first.stable ≤ reach
+  pub not_below : stable_place first.stable ≤ A
   pub passes : A ≤ reach
-  pub marks_below : (s : Segment) → Contains ordering s → IsMarkBelow size H reach s.mark
+  pub marks_below : (s : Segment) → Contains ordering s → IsMarkBelow size H A s.mark
   pub placed : (m : Message) → Contains H.messages m → LiesInSegment size m
   pub batched : (b : Batch) → Contains H.batches b → IsPlacedBatch size H b
-  -- no batch is open there
-  pub closed : (b : Batch) → Contains H.batches b → b.low < reach → b.peg < reach
-  -- each segment that begins below it is there, and is read up to it or leads to the next one
+  pub closed : (b : Batch) → Contains H.batches b → b.low < A → b.peg < A
+  -- each segment that begins below the place that was reached is there, and is read up to it or leads to the next one
   pub gapless : (z : ℕ) → z % size ≡ 0 → least_place size first ≤ z → z < reach
       → (t : Scanned) × Contains scanned t × (t.segment.place ≡ z) × ((reach ≤ z + t.stop) ⊎ ((t.why ≢ Broken) × (u : Segment) × Contains ordering u × (u.place ≡ z + size)))
-  pub needed : (page : ℕ) (m : Message) → Contains (table H reach page) m → IsSegmentOf sum size log H reach m × StandsInline sum size log m m.pointer
+  -- the entries of the table are there, at the stable place and at each cut up to the place that was reached
+  pub needed : (cut : ℕ) → A ≤ cut → cut ≤ reach → (page : ℕ) (m : Message) → Contains (table H cut page) m → IsSegmentOf sum size log H cut m × StandsInline sum size log m m.pointer
 
 -- A segment that was read to an offset, in this slot and with this place, and why reading ended there.
 pub record IsReadTo (scanned : List Scanned) (slot place stop : ℕ) (why : ScanEnd) : Type 0 where

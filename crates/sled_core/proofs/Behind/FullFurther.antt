@@ -30,7 +30,7 @@ use Rattle.sled_core.proofs.Flush.Settled.{InlineFrom, blobs_higher, settled_rec
 use Rattle.sled_core.proofs.Holds.WholeHistory.{later_above, of_first, which_part}
 use Rattle.sled_core.proofs.Flush.Completed.{all_below}
 use Rattle.sled_core.proofs.Reached.NextSegment.{next_full, read}
-use Rattle.sled_core.proofs.Reached.Recoverable.{less_than}
+use Rattle.sled_core.proofs.Reached.Marks.{less_than}
 use Rattle.sled_core.proofs.Sealed.Ended.{ends_rise}
 use Rattle.sled_core.proofs.Sealed.FullSegment.{full_why}
 use Rattle.sled_core.proofs.Tail.Multiples.{next_multiple, one_multiple}

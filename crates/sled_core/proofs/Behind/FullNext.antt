@@ -22,7 +22,7 @@ use Rattle.sled_core.proofs.Flush.Settled.{InlineFrom, blobs_higher, rests, sett
 use Rattle.sled_core.proofs.Holds.ReachLemmas.{written_before}
 use Rattle.sled_core.proofs.Holds.WholeHistory.{later_above, of_first, which_part, whole_ascends, whole_inline}
 use Rattle.sled_core.proofs.Reached.NextSegment.{next_begins, next_goes, read}
-use Rattle.sled_core.proofs.Reached.Recoverable.{less_than}
+use Rattle.sled_core.proofs.Reached.Marks.{less_than}
 
 module _ (sum : List ℕ → ℕ) (size : ℕ) (device : State) (fault : Option IoError) (place : ℕ) (s : SegmentParts) (ss : List SegmentParts) {reach pins : ℕ} {H : History} {A f : ℕ} {U : List Message}
     (fits : FitsFull sum size device fault place (s ∷ ss) reach pins H A f U) (big : 256 ≤ size) (whole : fault ≡ None) where

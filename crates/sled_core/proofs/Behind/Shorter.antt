@@ -78,7 +78,7 @@ module _ (sum : List ℕ → ℕ) (none : NoHeaderOfZeros sum) (size : ℕ) (som
     stands : StandsTo sum size log H reach first reach
     stands = kept_stands sum size Used longer log keeps same_in H reach first reach among.stands
         (λ s there. its_slot least s ((among.stands.numbers.found s).0 there))
-        (λ page m entry. let of = (among.stands.needed page m entry).0 in its_slot 0 of.segment of.found)
+        (λ cut low high page m entry. let of = (among.stands.needed cut low high page m entry).0 in its_slot 0 of.segment of.found)
 
     stands_back : (x : SegmentPosition) (so_far : ℕ) → StandsIn sum size longer least among.stands.scanned x so_far → StandsIn sum size log least stands.scanned x so_far
     stands_back x so_far its = record {

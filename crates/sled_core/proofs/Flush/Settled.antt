@@ -33,21 +33,21 @@ blobs_above sum blobs H low high ordered more inline are = record {
 pub blobs_higher : (sum : List ℕ → ℕ) (blobs : NamesState) (H : History) (low high : ℕ) → Ascends H.messages → low ≤ high → InlineFrom H low → BlobsFit sum blobs H low → BlobsFit sum blobs H high
 blobs_higher sum blobs H low high ordered more inline fit = λ left leaves only_own. blobs_above sum left H low high ordered more inline (fit left leaves only_own)
 
--- A content whose log file stands up to a place can be recovered, where its snapshots can and its blobs can for that place.
-pub stands_recoverable : (sum : List ℕ → ℕ) (size : ℕ) → 256 ≤ size → (content : Content) (H : History) (A f : ℕ) (first : SnapshotModel) (reach : ℕ) → Ascends H.messages → InlineFrom H reach
-    → AreRecoverableSnapshots sum size content.snapshots H f first → AreRecoverableBlobs sum content.blobs H reach → StandsTo sum size content.log H A first reach → Recoverable sum size content H A f
+-- A content whose log file stands up to a place can be recovered, where its snapshots can and its blobs can for the stable place.
+pub stands_recoverable : (sum : List ℕ → ℕ) (size : ℕ) → 256 ≤ size → (content : Content) (H : History) (A f : ℕ) (first : SnapshotModel) (reach : ℕ) → Ascends H.messages → InlineFrom H A
+    → AreRecoverableSnapshots sum size content.snapshots H f first → AreRecoverableBlobs sum content.blobs H A → StandsTo sum size content.log H A first reach → Recoverable sum size content H A f
 unfolding Recoverable
 stands_recoverable sum size some content H A f first reach ordered inline snapshots blobs stands =
     let reached = reached_recoverable sum size content.log some H A first reach stands ordered in
-    record { first = first; cut = reached.0; snapshots = snapshots; log = reached.2; blobs = blobs_above sum content.blobs H reach reached.0.0 ordered reached.1 inline blobs }
+    record { first = first; cut = reached.0; snapshots = snapshots; log = reached.2; blobs = blobs_above sum content.blobs H A reached.0.0 ordered reached.1 inline blobs }
 
 -- what is at rest is so with the bytes that are read
 pub rests : (device : LogState) (log : List ℕ) → device ≡ at_rest log → device ≡ at_rest device.bytes
 rests device log is = is ∙ sym (ap (λ (s : LogState). at_rest s.bytes) is)
 
 -- A device at rest whose log file stands up to a place leaves only contents that can be recovered.
-pub settled_recoverable : (sum : List ℕ → ℕ) (size : ℕ) → 256 ≤ size → (device : State) (H : History) (A f : ℕ) (first : SnapshotModel) (reach : ℕ) → Ascends H.messages → InlineFrom H reach → device.log ≡ at_rest device.log.bytes
-    → NamesFit sum size device.snapshots H f first → BlobsFit sum device.blobs H reach → (NoHeaderOfZeros sum → StandsTo sum size device.log.bytes H A first reach) → LeavesRecoverable sum size H A f device
+pub settled_recoverable : (sum : List ℕ → ℕ) (size : ℕ) → 256 ≤ size → (device : State) (H : History) (A f : ℕ) (first : SnapshotModel) (reach : ℕ) → Ascends H.messages → InlineFrom H A → device.log ≡ at_rest device.log.bytes
+    → NamesFit sum size device.snapshots H f first → BlobsFit sum device.blobs H A → (NoHeaderOfZeros sum → StandsTo sum size device.log.bytes H A first reach) → LeavesRecoverable sum size H A f device
 settled_recoverable sum size some device H A f first reach ordered inline rest names blobs stands = λ left leaves only_own.
     let same : left.log ≡ device.log.bytes = at_rest_left device.log.bytes left.log (subst (λ (s : LogState). LeavesLog s left.log) rest leaves.log) in
     stands_recoverable sum size some left H A f first reach ordered inline (names left.snapshots leaves.snapshots only_own.snapshots) (blobs left.blobs leaves.blobs only_own.blobs)

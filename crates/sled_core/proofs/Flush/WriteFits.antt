@@ -22,7 +22,7 @@ use Rattle.sled_core.specs.Running.{BlobsFit, FitsIn, NamesFit}
 use Rattle.sled_core.proofs.Flush.Padded.{padded_none}
 use Rattle.sled_core.proofs.Flush.Settled.{InlineFrom, rests}
 use Rattle.sled_core.proofs.Holds.WholeHistory.{whole_ascends, whole_inline}
-use Rattle.sled_core.proofs.Reached.Recoverable.{less_than}
+use Rattle.sled_core.proofs.Reached.Marks.{less_than}
 use Rattle.sled_core.proofs.Reached.StandsTo.{StandsTo}
 use Rattle.sled_core.proofs.Sealed.WriteMoments as moments
 use Rattle.sled_core.proofs.Torn.TornLemmas.{after_write}

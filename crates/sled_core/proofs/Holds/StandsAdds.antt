@@ -16,7 +16,7 @@ use Rattle.sled_core.specs.Recoverable.{NoHeaderOfZeros, NoMessageBegins, NoBatc
 use Rattle.sled_core.specs.Scan.{IsFoundSegment, IsScan}
 use Rattle.sled_core.specs.SealedBuffers.{AreZeros}
 use Rattle.sled_core.specs.Tail.{Scanned, IsScanned, least_place}
-use Rattle.sled_core.proofs.Reached.Recoverable.{less_than}
+use Rattle.sled_core.proofs.Reached.Marks.{less_than}
 use Rattle.sled_core.proofs.Reached.SegmentsBeside.{follows, going_in}
 use Rattle.sled_core.proofs.Tail.OneTail.{place_aligned, segment_there}
 use Rattle.sled_core.proofs.Sealed.HeadWritten.{reached_near}
@@ -109,25 +109,27 @@ module _ (sum : List ℕ → ℕ) (size : ℕ) (log : List ℕ) (some : 256 ≤ 
       not_both same = cc
 
   -- a mark that lay below the place does so still
-  mark_new : (s : Segment) → Contains is.ordering s → IsMarkBelow size H' reach s.mark
+  mark_new : (s : Segment) → Contains is.ordering s → IsMarkBelow size H' A s.mark
   mark_new s there = elim (is.marks_below s there) [
     | inl below ↦ inl below
     | inr (n, at, under, message, batch, ended) ↦ (
         let low : n < m.place = mark_below s.mark n m.place at (marks s there) in
-        inr (n, at, under, none_begins reach (n + 1) (inr (omega (arith, low))) message, no_batch reach (n + 1) batch, λ b at_b. ended b (batch_was b at_b)))
+        inr (n, at, under, none_begins A (n + 1) (inr (omega (arith, low))) message, no_batch A (n + 1) batch, λ b at_b. ended b (batch_was b at_b)))
   ]
 
-  segment_of_new : (n : Message) → IsSegmentOf sum size log H reach n → IsSegmentOf sum size log H' reach n
-  segment_of_new n of = record {
+  segment_of_new : (cut : ℕ) → cut ≤ reach → (n : Message) → IsSegmentOf sum size log H cut n → IsSegmentOf sum size log H' cut n
+  segment_of_new cut high n of = record {
     segment = of.segment;
     found = of.found;
     place = of.place;
     reached = of.reached;
-    whole = λ x there same under. of.whole x (among H H' m reach adds above x there under) same under;
+    whole = λ x there same under. of.whole x (among H H' m cut adds (omega (arith, high, above)) x there under) same under;
   }
 
-  needed_new : (page : ℕ) (n : Message) → Contains (table H' reach page) n → IsSegmentOf sum size log H' reach n × StandsInline sum size log n n.pointer
-  needed_new page n entry = let had = is.needed page n (entry_stays H H' m adds reach page above n entry) in (segment_of_new n had.0, had.1)
+  needed_new : (cut : ℕ) → A ≤ cut → cut ≤ reach → (page : ℕ) (n : Message) → Contains (table H' cut page) n → IsSegmentOf sum size log H' cut n × StandsInline sum size log n n.pointer
+  needed_new cut low high page n entry =
+      let had = is.needed cut low high page n (entry_stays H H' m adds cut page (omega (arith, high, above)) n entry) in
+      (segment_of_new cut high n had.0, had.1)
 
   -- It stands so for the history with the message.
   pub stands-adds : StandsTo sum size log H' A first reach

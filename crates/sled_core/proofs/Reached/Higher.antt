@@ -1,4 +1,4 @@
--- A log file that stands up to a place stands up to a higher one, where the reading of one segment ends: that segment is led to, and nothing of the history begins before it, nor is a batch open there.
+-- A log file that stands up to a place stands up to a higher one, where the reading of one segment ends: that segment is led to, and nothing of the history begins before it. Its stable place is then raised to where no batch is open.
 use Rattle.std.proofs.Common.{◌≡◌, ◌≢◌, ◌⊎◌, ◌∙◌, ◌+◌, ◌*◌, ◌/◌, ◌%◌, ◌<◌, ◌≤◌, ℕ, List, sym, ap, subst, arith, inl, inr}
 use Rattle.std.specs.List.{Contains}
 use Rattle.std.proofs.lemmas.Bool.{cases_lt, cases_order}
@@ -18,7 +18,7 @@ use Rattle.sled_core.proofs.Tail.Rows.{path_covers, stop_inside}
 use Rattle.sled_core.proofs.Tail.Multiples.{put_down, one_multiple}
 use Rattle.sled_core.proofs.Tail.Tails.{further, whole}
 use Rattle.sled_core.proofs.Reached.ReachedEntries.{reached_of}
-use Rattle.sled_core.proofs.Reached.Recoverable.{mark_higher}
+use Rattle.sled_core.proofs.Reached.Marks.{mark_higher}
 use Rattle.sled_core.proofs.Reached.StandsTo.{StandsTo}
 
 -- The segment before one at this place begins below what was reached, and leads on.
@@ -38,6 +38,27 @@ pub known_in : (sum : List ℕ → ℕ) (size : ℕ) (log : List ℕ) (H : Histo
     → Contains is.scanned t
 known_in sum size log H A first reach is t found scan = reading_there sum size log is.ordering is.scanned is.reads t ((is.numbers.found t.segment).1 found) scan
 
+-- The stable place is raised to one that was reached, at which no batch is open.
+pub stands_raised : (sum : List ℕ → ℕ) (size : ℕ) (log : List ℕ) → 256 ≤ size → (H : History) (A : ℕ) (first : SnapshotModel) (reach : ℕ) → StandsTo sum size log H A first reach → (to : ℕ) → A ≤ to → to ≤ reach
+    → ((b : Batch) → Contains H.batches b → b.low < to → b.peg < to) → StandsTo sum size log H to first reach
+stands_raised sum size log some H A first reach is to up within closed = record {
+  ordering = is.ordering;
+  numbers = is.numbers;
+  scanned = is.scanned;
+  reads = is.reads;
+  marks = is.marks;
+  truth = is.truth;
+  caps = is.caps;
+  not_below = let low = is.not_below in omega (arith, low, up);
+  passes = within;
+  marks_below = λ s there. mark_higher size some H A to up s.mark (is.marks_below s there);
+  placed = is.placed;
+  batched = is.batched;
+  closed = closed;
+  gapless = is.gapless;
+  needed = λ cut low high. is.needed cut (omega (arith, low, up)) high;
+}
+
 -- what leads to a segment does so where it is read as before
 pub led_as_before : (size : ℕ) (xs ys : List Scanned) (least reach place : ℕ) → ((t : Scanned) → Contains xs t → t.why ≢ Broken → Contains ys t) → IsBegunOrLedTo size xs least reach place → IsBegunOrLedTo size ys least reach place
 led_as_before size xs ys least reach place stays (inl below) = inl below
@@ -46,7 +67,7 @@ led_as_before size xs ys least reach place stays (inr (inr last)) = inr (inr (re
 
 module _ (sum : List ℕ → ℕ) (size : ℕ) (log : List ℕ) (some : 256 ≤ size) (H : History) (A : ℕ) (first : SnapshotModel) (reach : ℕ) (is : StandsTo sum size log H A first reach) (ordered : Ascends H.messages)
     (y : Scanned) (known : Contains is.scanned y) (far : reach ≤ y.segment.place + y.stop) (led : IsBegunOrLedTo size is.scanned (least_place size first) reach y.segment.place)
-    (between : NoMessageBegins H reach y.segment.place) (closed : (b : Batch) → Contains H.batches b → b.low < y.segment.place + y.stop → b.peg < y.segment.place + y.stop) where
+    (between : NoMessageBegins H reach y.segment.place) where
   abbrev least : ℕ
   least = least_place size first
 
@@ -127,16 +148,16 @@ module _ (sum : List ℕ → ℕ) (size : ℕ) (log : List ℕ) (some : 256 ≤ 
         | inr le ↦ (le, one_multiple size some place n.place aligned le (omega (arith, lower, short)))
       ]
 
-  high_entry : (m : Message) → Contains H.messages m → reach ≤ m.place → m.place < high → IsSegmentOf sum size log H high m × StandsInline sum size log m m.pointer
-  high_entry m there above lower =
-      let here = begins_here m there above lower in
-      let its = read_here m there here.0 lower in (
+  high_entry : (cut : ℕ) → cut ≤ high → (m : Message) → Contains H.messages m → reach ≤ m.place → m.place < cut → IsSegmentOf sum size log H cut m × StandsInline sum size log m m.pointer
+  high_entry cut up m there above lower =
+      let here = begins_here m there above (omega (arith, lower, up)) in
+      let its = read_here m there here.0 (omega (arith, lower, up)) in (
         record {
           segment = y.segment;
           found = record { slot = y_found.slot; header = y_found.header; not_below = omega arith };
           place = sym here.1;
           reached = its.0;
-          whole = λ n at_n same under. (let own = put_down size n.place in (read_here n at_n (omega (arith, own.0, ap (λ k. k * size) same, here.1)) under).0);
+          whole = λ n at_n same under. (let own = put_down size n.place in (read_here n at_n (omega (arith, own.0, ap (λ k. k * size) same, here.1)) (omega (arith, under, up))).0);
         },
         its.1,
       )
@@ -152,25 +173,33 @@ module _ (sum : List ℕ → ℕ) (size : ℕ) (log : List ℕ) (some : 256 ≤ 
       let one : y.segment ≡ of.segment = one_at_place is.ordering (rises_of is.ordering is.numbers.ascending) y.segment of.segment y_known.0 also (sym places) in
       subst (λ (u : Segment). IsReachedIn sum size log u n) one (read_here n there here.0 lower).0
 
-  low_entry : (m : Message) → IsSegmentOf sum size log H reach m → IsSegmentOf sum size log H high m
-  low_entry m of = record {
+  low_entry : (cut : ℕ) → cut ≤ high → (m : Message) → IsSegmentOf sum size log H reach m → IsSegmentOf sum size log H cut m
+  low_entry cut up m of = record {
     segment = of.segment;
     found = of.found;
     place = of.place;
     reached = of.reached;
-    whole = λ n there same under. elim (cases_lt n.place reach) [ inl low ↦ of.whole n there same low | inr above ↦ low_segment m of n there same above under ];
+    whole = λ n there same under. elim (cases_lt n.place reach) [ inl low ↦ of.whole n there same low | inr above ↦ low_segment m of n there same above (omega (arith, under, up)) ];
   }
 
-  needed : (page : ℕ) (m : Message) → Contains (table H high page) m → IsSegmentOf sum size log H high m × StandsInline sum size log m m.pointer
-  needed page m entry =
-      let from_H = from_table H high page m entry in
+  -- at a cut behind what was reached
+  needed_above : (cut : ℕ) → reach ≤ cut → cut ≤ high → (page : ℕ) (m : Message) → Contains (table H cut page) m → IsSegmentOf sum size log H cut m × StandsInline sum size log m m.pointer
+  needed_above cut above up page m entry =
+      let from_H = from_table H cut page m entry in
       elim (cases_lt m.place reach) [
-        | inl low ↦ (let had = is.needed page m (entry_earlier H ordered reach high page far m low entry) in (low_entry m had.0, had.1))
-        | inr above ↦ high_entry m from_H.0 above from_H.2
+        | inl low ↦ (
+            let near = is.passes in
+            let had = is.needed reach near (omega arith) page m (entry_earlier H ordered reach cut page above m low entry) in
+            (low_entry cut up m had.0, had.1))
+        | inr behind ↦ high_entry cut up m from_H.0 behind from_H.2
       ]
 
-  pub stands_higher : (A' : ℕ) → A' ≤ high → StandsTo sum size log H A' first high
-  stands_higher A' passes = record {
+  needed : (cut : ℕ) → A ≤ cut → cut ≤ high → (page : ℕ) (m : Message) → Contains (table H cut page) m → IsSegmentOf sum size log H cut m × StandsInline sum size log m m.pointer
+  needed cut low up = elim (cases_lt cut reach) [ inl under ↦ is.needed cut low (omega (arith, under)) | inr above ↦ needed_above cut above up ]
+
+  -- What is read reaches further. A batch may be open in that.
+  pub stands_further : StandsTo sum size log H A first high
+  stands_further = record {
     ordering = is.ordering;
     numbers = is.numbers;
     scanned = is.scanned;
@@ -178,12 +207,16 @@ module _ (sum : List ℕ → ℕ) (size : ℕ) (log : List ℕ) (some : 256 ≤ 
     marks = is.marks;
     truth = is.truth;
     caps = is.caps;
-    not_below = let low = is.not_below in omega (arith, low, far);
-    passes = passes;
-    marks_below = λ s there. mark_higher sum size log some H A first reach is ordered high far s.mark (is.marks_below s there);
+    not_below = is.not_below;
+    passes = let near = is.passes in omega (arith, near, far);
+    marks_below = is.marks_below;
     placed = is.placed;
     batched = is.batched;
-    closed = closed;
+    closed = is.closed;
     gapless = gapless;
     needed = needed;
   }
+
+  -- So does what is stable, where none is open there.
+  pub stands_higher : ((b : Batch) → Contains H.batches b → b.low < high → b.peg < high) → StandsTo sum size log H high first high
+  stands_higher closed = (let near = is.passes in stands_raised sum size log some H A first high stands_further high (omega (arith, near, far)) (omega arith) closed)

@@ -135,7 +135,7 @@ module _ (sum : List ℕ → ℕ) (size : ℕ) (Used : ℕ → Type 0) (old left
 
   -- The log file stands up to the same place.
   module _ (H : History) (A : ℕ) (first : SnapshotModel) (reach : ℕ) (is : StandsTo sum size old H A first reach) (listed : (s : Segment) → Contains is.ordering s → Used (s.slot / size))
-      (entered : (page : ℕ) (m : Message) (entry : Contains (table H reach page) m) → Used ((is.needed page m entry).0.segment.slot / size)) where
+      (entered : (cut : ℕ) (low : A ≤ cut) (high : cut ≤ reach) (page : ℕ) (m : Message) (entry : Contains (table H cut page) m) → Used ((is.needed cut low high page m entry).0.segment.slot / size)) where
     abbrev least : ℕ
     least = least_place size first
 
@@ -183,8 +183,8 @@ module _ (sum : List ℕ → ℕ) (size : ℕ) (Used : ℕ → Type 0) (old left
       leads = λ goes. goes;
     }
 
-    needed : (page : ℕ) (m : Message) → Contains (table H reach page) m → IsSegmentOf sum size left H reach m × StandsInline sum size left m m.pointer
-    needed page m entry = let had = is.needed page m entry in needed_kept H reach m had.0 (entered page m entry) had.1
+    needed : (cut : ℕ) → A ≤ cut → cut ≤ reach → (page : ℕ) (m : Message) → Contains (table H cut page) m → IsSegmentOf sum size left H cut m × StandsInline sum size left m m.pointer
+    needed cut low high page m entry = let had = is.needed cut low high page m entry in needed_kept H cut m had.0 (entered cut low high page m entry) had.1
 
     pub kept_stands : StandsTo sum size left H A first reach
     kept_stands = stands_still sum size old left H A first reach is is.ordering numbers each is.marks as_far is.marks_below needed

@@ -64,9 +64,9 @@ module _ (sum : List ℕ → ℕ) (size : ℕ) (log more : List ℕ) (H : Histor
   as_far : (t : Scanned) → Contains is.scanned t → IsAsFar sum size left is.ordering t
   as_far t there = record { scan = t; segment = refl; there = (known t there).0; read = again t there; far = omega arith; leads = λ goes. goes }
 
-  needed : (page : ℕ) (m : Message) → Contains (table H reach page) m → IsSegmentOf sum size left H reach m × StandsInline sum size left m m.pointer
-  needed page m entry =
-      let had = is.needed page m entry in
+  needed : (cut : ℕ) → A ≤ cut → cut ≤ reach → (page : ℕ) (m : Message) → Contains (table H cut page) m → IsSegmentOf sum size left H cut m × StandsInline sum size left m m.pointer
+  needed cut low high page m entry =
+      let had = is.needed cut low high page m entry in
       let of = had.0 in
       let u : Segment = of.segment in
       let found = of.found in (

@@ -18,7 +18,7 @@ use Rattle.sled_core.specs.Recoverable.{NoHeaderOfZeros, NoMessageBegins}
 use Rattle.sled_core.specs.Scan.{IsFoundSegment}
 use Rattle.sled_core.specs.Tail.{Scanned, least_place}
 use Rattle.sled_core.proofs.Reached.Higher.{IsBegunOrLedTo, known_in, stands_higher}
-use Rattle.sled_core.proofs.Reached.Recoverable.{less_than}
+use Rattle.sled_core.proofs.Reached.Marks.{less_than}
 use Rattle.sled_core.proofs.Reached.StandsTo.{StandsTo}
 use Rattle.sled_core.proofs.Tail.OneTail.{segment_there}
 use Rattle.sled_core.proofs.Torn.WrittenBegun.{none_in_zeros}
@@ -143,7 +143,7 @@ module _ (sum : List ℕ → ℕ) (size : ℕ) (some : 256 ≤ size) (log : List
           let same : is.scan.segment.place + is.scan.stop ≡ y.site.place + stop = omega (arith, at, ended) in
           subst (λ n. StandsTo sum size log H n first n) same
           (stands_higher sum size log some H reach first reach full.stands ordered is.scan is.there (omega (arith, same, near)) (subst (IsBegunOrLedTo size full.stands.scanned least reach) (sym at) led) (subst (NoMessageBegins H reach) (sym at) full.near.no_message)
-          (λ b there lower. let peg = closed b there (omega (arith, lower, same)) in omega (arith, peg, same)) (is.scan.segment.place + is.scan.stop) (omega arith))
+          (λ b there lower. let peg = closed b there (omega (arith, lower, same)) in omega (arith, peg, same)))
 
       anew : (site : SegmentPosition) (from : ℕ) → StandsIn sum size log least full.stands.scanned site from → StandsIn sum size log least further.scanned site from
       anew = stands_anew sum size log H reach reach (y.site.place + stop) (y.site.place + stop) first full.stands further

@@ -27,19 +27,19 @@ use Rattle.sled_core.proofs.Reached.WholeBegun.{written_begun}
 use Rattle.sled_core.proofs.Reached.WholeBehind.{written_behind}
 
 -- The write begins a segment. None that is found has its place.
-pub record BeginsSegment (sum : List ℕ → ℕ) (size : ℕ) (H : History) (ordering : List Segment) (reach slot from : ℕ) (asked : List ℕ) (place : ℕ) : Type 0 where
+pub record BeginsSegment (sum : List ℕ → ℕ) (size : ℕ) (H : History) (ordering : List Segment) (stable slot from : ℕ) (asked : List ℕ) (place : ℕ) : Type 0 where
   pub begins : from ≡ 0
   pub mark : ℤ
   pub header : IsHeader sum (take 20 asked) (pos place) mark
   pub whole : place % size ≡ 0
   pub fits : place + size < 2 ^ 63
   pub its_mark : IsMarkOf H (record { place = place; slot = slot; mark = mark })
-  pub mark_below : IsMarkBelow size H reach mark
+  pub mark_below : IsMarkBelow size H stable mark
   pub alone : (s : Segment) → Contains ordering s → s.place ≢ place
 
 module _ (sum : List ℕ → ℕ) (none : NoHeaderOfZeros sum) (size : ℕ) (some : 256 ≤ size) (old : List ℕ) (slot from : ℕ) (asked : List ℕ) (inside : from + length asked ≤ size)
     (until : ℕ) (covers : from + length asked ≤ until) (clean : (i : ℕ) → slot * size + from ≤ i → i < slot * size + until → get_or old i 0 ≡ 0) (H : History) (A : ℕ) (first : SnapshotModel) (reach : ℕ) (is : StandsTo sum size old H A first reach) (place : ℕ)
-    (how : GoesOnIn is.scanned (slot * size) from place ⊎ BeginsSegment sum size H is.ordering reach (slot * size) from asked place) (more : List ScannedRecord) (stop : ℕ) (why : ScanEnd) (clear : AreClear size until (max 20 from) more)
+    (how : GoesOnIn is.scanned (slot * size) from place ⊎ BeginsSegment sum size H is.ordering A (slot * size) from asked place) (more : List ScannedRecord) (stop : ℕ) (why : ScanEnd) (clear : AreClear size until (max 20 from) more)
     (path : IsPath sum size (overwritten old (slot * size + from) asked) (slot * size) place (max 20 from) more stop) (end : IsEnd sum size (overwritten old (slot * size + from) asked) (slot * size) place stop why)
     (truth : (x : ScannedRecord) → Contains more x → IsOfHistory sum size (overwritten old (slot * size + from) asked) H x)
     (caps : why ≡ Capped → NoMessageBegins H (place + stop) (place + size) × NoBatchBegins H (place + stop) (place + size)) where
@@ -87,13 +87,13 @@ module _ (sum : List ℕ → ℕ) (none : NoHeaderOfZeros sum) (size : ℕ) (som
   ]
 
   -- All of it.
-  pub written_stands : Ascends H.messages → slot * size ≤ length old → least_place size first ≤ place → (A' : ℕ) → A' ≤ place + stop → reach ≤ place + stop → IsBegunOrLedTo size is.scanned (least_place size first) reach place
-      → NoMessageBegins H reach place → ((b : Batch) → Contains H.batches b → b.low < place + stop → b.peg < place + stop) → StandsTo sum size new H A' first (place + stop)
-  written_stands ordered there low A' passes far led between closed = elim how [
+  pub written_stands : Ascends H.messages → slot * size ≤ length old → least_place size first ≤ place → reach ≤ place + stop → IsBegunOrLedTo size is.scanned (least_place size first) reach place
+      → NoMessageBegins H reach place → ((b : Batch) → Contains H.batches b → b.low < place + stop → b.peg < place + stop) → StandsTo sum size new H (place + stop) first (place + stop)
+  written_stands ordered there low far led between closed = elim how [
     | inl g ↦ subst
-        (λ n. A' ≤ n + stop → reach ≤ n + stop → IsBegunOrLedTo size is.scanned (least_place size first) reach n → NoMessageBegins H reach n
-        → ((b : Batch) → Contains H.batches b → b.low < n + stop → b.peg < n + stop) → StandsTo sum size new H A' first (n + stop))
-        g.at_place (written_behind sum size some old slot from asked inside H ordered A first reach is g.scan g.there g.in_slot g.ended g.broken more stop why (path_on g) (end_on g) truth (caps_on g) A') passes far led between closed
+        (λ n. reach ≤ n + stop → IsBegunOrLedTo size is.scanned (least_place size first) reach n → NoMessageBegins H reach n
+        → ((b : Batch) → Contains H.batches b → b.low < n + stop → b.peg < n + stop) → StandsTo sum size new H (n + stop) first (n + stop))
+        g.at_place (written_behind sum size some old slot from asked inside H ordered A first reach is g.scan g.there g.in_slot g.ended g.broken more stop why (path_on g) (end_on g) truth (caps_on g)) far led between closed
     | inr b ↦ written_begun sum size some old slot from asked inside H ordered A first reach is none there b.begins until covers clean place b.mark b.header low b.whole b.fits b.its_mark b.mark_below b.alone more stop why
-        (path_first b.begins) end truth caps A' passes far led between closed
+        (path_first b.begins) end truth caps far led between closed
   ]

@@ -15,13 +15,13 @@ use Rattle.sled_core.proofs.Tail.Rows.{IsRow, IsStopIn, row_below, met_stand, st
 use Rattle.sled_core.proofs.Tail.Tails.{further, whole, row, one_reading, tail_last, tail_has}
 use Rattle.sled_core.proofs.Reached.StandsTo.{StandsTo, least, begins, aligned}
 
-module _ (sum : List ℕ → ℕ) (size : ℕ) (log : List ℕ) (some : 256 ≤ size) (H : History) (A : ℕ) (first : SnapshotModel) (reach : ℕ) (is : StandsTo sum size log H A first reach)
-    (tail : List Scanned) (is_tail : IsTail sum size log is.ordering (begins sum size log some H A first reach is) tail) (end : ℕ) (ends : tail_end tail ≡ Some end) (far : reach ≤ end) where
+module _ (sum : List ℕ → ℕ) (size : ℕ) (log : List ℕ) (some : 256 ≤ size) (H : History) (first : SnapshotModel) (reach : ℕ) (is : StandsTo sum size log H reach first reach)
+    (tail : List Scanned) (is_tail : IsTail sum size log is.ordering (begins sum size log some H first reach is) tail) (end : ℕ) (ends : tail_end tail ≡ Some end) (far : reach ≤ end) where
   abbrev from : ℕ
-  from = least sum size log some H A first reach is
+  from = least sum size log some H first reach is
 
   abbrev begin : ℕ
-  begin = begins sum size log some H A first reach is
+  begin = begins sum size log some H first reach is
 
   -- the last segment of the tail
   last : (t : Scanned) × Contains is.scanned t × (end ≡ t.segment.place + t.stop)
@@ -129,8 +129,8 @@ module _ (sum : List ℕ → ℕ) (size : ℕ) (log : List ℕ) (some : 256 ≤ 
             absurd (omega (arith, apart, bounds.1, lower)))
         | inr le ↦ le
       ];
-      aligned = aligned sum size log some H A first reach is;
-      has = tail_has sum size log some from is.ordering is.numbers is.scanned is.reads begin tail is_tail (aligned sum size log some H A first reach is) end ends;
+      aligned = aligned sum size log some H first reach is;
+      has = tail_has sum size log some from is.ordering is.numbers is.scanned is.reads begin tail is_tail (aligned sum size log some H first reach is) end ends;
       whole = whole sum size log some from is.ordering is.numbers is.scanned is.reads;
     }
 

@@ -55,13 +55,13 @@ module _ (sum : List ℕ → ℕ) (size : ℕ) (log : List ℕ) where
         meets = meets;
       }
 
-module _ (sum : List ℕ → ℕ) (size : ℕ) (log : List ℕ) (some : 256 ≤ size) (H : History) (A : ℕ) (first : SnapshotModel) (reach : ℕ) (is : StandsTo sum size log H A first reach) (ordered : Ascends H.messages)
-    (end cut : ℕ) (ends : PassEnds sum size log some is.scanned (begins sum size log some H A first reach is) end cut) (far : reach ≤ cut) where
+module _ (sum : List ℕ → ℕ) (size : ℕ) (log : List ℕ) (some : 256 ≤ size) (H : History) (first : SnapshotModel) (reach : ℕ) (is : StandsTo sum size log H reach first reach) (ordered : Ascends H.messages)
+    (end cut : ℕ) (ends : PassEnds sum size log some is.scanned (begins sum size log some H first reach is) end cut) (far : reach ≤ cut) where
   abbrev from : ℕ
-  from = least sum size log some H A first reach is
+  from = least sum size log some H first reach is
 
   abbrev begin : ℕ
-  begin = begins sum size log some H A first reach is
+  begin = begins sum size log some H first reach is
 
   rises : Rises is.ordering
   rises = rises_of is.ordering is.numbers.ascending
@@ -83,7 +83,7 @@ module _ (sum : List ℕ → ℕ) (size : ℕ) (log : List ℕ) (some : 256 ≤ 
   -- a message in a segment of one that lies at the place that was reached or above it lies in the tail
   high_there : (m n : Message) → reach ≤ m.place → n.place / size ≡ m.place / size → begin ≤ n.place
   high_there m n above same =
-      let low = begins_below sum size log some H A first reach is in
+      let low = begins_below sum size log some H first reach is in
       let multiple = lower_multiple size some reach m.place above in
       let own = put_down size n.place in
       omega (arith, low, multiple, own.0, ap (λ k. k * size) same)
@@ -142,7 +142,7 @@ module _ (sum : List ℕ → ℕ) (size : ℕ) (log : List ℕ) (some : 256 ≤ 
       let from_H = from_table H cut page m entry in
       elim (cases_lt m.place reach) [
         | inl low ↦ (
-            let had = is.needed page m (entry_earlier H ordered reach cut page far m low entry) in
+            let had = is.needed reach (omega arith) (omega arith) page m (entry_earlier H ordered reach cut page far m low entry) in
             (low_entry m had.0, had.1))
         | inr high ↦ high_entry m from_H.0 high from_H.2
       ]

@@ -1,44 +1,45 @@
--- A log file that is read without a gap up to a place that the log has reached can be recovered, and the cut is that place or lies above it.
-use Rattle.std.proofs.Common.{⊎_elim, ◌≡◌, ◌⊎◌, ◌∙◌, ◌+◌, ◌-◌, ◌<◌, ◌≤◌, ◌<ℤ◌, ℕ, ℤ, pos, negsuc, List, [], ◌∷◌, Option, Some, None, refl, sym, ap, subst, arith, inl, inr, lt→ltb}
+-- A log file that is read without a gap up to a place that the log has reached can be recovered, and the cut is the stable place or lies above it.
+use Rattle.std.proofs.Common.{⊎_elim, ◌≡◌, ◌⊎◌, ◌∙◌, ◌≤◌, ℕ, List, [], ◌∷◌, Option, Some, None, sym, ap, subst, arith, inl, inr}
 use Rattle.std.specs.List.{Contains}
-use Rattle.std.proofs.lemmas.Bool.{cases_lt}
 use Rattle.sled_codec.specs.History.{Message, History, table}
 use Rattle.sled_codec.specs.Snapshots.{SnapshotModel, stable_place}
 use Rattle.sled_core.specs.declared.iterator.Segment.{Segment}
-use Rattle.sled_core.specs.Recoverable.{StandsInline, IsMarkBelow, IsSegmentOf, IsRecoverableLog, cut_from}
+use Rattle.sled_core.specs.Recoverable.{StandsInline, IsSegmentOf, IsRecoverableLog, cut_from}
 use Rattle.sled_core.specs.Tail.{Scanned, IsTail, tail_end}
 use Rattle.sled_store.proofs.Histories.Ascending.{Ascends}
-use Rattle.sled_core.proofs.Tail.GreatestMark.{mark_below}
-use Rattle.sled_core.proofs.Tail.Multiples.{lower_multiple}
 use Rattle.sled_core.proofs.Reached.ReachedCut.{some_read, cut, cut_far, cut_is, pass_ends}
 use Rattle.sled_core.proofs.Reached.ReachedEntries.{entries_there}
+use Rattle.sled_core.proofs.Reached.Marks.{mark_higher}
 use Rattle.sled_core.proofs.Reached.StandsTo.{StandsTo, begins, the_tail, tail_ends}
 
--- less than a natural number is less than a greater one
-pub less_than : (mark : ℤ) (low high : ℕ) → low ≤ high → mark <ℤ pos low → mark <ℤ pos high
-less_than (pos n) low high le lt = let under : n < low = mark_below (pos n) n low refl lt in omega (arith, lt→ltb, le, under)
-less_than (negsuc n) low high le lt = omega arith
+-- What is read up to a place is read up to the stable one, which lies no higher.
+stands_stable : (sum : List ℕ → ℕ) (size : ℕ) (log : List ℕ) (H : History) (A : ℕ) (first : SnapshotModel) (reach : ℕ) → StandsTo sum size log H A first reach → StandsTo sum size log H A first A
+stands_stable sum size log H A first reach is =
+    let near = is.passes in
+    record {
+      ordering = is.ordering;
+      numbers = is.numbers;
+      scanned = is.scanned;
+      reads = is.reads;
+      marks = is.marks;
+      truth = is.truth;
+      caps = is.caps;
+      not_below = is.not_below;
+      passes = omega arith;
+      marks_below = is.marks_below;
+      placed = is.placed;
+      batched = is.batched;
+      closed = is.closed;
+      gapless = λ z aligned low under.
+          let found = is.gapless z aligned low (omega (arith, under, near)) in
+          (found.0, found.1, found.2, ⊎_elim (λ far. inl (omega (arith, far, near))) (λ leads. inr leads) found.3);
+      needed = λ cut low high. is.needed cut low (omega (arith, high, near));
+    }
 
-module _ (sum : List ℕ → ℕ) (size : ℕ) (log : List ℕ) (some : 256 ≤ size) (H : History) (A : ℕ) (first : SnapshotModel) (reach : ℕ) (is : StandsTo sum size log H A first reach) (ordered : Ascends H.messages) where
-  -- A mark that lies below the place does so below a higher one.
-  pub mark_higher : (c : ℕ) → reach ≤ c → (mark : ℤ) → IsMarkBelow size H reach mark → IsMarkBelow size H c mark
-  mark_higher c far mark (inl lower) = inl (less_than mark reach c far lower)
-  mark_higher c far mark (inr (n, at, under, message, batch, ended)) = elim (cases_lt n c) [
-    | inl below ↦ inl (subst (λ (z : ℤ). z <ℤ pos c) (sym at) (omega (arith, lt→ltb, below)))
-    | inr above ↦ (
-        let multiple = lower_multiple size some (reach + (size - 1)) (c + (size - 1)) (omega (arith, far)) in
-        inr (
-          n,
-          at,
-          omega (arith, under, multiple),
-          λ m there. ⊎_elim (λ early. inl (omega (arith, early, far))) (λ late. inr late) (message m there),
-          λ b there. ⊎_elim (λ early. inl (omega (arith, early, far))) (λ late. inr late) (batch b there),
-          λ b there. ⊎_elim (λ early. inl (omega (arith, early, far))) (λ late. inr late) (ended b there),
-        ))
-  ]
-
+-- Where no batch is open at the place that was reached.
+module _ (sum : List ℕ → ℕ) (size : ℕ) (log : List ℕ) (some : 256 ≤ size) (H : History) (first : SnapshotModel) (reach : ℕ) (is : StandsTo sum size log H reach first reach) (ordered : Ascends H.messages) where
   abbrev begin : ℕ
-  begin = begins sum size log some H A first reach is
+  begin = begins sum size log some H first reach is
 
   -- where the tail begins a segment is found, or the snapshot ends there
   abbrev Begun : Type 0
@@ -46,10 +47,9 @@ module _ (sum : List ℕ → ℕ) (size : ℕ) (log : List ℕ) (some : 256 ≤ 
 
   -- With this tail and this cut.
   recoverable : (tail : List Scanned) → IsTail sum size log is.ordering begin tail → Begun → (c : ℕ × Option ℕ) → c ≡ cut_from size first is.scanned (tail_end tail) → reach ≤ c.0
-      → ((page : ℕ) (m : Message) → Contains (table H c.0 page) m → IsSegmentOf sum size log H c.0 m × StandsInline sum size log m m.pointer) → IsRecoverableLog sum size log H A first c
+      → ((page : ℕ) (m : Message) → Contains (table H c.0 page) m → IsSegmentOf sum size log H c.0 m × StandsInline sum size log m m.pointer) → IsRecoverableLog sum size log H reach first c
   recoverable tail is_tail begun c is_cut far needed =
       let low = is.not_below in
-      let acknowledged = is.passes in
       record {
         ordering = is.ordering;
         numbers = is.numbers;
@@ -63,8 +63,8 @@ module _ (sum : List ℕ → ℕ) (size : ℕ) (log : List ℕ) (some : 256 ≤ 
         tail_there = begun;
         is_cut = is_cut;
         not_below = omega (arith, low, far);
-        passes = omega (arith, acknowledged, far);
-        marks_below = λ s there. mark_higher c.0 far s.mark (is.marks_below s there);
+        passes = far;
+        marks_below = λ s there. mark_higher size some H reach c.0 far s.mark (is.marks_below s there);
         placed = λ m there under. is.placed m there;
         batched = λ b there under. is.batched b there;
         needed = needed;
@@ -77,24 +77,29 @@ module _ (sum : List ℕ → ℕ) (size : ℕ) (log : List ℕ) (some : 256 ≤ 
 
   by_tail : (tail : List Scanned) → (is_tail : IsTail sum size log is.ordering begin tail)
       → ((tail_end tail ≡ None) × (begin ≡ reach) × (stable_place first.stable ≡ reach)) ⊎ ((end : ℕ) × (tail_end tail ≡ Some end) × (reach ≤ end))
-      → (c : ℕ × Option ℕ) × (reach ≤ c.0) × IsRecoverableLog sum size log H A first c
+      → (c : ℕ × Option ℕ) × (reach ≤ c.0) × IsRecoverableLog sum size log H reach first c
   by_tail tail is_tail (inl (none, at, place)) = (
     (stable_place first.stable, first.active),
     omega (arith, place),
     recoverable tail is_tail (inr (at ∙ sym place)) (stable_place first.stable, first.active) (sym (ap (cut_from size first is.scanned) none)) (omega (arith, place))
-        (λ page m entry. subst (λ n. IsSegmentOf sum size log H n m × StandsInline sum size log m m.pointer) (sym place) (is.needed page m (subst (λ n. Contains (table H n page) m) place entry))),
+        (λ page m entry. subst (λ n. IsSegmentOf sum size log H n m × StandsInline sum size log m m.pointer) (sym place) (is.needed reach (omega arith) (omega arith) page m (subst (λ n. Contains (table H n page) m) place entry))),
   )
   by_tail tail is_tail (inr (end, ends, far)) =
-      let read = some_read sum size log some H A first reach is tail is_tail end ends far in
-      let c : ℕ × Option ℕ = cut sum size log some H A first reach is tail is_tail end ends far read.0 read.1 read.2 in
-      let high : reach ≤ c.0 = cut_far sum size log some H A first reach is tail is_tail end ends far read.0 read.1 read.2 in (
+      let read = some_read sum size log some H first reach is tail is_tail end ends far in
+      let c : ℕ × Option ℕ = cut sum size log some H first reach is tail is_tail end ends far read.0 read.1 read.2 in
+      let high : reach ≤ c.0 = cut_far sum size log some H first reach is tail is_tail end ends far read.0 read.1 read.2 in (
         c,
         high,
-        recoverable tail is_tail (begun_there tail is_tail end ends) c (sym (cut_is sum size log some H A first reach is tail is_tail end ends far read.0 read.1 read.2)) high
-            (entries_there sum size log some H A first reach is ordered end c.0 (pass_ends sum size log some H A first reach is tail is_tail end ends far read.0 read.1 read.2) high),
+        recoverable tail is_tail (begun_there tail is_tail end ends) c (sym (cut_is sum size log some H first reach is tail is_tail end ends far read.0 read.1 read.2)) high
+            (entries_there sum size log some H first reach is ordered end c.0 (pass_ends sum size log some H first reach is tail is_tail end ends far read.0 read.1 read.2) high),
       )
 
-  pub reached_recoverable : (c : ℕ × Option ℕ) × (reach ≤ c.0) × IsRecoverableLog sum size log H A first c
-  reached_recoverable =
-      let tail = the_tail sum size log some H A first reach is in
-      by_tail tail.0 tail.1 (tail_ends sum size log some H A first reach is tail.0 tail.1)
+  all_recoverable : (c : ℕ × Option ℕ) × (reach ≤ c.0) × IsRecoverableLog sum size log H reach first c
+  all_recoverable =
+      let tail = the_tail sum size log some H first reach is in
+      by_tail tail.0 tail.1 (tail_ends sum size log some H first reach is tail.0 tail.1)
+
+-- Up to the stable place a pass isn't stopped, whatever is open behind it.
+pub reached_recoverable : (sum : List ℕ → ℕ) (size : ℕ) (log : List ℕ) → 256 ≤ size → (H : History) (A : ℕ) (first : SnapshotModel) (reach : ℕ) → StandsTo sum size log H A first reach → Ascends H.messages
+    → (c : ℕ × Option ℕ) × (A ≤ c.0) × IsRecoverableLog sum size log H A first c
+reached_recoverable sum size log some H A first reach is ordered = all_recoverable sum size log some H first A (stands_stable sum size log H A first reach is) ordered

@@ -86,8 +86,8 @@ module _ (sum : List ℕ → ℕ) (size : ℕ) (old log : List ℕ) (H : History
         )
 
     -- Up to the same place.
-    pub stands_still : ((s : Segment) → Contains ordering s → IsMarkBelow size H reach s.mark)
-        → ((page : ℕ) (m : Message) → Contains (table H reach page) m → IsSegmentOf sum size log H reach m × StandsInline sum size log m m.pointer) → StandsTo sum size log H A first reach
+    pub stands_still : ((s : Segment) → Contains ordering s → IsMarkBelow size H A s.mark)
+        → ((cut : ℕ) → A ≤ cut → cut ≤ reach → (page : ℕ) (m : Message) → Contains (table H cut page) m → IsSegmentOf sum size log H cut m × StandsInline sum size log m m.pointer) → StandsTo sum size log H A first reach
     stands_still marks_below needed = record {
       ordering = ordering;
       numbers = numbers;

@@ -17,7 +17,7 @@ use Rattle.sled_core.proofs.Tail.Tails.{known, one_reading, tail_some, tail_ther
 use Rattle.sled_core.proofs.Tail.SegmentsFrom.{greatest_above, tail_low}
 pub use Rattle.sled_core.specs.Reached.{StandsTo}
 
-module _ (sum : List ℕ → ℕ) (size : ℕ) (log : List ℕ) (some : 256 ≤ size) (H : History) (A : ℕ) (first : SnapshotModel) (reach : ℕ) (is : StandsTo sum size log H A first reach) where
+module _ (sum : List ℕ → ℕ) (size : ℕ) (log : List ℕ) (some : 256 ≤ size) (H : History) (first : SnapshotModel) (reach : ℕ) (is : StandsTo sum size log H reach first reach) where
   abbrev pub least : ℕ
   least = least_place size first
 

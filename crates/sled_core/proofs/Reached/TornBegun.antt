@@ -81,8 +81,8 @@ module _ (sum : List ℕ → ℕ) (size : ℕ) (some : 256 ≤ size) (old : List
   lies : (s : Segment) → IsFoundSegment sum size old 0 s → (n : Message) (r : IsReachedIn sum size old s n) → (s.slot + min (r.at + r.met.len) size ≤ at) ⊎ (at + length asked ≤ s.slot)
   lies s found n r = elim (beside sum size some old slot from asked now left inside no_more leaves s.slot found.slot (other_slot 0 s found)) [ inl low ↦ inl (omega (arith, low)) | inr past ↦ inr past ]
 
-  needed : (page : ℕ) (m : Message) → Contains (table H reach page) m → IsSegmentOf sum size left H reach m × StandsInline sum size left m m.pointer
-  needed page m entry = segment_left sum size some old slot from asked now left inside no_more leaves H reach (all_found 0) lies m (is.needed page m entry)
+  needed : (cut : ℕ) → A ≤ cut → cut ≤ reach → (page : ℕ) (m : Message) → Contains (table H cut page) m → IsSegmentOf sum size left H cut m × StandsInline sum size left m m.pointer
+  needed cut below high page m entry = segment_left sum size some old slot from asked now left inside no_more leaves H cut (all_found 0) lies m (is.needed cut below high page m entry)
 
   -- Its header didn't come, or lies below the segments that are asked for.
   pub stands_without : ((s : Segment) → IsFoundSegment sum size left least s → s.slot ≢ slot * size) → StandsTo sum size left H A first reach
@@ -96,7 +96,7 @@ module _ (sum : List ℕ → ℕ) (size : ℕ) (some : 256 ≤ size) (old : List
 
   -- It came.
   module _ (place : ℕ) (mark : ℤ) (header : IsHeader sum (part left (slot * size) 20) (pos place) mark) (low : least ≤ place) (whole : place % size ≡ 0) (fits : place + size < 2 ^ 63)
-      (its_mark : IsMarkOf H (record { place = place; slot = slot * size; mark = mark })) (mark_below : IsMarkBelow size H reach mark) (alone : (s : Segment) → Contains is.ordering s → s.place ≢ place)
+      (its_mark : IsMarkOf H (record { place = place; slot = slot * size; mark = mark })) (mark_below : IsMarkBelow size H A mark) (alone : (s : Segment) → Contains is.ordering s → s.place ≢ place)
       (more : List ScannedRecord) (stop : ℕ) (why : ScanEnd) (truth : (x : ScannedRecord) → Contains more x → IsOfHistory sum size new H x)
       (caps : why ≡ Capped → NoMessageBegins H (place + stop) (place + size) × NoBatchBegins H (place + stop) (place + size)) (w : MeetsFirst sum size new left (slot * size) place 20 more stop why) where
     -- the segment that begins with the write
@@ -140,7 +140,7 @@ module _ (sum : List ℕ → ℕ) (size : ℕ) (some : 256 ≤ size) (old : List
         (λ s there. elim (put_cases seg is.ordering s there) [ inl one ↦ subst (IsReading sum size left H) one reading | inr had ↦ each s had ])
         (λ s there. elim (put_cases seg is.ordering s there) [ inl one ↦ subst (IsMarkOf H) one its_mark | inr had ↦ is.marks s had ])
         (as_far ordering (others_there seg is.ordering))
-        (λ s there. elim (put_cases seg is.ordering s there) [ inl one ↦ subst (λ (x : Segment). IsMarkBelow size H reach x.mark) one mark_below | inr had ↦ is.marks_below s had ])
+        (λ s there. elim (put_cases seg is.ordering s there) [ inl one ↦ subst (λ (x : Segment). IsMarkBelow size H A x.mark) one mark_below | inr had ↦ is.marks_below s had ])
         needed
 
 -- Where only what the log wrote passes as its own, a crash leaves the new segment with the first of the records that were written, or none there.
@@ -149,7 +149,7 @@ module _ (sum : List ℕ → ℕ) (none : NoHeaderOfZeros sum) (size : ℕ) (som
     {placed : List (ℕ × List ℕ)} (only_own : NoForeignLog sum size (after_write old (slot * size + from) asked now) placed left)
     (H : History) (A : ℕ) (first : SnapshotModel) (reach : ℕ) (is : StandsTo sum size old H A first reach)
     (place : ℕ) (mark : ℤ) (begun : IsHeader sum (take 20 asked) (pos place) mark) (whole : place % size ≡ 0) (fits : place + size < 2 ^ 63)
-    (its_mark : IsMarkOf H (record { place = place; slot = slot * size; mark = mark })) (mark_below : IsMarkBelow size H reach mark) (alone : (s : Segment) → Contains is.ordering s → s.place ≢ place)
+    (its_mark : IsMarkOf H (record { place = place; slot = slot * size; mark = mark })) (mark_below : IsMarkBelow size H A mark) (alone : (s : Segment) → Contains is.ordering s → s.place ≢ place)
     (more : List ScannedRecord) (stop : ℕ) (why : ScanEnd) (clear : AreClear size until 20 more)
     (path : IsPath sum size (overwritten old (slot * size + from) asked) (slot * size) place 20 more stop) (end : IsEnd sum size (overwritten old (slot * size + from) asked) (slot * size) place stop why)
     (truth : (x : ScannedRecord) → Contains more x → IsOfHistory sum size (overwritten old (slot * size + from) asked) H x)

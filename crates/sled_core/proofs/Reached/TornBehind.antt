@@ -193,7 +193,7 @@ module _ (sum : List ℕ → ℕ) (size : ℕ) (some : 256 ≤ size) (old : List
 
     pub stands_behind : StandsTo sum size left H A first reach
     stands_behind = stands_still sum size old left H A first reach is is.ordering numbers each is.marks as_far is.marks_below
-        (λ page m entry. segment_left sum size some old slot from asked now left inside no_more leaves H reach (all_found 0) lies m (is.needed page m entry))
+        (λ cut low high page m entry. segment_left sum size some old slot from asked now left inside no_more leaves H cut (all_found 0) lies m (is.needed cut low high page m entry))
 
 -- Where only what the log wrote passes as its own, a crash leaves the first of the records that were written.
 pub torn_behind : (sum : List ℕ → ℕ) (size : ℕ) (some : 256 ≤ size) (old : List ℕ) (slot from : ℕ) (asked now left : List ℕ) (inside : from + length asked ≤ size) (no_more : length now ≤ length asked)

@@ -21,7 +21,7 @@ use Rattle.sled_core.proofs.Torn.WrittenRecords.{AreClear}
 
 module _ (sum : List ℕ → ℕ) (none : NoHeaderOfZeros sum) (size : ℕ) (some : 256 ≤ size) (old : List ℕ) (slot from : ℕ) (asked : List ℕ) (inside : from + length asked ≤ size) (there : slot * size ≤ length old)
     (until : ℕ) (covers : from + length asked ≤ until) (clean : (i : ℕ) → slot * size + from ≤ i → i < slot * size + until → get_or old i 0 ≡ 0) (H : History) (ordered : Ascends H.messages) (A : ℕ) (first : SnapshotModel) (reach : ℕ)
-    (is : StandsTo sum size old H A first reach) (place : ℕ) (low : least_place size first ≤ place) (how : GoesOnIn is.scanned (slot * size) from place ⊎ BeginsSegment sum size H is.ordering reach (slot * size) from asked place)
+    (is : StandsTo sum size old H A first reach) (place : ℕ) (low : least_place size first ≤ place) (how : GoesOnIn is.scanned (slot * size) from place ⊎ BeginsSegment sum size H is.ordering A (slot * size) from asked place)
     (more : List ScannedRecord) (stop : ℕ) (why : ScanEnd) (clear : AreClear size until (max 20 from) more) (path : IsPath sum size (overwritten old (slot * size + from) asked) (slot * size) place (max 20 from) more stop)
     (end : IsEnd sum size (overwritten old (slot * size + from) asked) (slot * size) place stop why) (truth : (x : ScannedRecord) → Contains more x → IsOfHistory sum size (overwritten old (slot * size + from) asked) H x)
     (caps : why ≡ Capped → NoMessageBegins H (place + stop) (place + size) × NoBatchBegins H (place + stop) (place + size)) where

@@ -34,7 +34,7 @@ module _ (sum : List ℕ → ℕ) (size : ℕ) (some : 256 ≤ size) (old : List
   -- At the beginning of a segment, in a slot of zeros.
   module _ (none : NoHeaderOfZeros sum) (there : slot * size ≤ length old) (begins : from ≡ 0) (until : ℕ) (covers : from + length asked ≤ until) (clean : (i : ℕ) → slot * size + from ≤ i → i < slot * size + until → get_or old i 0 ≡ 0)
       (place : ℕ) (mark : ℤ) (header : IsHeader sum (take 20 asked) (pos place) mark) (low : least ≤ place) (whole : place % size ≡ 0) (fits : place + size < 2 ^ 63)
-      (its_mark : IsMarkOf H (record { place = place; slot = slot * size; mark = mark })) (mark_below : IsMarkBelow size H reach mark) (alone : (s : Segment) → Contains is.ordering s → s.place ≢ place)
+      (its_mark : IsMarkOf H (record { place = place; slot = slot * size; mark = mark })) (mark_below : IsMarkBelow size H A mark) (alone : (s : Segment) → Contains is.ordering s → s.place ≢ place)
       (more : List ScannedRecord) (stop : ℕ) (why : ScanEnd) (path : IsPath sum size new (slot * size) place 20 more stop) (end : IsEnd sum size new (slot * size) place stop why)
       (truth : (x : ScannedRecord) → Contains more x → IsOfHistory sum size new H x) (caps : why ≡ Capped → NoMessageBegins H (place + stop) (place + size) × NoBatchBegins H (place + stop) (place + size)) where
     done : length asked ≤ length asked
@@ -70,7 +70,7 @@ module _ (sum : List ℕ → ℕ) (size : ℕ) (some : 256 ≤ size) (old : List
         known_in sum size new H A first reach stands t (begun.all_found sum size some old slot from asked asked new inside done leaves same free H A first reach is least t.segment found)
         (begun.still_read sum size some old slot from asked asked new inside done leaves same free H A first reach is t at_t)
 
-    pub written_begun : (A' : ℕ) → A' ≤ place + stop → reach ≤ place + stop → IsBegunOrLedTo size is.scanned least reach place → NoMessageBegins H reach place
-        → ((b : Batch) → Contains H.batches b → b.low < place + stop → b.peg < place + stop) → StandsTo sum size new H A' first (place + stop)
-    written_begun A' passes far led between closed =
-        stands_higher sum size new some H A first reach stands ordered y y_known far (led_as_before size is.scanned stands.scanned least reach place stays led) between closed A' passes
+    pub written_begun : reach ≤ place + stop → IsBegunOrLedTo size is.scanned least reach place → NoMessageBegins H reach place
+        → ((b : Batch) → Contains H.batches b → b.low < place + stop → b.peg < place + stop) → StandsTo sum size new H (place + stop) first (place + stop)
+    written_begun far led between closed =
+        stands_higher sum size new some H A first reach stands ordered y y_known far (led_as_before size is.scanned stands.scanned least reach place stays led) between closed

@@ -80,8 +80,8 @@ module _ (sum : List ℕ → ℕ) (size : ℕ) (some : 256 ≤ size) (old : List
           known_in sum size new H A first reach stands t (all_found t.segment found) (same.scans least t found other had.1))
     ]
 
-    pub written_behind : (A' : ℕ) → A' ≤ z.segment.place + stop → reach ≤ z.segment.place + stop → IsBegunOrLedTo size is.scanned least reach z.segment.place → NoMessageBegins H reach z.segment.place
-        → ((b : Batch) → Contains H.batches b → b.low < z.segment.place + stop → b.peg < z.segment.place + stop) → StandsTo sum size new H A' first (z.segment.place + stop)
-    written_behind A' passes far led between closed =
+    pub written_behind : reach ≤ z.segment.place + stop → IsBegunOrLedTo size is.scanned least reach z.segment.place → NoMessageBegins H reach z.segment.place
+        → ((b : Batch) → Contains H.batches b → b.low < z.segment.place + stop → b.peg < z.segment.place + stop) → StandsTo sum size new H (z.segment.place + stop) first (z.segment.place + stop)
+    written_behind far led between closed =
         stands_higher sum size new some H A first reach stands ordered y y_known far
-        (led_as_before size is.scanned stands.scanned least reach z.segment.place stays led) between closed A' passes
+        (led_as_before size is.scanned stands.scanned least reach z.segment.place stays led) between closed

@@ -12,7 +12,7 @@ use Rattle.sled_core.specs.Scan.{IsEnd, IsScan}
 use Rattle.sled_core.specs.Tail.{Scanned, least_place}
 use Rattle.sled_core.specs.Full.{StandsFull}
 use Rattle.sled_core.proofs.Reached.NextSegment.{begins_alone}
-use Rattle.sled_core.proofs.Reached.Recoverable.{less_than}
+use Rattle.sled_core.proofs.Reached.Marks.{less_than}
 use Rattle.sled_core.proofs.Tail.Multiples.{next_multiple, one_multiple}
 use Rattle.sled_core.proofs.Tail.OneTail.{segment_there}
 

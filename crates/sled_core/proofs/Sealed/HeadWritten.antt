@@ -26,7 +26,7 @@ use Rattle.sled_core.proofs.Reached.BufferPath.{buffer_header, buffer_mark_below
 use Rattle.sled_core.proofs.Reached.Higher.{IsBegunOrLedTo, known_in}
 use Rattle.sled_core.proofs.Reached.LeftBeside.{IsSameBeside}
 use Rattle.sled_core.proofs.Reached.OneWrite.{BeginsSegment, torn_stands, written_stands}
-use Rattle.sled_core.proofs.Reached.Recoverable.{less_than}
+use Rattle.sled_core.proofs.Reached.Marks.{less_than}
 use Rattle.sled_core.specs.Full.{StandsFull}
 use Rattle.sled_core.proofs.Reached.SegmentsBeside.{follows, going_in, its_header, its_place_now, segment_grown, segment_stays}
 use Rattle.sled_core.proofs.Reached.StandsTo.{StandsTo}
@@ -168,7 +168,7 @@ module _ (sum : List ℕ → ℕ) (none : NoHeaderOfZeros sum) (size : ℕ) (som
     stands =
         subst (λ n. StandsTo sum size (overwritten old (n + from) asked) H (site.place + stop) first (site.place + stop)) its_slot
         (written_stands sum none size some old slot from asked inside until covers clean_there H reach first reach alone.stands site.place goes_on more stop why clear path_there end_there truth_there caps
-        ordered (omega (arith, its_slot, there)) low (site.place + stop) (omega arith) (omega (arith, rises, near)) (led_in sum size old site from reach H first alone) between ended)
+        ordered (omega (arith, its_slot, there)) low (omega (arith, rises, near)) (led_in sum size old site from reach H first alone) between ended)
 
     -- It is read to where the path ends.
 

@@ -61,7 +61,7 @@ module _ (sum : List ℕ → ℕ) (size : ℕ) where
     batched = λ b there. absurd (in_nothing b there);
     closed = λ b there. absurd (in_nothing b there);
     gapless = λ z aligned low under. absurd (omega (arith, under));
-    needed = λ page m there. absurd (no_entry 0 page m there);
+    needed = λ cut low high page m there. absurd (no_entry cut page m there);
   }
 
   pub nothing_active : StandsActive sum size [] empty_model no_history

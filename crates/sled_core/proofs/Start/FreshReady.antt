@@ -37,7 +37,7 @@ no_blobs sum blobs = record { needed = λ page m there. absurd (no_entry 0 page 
 pub nothing_recoverable : (sum : List ℕ → ℕ) (size : ℕ) (content : Content) → 256 ≤ size → content.log ≡ [] → ((n : ℤ) → content.snapshots n ≡ None) → Recoverable sum size content no_history 0 0
 nothing_recoverable sum size content long log snapshots =
     stands_recoverable sum size content no_history 0 0 empty_model 0 long tt (λ k d lt. absurd (omega (arith, lt)))
-    (subst (λ (l : List ℕ). StandsTo sum size l no_history 0 empty_model 0) (sym log) (nothing_stands sum size)) (none_listed sum size content.snapshots snapshots) (no_blobs sum content.blobs)
+    (subst (λ (l : List ℕ). StandsTo sum size l no_history 0 empty_model 0) (sym log) (nothing_stands sum size)) (omega arith) (none_listed sum size content.snapshots snapshots) (no_blobs sum content.blobs)
 
 pub fresh_leaves : (sum : List ℕ → ℕ) (size : ℕ) → 256 ≤ size → size < 2 ^ 63 → LeavesRecoverable sum size no_history 0 0 fresh
 fresh_leaves sum size large small left leaves own = nothing_recoverable sum size left large (at_rest_left [] left.log leaves.log) (λ n. none_left n (left.snapshots n) (leaves.snapshots n))

@@ -16,7 +16,7 @@ use Rattle.sled_core.proofs.Start.Entries.{message_used, active_used}
 use Rattle.sled_core.proofs.Start.Recoverable.{same_place}
 use Rattle.sled_core.proofs.Reached.KeptStands.{SameInUsed, found_kept, scan_kept, kept_stands}
 use Rattle.sled_core.proofs.Reached.StartedStands.{found_inside, slot_needed}
-use Rattle.sled_core.proofs.Reached.Recoverable.{less_than}
+use Rattle.sled_core.proofs.Reached.Marks.{less_than}
 use Rattle.sled_core.proofs.Tail.OneTail.{segment_there, reading_there}
 use Rattle.sled_core.proofs.Tail.Moved.{one_in_slot}
 use Rattle.sled_core.proofs.Torn.KeptSlots.{KeepsSlots}
@@ -38,10 +38,12 @@ module _ (sum : List ℕ → ℕ) (size : ℕ) (long : 20 ≤ size) (log : List 
   listed_used x there = found_used x ((alone.stands.numbers.found x).0 there)
 
   -- and so is that of each entry
-  pub entry_slot_used : (page : ℕ) (m : Message) (entry : Contains (table H stable page) m) → Uses ((alone.stands.needed page m entry).0.segment.slot / size)
-  entry_slot_used page m entry =
-      let of = (alone.stands.needed page m entry).0 in
-      (subst (λ k. is_used size s k ≡ true) (sym (slot_needed sum size log H stable m of)) (message_used size s H stable is page m entry), found_inside sum size log 0 of.segment long of.found)
+  pub entry_slot_used : (cut : ℕ) (low : stable ≤ cut) (high : cut ≤ stable) (page : ℕ) (m : Message) (entry : Contains (table H cut page) m) → Uses ((alone.stands.needed cut low high page m entry).0.segment.slot / size)
+  entry_slot_used cut low high page m entry =
+      let of = (alone.stands.needed cut low high page m entry).0 in
+      let here : cut ≡ stable = omega (arith, low, high) in
+      let at_stable = subst (λ n. Contains (table H n page) m) here entry in
+      (subst (λ k. is_used size s k ≡ true) (sym (slot_needed sum size log H cut m of)) (message_used size s H stable is page m at_stable), found_inside sum size log 0 of.segment long of.found)
 
   module _ (left : List ℕ) (keeps : KeepsSlots sum size Uses log left) (same : SameInUsed size Uses log left) where
     pub stands_left : StandsTo sum size left H stable s stable
@@ -79,7 +81,7 @@ pub begins_alone : (sum : List ℕ → ℕ) (size : ℕ) (log : List ℕ) (s fir
 begins_alone sum size log s first H site from same end begins own behind alone =
     let stable : ℕ = stable_place s.stable in
     let reach : ℕ = site.place + from in
-    let on = same_place sum size log H stable reach s first stable reach same end (omega arith) alone.stands in
+    let on = same_place sum size log H s first stable reach same end alone.stands in
     let least : least_place size first ≡ least_place size s = ap (λ n. n / size * size) same in
     let was : (x : Segment) → IsFoundSegment sum size log (least_place size first) x → IsFoundSegment sum size log (least_place size s) x = λ x found. subst (λ n. IsFoundSegment sum size log n x) least found in
     let here : (x : Segment) → IsFoundSegment sum size log (least_place size s) x → x.place ≡ site.place = λ x found.

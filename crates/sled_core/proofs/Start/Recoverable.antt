@@ -1,8 +1,7 @@
 -- What stands up to a place can be recovered, where all of the history ends below it; and it stands so for each snapshot that ends at the same place.
 use Rattle.std.proofs.Common.{⊎_elim, ◌≡◌, ◌*◌, ◌/◌, ◌≤◌, ◌<◌, ◌+◌, ℕ, ℤ, List, Option, refl, sym, ap, subst, arith, inl, inr}
-use Rattle.std.specs.List.{Contains}
 use Rattle.std.proofs.lemmas.List.Elements.{All-contains}
-use Rattle.sled_codec.specs.History.{Message, History, table}
+use Rattle.sled_codec.specs.History.{Message, History}
 use Rattle.sled_codec.specs.Snapshots.{SnapshotModel, stable_place}
 use Rattle.sled_codec.specs.WellFormed.{LieApart}
 use Rattle.sled_store.specs.Device.{LogState, State, Content, LeavesLog, at_rest}
@@ -11,16 +10,17 @@ use Rattle.sled_store.proofs.Histories.Ascending.{apart_ascends}
 use Rattle.sled_store.proofs.Histories.EarlierEntries.{entry_earlier}
 use Rattle.sled_store.proofs.Histories.TableParts.{from_table}
 use Rattle.sled_core.specs.Fits.{EndBelow}
-use Rattle.sled_core.specs.Recoverable.{Recoverable, LeavesRecoverable, IsMarkBelow, IsSegmentOf, NoHeaderOfZeros, AreRecoverableSnapshots, AreRecoverableBlobs}
+use Rattle.sled_core.specs.Recoverable.{Recoverable, LeavesRecoverable, IsMarkBelow, NoHeaderOfZeros, AreRecoverableSnapshots, AreRecoverableBlobs}
 use Rattle.sled_core.specs.Running.{BlobsFit, NamesFit}
 use Rattle.sled_core.specs.Tail.{IsOrdering}
+use Rattle.sled_core.proofs.Flush.Settled.{recoverable_less}
 use Rattle.sled_core.proofs.Reached.Recoverable.{reached_recoverable}
 use Rattle.sled_core.proofs.Reached.StandsTo.{StandsTo}
 
--- The same segments are read from another snapshot that ends at the same place, and for another end of what was acknowledged.
-pub same_place : (sum : List ℕ → ℕ) (size : ℕ) (log : List ℕ) (H : History) (A B : ℕ) (first other : SnapshotModel) (reach at : ℕ) → stable_place other.stable ≡ stable_place first.stable → at ≡ reach → B ≤ at
-    → (is : StandsTo sum size log H A first reach) → (on : StandsTo sum size log H B other at) × (on.scanned ≡ is.scanned)
-same_place sum size log H A B first other reach at same here passes is = (
+-- The same segments are read from another snapshot that ends at the same place.
+pub same_place : (sum : List ℕ → ℕ) (size : ℕ) (log : List ℕ) (H : History) (first other : SnapshotModel) (reach at : ℕ) → stable_place other.stable ≡ stable_place first.stable → at ≡ reach
+    → (is : StandsTo sum size log H reach first reach) → (on : StandsTo sum size log H at other at) × (on.scanned ≡ is.scanned)
+same_place sum size log H first other reach at same here is = (
   record {
     ordering = is.ordering;
     numbers = subst (λ n. IsOrdering sum size log (n / size * size) is.ordering) (sym same) is.numbers;
@@ -30,7 +30,7 @@ same_place sum size log H A B first other reach at same here passes is = (
     truth = is.truth;
     caps = is.caps;
     not_below = let low = is.not_below in omega (arith, low, same, here);
-    passes = passes;
+    passes = omega arith;
     marks_below = λ s there. subst (λ n. IsMarkBelow size H n s.mark) (sym here) (is.marks_below s there);
     placed = is.placed;
     batched = is.batched;
@@ -38,9 +38,7 @@ same_place sum size log H A B first other reach at same here passes is = (
     gapless = λ z aligned low under.
         let found = is.gapless z aligned (let least = ap (λ n. n / size * size) same in omega (arith, low, least)) (omega (arith, under, here)) in
         (found.0, found.1, found.2, ⊎_elim (λ far. inl (omega (arith, far, here))) (λ leads. inr leads) found.3);
-    needed = λ page m entry.
-        let had = is.needed page m (subst (λ n. Contains (table H n page) m) here entry) in
-        (subst (λ n. IsSegmentOf sum size log H n m) (sym here) had.0, had.1);
+    needed = λ cut low high. is.needed cut (omega (arith, low, here)) (omega (arith, high, here));
   },
   refl,
 )
@@ -57,16 +55,16 @@ blobs_above sum H reach cut apart below far blobs are = record {
 
 -- A content is recoverable whose log file stands up to a place at which the history has ended.
 pub stands_recoverable : (sum : List ℕ → ℕ) (size : ℕ) (left : Content) (H : History) (A f : ℕ) (first : SnapshotModel) (reach : ℕ) → 256 ≤ size → LieApart H.messages → EndBelow reach H.messages
-    → StandsTo sum size left.log H A first reach → AreRecoverableSnapshots sum size left.snapshots H f first → AreRecoverableBlobs sum left.blobs H reach → Recoverable sum size left H A f
+    → StandsTo sum size left.log H reach first reach → A ≤ reach → AreRecoverableSnapshots sum size left.snapshots H f first → AreRecoverableBlobs sum left.blobs H reach → Recoverable sum size left H A f
 unfolding Recoverable
-stands_recoverable sum size left H A f first reach long apart below stands snapshots blobs =
-    let log = reached_recoverable sum size left.log long H A first reach stands (apart_ascends H.messages apart) in
-    record { first = first; cut = log.0; snapshots = snapshots; log = log.2; blobs = blobs_above sum H reach log.0.0 apart below log.1 left.blobs blobs }
+stands_recoverable sum size left H A f first reach long apart below stands passes snapshots blobs =
+    let log = reached_recoverable sum size left.log long H reach first reach stands (apart_ascends H.messages apart) in
+    recoverable_less sum size left H A reach f passes (record { first = first; cut = log.0; snapshots = snapshots; log = log.2; blobs = blobs_above sum H reach log.0.0 apart below log.1 left.blobs blobs })
 
 -- So it is with whatever a crash leaves of a settled log file that stands so.
 pub settled_leaves : (sum : List ℕ → ℕ) (size : ℕ) (device : State) (log : List ℕ) (H : History) (A f : ℕ) (first : SnapshotModel) (reach : ℕ) → 256 ≤ size → LieApart H.messages → EndBelow reach H.messages → device.log ≡ at_rest log
-    → (NoHeaderOfZeros sum → StandsTo sum size log H A first reach) → NamesFit sum size device.snapshots H f first → BlobsFit sum device.blobs H reach → LeavesRecoverable sum size H A f device
-settled_leaves sum size device log H A f first reach long apart below settled stands names blobs left leaves own =
+    → (NoHeaderOfZeros sum → StandsTo sum size log H reach first reach) → A ≤ reach → NamesFit sum size device.snapshots H f first → BlobsFit sum device.blobs H reach → LeavesRecoverable sum size H A f device
+settled_leaves sum size device log H A f first reach long apart below settled stands passes names blobs left leaves own =
     let here : left.log ≡ log = at_rest_left log left.log (subst (λ (l : LogState). LeavesLog l left.log) settled leaves.log) in
-    stands_recoverable sum size left H A f first reach long apart below (subst (λ (l : List ℕ). StandsTo sum size l H A first reach) (sym here) (stands own.zeros))
+    stands_recoverable sum size left H A f first reach long apart below (subst (λ (l : List ℕ). StandsTo sum size l H reach first reach) (sym here) (stands own.zeros)) passes
     (names left.snapshots leaves.snapshots own.snapshots) (blobs left.blobs leaves.blobs own.blobs)

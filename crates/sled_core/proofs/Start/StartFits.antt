@@ -60,7 +60,7 @@ module _ (sum : List ℕ → ℕ) (size : ℕ) (device now : State) (s : Snapsho
   left_now : LeavesRecoverable sum size H stable f now
   left_now =
       settled_leaves sum size now new H stable f ready.ready.first stable long ready.ready.apart ready.ready.below log_is
-      (λ zeros. (same_place sum size new H stable stable s ready.ready.first stable stable same_stable refl (omega arith) (active_now zeros).stands).0)
+      (λ zeros. (same_place sum size new H s ready.ready.first stable stable same_stable refl (active_now zeros).stands).0) (omega arith)
       (subst (λ (n : NamesState). NamesFit sum size n H f ready.ready.first) (sym same_names) ready.names) (subst (λ (n : NamesState). BlobsFit sum n H stable) (sym same_blobs) ready.blobs)
 
   -- Where it begins at a site.

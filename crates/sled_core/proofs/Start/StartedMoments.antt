@@ -75,8 +75,8 @@ module _ (sum : List ℕ → ℕ) (size : ℕ) (t : Trace) (s : SnapshotModel) (
   recoverable_left x has left leaves own active =
       let names : NamesFit sum size x.snapshots H f ready.ready.first = subst (λ (n : NamesState). NamesFit sum size n H f ready.ready.first) (sym has.snapshots) ready.names in
       let blobs : BlobsFit sum x.blobs H stable = subst (λ (n : NamesState). BlobsFit sum n H stable) (sym has.blobs) ready.blobs in
-      let on = same_place sum size left.log H stable A s ready.ready.first stable stable (ap stable_place ready.ready.same_place) refl ready.passes active.stands in
-      stands_recoverable sum size left H A f ready.ready.first stable long ready.ready.apart ready.ready.below on.0 (names left.snapshots leaves.snapshots own.snapshots) (blobs left.blobs leaves.blobs own.blobs)
+      let on = same_place sum size left.log H s ready.ready.first stable stable (ap stable_place ready.ready.same_place) refl active.stands in
+      stands_recoverable sum size left H A f ready.ready.first stable long ready.ready.apart ready.ready.below on.0 ready.passes (names left.snapshots leaves.snapshots own.snapshots) (blobs left.blobs leaves.blobs own.blobs)
 
   settled : device.log ≡ at_rest log
   settled = ready.ready.settled ∙ ap (λ (l : LogState). at_rest l.bytes) (sym ready.ready.settled)

@@ -1,10 +1,10 @@
 -- A recoverable log file under a snapshot with the cut for its place is read without a gap up to the cut, for a history of which all lies below: so a log that goes on from a recovery begins with a file that stands up to its own place.
-use Rattle.std.proofs.Common.{⊎_elim, ◌≡◌, ◌⊎◌, ◌∙◌, ◌+◌, ◌*◌, ◌/◌, ◌%◌, ◌<◌, ◌≤◌, ℕ, List, Option, Some, None, refl, sym, ap, arith, inl, inr}
+use Rattle.std.proofs.Common.{⊎_elim, ◌≡◌, ◌⊎◌, ◌∙◌, ◌+◌, ◌*◌, ◌/◌, ◌%◌, ◌<◌, ◌≤◌, ℕ, List, Option, Some, None, refl, sym, ap, subst, arith, inl, inr}
 use Rattle.std.specs.List.{Contains}
 use Rattle.std.proofs.lemmas.Bool.{cases_lt}
-use Rattle.sled_codec.specs.History.{Message, Batch, History, CutFits}
+use Rattle.sled_codec.specs.History.{Message, Batch, History, CutFits, table}
 use Rattle.sled_codec.specs.Snapshots.{SnapshotModel, stable_place}
-use Rattle.sled_core.specs.Recoverable.{ActiveFits, IsRecoverableLog}
+use Rattle.sled_core.specs.Recoverable.{ActiveFits, IsRecoverableLog, IsSegmentOf, StandsInline}
 use Rattle.sled_log.specs.Recovery.{Scanned, least_place}
 use Rattle.sled_core.proofs.Tail.Multiples.{put_down}
 use Rattle.sled_core.proofs.Tail.Tails.{further}
@@ -66,7 +66,8 @@ module _ (sum : List ℕ → ℕ) (size : ℕ) (log : List ℕ) (some : 256 ≤ 
         (λ ends. absurd (omega (arith, ends, at, under)))
         (λ found. (found.0, found.1, found.2 ∙ sym at, inl (omega (arith, found.3, at))))
         its_segment;
-    needed = is.needed;
+    needed = λ at low high. subst (λ n. (page : ℕ) (m : Message) → Contains (table H n page) m → IsSegmentOf sum size log H n m × StandsInline sum size log m m.pointer)
+        (omega (arith, low, high)) is.needed;
   }
 
   -- what is read of it is the same
