@@ -14,6 +14,7 @@ pub mod ReachedEntries
 pub mod Recoverable
 pub mod Reread
 pub mod SegmentsBeside
+pub mod StableBelow
 pub mod StandsTo
 pub mod StartedStands
 pub mod TornBegun

@@ -8,17 +8,18 @@ use Rattle.sled_store.specs.Device.{State}
 use Rattle.sled_core.specs.declared.iobuf.SegmentPosition.{SegmentPosition}
 use Rattle.sled_core.specs.declared.iterator.Segment.{Segment}
 use Rattle.sled_core.specs.Begun.{SegmentParts}
-use Rattle.sled_core.specs.Fits.{CloseBelow, HoldsIn, begun_segment, log_parts}
+use Rattle.sled_core.specs.Fits.{HasInline, HoldsIn, begun_segment, log_parts}
 use Rattle.sled_core.specs.LogFile.{padded}
 use Rattle.sled_core.specs.Reached.{BeginsNext, BeginsOne, BegunSegment, LeadsTo, StandsIn, StandsTo}
-use Rattle.sled_core.specs.Recoverable.{LeavesRecoverable, NoHeaderOfZeros}
+use Rattle.sled_core.specs.OpenBatches.{stable_below}
+use Rattle.sled_core.specs.Recoverable.{LeavesRecoverable, NoBatchBegins, NoBatchEnds, NoHeaderOfZeros}
 use Rattle.sled_core.specs.Running.{BlobsFit, NamesFit}
 use Rattle.sled_core.specs.Scan.{IsFoundSegment}
 use Rattle.sled_core.specs.Tail.{least_place}
 
 -- The segment before one at this place is full and read to its end; behind it come these, each as far as it is written.
 pub record StandsFull (sum : List ℕ → ℕ) (size : ℕ) (log : List ℕ) (place : ℕ) (others : List BegunSegment) (reach : ℕ) (H : History) (first : SnapshotModel) : Type 0 where
-  pub stands : StandsTo sum size log H reach first reach
+  pub stands : StandsTo sum size log H (stable_below reach H.batches) first reach
   pub leads : LeadsTo sum size log (least_place size first) reach place
   pub near : BeginsNext size H reach place
   pub behind : (x : BegunSegment) → Contains others x → StandsIn sum size log (least_place size first) stands.scanned x.site x.from
@@ -36,16 +37,19 @@ pub record FitsFull (sum : List ℕ → ℕ) (size : ℕ) (device : State) (faul
   -- a reader comes up to there, behind all messages before the place
   pub near : reach ≤ place
   pub ends : (m : Message) → Contains H.messages m → m.place < place → (m.place < reach) × (m.place + m.size ≤ reach)
-  pub closes : CloseBelow reach H.batches
+  -- no batch begins or ends between
+  pub no_batch : NoBatchBegins H reach place
+  pub no_end : NoBatchEnds H reach place
   -- the header of a segment of which nothing is written has a mark below the place
   pub marked : (s : SegmentParts) → Contains behind s → s.written_len ≡ 0 → (mark : ℤ) → IsHeader sum (take 20 s.bytes) (pos s.site.place) mark → mark <ℤ pos place
   -- so stands the file, with any number of zeros behind its end
   pub beyond : (to : ℕ) → fault ≡ None → NoHeaderOfZeros sum → StandsFull sum size (padded to device.log.bytes) place (map begun_segment behind) reach H holds.begun.first
-  pub blobs : BlobsFit sum device.blobs H reach
+  pub blobs : BlobsFit sum device.blobs H (stable_below reach H.batches)
+  pub inline : (m : Message) → Contains H.messages m → stable_below reach H.batches ≤ m.place → HasInline m
   pub names : NamesFit sum size device.snapshots H f holds.begun.first
-  -- all that was acknowledged is written
-  pub passes : A ≤ reach
+  -- all that was acknowledged is stable
+  pub passes : A ≤ stable_below reach H.batches
   -- a pin is out while a completed message is not marked
   pub pinned : U ≢ [] → 0 < pins
-  -- what a crash leaves now can be recovered, with all that is written counted as acknowledged
-  pub left : LeavesRecoverable sum size H reach f device
+  -- what a crash leaves now can be recovered, with all that is stable counted as acknowledged
+  pub left : LeavesRecoverable sum size H (stable_below reach H.batches) f device

@@ -8,6 +8,7 @@ use Rattle.sled_core.specs.declared.iterator.Segment.{Segment}
 use Rattle.sled_core.specs.declared.iterator.scan.ScannedRecord.{ScannedRecord}
 use Rattle.sled_core.specs.declared.iterator.scan.ScanEnd.{ScanEnd}
 use Rattle.sled_core.specs.declared.iterator.scan.ScanEnd.TheVariants.{Capped, Broken}
+use Rattle.sled_core.specs.OpenBatches.{stable_below}
 use Rattle.sled_core.specs.Scan.{IsFoundSegment}
 use Rattle.sled_core.specs.Tail.{IsOrdering, IsScanned, Scanned, AreScanned, least_place}
 use Rattle.sled_core.specs.Recoverable.{NoMessageBegins, NoBatchBegins, NoBatchEnds, StandsInline, IsOfHistory, IsSegmentOf, IsMarkOf, IsMarkBelow, LiesInSegment, IsPlacedBatch}
@@ -101,9 +102,9 @@ FollowApart site (x ∷ xs) = ((y : BegunSegment) → Contains (x ∷ xs) y → 
 abbrev pub BeginsOne : List BegunSegment → ℕ → Type 0
 BeginsOne others place = (x : BegunSegment) × Contains others x × (x.site.place ≡ place)
 
--- A reader reads the log file without a gap up to a place, where a write of a segment goes on. That segment and the others that were begun behind it stand there, each as far as it is written, no other one lies behind it, and no mark behind what is written.
+-- A reader reads the log file without a gap up to a place, where a write of a segment goes on, and doesn't stop before the stable place of that. That segment and the others that were begun behind it stand there, each as far as it is written, no other one lies behind it, and no mark behind what is written.
 pub record StandsAmong (sum : List ℕ → ℕ) (size : ℕ) (log : List ℕ) (site : SegmentPosition) (from : ℕ) (others : List BegunSegment) (reach : ℕ) (H : History) (first : SnapshotModel) : Type 0 where
-  pub stands : StandsTo sum size log H reach first reach
+  pub stands : StandsTo sum size log H (stable_below reach H.batches) first reach
   pub reached : ReachesIn size H site.place from reach
   pub led : IsLed sum size log (least_place size first) reach site.place
   pub here : StandsIn sum size log (least_place size first) stands.scanned site from

@@ -13,9 +13,10 @@ use Rattle.sled_store.specs.SegmentStates.{Machine}
 use Rattle.sled_store.specs.SnapshotFiles.{IsSnapshotFile}
 use Rattle.sled_core.specs.declared.logger.Log.{Log}
 use Rattle.sled_core.specs.Begun.{SegmentParts, SegmentView}
-use Rattle.sled_core.specs.Fits.{CloseBelow, LogParts, begun_segment, line_of, log_parts, parts_in, HoldsIn}
+use Rattle.sled_core.specs.Fits.{HasInline, LogParts, begun_segment, line_of, log_parts, parts_in, HoldsIn}
 use Rattle.sled_core.specs.FreeSlots.{HasSlots}
-use Rattle.sled_core.specs.Recoverable.{ActiveFits, AreRecoverableSnapshots, AreRecoverableBlobs, NoHeaderOfZeros, LeavesRecoverable}
+use Rattle.sled_core.specs.OpenBatches.{stable_below}
+use Rattle.sled_core.specs.Recoverable.{ActiveFits, AreRecoverableSnapshots, AreRecoverableBlobs, NoBatchBegins, NoBatchEnds, NoHeaderOfZeros, LeavesRecoverable}
 use Rattle.sled_core.specs.Reached.{StandsAmong, StandsActive}
 use Rattle.sled_core.specs.LogFile.{padded}
 use Rattle.sled_core.specs.Ready.{IsReady}
@@ -50,20 +51,23 @@ pub record FitsIn (sum : List ℕ → ℕ) (parts : LogParts) (behind : List Seg
   -- a reader comes up to there in what is written, behind all messages that are
   pub near : reach ≤ parts.site.place + parts.written_len
   pub ends : (m : Message) → Contains H.messages m → m.place < parts.site.place + parts.written_len → (m.place < reach) × (m.place + m.size ≤ reach)
-  pub closes : CloseBelow reach H.batches
+  -- no batch begins or ends between
+  pub no_batch : NoBatchBegins H reach (parts.site.place + parts.written_len)
+  pub no_end : NoBatchEnds H reach (parts.site.place + parts.written_len)
   -- the header of a segment behind of which nothing is written has a mark below the stable end
   pub marked : (s : SegmentParts) → Contains behind s → s.written_len ≡ 0 → (mark : ℤ) → IsHeader sum (take 20 s.bytes) (pos s.site.place) mark → mark <ℤ pos (parts.site.place + parts.written_len)
   pub among : parts.fault ≡ None → NoHeaderOfZeros sum → StandsAmong sum parts.size parts.device.log.bytes parts.site parts.written_len (map begun_segment behind) reach H holds.begun.first
   -- and so does the file with zeros behind its end, as a write there makes it
   pub beyond : (to : ℕ) → parts.site.slot ≤ to → parts.fault ≡ None → NoHeaderOfZeros sum → StandsAmong sum parts.size (padded to parts.device.log.bytes) parts.site parts.written_len (map begun_segment behind) reach H holds.begun.first
-  pub blobs : BlobsFit sum parts.device.blobs H reach
+  pub blobs : BlobsFit sum parts.device.blobs H (stable_below reach H.batches)
+  pub inline : (m : Message) → Contains H.messages m → stable_below reach H.batches ≤ m.place → HasInline m
   pub names : NamesFit sum parts.size parts.device.snapshots H f holds.begun.first
-  -- all that was acknowledged is written
-  pub passes : A ≤ reach
+  -- all that was acknowledged is stable
+  pub passes : A ≤ stable_below reach H.batches
   -- a pin is out while a completed message is not marked
   pub pinned : U ≢ [] → 0 < pins
-  -- what a crash leaves now can be recovered, with all that is written counted as acknowledged
-  pub left : LeavesRecoverable sum parts.size H reach f parts.device
+  -- what a crash leaves now can be recovered, with all that is stable counted as acknowledged
+  pub left : LeavesRecoverable sum parts.size H (stable_below reach H.batches) f parts.device
 
 -- Segments one behind another fit them, as far as a reader comes.
 abbrev pub FitsLine : (List ℕ → ℕ) → ℕ → State → Option IoError → List SegmentView → ℕ → ℕ → History → ℕ → ℕ → List Message → Type 0

@@ -61,7 +61,8 @@ module _ (sum : List ℕ → ℕ) (size : ℕ) (site : SegmentPosition) (device 
     holds = holds_begun;
     near = fits.near;
     ends = fits.ends;
-    closes = fits.closes;
+    no_batch = fits.no_batch;
+    no_end = fits.no_end;
     marked = λ x among unwritten m header. elim (Contains-append_cases behind (begun ∷ []) x among) [
       | inl had ↦ fits.marked x had unwritten m header
       | inr added ↦ elim (in_cases begun x [] added) [
@@ -75,6 +76,7 @@ module _ (sum : List ℕ → ℕ) (size : ℕ) (site : SegmentPosition) (device 
     among = λ ok none. stands_begun none device.log.bytes (zeros ok) (fits.among ok none);
     beyond = λ to far ok none. stands_begun none (padded to device.log.bytes) (λ i low high. padded_get to device.log.bytes i ∙ zeros ok i low high) (fits.beyond to far ok none);
     blobs = fits.blobs;
+    inline = fits.inline;
     names = fits.names;
     passes = fits.passes;
     pinned = fits.pinned;

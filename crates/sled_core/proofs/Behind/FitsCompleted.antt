@@ -2,9 +2,8 @@
 use Rattle.std.proofs.Common.{◌≡◌, ◌∙◌, ◌≤◌, ◌<◌, ◌+◌, ℕ, List, ◌∷◌, ◌++◌, length, map, take, Option, None, sym, ap, subst, arith, inl, inr}
 use Rattle.std.specs.List.{All, Contains}
 use Rattle.std.specs.declared.io.Error.{Error as IoError}
-use Rattle.std.proofs.lemmas.Bool.{cases_lt}
 use Rattle.std.proofs.lemmas.List.Elements.{All-contains, Contains-append_cases, Contains-append_right}
-use Rattle.sled_codec.specs.History.{AddsMessage, History, Message}
+use Rattle.sled_codec.specs.History.{AddsMessage, Batch, History, Message}
 use Rattle.sled_codec.specs.Snapshots.{SnapshotModel}
 use Rattle.sled_store.specs.Device.{State}
 use Rattle.sled_store.proofs.Names.OneBegin.{one_begin}
@@ -13,8 +12,9 @@ use Rattle.sled_core.specs.declared.iobuf.Reserved.{Reserved}
 use Rattle.sled_core.specs.declared.iobuf.Sealed.{Sealed}
 use Rattle.sled_core.specs.declared.iobuf.SegmentPosition.{SegmentPosition}
 use Rattle.sled_core.specs.Begun.{SegmentParts}
-use Rattle.sled_core.specs.Fits.{CloseBelow, HoldsIn, HoldsNext, begun_segment, log_parts}
+use Rattle.sled_core.specs.Fits.{HasInline, HoldsIn, HoldsNext, begun_segment, log_parts}
 use Rattle.sled_core.specs.LogFile.{padded}
+use Rattle.sled_core.specs.OpenBatches.{stable_below}
 use Rattle.sled_core.specs.Reached.{BegunSegment, StandsAmong}
 use Rattle.sled_core.specs.Recoverable.{LeavesRecoverable, NoHeaderOfZeros}
 use Rattle.sled_core.specs.Running.{BlobsFit, FitsIn, NamesFit}
@@ -29,7 +29,8 @@ use Rattle.sled_core.proofs.Holds.Added.{was_or_added}
 use Rattle.sled_core.proofs.Holds.BegunLemmas.{blobs-adds, names-adds}
 use Rattle.sled_core.proofs.Holds.ReachLemmas.{LiesBehind, completed_behind}
 use Rattle.sled_core.proofs.Holds.StandsAdds.{other_adds}
-use Rattle.sled_core.proofs.Holds.WholeHistory.{behind_above, which_part, whole_ascends, whole_inline}
+use Rattle.sled_core.proofs.Holds.WholeHistory.{behind_above, which_part, whole_ascends}
+use Rattle.sled_core.proofs.Reached.StableBelow.{stable_low}
 use Rattle.sled_core.proofs.Sealed.Zeros.{begin_zeros}
 
 -- A message that begins in a segment behind the first one is among those that this holds.
@@ -139,8 +140,13 @@ module _ (sum : List ℕ → ℕ) (size : ℕ) (site : SegmentPosition) (device 
   names_new : NamesFit sum size device.snapshots H' f first
   names_new = let begun = fits.holds.begun.reached in let at = past in names-adds H H' m adds sum size device.snapshots f first (omega (arith, begun, at)) fits.names
 
-  blobs_new : BlobsFit sum device.blobs H' reach
-  blobs_new = blobs-adds H H' m adds sum device.blobs reach lies.lid reached lies.pointer fits.blobs
+  -- no batch is added, so the stable place is the same
+  same_stable : stable_below reach H'.batches ≡ stable_below reach H.batches
+  same_stable = ap (stable_below reach) adds.batches
+
+  blobs_new : BlobsFit sum device.blobs H' (stable_below reach H'.batches)
+  blobs_new = subst (λ n. BlobsFit sum device.blobs H' n) (sym same_stable)
+      (let low = stable_low reach H.batches in let at = reached in blobs-adds H H' m adds sum device.blobs (stable_below reach H.batches) lies.lid (omega (arith, low, at)) lies.pointer fits.blobs)
 
   -- what is written still ends there
   ends_new : (x : Message) → Contains H'.messages x → x.place < site.place + from → (x.place < reach) × (x.place + x.size ≤ reach)
@@ -149,16 +155,16 @@ module _ (sum : List ℕ → ℕ) (size : ℕ) (site : SegmentPosition) (device 
     | inr added ↦ absurd (let same = ap (λ (y : Message). y.place) added in let at = past in omega (arith, same, at, below))
   ]
 
-  inline_behind : InlineFrom H' reach
-  inline_behind x there beyond = elim (cases_lt x.place (site.place + from)) [
-    | inl below ↦ absurd (let low = ends_new x there below in omega (arith, low.0, beyond))
-    | inr over ↦ whole_inline sum size site device fault bytes from bs rs H' holds x there over
+  inline_behind : InlineFrom H' (stable_below reach H'.batches)
+  inline_behind x there beyond = elim (was_or_added H H' m adds x there) [
+    | inl was ↦ (let same = same_stable in fits.inline x was (omega (arith, beyond, same)))
+    | inr own ↦ subst HasInline own (lies.lid, lies.pointer)
   ]
 
-  left_new : LeavesRecoverable sum size H' reach f device
+  left_new : LeavesRecoverable sum size H' (stable_below reach H'.batches) f device
   left_new =
       let on = fits.holds.own.written ok in
-      settled_recoverable sum size least device H' reach f first reach (whole_ascends sum size site device fault bytes from bs rs H' holds short) inline_behind (rests device.log on.log on.settled) names_new blobs_new (λ none. (alone_new none).stands)
+      settled_recoverable sum size least device H' (stable_below reach H'.batches) f first reach (whole_ascends sum size site device fault bytes from bs rs H' holds short) inline_behind (rests device.log on.log on.settled) names_new blobs_new (λ none. (alone_new none).stands)
 
   -- The log fits the history with the message, where a pin is out.
   pub behind-completed : 0 < pins → FitsIn sum (log_parts size site device fault bytes from bs rs) (pre ++ s' ∷ post) reach pins H' A f (m ∷ U)
@@ -168,13 +174,15 @@ module _ (sum : List ℕ → ℕ) (size : ℕ) (site : SegmentPosition) (device 
         holds = holds;
         near = fits.near;
         ends = ends_new;
-        closes = subst (CloseBelow reach) (sym adds.batches) fits.closes;
+        no_batch = λ b there. fits.no_batch b (subst (λ (l : List Batch). Contains l b) adds.batches there);
+        no_end = λ b there. fits.no_end b (subst (λ (l : List Batch). Contains l b) adds.batches there);
         marked = marks_same sum (site.place + from) pre s s' post its_site (λ none. let was : s.written_len ≡ 0 = sym so_far ∙ none in (was, head was)) fits.marked;
         among = λ fine none. subst (λ (z : SnapshotModel). StandsAmong sum size device.log.bytes site from others' reach H' z) same (alone_new none);
         beyond = λ to far fine none. subst (λ (z : SnapshotModel). StandsAmong sum size (padded to device.log.bytes) site from others' reach H' z) same (beyond_new to far none);
         blobs = blobs_new;
+        inline = inline_behind;
         names = subst (λ (z : SnapshotModel). NamesFit sum size device.snapshots H' f z) same names_new;
-        passes = fits.passes;
+        passes = let passes = fits.passes in let same = same_stable in omega (arith, passes, same);
         pinned = λ some. out;
         left = left_new;
       }

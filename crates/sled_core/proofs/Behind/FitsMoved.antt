@@ -61,12 +61,14 @@ module _ (sum : List ℕ → ℕ) (size : ℕ) (site : SegmentPosition) (device 
         holds = holds;
         near = fits.near;
         ends = fits.ends;
-        closes = fits.closes;
+        no_batch = fits.no_batch;
+        no_end = fits.no_end;
         marked = marks_same sum (site.place + from) pre s s' post its_site (λ none. let was : s.written_len ≡ 0 = sym so_far ∙ none in (was, head was)) fits.marked;
         among = λ ok none. subst (λ (first : SnapshotModel). StandsAmong sum size device.log.bytes site from others' reach H first) same (subst (λ (l : List BegunSegment). StandsAmong sum size device.log.bytes site from l reach H fits.holds.begun.first) lie (fits.among ok none));
         beyond = λ to far ok none. subst (λ (first : SnapshotModel). StandsAmong sum size (padded to device.log.bytes) site from others' reach H first) same
             (subst (λ (l : List BegunSegment). StandsAmong sum size (padded to device.log.bytes) site from l reach H fits.holds.begun.first) lie (fits.beyond to far ok none));
         blobs = fits.blobs;
+        inline = fits.inline;
         names = subst (λ (first : SnapshotModel). NamesFit sum size device.snapshots H f first) same fits.names;
         passes = fits.passes;
         pinned = fits.pinned;

@@ -10,6 +10,7 @@ use Rattle.sled_store.specs.Device.{LeavesLog, State, Synced, Wrote, at_rest, ov
 use Rattle.sled_store.specs.Foreign.{NoForeignLog}
 use Rattle.sled_store.specs.Script.{Along}
 use Rattle.sled_store.proofs.Histories.Ascending.{Ascends}
+use Rattle.sled_core.specs.OpenBatches.{stable_below}
 use Rattle.sled_core.specs.declared.iobuf.Reserved.{Reserved}
 use Rattle.sled_core.specs.declared.iobuf.Sealed.{Sealed}
 use Rattle.sled_core.specs.declared.iobuf.SegmentPosition.{SegmentPosition}
@@ -27,8 +28,8 @@ use Rattle.sled_core.proofs.Behind.OneWrite.{reaches, some_asked, torn_one, whol
 use Rattle.sled_core.proofs.Behind.Shorter.{shorter_stands}
 use Rattle.sled_core.proofs.Behind.Writes.{behind-written}
 use Rattle.sled_core.proofs.Flush.Padded.{length-padded, overwritten-further, padded_get, padded_long, padded_none}
-use Rattle.sled_core.proofs.Flush.Settled.{InlineFrom, rests}
-use Rattle.sled_core.proofs.Holds.WholeHistory.{whole_ascends, whole_inline}
+use Rattle.sled_core.proofs.Flush.Settled.{rests}
+use Rattle.sled_core.proofs.Holds.WholeHistory.{whole_ascends}
 use Rattle.sled_core.proofs.Reached.SegmentsBeside.{grown_one}
 use Rattle.sled_core.proofs.Reached.StandsTo.{StandsTo}
 use Rattle.sled_core.proofs.Reserve.Ranges.{there_split}
@@ -103,7 +104,7 @@ module _ (sum : List ℕ → ℕ) (size : ℕ) (site : SegmentPosition) (device 
 
   -- What a crash leaves of the write.
   torn : NoHeaderOfZeros sum → (part left : List ℕ) → length part ≤ length asked → LeavesLog (after_write old (s.site.slot + at) asked part) left → (placed : List (ℕ × List ℕ))
-      → NoForeignLog sum size (after_write old (s.site.slot + at) asked part) placed left → StandsTo sum size left H reach first reach
+      → NoForeignLog sum size (after_write old (s.site.slot + at) asked part) placed left → StandsTo sum size left H (stable_below reach H.batches) first reach
   torn none = torn_one sum size site device fault bytes from bs rs H pre s post fits.holds fits.marked big whole short place_small slot_small fresh b rest closed (take k s.sealed) split none reach first
       (subst (λ (l : List BegunSegment). StandsAmong sum size old site from l reach H first) (begun_is pre s post) (fits.among whole none))
 
@@ -140,7 +141,7 @@ module _ (sum : List ℕ → ℕ) (size : ℕ) (site : SegmentPosition) (device 
         (written_in none 0 (omega (arith, reached, ap length same)) (subst (λ (l : List ℕ). StandsAmong sum size l site from (map begun_segment (pre ++ s ∷ post)) reach H first) (sym same) (fits.among whole none))))
   ]
 
-  stands_new : NoHeaderOfZeros sum → StandsTo sum size new H reach first reach
+  stands_new : NoHeaderOfZeros sum → StandsTo sum size new H (stable_below reach H.batches) first reach
   stands_new none = (among_new none).stands
 
   -- the log file is at rest
@@ -150,15 +151,9 @@ module _ (sum : List ℕ → ℕ) (size : ℕ) (site : SegmentPosition) (device 
   ordered : Ascends H.messages
   ordered = whole_ascends sum size site device fault bytes from bs rs H fits.holds short
 
-  inline : InlineFrom H reach
-  inline m among past = elim (cases_lt m.place (site.place + from)) [
-    | inl below ↦ absurd (let low = fits.ends m among below in omega (arith, low.0, past))
-    | inr over ↦ whole_inline sum size site device fault bytes from bs rs H fits.holds m among over
-  ]
-
   -- At each moment of the write, and of the sync, a crash leaves what can be recovered.
-  pub behind-along : Along (LeavesRecoverable sum size H reach f) (Wrote (s.site.slot + at) asked asked ∷ Synced ∷ []) device
-  behind-along = moments.write_along sum size big device rest_now H f first reach reach (omega arith) ordered inline fits.names fits.blobs fits.left (s.site.slot + at) asked torn stands_new
+  pub behind-along : Along (LeavesRecoverable sum size H (stable_below reach H.batches) f) (Wrote (s.site.slot + at) asked asked ∷ Synced ∷ []) device
+  behind-along = moments.write_along sum size big device rest_now H f first reach reach (omega arith) ordered fits.inline fits.names fits.blobs fits.left (s.site.slot + at) asked torn stands_new
 
   holds_new : HoldsIn sum (log_parts size site after_sync fault bytes from bs rs) (pre ++ grown ∷ post) H
   holds_new = behind-written sum size site device fault bytes from bs rs H pre s post fits.holds big whole short are held place_small slot_small fresh k b there ready after_sync refl refl
@@ -170,13 +165,15 @@ module _ (sum : List ℕ → ℕ) (size : ℕ) (site : SegmentPosition) (device 
     holds = holds_new;
     near = fits.near;
     ends = fits.ends;
-    closes = fits.closes;
+    no_batch = fits.no_batch;
+    no_end = fits.no_end;
     marked = marks_same sum (site.place + from) pre s grown post refl (λ none. let up = (run_of s.written_len s.reserved now (written_are s.written_len s.reserved s.sealed k b there closed (held_here sum size site device fault bytes from bs rs H pre s post fits.holds).are)).rises in (omega (arith, up, none), refl)) fits.marked;
     among = λ ok none. among_new none;
     beyond = λ to far ok none. beyond_new none to far;
     blobs = fits.blobs;
+    inline = fits.inline;
     names = fits.names;
     passes = fits.passes;
     pinned = fits.pinned;
-    left = moments.synced_leaves sum size big device rest_now H f first reach reach (omega arith) ordered inline fits.names fits.blobs fits.left (s.site.slot + at) asked torn stands_new;
+    left = moments.synced_leaves sum size big device rest_now H f first reach reach (omega arith) ordered fits.inline fits.names fits.blobs fits.left (s.site.slot + at) asked torn stands_new;
   }

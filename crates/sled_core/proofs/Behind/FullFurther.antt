@@ -9,6 +9,7 @@ use Rattle.sled_codec.specs.History.{Batch, History, Message}
 use Rattle.sled_store.specs.Device.{State}
 use Rattle.sled_store.proofs.Histories.Ascending.{Ascends}
 use Rattle.sled_store.proofs.Segments.Elements.{in_rest}
+use Rattle.sled_core.specs.OpenBatches.{stable_below}
 use Rattle.sled_core.specs.declared.iterator.scan.ScannedRecord.{ScannedRecord}
 use Rattle.sled_core.specs.declared.iterator.scan.ScanEnd.{ScanEnd}
 use Rattle.sled_core.specs.declared.iterator.scan.ScanEnd.TheVariants.{Full, Broken}
@@ -17,12 +18,12 @@ use Rattle.sled_core.specs.Fits.{HoldsIn, begun_segment, log_parts}
 use Rattle.sled_core.specs.Full.{FitsFull, StandsFull}
 use Rattle.sled_core.specs.LogFile.{padded}
 use Rattle.sled_core.specs.Reached.{BeginsNext, IsReadTo, IsSoFar}
-use Rattle.sled_core.specs.Recoverable.{NoHeaderOfZeros}
+use Rattle.sled_core.specs.Recoverable.{NoBatchBegins, NoBatchEnds, NoHeaderOfZeros}
 use Rattle.sled_core.specs.Running.{BlobsFit}
 use Rattle.sled_core.specs.Scan.{IsScan}
 use Rattle.sled_core.specs.Tail.{Scanned}
 use Rattle.sled_core.proofs.Behind.FullHolds.{emptied, none_reserved, none_sealed}
-use Rattle.sled_core.proofs.Behind.FullNext.{at_place, follow, full_file, full_here, here, holds_now, inline, ordered, rest}
+use Rattle.sled_core.proofs.Behind.FullNext.{at_place, follow, full_file, full_here, here, holds_now, ordered, rest}
 use Rattle.sled_core.proofs.Behind.FullRead.{ends_read, inside, none_behind, same_stop}
 use Rattle.sled_core.proofs.Behind.FullZeros.{zeros_or_not}
 use Rattle.sled_core.proofs.Flush.Padded.{padded_none}
@@ -31,6 +32,7 @@ use Rattle.sled_core.proofs.Holds.WholeHistory.{later_above, of_first, which_par
 use Rattle.sled_core.proofs.Flush.Completed.{all_below}
 use Rattle.sled_core.proofs.Reached.NextSegment.{next_full, read}
 use Rattle.sled_core.proofs.Reached.Marks.{less_than}
+use Rattle.sled_core.proofs.Reached.StableBelow.{stable_rises}
 use Rattle.sled_core.proofs.Sealed.Ended.{ends_rise}
 use Rattle.sled_core.proofs.Sealed.FullSegment.{full_why}
 use Rattle.sled_core.proofs.Tail.Multiples.{next_multiple, one_multiple}
@@ -60,15 +62,19 @@ module _ (sum : List ℕ → ℕ) (size : ℕ) (device : State) (fault : Option 
 
   -- Where it stands so, up to a place no lower, behind all messages of the segment.
   module _ (reach' : ℕ) (up : reach ≤ reach') (near' : reach' ≤ s.site.place + size) (ends' : (m : Message) → Contains H.messages m → m.place < s.site.place + size → (m.place < reach') × (m.place + m.size ≤ reach'))
+      (no_batch' : NoBatchBegins H reach' (s.site.place + size)) (no_end' : NoBatchEnds H reach' (s.site.place + size))
       (stands : (to : ℕ) → NoHeaderOfZeros sum → StandsFull sum size (padded to device.log.bytes) (s.site.place + size) (map begun_segment ss) reach' H fits.holds.begun.first) where
-    inline_before : InlineFrom H reach
-    inline_before = inline sum size device fault place s ss fits big whole
+    abbrev stable : ℕ
+    stable = stable_below reach' H.batches
 
-    inline_now : InlineFrom H reach'
-    inline_now m there past = inline_before m there (omega (arith, up, past))
+    rises : stable_below reach H.batches ≤ stable
+    rises = stable_rises reach reach' up H.batches
 
-    blobs_now : BlobsFit sum device.blobs H reach'
-    blobs_now = blobs_higher sum device.blobs H reach reach' ascends up inline_before fits.blobs
+    inline_now : InlineFrom H stable
+    inline_now m there past = let up = rises in fits.inline m there (omega (arith, up, past))
+
+    blobs_now : BlobsFit sum device.blobs H stable
+    blobs_now = blobs_higher sum device.blobs H (stable_below reach H.batches) stable ascends rises fits.inline fits.blobs
 
     fits_further : FitsFull sum size device fault (s.site.place + size) ss reach' pins H A f U
     fits_further = record {
@@ -78,14 +84,16 @@ module _ (sum : List ℕ → ℕ) (size : ℕ) (device : State) (fault : Option 
       holds = holds_full;
       near = near';
       ends = ends';
-      closes = λ k d lt. let b = fits.closes k d lt in (omega (arith, b.0, up), omega (arith, b.1, up));
+      no_batch = no_batch';
+      no_end = no_end';
       marked = λ x there none mark header. less_than mark place (s.site.place + size) (let at = begins in omega (arith, at)) (fits.marked x (in_rest s x ss there) none mark header);
       beyond = λ to none zeros. stands to zeros;
       blobs = blobs_now;
+      inline = inline_now;
       names = fits.names;
-      passes = let passes = fits.passes in omega (arith, passes, up);
+      passes = let passes = fits.passes in let up = rises in omega (arith, passes, up);
       pinned = fits.pinned;
-      left = settled_recoverable sum size big device H reach' f fits.holds.begun.first reach' ascends inline_now (rest sum size device fault place s ss fits big whole) fits.names blobs_now
+      left = settled_recoverable sum size big device H stable f fits.holds.begun.first reach' ascends inline_now (rest sum size device fault place s ss fits big whole) fits.names blobs_now
           (λ zeros. (subst (λ (l : List ℕ). StandsFull sum size l (s.site.place + size) (map begun_segment ss) reach' H fits.holds.begun.first) (padded_none 0 device.log.bytes (omega arith)) (stands 0 zeros)).stands);
     }
 
@@ -131,7 +139,7 @@ module _ (sum : List ℕ → ℕ) (size : ℕ) (device : State) (fault : Option 
     within : stop ≤ size
     within =
         let r = its_read.2 in
-        let short = inside sum size log big H reach fits.holds.begun.first reach full_now.stands ascends r.scan r.there scan_goes in
+        let short = inside sum size log big H (stable_below reach H.batches) fits.holds.begun.first reach full_now.stands ascends r.scan r.there scan_goes in
         let ended = r.ended in
         omega (arith, short, ended)
 
@@ -143,12 +151,12 @@ module _ (sum : List ℕ → ℕ) (size : ℕ) (device : State) (fault : Option 
           let r = its_read.2 in
           let at = r.at_place in
           let ended = r.ended in
-          let low = ends_read sum size log big H reach fits.holds.begun.first reach full_now.stands ascends r.scan r.there scan_goes m there (let b = begins in omega (arith, behind, at, b)) (omega (arith, under, at)) in
+          let low = ends_read sum size log big H (stable_below reach H.batches) fits.holds.begun.first reach full_now.stands ascends r.scan r.there scan_goes m there (let b = begins in omega (arith, behind, at, b)) (omega (arith, under, at)) in
           (omega (arith, low.0, at, ended), omega (arith, low.1, at, ended)))
     ]
 
     closed_low : (b : Batch) → Contains H.batches b → (b.low < place) × (b.peg < place)
-    closed_low b there = let its = All-contains (λ (c : Batch). (c.low < reach) × (c.peg < reach)) H.batches b fits.closes there in let near = fits.near in (omega (arith, its.0, near), omega (arith, its.1, near))
+    closed_low b there = let its = All-contains (λ (c : Batch). (c.low < fits.site.place + size) × (c.peg < fits.site.place + size)) H.batches b fits.holds.own.batches there in let next = fits.next in (omega (arith, its.0, next), omega (arith, its.1, next))
 
     -- The next one begins behind it, with nothing of the history between.
     begins_next : BeginsNext size H (s.site.place + stop) (s.site.place + size)
@@ -164,14 +172,14 @@ module _ (sum : List ℕ → ℕ) (size : ℕ) (device : State) (fault : Option 
         record {
           above = omega (arith, short);
           next = omega (arith, further);
-          no_message = λ m there. elim (none_behind sum size log big H reach fits.holds.begun.first reach full_now.stands ascends r.scan r.there scan_goes m there) [ inl low ↦ inl (omega (arith, low, at, ended)) | inr past ↦ inr (omega (arith, past, at)) ];
+          no_message = λ m there. elim (none_behind sum size log big H (stable_below reach H.batches) fits.holds.begun.first reach full_now.stands ascends r.scan r.there scan_goes m there) [ inl low ↦ inl (omega (arith, low, at, ended)) | inr past ↦ inr (omega (arith, past, at)) ];
           no_batch = λ c there. let low = closed_low c there in inl (omega (arith, low.0, b));
           no_end = λ c there. let low = closed_low c there in inl (omega (arith, low.1, b));
         }
 
     stands_further : StandsFull sum size log (s.site.place + size) (map begun_segment ss) (s.site.place + stop) H fits.holds.begun.first
     stands_further = next_full sum size big log (begun_segment s) (map begun_segment ss) reach H fits.holds.begun.first full_now (follow sum size device fault place s ss fits big whole) ascends some_written
-        (λ c there lower. let low = closed_low c there in let b = begins in omega (arith, low.1, b)) goes (let header = behind_header in omega (arith, header)) begins_next
+        goes (let header = behind_header in omega (arith, header)) begins_next
 
   -- With any number of zeros behind its end the file is read to the same place.
   same_end : (zeros : NoHeaderOfZeros sum) (to : ℕ) → stop (padded to device.log.bytes) (fits.beyond to whole zeros) ≡ stop device.log.bytes (full_file sum size device fault place s ss fits big whole zeros)
@@ -203,8 +211,13 @@ module _ (sum : List ℕ → ℕ) (size : ℕ) (device : State) (fault : Option 
         let short = within device.log.bytes here_file in (
           s.site.place + stop device.log.bytes here_file,
           fits_further (s.site.place + stop device.log.bytes here_file) (omega (arith, near, at)) (omega (arith, short)) (ends_here device.log.bytes here_file)
+              (begins_next device.log.bytes here_file).no_batch (begins_next device.log.bytes here_file).no_end
               (λ to none. subst (λ n. StandsFull sum size (padded to device.log.bytes) (s.site.place + size) (map begun_segment ss) (s.site.place + n) H fits.holds.begun.first) (same_end zeros to)
               (stands_further (padded to device.log.bytes) (fits.beyond to whole zeros))),
         ))
-    | inr never ↦ (let near = fits.near in let at = begins in (s.site.place + size, fits_further (s.site.place + size) (omega (arith, near, at)) (omega arith) ends_all (λ to none. absurd (never none))))
+    | inr never ↦ (let near = fits.near in let at = begins in (
+      s.site.place + size,
+      fits_further (s.site.place + size) (omega (arith, near, at)) (omega arith) ends_all
+          (λ b there. cases_lt b.low (s.site.place + size)) (λ b there. cases_lt b.peg (s.site.place + size)) (λ to none. absurd (never none)),
+    ))
   ])

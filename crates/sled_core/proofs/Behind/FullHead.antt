@@ -1,6 +1,6 @@
 -- The first sealed buffer is written, and the run of those that are written then ends with the segment: the reading goes on behind it, in those that were begun there. What was reached ends with the records; where no header had room, that is what was reached before.
 use Rattle.std.proofs.Common.{◌≡◌, ◌≤◌, ◌<◌, ◌+◌, ◌/◌, ◌%◌, ◌^◌, ◌⊎◌, ℕ, max, false, List, [], ◌∷◌, length, take, get_or, sym, refl, subst, arith, inl, inr}
-use Rattle.std.specs.List.{All, Contains}
+use Rattle.std.specs.List.{All}
 use Rattle.std.proofs.lemmas.Bool.{cases_lt}
 use Rattle.std.proofs.lemmas.List.Elements.{All-contains}
 use Rattle.sled_codec.specs.History.{Batch, History}
@@ -8,6 +8,7 @@ use Rattle.sled_codec.specs.Snapshots.{SnapshotModel}
 use Rattle.sled_store.specs.Device.{overwritten, LeavesLog}
 use Rattle.sled_store.specs.Foreign.{NoForeignLog}
 use Rattle.sled_store.proofs.Histories.Ascending.{Ascends}
+use Rattle.sled_core.specs.OpenBatches.{stable_below}
 use Rattle.sled_core.specs.declared.iobuf.Reserved.{Reserved}
 use Rattle.sled_core.specs.declared.iobuf.Sealed.{Sealed}
 use Rattle.sled_core.specs.declared.iobuf.SegmentPosition.{SegmentPosition}
@@ -46,13 +47,13 @@ plain_run sum size number bytes from end rs chain below stand k d lt is =
     let within = (chain_within from end rs chain k d lt).1 in
     omega (arith, to_end, within, below)
 
--- batches that close below a place close below a higher one,
-closed_at : (H : History) (low high : ℕ) → low ≤ high → CloseBelow low H.batches → (c : Batch) → Contains H.batches c → c.low < high → c.peg < high
-closed_at H low high up closes c among under = let its = All-contains (λ (b : Batch). (b.low < low) × (b.peg < low)) H.batches c closes among in omega (arith, its.1, up)
-
--- and none of them ends behind it
+-- where batches close below a place, none of them ends behind it,
 pub none_ends : (H : History) (low high to : ℕ) → low ≤ high → CloseBelow low H.batches → NoBatchEnds H high to
 none_ends H low high to up closes c among = let its = All-contains (λ (b : Batch). (b.low < low) × (b.peg < low)) H.batches c closes among in inl (omega (arith, its.1, up))
+
+-- and none begins or ends from there on
+pub none_beside : (H : History) (low to : ℕ) → CloseBelow low H.batches → NoBatchBegins H low to × NoBatchEnds H low to
+none_beside H low to closes = (λ c among. inl (All-contains (λ (b : Batch). (b.low < low) × (b.peg < low)) H.batches c closes among).0, none_ends H low low to (omega arith) closes)
 
 -- Where the first buffer isn't written, whether a header has room where it begins or not.
 module _ (sum : List ℕ → ℕ) (none : NoHeaderOfZeros sum) (size : ℕ) (some : 256 ≤ size) (file : List ℕ) (site : SegmentPosition)
@@ -96,7 +97,7 @@ module _ (sum : List ℕ → ℕ) (none : NoHeaderOfZeros sum) (size : ℕ) (som
   module _ (has : HasOnly H (completed_in site bytes done) (site.place + max 20 from) (site.place + stop)) where
     -- What a crash leaves of it.
     pub torn_head_any : (now left : List ℕ) → length now ≤ length asked → LeavesLog (after_write file (site.slot + from) asked now) left → {placed : List (ℕ × List ℕ)}
-        → NoForeignLog sum size (after_write file (site.slot + from) asked now) placed left → StandsTo sum size left H reach first reach
+        → NoForeignLog sum size (after_write file (site.slot + from) asked now) placed left → StandsTo sum size left H (stable_below reach H.batches) first reach
     torn_head_any now left no_more leaves {placed} only_own = elim (cases_lt size (from + 32)) [
       | inl full ↦ torn_rest sum size some file site from from asked within slot_begins (omega arith) left_over full reach H first alone.stands alone.here now left no_more leaves {placed = placed} only_own
       | inr room ↦ torn_head_sealed sum none size some file site place_begins slot_begins place_small slot_small bytes from begins rs b rest fresh closed are rise inside stand room header laid reach first alone has now left no_more leaves {placed = placed} only_own
@@ -125,7 +126,7 @@ module _ (sum : List ℕ → ℕ) (none : NoHeaderOfZeros sum) (size : ℕ) (som
       head_full ends = elim (cases_lt size (from + 32)) [
         | inl full ↦ alone_rest full
         | inr room ↦ head_sealed_filled sum none size some file site place_begins slot_begins place_small slot_small bytes from begins rs b rest fresh closed are rise inside stand room header laid reach first alone has
-            ordered there low_enough has_header ends (closed_at H (site.place + from) (site.place + last) (omega (arith, behind_from)) closes) (none_ends H (site.place + from) (site.place + last) (site.place + size) (omega (arith, behind_from)) closes)
+            ordered there low_enough has_header ends (none_ends H (site.place + from) (site.place + last) (site.place + size) (omega (arith, behind_from)) closes)
       ]
 
 -- So it is with zeros behind the end of the file.

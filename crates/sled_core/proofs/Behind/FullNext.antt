@@ -13,16 +13,18 @@ use Rattle.sled_core.specs.Begun.{SegmentParts}
 use Rattle.sled_core.specs.Fits.{HoldsIn, HoldsNext, begun_segment, log_parts}
 use Rattle.sled_core.specs.Full.{FitsFull, StandsFull}
 use Rattle.sled_core.specs.LogFile.{StaysBelow, padded}
+use Rattle.sled_core.specs.OpenBatches.{stable_below}
 use Rattle.sled_core.specs.Reached.{FollowApart, StandsAmong}
-use Rattle.sled_core.specs.Recoverable.{NoHeaderOfZeros}
+use Rattle.sled_core.specs.Recoverable.{NoBatchBegins, NoBatchEnds, NoHeaderOfZeros}
 use Rattle.sled_core.specs.Running.{BlobsFit, FitsIn}
 use Rattle.sled_core.proofs.Behind.Promoted.{promoted}
 use Rattle.sled_core.proofs.Flush.Padded.{padded_none}
 use Rattle.sled_core.proofs.Flush.Settled.{InlineFrom, blobs_higher, rests, settled_recoverable}
 use Rattle.sled_core.proofs.Holds.ReachLemmas.{written_before}
-use Rattle.sled_core.proofs.Holds.WholeHistory.{later_above, of_first, which_part, whole_ascends, whole_inline}
+use Rattle.sled_core.proofs.Holds.WholeHistory.{later_above, of_first, which_part, whole_ascends}
 use Rattle.sled_core.proofs.Reached.NextSegment.{next_begins, next_goes, read}
 use Rattle.sled_core.proofs.Reached.Marks.{less_than}
+use Rattle.sled_core.proofs.Reached.StableBelow.{stable_rises}
 
 module _ (sum : List ℕ → ℕ) (size : ℕ) (device : State) (fault : Option IoError) (place : ℕ) (s : SegmentParts) (ss : List SegmentParts) {reach pins : ℕ} {H : History} {A f : ℕ} {U : List Message}
     (fits : FitsFull sum size device fault place (s ∷ ss) reach pins H A f U) (big : 256 ≤ size) (whole : fault ≡ None) where
@@ -43,14 +45,7 @@ module _ (sum : List ℕ → ℕ) (size : ℕ) (device : State) (fault : Option 
   pub ordered : Ascends H.messages
   ordered = whole_ascends sum size s.site device fault s.bytes s.written_len s.sealed s.reserved H holds_now here.inside
 
-  -- Messages from what was reached on have their items in their records,
-  pub inline : InlineFrom H reach
-  inline m there past = elim (cases_lt m.place place) [
-    | inl below ↦ absurd (let low = fits.ends m there below in omega (arith, low.0, past))
-    | inr over ↦ whole_inline sum size fits.site device fault fits.bytes size [] [] H fits.holds m there (let next = fits.next in omega (arith, over, next))
-  ]
-
-  -- and the log file is at rest.
+  -- The log file is at rest.
   pub rest : device.log ≡ at_rest device.log.bytes
   rest = let on_device = fits.holds.own.written whole in rests device.log on_device.log on_device.settled
 
@@ -63,27 +58,36 @@ module _ (sum : List ℕ → ℕ) (size : ℕ) (device : State) (fault : Option 
 
   -- Where it stands as far as it was written, up to a place no lower, behind all messages that are written then.
   module _ (reach' : ℕ) (up : reach ≤ reach') (near' : reach' ≤ s.site.place + s.written_len) (ends' : (m : Message) → Contains H.messages m → m.place < s.site.place + s.written_len → (m.place < reach') × (m.place + m.size ≤ reach'))
+      (no_batch' : NoBatchBegins H reach' (s.site.place + s.written_len)) (no_end' : NoBatchEnds H reach' (s.site.place + s.written_len))
       (stands : (log : List ℕ) → StandsFull sum size log place (map begun_segment (s ∷ ss)) reach H first → StandsAmong sum size log s.site s.written_len (map begun_segment ss) reach' H first) where
-    inline_now : InlineFrom H reach'
-    inline_now m there past = inline m there (omega (arith, up, past))
+    abbrev stable : ℕ
+    stable = stable_below reach' H.batches
 
-    blobs_now : BlobsFit sum device.blobs H reach'
-    blobs_now = blobs_higher sum device.blobs H reach reach' ordered up inline fits.blobs
+    rises : stable_below reach H.batches ≤ stable
+    rises = stable_rises reach reach' up H.batches
+
+    inline_now : InlineFrom H stable
+    inline_now m there past = let up = rises in fits.inline m there (omega (arith, up, past))
+
+    blobs_now : BlobsFit sum device.blobs H stable
+    blobs_now = blobs_higher sum device.blobs H (stable_below reach H.batches) stable ordered rises fits.inline fits.blobs
 
     fits_now : FitsIn sum (log_parts size s.site device fault s.bytes s.written_len s.sealed s.reserved) ss reach' pins H A f U
     fits_now = record {
       holds = holds_now;
       near = near';
       ends = ends';
-      closes = λ k d lt. let b = fits.closes k d lt in (omega (arith, b.0, up), omega (arith, b.1, up));
+      no_batch = no_batch';
+      no_end = no_end';
       marked = λ x there none mark header. less_than mark place (s.site.place + s.written_len) (let at = at_place in omega (arith, at)) (fits.marked x (in_rest s x ss there) none mark header);
       among = λ none zeros. stands device.log.bytes (full_file zeros);
       beyond = λ to far none zeros. stands (padded to device.log.bytes) (fits.beyond to none zeros);
       blobs = blobs_now;
+      inline = inline_now;
       names = fits.names;
-      passes = let passes = fits.passes in omega (arith, passes, up);
+      passes = let passes = fits.passes in let up = rises in omega (arith, passes, up);
       pinned = fits.pinned;
-      left = settled_recoverable sum size big device H reach' f first reach' ordered inline_now rest fits.names blobs_now (λ zeros. (stands device.log.bytes (full_file zeros)).stands);
+      left = settled_recoverable sum size big device H stable f first reach' ordered inline_now rest fits.names blobs_now (λ zeros. (stands device.log.bytes (full_file zeros)).stands);
     }
 
   -- The messages below what is written of it end there.
@@ -107,18 +111,23 @@ module _ (sum : List ℕ → ℕ) (size : ℕ) (device : State) (fault : Option 
       let r = read sum size big log (begun_segment s) (map begun_segment ss) reach H first is follow ordered some in
       let at : r.0 ≡ s.written_len = elim r.3 [ inl ends ↦ ends.0 | inr ends ↦ absurd (let all = ends.0 in omega (arith, all, left_over)) ] in
       subst (λ n. StandsAmong sum size log s.site s.written_len (map begun_segment ss) (s.site.place + n) H first) at
-      (next_goes sum size big log (begun_segment s) (map begun_segment ss) reach H first is follow ordered some
-      (λ b there lower. let closed = All-contains (λ c. (c.low < reach) × (c.peg < reach)) H.batches b fits.closes there in let near = fits.near in let begins = at_place in omega (arith, closed.1, near, begins)) at)
+      (next_goes sum size big log (begun_segment s) (map begun_segment ss) reach H first is follow ordered some at)
 
   -- So the log fits the history, with that one as its first segment.
   pub full_next : s.written_len < size → (now : ℕ) × FitsIn sum (log_parts size s.site device fault s.bytes s.written_len s.sealed s.reserved) ss now pins H A f U
   full_next left_over = elim (cases_lt 0 s.written_len) [
-    | inl some ↦ (s.site.place + s.written_len, fits_now (s.site.place + s.written_len) (let near = fits.near in let at = at_place in omega (arith, near, at)) (omega arith) (ends_written left_over) (goes_on some left_over))
+    | inl some ↦ (
+      s.site.place + s.written_len,
+      fits_now (s.site.place + s.written_len) (let near = fits.near in let at = at_place in omega (arith, near, at)) (omega arith) (ends_written left_over)
+          (λ b there. cases_lt b.low (s.site.place + s.written_len)) (λ b there. cases_lt b.peg (s.site.place + s.written_len)) (goes_on some left_over),
+    )
     | inr first_one ↦ (
         let none : s.written_len ≡ 0 = omega (arith, first_one) in
         let at = at_place in (
           reach,
           fits_now reach (omega arith) (let near = fits.near in omega (arith, near, at)) (λ m there below. fits.ends m there (omega (arith, below, none, at)))
+              (λ b there. elim (fits.no_batch b there) [ inl low ↦ inl low | inr far ↦ inr (omega (arith, far, none, at)) ])
+              (λ b there. elim (fits.no_end b there) [ inl low ↦ inl low | inr far ↦ inr (omega (arith, far, none, at)) ])
               (λ log full. subst (λ n. StandsAmong sum size log s.site n (map begun_segment ss) reach H first) (sym none)
               (next_begins sum size big log (begun_segment s) (map begun_segment ss) reach H first (full_here log full) follow none)),
         ))

@@ -5,6 +5,7 @@ use Rattle.std.proofs.lemmas.List.{get_or_past}
 use Rattle.sled_codec.specs.History.{History}
 use Rattle.sled_codec.specs.Places.{part}
 use Rattle.sled_codec.specs.Snapshots.{SnapshotModel}
+use Rattle.sled_core.specs.OpenBatches.{stable_below}
 use Rattle.sled_core.specs.declared.iobuf.SegmentPosition.{SegmentPosition}
 use Rattle.sled_core.specs.declared.iterator.Segment.{Segment}
 use Rattle.sled_core.specs.LogFile.{padded}
@@ -75,8 +76,8 @@ module _ (sum : List ℕ → ℕ) (none : NoHeaderOfZeros sum) (size : ℕ) (som
     abbrev least : ℕ
     least = least_place size first
 
-    stands : StandsTo sum size log H reach first reach
-    stands = kept_stands sum size Used longer log keeps same_in H reach first reach among.stands
+    stands : StandsTo sum size log H (stable_below reach H.batches) first reach
+    stands = kept_stands sum size Used longer log keeps same_in H (stable_below reach H.batches) first reach among.stands
         (λ s there. its_slot least s ((among.stands.numbers.found s).0 there))
         (λ cut low high page m entry. let of = (among.stands.needed cut low high page m entry).0 in its_slot 0 of.segment of.found)
 
@@ -93,7 +94,7 @@ module _ (sum : List ℕ → ℕ) (none : NoHeaderOfZeros sum) (size : ℕ) (som
             r.1,
             record {
               scan = was.scan;
-              there = known_in sum size log H reach first reach stands was.scan (found_back least was.scan.segment found) (read_back least was.scan found had.1);
+              there = known_in sum size log H (stable_below reach H.batches) first reach stands was.scan (found_back least was.scan.segment found) (read_back least was.scan found had.1);
               in_slot = was.in_slot;
               at_place = was.at_place;
               ended = was.ended;

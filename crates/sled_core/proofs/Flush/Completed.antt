@@ -109,9 +109,6 @@ module _ (sum : List ℕ → ℕ) (size : ℕ) (site : SegmentPosition) (device 
   pub batches_to : (place : ℕ) → site.place + from ≤ place → CloseBelow place H.batches
   batches_to place more = λ k d lt. let b = holds.batches k d lt in (omega (arith, b.0, more), omega (arith, b.1, more))
 
-  pub none_crosses : (place : ℕ) → site.place + from ≤ place → (b : Batch) → Contains H.batches b → b.low < place → b.peg < place
-  none_crosses place more b there low = let closed = All-contains (λ x. (x.low < place) × (x.peg < place)) H.batches b (batches_to place more) there in closed.1
-
 -- Of what begins in a buffer the messages of the reservations at its front are all that begins in their part of it.
 pub front_only : (site : SegmentPosition) (bytes : List ℕ) (H : History) (rs : List Reserved) (n low stop end : ℕ) → IsChain stop (drop n rs) end → All (λ r. 0 < r.len) (drop n rs)
     → HasOnly H (completed_in site bytes rs) low (site.place + end) → HasOnly H (completed_in site bytes (take n rs)) low (site.place + stop)

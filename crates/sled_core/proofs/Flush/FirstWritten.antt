@@ -19,13 +19,14 @@ use Rattle.sled_core.specs.Begun.{SegmentParts}
 use Rattle.sled_core.specs.Fits.{log_parts, HasMark, HoldsIn, HoldsSegment, EndBelow}
 use Rattle.sled_core.specs.Full.{StandsFull}
 use Rattle.sled_core.specs.LogFile.{IsLogFile, StaysFrom, padded}
+use Rattle.sled_core.specs.OpenBatches.{stable_below}
 use Rattle.sled_core.specs.Reached.{BegunSegment, StandsAmong}
 use Rattle.sled_core.specs.Recoverable.{NoHeaderOfZeros}
 use Rattle.sled_core.specs.SealedBuffers.{AreSealed, Laid, now_written, run_end, run_count, behind_run, bytes_between}
 use Rattle.sled_core.proofs.Behind.FullHead.{first_full, plain_run, torn_head_any}
 use Rattle.sled_core.proofs.Reserve.Entries.{some_long}
 use Rattle.sled_core.proofs.Reserve.Ranges.{chain_grows, completed-append, completed_between}
-use Rattle.sled_core.proofs.Flush.Completed.{all_apart, batches_to, has_only, none_crosses, front_only}
+use Rattle.sled_core.proofs.Flush.Completed.{all_apart, batches_to, has_only, front_only}
 use Rattle.sled_core.proofs.Flush.FlushLemmas.{on_file}
 use Rattle.sled_core.proofs.Flush.SealedFile.{chain_done, first_file, stop_up}
 use Rattle.sled_core.proofs.Holds.ReachLemmas.{written_before}
@@ -243,7 +244,7 @@ module _ (sum : List ℕ → ℕ) (size : ℕ) (site : SegmentPosition) (device 
   -- What a crash leaves of the write.
   pub torn_first : (reach : ℕ) → NoHeaderOfZeros sum → {others : List BegunSegment} → StandsAmong sum size old_whole site from others reach H holds.begun.first → (now left : List ℕ) → length now ≤ length asked_whole
       → LeavesLog (after_write old_whole (site.slot + from) asked_whole now) left → (placed : List (ℕ × List ℕ))
-      → NoForeignLog sum size (after_write old_whole (site.slot + from) asked_whole now) placed left → StandsTo sum size left H reach holds.begun.first reach
+      → NoForeignLog sum size (after_write old_whole (site.slot + from) asked_whole now) placed left → StandsTo sum size left H (stable_below reach H.batches) holds.begun.first reach
   torn_first reach zeros alone now left no_more leaves placed only_own =
       torn_head_any sum zeros size big old_whole site holds.own.place_begins holds.own.slot_begins place_small slot_small bytes from begins_whole rs b rest fresh closed are rise_whole inside_whole holds.own.stand
       header_whole (holds.own.laid whole) reach holds.begun.first alone has_whole now left no_more leaves {placed = placed} only_own
@@ -253,8 +254,7 @@ module _ (sum : List ℕ → ℕ) (size : ℕ) (site : SegmentPosition) (device 
       → StandsAmong sum size (padded end (overwritten old_whole (site.slot + from) asked_whole)) site stop_whole others (site.place + stop_whole) H holds.begun.first
   alone_first plain reach zeros end far {others} =
       first_alone sum size big old_whole site holds.own.place_begins holds.own.slot_begins place_small slot_small bytes from begins_whole rs b rest fresh closed are rise_whole inside_whole header_whole file_whole.header (holds.own.laid whole)
-      holds.own.stand (plain_room sum size (site.place / size) bytes from big begins_whole rs b rest are holds.own.stand (run_count rest) plain) plain zeros reach holds.begun.first has_whole (whole_ascends sum size site device fault bytes from (b ∷ rest) rs H holds short) (let least = holds.begun.least in omega (arith, least))
-      (none_crosses sum size site device fault bytes from (b ∷ rest) rs own_history holds.own (site.place + stop_whole) (let above = (stop_up from rs b rest closed are).0 in omega (arith, above))) end far {others = others}
+      holds.own.stand (plain_room sum size (site.place / size) bytes from big begins_whole rs b rest are holds.own.stand (run_count rest) plain) plain zeros reach holds.begun.first has_whole (whole_ascends sum size site device fault bytes from (b ∷ rest) rs H holds short) (let least = holds.begun.least in omega (arith, least)) end far {others = others}
 
   -- where it is filled
   pub full_first : stop_whole ≡ size → (reach : ℕ) → NoHeaderOfZeros sum → (end : ℕ) → site.slot ≤ end → {others : List BegunSegment} → StandsAmong sum size (padded end old_whole) site from others reach H holds.begun.first

@@ -8,6 +8,7 @@ use Rattle.sled_core.specs.declared.iobuf.Sealed.{Sealed}
 use Rattle.sled_core.specs.declared.iobuf.SegmentPosition.{SegmentPosition}
 use Rattle.sled_core.specs.Begun.{SegmentParts}
 use Rattle.sled_core.specs.Fits.{log_parts}
+use Rattle.sled_core.specs.OpenBatches.{stable_below}
 use Rattle.sled_core.specs.Recoverable.{LeavesRecoverable}
 use Rattle.sled_core.specs.Running.{BlobsFit, FitsIn, NamesFit}
 use Rattle.sled_core.proofs.Flush.FlushLemmas.{fault_or_none, holds-faulty}
@@ -15,18 +16,20 @@ use Rattle.sled_core.proofs.Flush.FlushLemmas.{fault_or_none, holds-faulty}
 module _ (sum : List ℕ → ℕ) (size : ℕ) (site : SegmentPosition) (device : State) (fault : Option IoError) (bytes : List ℕ) (from : ℕ) (bs : List Sealed) (rs : List Reserved) (pins : ℕ) (H : History) (A f : ℕ) (U : List Message)
     {behind : List SegmentParts} {reach : ℕ} (fits : FitsIn sum (log_parts size site device fault bytes from bs rs) behind reach pins H A f U) where
   -- A log that keeps a failure of its device fits what it fitted, where a crash leaves what can be recovered.
-  pub fits_faulty : (new : State) (e : IoError) (now : Option IoError) → now ≡ Some e → new.blobs ≡ device.blobs → new.snapshots ≡ device.snapshots → LeavesRecoverable sum size H reach f new
+  pub fits_faulty : (new : State) (e : IoError) (now : Option IoError) → now ≡ Some e → new.blobs ≡ device.blobs → new.snapshots ≡ device.snapshots → LeavesRecoverable sum size H (stable_below reach H.batches) f new
       → FitsIn sum (log_parts size site new now bytes from bs rs) behind reach pins H A f U
   unfolding holds-faulty
   fits_faulty new e now is blobs snapshots left = record {
     near = fits.near;
     ends = fits.ends;
-    closes = fits.closes;
+    no_batch = fits.no_batch;
+    no_end = fits.no_end;
     marked = fits.marked;
     holds = holds-faulty sum size site device fault bytes from bs rs H fits.holds new e now is (ap (λ (s : NamesState). s.file) snapshots);
     among = λ none. cc;
     beyond = λ to far none. cc;
-    blobs = subst (λ (s : NamesState). BlobsFit sum s H reach) (sym blobs) fits.blobs;
+    blobs = subst (λ (s : NamesState). BlobsFit sum s H (stable_below reach H.batches)) (sym blobs) fits.blobs;
+    inline = fits.inline;
     names = subst (λ (s : NamesState). NamesFit sum size s H f fits.holds.begun.first) (sym snapshots) fits.names;
     passes = fits.passes;
     pinned = fits.pinned;
@@ -43,7 +46,7 @@ module _ (sum : List ℕ → ℕ) (size : ℕ) (site : SegmentPosition) (device 
       let here : FitsIn sum (log_parts size site after now bytes from bs rs) behind reach pins H A f U = elim (fault_or_none now) [
         | inl is ↦ fits_same_device after now same (is ∙ sym none)
         | inr is ↦ fits_faulty after is.0 now is.1 (ap (λ (s : State). s.blobs) same) (ap (λ (s : State). s.snapshots) same)
-            (subst (λ (s : State). LeavesRecoverable sum size H reach f s) (sym same) fits.left)
+            (subst (λ (s : State). LeavesRecoverable sum size H (stable_below reach H.batches) f s) (sym same) fits.left)
       ] in
       subst (λ n. FitsIn sum (log_parts n site after now bytes from bs rs) behind reach pins H A f U) (sym sizes) here
 

@@ -8,6 +8,7 @@ use Rattle.sled_codec.specs.Snapshots.{SnapshotModel}
 use Rattle.sled_store.specs.Device.{LogState, State, Wrote, Synced, LeavesLog, at_rest, overwritten, step}
 use Rattle.sled_store.specs.Foreign.{NoForeignLog}
 use Rattle.sled_store.specs.Script.{Along}
+use Rattle.sled_core.specs.OpenBatches.{stable_below}
 use Rattle.sled_core.specs.declared.iobuf.Reserved.{Reserved}
 use Rattle.sled_core.specs.declared.iobuf.Sealed.{Sealed}
 use Rattle.sled_core.specs.declared.iobuf.SegmentPosition.{SegmentPosition}
@@ -25,6 +26,7 @@ use Rattle.sled_core.proofs.Flush.Completed.{batches_to}
 use Rattle.sled_core.proofs.Flush.FirstWritten.{alone_first, ends_first, ends_full, full_first, last_low, last_up, last_whole, none_or_begun, plain_below, reaches_first, rise_in, segment_first, torn_first}
 use Rattle.sled_core.proofs.Flush.FlushLemmas.{holds_over, on_file}
 use Rattle.sled_core.proofs.Flush.SealedFile.{file_beside, stop_up}
+use Rattle.sled_core.proofs.Behind.FullHead.{none_beside}
 use Rattle.sled_core.proofs.Flush.WriteFits.{along_behind, fits_behind}
 use Rattle.sled_core.proofs.Holds.BehindKept.{others_written}
 use Rattle.sled_core.proofs.Reached.StandsTo.{StandsTo}
@@ -97,7 +99,7 @@ module _ (sum : List ℕ → ℕ) (size : ℕ) (site : SegmentPosition) (device 
   -- What a crash leaves of the write.
   torn_later : x.is_written ≡ false → (W : History) (first : SnapshotModel) (reach : ℕ) → NoHeaderOfZeros sum → {others : List BegunSegment} → StandsAmong sum size old_later site from others reach W first → (now left : List ℕ) → length now ≤ length asked_later
       → LeavesLog (after_write old_later (site.slot + at) asked_later now) left → (placed : List (ℕ × List ℕ)) → NoForeignLog sum size (after_write old_later (site.slot + at) asked_later now) placed left
-      → StandsTo sum size left W reach first reach
+      → StandsTo sum size left W (stable_below reach W.batches) first reach
   torn_later fresh W first reach zeros alone now left no_more leaves placed only_own =
       torn_behind_unwritten sum zeros size big old_later site holds.slot_begins bytes from later_begins rs x xs b rest fresh are rise_later lies.2 (site.place / size) holds.stand reach W first old_later (holds.laid whole)
       alone now left no_more leaves {placed = placed} only_own
@@ -144,11 +146,11 @@ module _ (sum : List ℕ → ℕ) (size : ℕ) (site : SegmentPosition) (device 
 
   -- At each moment of the two calls a crash leaves what can be recovered.
   along_around : (front : List Sealed) (fits : FitsIn sum (log_parts size site device fault bytes from (front ++ b ∷ rest) rs) behind reach pins H A f U) → AreSealed from rs (front ++ b ∷ rest) → FirstUnwritten (front ++ b ∷ rest) → EndsRise from (front ++ b ∷ rest) (length bytes)
-      → Along (LeavesRecoverable sum size H reach f) (Wrote (site.slot + sealed_end from front) (asked_behind front) (asked_behind front) ∷ Synced ∷ []) device
+      → Along (LeavesRecoverable sum size H (stable_below reach H.batches) f) (Wrote (site.slot + sealed_end from front) (asked_behind front) (asked_behind front) ∷ Synced ∷ []) device
   along_around [] fits are fresh rise = elim (cases_lt (run_end b.end rest) size) [
     | inl below ↦ along_behind sum size site device fault bytes from (b ∷ rest) rs pins H A f U fits short big whole (run_end b.end rest) (stop_up from rs b rest closed are).0 (site.place + run_end b.end rest) (let near = fits.near in let above = (stop_up from rs b rest closed are).0 in omega (arith, near, above)) (omega arith)
         (ends_first sum size site device fault bytes from b rest rs H fits.holds short big place_small slot_small are fresh closed rise whole)
-        (batches_to sum size site device fault bytes from (b ∷ rest) rs (own_of fits.holds.head) fits.holds.own (site.place + run_end b.end rest) (let above = (stop_up from rs b rest closed are).0 in omega (arith, above)))
+        (none_beside H (site.place + run_end b.end rest) (site.place + run_end b.end rest) (batches_to sum size site device fault bytes from (b ∷ rest) rs (own_of fits.holds.head) fits.holds.own (site.place + run_end b.end rest) (let above = (stop_up from rs b rest closed are).0 in omega (arith, above))))
         (site.slot + from) (asked_behind []) (λ zeros. torn_first sum size site device fault bytes from b rest rs H fits.holds short big place_small slot_small are fresh closed rise whole reach zeros)
         (λ (l : List ℕ) (is : StandsAmong sum size l site (run_end b.end rest) (map begun_segment behind) (site.place + run_end b.end rest) H fits.holds.begun.first). is.stands) (λ zeros end far. alone_first sum size site device fault bytes from b rest rs H fits.holds short big place_small slot_small are fresh closed rise whole (plain_below sum size site device fault bytes from b rest rs H fits.holds short big place_small slot_small are fresh closed rise whole below) reach zeros end far)
         (reaches_first sum size site device fault bytes from b rest rs H fits.holds short big place_small slot_small are fresh closed rise whole)
@@ -158,13 +160,13 @@ module _ (sum : List ℕ → ℕ) (size : ℕ) (site : SegmentPosition) (device 
         along_behind sum size site device fault bytes from (b ∷ rest) rs pins H A f U fits short big whole (run_end b.end rest) (stop_up from rs b rest closed are).0 (site.place + last_whole sum size site device fault bytes from b rest rs H fits.holds short big place_small slot_small are fresh closed rise whole) (let near = fits.near in omega (arith, near, from_up))
         (let low = last_low sum size site device fault bytes from b rest rs H fits.holds short big place_small slot_small are fresh closed rise whole in omega (arith, low))
         (ends_full sum size site device fault bytes from b rest rs H fits.holds short big place_small slot_small are fresh closed rise whole filled)
-        (batches_to sum size site device fault bytes from (b ∷ rest) rs (own_of fits.holds.head) fits.holds.own (site.place + last_whole sum size site device fault bytes from b rest rs H fits.holds short big place_small slot_small are fresh closed rise whole) (omega (arith, from_up)))
+        (none_beside H (site.place + last_whole sum size site device fault bytes from b rest rs H fits.holds short big place_small slot_small are fresh closed rise whole) (site.place + run_end b.end rest) (batches_to sum size site device fault bytes from (b ∷ rest) rs (own_of fits.holds.head) fits.holds.own (site.place + last_whole sum size site device fault bytes from b rest rs H fits.holds short big place_small slot_small are fresh closed rise whole) (omega (arith, from_up))))
         (site.slot + from) (asked_behind []) (λ zeros. torn_first sum size site device fault bytes from b rest rs H fits.holds short big place_small slot_small are fresh closed rise whole reach zeros)
         (λ (l : List ℕ) (is : StandsFull sum size l (site.place + size) (map begun_segment behind) (site.place + last_whole sum size site device fault bytes from b rest rs H fits.holds short big place_small slot_small are fresh closed rise whole) H fits.holds.begun.first). is.stands) (λ zeros end far. full_first sum size site device fault bytes from b rest rs H fits.holds short big place_small slot_small are fresh closed rise whole filled reach zeros end far)
         (reaches_first sum size site device fault bytes from b rest rs H fits.holds short big place_small slot_small are fresh closed rise whole))
   ]
   along_around (x ∷ xs) fits are fresh rise =
-      along_behind sum size site device fault bytes from (x ∷ xs ++ b ∷ rest) rs pins H A f U fits short big whole from (omega arith) reach (omega arith) fits.near fits.ends fits.closes
+      along_behind sum size site device fault bytes from (x ∷ xs ++ b ∷ rest) rs pins H A f U fits short big whole from (omega arith) reach (omega arith) fits.near fits.ends (fits.no_batch, fits.no_end)
       (site.slot + sealed_end x.end xs) (asked_behind (x ∷ xs))
       (λ zeros. torn_later sum size site device fault bytes from x xs b rest rs (own_of fits.holds.head) fits.holds.own short big place_small slot_small are rise whole fresh H fits.holds.begun.first reach zeros)
       (λ (l : List ℕ) (is : StandsAmong sum size l site from (map begun_segment behind) reach H fits.holds.begun.first). is.stands) (λ zeros end far. alone_later sum size site device fault bytes from x xs b rest rs (own_of fits.holds.head) fits.holds.own short big place_small slot_small are rise whole fresh H fits.holds.begun.first reach zeros end far)
@@ -181,7 +183,7 @@ module _ (sum : List ℕ → ℕ) (size : ℕ) (site : SegmentPosition) (device 
         site.place + run_end b.end rest,
         fits_behind sum size site device fault bytes from (b ∷ rest) rs pins H A f U fits short big whole (run_end b.end rest) (stop_up from rs b rest closed are).0 (site.place + run_end b.end rest) (let near = fits.near in let above = (stop_up from rs b rest closed are).0 in omega (arith, near, above)) (omega arith)
             (ends_first sum size site device fault bytes from b rest rs H fits.holds short big place_small slot_small are fresh closed rise whole)
-            (batches_to sum size site device fault bytes from (b ∷ rest) rs (own_of fits.holds.head) fits.holds.own (site.place + run_end b.end rest) (let above = (stop_up from rs b rest closed are).0 in omega (arith, above)))
+            (none_beside H (site.place + run_end b.end rest) (site.place + run_end b.end rest) (batches_to sum size site device fault bytes from (b ∷ rest) rs (own_of fits.holds.head) fits.holds.own (site.place + run_end b.end rest) (let above = (stop_up from rs b rest closed are).0 in omega (arith, above))))
             (site.slot + from) (asked_behind []) (λ zeros. torn_first sum size site device fault bytes from b rest rs H fits.holds short big place_small slot_small are fresh closed rise whole reach zeros)
             (λ (l : List ℕ) (is : StandsAmong sum size l site (run_end b.end rest) (map begun_segment behind) (site.place + run_end b.end rest) H fits.holds.begun.first). is.stands) (λ zeros end far. alone_first sum size site device fault bytes from b rest rs H fits.holds short big place_small slot_small are fresh closed rise whole plain reach zeros end far)
             (reaches_first sum size site device fault bytes from b rest rs H fits.holds short big place_small slot_small are fresh closed rise whole) (behind_run rest) (drop (b.count + run_count rest) rs)
@@ -193,7 +195,7 @@ module _ (sum : List ℕ → ℕ) (size : ℕ) (site : SegmentPosition) (device 
       let range = asked_range (x ∷ xs) are rise in
       no_run (λ n cs others. (now : ℕ) × FitsIn sum (log_parts size site (after_behind (x ∷ xs)) fault bytes n cs others) behind now pins H A f U) from x (xs ++ now_written b ∷ rest) rs fresh (
         reach,
-        fits_behind sum size site device fault bytes from (x ∷ xs ++ b ∷ rest) rs pins H A f U fits short big whole from (omega arith) reach (omega arith) fits.near fits.ends fits.closes
+        fits_behind sum size site device fault bytes from (x ∷ xs ++ b ∷ rest) rs pins H A f U fits short big whole from (omega arith) reach (omega arith) fits.near fits.ends (fits.no_batch, fits.no_end)
             (site.slot + sealed_end x.end xs) (asked_behind (x ∷ xs))
             (λ zeros. torn_later sum size site device fault bytes from x xs b rest rs (own_of fits.holds.head) fits.holds.own short big place_small slot_small are rise whole fresh H fits.holds.begun.first reach zeros)
             (λ (l : List ℕ) (is : StandsAmong sum size l site from (map begun_segment behind) reach H fits.holds.begun.first). is.stands) (λ zeros end far. alone_later sum size site device fault bytes from x xs b rest rs (own_of fits.holds.head) fits.holds.own short big place_small slot_small are rise whole fresh H fits.holds.begun.first reach zeros end far)
@@ -272,7 +274,7 @@ module _ (sum : List ℕ → ℕ) (size : ℕ) (site : SegmentPosition) (device 
   rise_split = subst (λ (cs : List Sealed). EndsRise from cs (length bytes)) split_one rise
 
   -- At each moment of the write of one that is ready, and of the sync, a crash leaves what can be recovered.
-  pub write_along : Along (LeavesRecoverable sum size H reach f) (Wrote (site.slot + at_one) asked_one asked_one ∷ Synced ∷ []) device
+  pub write_along : Along (LeavesRecoverable sum size H (stable_below reach H.batches) f) (Wrote (site.slot + at_one) asked_one asked_one ∷ Synced ∷ []) device
   write_along = along_around sum size site device fault bytes from b (drop (suc k) bs) rs behind reach pins H A f U short big place_small slot_small (ready_closed b ready) whole (take k bs) fits_split are_split (subst FirstUnwritten split_one fresh) rise_split
 
   -- Behind them the log fits, where nothing fills its first segment.

@@ -9,31 +9,33 @@ use Rattle.sled_store.specs.Device.{State, Wrote, Synced, LeavesLog, at_rest, ov
 use Rattle.sled_store.specs.Foreign.{NoForeignLog}
 use Rattle.sled_store.specs.Script.{Along}
 use Rattle.sled_store.proofs.Histories.Ascending.{Ascends}
+use Rattle.sled_core.specs.OpenBatches.{stable_below}
 use Rattle.sled_core.specs.declared.iobuf.Reserved.{Reserved}
 use Rattle.sled_core.specs.declared.iobuf.Sealed.{Sealed}
 use Rattle.sled_core.specs.declared.iobuf.SegmentPosition.{SegmentPosition}
 use Rattle.sled_core.specs.Begun.{SegmentParts}
-use Rattle.sled_core.specs.Fits.{log_parts, begun_segment, CloseBelow, HoldsIn}
+use Rattle.sled_core.specs.Fits.{log_parts, begun_segment, HoldsIn}
 use Rattle.sled_core.specs.Full.{FitsFull, StandsFull}
 use Rattle.sled_core.specs.LogFile.{padded}
 use Rattle.sled_core.specs.Reached.{StandsAmong}
-use Rattle.sled_core.specs.Recoverable.{LeavesRecoverable, NoHeaderOfZeros}
+use Rattle.sled_core.specs.Recoverable.{LeavesRecoverable, NoBatchBegins, NoBatchEnds, NoHeaderOfZeros}
 use Rattle.sled_core.specs.Running.{BlobsFit, FitsIn, NamesFit}
 use Rattle.sled_core.proofs.Flush.Padded.{padded_none}
 use Rattle.sled_core.proofs.Flush.Settled.{InlineFrom, rests}
-use Rattle.sled_core.proofs.Holds.WholeHistory.{whole_ascends, whole_inline}
+use Rattle.sled_core.proofs.Holds.WholeHistory.{whole_ascends}
 use Rattle.sled_core.proofs.Reached.Marks.{less_than}
 use Rattle.sled_core.proofs.Reached.StandsTo.{StandsTo}
 use Rattle.sled_core.proofs.Sealed.WriteMoments as moments
+use Rattle.sled_core.proofs.Reached.StableBelow.{stable_rises}
 use Rattle.sled_core.proofs.Torn.TornLemmas.{after_write}
 
 -- A write to a log that fits, and the sync behind it, where what a crash leaves of the write stands as before, and all of it up to a place no lower, behind all messages that are written then.
 module _ (sum : List ℕ → ℕ) (size : ℕ) (site : SegmentPosition) (device : State) (fault : Option IoError) (bytes : List ℕ) (from : ℕ) (bs : List Sealed) (rs : List Reserved) (pins : ℕ) (H : History) (A f : ℕ) (U : List Message)
     {behind : List SegmentParts} {reach : ℕ} (fits : FitsIn sum (log_parts size site device fault bytes from bs rs) behind reach pins H A f U) (short : length bytes ≤ size) (big : 256 ≤ size) (whole : fault ≡ None) (to : ℕ) (grown : from ≤ to)
-    (reach' : ℕ) (up : reach ≤ reach') (near' : reach' ≤ site.place + to) (ends' : (m : Message) → Contains H.messages m → m.place < site.place + to → (m.place < reach') × (m.place + m.size ≤ reach')) (closes' : CloseBelow reach' H.batches) (at : ℕ) (asked : List ℕ)
+    (reach' : ℕ) (up : reach ≤ reach') (near' : reach' ≤ site.place + to) (ends' : (m : Message) → Contains H.messages m → m.place < site.place + to → (m.place < reach') × (m.place + m.size ≤ reach')) (beside' : NoBatchBegins H reach' (site.place + to) × NoBatchEnds H reach' (site.place + to)) (at : ℕ) (asked : List ℕ)
     (torn : NoHeaderOfZeros sum → StandsAmong sum size device.log.bytes site from (map begun_segment behind) reach H fits.holds.begun.first → (now left : List ℕ) → length now ≤ length asked → LeavesLog (after_write device.log.bytes at asked now) left
-    → (placed : List (ℕ × List ℕ)) → NoForeignLog sum size (after_write device.log.bytes at asked now) placed left → StandsTo sum size left H reach fits.holds.begun.first reach)
-    {Standing : List ℕ → Type 0} (standing : (l : List ℕ) → Standing l → StandsTo sum size l H reach' fits.holds.begun.first reach')
+    → (placed : List (ℕ × List ℕ)) → NoForeignLog sum size (after_write device.log.bytes at asked now) placed left → StandsTo sum size left H (stable_below reach H.batches) fits.holds.begun.first reach)
+    {Standing : List ℕ → Type 0} (standing : (l : List ℕ) → Standing l → StandsTo sum size l H (stable_below reach' H.batches) fits.holds.begun.first reach')
     (alone : NoHeaderOfZeros sum → (end : ℕ) → site.slot ≤ end → StandsAmong sum size (padded end device.log.bytes) site from (map begun_segment behind) reach H fits.holds.begun.first
     → Standing (padded end (overwritten device.log.bytes at asked)))
     (reaches : site.slot ≤ length (overwritten device.log.bytes at asked)) where
@@ -47,25 +49,19 @@ module _ (sum : List ℕ → ℕ) (size : ℕ) (site : SegmentPosition) (device 
   ordered : Ascends H.messages
   ordered = whole_ascends sum size site device fault bytes from bs rs H fits.holds short
 
-  inline : InlineFrom H reach
-  inline m there past = elim (cases_lt m.place (site.place + from)) [
-    | inl below ↦ absurd (let low = fits.ends m there below in omega (arith, low.0, past))
-    | inr over ↦ whole_inline sum size site device fault bytes from bs rs H fits.holds m there over
-  ]
-
   torn_now : NoHeaderOfZeros sum → (now left : List ℕ) → length now ≤ length asked → LeavesLog (after_write device.log.bytes at asked now) left → (placed : List (ℕ × List ℕ))
-      → NoForeignLog sum size (after_write device.log.bytes at asked now) placed left → StandsTo sum size left H reach fits.holds.begun.first reach
+      → NoForeignLog sum size (after_write device.log.bytes at asked now) placed left → StandsTo sum size left H (stable_below reach H.batches) fits.holds.begun.first reach
   torn_now zeros = torn zeros (fits.among whole zeros)
 
   alone_now : NoHeaderOfZeros sum → Standing (overwritten device.log.bytes at asked)
   alone_now zeros = subst Standing (padded_none site.slot (overwritten device.log.bytes at asked) reaches)
       (alone zeros site.slot (omega arith) (fits.beyond site.slot (omega arith) whole zeros))
 
-  stands_now : NoHeaderOfZeros sum → StandsTo sum size (overwritten device.log.bytes at asked) H reach' fits.holds.begun.first reach'
+  stands_now : NoHeaderOfZeros sum → StandsTo sum size (overwritten device.log.bytes at asked) H (stable_below reach' H.batches) fits.holds.begun.first reach'
   stands_now zeros = standing (overwritten device.log.bytes at asked) (alone_now zeros)
 
-  pub along_behind : Along (LeavesRecoverable sum size H reach f) (Wrote at asked asked ∷ Synced ∷ []) device
-  along_behind = moments.write_along sum size big device rest_now H f fits.holds.begun.first reach reach' up ordered inline fits.names fits.blobs fits.left at asked torn_now stands_now
+  pub along_behind : Along (LeavesRecoverable sum size H (stable_below reach H.batches) f) (Wrote at asked asked ∷ Synced ∷ []) device
+  along_behind = moments.write_along sum size big device rest_now H f fits.holds.begun.first reach reach' up ordered fits.inline fits.names fits.blobs fits.left at asked torn_now stands_now
 
   -- With zeros behind its end the file stands too, any number of them.
   padded_now : NoHeaderOfZeros sum → (end : ℕ) → Standing (padded end (overwritten device.log.bytes at asked))
@@ -74,11 +70,14 @@ module _ (sum : List ℕ → ℕ) (size : ℕ) (site : SegmentPosition) (device 
     | inr far ↦ alone zeros end far (fits.beyond end far whole zeros)
   ]
 
-  blobs_now : BlobsFit sum device.blobs H reach'
-  blobs_now = moments.blobs_up sum size big device rest_now H f fits.holds.begun.first reach reach' up ordered inline fits.names fits.blobs fits.left at asked torn_now stands_now
+  blobs_now : BlobsFit sum device.blobs H (stable_below reach' H.batches)
+  blobs_now = moments.blobs_up sum size big device rest_now H f fits.holds.begun.first reach reach' up ordered fits.inline fits.names fits.blobs fits.left at asked torn_now stands_now
 
-  left_now : LeavesRecoverable sum size H reach' f after_sync
-  left_now = moments.synced_leaves sum size big device rest_now H f fits.holds.begun.first reach reach' up ordered inline fits.names fits.blobs fits.left at asked torn_now stands_now
+  inline_now : InlineFrom H (stable_below reach' H.batches)
+  inline_now = moments.inline_up sum size big device rest_now H f fits.holds.begun.first reach reach' up ordered fits.inline fits.names fits.blobs fits.left at asked torn_now stands_now
+
+  left_now : LeavesRecoverable sum size H (stable_below reach' H.batches) f after_sync
+  left_now = moments.synced_leaves sum size big device rest_now H f fits.holds.begun.first reach reach' up ordered fits.inline fits.names fits.blobs fits.left at asked torn_now stands_now
 
   -- Where it stands up to there in the first segment.
   pub fits_behind : (cs : List Sealed) (others : List Reserved) (holds : HoldsIn sum (log_parts size site after_sync fault bytes to cs others) behind H)
@@ -88,13 +87,15 @@ module _ (sum : List ℕ → ℕ) (size : ℕ) (site : SegmentPosition) (device 
     holds = holds;
     near = near';
     ends = ends';
-    closes = closes';
+    no_batch = beside'.0;
+    no_end = beside'.1;
     marked = λ x there none mark header. less_than mark (site.place + from) (site.place + to) (omega (arith, grown)) (fits.marked x there none mark header);
     among = λ none zeros. subst (λ (s : SnapshotModel). StandsAmong sum size (overwritten device.log.bytes at asked) site to (map begun_segment behind) reach' H s) (sym same) (among (overwritten device.log.bytes at asked) (alone_now zeros));
     beyond = λ end far none zeros. subst (λ (s : SnapshotModel). StandsAmong sum size (padded end (overwritten device.log.bytes at asked)) site to (map begun_segment behind) reach' H s) (sym same) (among (padded end (overwritten device.log.bytes at asked)) (padded_now zeros end));
     blobs = blobs_now;
+    inline = inline_now;
     names = subst (λ (s : SnapshotModel). NamesFit sum size device.snapshots H f s) (sym same) fits.names;
-    passes = let old = fits.passes in omega (arith, old, up);
+    passes = let old = fits.passes in let rises = stable_rises reach reach' up H.batches in omega (arith, old, rises);
     pinned = fits.pinned;
     left = left_now;
   }
@@ -110,12 +111,14 @@ module _ (sum : List ℕ → ℕ) (size : ℕ) (site : SegmentPosition) (device 
     holds = holds;
     near = omega (arith, near', filled);
     ends = λ m there under. ends' m there (omega (arith, under, filled));
-    closes = closes';
+    no_batch = subst (λ n. NoBatchBegins H reach' (site.place + n)) filled beside'.0;
+    no_end = subst (λ n. NoBatchEnds H reach' (site.place + n)) filled beside'.1;
     marked = λ x there none mark header. less_than mark (site.place + from) (site.place + size) (omega (arith, grown, filled)) (fits.marked x there none mark header);
     beyond = λ end none zeros. subst (λ (s : SnapshotModel). StandsFull sum size (padded end (overwritten device.log.bytes at asked)) (site.place + size) (map begun_segment behind) reach' H s) (sym same) (full (padded end (overwritten device.log.bytes at asked)) (padded_now zeros end));
     blobs = blobs_now;
+    inline = inline_now;
     names = subst (λ (s : SnapshotModel). NamesFit sum size device.snapshots H f s) (sym same) fits.names;
-    passes = let old = fits.passes in omega (arith, old, up);
+    passes = let old = fits.passes in let rises = stable_rises reach reach' up H.batches in omega (arith, old, rises);
     pinned = fits.pinned;
     left = left_now;
   }

@@ -27,6 +27,7 @@ use Rattle.sled_core.specs.Waiting.{last_of}
 use Rattle.sled_core.specs.Running.{Fits}
 use Rattle.sled_core.specs.Reading.{IsInline}
 use Rattle.sled_core.specs.Recoverable.{LiesInSegment}
+use Rattle.sled_core.proofs.Reached.StableBelow.{stable_low}
 use Rattle.sled_core.proofs.Reserve.Ranges.{all_own, at_there, completed_between, chain_grows}
 use Rattle.sled_core.proofs.Reserve.Entries.{completed_plain, reserved_in, some_long}
 use Rattle.sled_core.proofs.Flush.Completed.{all_below, which}
@@ -164,7 +165,7 @@ fits_holds trace sum log H A f U fits = record { holds = fits.parts.holds; slots
 -- what was acknowledged is written
 pub fits_acknowledged : {D C : Type 0} (trace : D → Trace) (sum : List ℕ → ℕ) (log : Log D C) (H : History) (A f : ℕ) (U : List Message) → Fits trace sum log H A f U → A ≤ synced_end log
 unfolding Fits
-fits_acknowledged trace sum log H A f U fits = let passes = fits.parts.passes in let near = fits.parts.near in omega (arith, passes, near)
+fits_acknowledged trace sum log H A f U fits = let passes = fits.parts.passes in let low = stable_low fits.reach H.batches in let near = fits.parts.near in omega (arith, passes, low, near)
 
 -- Of tickets and places.
 

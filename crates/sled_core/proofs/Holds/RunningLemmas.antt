@@ -1,10 +1,9 @@
 -- How a running log goes on fitting its history at the calls that write nothing.
-use Rattle.std.proofs.Common.{◌≡◌, ◌≢◌, ◌≤◌, ◌<◌, ◌<ℤ◌, pos, ◌+◌, ◌∙◌, nat_lt, max, if◌then◌else◌, Bool, true, false, ℕ, List, [], ◌∷◌, length, map, Option, None, refl, sym, ap, arith, subst, inl, inr}
+use Rattle.std.proofs.Common.{◌≡◌, ◌⊎◌, ◌≢◌, ◌≤◌, ◌<◌, ◌<ℤ◌, pos, ◌+◌, ◌∙◌, nat_lt, max, if◌then◌else◌, Bool, true, false, ℕ, List, [], ◌∷◌, length, map, Option, None, refl, sym, ap, arith, subst, inl, inr}
 use Rattle.std.specs.List.{Contains}
 use Rattle.std.specs.declared.io.Error.{Error as IoError}
-use Rattle.std.proofs.lemmas.Bool.{cases_lt}
 use Rattle.std.proofs.lemmas.Bool.Decides.{nat_tests}
-use Rattle.std.proofs.lemmas.List.Elements.{All-tail}
+use Rattle.std.proofs.lemmas.List.Elements.{All-contains}
 use Rattle.sled_codec.specs.History.{Message, Batch, History, AddsMessage}
 use Rattle.sled_codec.specs.Snapshots.{SnapshotModel}
 use Rattle.sled_store.specs.Device.{State, Trace, state_of}
@@ -15,11 +14,12 @@ use Rattle.sled_core.specs.declared.iobuf.Sealed.{Sealed}
 use Rattle.sled_core.specs.declared.iobuf.SegmentPosition.{SegmentPosition}
 use Rattle.sled_core.specs.declared.logger.Log.{Log}
 use Rattle.sled_core.specs.Begun.{SegmentParts}
-use Rattle.sled_core.specs.Fits.{CloseBelow, HoldsIn, begun_segment, device_of, log_parts, segment_size_of}
+use Rattle.sled_core.specs.Fits.{HasInline, HoldsIn, begun_segment, device_of, log_parts, segment_size_of}
 use Rattle.sled_core.specs.LogFile.{padded}
 use Rattle.sled_core.specs.Running.{BlobsFit, NamesFit, Fits, FitsIn, end_below, last_batch, last_message}
 use Rattle.sled_core.specs.Reached.{BegunSegment, StandsAmong}
-use Rattle.sled_core.specs.Recoverable.{LeavesRecoverable, NoHeaderOfZeros}
+use Rattle.sled_core.specs.OpenBatches.{stable_below}
+use Rattle.sled_core.specs.Recoverable.{LeavesRecoverable, NoBatchBegins, NoBatchEnds, NoHeaderOfZeros}
 use Rattle.sled_core.specs.SealedBuffers.{AreSealed, AreZeros, FirstUnwritten}
 use Rattle.sled_core.proofs.Holds.Added.{was_or_added}
 use Rattle.sled_core.proofs.Holds.BegunLemmas.{names-adds, blobs-adds}
@@ -27,7 +27,8 @@ use Rattle.sled_core.proofs.Flush.Padded.{padded_get}
 use Rattle.sled_core.proofs.Holds.ReachLemmas.{LiesBehind, completed_behind}
 use Rattle.sled_core.proofs.Flush.Settled.{InlineFrom, leaves_less, rests, settled_recoverable}
 use Rattle.sled_core.proofs.Holds.StandsAdds.{alone-adds}
-use Rattle.sled_core.proofs.Holds.WholeHistory.{of_first, whole_ascends, whole_inline}
+use Rattle.sled_core.proofs.Holds.WholeHistory.{of_first, whole_ascends}
+use Rattle.sled_core.proofs.Reached.StableBelow.{stable_all, stable_low}
 use Rattle.sled_core.proofs.Sealed.Zeros.{begin_zeros}
 
 module _ (sum : List ℕ → ℕ) (size : ℕ) (site : SegmentPosition) (device : State) (fault : Option IoError) (bytes : List ℕ) (from : ℕ) (bs : List Sealed) (rs : List Reserved) (pins : ℕ) (H : History) (A f : ℕ) (U : List Message)
@@ -50,12 +51,14 @@ module _ (sum : List ℕ → ℕ) (size : ℕ) (site : SegmentPosition) (device 
         holds = holds;
         near = let near = fits.near in omega (arith, near, is);
         ends = λ m there below. fits.ends m there (omega (arith, below, is));
-        closes = fits.closes;
+        no_batch = subst (λ n. NoBatchBegins H reach (site.place + n)) (sym is) fits.no_batch;
+        no_end = subst (λ n. NoBatchEnds H reach (site.place + n)) (sym is) fits.no_end;
         marked = λ s there none mark header. subst (λ n. mark <ℤ pos (site.place + n)) (sym is) (fits.marked s there none mark header);
         among = λ ok none. subst (λ (s : SnapshotModel). StandsAmong sum size device.log.bytes site from' others reach H s) same (subst (λ n. StandsAmong sum size device.log.bytes site n others reach H first) (sym is) (fits.among ok none));
         beyond = λ to far ok none. subst (λ (s : SnapshotModel). StandsAmong sum size (padded to device.log.bytes) site from' others reach H s) same
             (subst (λ n. StandsAmong sum size (padded to device.log.bytes) site n others reach H first) (sym is) (fits.beyond to far ok none));
         blobs = fits.blobs;
+        inline = fits.inline;
         names = subst (λ (s : SnapshotModel). NamesFit sum size device.snapshots H f s) same fits.names;
         passes = fits.passes;
         pinned = fits.pinned;
@@ -64,19 +67,21 @@ module _ (sum : List ℕ → ℕ) (size : ℕ) (site : SegmentPosition) (device 
 
   -- A crash leaves what can be recovered with no more counted as acknowledged than was.
   pub fits-leaves : LeavesRecoverable sum size H A f device
-  fits-leaves = leaves_less sum size H A reach f device fits.passes fits.left
+  fits-leaves = leaves_less sum size H A (stable_below reach H.batches) f device fits.passes fits.left
 
-  -- Up to where a reader comes all may count as acknowledged,
-  pub fits-synced : (end : ℕ) → end ≤ reach → FitsIn sum (log_parts size site device fault bytes from bs rs) behind reach pins H end f U
+  -- Up to the stable place all may count as acknowledged,
+  pub fits-synced : (end : ℕ) → end ≤ stable_below reach H.batches → FitsIn sum (log_parts size site device fault bytes from bs rs) behind reach pins H end f U
   fits-synced end passes = record {
     holds = fits.holds;
     near = fits.near;
     ends = fits.ends;
-    closes = fits.closes;
+    no_batch = fits.no_batch;
+    no_end = fits.no_end;
     marked = fits.marked;
     among = fits.among;
     beyond = fits.beyond;
     blobs = fits.blobs;
+    inline = fits.inline;
     names = fits.names;
     passes = passes;
     pinned = fits.pinned;
@@ -93,19 +98,31 @@ module _ (sum : List ℕ → ℕ) (size : ℕ) (site : SegmentPosition) (device 
     by rest false is = rest
     by rest true is = let below : m.place < site.place + from = grind (arith, nat_tests, is) in let end = fits.ends m (among m (in_first m ms)) below in omega (arith, end.1, rest)
 
-  batch_ends : (bs : List Batch) → CloseBelow reach bs → last_batch (site.place + from) bs ≤ reach
-  batch_ends [] close = omega arith
-  batch_ends (b ∷ bs) close = by (batch_ends bs (All-tail (λ x. (x.low < reach) × (x.peg < reach)) b bs close)) (nat_lt b.low (site.place + from)) where
+  -- no batch is open, since all end below what is written
+  closes : (b : Batch) → Contains H.batches b → (b.low < reach) × (b.peg < reach)
+  closes b there =
+      let under = All-contains (λ (x : Batch). (x.low < site.place + from) × (x.peg < site.place + from)) H.batches b fits.holds.own.batches there in (
+        elim (fits.no_batch b there) [ inl low ↦ low | inr far ↦ absurd (omega (arith, far, under.0)) ],
+        elim (fits.no_end b there) [ inl low ↦ low | inr far ↦ absurd (omega (arith, far, under.1)) ],
+      )
+
+  all_stable : stable_below reach H.batches ≡ reach
+  all_stable = stable_all reach H.batches (λ b there low. (closes b there).1)
+
+  batch_ends : (bs : List Batch) → ((b : Batch) → Contains bs b → Contains H.batches b) → last_batch (site.place + from) bs ≤ reach
+  batch_ends [] among = omega arith
+  batch_ends (b ∷ bs) among = by (batch_ends bs (λ x there. among x (in_rest b x bs there))) (nat_lt b.low (site.place + from)) where
     by : last_batch (site.place + from) bs ≤ reach → (o : Bool) → (if o then max (max b.low b.peg + 1) (last_batch (site.place + from) bs) else last_batch (site.place + from) bs) ≤ reach
     by rest false = rest
-    by rest true = let here = close 0 b (omega arith) in omega (arith, here.0, here.1, rest)
+    by rest true = let here = closes b (among b (in_first b bs)) in omega (arith, here.0, here.1, rest)
 
   pub fits-acknowledged : FitsIn sum (log_parts size site device fault bytes from bs rs) behind reach pins H (max A (end_below (site.place + from) H)) f U
   fits-acknowledged =
       let old = fits.passes in
       let messages = message_ends H.messages (λ m there. there) in
-      let batches = batch_ends H.batches fits.closes in
-      fits-synced (max A (end_below (site.place + from) H)) (omega (arith, old, messages, batches))
+      let batches = batch_ends H.batches (λ b there. there) in
+      let stable = all_stable in
+      fits-synced (max A (end_below (site.place + from) H)) (omega (arith, old, messages, batches, stable))
 
   -- Another count of pins fits, where one is out while a completed message is not marked.
   pub fits-pinned : (pins' : ℕ) → (U ≢ [] → 0 < pins') → FitsIn sum (log_parts size site device fault bytes from bs rs) behind reach pins' H A f U
@@ -113,11 +130,13 @@ module _ (sum : List ℕ → ℕ) (size : ℕ) (site : SegmentPosition) (device 
     holds = fits.holds;
     near = fits.near;
     ends = fits.ends;
-    closes = fits.closes;
+    no_batch = fits.no_batch;
+    no_end = fits.no_end;
     marked = fits.marked;
     among = fits.among;
     beyond = fits.beyond;
     blobs = fits.blobs;
+    inline = fits.inline;
     names = fits.names;
     passes = fits.passes;
     pinned = pinned;
@@ -152,8 +171,13 @@ module _ (sum : List ℕ → ℕ) (size : ℕ) (site : SegmentPosition) (device 
     names_new : NamesFit sum size device.snapshots H' f first
     names_new = let begun = fits.holds.begun.reached in names-adds H H' m adds sum size device.snapshots f first (omega (arith, begun, above)) fits.names
 
-    blobs_new : BlobsFit sum device.blobs H' reach
-    blobs_new = blobs-adds H H' m adds sum device.blobs reach lies.lid reached lies.pointer fits.blobs
+    -- no batch is added, so the stable place is the same
+    same_stable : stable_below reach H'.batches ≡ stable_below reach H.batches
+    same_stable = ap (stable_below reach) adds.batches
+
+    blobs_new : BlobsFit sum device.blobs H' (stable_below reach H'.batches)
+    blobs_new = subst (λ n. BlobsFit sum device.blobs H' n) (sym same_stable)
+        (let low = stable_low reach H.batches in let at = reached in blobs-adds H H' m adds sum device.blobs (stable_below reach H.batches) lies.lid (omega (arith, low, at)) lies.pointer fits.blobs)
 
     -- what is written still ends there
     ends_new : (x : Message) → Contains H'.messages x → x.place < site.place + from → (x.place < reach) × (x.place + x.size ≤ reach)
@@ -162,16 +186,16 @@ module _ (sum : List ℕ → ℕ) (size : ℕ) (site : SegmentPosition) (device 
       | inr own ↦ absurd (let same = ap (λ (y : Message). y.place) own in omega (arith, same, above, below))
     ]
 
-    inline_behind : InlineFrom H' reach
-    inline_behind x there past = elim (cases_lt x.place (site.place + from)) [
-      | inl below ↦ absurd (let low = ends_new x there below in omega (arith, low.0, past))
-      | inr over ↦ whole_inline sum size site device fault bytes' from' bs' rs' H' holds x there (omega (arith, is, over))
+    inline_behind : InlineFrom H' (stable_below reach H'.batches)
+    inline_behind x there past = elim (was_or_added H H' m adds x there) [
+      | inl was ↦ (let same = same_stable in fits.inline x was (omega (arith, past, same)))
+      | inr own ↦ subst HasInline own (lies.lid, lies.pointer)
     ]
 
-    left_new : LeavesRecoverable sum size H' reach f device
+    left_new : LeavesRecoverable sum size H' (stable_below reach H'.batches) f device
     left_new =
         let on = fits.holds.own.written ok in
-        settled_recoverable sum size least device H' reach f first reach (whole_ascends sum size site device fault bytes' from' bs' rs' H' holds in_segment) inline_behind (rests device.log on.log on.settled) names_new blobs_new (λ none. (alone_new none).stands)
+        settled_recoverable sum size least device H' (stable_below reach H'.batches) f first reach (whole_ascends sum size site device fault bytes' from' bs' rs' H' holds in_segment) inline_behind (rests device.log on.log on.settled) names_new blobs_new (λ none. (alone_new none).stands)
 
     pub fits-completed : 0 < pins → FitsIn sum (log_parts size site device fault bytes' from' bs' rs') behind reach pins H' A f (m ∷ U)
     fits-completed out =
@@ -180,14 +204,16 @@ module _ (sum : List ℕ → ℕ) (size : ℕ) (site : SegmentPosition) (device 
           holds = holds;
           near = let near = fits.near in omega (arith, near, is);
           ends = λ x there below. ends_new x there (omega (arith, below, is));
-          closes = subst (CloseBelow reach) (sym adds.batches) fits.closes;
+          no_batch = λ b there. subst (λ n. (b.low < reach) ⊎ (site.place + n ≤ b.low)) (sym is) (fits.no_batch b (subst (λ (l : List Batch). Contains l b) adds.batches there));
+          no_end = λ b there. subst (λ n. (b.peg < reach) ⊎ (site.place + n ≤ b.peg)) (sym is) (fits.no_end b (subst (λ (l : List Batch). Contains l b) adds.batches there));
           marked = λ s there none mark header. subst (λ n. mark <ℤ pos (site.place + n)) (sym is) (fits.marked s there none mark header);
           among = λ fine none. subst (λ (s : SnapshotModel). StandsAmong sum size device.log.bytes site from' others reach H' s) same (subst (λ n. StandsAmong sum size device.log.bytes site n others reach H' first) (sym is) (alone_new none));
           beyond = λ to far fine none. subst (λ (s : SnapshotModel). StandsAmong sum size (padded to device.log.bytes) site from' others reach H' s) same
               (subst (λ n. StandsAmong sum size (padded to device.log.bytes) site n others reach H' first) (sym is) (beyond_new to far none));
           blobs = blobs_new;
+          inline = inline_behind;
           names = subst (λ (s : SnapshotModel). NamesFit sum size device.snapshots H' f s) same names_new;
-          passes = fits.passes;
+          passes = let passes = fits.passes in let same = same_stable in omega (arith, passes, same);
           pinned = λ some. out;
           left = left_new;
         }

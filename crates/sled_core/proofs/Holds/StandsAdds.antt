@@ -7,6 +7,7 @@ use Rattle.sled_codec.specs.Places.{part}
 use Rattle.sled_codec.specs.Record.{IsHeader}
 use Rattle.sled_codec.specs.Snapshots.{SnapshotModel}
 use Rattle.sled_codec.proofs.Histories.{among}
+use Rattle.sled_core.specs.OpenBatches.{stable_below}
 use Rattle.sled_core.specs.declared.iobuf.SegmentPosition.{SegmentPosition}
 use Rattle.sled_core.specs.declared.iterator.Segment.{Segment}
 use Rattle.sled_core.specs.declared.iterator.scan.ScannedRecord.{ScannedRecord}
@@ -132,8 +133,8 @@ module _ (sum : List ℕ → ℕ) (size : ℕ) (log : List ℕ) (some : 256 ≤ 
       (segment_of_new cut high n had.0, had.1)
 
   -- It stands so for the history with the message.
-  pub stands-adds : StandsTo sum size log H' A first reach
-  stands-adds = record {
+  pub stands-adds : (A' : ℕ) → A' ≡ A → StandsTo sum size log H' A' first reach
+  stands-adds A' same = record {
     ordering = is.ordering;
     numbers = is.numbers;
     scanned = is.scanned;
@@ -141,14 +142,14 @@ module _ (sum : List ℕ → ℕ) (size : ℕ) (log : List ℕ) (some : 256 ≤ 
     marks = λ s there. let mark = is.marks s there in record { least = mark.least; below = mark.below; apart = λ b at. mark.apart b (batch_was b at) };
     truth = λ s x here there. of_new s x here there (is.truth s x here there);
     caps = caps_new;
-    not_below = is.not_below;
-    passes = is.passes;
-    marks_below = mark_new;
+    not_below = let low = is.not_below in omega (arith, low, same);
+    passes = let passes = is.passes in omega (arith, passes, same);
+    marks_below = λ s there. subst (λ n. IsMarkBelow size H' n s.mark) (sym same) (mark_new s there);
     placed = λ x there. ⊎_elim (is.placed x) (λ own. subst (LiesInSegment size) own lies) (was_or_added H H' m adds x there);
     batched = λ b there. let placed = is.batched b (batch_was b there) in record { begins = placed.begins; alone = λ c at. placed.alone c (batch_was c at); nested = λ c at. placed.nested c (batch_was c at) };
-    closed = λ b there. is.closed b (batch_was b there);
+    closed = λ b there low. let under = is.closed b (batch_was b there) (omega (arith, low, same)) in omega (arith, under, same);
     gapless = is.gapless;
-    needed = needed_new;
+    needed = λ cut low high. needed_new cut (omega (arith, low, same)) high;
   }
 
 -- A segment that begins behind the first one begins behind all that is written of that.
@@ -178,7 +179,7 @@ among-adds sum size log site from reach H H' first some m adds above lies had be
     let near : reach ≤ site.place + from = reached_near size H site.place from reach had.reached in
     let marks : (s : Segment) → Contains had.stands.ordering s → s.mark <ℤ pos m.place = λ s there. less_than s.mark (site.place + from) m.place above (had.below s ((had.stands.numbers.found s).0 there)) in
     record {
-      stands = stands-adds sum size log some H H' reach first reach had.stands m beside marks adds (omega (arith, near, above)) lies;
+      stands = stands-adds sum size log some H H' (stable_below reach H.batches) first reach had.stands m beside marks adds (omega (arith, near, above)) lies (stable_below reach H'.batches) (ap (stable_below reach) adds.batches);
       reached = reached_adds had.reached;
       led = had.led;
       here = had.here;
@@ -206,7 +207,7 @@ pub alone-adds : (sum : List ℕ → ℕ) (size : ℕ) (log : List ℕ) (site : 
     → (from ≡ 0 → AreZeros log site.slot (site.slot + 20)) → (m : Message) → AddsMessage H m H' → site.place + from ≤ m.place → m.place < site.place + size → from + 32 ≤ size → LiesInSegment size m
     → {others : List BegunSegment} → StandsAmong sum size log site from others reach H first → StandsAmong sum size log site from others reach H' first
 alone-adds sum size log site from reach H H' first some none place_begins clean m adds above inside room lies alone =
-    among-adds sum size log site from reach H H' first some m adds above lies alone (lies_beside sum size log H reach first reach alone.stands site from some none place_begins clean alone.here room m above inside)
+    among-adds sum size log site from reach H H' first some m adds above lies alone (lies_beside sum size log H (stable_below reach H.batches) first reach alone.stands site from some none place_begins clean alone.here room m above inside)
 
 -- and where it is to lie in one behind it, behind what is written of that.
 pub other_adds : (sum : List ℕ → ℕ) (size : ℕ) (log : List ℕ) (site : SegmentPosition) (from reach : ℕ) (H H' : History) (first : SnapshotModel) → 256 ≤ size → NoHeaderOfZeros sum → {others : List BegunSegment} (y : BegunSegment) → Contains others y → y.site.place % size ≡ 0
@@ -215,4 +216,4 @@ pub other_adds : (sum : List ℕ → ℕ) (size : ℕ) (log : List ℕ) (site : 
 other_adds sum size log site from reach H H' first some none {others} y known place_begins clean m adds above inside room lies had =
     let under = first_below sum size log site from others reach H first some had y.site.place place_begins (follows site others had.apart y known).0 in
     among-adds sum size log site from reach H H' first some m adds (omega (arith, under, above)) lies had
-    (lies_beside sum size log H reach first reach had.stands y.site y.from some none place_begins clean (had.behind y known) room m above inside)
+    (lies_beside sum size log H (stable_below reach H.batches) first reach had.stands y.site y.from some none place_begins clean (had.behind y known) room m above inside)

@@ -11,6 +11,7 @@ use Rattle.sled_store.specs.Script.{Along, Performs, after_all}
 use Rattle.sled_store.specs.SegmentStates.{Machine}
 use Rattle.sled_store.proofs.Traces.MomentLemmas.{at_last, weaker}
 use Rattle.sled_store.proofs.Traces.ScriptLemmas.{performs_throughout}
+use Rattle.sled_core.specs.OpenBatches.{stable_below}
 use Rattle.sled_core.specs.Begun.{AreFilled, FollowOn, SegmentView, line_at, segment_view, view_at}
 use Rattle.sled_core.specs.declared.iobuf.IoBuf.{IoBuf}
 use Rattle.sled_core.specs.declared.iobuf.SegmentPosition.{SegmentPosition}
@@ -120,17 +121,17 @@ module _ {D C : Type 0} (log : Log D C) (n k : ℕ) (r : IsReadyIn (line_of log)
     calls : write_in line n k ≡ buffer_calls sum size log.config.config.least device log.fault whole v k r.buffer r.there r.ready
     calls = calls_are sum size log.config.config.least device log.fault whole v k r.buffer r.there r.ready line n r.among
 
-    left : (new : Trace) → Performs (write_in line n k) before new → (reach : ℕ) (H : History) (A f : ℕ) (U : List Message) → FitsLine sum size device log.fault line reach log.pins H A f U → Throughout (LeavesRecoverable sum size H reach f) before new
+    left : (new : Trace) → Performs (write_in line n k) before new → (reach : ℕ) (H : History) (A f : ℕ) (U : List Message) → FitsLine sum size device log.fault line reach log.pins H A f U → Throughout (LeavesRecoverable sum size H (stable_below reach H.batches) f) before new
     left new came reach H A f U fits =
-        performs_throughout (LeavesRecoverable sum size H reach f) (write_in line n k) before new came
-        (subst (λ (es : List Event). Along (LeavesRecoverable sum size H reach f) es device) (sym calls)
+        performs_throughout (LeavesRecoverable sum size H (stable_below reach H.batches) f) (write_in line n k) before new came
+        (subst (λ (es : List Event). Along (LeavesRecoverable sum size H (stable_below reach H.batches) f) es device) (sym calls)
         (along_write sum size log.config.config.least device log.fault whole v k r.buffer r.there r.ready log.pins H A f U log.site.place reach line (line_segments log) n r.among fits))
 
     -- At each moment of the calls a crash leaves what can be recovered.
     pub crash_write : (new : Trace) → Performs (write_in line n k) before new → (H : History) (A f : ℕ) (U : List Message) → Fits trace sum log H A f U → Throughout (LeavesRecoverable sum size H A f) before new
     unfolding Fits
     crash_write new came H A f U fits =
-        weaker (LeavesRecoverable sum size H fits.reach f) (LeavesRecoverable sum size H A f) (λ s. leaves_less sum size H A fits.reach f s (passes_line sum size device log.fault line fits.reach log.pins H A f U fits.parts)) before new
+        weaker (LeavesRecoverable sum size H (stable_below fits.reach H.batches) f) (LeavesRecoverable sum size H A f) (λ s. leaves_less sum size H A (stable_below fits.reach H.batches) f s (passes_line sum size device log.fault line fits.reach log.pins H A f U fits.parts)) before new
         (left new came fits.reach H A f U fits.parts)
 
     names : (new : Trace) → Performs (write_in line n k) before new → ((state_of new).blobs ≡ device.blobs) × ((state_of new).snapshots ≡ device.snapshots)
@@ -156,7 +157,7 @@ module _ {D C : Type 0} (log : Log D C) (n k : ℕ) (r : IsReadyIn (line_of log)
       | inr some ↦ record {
         reach = fits.reach;
         parts = fits_line_faulty sum size device log.fault line fits.reach log.pins H A f U fits.parts (state_of new) some.0 now some.1 (names new came).0 (names new came).1
-            (at_last (LeavesRecoverable sum size H fits.reach f) before new (left new came fits.reach H A f U fits.parts));
+            (at_last (LeavesRecoverable sum size H (stable_below fits.reach H.batches) f) before new (left new came fits.reach H A f U fits.parts));
         slots = slots_line_faulty size line device.log.bytes (state_of new).log.bytes log.fault slots fits.slots some.0 now some.1;
       }
     ]

@@ -17,6 +17,7 @@ use Rattle.sled_core.specs.Full.{FitsFull}
 use Rattle.sled_core.specs.Recoverable.{LeavesRecoverable}
 use Rattle.sled_core.specs.Running.{FitsIn, FitsLine}
 use Rattle.sled_core.specs.SealedBuffers.{bytes_between, is_ready, run_end, sealed_end, writing, written_at}
+use Rattle.sled_core.specs.OpenBatches.{stable_below}
 use Rattle.sled_core.specs.Turned.{promoted, write_in, write_of, written_now}
 use Rattle.sled_core.proofs.Behind.FitsWritten.{behind-along, behind-fits-written}
 use Rattle.sled_core.proofs.Behind.FullWrites.{fits_written_full, written_plain}
@@ -32,8 +33,8 @@ use Rattle.sled_core.proofs.Sealed.OneWritten.{length-between}
 use Rattle.sled_core.proofs.Sealed.Slices.{end_to, span_within}
 use Rattle.sled_core.proofs.Start.FreeSlots.{written_free}
 
--- what was acknowledged lies within what a reader reaches
-pub passes_line : (sum : List ℕ → ℕ) (size : ℕ) (device : State) (fault : Option IoError) (line : List SegmentView) (reach pins : ℕ) (H : History) (A f : ℕ) (U : List Message) → FitsLine sum size device fault line reach pins H A f U → A ≤ reach
+-- what was acknowledged is stable
+pub passes_line : (sum : List ℕ → ℕ) (size : ℕ) (device : State) (fault : Option IoError) (line : List SegmentView) (reach pins : ℕ) (H : History) (A f : ℕ) (U : List Message) → FitsLine sum size device fault line reach pins H A f U → A ≤ stable_below reach H.batches
 passes_line sum size device fault [] reach pins H A f U fits = absurd fits
 passes_line sum size device fault (v ∷ vs) reach pins H A f U fits = fits.passes
 
@@ -82,7 +83,7 @@ module _ (sum : List ℕ → ℕ) (size : ℕ) (big : 256 ≤ size) (device : St
 
   module _ (pins : ℕ) (H : History) (A f : ℕ) (U : List Message) where
     -- At each moment of the calls a crash leaves what can be recovered.
-    pub along_write : (place reach : ℕ) (line : List SegmentView) → AreSegments size place line → (n : ℕ) → slice_get line n ≡ Some v → FitsLine sum size device fault line reach pins H A f U → Along (LeavesRecoverable sum size H reach f) buffer_calls device
+    pub along_write : (place reach : ℕ) (line : List SegmentView) → AreSegments size place line → (n : ℕ) → slice_get line n ≡ Some v → FitsLine sum size device fault line reach pins H A f U → Along (LeavesRecoverable sum size H (stable_below reach H.batches) f) buffer_calls device
     along_write place reach [] are n among fits = absurd fits
     along_write place reach (x ∷ xs) are zero among fits =
         let same : x ≡ v = cc in

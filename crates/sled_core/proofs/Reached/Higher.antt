@@ -19,6 +19,8 @@ use Rattle.sled_core.proofs.Tail.Multiples.{put_down, one_multiple}
 use Rattle.sled_core.proofs.Tail.Tails.{further, whole}
 use Rattle.sled_core.proofs.Reached.ReachedEntries.{reached_of}
 use Rattle.sled_core.proofs.Reached.Marks.{mark_higher}
+use Rattle.sled_core.specs.OpenBatches.{stable_below}
+use Rattle.sled_core.proofs.Reached.StableBelow.{stable_closed, stable_low, stable_rises}
 use Rattle.sled_core.proofs.Reached.StandsTo.{StandsTo}
 
 -- The segment before one at this place begins below what was reached, and leads on.
@@ -217,6 +219,8 @@ module _ (sum : List ℕ → ℕ) (size : ℕ) (log : List ℕ) (some : 256 ≤ 
     needed = needed;
   }
 
-  -- So does what is stable, where none is open there.
-  pub stands_higher : ((b : Batch) → Contains H.batches b → b.low < high → b.peg < high) → StandsTo sum size log H high first high
-  stands_higher closed = (let near = is.passes in stands_raised sum size log some H A first high stands_further high (omega (arith, near, far)) (omega arith) closed)
+  -- And the stable place is that of what is read then.
+  pub stands_higher : A ≤ stable_below reach H.batches → StandsTo sum size log H (stable_below high H.batches) first high
+  stands_higher low =
+      let rises = stable_rises reach high far H.batches in
+      stands_raised sum size log some H A first high stands_further (stable_below high H.batches) (omega (arith, low, rises)) (stable_low high H.batches) (stable_closed size H is.batched high)

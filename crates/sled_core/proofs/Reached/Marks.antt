@@ -1,8 +1,12 @@
 -- Marks of headers that lie below a place, or in front of the next segment.
-use Rattle.std.proofs.Common.{⊎_elim, ◌+◌, ◌-◌, ◌<◌, ◌≤◌, ◌<ℤ◌, ℕ, ℤ, pos, negsuc, refl, sym, subst, arith, inl, inr, lt→ltb}
+use Rattle.std.proofs.Common.{⊎_elim, ◌⊎◌, ◌+◌, ◌-◌, ◌<◌, ◌≤◌, ◌<ℤ◌, ◌≤ℤ◌, ℕ, ℤ, pos, negsuc, refl, sym, subst, arith, inl, inr, lt→ltb}
+use Rattle.std.specs.List.{Contains}
 use Rattle.std.proofs.lemmas.Bool.{cases_lt}
-use Rattle.sled_codec.specs.History.{History}
+use Rattle.std.proofs.lemmas.Int.{ints}
+use Rattle.sled_codec.specs.History.{Batch, History}
+use Rattle.sled_core.specs.OpenBatches.{stable_below}
 use Rattle.sled_core.specs.Recoverable.{IsMarkBelow}
+use Rattle.sled_core.proofs.Reached.StableBelow.{stable_is}
 use Rattle.sled_core.proofs.Tail.GreatestMark.{mark_below}
 use Rattle.sled_core.proofs.Tail.Multiples.{lower_multiple}
 
@@ -27,3 +31,19 @@ mark_higher size some H low high far mark (inr (n, at, under, message, batch, en
         λ b there. ⊎_elim (λ early. inl (omega (arith, early, far))) (λ late. inr late) (ended b there),
       ))
 ]
+
+-- A mark that lies below what was reached, and in no batch, lies below the stable place.
+pub mark_stable : (size : ℕ) (H : History) (reach : ℕ) (mark : ℤ) → ((b : Batch) → Contains H.batches b → (mark <ℤ pos b.low) ⊎ (pos b.peg ≤ℤ mark)) → IsMarkBelow size H reach mark → IsMarkBelow size H (stable_below reach H.batches) mark
+mark_stable size H reach mark apart below = elim (stable_is reach H.batches) [
+  | inl all ↦ subst (λ n. IsMarkBelow size H n mark) (sym all) below
+  | inr (b, there, at, is_open) ↦ elim (apart b there) [
+    | inl lower ↦ inl (subst (λ n. mark <ℤ pos n) (sym at) lower)
+    | inr behind ↦ absurd (never b there is_open.1 behind below)
+  ]
+]
+  where
+    never : (b : Batch) → Contains H.batches b → reach ≤ b.peg → pos b.peg ≤ℤ mark → IsMarkBelow size H reach mark → ⊥
+    never b there high behind (inl under) = omega (arith, ints, high, behind, under)
+    never b there high behind (inr (n, is, near, message, batch, ends)) =
+        let far : b.peg ≤ n = omega (arith, ints, behind, is) in
+        elim (ends b there) [ inl low ↦ omega (arith, low, high) | inr up ↦ omega (arith, up, far) ]

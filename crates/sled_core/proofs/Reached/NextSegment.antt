@@ -4,10 +4,11 @@ use Rattle.std.specs.List.{Contains}
 use Rattle.std.proofs.lemmas.List.Elements.{Contains-append_cases, Contains-append_left}
 use Rattle.sled_codec.specs.Places.{part}
 use Rattle.sled_codec.specs.Record.{IsHeader}
-use Rattle.sled_codec.specs.History.{Batch, History}
+use Rattle.sled_codec.specs.History.{History}
 use Rattle.sled_codec.specs.Snapshots.{SnapshotModel}
 use Rattle.sled_store.proofs.Histories.Ascending.{Ascends}
 use Rattle.sled_store.proofs.Segments.Elements.{in_cases, in_first, in_nothing, in_rest}
+use Rattle.sled_core.specs.OpenBatches.{stable_below}
 use Rattle.sled_core.specs.declared.iobuf.SegmentPosition.{SegmentPosition}
 use Rattle.sled_core.specs.declared.iterator.Segment.{Segment}
 use Rattle.sled_core.specs.declared.iterator.scan.ScanEnd.{ScanEnd}
@@ -127,51 +128,49 @@ module _ (sum : List ℕ → ℕ) (size : ℕ) (some : 256 ≤ size) (log : List
     abbrev pub stop : ℕ
     stop = read.0
 
-    -- no batch is open where it ends
-    module _ (closed : (b : Batch) → Contains H.batches b → b.low < y.site.place + stop → b.peg < y.site.place + stop) where
-      led : IsBegunOrLedTo size full.stands.scanned least reach y.site.place
-      led =
-          let l = full.leads in
-          inr (inr (record { scan = l.scan; there = known_in sum size log H reach first reach full.stands l.scan l.found l.read; next = l.next; goes = l.goes; below = l.below }))
+    led : IsBegunOrLedTo size full.stands.scanned least reach y.site.place
+    led =
+        let l = full.leads in
+        inr (inr (record { scan = l.scan; there = known_in sum size log H (stable_below reach H.batches) first reach full.stands l.scan l.found l.read; next = l.next; goes = l.goes; below = l.below }))
 
-      pub further : StandsTo sum size log H (y.site.place + stop) first (y.site.place + stop)
-      further =
+    pub further : StandsTo sum size log H (stable_below (y.site.place + stop) H.batches) first (y.site.place + stop)
+    further =
+        let is = read.2 in
+        let at = is.at_place in
+        let ended = is.ended in
+        let near = full.near.above in
+        let same : is.scan.segment.place + is.scan.stop ≡ y.site.place + stop = omega (arith, at, ended) in
+        subst (λ n. StandsTo sum size log H (stable_below n H.batches) first n) same
+        (stands_higher sum size log some H (stable_below reach H.batches) first reach full.stands ordered is.scan is.there (omega (arith, same, near)) (subst (IsBegunOrLedTo size full.stands.scanned least reach) (sym at) led) (subst (NoMessageBegins H reach) (sym at) full.near.no_message)
+        (omega arith))
+
+    anew : (site : SegmentPosition) (from : ℕ) → StandsIn sum size log least full.stands.scanned site from → StandsIn sum size log least further.scanned site from
+    anew = stands_anew sum size log H (stable_below reach H.batches) reach (stable_below (y.site.place + stop) H.batches) (y.site.place + stop) first full.stands further
+
+    -- The reading ends in it.
+    pub next_goes : stop ≡ y.from → StandsAmong sum size log y.site y.from ys (y.site.place + stop) H first
+    next_goes at = record {
+      stands = further;
+      reached = inl (ap (λ n. y.site.place + n) at);
+      led = inl (omega (arith, at, later));
+      here = anew y.site y.from its;
+      behind = λ x among. anew x.site x.from (full.behind x (in_rest y x ys among));
+      apart = follow;
+      last = last_behind;
+      below = λ s found. less_than s.mark y.site.place (y.site.place + y.from) (omega arith) (full.below s found);
+    }
+
+    -- It is full too, and so the reading goes on behind it.
+    pub next_full : read.1 ≢ Broken → 0 < stop → BeginsNext size H (y.site.place + stop) (y.site.place + size) → StandsFull sum size log (y.site.place + size) ys (y.site.place + stop) H first
+    next_full goes begun near = record {
+      stands = further;
+      leads = (
           let is = read.2 in
           let at = is.at_place in
-          let ended = is.ended in
-          let near = full.near.above in
-          let same : is.scan.segment.place + is.scan.stop ≡ y.site.place + stop = omega (arith, at, ended) in
-          subst (λ n. StandsTo sum size log H n first n) same
-          (stands_higher sum size log some H reach first reach full.stands ordered is.scan is.there (omega (arith, same, near)) (subst (IsBegunOrLedTo size full.stands.scanned least reach) (sym at) led) (subst (NoMessageBegins H reach) (sym at) full.near.no_message)
-          (λ b there lower. let peg = closed b there (omega (arith, lower, same)) in omega (arith, peg, same)))
-
-      anew : (site : SegmentPosition) (from : ℕ) → StandsIn sum size log least full.stands.scanned site from → StandsIn sum size log least further.scanned site from
-      anew = stands_anew sum size log H reach reach (y.site.place + stop) (y.site.place + stop) first full.stands further
-
-      -- The reading ends in it.
-      pub next_goes : stop ≡ y.from → StandsAmong sum size log y.site y.from ys (y.site.place + stop) H first
-      next_goes at = record {
-        stands = further;
-        reached = inl (ap (λ n. y.site.place + n) at);
-        led = inl (omega (arith, at, later));
-        here = anew y.site y.from its;
-        behind = λ x among. anew x.site x.from (full.behind x (in_rest y x ys among));
-        apart = follow;
-        last = last_behind;
-        below = λ s found. less_than s.mark y.site.place (y.site.place + y.from) (omega arith) (full.below s found);
-      }
-
-      -- It is full too, and so the reading goes on behind it.
-      pub next_full : read.1 ≢ Broken → 0 < stop → BeginsNext size H (y.site.place + stop) (y.site.place + size) → StandsFull sum size log (y.site.place + size) ys (y.site.place + stop) H first
-      next_full goes begun near = record {
-        stands = further;
-        leads = (
-            let is = read.2 in
-            let at = is.at_place in
-            let had = segment_there sum size log full.stands.ordering full.stands.scanned full.stands.reads is.scan is.there in
-            record { scan = is.scan; found = (full.stands.numbers.found is.scan.segment).0 had.0; read = had.1; next = ap (λ n. n + size) at; goes = λ broken. goes (sym is.ends ∙ broken); below = omega (arith, at, begun) });
-        near = near;
-        behind = λ x among. anew x.site x.from (full.behind x (in_rest y x ys among));
-        last = λ s found. elim (last_behind s found) [ inl low ↦ inl (omega (arith, low, some)) | inr one ↦ inr one ];
-        below = λ s found. less_than s.mark y.site.place (y.site.place + size) (omega arith) (full.below s found);
-      }
+          let had = segment_there sum size log full.stands.ordering full.stands.scanned full.stands.reads is.scan is.there in
+          record { scan = is.scan; found = (full.stands.numbers.found is.scan.segment).0 had.0; read = had.1; next = ap (λ n. n + size) at; goes = λ broken. goes (sym is.ends ∙ broken); below = omega (arith, at, begun) });
+      near = near;
+      behind = λ x among. anew x.site x.from (full.behind x (in_rest y x ys among));
+      last = λ s found. elim (last_behind s found) [ inl low ↦ inl (omega (arith, low, some)) | inr one ↦ inr one ];
+      below = λ s found. less_than s.mark y.site.place (y.site.place + size) (omega arith) (full.below s found);
+    }

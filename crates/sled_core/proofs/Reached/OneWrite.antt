@@ -1,7 +1,7 @@
 -- One write of a buffer to a slot, behind the header of a segment or at the beginning of one: what a crash leaves of it stands up to the same place, and all of it up to where the reading of the segment ends.
 use Rattle.std.proofs.Common.{◌≡◌, ◌≢◌, ◌⊎◌, ◌+◌, ◌*◌, ◌%◌, ◌^◌, ◌<◌, ◌≤◌, ℕ, ℤ, pos, max, List, length, take, get_or, sym, subst, arith, inl, inr}
 use Rattle.std.specs.List.{Contains}
-use Rattle.sled_codec.specs.History.{Batch, History}
+use Rattle.sled_codec.specs.History.{History}
 use Rattle.sled_codec.specs.Record.{IsHeader}
 use Rattle.sled_codec.specs.Snapshots.{SnapshotModel}
 use Rattle.sled_store.specs.Device.{overwritten, LeavesLog}
@@ -10,6 +10,7 @@ use Rattle.sled_core.specs.declared.iterator.Segment.{Segment}
 use Rattle.sled_core.specs.declared.iterator.scan.ScannedRecord.{ScannedRecord}
 use Rattle.sled_core.specs.declared.iterator.scan.ScanEnd.{ScanEnd}
 use Rattle.sled_core.specs.declared.iterator.scan.ScanEnd.TheVariants.{Capped}
+use Rattle.sled_core.specs.OpenBatches.{stable_below}
 use Rattle.sled_core.specs.Recoverable.{NoHeaderOfZeros, NoMessageBegins, NoBatchBegins, IsOfHistory, IsMarkOf, IsMarkBelow}
 use Rattle.sled_core.specs.Scan.{IsPath, IsEnd, IsScan}
 use Rattle.sled_core.proofs.Torn.TornLemmas.{after_write}
@@ -87,13 +88,12 @@ module _ (sum : List ℕ → ℕ) (none : NoHeaderOfZeros sum) (size : ℕ) (som
   ]
 
   -- All of it.
-  pub written_stands : Ascends H.messages → slot * size ≤ length old → least_place size first ≤ place → reach ≤ place + stop → IsBegunOrLedTo size is.scanned (least_place size first) reach place
-      → NoMessageBegins H reach place → ((b : Batch) → Contains H.batches b → b.low < place + stop → b.peg < place + stop) → StandsTo sum size new H (place + stop) first (place + stop)
-  written_stands ordered there low far led between closed = elim how [
+  pub written_stands : Ascends H.messages → slot * size ≤ length old → least_place size first ≤ place → A ≤ stable_below reach H.batches → reach ≤ place + stop → IsBegunOrLedTo size is.scanned (least_place size first) reach place
+      → NoMessageBegins H reach place → StandsTo sum size new H (stable_below (place + stop) H.batches) first (place + stop)
+  written_stands ordered there low stable far led between = elim how [
     | inl g ↦ subst
-        (λ n. reach ≤ n + stop → IsBegunOrLedTo size is.scanned (least_place size first) reach n → NoMessageBegins H reach n
-        → ((b : Batch) → Contains H.batches b → b.low < n + stop → b.peg < n + stop) → StandsTo sum size new H (n + stop) first (n + stop))
-        g.at_place (written_behind sum size some old slot from asked inside H ordered A first reach is g.scan g.there g.in_slot g.ended g.broken more stop why (path_on g) (end_on g) truth (caps_on g)) far led between closed
+        (λ n. reach ≤ n + stop → IsBegunOrLedTo size is.scanned (least_place size first) reach n → NoMessageBegins H reach n → StandsTo sum size new H (stable_below (n + stop) H.batches) first (n + stop))
+        g.at_place (written_behind sum size some old slot from asked inside H ordered A first reach is g.scan g.there g.in_slot g.ended g.broken more stop why (path_on g) (end_on g) truth (caps_on g) stable) far led between
     | inr b ↦ written_begun sum size some old slot from asked inside H ordered A first reach is none there b.begins until covers clean place b.mark b.header low b.whole b.fits b.its_mark b.mark_below b.alone more stop why
-        (path_first b.begins) end truth caps far led between closed
+        (path_first b.begins) end truth caps stable far led between
   ]

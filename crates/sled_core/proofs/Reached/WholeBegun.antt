@@ -2,7 +2,7 @@
 use Rattle.std.proofs.Common.{◌≡◌, ◌≢◌, ◌+◌, ◌*◌, ◌%◌, ◌^◌, ◌<◌, ◌≤◌, ℕ, ℤ, pos, List, length, take, get_or}
 use Rattle.std.specs.List.{Contains}
 use Rattle.std.proofs.Math.Nat.{mul-mod_left}
-use Rattle.sled_codec.specs.History.{Batch, History}
+use Rattle.sled_codec.specs.History.{History}
 use Rattle.sled_codec.specs.Places.{part}
 use Rattle.sled_codec.specs.Record.{IsHeader}
 use Rattle.sled_codec.specs.Snapshots.{SnapshotModel}
@@ -11,6 +11,7 @@ use Rattle.sled_core.specs.declared.iterator.Segment.{Segment}
 use Rattle.sled_core.specs.declared.iterator.scan.ScannedRecord.{ScannedRecord}
 use Rattle.sled_core.specs.declared.iterator.scan.ScanEnd.{ScanEnd}
 use Rattle.sled_core.specs.declared.iterator.scan.ScanEnd.TheVariants.{Capped, Broken}
+use Rattle.sled_core.specs.OpenBatches.{stable_below}
 use Rattle.sled_core.specs.Recoverable.{NoHeaderOfZeros, NoMessageBegins, NoBatchBegins, IsOfHistory, IsMarkOf, IsMarkBelow}
 use Rattle.sled_core.specs.Scan.{IsPath, IsEnd, IsScan}
 use Rattle.sled_core.proofs.Torn.TornLemmas.{after_write}
@@ -70,7 +71,7 @@ module _ (sum : List ℕ → ℕ) (size : ℕ) (some : 256 ≤ size) (old : List
         known_in sum size new H A first reach stands t (begun.all_found sum size some old slot from asked asked new inside done leaves same free H A first reach is least t.segment found)
         (begun.still_read sum size some old slot from asked asked new inside done leaves same free H A first reach is t at_t)
 
-    pub written_begun : reach ≤ place + stop → IsBegunOrLedTo size is.scanned least reach place → NoMessageBegins H reach place
-        → ((b : Batch) → Contains H.batches b → b.low < place + stop → b.peg < place + stop) → StandsTo sum size new H (place + stop) first (place + stop)
-    written_begun far led between closed =
-        stands_higher sum size new some H A first reach stands ordered y y_known far (led_as_before size is.scanned stands.scanned least reach place stays led) between closed
+    pub written_begun : A ≤ stable_below reach H.batches → reach ≤ place + stop → IsBegunOrLedTo size is.scanned least reach place → NoMessageBegins H reach place
+        → StandsTo sum size new H (stable_below (place + stop) H.batches) first (place + stop)
+    written_begun stable far led between =
+        stands_higher sum size new some H A first reach stands ordered y y_known far (led_as_before size is.scanned stands.scanned least reach place stays led) between stable

@@ -1,13 +1,14 @@
 -- All of a write behind the header of a segment is written and synced: the log file stands up to where the reading of that segment ends.
-use Rattle.std.proofs.Common.{◌≡◌, ◌≢◌, ◌∙◌, ◌+◌, ◌*◌, ◌<◌, ◌≤◌, ℕ, List, ◌++◌, length, sym, ap, subst, arith, inl, inr}
+use Rattle.std.proofs.Common.{◌≡◌, ◌≢◌, ◌∙◌, ◌+◌, ◌*◌, ◌≤◌, ℕ, List, ◌++◌, length, sym, ap, subst, arith, inl, inr}
 use Rattle.std.specs.List.{Contains}
-use Rattle.sled_codec.specs.History.{Batch, History}
+use Rattle.sled_codec.specs.History.{History}
 use Rattle.sled_codec.specs.Snapshots.{SnapshotModel}
 use Rattle.sled_store.specs.Device.{overwritten, LeavesLog}
 use Rattle.sled_core.specs.declared.iterator.Segment.{Segment}
 use Rattle.sled_core.specs.declared.iterator.scan.ScannedRecord.{ScannedRecord}
 use Rattle.sled_core.specs.declared.iterator.scan.ScanEnd.{ScanEnd}
 use Rattle.sled_core.specs.declared.iterator.scan.ScanEnd.TheVariants.{Capped, Broken}
+use Rattle.sled_core.specs.OpenBatches.{stable_below}
 use Rattle.sled_core.specs.Recoverable.{NoMessageBegins, NoBatchBegins, IsOfHistory}
 use Rattle.sled_core.specs.Scan.{IsFoundSegment, IsPath, IsEnd, IsScan}
 use Rattle.sled_core.proofs.Read.FoundLemmas.{found_there}
@@ -80,8 +81,8 @@ module _ (sum : List ℕ → ℕ) (size : ℕ) (some : 256 ≤ size) (old : List
           known_in sum size new H A first reach stands t (all_found t.segment found) (same.scans least t found other had.1))
     ]
 
-    pub written_behind : reach ≤ z.segment.place + stop → IsBegunOrLedTo size is.scanned least reach z.segment.place → NoMessageBegins H reach z.segment.place
-        → ((b : Batch) → Contains H.batches b → b.low < z.segment.place + stop → b.peg < z.segment.place + stop) → StandsTo sum size new H (z.segment.place + stop) first (z.segment.place + stop)
-    written_behind far led between closed =
+    pub written_behind : A ≤ stable_below reach H.batches → reach ≤ z.segment.place + stop → IsBegunOrLedTo size is.scanned least reach z.segment.place → NoMessageBegins H reach z.segment.place
+        → StandsTo sum size new H (stable_below (z.segment.place + stop) H.batches) first (z.segment.place + stop)
+    written_behind stable far led between =
         stands_higher sum size new some H A first reach stands ordered y y_known far
-        (led_as_before size is.scanned stands.scanned least reach z.segment.place stays led) between closed
+        (led_as_before size is.scanned stands.scanned least reach z.segment.place stays led) between stable

@@ -9,6 +9,7 @@ use Rattle.sled_codec.specs.History.{History}
 use Rattle.sled_codec.specs.Snapshots.{SnapshotModel}
 use Rattle.sled_codec.proofs.Segments.{one_header}
 use Rattle.sled_store.specs.Device.{overwritten}
+use Rattle.sled_core.specs.OpenBatches.{stable_below}
 use Rattle.sled_core.specs.declared.iobuf.SegmentPosition.{SegmentPosition}
 use Rattle.sled_core.specs.declared.iterator.Segment.{Segment}
 use Rattle.sled_core.specs.Reached.{IsSoFar, StandsIn}
@@ -25,12 +26,12 @@ use Rattle.sled_core.proofs.Torn.WrittenParts.{in_this_file, path_rises, path_wh
 
 -- A file stands as far as another one, and so does a segment in it, with no other mark in its slot.
 pub record StandsAfter (sum : List ℕ → ℕ) (size : ℕ) (old new : List ℕ) (site : SegmentPosition) (from reach : ℕ) (H : History) (first : SnapshotModel) : Type 0 where
-  pub stands : StandsTo sum size new H reach first reach
+  pub stands : StandsTo sum size new H (stable_below reach H.batches) first reach
   pub here : StandsIn sum size new (least_place size first) stands.scanned site from
   pub marks : (s : Segment) → IsFoundSegment sum size new (least_place size first) s → s.slot ≡ site.slot → (t : Segment) × IsFoundSegment sum size old (least_place size first) t × (s.mark ≡ t.mark)
 
 module _ (sum : List ℕ → ℕ) (size : ℕ) (some : 256 ≤ size) (old : List ℕ) (site : SegmentPosition) (from at : ℕ) (asked : List ℕ) (inside : at + length asked ≤ size) (slot_begins : site.slot % size ≡ 0) (there : site.slot ≤ length old)
-    (reach : ℕ) (H : History) (first : SnapshotModel) (is : StandsTo sum size old H reach first reach) (its : StandsIn sum size old (least_place size first) is.scanned site from) where
+    (reach : ℕ) (H : History) (first : SnapshotModel) (is : StandsTo sum size old H (stable_below reach H.batches) first reach) (its : StandsIn sum size old (least_place size first) is.scanned site from) where
   abbrev new : List ℕ
   new = overwritten old (site.slot + at) asked
 
@@ -45,7 +46,7 @@ module _ (sum : List ℕ → ℕ) (size : ℕ) (some : 256 ≤ size) (old : List
 
   -- It was read to there, for that reason.
   module _ (z : Scanned) (known : Contains is.scanned z) (in_slot : z.segment.slot ≡ site.slot) (at_place : z.segment.place ≡ site.place) (before : z.stop ≤ at) (so_far : IsSoFar size from z.stop z.why)
-      (stands : StandsTo sum size new H reach first reach) (ends : IsEnd sum size new z.segment.slot z.segment.place z.stop z.why) where
+      (stands : StandsTo sum size new H (stable_below reach H.batches) first reach) (ends : IsEnd sum size new z.segment.slot z.segment.place z.stop z.why) where
     z_known : Contains is.ordering z.segment × IsScanned sum size old z
     z_known = segment_there sum size old is.ordering is.scanned is.reads z known
 
@@ -78,7 +79,7 @@ module _ (sum : List ℕ → ℕ) (size : ℕ) (some : 256 ≤ size) (old : List
         read = λ later. (
           z.stop,
           z.why,
-          record { scan = z; there = known_in sum size new H reach first reach stands z still_found still_scan; in_slot = in_slot; at_place = at_place; ended = refl; ends = refl },
+          record { scan = z; there = known_in sum size new H (stable_below reach H.batches) first reach stands z still_found still_scan; in_slot = in_slot; at_place = at_place; ended = refl; ends = refl },
           so_far,
         );
       };

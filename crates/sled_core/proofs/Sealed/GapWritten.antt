@@ -8,6 +8,7 @@ use Rattle.sled_codec.specs.History.{History}
 use Rattle.sled_codec.specs.Snapshots.{SnapshotModel}
 use Rattle.sled_store.specs.Device.{overwritten, LeavesLog}
 use Rattle.sled_store.specs.Foreign.{NoForeignLog}
+use Rattle.sled_core.specs.OpenBatches.{stable_below}
 use Rattle.sled_core.specs.declared.iobuf.SegmentPosition.{SegmentPosition}
 use Rattle.sled_core.specs.declared.iterator.Segment.{Segment}
 use Rattle.sled_core.specs.declared.iterator.scan.ScanEnd.TheVariants.{Broken}
@@ -30,7 +31,7 @@ use Rattle.sled_core.proofs.Torn.TornLemmas.{after_write}
 module _ (sum : List ℕ → ℕ) (none : NoHeaderOfZeros sum) (size : ℕ) (some : 256 ≤ size) (old : List ℕ) (site : SegmentPosition) (from at : ℕ) (asked : List ℕ) (inside : at + length asked ≤ size)
     (slot_begins : site.slot % size ≡ 0) (has_room : from + 32 ≤ size) (to : ℕ) (gap : from + 5 ≤ to) (before : to ≤ at) (headed : from ≡ 0 → 20 ≤ to)
     (clean : (i : ℕ) → site.slot + from ≤ i → i < site.slot + to → get_or old i 0 ≡ 0)
-    (reach : ℕ) (H : History) (first : SnapshotModel) (is : StandsTo sum size old H reach first reach) (its : StandsIn sum size old (least_place size first) is.scanned site from) where
+    (reach : ℕ) (H : History) (first : SnapshotModel) (is : StandsTo sum size old H (stable_below reach H.batches) first reach) (its : StandsIn sum size old (least_place size first) is.scanned site from) where
   abbrev new : List ℕ
   new = overwritten old (site.slot + at) asked
 
@@ -50,7 +51,7 @@ module _ (sum : List ℕ → ℕ) (none : NoHeaderOfZeros sum) (size : ℕ) (som
 
   -- What a crash leaves of it.
   pub torn_gap : (now left : List ℕ) → length now ≤ length asked → LeavesLog (after_write old (site.slot + at) asked now) left → {placed : List (ℕ × List ℕ)}
-      → NoForeignLog sum size (after_write old (site.slot + at) asked now) placed left → StandsTo sum size left H reach first reach
+      → NoForeignLog sum size (after_write old (site.slot + at) asked now) placed left → StandsTo sum size left H (stable_below reach H.batches) first reach
   torn_gap now left no_more leaves {placed} only_own =
       let leaves_there = subst (λ n. LeavesLog (after_write old (n + at) asked now) left) (sym its_slot) leaves in
       let own_there = subst (λ n. NoForeignLog sum size (after_write old (n + at) asked now) placed left) (sym its_slot) only_own in
@@ -58,10 +59,10 @@ module _ (sum : List ℕ → ℕ) (none : NoHeaderOfZeros sum) (size : ℕ) (som
         | inl later ↦ (
             let g = going_in sum size old (least_place size first) is.scanned site from its later has_room in
             let ended = g.ended in
-            torn_unread sum size some old slot at asked inside H reach first reach is g.scan g.there (g.in_slot ∙ sym its_slot) (omega (arith, ended, gap, before)) g.broken now left no_more leaves_there own_there)
+            torn_unread sum size some old slot at asked inside H (stable_below reach H.batches) first reach is g.scan g.there (g.in_slot ∙ sym its_slot) (omega (arith, ended, gap, before)) g.broken now left no_more leaves_there own_there)
         | inr first_one ↦ (
             let begins : from ≡ 0 = omega (arith, first_one) in
-            torn_headless sum size some old slot at asked inside H reach first reach is none (far begins) (begins_clean begins) now left no_more leaves_there own_there)
+            torn_headless sum size some old slot at asked inside H (stable_below reach H.batches) first reach is none (far begins) (begins_clean begins) now left no_more leaves_there own_there)
       ]
 
   -- All of it, where the file reaches up to the slot.
@@ -77,10 +78,10 @@ module _ (sum : List ℕ → ℕ) (none : NoHeaderOfZeros sum) (size : ℕ) (som
     headless : from ≡ 0 → GapStands
     headless begins =
         let below_slot : slot * size + 20 ≤ slot * size + at = (let h = far begins in omega (arith, h)) in
-        let written = written_headless sum size some old slot at asked inside H reach first reach is none (far begins) (begins_clean begins) there_too in
+        let written = written_headless sum size some old slot at asked inside H (stable_below reach H.batches) first reach is none (far begins) (begins_clean begins) there_too in
         let zeros : (i : ℕ) → site.slot ≤ i → i < site.slot + 20 → get_or new i 0 ≡ 0 =
         λ i above under. zero_below old (site.slot + at) asked i (omega (arith, below_slot, under)) (begins_clean begins i (omega (arith, its_slot, above)) (omega (arith, its_slot, under))) in
-        let stands = subst (λ n. StandsTo sum size (overwritten old (n + at) asked) H reach first reach) its_slot written in
+        let stands = subst (λ n. StandsTo sum size (overwritten old (n + at) asked) H (stable_below reach H.batches) first reach) its_slot written in
         let none_here : (s : Segment) → IsFoundSegment sum size new (least_place size first) s → s.slot ≡ site.slot → ⊥ =
         λ s found here. none_in_zeros sum 20 none (omega arith) new site.slot zeros (pos s.place) s.mark (subst (λ n. IsHeader sum (part new n 20) (pos s.place) s.mark) here found.header) in
         record {
@@ -94,11 +95,11 @@ module _ (sum : List ℕ → ℕ) (none : NoHeaderOfZeros sum) (size : ℕ) (som
       abbrev g : GoesOnIn is.scanned site.slot from site.place
       g = going_in sum size old (least_place size first) is.scanned site from its later has_room
 
-      stands : StandsTo sum size new H reach first reach
+      stands : StandsTo sum size new H (stable_below reach H.batches) first reach
       stands =
           let ended = g.ended in
-          subst (λ n. StandsTo sum size (overwritten old (n + at) asked) H reach first reach) its_slot
-          (written_unread sum size some old slot at asked inside H reach first reach is g.scan g.there (g.in_slot ∙ sym its_slot) (omega (arith, ended, gap, before)) g.broken there_too (omega (arith, ended, gap, before))
+          subst (λ n. StandsTo sum size (overwritten old (n + at) asked) H (stable_below reach H.batches) first reach) its_slot
+          (written_unread sum size some old slot at asked inside H (stable_below reach H.batches) first reach is g.scan g.there (g.in_slot ∙ sym its_slot) (omega (arith, ended, gap, before)) g.broken there_too (omega (arith, ended, gap, before))
           (clean (slot * size + g.scan.stop + 4) (omega (arith, its_slot, ended)) (omega (arith, its_slot, ended, gap))))
 
       ends : IsEnd sum size new g.scan.segment.slot g.scan.segment.place g.scan.stop Broken
@@ -148,7 +149,7 @@ module _ (sum : List ℕ → ℕ) (size : ℕ) (some : 256 ≤ size) (old : List
           let other : l.scan.segment.slot ≢ its.slot = λ here. (let same = own l.scan.segment l.found here in omega (arith, same, next, some, low)) in
           inr (inr (record {
             scan = l.scan;
-            found = still_found sum size some old its.slot slot_begins at asked inside there H reach first reach among.stands reach reach after.stands l.scan.segment l.found other;
+            found = still_found sum size some old its.slot slot_begins at asked inside there H (stable_below reach H.batches) first reach among.stands (stable_below reach H.batches) reach after.stands l.scan.segment l.found other;
             read = beside_it.scans least l.scan l.found other l.read;
             next = next;
             goes = l.goes;
@@ -157,7 +158,7 @@ module _ (sum : List ℕ → ℕ) (size : ℕ) (some : 256 ≤ size) (old : List
     ]
 
     other_stays : (x : SegmentPosition) (far : ℕ) → x.slot ≢ its.slot → x.place ≢ its.place → StandsIn sum size old least among.stands.scanned x far → StandsIn sum size fresh least after.stands.scanned x far
-    other_stays x far apart behind = segment_stays sum size some old its.slot slot_begins at asked inside there H reach first reach among.stands reach reach after.stands x far its.place apart behind after.here.own
+    other_stays x far apart behind = segment_stays sum size some old its.slot slot_begins at asked inside there H (stable_below reach H.batches) first reach among.stands (stable_below reach H.batches) reach after.stands x far its.place apart behind after.here.own
 
     low_mark : (s : Segment) → IsFoundSegment sum size fresh least s → s.mark <ℤ pos (site.place + from)
     low_mark s found = elim (cases_eq s.slot its.slot) [

@@ -1,13 +1,14 @@
 -- The first sealed buffer is written, behind what was written of its segment or at the beginning of it: what a crash leaves of it stands as before, and all of it up to the end of those behind it that were written before it. Where the last of these fills the segment, the next one begins.
 use Rattle.std.proofs.Common.{◌≡◌, ◌≤◌, ◌<◌, ◌+◌, ◌/◌, ◌%◌, ◌^◌, ◌⊎◌, ◌∙◌, ℕ, max, Bool, true, false, nat_lt, if◌then◌else◌, List, [], ◌∷◌, length, take, get_or, sym, ap, subst, arith, inl, inr}
-use Rattle.std.specs.List.{All, Contains}
+use Rattle.std.specs.List.{All}
 use Rattle.std.proofs.lemmas.Bool.{cases_lt}
 use Rattle.std.proofs.lemmas.Bool.Decides.{nat_tests}
-use Rattle.sled_codec.specs.History.{Batch, History}
+use Rattle.sled_codec.specs.History.{History}
 use Rattle.sled_codec.specs.Snapshots.{SnapshotModel}
 use Rattle.sled_store.specs.Device.{overwritten, LeavesLog}
 use Rattle.sled_store.specs.Foreign.{NoForeignLog}
 use Rattle.sled_store.proofs.Histories.Ascending.{Ascends}
+use Rattle.sled_core.specs.OpenBatches.{stable_below}
 use Rattle.sled_core.specs.declared.iobuf.Reserved.{Reserved}
 use Rattle.sled_core.specs.declared.iobuf.Sealed.{Sealed}
 use Rattle.sled_core.specs.declared.iobuf.SegmentPosition.{SegmentPosition}
@@ -74,7 +75,7 @@ module _ (sum : List ℕ → ℕ) (none : NoHeaderOfZeros sum) (size : ℕ) (som
   module _ (has : HasOnly H (completed_in site bytes done) (site.place + max 20 from) (site.place + stop)) where
     -- What a crash leaves of it.
     pub torn_head_sealed : (now left : List ℕ) → length now ≤ length asked → LeavesLog (after_write file (site.slot + from) asked now) left → {placed : List (ℕ × List ℕ)}
-        → NoForeignLog sum size (after_write file (site.slot + from) asked now) placed left → StandsTo sum size left H reach first reach
+        → NoForeignLog sum size (after_write file (site.slot + from) asked now) placed left → StandsTo sum size left H (stable_below reach H.batches) first reach
     torn_head_sealed now left no_more leaves {placed} only_own =
         torn_head sum none size some file site from asked b.end run.covers run.reaches run.headed has_room place_begins slot_begins place_small its_mark run.clean
         reach first alone (met_in site bytes records) last why run.clear run.path run.ends (run.truth H has) (run.caps H has) now left no_more leaves {placed = placed} only_own
@@ -82,22 +83,22 @@ module _ (sum : List ℕ → ℕ) (none : NoHeaderOfZeros sum) (size : ℕ) (som
     -- All of it, where the file reaches up to the slot.
     module _ (ordered : Ascends H.messages) (there : site.slot ≤ length file) (low_enough : least_place size first ≤ site.place) (has_header : HasHeader sum new site) where
       -- Where nothing fills the segment, it goes on behind the buffers that are written now.
-      pub head_sealed_written : All NoPadding done → ((c : Batch) → Contains H.batches c → c.low < site.place + stop → c.peg < site.place + stop) → StandsAmong sum size new site stop others (site.place + stop) H first
-      head_sealed_written plain ended =
+      pub head_sealed_written : All NoPadding done → StandsAmong sum size new site stop others (site.place + stop) H first
+      head_sealed_written plain =
           let at : last ≡ stop = elim run.records.last [ inl l ↦ l.1 | inr f ↦ absurd (f.unlike plain) ] in
           let reason : why ≡ ending_at size stop = elim run.records.last [ inl l ↦ l.2 | inr f ↦ absurd (f.unlike plain) ] in
           subst (λ n. StandsAmong sum size new site n others (site.place + n) H first) at
           (head_written sum none size some file site from asked b.end run.covers run.reaches run.headed has_room place_begins slot_begins place_small its_mark run.clean
-          reach first alone (met_in site bytes records) last why run.clear run.path run.ends (run.truth H has) (run.caps H has) ordered there low_enough (λ c at_c lower. let peg = ended c at_c (omega (arith, lower, at)) in omega (arith, peg, at)) has_header
+          reach first alone (met_in site bytes records) last why run.clear run.path run.ends (run.truth H has) (run.caps H has) ordered there low_enough has_header
           (λ more. let test : nat_lt size (stop + 32) ≡ false = grind (arith, nat_tests, more, at) in reason ∙ ap (λ (o : Bool). if o then Full else Broken) test))
 
       -- Where the last of them ends with the segment, the reading goes on in the next one: what was reached ends with the records.
-      pub head_sealed_filled : stop ≡ size → ((c : Batch) → Contains H.batches c → c.low < site.place + last → c.peg < site.place + last) → NoBatchEnds H (site.place + last) (site.place + size)
+      pub head_sealed_filled : stop ≡ size → NoBatchEnds H (site.place + last) (site.place + size)
           → StandsFull sum size new (site.place + size) others (site.place + last) H first
-      head_sealed_filled full ended no_end =
+      head_sealed_filled full no_end =
           let within : last ≤ size = let end = run.records.low in let low = run.low in omega (arith, end, low) in
           head_filled sum none size some file site from asked b.end run.covers run.reaches run.headed has_room place_begins slot_begins place_small its_mark run.clean
-          reach first alone (met_in site bytes records) last why run.clear run.path run.ends (run.truth H has) (run.caps H has) ordered there low_enough ended has_header
+          reach first alone (met_in site bytes records) last why run.clear run.path run.ends (run.truth H has) (run.caps H has) ordered there low_enough has_header
           (elim run.records.last [ inl l ↦ λ broken. never_broken size stop (sym (full_ending l.2) ∙ broken) | inr f ↦ λ broken. never_broken size last (sym f.reason ∙ broken) ]) within
           (elim run.records.last [ inl l ↦ λ m at_m. none_between l.1 m.place | inr f ↦ (run.none_filled H has f).0 ])
           (elim run.records.last [ inl l ↦ λ c at_c. none_between l.1 c.low | inr f ↦ (run.none_filled H has f).1 ])
@@ -110,10 +111,10 @@ module _ (sum : List ℕ → ℕ) (none : NoHeaderOfZeros sum) (size : ℕ) (som
           none_between at n = elim (cases_lt n (site.place + last)) [ inl below ↦ inl below | inr above ↦ inr (omega (arith, above, at, full)) ]
 
       -- Where no other one was begun, the next one is to begin behind what fills the segment, in a slot of zeros.
-      pub head_sealed_full : others ≡ [] → last < stop → ((c : Batch) → Contains H.batches c → c.low < site.place + last → c.peg < site.place + last) → NoBatchEnds H (site.place + last) (site.place + size)
+      pub head_sealed_full : others ≡ [] → last < stop → NoBatchEnds H (site.place + last) (site.place + size)
           → (slot' : ℕ) → ((i : ℕ) → slot' ≤ i → i < slot' + 20 → get_or new i 0 ≡ 0) → StandsAlone sum size new (record { place = site.place + size; slot = slot' }) 0 (site.place + last) H first
-      head_sealed_full no_others filled ended no_end slot' zeros = elim run.records.last [
+      head_sealed_full no_others filled no_end slot' zeros = elim run.records.last [
         | inl l ↦ absurd (let at = l.1 in omega (arith, at, filled))
         | inr f ↦ begins_alone sum none size new (site.place + size) (site.place + last) H first slot' zeros
-            (subst (λ (xs : List BegunSegment). StandsFull sum size new (site.place + size) xs (site.place + last) H first) no_others (head_sealed_filled f.full ended no_end))
+            (subst (λ (xs : List BegunSegment). StandsFull sum size new (site.place + size) xs (site.place + last) H first) no_others (head_sealed_filled f.full no_end))
       ]

@@ -5,11 +5,12 @@ use Rattle.std.proofs.Math.Nat.{mod-add-div'}
 use Rattle.std.proofs.lemmas.Bool.{cases_eq, cases_lt}
 use Rattle.sled_codec.specs.Places.{part}
 use Rattle.sled_codec.specs.Record.{IsHeader}
-use Rattle.sled_codec.specs.History.{Batch, History}
+use Rattle.sled_codec.specs.History.{History}
 use Rattle.sled_codec.specs.Snapshots.{SnapshotModel}
 use Rattle.sled_store.specs.Device.{overwritten, LeavesLog}
 use Rattle.sled_store.specs.Foreign.{NoForeignLog}
 use Rattle.sled_store.proofs.Histories.Ascending.{Ascends}
+use Rattle.sled_core.specs.OpenBatches.{stable_below}
 use Rattle.sled_core.specs.declared.iobuf.SegmentPosition.{SegmentPosition}
 use Rattle.sled_core.specs.declared.iterator.Segment.{Segment}
 use Rattle.sled_core.specs.declared.iterator.scan.ScannedRecord.{ScannedRecord}
@@ -26,7 +27,7 @@ use Rattle.sled_core.proofs.Reached.BufferPath.{buffer_header, buffer_mark_below
 use Rattle.sled_core.proofs.Reached.Higher.{IsBegunOrLedTo, known_in}
 use Rattle.sled_core.proofs.Reached.LeftBeside.{IsSameBeside}
 use Rattle.sled_core.proofs.Reached.OneWrite.{BeginsSegment, torn_stands, written_stands}
-use Rattle.sled_core.proofs.Reached.Marks.{less_than}
+use Rattle.sled_core.proofs.Reached.Marks.{less_than, mark_stable}
 use Rattle.sled_core.specs.Full.{StandsFull}
 use Rattle.sled_core.proofs.Reached.SegmentsBeside.{follows, going_in, its_header, its_place_now, segment_grown, segment_stays}
 use Rattle.sled_core.proofs.Reached.StandsTo.{StandsTo}
@@ -45,7 +46,7 @@ pub led_in : (sum : List ℕ → ℕ) (size : ℕ) (log : List ℕ) (site : Segm
 led_in sum size log site from reach H first alone = elim alone.led [
   | inl below ↦ inl below
   | inr (inl low) ↦ inr (inl low)
-  | inr (inr l) ↦ inr (inr (record { scan = l.scan; there = known_in sum size log H reach first reach alone.stands l.scan l.found l.read; next = l.next; goes = l.goes; below = l.below }))
+  | inr (inr l) ↦ inr (inr (record { scan = l.scan; there = known_in sum size log H (stable_below reach H.batches) first reach alone.stands l.scan l.found l.read; next = l.next; goes = l.goes; below = l.below }))
 ]
 
 -- What was met of the current segment before, in a file that is the same up to what was written.
@@ -105,7 +106,7 @@ module _ (sum : List ℕ → ℕ) (none : NoHeaderOfZeros sum) (size : ℕ) (som
   inside = omega (arith, covers, reaches)
 
   -- The segment goes on where it was read to, or the buffer begins it, in a slot of zeros.
-  goes_on : GoesOnIn alone.stands.scanned (slot * size) from site.place ⊎ BeginsSegment sum size H alone.stands.ordering reach (slot * size) from asked site.place
+  goes_on : GoesOnIn alone.stands.scanned (slot * size) from site.place ⊎ BeginsSegment sum size H alone.stands.ordering (stable_below reach H.batches) (slot * size) from asked site.place
   goes_on = elim (cases_lt 0 from) [
     | inl later ↦ inl (subst (λ n. GoesOnIn alone.stands.scanned n from site.place) (sym its_slot) (going_in sum size old (least_place size first) alone.stands.scanned site from alone.here later has_room))
     | inr first_one ↦ (
@@ -120,7 +121,7 @@ module _ (sum : List ℕ → ℕ) (none : NoHeaderOfZeros sum) (size : ℕ) (som
           whole = place_begins;
           fits = place_small;
           its_mark = record { least = m.of_history.least; below = m.of_history.below; apart = m.of_history.apart };
-          mark_below = buffer_mark_below size H reach site.place m.mark at m.of_history.below;
+          mark_below = mark_stable size H reach m.mark m.of_history.apart (buffer_mark_below size H reach site.place m.mark at m.of_history.below);
           alone = λ s there same.
               let found = (alone.stands.numbers.found s).0 there in
               none_in_zeros sum until none far old site.slot (λ i above below. clean i (omega (arith, above, begins)) below) (pos s.place) s.mark
@@ -142,15 +143,15 @@ module _ (sum : List ℕ → ℕ) (none : NoHeaderOfZeros sum) (size : ℕ) (som
 
   -- What a crash leaves of it.
   pub torn_head : (now left : List ℕ) → length now ≤ length asked → LeavesLog (after_write old (site.slot + from) asked now) left → {placed : List (ℕ × List ℕ)}
-      → NoForeignLog sum size (after_write old (site.slot + from) asked now) placed left → StandsTo sum size left H reach first reach
+      → NoForeignLog sum size (after_write old (site.slot + from) asked now) placed left → StandsTo sum size left H (stable_below reach H.batches) first reach
   torn_head now left no_more leaves {placed} only_own =
-      torn_stands sum none size some old slot from asked inside until covers clean_there H reach first reach alone.stands site.place goes_on more stop why clear path_there end_there truth_there caps now left no_more
+      torn_stands sum none size some old slot from asked inside until covers clean_there H (stable_below reach H.batches) first reach alone.stands site.place goes_on more stop why clear path_there end_there truth_there caps now left no_more
       (subst (λ n. LeavesLog (after_write old (n + from) asked now) left) (sym its_slot) leaves)
       (subst (λ n. NoForeignLog sum size (after_write old (n + from) asked now) placed left) (sym its_slot) only_own)
 
   -- All of it, where the file reaches up to the slot.
   module _ (ordered : Ascends H.messages) (there : site.slot ≤ length old) (low : least_place size first ≤ site.place)
-      (ended : (b : Batch) → Contains H.batches b → b.low < site.place + stop → b.peg < site.place + stop) (has_header : HasHeader sum new site) where
+      (has_header : HasHeader sum new site) where
     rises : max 20 from ≤ stop
     rises = path_rises sum size new site.slot site.place (max 20 from) more stop path
 
@@ -164,11 +165,11 @@ module _ (sum : List ℕ → ℕ) (none : NoHeaderOfZeros sum) (size : ℕ) (som
       | inr next ↦ next.1.no_message
     ]
 
-    stands : StandsTo sum size new H (site.place + stop) first (site.place + stop)
+    stands : StandsTo sum size new H (stable_below (site.place + stop) H.batches) first (site.place + stop)
     stands =
-        subst (λ n. StandsTo sum size (overwritten old (n + from) asked) H (site.place + stop) first (site.place + stop)) its_slot
-        (written_stands sum none size some old slot from asked inside until covers clean_there H reach first reach alone.stands site.place goes_on more stop why clear path_there end_there truth_there caps
-        ordered (omega (arith, its_slot, there)) low (omega (arith, rises, near)) (led_in sum size old site from reach H first alone) between ended)
+        subst (λ n. StandsTo sum size (overwritten old (n + from) asked) H (stable_below (site.place + stop) H.batches) first (site.place + stop)) its_slot
+        (written_stands sum none size some old slot from asked inside until covers clean_there H (stable_below reach H.batches) first reach alone.stands site.place goes_on more stop why clear path_there end_there truth_there caps
+        ordered (omega (arith, its_slot, there)) low (omega arith) (omega (arith, rises, near)) (led_in sum size old site from reach H first alone) between)
 
     -- It is read to where the path ends.
 
@@ -186,17 +187,17 @@ module _ (sum : List ℕ → ℕ) (none : NoHeaderOfZeros sum) (size : ℕ) (som
     y_found = record { slot = slot_begins; header = has_header.header; not_below = low }
 
     read : IsReadTo stands.scanned site.slot site.place stop why
-    read = record { scan = y; there = known_in sum size new H (site.place + stop) first (site.place + stop) stands y y_found y_scan; in_slot = refl; at_place = refl; ended = refl; ends = refl }
+    read = record { scan = y; there = known_in sum size new H (stable_below (site.place + stop) H.batches) first (site.place + stop) stands y y_found y_scan; in_slot = refl; at_place = refl; ended = refl; ends = refl }
 
     stays : (other : SegmentPosition) (so_far : ℕ) → other.slot ≢ site.slot → other.place ≢ site.place → StandsIn sum size old (least_place size first) alone.stands.scanned other so_far → StandsIn sum size new (least_place size first) stands.scanned other so_far
-    stays other so_far apart behind = segment_stays sum size some old site.slot slot_begins from asked inside there H reach first reach alone.stands (site.place + stop) (site.place + stop) stands other so_far site.place apart behind
-        (its_place_now sum size some old site.slot slot_begins from asked inside there H reach first reach alone.stands (site.place + stop) (site.place + stop) stands site from refl alone.here has_header)
+    stays other so_far apart behind = segment_stays sum size some old site.slot slot_begins from asked inside there H (stable_below reach H.batches) first reach alone.stands (stable_below (site.place + stop) H.batches) (site.place + stop) stands other so_far site.place apart behind
+        (its_place_now sum size some old site.slot slot_begins from asked inside there H (stable_below reach H.batches) first reach alone.stands (stable_below (site.place + stop) H.batches) (site.place + stop) stands site from refl alone.here has_header)
 
     grown : (so_far : ℕ) → IsSoFar size so_far stop why → StandsIn sum size new (least_place size first) stands.scanned site so_far
-    grown so_far = segment_grown sum size some old site.slot slot_begins from asked inside there H reach first reach alone.stands (site.place + stop) (site.place + stop) stands site from refl alone.here has_header so_far stop why read
+    grown so_far = segment_grown sum size some old site.slot slot_begins from asked inside there H (stable_below reach H.batches) first reach alone.stands (stable_below (site.place + stop) H.batches) (site.place + stop) stands site from refl alone.here has_header so_far stop why read
 
     its_header_now : (s : Segment) → IsFoundSegment sum size new (least_place size first) s → s.slot ≡ site.slot → (pos s.place ≡ pos site.place) × (s.mark ≡ has_header.mark)
-    its_header_now = its_header sum size some old site.slot slot_begins from asked inside there H reach first reach alone.stands (site.place + stop) (site.place + stop) stands site from refl alone.here has_header
+    its_header_now = its_header sum size some old site.slot slot_begins from asked inside there H (stable_below reach H.batches) first reach alone.stands (stable_below (site.place + stop) H.batches) (site.place + stop) stands site from refl alone.here has_header
 
     beside : IsSameBeside sum size old new site.slot
     beside = subst (λ n. IsSameBeside sum size old (overwritten old (n + from) asked) n) its_slot (same_whole sum size some old slot from asked inside (omega (arith, its_slot, there)))

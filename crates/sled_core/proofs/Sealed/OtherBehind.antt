@@ -5,6 +5,7 @@ use Rattle.sled_codec.specs.History.{History}
 use Rattle.sled_codec.specs.Snapshots.{SnapshotModel}
 use Rattle.sled_store.specs.Device.{overwritten, LeavesLog}
 use Rattle.sled_store.specs.Foreign.{NoForeignLog}
+use Rattle.sled_core.specs.OpenBatches.{stable_below}
 use Rattle.sled_core.specs.declared.iobuf.Reserved.{Reserved}
 use Rattle.sled_core.specs.declared.iobuf.Sealed.{Sealed}
 use Rattle.sled_core.specs.declared.iobuf.SegmentPosition.{SegmentPosition}
@@ -32,7 +33,7 @@ module _ (sum : List ℕ → ℕ) (none : NoHeaderOfZeros sum) (size : ℕ) (som
 
   -- What a crash leaves of it.
   pub torn_other_behind : (now left : List ℕ) → length now ≤ length asked → LeavesLog (after_write file (y.site.slot + at) asked now) left → {placed : List (ℕ × List ℕ)}
-      → NoForeignLog sum size (after_write file (y.site.slot + at) asked now) placed left → StandsTo sum size left H reach first reach
+      → NoForeignLog sum size (after_write file (y.site.slot + at) asked now) placed left → StandsTo sum size left H (stable_below reach H.batches) first reach
   torn_other_behind = torn_in_gap sum none size some file y.site slot_begins bytes y.from begins rs x xs b rest fresh are rise inside number stand reach H first file laid among.stands (among.behind y known)
 
   -- All of it, where the file reaches up to the slot.

@@ -12,6 +12,7 @@ use Rattle.sled_store.specs.Device.{overwritten, LeavesLog}
 use Rattle.sled_store.specs.Foreign.{NoForeignLog}
 use Rattle.sled_store.proofs.Histories.Ascending.{Ascends}
 use Rattle.sled_store.proofs.Segments.Elements.{in_first}
+use Rattle.sled_core.specs.OpenBatches.{stable_below}
 use Rattle.sled_core.specs.declared.iobuf.Reserved.{Reserved}
 use Rattle.sled_core.specs.declared.iobuf.Sealed.{Sealed}
 use Rattle.sled_core.specs.declared.iobuf.SegmentPosition.{SegmentPosition}
@@ -147,7 +148,7 @@ module _ (sum : List ℕ → ℕ) (none : NoHeaderOfZeros sum) (size : ℕ) (som
   module _ (has : HasOnly H (completed_in y.site bytes done) (y.site.place + max 20 y.from) (y.site.place + stop)) where
     -- What a crash leaves of it.
     pub torn_other_sealed : (now left : List ℕ) → length now ≤ length asked → LeavesLog (after_write file (y.site.slot + y.from) asked now) left → {placed : List (ℕ × List ℕ)}
-        → NoForeignLog sum size (after_write file (y.site.slot + y.from) asked now) placed left → StandsTo sum size left H reach first reach
+        → NoForeignLog sum size (after_write file (y.site.slot + y.from) asked now) placed left → StandsTo sum size left H (stable_below reach H.batches) first reach
     torn_other_sealed now left no_more leaves {placed} only_own = elim (cases_lt size (y.from + 32)) [
       | inl full ↦ torn_rest sum size some file y.site y.from y.from asked fits slot_begins (omega arith) left_over full reach H first among.stands its_stands now left no_more leaves {placed = placed} only_own
       | inr room ↦ torn_other sum none size some file site from pre y post asked b.end run.covers run.reaches run.headed room place_begins slot_begins place_small its_mark run.clean

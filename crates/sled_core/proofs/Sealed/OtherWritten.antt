@@ -12,6 +12,7 @@ use Rattle.sled_store.specs.Device.{overwritten, LeavesLog}
 use Rattle.sled_store.specs.Foreign.{NoForeignLog}
 use Rattle.sled_store.proofs.Histories.Ascending.{Ascends}
 use Rattle.sled_store.proofs.Segments.Elements.{in_first}
+use Rattle.sled_core.specs.OpenBatches.{stable_below}
 use Rattle.sled_core.specs.declared.iobuf.SegmentPosition.{SegmentPosition}
 use Rattle.sled_core.specs.declared.iterator.Segment.{Segment}
 use Rattle.sled_core.specs.declared.iterator.scan.ScannedRecord.{ScannedRecord}
@@ -25,6 +26,7 @@ use Rattle.sled_core.specs.Scan.{IsFoundSegment, IsPath, IsEnd}
 use Rattle.sled_core.specs.Tail.{least_place}
 use Rattle.sled_core.proofs.Reached.BufferPath.{buffer_header, buffer_mark_below}
 use Rattle.sled_core.proofs.Reached.LeftBeside.{IsSameBeside}
+use Rattle.sled_core.proofs.Reached.Marks.{mark_stable}
 use Rattle.sled_core.proofs.Reached.OneWrite.{BeginsSegment, torn_stands}
 use Rattle.sled_core.proofs.Reached.SegmentsBeside.{begins_still, follow_still, follows, going_in, grown_one, its_header, its_place_now, segment_grown, segment_stays, still_found, was_other}
 use Rattle.sled_core.proofs.Reached.StandsTo.{StandsTo}
@@ -70,7 +72,7 @@ module _ (sum : List ℕ → ℕ) (none : NoHeaderOfZeros sum) (size : ℕ) (som
   its_stands = among.behind y its
 
   -- It goes on where it was read to, or the buffer begins it, in a slot of zeros.
-  goes_on : GoesOnIn among.stands.scanned (slot * size) y.from y.site.place ⊎ BeginsSegment sum size H among.stands.ordering reach (slot * size) y.from asked y.site.place
+  goes_on : GoesOnIn among.stands.scanned (slot * size) y.from y.site.place ⊎ BeginsSegment sum size H among.stands.ordering (stable_below reach H.batches) (slot * size) y.from asked y.site.place
   goes_on = elim (cases_lt 0 y.from) [
     | inl later ↦ inl (subst (λ n. GoesOnIn among.stands.scanned n y.from y.site.place) (sym its_slot) (going_in sum size old (least_place size first) among.stands.scanned y.site y.from its_stands later has_room))
     | inr first_one ↦ (
@@ -85,7 +87,7 @@ module _ (sum : List ℕ → ℕ) (none : NoHeaderOfZeros sum) (size : ℕ) (som
           whole = place_begins;
           fits = place_small;
           its_mark = record { least = m.of_history.least; below = m.of_history.below; apart = m.of_history.apart };
-          mark_below = stable_mark size H reach site.place from among.reached m.mark h.1;
+          mark_below = mark_stable size H reach m.mark m.of_history.apart (stable_mark size H reach site.place from among.reached m.mark h.1);
           alone = λ s there same.
               let found = (among.stands.numbers.found s).0 there in
               none_in_zeros sum until none far old y.site.slot (λ i above below. clean i (omega (arith, above, begins)) below) (pos s.place) s.mark
@@ -107,19 +109,19 @@ module _ (sum : List ℕ → ℕ) (none : NoHeaderOfZeros sum) (size : ℕ) (som
 
   -- What a crash leaves of it.
   pub torn_other : (now left : List ℕ) → length now ≤ length asked → LeavesLog (after_write old (y.site.slot + y.from) asked now) left → {placed : List (ℕ × List ℕ)}
-      → NoForeignLog sum size (after_write old (y.site.slot + y.from) asked now) placed left → StandsTo sum size left H reach first reach
+      → NoForeignLog sum size (after_write old (y.site.slot + y.from) asked now) placed left → StandsTo sum size left H (stable_below reach H.batches) first reach
   torn_other now left no_more leaves {placed} only_own =
-      torn_stands sum none size some old slot y.from asked inside until covers clean_there H reach first reach among.stands y.site.place goes_on more stop why clear path_there end_there truth_there caps now left no_more
+      torn_stands sum none size some old slot y.from asked inside until covers clean_there H (stable_below reach H.batches) first reach among.stands y.site.place goes_on more stop why clear path_there end_there truth_there caps now left no_more
       (subst (λ n. LeavesLog (after_write old (n + y.from) asked now) left) (sym its_slot) leaves)
       (subst (λ n. NoForeignLog sum size (after_write old (n + y.from) asked now) placed left) (sym its_slot) only_own)
 
   -- All of it, where the file reaches up to the slot, and the mark of its header lies below the stable end.
   module _ (ordered : Ascends H.messages) (there : y.site.slot ≤ length old) (low : least_place size first ≤ y.site.place) (has : HasHeader sum new y.site) (marked : has.mark <ℤ pos (site.place + from)) where
-    both : (now : StandsTo sum size new H reach first reach) × IsReadTo now.scanned y.site.slot y.site.place stop why
-    both = subst (λ n. (now : StandsTo sum size (overwritten old (n + y.from) asked) H reach first reach) × IsReadTo now.scanned n y.site.place stop why) its_slot
-        (unreached_write sum none size some old slot y.from asked inside (omega (arith, its_slot, there)) until covers clean_there H ordered reach first reach among.stands y.site.place low goes_on more stop why clear path_there end_there truth_there caps)
+    both : (now : StandsTo sum size new H (stable_below reach H.batches) first reach) × IsReadTo now.scanned y.site.slot y.site.place stop why
+    both = subst (λ n. (now : StandsTo sum size (overwritten old (n + y.from) asked) H (stable_below reach H.batches) first reach) × IsReadTo now.scanned n y.site.place stop why) its_slot
+        (unreached_write sum none size some old slot y.from asked inside (omega (arith, its_slot, there)) until covers clean_there H ordered (stable_below reach H.batches) first reach among.stands y.site.place low goes_on more stop why clear path_there end_there truth_there caps)
 
-    stands : StandsTo sum size new H reach first reach
+    stands : StandsTo sum size new H (stable_below reach H.batches) first reach
     stands = both.0
 
     apart_first : (site.place < y.site.place) × (y.site.slot ≢ site.slot)
@@ -130,10 +132,10 @@ module _ (sum : List ℕ → ℕ) (none : NoHeaderOfZeros sum) (size : ℕ) (som
 
     -- what is found in its slot has its place
     own : (s : Segment) → IsFoundSegment sum size new (least_place size first) s → s.slot ≡ y.site.slot → s.place ≡ y.site.place
-    own = its_place_now sum size some old y.site.slot slot_begins y.from asked inside there H reach first reach among.stands reach reach stands y.site y.from refl its_stands has
+    own = its_place_now sum size some old y.site.slot slot_begins y.from asked inside there H (stable_below reach H.batches) first reach among.stands (stable_below reach H.batches) reach stands y.site y.from refl its_stands has
 
     stays : (other : SegmentPosition) (so_far : ℕ) → other.slot ≢ y.site.slot → other.place ≢ y.site.place → StandsIn sum size old (least_place size first) among.stands.scanned other so_far → StandsIn sum size new (least_place size first) stands.scanned other so_far
-    stays other so_far apart behind = segment_stays sum size some old y.site.slot slot_begins y.from asked inside there H reach first reach among.stands reach reach stands other so_far y.site.place apart behind own
+    stays other so_far apart behind = segment_stays sum size some old y.site.slot slot_begins y.from asked inside there H (stable_below reach H.batches) first reach among.stands (stable_below reach H.batches) reach stands other so_far y.site.place apart behind own
 
     -- The one that leads to the first segment is another one.
     led_on : IsLed sum size new (least_place size first) reach site.place
@@ -146,7 +148,7 @@ module _ (sum : List ℕ → ℕ) (none : NoHeaderOfZeros sum) (size : ℕ) (som
           let other : l.scan.segment.slot ≢ y.site.slot = λ here. (let same = its_stands.own l.scan.segment l.found here in omega (arith, same, next, behind)) in
           inr (inr (record {
             scan = l.scan;
-            found = still_found sum size some old y.site.slot slot_begins y.from asked inside there H reach first reach among.stands reach reach stands l.scan.segment l.found other;
+            found = still_found sum size some old y.site.slot slot_begins y.from asked inside there H (stable_below reach H.batches) first reach among.stands (stable_below reach H.batches) reach stands l.scan.segment l.found other;
             read = beside.scans (least_place size first) l.scan l.found other l.read;
             next = next;
             goes = l.goes;
@@ -163,7 +165,7 @@ module _ (sum : List ℕ → ℕ) (none : NoHeaderOfZeros sum) (size : ℕ) (som
     below : (s : Segment) → IsFoundSegment sum size new (least_place size first) s → s.mark <ℤ pos (site.place + from)
     below s found = elim (cases_eq s.slot y.site.slot) [
       | inl here ↦ subst (λ z. z <ℤ pos (site.place + from))
-          (sym (its_header sum size some old y.site.slot slot_begins y.from asked inside there H reach first reach among.stands reach reach stands y.site y.from refl its_stands has s found here).1) marked
+          (sym (its_header sum size some old y.site.slot slot_begins y.from asked inside there H (stable_below reach H.batches) first reach among.stands (stable_below reach H.batches) reach stands y.site y.from refl its_stands has s found here).1) marked
       | inr other ↦ among.below s (beside.found (least_place size first) s other found)
     ]
 
@@ -176,7 +178,7 @@ module _ (sum : List ℕ → ℕ) (none : NoHeaderOfZeros sum) (size : ℕ) (som
       here = stays site from (λ same. apart_first.1 (sym same)) (λ same. let behind = apart_first.0 in omega (arith, same, behind)) among.here;
       behind = λ x at. elim (was_other site pre y post so_far among.apart x at) [
         | inl one ↦ subst (λ (w : BegunSegment). StandsIn sum size new (least_place size first) stands.scanned w.site w.from) (sym one)
-            (segment_grown sum size some old y.site.slot slot_begins y.from asked inside there H reach first reach among.stands reach reach stands y.site y.from refl its_stands has so_far stop why both.1 far)
+            (segment_grown sum size some old y.site.slot slot_begins y.from asked inside there H (stable_below reach H.batches) first reach among.stands (stable_below reach H.batches) reach stands y.site y.from refl its_stands has so_far stop why both.1 far)
         | inr (had, other, behind) ↦ stays x.site x.from other behind (among.behind x had)
       ];
       apart = follow_still site pre y post so_far among.apart;

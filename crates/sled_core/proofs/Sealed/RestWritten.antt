@@ -8,6 +8,7 @@ use Rattle.sled_codec.specs.Snapshots.{SnapshotModel}
 use Rattle.sled_store.specs.Device.{overwritten, LeavesLog}
 use Rattle.sled_store.specs.Foreign.{NoForeignLog}
 use Rattle.sled_store.proofs.Segments.Elements.{in_first}
+use Rattle.sled_core.specs.OpenBatches.{stable_below}
 use Rattle.sled_core.specs.declared.iobuf.SegmentPosition.{SegmentPosition}
 use Rattle.sled_core.specs.declared.iterator.scan.ScanEnd.{ScanEnd}
 use Rattle.sled_core.specs.declared.iterator.scan.ScanEnd.TheVariants.{Full, Broken}
@@ -25,7 +26,7 @@ use Rattle.sled_core.proofs.Torn.TornLemmas.{after_write}
 
 -- Where something is left of a segment, but no header has room there.
 module _ (sum : List ℕ → ℕ) (size : ℕ) (some : 256 ≤ size) (old : List ℕ) (site : SegmentPosition) (from at : ℕ) (asked : List ℕ) (inside : at + length asked ≤ size) (slot_begins : site.slot % size ≡ 0)
-    (behind : from ≤ at) (left_over : from < size) (full : size < from + 32) (reach : ℕ) (H : History) (first : SnapshotModel) (is : StandsTo sum size old H reach first reach) (its : StandsIn sum size old (least_place size first) is.scanned site from) where
+    (behind : from ≤ at) (left_over : from < size) (full : size < from + 32) (reach : ℕ) (H : History) (first : SnapshotModel) (is : StandsTo sum size old H (stable_below reach H.batches) first reach) (its : StandsIn sum size old (least_place size first) is.scanned site from) where
   abbrev new : List ℕ
   new = overwritten old (site.slot + at) asked
 
@@ -47,17 +48,17 @@ module _ (sum : List ℕ → ℕ) (size : ℕ) (some : 256 ≤ size) (old : List
 
   -- What a crash leaves of it.
   pub torn_rest : (now left : List ℕ) → length now ≤ length asked → LeavesLog (after_write old (site.slot + at) asked now) left → {placed : List (ℕ × List ℕ)}
-      → NoForeignLog sum size (after_write old (site.slot + at) asked now) placed left → StandsTo sum size left H reach first reach
+      → NoForeignLog sum size (after_write old (site.slot + at) asked now) placed left → StandsTo sum size left H (stable_below reach H.batches) first reach
   torn_rest now left no_more leaves {placed} only_own =
-      torn_full sum size some old slot at asked inside H reach first reach is z read.2.there (read.2.in_slot ∙ sym its_slot) (omega (arith, stops, behind)) (omega (arith, stops, full)) now left no_more
+      torn_full sum size some old slot at asked inside H (stable_below reach H.batches) first reach is z read.2.there (read.2.in_slot ∙ sym its_slot) (omega (arith, stops, behind)) (omega (arith, stops, full)) now left no_more
       (subst (λ n. LeavesLog (after_write old (n + at) asked now) left) (sym its_slot) leaves)
       (subst (λ n. NoForeignLog sum size (after_write old (n + at) asked now) placed left) (sym its_slot) only_own)
 
   -- All of it, where the file reaches up to the slot.
   module _ (there : site.slot ≤ length old) where
-    stands : StandsTo sum size new H reach first reach
-    stands = subst (λ n. StandsTo sum size (overwritten old (n + at) asked) H reach first reach) its_slot
-        (written_full sum size some old slot at asked inside H reach first reach is z read.2.there (read.2.in_slot ∙ sym its_slot) (omega (arith, stops, behind)) (omega (arith, stops, full)) (omega (arith, its_slot, there)))
+    stands : StandsTo sum size new H (stable_below reach H.batches) first reach
+    stands = subst (λ n. StandsTo sum size (overwritten old (n + at) asked) H (stable_below reach H.batches) first reach) its_slot
+        (written_full sum size some old slot at asked inside H (stable_below reach H.batches) first reach is z read.2.there (read.2.in_slot ∙ sym its_slot) (omega (arith, stops, behind)) (omega (arith, stops, full)) (omega (arith, its_slot, there)))
 
     its_why : z.why ≡ Full
     unfolding IsScan

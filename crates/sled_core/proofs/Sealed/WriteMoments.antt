@@ -6,18 +6,30 @@ use Rattle.sled_store.specs.Device.{Event, LogState, State, Wrote, Synced, Leave
 use Rattle.sled_store.specs.Foreign.{NoForeignLog}
 use Rattle.sled_store.specs.Script.{Along}
 use Rattle.sled_store.proofs.Histories.Ascending.{Ascends}
+use Rattle.sled_core.specs.OpenBatches.{stable_below}
 use Rattle.sled_core.specs.Recoverable.{LeavesRecoverable, NoHeaderOfZeros}
 use Rattle.sled_core.specs.Running.{BlobsFit, NamesFit}
 use Rattle.sled_core.proofs.Flush.Settled.{InlineFrom, blobs_higher, leaves_less, settled_recoverable, stands_recoverable}
+use Rattle.sled_core.proofs.Reached.StableBelow.{stable_rises}
 use Rattle.sled_core.proofs.Reached.StandsTo.{StandsTo}
 use Rattle.sled_core.proofs.Torn.TornLemmas.{after_write}
 
 module _ (sum : List ℕ → ℕ) (size : ℕ) (some : 256 ≤ size) (device : State) (rest : device.log ≡ at_rest device.log.bytes) (H : History) (f : ℕ) (first : SnapshotModel) (reach reach' : ℕ) (up : reach ≤ reach')
-    (ordered : Ascends H.messages) (inline : InlineFrom H reach) (names : NamesFit sum size device.snapshots H f first) (blobs : BlobsFit sum device.blobs H reach)
-    (before : LeavesRecoverable sum size H reach f device) (at : ℕ) (asked : List ℕ)
+    (ordered : Ascends H.messages) (inline : InlineFrom H (stable_below reach H.batches)) (names : NamesFit sum size device.snapshots H f first) (blobs : BlobsFit sum device.blobs H (stable_below reach H.batches))
+    (before : LeavesRecoverable sum size H (stable_below reach H.batches) f device) (at : ℕ) (asked : List ℕ)
     (torn : NoHeaderOfZeros sum → (now left : List ℕ) → length now ≤ length asked → LeavesLog (after_write device.log.bytes at asked now) left → (placed : List (ℕ × List ℕ))
-    → NoForeignLog sum size (after_write device.log.bytes at asked now) placed left → StandsTo sum size left H reach first reach)
-    (whole : NoHeaderOfZeros sum → StandsTo sum size (overwritten device.log.bytes at asked) H reach' first reach') where
+    → NoForeignLog sum size (after_write device.log.bytes at asked now) placed left → StandsTo sum size left H (stable_below reach H.batches) first reach)
+    (whole : NoHeaderOfZeros sum → StandsTo sum size (overwritten device.log.bytes at asked) H (stable_below reach' H.batches) first reach') where
+  -- the stable place before the write, and behind it
+  abbrev low : ℕ
+  low = stable_below reach H.batches
+
+  abbrev high : ℕ
+  high = stable_below reach' H.batches
+
+  rises : low ≤ high
+  rises = stable_rises reach reach' up H.batches
+
   -- the state once so much of the write was done
   abbrev while_written : List ℕ → State
   while_written now = step (Wrote at asked now) device
@@ -26,24 +38,27 @@ module _ (sum : List ℕ → ℕ) (size : ℕ) (some : 256 ≤ size) (device : S
   abbrev pub once_synced : State
   once_synced = step Synced (while_written asked)
 
-  write_leaves : (now : List ℕ) → length now ≤ length asked → LeavesRecoverable sum size H reach f (while_written now)
+  write_leaves : (now : List ℕ) → length now ≤ length asked → LeavesRecoverable sum size H low f (while_written now)
   write_leaves now no_more = λ left leaves only_own.
       let stands = torn only_own.zeros now left.log no_more (subst (λ (s : LogState). LeavesLog (log_step (Wrote at asked now) s) left.log) rest leaves.log)
       ((at, asked) ∷ device.placed) (subst (λ (s : LogState). NoForeignLog sum size (log_step (Wrote at asked now) s) ((at, asked) ∷ device.placed) left.log) rest only_own.log) in
-      stands_recoverable sum size some left H reach f first reach ordered inline (names left.snapshots leaves.snapshots only_own.snapshots) (blobs left.blobs leaves.blobs only_own.blobs) stands
+      stands_recoverable sum size some left H low f first reach ordered inline (names left.snapshots leaves.snapshots only_own.snapshots) (blobs left.blobs leaves.blobs only_own.blobs) stands
 
   -- what stands up to the place needs no more blobs
-  pub blobs_up : BlobsFit sum device.blobs H reach'
-  blobs_up = blobs_higher sum device.blobs H reach reach' ordered (omega (arith, up)) inline blobs
+  pub blobs_up : BlobsFit sum device.blobs H high
+  blobs_up = blobs_higher sum device.blobs H low high ordered rises inline blobs
 
-  -- Behind the sync all that is written counts as acknowledged.
-  pub synced_leaves : LeavesRecoverable sum size H reach' f once_synced
-  synced_leaves = settled_recoverable sum size some once_synced H reach' f first reach' ordered (λ m there above. inline m there (omega (arith, up, above))) refl names blobs_up whole
+  pub inline_up : InlineFrom H high
+  inline_up m there above = (let up = rises in inline m there (omega (arith, up, above)))
+
+  -- Behind the sync all that is stable then counts as acknowledged.
+  pub synced_leaves : LeavesRecoverable sum size H high f once_synced
+  synced_leaves = settled_recoverable sum size some once_synced H high f first reach' ordered inline_up refl names blobs_up whole
 
   -- On the way what was written before does.
-  pub write_along : Along (LeavesRecoverable sum size H reach f) (Wrote at asked asked ∷ Synced ∷ []) device
+  pub write_along : Along (LeavesRecoverable sum size H low f) (Wrote at asked asked ∷ Synced ∷ []) device
   write_along = (
     before,
-    λ torn_there tears. subst (λ (e : Event). LeavesRecoverable sum size H reach f (step e device)) (sym tears.2) (write_leaves tears.0 tears.1),
-    (write_leaves asked (omega arith), λ torn_there tears. absurd tears, leaves_less sum size H reach reach' f once_synced (omega (arith, up)) synced_leaves),
+    λ torn_there tears. subst (λ (e : Event). LeavesRecoverable sum size H low f (step e device)) (sym tears.2) (write_leaves tears.0 tears.1),
+    (write_leaves asked (omega arith), λ torn_there tears. absurd tears, leaves_less sum size H low high f once_synced rises synced_leaves),
   )

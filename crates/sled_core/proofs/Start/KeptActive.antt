@@ -9,6 +9,7 @@ use Rattle.sled_core.specs.declared.iobuf.SegmentPosition.{SegmentPosition}
 use Rattle.sled_core.specs.declared.iterator.Segment.{Segment}
 use Rattle.sled_core.specs.declared.iterator.scan.ScanEnd.TheVariants.{Broken}
 use Rattle.sled_store.proofs.Segments.Elements.{in_nothing}
+use Rattle.sled_core.specs.OpenBatches.{stable_below}
 use Rattle.sled_core.specs.Reached.{StandsTo, StandsAlone, StandsActive, GoesOnIn}
 use Rattle.sled_core.specs.Scan.{IsFoundSegment}
 use Rattle.sled_core.specs.Tail.{Scanned, IsScanned, least_place}
@@ -16,6 +17,7 @@ use Rattle.sled_core.proofs.Start.Entries.{message_used, active_used}
 use Rattle.sled_core.proofs.Start.Recoverable.{same_place}
 use Rattle.sled_core.proofs.Reached.KeptStands.{SameInUsed, found_kept, scan_kept, kept_stands}
 use Rattle.sled_core.proofs.Reached.StartedStands.{found_inside, slot_needed}
+use Rattle.sled_core.proofs.Reached.StableBelow.{stable_all}
 use Rattle.sled_core.proofs.Reached.Marks.{less_than}
 use Rattle.sled_core.proofs.Tail.OneTail.{segment_there, reading_there}
 use Rattle.sled_core.proofs.Tail.Moved.{one_in_slot}
@@ -81,7 +83,8 @@ pub begins_alone : (sum : List ℕ → ℕ) (size : ℕ) (log : List ℕ) (s fir
 begins_alone sum size log s first H site from same end begins own behind alone =
     let stable : ℕ = stable_place s.stable in
     let reach : ℕ = site.place + from in
-    let on = same_place sum size log H s first stable reach same end alone.stands in
+    let open_none : stable_below reach H.batches ≡ stable = stable_all reach H.batches (λ b there low. (let under = alone.stands.closed b there (omega (arith, low, end)) in omega (arith, under, end))) ∙ end in
+    let on = same_place sum size log H s first stable reach (stable_below reach H.batches) same end open_none alone.stands in
     let least : least_place size first ≡ least_place size s = ap (λ n. n / size * size) same in
     let was : (x : Segment) → IsFoundSegment sum size log (least_place size first) x → IsFoundSegment sum size log (least_place size s) x = λ x found. subst (λ n. IsFoundSegment sum size log n x) least found in
     let here : (x : Segment) → IsFoundSegment sum size log (least_place size s) x → x.place ≡ site.place = λ x found.

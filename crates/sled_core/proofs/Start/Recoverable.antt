@@ -18,9 +18,9 @@ use Rattle.sled_core.proofs.Reached.Recoverable.{reached_recoverable}
 use Rattle.sled_core.proofs.Reached.StandsTo.{StandsTo}
 
 -- The same segments are read from another snapshot that ends at the same place.
-pub same_place : (sum : List ℕ → ℕ) (size : ℕ) (log : List ℕ) (H : History) (first other : SnapshotModel) (reach at : ℕ) → stable_place other.stable ≡ stable_place first.stable → at ≡ reach
-    → (is : StandsTo sum size log H reach first reach) → (on : StandsTo sum size log H at other at) × (on.scanned ≡ is.scanned)
-same_place sum size log H first other reach at same here is = (
+pub same_place : (sum : List ℕ → ℕ) (size : ℕ) (log : List ℕ) (H : History) (first other : SnapshotModel) (reach at A : ℕ) → stable_place other.stable ≡ stable_place first.stable → at ≡ reach → A ≡ reach
+    → (is : StandsTo sum size log H reach first reach) → (on : StandsTo sum size log H A other at) × (on.scanned ≡ is.scanned)
+same_place sum size log H first other reach at A same here all is = (
   record {
     ordering = is.ordering;
     numbers = subst (λ n. IsOrdering sum size log (n / size * size) is.ordering) (sym same) is.numbers;
@@ -29,16 +29,16 @@ same_place sum size log H first other reach at same here is = (
     marks = is.marks;
     truth = is.truth;
     caps = is.caps;
-    not_below = let low = is.not_below in omega (arith, low, same, here);
-    passes = omega arith;
-    marks_below = λ s there. subst (λ n. IsMarkBelow size H n s.mark) (sym here) (is.marks_below s there);
+    not_below = let low = is.not_below in omega (arith, low, same, all);
+    passes = omega (arith, all, here);
+    marks_below = λ s there. subst (λ n. IsMarkBelow size H n s.mark) (sym all) (is.marks_below s there);
     placed = is.placed;
     batched = is.batched;
-    closed = λ b there low. let under = is.closed b there (omega (arith, low, here)) in omega (arith, under, here);
+    closed = λ b there low. let under = is.closed b there (omega (arith, low, all)) in omega (arith, under, all);
     gapless = λ z aligned low under.
         let found = is.gapless z aligned (let least = ap (λ n. n / size * size) same in omega (arith, low, least)) (omega (arith, under, here)) in
         (found.0, found.1, found.2, ⊎_elim (λ far. inl (omega (arith, far, here))) (λ leads. inr leads) found.3);
-    needed = λ cut low high. is.needed cut (omega (arith, low, here)) (omega (arith, high, here));
+    needed = λ cut low high. is.needed cut (omega (arith, low, all)) (omega (arith, high, here));
   },
   refl,
 )

@@ -1,10 +1,11 @@
 -- A log that begins on what a recovery left fits the history.
 use Rattle.std.proofs.Common.{◌≡◌, ◌≤◌, ◌<◌, ◌+◌, ◌*◌, ◌/◌, ◌%◌, ◌∙◌, ◌-ℤ◌, ℕ, pos, List, [], length, Option, Some, None, IfSome, refl, sym, ap, subst, arith}
 use Rattle.std.proofs.Math.Nat.{mod-add-div'}
+use Rattle.std.proofs.lemmas.Bool.{cases_lt}
 use Rattle.std.proofs.lemmas.List.Elements.{All-contains}
 use Rattle.sled_codec.specs.Coords.{raised}
 use Rattle.sled_codec.specs.Record.{short_header}
-use Rattle.sled_codec.specs.History.{Message, History}
+use Rattle.sled_codec.specs.History.{Batch, Message, History}
 use Rattle.sled_codec.specs.Snapshots.{SnapshotModel, stable_place}
 use Rattle.sled_store.specs.Device.{LogState, NamesState, State, at_rest}
 use Rattle.sled_store.specs.declared.segment.start.Beginning.{Beginning}
@@ -14,12 +15,14 @@ use Rattle.sled_core.specs.declared.iobuf.Sealed.{Sealed}
 use Rattle.sled_core.specs.declared.iobuf.SegmentPosition.{SegmentPosition}
 use Rattle.sled_store.specs.Begin.{slots_of, unused, first_or, beginning_at, beginning_of, MayBeActive, IsStartable}
 use Rattle.sled_store.proofs.Segments.StartedFile.{started_file}
-use Rattle.sled_core.specs.Fits.{CloseBelow, log_parts, HoldsIn}
+use Rattle.sled_core.specs.Fits.{log_parts, HoldsIn}
 use Rattle.sled_core.specs.LogFile.{padded}
+use Rattle.sled_core.specs.OpenBatches.{stable_below}
 use Rattle.sled_core.specs.Ready.{HasFile}
 use Rattle.sled_core.specs.Recoverable.{LeavesRecoverable, NoHeaderOfZeros}
 use Rattle.sled_core.specs.Running.{BlobsFit, NamesFit, FitsIn, IsReadyFor}
 use Rattle.sled_core.specs.Reached.{StandsActive, StandsAlone}
+use Rattle.sled_core.proofs.Reached.StableBelow.{stable_all}
 use Rattle.sled_core.proofs.Start.StartedActive.{started_active}
 use Rattle.sled_core.proofs.Start.KeptActive.{begins_alone}
 use Rattle.sled_core.specs.SealedBuffers.{AreZeros}
@@ -60,7 +63,7 @@ module _ (sum : List ℕ → ℕ) (size : ℕ) (device now : State) (s : Snapsho
   left_now : LeavesRecoverable sum size H stable f now
   left_now =
       settled_leaves sum size now new H stable f ready.ready.first stable long ready.ready.apart ready.ready.below log_is
-      (λ zeros. (same_place sum size new H s ready.ready.first stable stable same_stable refl (active_now zeros).stands).0) (omega arith)
+      (λ zeros. (same_place sum size new H s ready.ready.first stable stable stable same_stable refl refl (active_now zeros).stands).0) (omega arith)
       (subst (λ (n : NamesState). NamesFit sum size n H f ready.ready.first) (sym same_names) ready.names) (subst (λ (n : NamesState). BlobsFit sum n H stable) (sym same_blobs) ready.blobs)
 
   -- Where it begins at a site.
@@ -69,21 +72,25 @@ module _ (sum : List ℕ → ℕ) (size : ℕ) (device now : State) (s : Snapsho
     fits_at : (bytes : List ℕ) (holds : HoldsIn sum (log_parts size site now None bytes from [] []) [] H) → holds.begun.first ≡ ready.ready.first → FitsIn sum (log_parts size site now None bytes from [] []) [] (site.place + from) 0 H A f []
     fits_at bytes holds first =
         let same : stable_place holds.begun.first.stable ≡ stable = ap (λ (x : SnapshotModel). stable_place x.stable) first ∙ same_stable in
+        let open_none : stable_below (site.place + from) H.batches ≡ stable =
+        stable_all (site.place + from) H.batches (λ b there low. (let its = All-contains (λ (x : Batch). (x.low < stable) × (x.peg < stable)) H.batches b ready.ready.batches there in omega (arith, its.1, end))) ∙ end in
         let clean : AreZeros new (site.slot + from) (site.slot + size) = subst (λ (l : List ℕ). AreZeros l (site.slot + from) (site.slot + size)) bytes_now (holds.own.laid refl) in
         record {
           holds = holds;
           near = omega arith;
           ends = λ m there below. let low = All-contains (λ (x : Message). (x.place < stable) × (x.place + x.size ≤ stable)) H.messages m ready.ready.below there in (omega (arith, low.0, end), omega (arith, low.1, end));
-          closes = subst (λ n. CloseBelow n H.batches) (sym end) ready.ready.batches;
+          no_batch = λ b there. cases_lt b.low (site.place + from);
+          no_end = λ b there. cases_lt b.peg (site.place + from);
           marked = λ x there. absurd (in_nothing x there);
           among = λ none zeros. subst (λ (l : List ℕ). StandsAlone sum size l site from (site.place + from) H holds.begun.first) (sym bytes_now) (begins_alone sum size new s holds.begun.first H site from same end begins own behind (active_now zeros));
           beyond = λ to far none zeros. subst (λ (l : List ℕ). StandsAlone sum size (padded to l) site from (site.place + from) H holds.begun.first) (sym bytes_now)
               (begins_alone sum size (padded to new) s holds.begun.first H site from same end begins own behind (beyond clean to zeros));
-          blobs = subst (λ (n : NamesState). BlobsFit sum n H (site.place + from)) (sym same_blobs) (subst (BlobsFit sum device.blobs H) (sym end) ready.blobs);
+          blobs = subst (λ (n : NamesState). BlobsFit sum n H (stable_below (site.place + from) H.batches)) (sym same_blobs) (subst (BlobsFit sum device.blobs H) (sym open_none) ready.blobs);
+          inline = λ m there past. absurd (let low = All-contains (λ (x : Message). (x.place < stable) × (x.place + x.size ≤ stable)) H.messages m ready.ready.below there in omega (arith, low.0, past, open_none));
           names = subst (λ (n : NamesState). NamesFit sum size n H f holds.begun.first) (sym same_names) (subst (NamesFit sum size device.snapshots H f) (sym first) ready.names);
-          passes = let passes = ready.passes in omega (arith, passes, end);
+          passes = let passes = ready.passes in omega (arith, passes, open_none);
           pinned = λ some. absurd (some refl);
-          left = subst (λ n. LeavesRecoverable sum size H n f now) (sym end) left_now;
+          left = subst (λ n. LeavesRecoverable sum size H n f now) (sym open_none) left_now;
         }
 
   -- It fits where it begins.

@@ -75,7 +75,7 @@ module _ (sum : List ℕ → ℕ) (size : ℕ) (t : Trace) (s : SnapshotModel) (
   recoverable_left x has left leaves own active =
       let names : NamesFit sum size x.snapshots H f ready.ready.first = subst (λ (n : NamesState). NamesFit sum size n H f ready.ready.first) (sym has.snapshots) ready.names in
       let blobs : BlobsFit sum x.blobs H stable = subst (λ (n : NamesState). BlobsFit sum n H stable) (sym has.blobs) ready.blobs in
-      let on = same_place sum size left.log H s ready.ready.first stable stable (ap stable_place ready.ready.same_place) refl active.stands in
+      let on = same_place sum size left.log H s ready.ready.first stable stable stable (ap stable_place ready.ready.same_place) refl refl active.stands in
       stands_recoverable sum size left H A f ready.ready.first stable long ready.ready.apart ready.ready.below on.0 ready.passes (names left.snapshots leaves.snapshots own.snapshots) (blobs left.blobs leaves.blobs own.blobs)
 
   settled : device.log ≡ at_rest log
