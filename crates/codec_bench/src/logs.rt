@@ -1,6 +1,7 @@
 //! Logs on a device in memory, with the sum for tests: what is measured of a log goes over these.
-ghost use Rattle.std.specs.Prelude.{◌≡◌, ◌<◌, ◌^◌, length, IfOk};
+ghost use Rattle.std.specs.Prelude.{◌≡◌, ◌<◌, ◌^◌, false, length, IfOk};
 ghost use Rattle.sled_core.specs.Fits.{IsOpen, pins_of};
+ghost use Rattle.sled_core.specs.Tickets.{is_manifest_of};
 
 use crate::figure::{RUNS, Shortest};
 use sled_core::iterator::read_slot;
@@ -115,7 +116,8 @@ fn replace_many(log: &mut MemoryLog, item: &Vec<u8>, guard: &Guard) -> io::Resul
 
 /// Completes a message.
 fn complete(log: &mut MemoryLog, ticket: Reservation) -> io::Result<()>
-    requires { IsOpen log.old ticket }
+    requires awaited { IsOpen log.old ticket }
+    requires message { is_manifest_of ticket ≡ false }
 {
     match log.complete(ticket) {
         Ok(_) => Ok(()),

@@ -4,7 +4,7 @@ use Rattle.sled_codec.specs.declared.result.DiskPtr.TheVariants.{Inline}
 use Rattle.sled_codec.specs.declared.serialization.message.LogKind.TheVariants.{Skip}
 use Rattle.sled_codec.specs.declared.serialization.message.MessageKind.{MessageKind}
 use Rattle.sled_codec.specs.declared.serialization.message.MessageKind.TheVariants as kind
-use Rattle.sled_codec.specs.Kinds.{kind_written, code_of}
+use Rattle.sled_codec.specs.Kinds.{code_of}
 use Rattle.sled_codec.specs.Sums.{flipped}
 use Rattle.sled_codec.specs.Spelling.{low_bytes, short_number, short_header_tail}
 use Rattle.sled_codec.specs.Places.{part}
@@ -16,6 +16,7 @@ use Rattle.sled_core.specs.declared.iobuf.Reserved.{Reserved}
 use Rattle.sled_core.specs.declared.iobuf.Purpose.{Purpose}
 use Rattle.sled_core.specs.declared.iobuf.SegmentPosition.{SegmentPosition}
 use Rattle.sled_core.specs.Caps.{segment_rest}
+use Rattle.sled_core.specs.Manifests.{is_manifest, kind_kept}
 
 -- neither completed nor aborted
 abbrev pub open_state : ReservationState → Bool
@@ -55,7 +56,9 @@ text_as sum k page number body Padding = []
 pub record StandsAs (sum : List ℕ → ℕ) (number : ℕ) (text body : List ℕ) (r : Reserved) : Type 0 where
   pub headed : 5 ≤ r.header_len
   pub long : r.header_len ≤ r.len
-  pub known : kind_written r.log_kind r.page false ≡ Some r.kind
+  pub known : kind_kept r.log_kind r.page ≡ Some r.kind
+  -- a completed one is a message
+  pub whole : r.state ≡ Completed → is_manifest r.log_kind r.page ≡ false
   pub valid : r.kind ≢ kind.Corrupted
   pub page : r.page < 2 ^ 64
   pub summed : flipped r.sum ≡ record_sum sum r.kind r.page number body

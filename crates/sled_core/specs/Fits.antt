@@ -1,9 +1,8 @@
 -- What a log has to do with the history of what was completed, and with its device. Its segments lie one behind another; the first one isn't wholly on the device, and the last one is being filled.
-use Rattle.std.specs.Prelude.{◌≡◌, ◌⊎◌, ◌+◌, ◌-◌, ◌*◌, ◌/◌, ◌%◌, ◌^◌, ◌≤◌, ◌<◌, if◌then◌else◌, nat_le, ◌==◌, Bool, ℕ, ℤ, pos, max, true, false, List, [], ◌++◌, ◌∷◌, length, map, take, drop, All, Option, None, Some, slice_get, Contains}
+use Rattle.std.specs.Prelude.{◌≡◌, ◌⊎◌, ◌+◌, ◌-◌, ◌*◌, ◌/◌, ◌%◌, ◌^◌, ◌≤◌, ◌<◌, if◌then◌else◌, nat_le, Bool, ℕ, ℤ, pos, max, true, List, [], ◌++◌, ◌∷◌, length, map, take, drop, All, Option, None, Some, slice_get, Contains}
 use Rattle.std.specs.declared.io.Error.{Error as IoError}
 use Rattle.sled_codec.specs.declared.result.DiskPtr.TheVariants.{Inline}
 use Rattle.sled_codec.specs.declared.serialization.message.LogKind.{LogKind}
-use Rattle.sled_codec.specs.declared.serialization.message.LogKind.TheVariants as does
 use Rattle.sled_codec.specs.Record.{short_header}
 use Rattle.sled_codec.specs.History.{Message, Batch, History, CutFits, table}
 use Rattle.sled_codec.specs.WellFormed.{LieApart}
@@ -114,18 +113,6 @@ message_for log kind page bytes =
 -- where the next record may begin behind that one
 abbrev pub position_behind : {D C : Type 0} → Log D C → ℕ → ℕ → Position
 position_behind log page n = behind_record (segment_size_of log) (target_of log page n) (size_for log page n)
-
--- the page of manifests
-abbrev pub manifest_page : ℕ
-manifest_page = 2 ^ 64 - 667
-
--- a message of this kind and page is the manifest of a batch
-abbrev pub is_manifest : LogKind → ℕ → Bool
-is_manifest does.Skip page = page == manifest_page
-is_manifest does.Replace page = false
-is_manifest does.Link page = false
-is_manifest does.Free page = false
-is_manifest does.Corrupted page = false
 
 -- a message with an item of n bytes has it inline
 abbrev pub FitsInline : ℕ → ℕ → Type 0

@@ -11,6 +11,7 @@ pub mod Full
 pub mod Good
 pub mod Keeps
 pub mod LogFile
+pub mod Manifests
 pub mod OpenBatches
 pub mod OpenPlaces
 pub mod Own

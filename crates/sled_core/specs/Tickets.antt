@@ -1,13 +1,12 @@
 -- What a ticket says.
-use Rattle.std.specs.Prelude.{◌≡◌, ◌+◌, ℕ, ℤ, pos, Bool, true, false}
+use Rattle.std.specs.Prelude.{◌≡◌, ◌+◌, ℕ, ℤ, pos, Bool}
 use Rattle.sled_codec.specs.declared.result.DiskPtr.TheVariants.{Inline}
 use Rattle.sled_core.specs.declared.iobuf.ReservationState.TheVariants.{Open}
 use Rattle.sled_core.specs.declared.iobuf.Reserved.{Reserved}
 use Rattle.sled_core.specs.declared.iobuf.SegmentPosition.{SegmentPosition}
 use Rattle.sled_codec.specs.declared.result.DiskPtr.{DiskPtr}
-use Rattle.sled_codec.specs.declared.serialization.message.MessageKind.{MessageKind}
-use Rattle.sled_codec.specs.declared.serialization.message.MessageKind.TheVariants.{BatchManifest}
 use Rattle.sled_core.specs.declared.reservation.Reservation.{Reservation}
+use Rattle.sled_core.specs.Manifests.{is_manifest}
 
 -- where the record begins in the log
 abbrev pub place_of : Reservation → ℤ
@@ -29,14 +28,10 @@ len_of ticket = ticket.len
 abbrev pub is_manifest_of : Reservation → Bool
 is_manifest_of ticket = ticket.is_manifest
 
--- this kind is that of such a manifest
-abbrev pub begins_batch : MessageKind → Bool
-begins_batch BatchManifest = true
-begins_batch _ = false
-
 -- a ticket is for this reservation in the segment that lies there, and that is open
 pub record IsFor (site : SegmentPosition) (r : Reserved) (ticket : Reservation) : Type 0 where
   pub open_yet : r.state ≡ Open
   pub place : place_of ticket ≡ pos (site.place + r.from)
   pub pointer : pointer_of ticket ≡ Inline (site.slot + r.from)
   pub long : len_of ticket ≡ r.len
+  pub manifest : is_manifest_of ticket ≡ is_manifest r.log_kind r.page

@@ -18,7 +18,8 @@ ghost use Rattle.sled_core.specs.Ready.{IsReady};
 ghost use Rattle.sled_core.specs.Recoverable.{NoForeign, Recoverable, RecoverableIfOwn, LeavesRecoverable, NoHeaderOfZeros};
 ghost use Rattle.sled_core.specs.OpenPlaces.{first_between, places_from};
 ghost use Rattle.sled_core.specs.Running.{Fits, Ready, end_below};
-ghost use Rattle.sled_core.specs.Tickets.{len_of, place_of, pointer_of};
+ghost use Rattle.sled_core.specs.Manifests.{is_manifest};
+ghost use Rattle.sled_core.specs.Tickets.{is_manifest_of, len_of, place_of, pointer_of};
 ghost use Rattle.sled_core.specs.Own.{IsSomeRecord, written_out_of_order, IsReachedToEnd};
 ghost use Rattle.sled_core.specs.StableEnds.{LiesIn, IsContiguousEnd, IsHalfSynced, IsStableEnd, AreApart};
 ghost use Rattle.sled_codec.specs.Sums.{place_sum};
@@ -118,10 +119,10 @@ pub fn a_place_comes_back()
     ensures { (z : ℤ) (n : ℕ) → z ≡ pos n → n < 2 ^ 63 → pos n ≡ cast_signed w64 (cast_unsigned w64 z) }
 {}
 
-/// A ticket says where its message lies, and how long its record is.
+/// A ticket says where its message lies, how long its record is, and whether it is the manifest of a batch.
 pub fn a_ticket_says_the_place<D: Device, C: Checksum>()
     ensures { (log : Log D C) (ticket : Reservation) (m : Message) → Awaits log ticket m
-        → (pos m.place ≡ place_of ticket) × (m.pointer ≡ pointer_of ticket) × (m.size ≡ len_of ticket) }
+        → (pos m.place ≡ place_of ticket) × (m.pointer ≡ pointer_of ticket) × (m.size ≡ len_of ticket) × (is_manifest_of ticket ≡ is_manifest m.kind m.page) }
 {}
 
 /// What a crash leaves now of the device of a log can be recovered, without any call.

@@ -4,7 +4,6 @@
 //! segments, the count of pins, and the first failure of its device, which it answers from then on. `specs/Fits.antt` says which history it holds.
 ghost use Rattle.std.specs.Prelude.{List, ◌++◌, ◌≡◌, ◌≢◌, ◌↔◌, ◌+◌, ◌-◌, ◌<◌, ◌≤◌, ◌^◌, ◌∷◌, ◌-ℤ◌, ◌<ℤ◌, ◌≤ℤ◌, pos, [], ℕ, length, drop, false, IsTrue, IfOk, IfErr, OnOk, OnErr, Contains, None, Some, ◌⊎◌, ◌/◌, unsigned_abs, ℤ, max};
 ghost use Rattle.std.specs.declared.io.Error.{Error as IoError};
-ghost use Rattle.sled_codec.specs.Kinds.{kind_written};
 ghost use Rattle.sled_codec.specs.History.{History, Message, Completed, Step};
 ghost use Rattle.std.specs.IoError.{error_kind};
 ghost use Rattle.std.specs.declared.io.ErrorKind.TheVariants.{OutOfMemory};
@@ -41,10 +40,10 @@ mod writing;
 use crate::iobuf::start::begin;
 use crate::iobuf::{IoBuf, Purpose, SegmentPosition};
 use crate::logger::read_message::{LogRead, read_message};
+use crate::logger::reserving::kind_for;
 use crate::logger::segments::{SegmentBuffer, no_segments};
 use crate::reservation::{Guard, Reservation};
 use sled_codec::result::{DiskPtr, Error, LogOffset, Lsn, PageId, Result};
-use sled_codec::serialization::message::message_kind;
 use sled_codec::serialization::{Checksum, LogKind, SegmentNumber, Serialize, Snapshot};
 use sled_store::segment::accountant::SegmentAccountant;
 use sled_store::segment::may_begin;
@@ -77,7 +76,8 @@ pub struct Log<D, C> {
 }
 
 impl<D: Device, C: Checksum> Log<D, C> {
-    ghost use Rattle.sled_core.specs.Fits.{Holds, open_places, Awaits, IsOpen, FitsInline, IsUnchanged, IsUsedUpFor, fault_of, open_for, IsLeastOpen, synced_end, reserved_end, pins_of, config_of, device_of, HasRecordOf, line_of, is_manifest, manifest_page, message_for, position_behind, position_of, segment_size_of, size_for, target_of, waiting_behind, waiting_of, current_begin, FirstWaits, KeepsBuffers, start_behind, start_of, KeepsAll, KeepsTickets};
+    ghost use Rattle.sled_core.specs.Fits.{Holds, open_places, Awaits, IsOpen, FitsInline, IsUnchanged, IsUsedUpFor, fault_of, open_for, IsLeastOpen, synced_end, reserved_end, pins_of, config_of, device_of, HasRecordOf, line_of, message_for, position_behind, position_of, segment_size_of, size_for, target_of, waiting_behind, waiting_of, current_begin, FirstWaits, KeepsBuffers, start_behind, start_of, KeepsAll, KeepsTickets};
+    ghost use Rattle.sled_core.specs.Manifests.{is_manifest, kind_for};
     ghost use Rattle.sled_core.specs.OpenPlaces.{TakesOut};
     ghost use Rattle.sled_core.specs.Keeps.{ConfigKept, GoesOn, Preserves, SamePosition};
     ghost use Rattle.sled_core.specs.ReadBuffer.{IsUsedUpAt, ReadAnswers, RefusesPlace, SealsAround, Settles, WritesAround, held_at};
@@ -193,7 +193,8 @@ impl<D: Device, C: Checksum> Log<D, C> {
     ///
     /// # Errors
     ///
-    /// `Io` where the log keeps a failure of its device, `Unsupported` where the page has no messages of this kind,
+    /// `Io` where the log keeps a failure of its device, `Unsupported` where the page has no messages of this kind, and for the manifest of a
+    /// batch (a `Skip` of the page `BATCH_MANIFEST_PID`) whose item hasn't 8 bytes,
     /// `PlacesUsedUp` where the record needs a further segment and that would not end below 2^63 in the log and in the file,
     /// `Held` with the least place of an open reservation where 127 are open in the buffer that the record would be of, and
     /// `OutOfMemory`. After each of them the log is as it was.
@@ -206,7 +207,6 @@ impl<D: Device, C: Checksum> Log<D, C> {
     ) -> Result<Reservation>
         requires fits { T.fits (T.meaning item.now) }
         requires inline { FitsInline (segment_size_of self.old) (length (T.short (T.meaning item.now))) }
-        requires no_manifest { kind ≡ LogKind.Skip → pid ≢ manifest_page }
         ensures ticket { IfOk result (λ ticket. Awaits self.new ticket (message_for self.old kind pid (T.short (T.meaning item.now)))) }
         ensures manifest { IfOk result (λ ticket. is_manifest_of ticket ≡ is_manifest kind pid) }
         ensures position { OnOk result (position_of self.new ≡ position_behind self.old pid (length (T.short (T.meaning item.now)))) }
@@ -218,7 +218,7 @@ impl<D: Device, C: Checksum> Log<D, C> {
         ensures seals { let n = length (T.short (T.meaning item.now)) in
             OnOk result ((waiting_of self.new ≡ waiting_behind C.sum_of self.old pid n) × (start_of self.new ≡ start_behind self.old pid n)) }
         ensures answers { let n = length (T.short (T.meaning item.now)) in
-            ReserveAnswers result (fault_of self.old) (kind_written kind pid false) (IsUsedUpFor self.old pid n) (open_for self.old pid n)
+            ReserveAnswers result (fault_of self.old) (kind_for kind pid n) (IsUsedUpFor self.old pid n) (open_for self.old pid n)
             (IsLeastOpen self.old) }
         ensures keeps { Preserves D.trace C.sum_of self.old self.new }
         ensures same { KeepsAll self.old self.new }
@@ -227,10 +227,10 @@ impl<D: Device, C: Checksum> Log<D, C> {
         if let Some(e) = self.fault {
             return Err(Error::Io(e));
         }
-        let Some(message_kind) = message_kind(kind, pid, false) else {
+        let item_len = item.serialized_size() as usize;
+        let Some(message_kind) = kind_for(kind, pid, item_len) else {
             return Err(Error::Unsupported(String::new(self.config.alloc())));
         };
-        let item_len = item.serialized_size() as usize;
         let purpose = Purpose {
             log_kind: kind,
             kind: message_kind,
@@ -247,14 +247,15 @@ impl<D: Device, C: Checksum> Log<D, C> {
     }
 
     /// Completes a message: from now on it is in the log's history. Returns its place and its pointer. It takes no
-    /// memory.
+    /// memory. A ticket of the manifest of a batch isn't for it: nothing ends a batch yet, so that one is given up by `abort`.
     ///
     /// # Errors
     ///
     /// `Io` exactly where the log keeps a failure of its device. The ticket is spent all the same, and its message
     /// is not in the history.
     pub fn complete(&mut self, ticket: Reservation) -> Result<(Lsn, DiskPtr)>
-        requires { IsOpen self.old ticket }
+        requires awaited { IsOpen self.old ticket }
+        requires message { is_manifest_of ticket ≡ false }
         ensures place { IfOk result (λ at. (at.0 ≡ place_of ticket) × (at.1 ≡ pointer_of ticket)) }
         ensures history { (H : History) (m : Message) → Holds D.trace C.sum_of self.old H → Awaits self.old ticket m
             → OnOk result ((H' : History) × Step H (Completed m) H' × Holds D.trace C.sum_of self.new H') }

@@ -8,7 +8,7 @@ use case_lines::answer::Answer;
 use case_lines::lines::{Words, bytes};
 use case_lines::texts::Text;
 use sled_log::device::{MemDevice, PlaceSum};
-use sled_log::logger::{BATCH_MANIFEST_PID, DiskPtr, Log, LogKind, LogRead, PageId};
+use sled_log::logger::{DiskPtr, Log, LogKind, LogRead, PageId};
 use sled_log::reservation::{Guard, Reservation};
 use sled_log::restart::restart;
 use sled_log::result::Result;
@@ -45,6 +45,7 @@ impl Opened {
             }
             "fits_inline" => self.item(alloc, None, words, out),
             "complete" => self.complete(words.number(), out),
+            "is_manifest" => self.is_manifest(words.number(), out),
             "abort" => self.abort(words.number(), out),
             "abandon" => self.abandon(words.number(), out),
             _ => self.call_of_log(name, words, out),
@@ -149,8 +150,7 @@ impl Opened {
     fn reserve<T: Serialize>(&mut self, kind: LogKind, page: PageId, item: &T, out: &mut Answer)
         requires { T.fits (T.meaning item.now) }
     {
-        let is_manifest = kind == LogKind::Skip && page == BATCH_MANIFEST_PID;
-        if is_manifest || self.tickets.reserve(1).is_err() || !self.log.fits_inline(item) {
+        if self.tickets.reserve(1).is_err() || !self.log.fits_inline(item) {
             out.refused();
             return;
         }
@@ -191,11 +191,23 @@ impl Opened {
         Some(ticket)
     }
 
-    // Completes the message of a ticket.
+    // Completes the message of a ticket. One of a manifest is given up, since a manifest isn't completed.
     fn complete(&mut self, number: u64, out: &mut Answer) {
         match self.take_open(number) {
+            Some(ticket) if ticket.is_manifest() => {
+                ticket.abandon();
+                out.refused();
+            }
             Some(ticket) => out.placed(self.log.complete(ticket)),
             None => out.refused(),
+        }
+    }
+
+    // Whether the ticket of this number is of a manifest.
+    fn is_manifest(&self, number: u64, out: &mut Answer) {
+        match self.tickets.get(number as usize) {
+            Some(Some(ticket)) => out.text.truth(ticket.is_manifest()),
+            Some(None) | None => out.refused(),
         }
     }
 

@@ -1,5 +1,5 @@
 -- A message is completed in a segment behind the first one: it is added between those of the segments before it and those of the segments behind it, and the log holds the history with it.
-use Rattle.std.proofs.Common.{◌≡◌, ◌≤◌, ◌<◌, ◌+◌, ◌∙◌, ℕ, List, ◌∷◌, ◌++◌, length, set, Option, Some, refl, sym, ap, subst, arith, append_assoc, inl, inr}
+use Rattle.std.proofs.Common.{◌≡◌, ◌≤◌, ◌<◌, ◌+◌, ◌∙◌, ℕ, List, ◌∷◌, ◌++◌, length, set, Option, Some, refl, sym, ap, subst, arith, append_assoc, inl, inr, false}
 use Rattle.std.specs.List.{All, Contains, slice_get}
 use Rattle.std.specs.declared.io.Error.{Error as IoError}
 use Rattle.std.proofs.lemmas.List.Elements.{All-contains, Contains-append_cases}
@@ -8,6 +8,7 @@ use Rattle.sled_codec.specs.Written.{written}
 use Rattle.sled_codec.specs.History.{AddsMessage, Batch, History, Message}
 use Rattle.sled_store.specs.Device.{State}
 use Rattle.sled_store.proofs.Segments.Elements.{all_from_in}
+use Rattle.sled_core.specs.Manifests.{is_manifest}
 use Rattle.sled_core.specs.declared.iobuf.ReservationState.TheVariants.{Open, Completed}
 use Rattle.sled_core.specs.declared.iobuf.Reserved.{Reserved}
 use Rattle.sled_core.specs.declared.iobuf.Sealed.{Sealed}
@@ -33,7 +34,7 @@ four a b c d = ap (λ (l : List Message). a ++ l) (sym (append_assoc b c d)) ∙
 
 module _ (sum : List ℕ → ℕ) (size : ℕ) (site : SegmentPosition) (device : State) (fault : Option IoError) (bytes : List ℕ) (from : ℕ) (bs : List Sealed) (rs : List Reserved) (H : History)
     (pre : List SegmentParts) (s : SegmentParts) (post : List SegmentParts) (holds : HoldsIn sum (log_parts size site device fault bytes from bs rs) (pre ++ s ∷ post) H)
-    (short : length bytes ≤ size) (i : ℕ) (r : Reserved) (there : slice_get s.reserved i ≡ Some r) (is_open : r.state ≡ Open) where
+    (short : length bytes ≤ size) (i : ℕ) (r : Reserved) (there : slice_get s.reserved i ≡ Some r) (is_open : r.state ≡ Open) (none : is_manifest r.log_kind r.page ≡ false) where
   abbrev stable : ℕ
   stable = stable_place holds.begun.first.stable
 
@@ -63,7 +64,7 @@ module _ (sum : List ℕ → ℕ) (size : ℕ) (site : SegmentPosition) (device 
   -- what the segment holds then
   pub done_here : (H' : History) × AddsMessage own_history m H' × ((stays' : Message → Type 0) → ((x : Message) → x.place < s.site.place → stays' x → stays x)
       → HoldsSegment sum (log_parts size s.site device fault completed s.written_len (one_ended i s.sealed) (set s.reserved i (ended Completed r))) stays' H')
-  done_here = segment-complete sum size s.site device fault s.bytes s.written_len s.sealed s.reserved i r own_history here.segment there is_open here.behind here.are
+  done_here = segment-complete sum size s.site device fault s.bytes s.written_len s.sealed s.reserved i r own_history here.segment there is_open here.behind here.are none
 
   -- it lies in its segment,
   low : begins ≤ m.place

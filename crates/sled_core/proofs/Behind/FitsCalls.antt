@@ -1,5 +1,5 @@
 -- What is done to a segment behind the first one, each where the log fits a history: its current buffer is sealed, a place is reserved in it, it is filled to its end, and a reservation of it is aborted or completed.
-use Rattle.std.proofs.Common.{◌≡◌, ◌≤◌, ◌<◌, ◌+◌, ◌-◌, ◌/◌, ◌^◌, ℕ, max, List, [], ◌∷◌, ◌++◌, length, set, take, drop, Option, None, Some, refl, arith}
+use Rattle.std.proofs.Common.{◌≡◌, ◌≤◌, ◌<◌, ◌+◌, ◌-◌, ◌/◌, ◌^◌, ℕ, max, List, [], ◌∷◌, ◌++◌, length, set, take, drop, Option, None, Some, refl, arith, false}
 use Rattle.std.specs.List.{slice_get}
 use Rattle.std.specs.declared.io.Error.{Error as IoError}
 use Rattle.std.proofs.lemmas.List.{take-append-le}
@@ -10,6 +10,7 @@ use Rattle.sled_codec.specs.Written.{written}
 use Rattle.sled_codec.specs.declared.serialization.message.MessageKind.{MessageKind}
 use Rattle.sled_codec.specs.declared.serialization.message.MessageKind.TheVariants as kind
 use Rattle.sled_store.specs.Device.{State}
+use Rattle.sled_core.specs.Manifests.{is_manifest}
 use Rattle.sled_core.specs.declared.iobuf.ReservationState.TheVariants.{Open, Canceled, Completed}
 use Rattle.sled_core.specs.declared.iobuf.Reserved.{Reserved}
 use Rattle.sled_core.specs.declared.iobuf.Sealed.{Sealed}
@@ -79,13 +80,13 @@ module _ (sum : List ℕ → ℕ) (size : ℕ) (site : SegmentPosition) (device 
         (λ none. head_kept (sum (body_in s.bytes r ++ code_of kind.Canceled ∷ part s.bytes (r.from + 5) (r.header_len - 5))) kind.Canceled) (behind-aborted sum size site device fault bytes from bs rs H pre s post its.holds i r there is_open)
 
     -- or its message is completed.
-    pub behind-fits-completed : 256 ≤ size → (short : length bytes ≤ size) → fault ≡ None → FirstUnwritten s.sealed → 0 < pins
+    pub behind-fits-completed : (none : is_manifest r.log_kind r.page ≡ false) → 256 ≤ size → (short : length bytes ≤ size) → fault ≡ None → FirstUnwritten s.sealed → 0 < pins
         → FitsIn sum (log_parts size site device fault bytes from bs rs) (pre ++ now_with s (written s.bytes r.from (completing r)) s.written_len (one_ended i s.sealed) (set s.reserved i (ended Completed r)) ∷ post) reach pins
-        (completed_history sum size site device fault bytes from bs rs H pre s post its.holds short i r there is_open) A f (message_in s.site s.bytes r ∷ U)
-    behind-fits-completed big short whole fresh out =
+        (completed_history sum size site device fault bytes from bs rs H pre s post its.holds short i r there is_open none) A f (message_in s.site s.bytes r ∷ U)
+    behind-fits-completed none big short whole fresh out =
         let inside = here.inside in
         behind-completed sum size site device fault bytes from bs rs pins H A f U pre s post its (now_with s (written s.bytes r.from (completing r)) s.written_len (one_ended i s.sealed) (set s.reserved i (ended Completed r))) refl refl (λ none. head_kept r.sum r.kind)
-        (completed_history sum size site device fault bytes from bs rs H pre s post its.holds short i r there is_open) (message_in s.site s.bytes r) big short whole
-        (behind-complete sum size site device fault bytes from bs rs H pre s post its.holds short i r there is_open) (adds_here sum size site device fault bytes from bs rs H pre s post its.holds short i r there is_open)
+        (completed_history sum size site device fault bytes from bs rs H pre s post its.holds short i r there is_open none) (message_in s.site s.bytes r) big short whole
+        (behind-complete sum size site device fault bytes from bs rs H pre s post its.holds short i r there is_open none) (adds_here sum size site device fault bytes from bs rs H pre s post its.holds short i r there is_open none)
         (behind_written sum size s.site device fault s.bytes s.written_len s.sealed s.reserved i r own_history here.segment there)
         (let near = ends_within sum size s.site device fault s.bytes s.written_len s.sealed s.reserved i r own_history here.segment there is_open in omega (arith, near, inside)) fresh out

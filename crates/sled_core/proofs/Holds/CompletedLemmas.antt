@@ -21,7 +21,8 @@ use Rattle.sled_core.specs.Buffers.{body_in, message_in, IsChain, completed_in, 
 use Rattle.sled_core.specs.Fits.{log_parts, HoldsSegment, CloseBelow, IsOnDevice}
 use Rattle.sled_core.proofs.Reached.BufferPath.{mark_same}
 use Rattle.sled_core.proofs.Reserve.Ranges.{part-written_before, length-written, completed-same, completed-append, completed_between, chain-split, chain-joined, chain_grows, chain_within, there_split, all_split, all_joined, at_there, there-set_other, chain_apart}
-use Rattle.sled_core.proofs.Reserve.CompletesLemmas.{changes_page, body_before, same_before, body_behind, same_behind, body_own, completed_stands, canceled_stands, fits}
+use Rattle.sled_core.specs.Manifests.{is_manifest}
+use Rattle.sled_core.proofs.Reserve.CompletesLemmas.{changes_page, kind_of_message, body_before, same_before, body_behind, same_behind, body_own, completed_stands, canceled_stands, fits}
 use Rattle.sled_core.proofs.Reserve.Entries.{completed_plain, in_reserved, open_plain, reserved_in, some_long}
 use Rattle.sled_core.proofs.Holds.HoldsLemmas.{completed_open}
 use Rattle.sled_core.specs.SealedBuffers.{AreSealed, Laid, one_ended}
@@ -124,9 +125,9 @@ module _ (sum : List ℕ → ℕ) (size : ℕ) (site : SegmentPosition) (device 
       let at_r = its.text in let h = at_r.headed in let l = at_r.long in
       omega (arith, b.0, h, l)
 
-  adds : AddsMessage H (message_in site bytes r) history
-  adds = record {
-    changes = changes_page r.log_kind r.page r.kind its.text.known;
+  adds : is_manifest r.log_kind r.page ≡ false → AddsMessage H (message_in site bytes r) history
+  adds none = record {
+    changes = changes_page r.log_kind r.page r.kind (kind_of_message r.log_kind r.page r.kind its.text.known none);
     before = holds.earlier ++ completed_in site bytes xs;
     after = completed_in site bytes ys;
     old = old_messages ∙ sym (append_assoc holds.earlier (completed_in site bytes xs) (completed_in site bytes ys));
@@ -136,10 +137,10 @@ module _ (sum : List ℕ → ℕ) (size : ℕ) (site : SegmentPosition) (device 
     batches = refl;
   }
 
-  holds_completed : (bs' : List Sealed) → (fault ≡ None → Laid device.log.bytes site.slot (written bytes r.from (completing r)) from bs' size)
+  holds_completed : is_manifest r.log_kind r.page ≡ false → (bs' : List Sealed) → (fault ≡ None → Laid device.log.bytes site.slot (written bytes r.from (completing r)) from bs' size)
       → (stays' : Message → Type 0) → (fault ≡ None → IsOnDevice sum size device.log site from holds.earlier stays')
       → HoldsSegment sum (log_parts size site device fault (written bytes r.from (completing r)) from bs' (xs ++ ended Completed r ∷ ys)) stays' history
-  holds_completed bs' laid stays' on = holds_new r.sum r.kind Completed (λ same. cc) (completed_stands sum number bytes r ends its.text is_open) bs' history
+  holds_completed none bs' laid stays' on = holds_new r.sum r.kind Completed (λ same. cc) (completed_stands sum number bytes r ends its.text is_open none) bs' history
       (append_assoc holds.earlier (completed_in site bytes xs) (message_in site bytes r ∷ completed_in site bytes ys)) refl on laid
 
   -- Aborted, nothing is.
@@ -206,19 +207,19 @@ ends_within sum size site device fault bytes from bs rs i r H holds there is_ope
 
 -- The message of an open reservation is added at its place, and the segment holds that, beside messages of earlier segments of which each stayed before.
 pub segment-complete : (sum : List ℕ → ℕ) (size : ℕ) (site : SegmentPosition) (device : State) (fault : Option IoError) (bytes : List ℕ) (from : ℕ) (bs : List Sealed) (rs : List Reserved) (i : ℕ) (r : Reserved) (H : History)
-    → {stays : Message → Type 0} → HoldsSegment sum (log_parts size site device fault bytes from bs rs) stays H → slice_get rs i ≡ Some r → r.state ≡ Open → from ≤ length bytes → AreSealed from rs bs
+    → {stays : Message → Type 0} → HoldsSegment sum (log_parts size site device fault bytes from bs rs) stays H → slice_get rs i ≡ Some r → r.state ≡ Open → from ≤ length bytes → AreSealed from rs bs → is_manifest r.log_kind r.page ≡ false
     → (H' : History) × AddsMessage H (message_in site bytes r) H' × ((stays' : Message → Type 0) → ((x : Message) → x.place < site.place → stays' x → stays x)
     → HoldsSegment sum (log_parts size site device fault (written bytes r.from (completing r)) from (one_ended i bs) (set rs i (ended Completed r))) stays' H')
-segment-complete sum size site device fault bytes from bs rs i r H {stays} holds there is_open behind are =
+segment-complete sum size site device fault bytes from bs rs i r H {stays} holds there is_open behind are none =
     let xs : List Reserved = take i rs in
     let ys : List Reserved = drop (suc i) rs in
     let around : rs ≡ xs ++ r ∷ ys = there_split rs i r there in
     let holds' : HoldsSegment sum (log_parts size site device fault bytes from bs (xs ++ r ∷ ys)) stays H = subst (λ (l : List Reserved). HoldsSegment sum (log_parts size site device fault bytes from bs l) stays H) around holds in
     let set_is : set rs i (ended Completed r) ≡ xs ++ ended Completed r ∷ ys = set_split rs i (ended Completed r) (slice_get_within rs i r there) in (
       history sum size site device fault bytes from bs xs ys r H holds' is_open behind,
-      adds sum size site device fault bytes from bs xs ys r H holds' is_open behind,
+      adds sum size site device fault bytes from bs xs ys r H holds' is_open behind none,
       λ stays' fewer. subst (λ (l : List Reserved). HoldsSegment sum (log_parts size site device fault (written bytes r.from (completing r)) from (one_ended i bs) l) stays' (history sum size site device fault bytes from bs xs ys r H holds' is_open behind)) (sym set_is)
-          (holds_completed sum size site device fault bytes from bs xs ys r H holds' is_open behind (one_ended i bs)
+          (holds_completed sum size site device fault bytes from bs xs ys r H holds' is_open behind none (one_ended i bs)
           (λ ok. laid_ends sum size site device fault bytes from bs rs i r H holds there is_open are r.sum r.kind Completed refl (holds.laid ok))
           stays' (λ ok. fewer_stay sum size device.log site from holds'.earlier stays stays' fewer (holds'.written ok))),
     )

@@ -17,7 +17,8 @@ use Rattle.sled_core.specs.declared.iobuf.Sealed.{Sealed}
 use Rattle.sled_core.specs.declared.iobuf.SegmentPosition.{SegmentPosition}
 use Rattle.sled_core.specs.declared.logger.Log.{Log}
 use Rattle.sled_core.specs.declared.reservation.Reservation.{Reservation}
-use Rattle.sled_core.specs.Tickets.{index_of, len_of, place_of, pointer_of}
+use Rattle.sled_core.specs.Tickets.{index_of, len_of, place_of, pointer_of, is_manifest_of}
+use Rattle.sled_core.specs.Manifests.{is_manifest}
 use Rattle.sled_core.specs.Begun.{AreFilled, SegmentView, segment_view, view_at}
 use Rattle.sled_core.specs.Buffers.{IsChain, IsHeaded, Stands, completed_in, message_in}
 use Rattle.sled_core.specs.Fits.{Awaits, HoldBehind, HoldsLine, HoldsNext, current_of, log_parts, next_place, parts_in, reserved_end, synced_end, HoldsSegment, Holds, IsKept}
@@ -171,9 +172,13 @@ fits_acknowledged trace sum log H A f U fits = let passes = fits.parts.passes in
 
 -- the place, the pointer and the size of a ticket are those of its message
 pub awaited : {D C : Type 0} (log : Log D C) (ticket : Reservation) (m : Message) → Awaits log ticket m
-    → (pos m.place ≡ place_of ticket) × (m.pointer ≡ pointer_of ticket) × (m.size ≡ len_of ticket)
-awaited log ticket m awaits =
-    (ap (λ (x : Message). pos x.place) awaits.message ∙ sym awaits.own.place, ap (λ (x : Message). x.pointer) awaits.message ∙ sym awaits.own.pointer, ap (λ (x : Message). x.size) awaits.message ∙ sym awaits.own.long)
+    → (pos m.place ≡ place_of ticket) × (m.pointer ≡ pointer_of ticket) × (m.size ≡ len_of ticket) × (is_manifest_of ticket ≡ is_manifest m.kind m.page)
+awaited log ticket m awaits = (
+  ap (λ (x : Message). pos x.place) awaits.message ∙ sym awaits.own.place,
+  ap (λ (x : Message). x.pointer) awaits.message ∙ sym awaits.own.pointer,
+  ap (λ (x : Message). x.size) awaits.message ∙ sym awaits.own.long,
+  awaits.own.manifest ∙ ap (λ (x : Message). is_manifest x.kind x.page) (sym awaits.message),
+)
 
 -- and that pointer is inline
 pub awaited_inline : {D C : Type 0} (log : Log D C) (ticket : Reservation) (m : Message) → Awaits log ticket m → IsInline m.pointer

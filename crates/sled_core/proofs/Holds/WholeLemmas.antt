@@ -1,5 +1,5 @@
 -- What a log holds it goes on holding, where its first segment does, over the same device.
-use Rattle.std.proofs.Common.{◌≡◌, ◌≢◌, ◌≤◌, ◌<◌, ◌+◌, ◌/◌, ◌∙◌, ℕ, List, [], ◌∷◌, ◌++◌, length, set, drop, Option, Some, refl, sym, ap, subst, arith, append_assoc, inl, inr}
+use Rattle.std.proofs.Common.{◌≡◌, ◌≢◌, ◌≤◌, ◌<◌, ◌+◌, ◌/◌, ◌∙◌, ℕ, List, [], ◌∷◌, ◌++◌, length, set, drop, Option, Some, refl, sym, ap, subst, arith, append_assoc, inl, inr, false}
 use Rattle.std.specs.List.{All, slice_get}
 use Rattle.std.specs.declared.io.Error.{Error as IoError}
 use Rattle.std.proofs.lemmas.List.Elements.{All-append, All-contains, All-drop, All-set, Contains-append_cases}
@@ -7,6 +7,7 @@ use Rattle.sled_codec.specs.Snapshots.{stable_place}
 use Rattle.sled_codec.specs.Written.{written}
 use Rattle.sled_codec.specs.History.{Message, Batch, History, AddsMessage}
 use Rattle.sled_store.specs.Device.{State}
+use Rattle.sled_core.specs.Manifests.{is_manifest}
 use Rattle.sled_core.specs.declared.iobuf.ReservationState.{ReservationState}
 use Rattle.sled_core.specs.declared.iobuf.ReservationState.TheVariants.{Open, Completed, Canceled, Padding}
 use Rattle.sled_core.specs.declared.iobuf.Reserved.{Reserved}
@@ -83,14 +84,14 @@ module _ (sum : List ℕ → ℕ) (size : ℕ) (site : SegmentPosition) (device 
         (segment-aborted sum size site device fault bytes bytes' from from' bs bs' rs rs' i r of_first is_bytes is_from is_bs is_rs holds.own there is_open written_low are) holds.others
 
     -- The message of an open reservation is added at its place, in front of those of the segments behind.
-    module _ (inside : length bytes ≤ size) where
+    module _ (inside : length bytes ≤ size) (none : is_manifest r.log_kind r.page ≡ false) where
       abbrev m : Message
       m = message_in site bytes r
 
       -- what the first segment holds then
       done : (H' : History) × AddsMessage of_first m H' × ((stays' : Message → Type 0) → ((x : Message) → x.place < site.place → stays' x → StaysFrom H stable x)
           → HoldsSegment sum (log_parts size site device fault (written bytes r.from (completing r)) from (one_ended i bs) (set rs i (ended Completed r))) stays' H')
-      done = segment-complete sum size site device fault bytes from bs rs i r of_first holds.own there is_open written_low are
+      done = segment-complete sum size site device fault bytes from bs rs i r of_first holds.own there is_open written_low are none
 
       above : site.place + from ≤ m.place
       above = behind_written sum size site device fault bytes from bs rs i r of_first holds.own there

@@ -1,5 +1,5 @@
 -- One of the reservations of the n-th of a log's segments ends, whichever that is: what the log holds and fits then, and what it keeps.
-use Rattle.std.proofs.Common.{◌≡◌, ◌∙◌, ◌≤◌, ◌<◌, ◌+◌, ◌*◌, ap, sym, refl, arith, subst, ℕ, zero, suc, List, [], ◌∷◌, ◌++◌, length, take, drop, set, map, Option, None, Some}
+use Rattle.std.proofs.Common.{◌≡◌, ◌∙◌, ◌≤◌, ◌<◌, ◌+◌, ◌*◌, ap, sym, refl, arith, subst, ℕ, zero, suc, List, [], ◌∷◌, ◌++◌, length, take, drop, set, map, Option, None, Some, false}
 use Rattle.std.specs.declared.io.Error.{Error as IoError}
 use Rattle.std.specs.List.{slice_get}
 use Rattle.std.proofs.lemmas.List.Elements.{All-set}
@@ -7,6 +7,7 @@ use Rattle.sled_codec.specs.Written.{written}
 use Rattle.sled_codec.specs.History.{AddsMessage, History, Message}
 use Rattle.sled_store.specs.Device.{State}
 use Rattle.sled_store.specs.SegmentStates.{Machine}
+use Rattle.sled_core.specs.Manifests.{is_manifest}
 use Rattle.sled_core.specs.declared.iobuf.ReservationState.TheVariants.{Open, Canceled, Completed}
 use Rattle.sled_core.specs.declared.iobuf.Reserved.{Reserved}
 use Rattle.sled_core.specs.declared.iobuf.SegmentPosition.{SegmentPosition}
@@ -94,36 +95,36 @@ module _ (sum : List ℕ → ℕ) (size : ℕ) (device : State) (fault : Option 
         (behind-fits-aborted sum size w.parts.site device fault w.parts.bytes w.parts.written_len w.parts.sealed w.parts.reserved pins H A f U (map parts_in (take k ws)) v.parts (map parts_in (drop (suc k) ws)) its i r at is_open)
 
     -- It is completed: the segments hold the history with its message,
-    pub complete_holds : (line : List SegmentView) (n place : ℕ) (H : History) → slice_get line n ≡ Some v → ((k : ℕ) (x : SegmentView) → slice_get line k ≡ Some x → IsSegment size (place + k * size) x)
+    pub complete_holds : is_manifest r.log_kind r.page ≡ false → (line : List SegmentView) (n place : ℕ) (H : History) → slice_get line n ≡ Some v → ((k : ℕ) (x : SegmentView) → slice_get line k ≡ Some x → IsSegment size (place + k * size) x)
         → HoldsLine sum size device fault line H → (H' : History) × AddsMessage H m H' × HoldsLine sum size device fault (set line n completed) H'
-    complete_holds [] n place H there facts holds = cc
-    complete_holds (w ∷ ws) zero place H there facts holds =
+    complete_holds none [] n place H there facts holds = cc
+    complete_holds none (w ∷ ws) zero place H there facts holds =
         let same : w ≡ v = cc in
         let its : HoldsLine sum size device fault (v ∷ ws) H = subst (λ (x : SegmentView). HoldsLine sum size device fault (x ∷ ws) H) same holds in
         let own = facts zero v there in
-        holds-complete sum size v.parts.site device fault v.parts.bytes v.parts.written_len v.parts.sealed v.parts.reserved H its i r at is_open (written_inside v own) own.are own.short
-    complete_holds (w ∷ ws) (suc k) place H there facts holds =
+        holds-complete sum size v.parts.site device fault v.parts.bytes v.parts.written_len v.parts.sealed v.parts.reserved H its i r at is_open (written_inside v own) own.are own.short none
+    complete_holds none (w ∷ ws) (suc k) place H there facts holds =
         let its : HoldsIn sum (parts_of w) (map parts_in (take k ws) ++ v.parts ∷ map parts_in (drop (suc k) ws)) H = subst (λ (l : List SegmentParts). HoldsIn sum (parts_of w) l H) (parts_split ws k v there) holds in
         let short : length w.parts.bytes ≤ size = (facts zero w refl).short in (
-          completed_history sum size w.parts.site device fault w.parts.bytes w.parts.written_len w.parts.sealed w.parts.reserved H (map parts_in (take k ws)) v.parts (map parts_in (drop (suc k) ws)) its short i r at is_open,
-          adds_here sum size w.parts.site device fault w.parts.bytes w.parts.written_len w.parts.sealed w.parts.reserved H (map parts_in (take k ws)) v.parts (map parts_in (drop (suc k) ws)) its short i r at is_open,
-          subst (λ (l : List SegmentParts). HoldsIn sum (parts_of w) l (completed_history sum size w.parts.site device fault w.parts.bytes w.parts.written_len w.parts.sealed w.parts.reserved H (map parts_in (take k ws)) v.parts (map parts_in (drop (suc k) ws)) its short i r at is_open))
+          completed_history sum size w.parts.site device fault w.parts.bytes w.parts.written_len w.parts.sealed w.parts.reserved H (map parts_in (take k ws)) v.parts (map parts_in (drop (suc k) ws)) its short i r at is_open none,
+          adds_here sum size w.parts.site device fault w.parts.bytes w.parts.written_len w.parts.sealed w.parts.reserved H (map parts_in (take k ws)) v.parts (map parts_in (drop (suc k) ws)) its short i r at is_open none,
+          subst (λ (l : List SegmentParts). HoldsIn sum (parts_of w) l (completed_history sum size w.parts.site device fault w.parts.bytes w.parts.written_len w.parts.sealed w.parts.reserved H (map parts_in (take k ws)) v.parts (map parts_in (drop (suc k) ws)) its short i r at is_open none))
               (sym (parts_set ws k v completed there))
-              (behind-complete sum size w.parts.site device fault w.parts.bytes w.parts.written_len w.parts.sealed w.parts.reserved H (map parts_in (take k ws)) v.parts (map parts_in (drop (suc k) ws)) its short i r at is_open),
+              (behind-complete sum size w.parts.site device fault w.parts.bytes w.parts.written_len w.parts.sealed w.parts.reserved H (map parts_in (take k ws)) v.parts (map parts_in (drop (suc k) ws)) its short i r at is_open none),
         )
 
     -- and they fit it, where a pin is out.
-    pub complete_fits : (line : List SegmentView) (n place reach pins : ℕ) (H : History) (A f : ℕ) (U : List Message) → 256 ≤ size → fault ≡ None → 0 < pins → slice_get line n ≡ Some v
+    pub complete_fits : is_manifest r.log_kind r.page ≡ false → (line : List SegmentView) (n place reach pins : ℕ) (H : History) (A f : ℕ) (U : List Message) → 256 ≤ size → fault ≡ None → 0 < pins → slice_get line n ≡ Some v
         → ((k : ℕ) (x : SegmentView) → slice_get line k ≡ Some x → IsSegment size (place + k * size) x)
         → FitsLine sum size device fault line reach pins H A f U → (H' : History) × AddsMessage H m H' × FitsLine sum size device fault (set line n completed) reach pins H' A f (m ∷ U)
-    complete_fits [] n place reach pins H A f U least ok out there facts fits = cc
-    complete_fits (w ∷ ws) zero place reach pins H A f U least ok out there facts fits =
+    complete_fits none [] n place reach pins H A f U least ok out there facts fits = cc
+    complete_fits none (w ∷ ws) zero place reach pins H A f U least ok out there facts fits =
         let same : w ≡ v = cc in
         let its : FitsLine sum size device fault (v ∷ ws) reach pins H A f U = subst (λ (x : SegmentView). FitsLine sum size device fault (x ∷ ws) reach pins H A f U) same fits in
         let own = facts zero v there in
         let short = own.short in
         let first : History = record { messages = its.holds.head; batches = H.batches } in
-        let done = holds-complete sum size v.parts.site device fault v.parts.bytes v.parts.written_len v.parts.sealed v.parts.reserved H its.holds i r at is_open (written_inside v own) own.are short in
+        let done = holds-complete sum size v.parts.site device fault v.parts.bytes v.parts.written_len v.parts.sealed v.parts.reserved H its.holds i r at is_open (written_inside v own) own.are short none in
         let long : length (written v.parts.bytes r.from (completing r)) ≡ length v.parts.bytes = ended_long sum size device fault v.parts first its.holds.own i r at is_open r.sum r.kind in
         let near = ends_within sum size v.parts.site device fault v.parts.bytes v.parts.written_len v.parts.sealed v.parts.reserved i r first its.holds.own at is_open in
         let above = behind_written sum size v.parts.site device fault v.parts.bytes v.parts.written_len v.parts.sealed v.parts.reserved i r first its.holds.own at in (
@@ -132,14 +133,14 @@ module _ (sum : List ℕ → ℕ) (size : ℕ) (device : State) (fault : Option 
           fits-completed sum size v.parts.site device fault v.parts.bytes v.parts.written_len v.parts.sealed v.parts.reserved pins H A f U its _ _ _ _ done.0 m refl least (omega (arith, long, short)) ok done.2 done.1
               (of_head sum size v.parts.site device fault _ _ _ _ done.0 done.2 m (added_there H done.0 m done.1) (omega (arith, near, short))) above own.fresh own.are out,
         )
-    complete_fits (w ∷ ws) (suc k) place reach pins H A f U least ok out there facts fits =
+    complete_fits none (w ∷ ws) (suc k) place reach pins H A f U least ok out there facts fits =
         let its : FitsIn sum (parts_of w) (map parts_in (take k ws) ++ v.parts ∷ map parts_in (drop (suc k) ws)) reach pins H A f U = subst (λ (l : List SegmentParts). FitsIn sum (parts_of w) l reach pins H A f U) (parts_split ws k v there) fits in
         let short : length w.parts.bytes ≤ size = (facts zero w refl).short in
-        let now : History = completed_history sum size w.parts.site device fault w.parts.bytes w.parts.written_len w.parts.sealed w.parts.reserved H (map parts_in (take k ws)) v.parts (map parts_in (drop (suc k) ws)) its.holds short i r at is_open in (
+        let now : History = completed_history sum size w.parts.site device fault w.parts.bytes w.parts.written_len w.parts.sealed w.parts.reserved H (map parts_in (take k ws)) v.parts (map parts_in (drop (suc k) ws)) its.holds short i r at is_open none in (
           now,
-          adds_here sum size w.parts.site device fault w.parts.bytes w.parts.written_len w.parts.sealed w.parts.reserved H (map parts_in (take k ws)) v.parts (map parts_in (drop (suc k) ws)) its.holds short i r at is_open,
+          adds_here sum size w.parts.site device fault w.parts.bytes w.parts.written_len w.parts.sealed w.parts.reserved H (map parts_in (take k ws)) v.parts (map parts_in (drop (suc k) ws)) its.holds short i r at is_open none,
           subst (λ (l : List SegmentParts). FitsIn sum (parts_of w) l reach pins now A f (m ∷ U)) (sym (parts_set ws k v completed there))
-              (behind-fits-completed sum size w.parts.site device fault w.parts.bytes w.parts.written_len w.parts.sealed w.parts.reserved pins H A f U (map parts_in (take k ws)) v.parts (map parts_in (drop (suc k) ws)) its i r at is_open least short ok (facts (suc k) v there).fresh out),
+              (behind-fits-completed sum size w.parts.site device fault w.parts.bytes w.parts.written_len w.parts.sealed w.parts.reserved pins H A f U (map parts_in (take k ws)) v.parts (map parts_in (drop (suc k) ws)) its i r at is_open none least short ok (facts (suc k) v there).fresh out),
         )
 
 -- The slots are those that they were.
@@ -164,14 +165,14 @@ module _ (sum : List ℕ → ℕ) (size : ℕ) (device : State) (fault : Option 
     slots = slots_set size line device.log.bytes fault machine n v (ended_now i r (canceling sum v.parts.bytes r) Canceled v) there refl fits.slots;
   }
 
-  pub holds_completed : (H : History) → HoldsWith sum size device fault line machine H
+  pub holds_completed : is_manifest r.log_kind r.page ≡ false → (H : History) → HoldsWith sum size device fault line machine H
       → (H' : History) × AddsMessage H (message_in v.parts.site v.parts.bytes r) H' × HoldsWith sum size device fault (set line n (ended_now i r (completing r) Completed v)) machine H'
-  holds_completed H holds =
-      let done = complete_holds sum size device fault v i r at is_open line n place H there facts holds.holds in
+  holds_completed none H holds =
+      let done = complete_holds sum size device fault v i r at is_open none line n place H there facts holds.holds in
       (done.0, done.1, record { holds = done.2; slots = slots_set size line device.log.bytes fault machine n v (ended_now i r (completing r) Completed v) there refl holds.slots })
 
-  pub fits_completed : (pins : ℕ) (H : History) (A f : ℕ) (U : List Message) → 256 ≤ size → fault ≡ None → 0 < pins → FitsWith sum size device fault line machine pins H A f U
+  pub fits_completed : is_manifest r.log_kind r.page ≡ false → (pins : ℕ) (H : History) (A f : ℕ) (U : List Message) → 256 ≤ size → fault ≡ None → 0 < pins → FitsWith sum size device fault line machine pins H A f U
       → (H' : History) × AddsMessage H (message_in v.parts.site v.parts.bytes r) H' × FitsWith sum size device fault (set line n (ended_now i r (completing r) Completed v)) machine pins H' A f (message_in v.parts.site v.parts.bytes r ∷ U)
-  fits_completed pins H A f U least ok out fits =
-      let done = complete_fits sum size device fault v i r at is_open line n place fits.reach pins H A f U least ok out there facts fits.parts in
+  fits_completed none pins H A f U least ok out fits =
+      let done = complete_fits sum size device fault v i r at is_open none line n place fits.reach pins H A f U least ok out there facts fits.parts in
       (done.0, done.1, record { reach = fits.reach; parts = done.2; slots = slots_set size line device.log.bytes fault machine n v (ended_now i r (completing r) Completed v) there refl fits.slots })

@@ -2,7 +2,8 @@
 use Rattle.std.proofs.Common.{◌∷◌, [], ◌≡◌, ◌∙◌, ◌<◌, ◌≤◌, ◌+◌, ◌-◌, ◌*◌, ◌/◌, ◌^◌, ◌-ℤ◌, ap, sym, refl, arith, subst, ℕ, pos, Bool, true, false, if◌then◌else◌, List, ◌++◌, length, map, drop, Some}
 use Rattle.std.proofs.lemmas.Bool.Decides.{nat_tests}
 use Rattle.sled_codec.proofs.Segments.{length-short_header}
-use Rattle.sled_codec.specs.Kinds.{kind_written}
+use Rattle.sled_core.specs.Manifests.{is_manifest, kind_kept}
+use Rattle.sled_core.specs.Tickets.{is_manifest_of}
 use Rattle.sled_codec.specs.Spelling.{short_header_tail}
 use Rattle.sled_codec.specs.History.{Message}
 use Rattle.sled_codec.specs.declared.result.DiskPtr.TheVariants.{Inline}
@@ -169,7 +170,7 @@ module _ {D C : Type 0} (trace : D → Trace) (sum : List ℕ → ℕ) (old : Lo
 
 -- The reservation is made.
 module _ {D C : Type 0} (trace : D → Trace) (sum : List ℕ → ℕ) (old mid new : Log D C) (kept : Purpose) (head item : List ℕ) (ready : IsPrepared trace sum old mid kept head item)
-    (known : kind_written kept.log_kind kept.page false ≡ Some kept.kind) (small : kept.page < 2 ^ 64)
+    (known : kind_kept kept.log_kind kept.page ≡ Some kept.kind) (small : kept.page < 2 ^ 64)
     (line : line_of new ≡ at_last (reserved_now (placeholder_head head ++ item) (reserved_for kept (length (current_of mid).parts.bytes) (length head) (length item) (sum (item ++ drop 4 head)))) (line_of mid))
     (rest : ChangesSlots mid new) (accountant : new.accountant ≡ mid.accountant) where
   abbrev w : SegmentView
@@ -236,7 +237,7 @@ module _ {D C : Type 0} (trace : D → Trace) (sum : List ℕ → ℕ) (old mid 
       reserves_opens trace sum mid new more r line rest accountant fits ∙ (λ i. ready.tickets.opens i ++ at i ∷ [])
 
   -- The ticket is for its message.
-  module _ (ticket : Reservation) (own : IsTicketFor mid ticket r.len) where
+  module _ (ticket : Reservation) (own : IsTicketFor mid ticket r.len) (manifest : is_manifest_of ticket ≡ is_manifest kept.log_kind kept.page) where
     message_here : message_for old kept.log_kind kept.page item
         ≡ record { kind = kept.log_kind; page = kept.page; place = w.parts.site.place + length w.parts.bytes; pointer = Inline (w.parts.site.slot + length w.parts.bytes); size = here_size; bytes = item }
     message_here =
@@ -249,4 +250,4 @@ module _ {D C : Type 0} (trace : D → Trace) (sum : List ℕ → ℕ) (old mid 
         let is = message_here ∙ message_is sum (number_of mid) w.parts.bytes head item kept known small ready.tail whole w.parts.site in
         subst (λ (m : Message). Awaits new ticket m) (sym is)
         (subst (λ (l : List SegmentView). AwaitsIn l ticket (message_in w.parts.site (w.parts.bytes ++ more) r)) (sym line)
-        (ticket_reserved sum (segment_size_of mid) more r (view_at mid.site mid.buffer) (map segment_view mid.behind.items) ticket own.index (record { open_yet = refl; place = own.place; pointer = own.pointer; long = own.long })))
+        (ticket_reserved sum (segment_size_of mid) more r (view_at mid.site mid.buffer) (map segment_view mid.behind.items) ticket own.index (record { open_yet = refl; place = own.place; pointer = own.pointer; long = own.long; manifest = manifest })))

@@ -27,6 +27,7 @@ use Rattle.sled_core.specs.SealedBuffers.{Agrees}
 use Rattle.sled_core.specs.LogFile.{MessageStands, StandsHere}
 use Rattle.sled_core.specs.Reading.{StandsAt}
 use Rattle.sled_core.specs.Scan.{IsMet, IsPath}
+use Rattle.sled_core.proofs.Reserve.CompletesLemmas.{kind_of_message}
 use Rattle.sled_core.proofs.Holds.OpenTickets.{by_first}
 use Rattle.sled_core.proofs.Read.PathLemmas.{met_of, is_met}
 use Rattle.sled_core.proofs.Read.ScanLemmas.{aligned_number, aligned_offset}
@@ -113,7 +114,7 @@ module _ (sum : List ℕ → ℕ) (size : ℕ) (site : SegmentPosition) (log byt
         record {
           header = header_as (as_record r.kind stands.valid).header r.kind;
           stands = record_stands r.kind stands.valid there;
-          known = stands.known;
+          known = kind_of_message r.log_kind r.page r.kind stands.known (stands.whole is);
           short = there;
           page = refl;
         }

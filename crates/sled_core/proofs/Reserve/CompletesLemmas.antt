@@ -1,5 +1,5 @@
 -- A reservation that ends has its record, or one that is passed over, at its place, and no other one is touched.
-use Rattle.std.proofs.Common.{◌≡◌, ◌≤◌, ◌+◌, ◌-◌, inl, inr, ℕ, List, [], ◌∷◌, ◌++◌, length, take, drop, sym, ◌∙◌, ap, arith, refl, subst, false, Some}
+use Rattle.std.proofs.Common.{◌≡◌, ◌≤◌, ◌+◌, ◌-◌, inl, inr, ℕ, List, [], ◌∷◌, ◌++◌, length, take, drop, sym, ◌∙◌, ap, arith, refl, subst, Bool, false, if◌then◌else◌, Some}
 use Rattle.std.proofs.lemmas.List.{drop-drop, take-take, take_at}
 use Rattle.sled_codec.specs.Written.{written}
 use Rattle.sled_codec.specs.Places.{part}
@@ -15,10 +15,15 @@ use Rattle.sled_codec.specs.History.{ChangesPage}
 use Rattle.sled_core.specs.declared.iobuf.ReservationState.{ReservationState}
 use Rattle.sled_core.specs.declared.iobuf.ReservationState.TheVariants.{Open, Completed, Canceled}
 use Rattle.sled_core.specs.declared.iobuf.Reserved.{Reserved}
+use Rattle.sled_core.specs.Manifests.{is_manifest, kind_kept}
 use Rattle.sled_core.specs.Buffers.{text_in, body_in, text_as, placeholder, ending, completing, canceling, ended, HasText, Stands, StandsAs}
 use Rattle.sled_core.proofs.Reserve.Entries.{stands-same}
 use Rattle.sled_core.proofs.Reserve.Parts.{mid_is}
 use Rattle.sled_core.proofs.Reserve.Ranges.{part-written_before, part-written_behind, part-written_at}
+
+-- what is no manifest is written under the kind of its message
+pub kind_of_message : (does : LogKind) (page : ℕ) (k : MessageKind) → kind_kept does page ≡ Some k → is_manifest does page ≡ false → kind_written does page false ≡ Some k
+kind_of_message does page k is none = sym (ap (λ (o : Bool). if o then Some kind.BatchManifest else kind_written does page false) none) ∙ is
 
 -- a message that has a kind to be written under changes a page
 pub changes_page : (does : LogKind) (page : ℕ) (kind : MessageKind) → kind_written does page false ≡ Some kind → ChangesPage does
@@ -97,14 +102,15 @@ module _ (sum : List ℕ → ℕ) (number : ℕ) (bytes : List ℕ) (r : Reserve
         ∙ ap (λ (l : List ℕ). ending word k ++ drop 5 l) placeholder_is
         ∙ record_is sum number r.page word r.kind k body summed
 
-    ended_stands : (word : ℕ) (k : MessageKind) (state : ReservationState) → text_in (written bytes r.from (ending word k)) r ≡ text_as sum r.kind r.page number body state
+    ended_stands : (word : ℕ) (k : MessageKind) (state : ReservationState) → (state ≡ Completed → is_manifest r.log_kind r.page ≡ false) → text_in (written bytes r.from (ending word k)) r ≡ text_as sum r.kind r.page number body state
         → HasText sum number (written bytes r.from (ending word k)) (ended state r)
-    ended_stands word k state text =
+    ended_stands word k state whole text =
         let completed : List ℕ = written bytes r.from (ending word k) in
         let as_new : StandsAs sum number (text_in completed r) body (ended state r) = record {
           headed = stands.headed;
           long = stands.long;
           known = stands.known;
+          whole = whole;
           valid = stands.valid;
           page = stands.page;
           summed = stands.summed;
@@ -114,8 +120,8 @@ module _ (sum : List ℕ → ℕ) (number : ℕ) (bytes : List ℕ) (r : Reserve
         subst (λ (b : List ℕ). StandsAs sum number (text_in completed r) b (ended state r)) (sym (body_own word k)) as_new
 
     -- What stands in it once it is completed is its record.
-    pub completed_stands : HasText sum number (written bytes r.from (completing r)) (ended Completed r)
-    completed_stands = ended_stands r.sum r.kind Completed (text_own r.sum r.kind stands.summed)
+    pub completed_stands : is_manifest r.log_kind r.page ≡ false → HasText sum number (written bytes r.from (completing r)) (ended Completed r)
+    completed_stands none = ended_stands r.sum r.kind Completed (λ is. none) (text_own r.sum r.kind stands.summed)
 
     -- between its kind and its body stands what the header has there, whatever its kind
     tail_there : code_of kind.Canceled ∷ part bytes (r.from + 5) (r.header_len - 5) ≡ short_header_tail kind.Canceled (length body) number r.page
@@ -139,4 +145,4 @@ module _ (sum : List ℕ → ℕ) (number : ℕ) (bytes : List ℕ) (r : Reserve
 
     -- And once it is aborted it is one that is passed over.
     pub canceled_stands : HasText sum number (written bytes r.from (canceling sum bytes r)) (ended Canceled r)
-    canceled_stands = ended_stands (sum (body ++ code_of kind.Canceled ∷ part bytes (r.from + 5) (r.header_len - 5))) kind.Canceled Canceled text_canceled
+    canceled_stands = ended_stands (sum (body ++ code_of kind.Canceled ∷ part bytes (r.from + 5) (r.header_len - 5))) kind.Canceled Canceled (λ is. cc) text_canceled

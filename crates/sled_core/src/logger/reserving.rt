@@ -7,7 +7,8 @@ ghost use Rattle.sled_core.specs.Begun.{last_buffer};
 ghost use Rattle.sled_core.specs.Buffers.{placeholder_head, reserved_for};
 ghost use Rattle.sled_core.specs.Causes.{MakesRoom};
 ghost use Rattle.sled_core.specs.Fits.{IsLeastOpen, IsUnchanged, current_of, line_of, machine_at, open_of, segment_size_of, synced_end};
-ghost use Rattle.sled_core.specs.Tickets.{begins_batch, is_manifest_of};
+ghost use Rattle.sled_core.specs.Manifests.{is_manifest, kind_for};
+ghost use Rattle.sled_core.specs.Tickets.{is_manifest_of};
 ghost use Rattle.sled_core.specs.Turned.{ChangesLine, ChangesSlots, HasRoomIn, HasPlace, IsTicketFor, next_line, reserved_now};
 ghost use Rattle.sled_core.specs.Waiting.{at_last};
 
@@ -15,8 +16,9 @@ use crate::iobuf::Purpose;
 use crate::iobuf::record::{Head, head_of};
 use crate::logger::Log;
 use crate::reservation::Reservation;
-use sled_codec::result::{DiskPtr, Error, Result};
-use sled_codec::serialization::{Checksum, MessageKind, SegmentNumber, Serialize};
+use sled_codec::result::{DiskPtr, Error, PageId, Result};
+use sled_codec::serialization::message::{BATCH_MANIFEST_PID, message_kind};
+use sled_codec::serialization::{Checksum, LogKind, MessageKind, SegmentNumber, Serialize};
 use sled_store::Device;
 use sled_store::segment::{MAX_MSG_HEADER_LEN, SEG_HEADER_LEN};
 
@@ -95,7 +97,7 @@ impl<D: Device, C: Checksum> Log<D, C> {
             (reserved_for purpose.now (length (current_of self.old).parts.bytes) head.now.len item_len (C.sum_of (T.short (T.meaning item.now)
             ++ drop 4 (take head.now.len head.now.bytes))))) (line_of self.old) }
         ensures ticket { IsTicketFor self.old result (head.now.len + item_len) }
-        ensures manifest { is_manifest_of result ≡ begins_batch purpose.now.kind }
+        ensures manifest { is_manifest_of result ≡ is_manifest purpose.now.log_kind purpose.now.page }
         ensures reserved { self.new.reserved_to ≡ (current_of self.old).parts.site.place + length (current_of self.old).parts.bytes + head.now.len + item_len }
         ensures rest { ChangesSlots self.old self.new }
         ensures accountant { self.new.accountant ≡ self.old.accountant }
@@ -106,7 +108,7 @@ impl<D: Device, C: Checksum> Log<D, C> {
         let place = (site.place + at) as i64;
         let to = site.place + at + (head.len + item_len) as u64;
         self.lay_out(head, purpose, item, item_len, to);
-        let is_manifest = matches!(purpose.kind, MessageKind::BatchManifest);
+        let is_manifest = begins_batch(purpose.log_kind, purpose.page);
         let pointer = DiskPtr::Inline(site.slot + at);
         Reservation::new(place, pointer, index, head.len + item_len, is_manifest)
     }
@@ -143,5 +145,32 @@ impl<D: Device, C: Checksum> Log<D, C> {
                 .append(checksum, head, purpose, item, item_len);
             self.reserved_to = to;
         }
+    }
+}
+
+/// How long the item of a manifest is: it has the peg of its batch.
+const MANIFEST_LEN: usize = 8;
+
+/// Whether a message of this kind and page is the manifest of a batch.
+pub(crate) fn begins_batch(kind: LogKind, pid: PageId) -> bool
+    ensures { result ≡ is_manifest kind pid }
+{
+    match kind {
+        LogKind::Skip => pid == BATCH_MANIFEST_PID,
+        LogKind::Replace | LogKind::Link | LogKind::Free | LogKind::Corrupted => false,
+    }
+}
+
+/// The kind of the record of a message of a page with an item of this length; `None` where the page has no such message.
+pub(crate) fn kind_for(kind: LogKind, pid: PageId, item_len: usize) -> Option<MessageKind>
+    ensures { result ≡ kind_for kind pid item_len }
+{
+    if !begins_batch(kind, pid) {
+        return message_kind(kind, pid, false);
+    }
+    if item_len == MANIFEST_LEN {
+        Some(MessageKind::BatchManifest)
+    } else {
+        None
     }
 }

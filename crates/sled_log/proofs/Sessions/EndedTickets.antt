@@ -21,6 +21,7 @@ use Rattle.sled_core.specs.Causes.{FaultAnswers}
 use Rattle.sled_core.specs.Fits.{Awaits, KeepsAll, KeepsBuffers, config_of, fault_of, open_places, pins_of, reserved_end, segment_size_of}
 use Rattle.sled_core.specs.Keeps.{SamePosition}
 use Rattle.sled_core.specs.OpenPlaces.{TakesOut}
+use Rattle.sled_core.specs.Manifests.{is_manifest}
 use Rattle.sled_core.specs.Running.{Fits}
 use Rattle.sled_core.specs.Tickets.{place_of}
 use Rattle.sled_core.proofs.PublicLaws.{awaited, fits_apart}
@@ -69,13 +70,21 @@ applied_length ps does.Link page e changes known =
 applied_length ps does.Skip page e changes known = ⊎_elim (λ is. cc) (λ rest. ⊎_elim (λ is. cc) (λ is. cc) rest) changes
 applied_length ps does.Corrupted page e changes known = ⊎_elim (λ is. cc) (λ rest. ⊎_elim (λ is. cc) (λ is. cc) rest) changes
 
+-- what changes a page is no manifest
+no_manifest : (kind : LogKind) (page : ℕ) → ChangesPage kind → is_manifest kind page ≡ false
+no_manifest does.Replace page changes = refl
+no_manifest does.Free page changes = refl
+no_manifest does.Link page changes = refl
+no_manifest does.Corrupted page changes = refl
+no_manifest does.Skip page changes = ⊎_elim (λ is. cc) (λ rest. ⊎_elim (λ is. cc) (λ is. cc) rest) changes
+
 module _ {D C : Type 0} (view : D → DeviceView) (sum : List ℕ → ℕ) (old : Opened D C) (k : Unstored) (at : IsOpenAt (traces view) sum old k) (n : ℕ) (m : Message) (there : slice_get k.tickets n ≡ Some (Some m)) where
   abbrev had : IsTicketFor old k.history n m
   had = at.tickets.each n m there
 
   -- it is taken
   pub takes_it : (mid : Opened D C) (result : Option Ticket) → TakesTicket old n mid result → result ≡ Some had.ticket
-  takes_it mid result takes = takes.taken had.ticket had.there (m, had.awaits)
+  takes_it mid result takes = takes.taken had.ticket had.there ((awaited old.log had.ticket.reservation m had.awaits).3 ∙ no_manifest m.kind m.page had.may_join.changes) (m, had.awaits)
 
   module _ (mid : Opened D C) (ticket : Ticket) (takes : TakesTicket old n mid (Some ticket)) where
     same_ticket : had.ticket ≡ ticket

@@ -13,7 +13,7 @@ use Rattle.sled_codec.specs.declared.serialization.message.MessageKind.TheVarian
 use Rattle.sled_codec.specs.declared.result.Error.{Error}
 use Rattle.sled_codec.specs.declared.result.Error.TheVariants as error
 use Rattle.sled_codec.specs.History.{ChangesPage, History, Message}
-use Rattle.sled_codec.specs.Kinds.{kind_written}
+use Rattle.sled_core.specs.Manifests.{kind_for}
 use Rattle.sled_codec.specs.PageTables.{IsTable, entry_of, page_with}
 use Rattle.sled_codec.specs.Snapshots.{Free, Page, Present, Uninitialized, page_of}
 use Rattle.sled_store.specs.Accounts.{machine_of}
@@ -138,16 +138,16 @@ replace_below H pages page place table less below =
     record { message = has.message; there = found.0; of = found.1; replaces = has.replaces; below = All-contains (λ m. m.place < place) H.messages has.message below found.0 }
 
 -- a Replace, a Link and a Free are written
-kind_some : (kind : LogKind) (page : ℕ) → ChangesPage kind → kind_written kind page false ≡ None → ⊥
-kind_some does.Replace page changes none = by (page == 1) (page == 0) none where
+kind_some : (kind : LogKind) (page n : ℕ) → ChangesPage kind → kind_for kind page n ≡ None → ⊥
+kind_some does.Replace page n changes none = by (page == 1) (page == 0) none where
   by : (a b : Bool) → (if a then Some Counter else (if b then Some InlineMeta else Some InlineNode)) ≡ None → ⊥
   by true b is = cc
   by false true is = cc
   by false false is = cc
-kind_some does.Link page changes none = cc
-kind_some does.Free page changes none = cc
-kind_some does.Skip page changes none = elim changes [ inl is ↦ cc | inr (inl is) ↦ cc | inr (inr is) ↦ cc ]
-kind_some does.Corrupted page changes none = elim changes [ inl is ↦ cc | inr (inl is) ↦ cc | inr (inr is) ↦ cc ]
+kind_some does.Link page n changes none = cc
+kind_some does.Free page n changes none = cc
+kind_some does.Skip page n changes none = elim changes [ inl is ↦ cc | inr (inl is) ↦ cc | inr (inr is) ↦ cc ]
+kind_some does.Corrupted page n changes none = elim changes [ inl is ↦ cc | inr (inl is) ↦ cc | inr (inr is) ↦ cc ]
 
 -- the next place lies behind all bytes
 position_past : (size : ℕ) (v : SegmentView) (m : Machine) → length v.parts.bytes ≤ size → v.parts.site.place + length v.parts.bytes ≤ (position_in size v m).place
@@ -511,11 +511,11 @@ module _ {D C : Type 0} (view : D → DeviceView) (sum : List ℕ → ℕ) (old 
 
 reserve_failed : (size : ℕ) (a : RunState) (l : LogView) (kind : LogKind) (page : ℕ) (bytes : List ℕ) (T : Type 0) (e : Error) (new : DeviceView) (b : RunState) (used : Type 0) (open_count : ℕ) (least : ℤ → Type 0) → ChangesPage kind
     → (used → EndsInReach size (target_in size l page (length bytes)) → ⊥) → ((at : ℤ) → l.fault ≡ None → open_count ≡ most_open → least at → IsFullOfOpen l (target_in size l page (length bytes)) at)
-    → ReserveAnswers {T = T} (Err e) l.fault (kind_written kind page false) used open_count least → b ≡ a → ReserveStep size a l kind page bytes (reply.Failed e) new b
+    → ReserveAnswers {T = T} (Err e) l.fault (kind_for kind page (length bytes)) used open_count least → b ≡ a → ReserveStep size a l kind page bytes (reply.Failed e) new b
 reserve_failed s a l kind page bytes T (error.Io x) new b used n least changes out full answers leads = (answers, leads)
 reserve_failed s a l kind page bytes T error.OutOfMemory new b used n least changes out full answers leads = (answers.0, leads)
 reserve_failed s a l kind page bytes T error.PlacesUsedUp new b used n least changes out full answers leads = (answers.0, out answers.2, leads)
-reserve_failed s a l kind page bytes T (error.Unsupported text) new b used n least changes out full answers leads = absurd (kind_some kind page changes answers.1)
+reserve_failed s a l kind page bytes T (error.Unsupported text) new b used n least changes out full answers leads = absurd (kind_some kind page (length bytes) changes answers.1)
 reserve_failed s a l kind page bytes T (error.Held at) new b used n least changes out full answers leads = (full at answers.0 answers.3 answers.4, leads)
 reserve_failed s a l kind page bytes T _ new b used n least changes out full answers leads = absurd answers
 
@@ -556,7 +556,7 @@ module _ {D C : Type 0} (view : D → DeviceView) (sum : List ℕ → ℕ) (old 
 
   pub failed_tried : (T : Type 0) (e : Error) → ChangesPage kind → MayReserve (segment_size_of old.log) k.history (seen old k.tickets) kind page (length bytes)
       → ((H : History) (A f : ℕ) (U : List Message) → Fits (traces view) sum old.log H A f U → Fits (traces view) sum log H A f U) → IsUnchanged old.log log → KeepsAll old.log log
-      → ReserveAnswers {T = T} (Err e) (fault_of old.log) (kind_written kind page false) (IsUsedUpFor old.log page (length bytes)) (open_for old.log page (length bytes)) (IsLeastOpen old.log)
+      → ReserveAnswers {T = T} (Err e) (fault_of old.log) (kind_for kind page (length bytes)) (IsUsedUpFor old.log page (length bytes)) (open_for old.log page (length bytes)) (IsLeastOpen old.log)
       → HasTried view sum old kind page bytes with_new (reply.Failed e) k
   failed_tried T e changes may fits unchanged same answers =
       let size : ℕ = segment_size_of old.log in

@@ -83,7 +83,7 @@ pub(crate) fn abort<D: CrashDevice, C: Checksum>(opened: &mut Opened<D, C>, numb
     }
 }
 
-/// Takes the ticket of this number, where its reservation is open. Its page has no open ticket then.
+/// Takes the ticket of this number, where its reservation is open and of a message. Its page has no open ticket then.
 fn take_open<D: CrashDevice, C: Checksum>(
     opened: &mut Opened<D, C>,
     number: usize,
@@ -91,6 +91,10 @@ fn take_open<D: CrashDevice, C: Checksum>(
     ensures { TakesTicket opened.old number opened.new result }
 {
     let ticket = opened.tickets.get_mut(number)?.take()?;
+    if ticket.reservation.is_manifest() {
+        ticket.abandon();
+        return None;
+    }
     if !opened.log.is_open(&ticket.reservation) {
         ticket.abandon();
         return None;

@@ -29,14 +29,14 @@ returns-in-Some-clause-goes_on g c = goes_on_still g.D.Device.trace g.C.Checksum
 
 pub segment_of-n-requires : goal.segment_of-n-requires
 segment_of-n-requires g c =
-    let above = ticket_above c.args.self.now c.args.ticket c.requires.0 c.requires.1 in
+    let above = ticket_above c.args.self.now c.args.ticket c.requires.awaited.0 c.requires.awaited.1 in
     let place : c.unsigned_abs.result ≡ unsigned_abs (place_of c.args.ticket) = c.unsigned_abs.ensures.value ∙ says_place c.lsn-place.result (place_of c.args.ticket) c.lsn-place.type_inv c.lsn-place.ensures in
     omega (arith, above, place)
 
 pub complete_in-requires : goal.complete_in-requires
 complete_in-requires g c =
     let place : c.unsigned_abs.result ≡ unsigned_abs (place_of c.args.ticket) = c.unsigned_abs.ensures.value ∙ says_place c.lsn-place.result (place_of c.args.ticket) c.lsn-place.type_inv c.lsn-place.ensures in
-    ticket_open c.args.self.now c.args.ticket c.requires.0 c.requires.1 c.unsigned_abs.result c.segment_of-n.result c.index-index.result place c.segment_of-n.ensures c.index-index.ensures
+    ticket_open c.args.self.now c.args.ticket c.requires.awaited.0 c.requires.awaited.1 c.unsigned_abs.result c.segment_of-n.result c.index-index.result place c.segment_of-n.ensures c.index-index.ensures
 
 among : (g : Over) (c : goal.After-complete_in g) (m : Message) (awaits : AwaitsIn (line_of c.args.self.now) c.args.ticket m) → slice_get (line_of c.args.self.now) c.segment_of-n.result ≡ Some awaits.segment
 among g c m awaits =
@@ -59,7 +59,7 @@ returns-clause-history g c = λ H m holds awaits.
     let i : ℕ = c.index-index.result - v.gone in
     let at = among g c m awaits in
     let its = there g c m awaits in
-    let done = holds_completed g.C.Checksum.sum_of old.config.config.segment_size (state_of (g.D.Device.trace old.config.device)) old.fault (line_of old) c.segment_of-n.result v at old.site.place (nth_facts old) i r its awaits.own.open_yet (machine_of old.accountant) H holds in (
+    let done = holds_completed g.C.Checksum.sum_of old.config.config.segment_size (state_of (g.D.Device.trace old.config.device)) old.fault (line_of old) c.segment_of-n.result v at old.site.place (nth_facts old) i r its awaits.own.open_yet (machine_of old.accountant) (sym awaits.own.manifest ∙ c.requires.message) H holds in (
       done.0,
       subst (λ (x : Message). AddsMessage H x done.0) (sym awaits.message) done.1,
       holds_ended old c.complete_in.new.self c.segment_of-n.result v at i r its awaits.own.open_yet r.sum r.kind Completed (c.complete_in.ensures.line v r at its) c.complete_in.ensures.rest g.D.Device.trace g.C.Checksum.sum_of done.0 done.2,
@@ -74,7 +74,7 @@ returns-clause-fits g c = λ H A f U m fits awaits out.
     let i : ℕ = c.index-index.result - v.gone in
     let at = among g c m awaits in
     let its = there g c m awaits in
-    let done = fits_completed g.C.Checksum.sum_of old.config.config.segment_size (state_of (g.D.Device.trace old.config.device)) old.fault (line_of old) c.segment_of-n.result v at old.site.place (nth_facts old) i r its awaits.own.open_yet (machine_of old.accountant) old.pins H A f U old.config.config.least c.in_default.is out fits in (
+    let done = fits_completed g.C.Checksum.sum_of old.config.config.segment_size (state_of (g.D.Device.trace old.config.device)) old.fault (line_of old) c.segment_of-n.result v at old.site.place (nth_facts old) i r its awaits.own.open_yet (machine_of old.accountant) (sym awaits.own.manifest ∙ c.requires.message) old.pins H A f U old.config.config.least c.in_default.is out fits in (
       done.0,
       subst (λ (x : Message). AddsMessage H x done.0) (sym awaits.message) done.1,
       subst (λ (x : Message). Fits g.D.Device.trace g.C.Checksum.sum_of c.complete_in.new.self done.0 A f (x ∷ U)) (sym awaits.message)
@@ -87,18 +87,18 @@ pub returns-clause-others : goal.returns-clause-others
 unfolding Holds
 returns-clause-others g c = λ H other m holds awaits apart.
     let old = c.args.self.now in
-    let own : AwaitsIn (line_of old) c.args.ticket c.requires.0 = c.requires.1 in
-    let at = among g c c.requires.0 own in
-    let its = there g c c.requires.0 own in
+    let own : AwaitsIn (line_of old) c.args.ticket c.requires.awaited.0 = c.requires.awaited.1 in
+    let at = among g c c.requires.awaited.0 own in
+    let its = there g c c.requires.awaited.0 own in
     subst (λ (l : List SegmentView). AwaitsIn l other m) (sym (c.complete_in.ensures.line own.segment own.reserved at its))
     (others_await old.config.config.segment_size (line_of old) old.site.place c.segment_of-n.result own.segment at (nth_facts old) (c.index-index.result - own.segment.gone) own.reserved its own.own.open_yet own.reserved.sum own.reserved.kind Completed g.C.Checksum.sum_of (state_of (g.D.Device.trace old.config.device)) old.fault H holds.holds c.args.ticket other m own.own.place awaits apart)
 
 pub returns-clause-opens : goal.returns-clause-opens
 returns-clause-opens g c = λ place is.
     let old = c.args.self.now in
-    let own : AwaitsIn (line_of old) c.args.ticket c.requires.0 = c.requires.1 in
-    let at = among g c c.requires.0 own in
-    let its = there g c c.requires.0 own in
+    let own : AwaitsIn (line_of old) c.args.ticket c.requires.awaited.0 = c.requires.awaited.1 in
+    let at = among g c c.requires.awaited.0 own in
+    let its = there g c c.requires.awaited.0 own in
     let here : own.segment.parts.site.place + own.reserved.from ≡ place = sym (ap unsigned_abs (is ∙ own.own.place)) in
     subst (λ (p : ℕ). TakesOut p (open_places old) (open_places c.complete_in.new.self)) here
     (subst (λ (l : List SegmentView). TakesOut (own.segment.parts.site.place + own.reserved.from) (open_places old) (open_places_along l)) (sym (c.complete_in.ensures.line own.segment own.reserved at its))
@@ -106,30 +106,30 @@ returns-clause-opens g c = λ place is.
 
 pub returns-clause-goes_on : goal.returns-clause-goes_on
 returns-clause-goes_on g c =
-    let own : AwaitsIn (line_of c.args.self.now) c.args.ticket c.requires.0 = c.requires.1 in
-    let at = among g c c.requires.0 own in
-    let its = there g c c.requires.0 own in
+    let own : AwaitsIn (line_of c.args.self.now) c.args.ticket c.requires.awaited.0 = c.requires.awaited.1 in
+    let at = among g c c.requires.awaited.0 own in
+    let its = there g c c.requires.awaited.0 own in
     goes_on_ended c.args.self.now c.complete_in.new.self c.segment_of-n.result own.segment at (c.index-index.result - own.segment.gone) own.reserved its own.own.open_yet own.reserved.sum own.reserved.kind Completed (c.complete_in.ensures.line own.segment own.reserved at its) c.complete_in.ensures.rest g.D.Device.trace g.C.Checksum.sum_of
 
 pub returns-clause-same : goal.returns-clause-same
 returns-clause-same g c =
-    let own : AwaitsIn (line_of c.args.self.now) c.args.ticket c.requires.0 = c.requires.1 in
-    let at = among g c c.requires.0 own in
-    let its = there g c c.requires.0 own in
+    let own : AwaitsIn (line_of c.args.self.now) c.args.ticket c.requires.awaited.0 = c.requires.awaited.1 in
+    let at = among g c c.requires.awaited.0 own in
+    let its = there g c c.requires.awaited.0 own in
     keeps_ended c.args.self.now c.complete_in.new.self c.segment_of-n.result own.segment at (c.index-index.result - own.segment.gone) own.reserved its own.own.open_yet own.reserved.sum own.reserved.kind Completed (c.complete_in.ensures.line own.segment own.reserved at its) c.complete_in.ensures.rest
 
 pub returns-clause-position : goal.returns-clause-position
 returns-clause-position g c =
-    let own : AwaitsIn (line_of c.args.self.now) c.args.ticket c.requires.0 = c.requires.1 in
-    let at = among g c c.requires.0 own in
-    let its = there g c c.requires.0 own in
+    let own : AwaitsIn (line_of c.args.self.now) c.args.ticket c.requires.awaited.0 = c.requires.awaited.1 in
+    let at = among g c c.requires.awaited.0 own in
+    let its = there g c c.requires.awaited.0 own in
     position_ended c.args.self.now c.complete_in.new.self c.segment_of-n.result own.segment at (c.index-index.result - own.segment.gone) own.reserved its own.own.open_yet own.reserved.sum own.reserved.kind Completed (c.complete_in.ensures.line own.segment own.reserved at its) c.complete_in.ensures.rest
 
 pub returns-clause-buffers : goal.returns-clause-buffers
 returns-clause-buffers g c =
-    let own : AwaitsIn (line_of c.args.self.now) c.args.ticket c.requires.0 = c.requires.1 in
-    let at = among g c c.requires.0 own in
-    let its = there g c c.requires.0 own in
+    let own : AwaitsIn (line_of c.args.self.now) c.args.ticket c.requires.awaited.0 = c.requires.awaited.1 in
+    let at = among g c c.requires.awaited.0 own in
+    let its = there g c c.requires.awaited.0 own in
     ended_buffers c.args.self.now c.complete_in.new.self c.segment_of-n.result own.segment (c.index-index.result - own.segment.gone) own.reserved (completing own.reserved) Completed at (c.complete_in.ensures.line own.segment own.reserved at its)
 
 pub returns-in-Some-clause-buffers : goal.returns-in-Some-clause-buffers

@@ -1,16 +1,12 @@
 -- A record has a place in the current segment, or a further one is begun for it; then its placeholder is laid out there.
-use Rattle.std.proofs.Common.{◌≡◌, ◌∙◌, ◌<◌, ◌+◌, ◌++◌, ◌==◌, if◌then◌else◌, Bool, ap, sym, refl, arith, subst, ℕ, ℤ, List, length, take, drop, Some, None, Option, true, false, Err}
+use Rattle.std.proofs.Common.{◌≡◌, ◌∙◌, ◌<◌, ◌+◌, ◌++◌, ap, sym, refl, arith, subst, ℕ, ℤ, List, length, take, drop, Some, None, Option, true, false, Err}
 use Rattle.std.specs.Option.{IsSome}
 use Rattle.std.specs.declared.io.Error.{Error as IoError}
 use Rattle.std.proofs.lemmas.Result.{err_from_is_err_and}
-use Rattle.sled_codec.specs.Kinds.{kind_written}
 use Rattle.sled_codec.specs.Spelling.{short_header_tail}
 use Rattle.sled_codec.specs.declared.result.Error.{Error}
 use Rattle.sled_codec.specs.declared.result.Error.TheVariants as error
-use Rattle.sled_codec.specs.declared.serialization.message.LogKind.{LogKind}
-use Rattle.sled_codec.specs.declared.serialization.message.LogKind.TheVariants as does
 use Rattle.sled_codec.specs.declared.serialization.message.MessageKind.{MessageKind}
-use Rattle.sled_codec.specs.declared.serialization.message.MessageKind.TheVariants.{Counter, InlineMeta, InlineNode}
 use Rattle.sled_store.specs.Accounts.{MayHandOut, NextAnswers}
 use Rattle.sled_store.specs.Device.{Trace}
 use Rattle.sled_store.specs.SegmentStates.{handed_out}
@@ -19,15 +15,15 @@ use Rattle.sled_core.specs.Causes.{MakesRoom, ReserveAnswers}
 use Rattle.sled_core.specs.declared.iobuf.Purpose.{Purpose}
 use Rattle.sled_core.specs.declared.iobuf.record.Head.{Head}
 use Rattle.sled_core.specs.declared.logger.Log.{Log}
-use Rattle.sled_core.specs.Fits.{FitsInline, current_of, is_manifest, line_of, machine_at, open_of, segment_size_of, synced_end}
-use Rattle.sled_core.specs.Tickets.{begins_batch}
+use Rattle.sled_core.specs.Manifests.{kind_for, kind_kept}
+use Rattle.sled_core.specs.Fits.{FitsInline, current_of, line_of, machine_at, open_of, segment_size_of, synced_end}
 use Rattle.sled_core.specs.Turned.{ChangesLine, ChangesSlots, HasPlace, IsTicketFor, next_line, reserved_now}
 use Rattle.sled_core.specs.Waiting.{at_last}
 use Rattle.sled_core.proofs.Holds.KeptCalls.{kept_still}
 use Rattle.sled_core.proofs.Line.LogReserves.{record_long}
 use Rattle.sled_core.proofs.Line.Prepares.{IsPrepared, here_further, here_open, made_end, made_keeps, made_opens, made_others, made_position, made_same, made_seals, made_ticket, next_open, next_used, number_of, prepared_here, prepared_next}
 use Rattle.sled_core.proofs.Line.Unchanged.{left_alone, unchanged_keeps}
-use Rattle.sled_core.proofs.Reserve.ReserveLemmas.{head_whole}
+use Rattle.sled_core.proofs.Reserve.ReserveLemmas.{head_whole, kept_for}
 use Rattle.sled_core.proofs.logger.Log.reserve.Given as given
 use Rattle.sled_core.proofs.logger.Log.reserve.Goals.{then-has_place+in_ok-room_for, else-has_place+in_ok-begin_segment}
 use Rattle.sled_core.proofs.logger.Log.reserve.Goals as goal
@@ -109,8 +105,8 @@ next_refused (error.ReportableBug text) fault kind used may count least is none 
 pub returns-in-Some-clause-keeps : goal.returns-in-Some-clause-keeps
 returns-in-Some-clause-keeps g c = kept_still g.D.Device.trace g.C.Checksum.sum_of c.args.self.now
 
-pub returns-in_default-message_kind-clause-keeps : goal.returns-in_default-message_kind-clause-keeps
-returns-in_default-message_kind-clause-keeps g c = kept_still g.D.Device.trace g.C.Checksum.sum_of c.args.self.now
+pub returns-in_default-kind_for-clause-keeps : goal.returns-in_default-kind_for-clause-keeps
+returns-in_default-kind_for-clause-keeps g c = kept_still g.D.Device.trace g.C.Checksum.sum_of c.args.self.now
 
 pub returns-in_err-room_for-clause-keeps : goal.returns-in_err-room_for-clause-keeps
 returns-in_err-room_for-clause-keeps g c =
@@ -124,7 +120,7 @@ returns-in_err-begin_segment-clause-keeps g c = unchanged_keeps c.args.self.now 
 pub returns-in_err-room_for-clause-answers : goal.returns-in_err-room_for-clause-answers
 returns-in_err-room_for-clause-answers g c =
     let item : List ℕ = g.T.Serialize.short (g.T.Serialize.meaning c.args.item.now) in
-    let kept : Purpose = record { log_kind = c.args.kind; kind = c.in-Some-message_kind.message_kind; page = c.args.pid } in
+    let kept : Purpose = record { log_kind = c.args.kind; kind = c.in-Some-kind_for.message_kind; page = c.args.pid } in
     let old = c.args.self.now in
     let h = c.head_for-head.result in
     let k : ℕ = c.serialized_size-item_len.result in
@@ -132,7 +128,7 @@ returns-in_err-room_for-clause-answers g c =
     let is : IsHeadOf h kept k (number_of old) = record { bytes = c.head_for-head.ensures.bytes; len = c.head_for-head.ensures.len } in
     let t = tail g.D.Device.trace g.C.Checksum.sum_of old c.room_for.new.self kept h item k counted is in
     let has = inside g.D.Device.trace g.C.Checksum.sum_of old c.room_for.new.self kept h item k counted is (c.if-has_place.ensures.0 refl) in
-    let known : kind_written c.args.kind c.args.pid false ≡ Some c.in-Some-message_kind.message_kind = sym c.message_kind.ensures ∙ c.in-Some-message_kind.is in
+    let known : kind_for c.args.kind c.args.pid (length item) ≡ Some c.in-Some-kind_for.message_kind = sym (c.kind_for.ensures ∙ ap (kind_for c.args.kind c.args.pid) counted) ∙ c.in-Some-kind_for.is in
     let e = err_from_is_err_and c.from_residual.result c.from_residual.ensures.1 in
     rw (e.1, e.2) (room_refused c.in_err-room_for.field-0.0 _ _ _ _ _ _ c.in_err-room_for.ensures.answers c.in_default.is (subst IsSome (sym known) refl)
     (here_further g.D.Device.trace g.C.Checksum.sum_of old c.room_for.new.self kept (text_of h) item t has) (here_open g.D.Device.trace g.C.Checksum.sum_of old c.room_for.new.self kept (text_of h) item t has))
@@ -140,13 +136,13 @@ returns-in_err-room_for-clause-answers g c =
 pub returns-in_err-begin_segment-clause-answers : goal.returns-in_err-begin_segment-clause-answers
 returns-in_err-begin_segment-clause-answers g c =
     let item : List ℕ = g.T.Serialize.short (g.T.Serialize.meaning c.args.item.now) in
-    let kept : Purpose = record { log_kind = c.args.kind; kind = c.in-Some-message_kind.message_kind; page = c.args.pid } in
+    let kept : Purpose = record { log_kind = c.args.kind; kind = c.in-Some-kind_for.message_kind; page = c.args.pid } in
     let old = c.args.self.now in
     let h = c.head_for-head.result in
     let k : ℕ = c.serialized_size-item_len.result in
     let long = record_long kept.kind h.len k (number_of old) kept.page (length item) c.head_for-head.ensures.len c.serialized_size-item_len.ensures in
     let not : HasPlace old (h.len + k) → ⊥ = λ has. let bad : false ≡ true = c.if-has_place.ensures.1 has in cc in
-    let known : kind_written c.args.kind c.args.pid false ≡ Some c.in-Some-message_kind.message_kind = sym c.message_kind.ensures ∙ c.in-Some-message_kind.is in
+    let known : kind_for c.args.kind c.args.pid (length item) ≡ Some c.in-Some-kind_for.message_kind = sym (c.kind_for.ensures ∙ ap (kind_for c.args.kind c.args.pid) c.serialized_size-item_len.ensures) ∙ c.in-Some-kind_for.is in
     let e = err_from_is_err_and c.from_residual-in_err-begin_segment.result c.from_residual-in_err-begin_segment.ensures.1 in
     rw (e.1, e.2) (next_refused c.in_err-begin_segment.field-0.0 _ _ _ _ _ _ c.in_err-begin_segment.ensures.answers c.in_default.is (subst IsSome (sym known) refl)
     (next_used g.D.Device.trace g.C.Checksum.sum_of old kept item c.requires.inline (h.len + k) long not) (next_open g.D.Device.trace g.C.Checksum.sum_of old kept item c.requires.inline (h.len + k) long not))
@@ -154,7 +150,7 @@ returns-in_err-begin_segment-clause-answers g c =
 pub append-requires-clause-place : goal.append-requires-clause-place
 append-requires-clause-place g c =
     let item : List ℕ = g.T.Serialize.short (g.T.Serialize.meaning c.args.item.now) in
-    let kept : Purpose = record { log_kind = c.args.kind; kind = c.in-Some-message_kind.message_kind; page = c.args.pid } in
+    let kept : Purpose = record { log_kind = c.args.kind; kind = c.in-Some-kind_for.message_kind; page = c.args.pid } in
     let old = c.args.self.now in
     let h = c.head_for-head.result in
     let k : ℕ = c.serialized_size-item_len.result in
@@ -180,12 +176,12 @@ abbrev its_item : (g : given.Over) → goal.After-append g → List ℕ
 its_item g c = g.T.Serialize.short (g.T.Serialize.meaning c.args.item.now)
 
 abbrev its_kept : (g : given.Over) → goal.After-append g → Purpose
-its_kept g c = record { log_kind = c.args.kind; kind = c.in-Some-message_kind.message_kind; page = c.args.pid }
+its_kept g c = record { log_kind = c.args.kind; kind = c.in-Some-kind_for.message_kind; page = c.args.pid }
 
 is_ready : (g : given.Over) (c : goal.After-append g) → IsReady g.D.Device.trace g.C.Checksum.sum_of c.args.self.now c.if-has_place.self (its_kept g c) c.if-has_place.head (its_item g c)
 is_ready g c =
     let item : List ℕ = g.T.Serialize.short (g.T.Serialize.meaning c.args.item.now) in
-    let kept : Purpose = record { log_kind = c.args.kind; kind = c.in-Some-message_kind.message_kind; page = c.args.pid } in
+    let kept : Purpose = record { log_kind = c.args.kind; kind = c.in-Some-kind_for.message_kind; page = c.args.pid } in
     let old = c.args.self.now in
     let h = c.head_for-head.result in
     let k : ℕ = c.serialized_size-item_len.result in
@@ -204,8 +200,11 @@ is_ready g c =
           (ready_next g.D.Device.trace g.C.Checksum.sum_of old w.begin_segment.new.self kept h item k counted first c.requires.inline not next.result (record { bytes = next.ensures.bytes; len = next.ensures.len }) did.line did.machine did.rest did.answers)))
     ]
 
-its_known : (g : given.Over) (c : goal.After-append g) → kind_written c.args.kind c.args.pid false ≡ Some c.in-Some-message_kind.message_kind
-its_known g c = sym c.message_kind.ensures ∙ c.in-Some-message_kind.is
+its_kind : (g : given.Over) (c : goal.After-append g) → kind_for c.args.kind c.args.pid (length (its_item g c)) ≡ Some c.in-Some-kind_for.message_kind
+its_kind g c = sym (c.kind_for.ensures ∙ ap (kind_for c.args.kind c.args.pid) c.serialized_size-item_len.ensures) ∙ c.in-Some-kind_for.is
+
+its_known : (g : given.Over) (c : goal.After-append g) → kind_kept c.args.kind c.args.pid ≡ Some c.in-Some-kind_for.message_kind
+its_known g c = kept_for c.args.kind c.args.pid (length (its_item g c)) c.in-Some-kind_for.message_kind (its_kind g c)
 
 its_line : (g : given.Over) (c : goal.After-append g)
     → line_of c.append.new.self ≡ at_last (reserved_now (placeholder_head (text_of c.if-has_place.head) ++ its_item g c) (reserved_for (its_kept g c) (length (current_of c.if-has_place.self).parts.bytes) (length (text_of c.if-has_place.head)) (length (its_item g c))
@@ -225,29 +224,10 @@ its_ticket g c =
     subst (IsTicketFor c.if-has_place.self c.append.result) (λ i. long i + counted i) c.append.ensures.ticket
 
 pub returns-clause-ticket : goal.returns-clause-ticket
-returns-clause-ticket g c = made_ticket g.D.Device.trace g.C.Checksum.sum_of c.args.self.now c.if-has_place.self c.append.new.self (its_kept g c) (text_of c.if-has_place.head) (its_item g c) (is_ready g c).prepared (its_known g c) c.ranges.pid.fits (its_line g c) c.append.ensures.rest c.append.ensures.accountant c.append.result (its_ticket g c)
-
--- No kind is that of a manifest yet.
-none_begins : (kind : LogKind) (page : ℕ) (k : MessageKind) → kind_written kind page false ≡ Some k → begins_batch k ≡ is_manifest kind page
-none_begins kind page k is = sym (ap begins is) ∙ by kind is where
-  begins : Option MessageKind → Bool
-  begins None = false
-  begins (Some k) = begins_batch k
-
-  of_page : (one none : Bool) → begins (if one then Some Counter else if none then Some InlineMeta else Some InlineNode) ≡ false
-  of_page true none = refl
-  of_page false true = refl
-  of_page false false = refl
-
-  by : (x : LogKind) → kind_written x page false ≡ Some k → begins (kind_written x page false) ≡ is_manifest x page
-  by does.Replace is = of_page (page == 1) (page == 0)
-  by does.Link is = refl
-  by does.Free is = refl
-  by does.Skip is = cc
-  by does.Corrupted is = refl
+returns-clause-ticket g c = made_ticket g.D.Device.trace g.C.Checksum.sum_of c.args.self.now c.if-has_place.self c.append.new.self (its_kept g c) (text_of c.if-has_place.head) (its_item g c) (is_ready g c).prepared (its_known g c) c.ranges.pid.fits (its_line g c) c.append.ensures.rest c.append.ensures.accountant c.append.result (its_ticket g c) c.append.ensures.manifest
 
 pub returns-clause-manifest : goal.returns-clause-manifest
-returns-clause-manifest g c = c.append.ensures.manifest ∙ none_begins c.args.kind c.args.pid c.in-Some-message_kind.message_kind (its_known g c)
+returns-clause-manifest g c = c.append.ensures.manifest
 
 pub returns-clause-position : goal.returns-clause-position
 returns-clause-position g c = made_position g.D.Device.trace g.C.Checksum.sum_of c.args.self.now c.if-has_place.self c.append.new.self (its_kept g c) (text_of c.if-has_place.head) (its_item g c) (is_ready g c).prepared (its_known g c) c.ranges.pid.fits (its_line g c) c.append.ensures.rest c.append.ensures.accountant
@@ -275,4 +255,4 @@ pub returns-clause-same : goal.returns-clause-same
 returns-clause-same g c = made_same g.D.Device.trace g.C.Checksum.sum_of c.args.self.now c.if-has_place.self c.append.new.self (its_kept g c) (text_of c.if-has_place.head) (its_item g c) (is_ready g c).prepared (its_known g c) c.ranges.pid.fits (its_line g c) c.append.ensures.rest c.append.ensures.accountant
 
 pub returns-clause-answers : goal.returns-clause-answers
-returns-clause-answers g c = (c.in_default.is, subst IsSome (sym (its_known g c)) refl, (is_ready g c).prepared.further, (is_ready g c).prepared.few)
+returns-clause-answers g c = (c.in_default.is, subst IsSome (sym (its_kind g c)) refl, (is_ready g c).prepared.further, (is_ready g c).prepared.few)
