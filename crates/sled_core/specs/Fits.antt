@@ -19,7 +19,7 @@ use Rattle.sled_core.specs.declared.reservation.Reservation.{Reservation}
 use Rattle.sled_core.specs.declared.logger.Log.{Log}
 use Rattle.sled_store.specs.declared.config.RunningConfig.{RunningConfig}
 use Rattle.sled_core.specs.Begun.{SegmentParts, SegmentView, begin_of, line_at, segment_view, view_at}
-use Rattle.sled_core.specs.Buffers.{Stands, IsChain, completed_in, message_in, none_open, open_in, first_open_in}
+use Rattle.sled_core.specs.Buffers.{Stands, IsChain, batches_in, completed_in, message_in, none_open, open_in, first_open_in}
 use Rattle.sled_core.specs.FreeSlots.{HasSlots}
 use Rattle.sled_core.specs.LogFile.{IsLogFile, StaysBelow, StaysFrom}
 use Rattle.sled_core.specs.OpenPlaces.{open_places_along}
@@ -241,6 +241,11 @@ EndBelow place = All (λ m. (m.place < place) × (m.place + m.size ≤ place))
 abbrev pub CloseBelow : ℕ → List Batch → Type 0
 CloseBelow place = All (λ b. (b.low < place) × (b.peg < place))
 
+-- Of the batches of a history these begin behind what is written of a segment that lies there, and no others.
+pub record HasBatches (size : ℕ) (site : SegmentPosition) (from : ℕ) (own bs : List Batch) : Type 0 where
+  pub noted : (b : Batch) → Contains own b → Contains bs b
+  pub begun : (b : Batch) → Contains bs b → Contains own b ⊎ (b.low < site.place + from) ⊎ (site.place + size ≤ b.low)
+
 -- The bytes of a segment begin with its header. Its mark lies below the segment, and in no batch of the history.
 pub record HasMark (sum : List ℕ → ℕ) (site : SegmentPosition) (bytes : List ℕ) (H : History) : Type 0 where
   pub mark : ℤ
@@ -255,6 +260,7 @@ pub record HoldsSegment (sum : List ℕ → ℕ) (parts : LogParts) (stays : Mes
   pub below : EndBelow (parts.site.place + parts.written_len) earlier
   pub apart : LieApart earlier
   pub batches : CloseBelow (parts.site.place + parts.written_len) H.batches
+  pub batched : HasBatches parts.size parts.site parts.written_len (batches_in parts.site parts.bytes parts.reserved) H.batches
   pub place_begins : parts.site.place % parts.size ≡ 0
   pub slot_begins : parts.site.slot % parts.size ≡ 0
   pub header : parts.written_len ≡ 0 → HasMark sum parts.site parts.bytes H

@@ -12,7 +12,7 @@ use Rattle.sled_core.specs.OpenBatches.{stable_below}
 use Rattle.sled_core.specs.declared.iobuf.Reserved.{Reserved}
 use Rattle.sled_core.specs.declared.iobuf.Sealed.{Sealed}
 use Rattle.sled_core.specs.declared.iobuf.SegmentPosition.{SegmentPosition}
-use Rattle.sled_core.specs.Buffers.{IsChain, NoPadding, Stands, completed_in, records_end, records_of}
+use Rattle.sled_core.specs.Buffers.{IsChain, NoPadding, Stands, batches_in, completed_in, records_end, records_of}
 use Rattle.sled_core.specs.Fits.{CloseBelow, HasMark}
 use Rattle.sled_core.specs.LogFile.{HasHeader, padded}
 use Rattle.sled_core.specs.Reached.{BegunSegment, StandsAmong}
@@ -94,7 +94,7 @@ module _ (sum : List ℕ → ℕ) (none : NoHeaderOfZeros sum) (size : ℕ) (som
   left_over : from < size
   left_over = let reaches = run.reaches in omega (arith, reaches, rise.0)
 
-  module _ (has : HasOnly H (completed_in site bytes done) (site.place + max 20 from) (site.place + stop)) where
+  module _ (has : HasOnly H (completed_in site bytes done) (batches_in site bytes done) (site.place + max 20 from) (site.place + stop)) where
     -- What a crash leaves of it.
     pub torn_head_any : (now left : List ℕ) → length now ≤ length asked → LeavesLog (after_write file (site.slot + from) asked now) left → {placed : List (ℕ × List ℕ)}
         → NoForeignLog sum size (after_write file (site.slot + from) asked now) placed left → StandsTo sum size left H (stable_below reach H.batches) first reach
@@ -135,7 +135,7 @@ pub first_full : (sum : List ℕ → ℕ) (size : ℕ) (some : 256 ≤ size) (ol
     (bytes : List ℕ) (from : ℕ) (begins : (from ≡ 0) ⊎ (20 ≤ from)) (rs : List Reserved) (b : Sealed) (rest : List Sealed) (fresh : b.is_written ≡ false) (closed : b.open_count ≡ 0) (are : AreSealed from rs (b ∷ rest)) (rise : EndsRise from (b ∷ rest) size) (inside : b.end ≤ length bytes)
     {H : History} (header : from ≡ 0 → HasMark sum site bytes H)
     (old_header : 0 < from → HasHeader sum old site) (laid : Laid old site.slot bytes from (b ∷ rest) size)
-    → All (Stands sum size (site.place / size) bytes) rs → NoHeaderOfZeros sum → (reach : ℕ) (first : SnapshotModel) → HasOnly H (completed_in site bytes (take (b.count + run_count rest) rs)) (site.place + max 20 from) (site.place + run_end b.end rest)
+    → All (Stands sum size (site.place / size) bytes) rs → NoHeaderOfZeros sum → (reach : ℕ) (first : SnapshotModel) → HasOnly H (completed_in site bytes (take (b.count + run_count rest) rs)) (batches_in site bytes (take (b.count + run_count rest) rs)) (site.place + max 20 from) (site.place + run_end b.end rest)
     → Ascends H.messages → least_place size first ≤ site.place → CloseBelow (site.place + from) H.batches → run_end b.end rest ≡ size
     → (to : ℕ) → site.slot ≤ to → {others : List BegunSegment} → StandsAmong sum size (padded to old) site from others reach H first
     → StandsFull sum size (padded to (overwritten old (site.slot + from) (bytes_between bytes from b.end))) (site.place + size) others (site.place + records_end (take (b.count + run_count rest) rs) (run_end b.end rest)) H first

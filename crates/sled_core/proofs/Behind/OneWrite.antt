@@ -4,7 +4,7 @@ use Rattle.std.specs.List.{Contains}
 use Rattle.std.specs.declared.io.Error.{Error as IoError}
 use Rattle.std.proofs.lemmas.Bool.{cases_lt}
 use Rattle.std.proofs.lemmas.List.Elements.{All-drop, Contains-append_left, Contains-append_right}
-use Rattle.sled_codec.specs.History.{History, Message}
+use Rattle.sled_codec.specs.History.{Batch, History, Message}
 use Rattle.sled_codec.specs.Snapshots.{SnapshotModel}
 use Rattle.sled_store.specs.Device.{State, LeavesLog, overwritten}
 use Rattle.sled_store.specs.Foreign.{NoForeignLog}
@@ -13,7 +13,7 @@ use Rattle.sled_core.specs.OpenBatches.{stable_below}
 use Rattle.sled_core.specs.declared.iobuf.Reserved.{Reserved}
 use Rattle.sled_core.specs.declared.iobuf.Sealed.{Sealed}
 use Rattle.sled_core.specs.declared.iobuf.SegmentPosition.{SegmentPosition}
-use Rattle.sled_core.specs.Buffers.{IsChain, completed_in}
+use Rattle.sled_core.specs.Buffers.{IsChain, batches_in, completed_in}
 use Rattle.sled_core.specs.Begun.{SegmentParts}
 use Rattle.sled_core.specs.Fits.{HasMark, HoldsIn, HoldsNext, begun_segment, log_parts}
 use Rattle.sled_core.specs.LogFile.{padded}
@@ -103,8 +103,8 @@ module _ (sum : List ℕ → ℕ) (size : ℕ) (site : SegmentPosition) (device 
   laid_in to = laid_same s.site.slot old (padded to old) s.bytes s.written_len s.sealed size rise_size (record { grows = omega (arith, length-padded to old); same = λ i above below. padded_get to old (s.site.slot + i) }) (here.segment.laid whole)
 
   -- Of the history these are all that begins in a part of the segment.
-  own_only : (ms : List Message) (low high : ℕ) → s.site.place ≤ low → high ≤ s.site.place + size → HasOnly own_history ms low high → HasOnly H ms low high
-  own_only ms low high above inside only = record {
+  own_only : (ms : List Message) (bs : List Batch) (low high : ℕ) → s.site.place ≤ low → high ≤ s.site.place + size → HasOnly own_history ms bs low high → HasOnly H ms bs low high
+  own_only ms bs low high above inside only = record {
     there = λ m its. subst (λ (l : List Message). Contains l m) (sym holds.messages)
         (Contains-append_right holds.head holds.later m (subst (λ (l : List Message). Contains l m) (sym parts.messages) (Contains-append_right parts.before (parts.own ++ parts.after) m (Contains-append_left parts.own parts.after m (only.there m its)))));
     only = λ m among. elim (cases_lt m.place low) [
@@ -114,7 +114,8 @@ module _ (sum : List ℕ → ℕ) (size : ℕ) (site : SegmentPosition) (device 
         | inr past ↦ inr (inr past)
       ]
     ];
-    no_batch = only.no_batch;
+    noted = only.noted;
+    begun = only.begun;
   }
 
   -- At these buffers.
@@ -145,17 +146,17 @@ module _ (sum : List ℕ → ℕ) (size : ℕ) (site : SegmentPosition) (device 
     reaches = let agrees = has_written old s.site.slot s.bytes s.written_len front b rest size rise_split lies.2 in let in_file = agrees.in_file in omega (arith, in_file)
 
   -- Of the first one: it is all of the history that begins in what is written then.
-  has_first : s.sealed ≡ b ∷ rest → HasOnly H (completed_in s.site s.bytes (take (b.count + run_count rest) s.reserved)) (s.site.place + max 20 s.written_len) (s.site.place + run_end b.end rest)
+  has_first : s.sealed ≡ b ∷ rest → HasOnly H (completed_in s.site s.bytes (take (b.count + run_count rest) s.reserved)) (batches_in s.site s.bytes (take (b.count + run_count rest) s.reserved)) (s.site.place + max 20 s.written_len) (s.site.place + run_end b.end rest)
   has_first split =
       let are = are_split [] split in
       let count : ℕ = b.count + run_count rest in
       let chain : IsChain (run_end b.end rest) (drop count s.reserved) (length s.bytes) =
       chain_rest (max 20 s.written_len) (length s.bytes) s.reserved count (run_end b.end rest) here.segment.chain (chain_done s.written_len s.reserved b rest closed are) in
       let low = run_below b.end rest size (rise_split [] split).1 in
-      own_only (completed_in s.site s.bytes (take count s.reserved)) (s.site.place + max 20 s.written_len) (s.site.place + run_end b.end rest) (omega arith) (omega (arith, low))
+      own_only (completed_in s.site s.bytes (take count s.reserved)) (batches_in s.site s.bytes (take count s.reserved)) (s.site.place + max 20 s.written_len) (s.site.place + run_end b.end rest) (omega arith) (omega (arith, low))
       (front_only s.site s.bytes own_history s.reserved count (s.site.place + max 20 s.written_len) (run_end b.end rest) (length s.bytes) chain
       (All-drop (λ (r : Reserved). 0 < r.len) count s.reserved (some_long sum size (s.site.place / size) s.bytes s.reserved here.segment.stand))
-      (has_only sum size s.site device fault s.bytes s.written_len s.sealed s.reserved own_history here.segment))
+      (has_only sum size s.site device fault s.bytes s.written_len s.sealed s.reserved own_history here.segment here.inside))
 
   -- What a crash leaves of the write.
   pub torn_one : (front : List Sealed) → s.sealed ≡ front ++ b ∷ rest → NoHeaderOfZeros sum → (reach : ℕ) (first : SnapshotModel) → StandsAmong sum size old site from (before ++ y ∷ after) reach H first → (now left : List ℕ) → length now ≤ length (asked front)

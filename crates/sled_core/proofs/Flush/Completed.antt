@@ -8,14 +8,14 @@ use Rattle.sled_codec.specs.History.{Message, Batch, History}
 use Rattle.sled_codec.specs.WellFormed.{LieApart}
 use Rattle.sled_store.specs.Device.{State}
 use Rattle.sled_store.proofs.Histories.Ascending.{Ascends, apart_ascends}
-use Rattle.sled_core.specs.declared.iobuf.ReservationState.TheVariants.{Open, Completed, Canceled, Padding}
+use Rattle.sled_core.specs.declared.iobuf.ReservationState.TheVariants.{Open, Completed, Canceled, Manifest, Padding}
 use Rattle.sled_core.specs.declared.iobuf.Reserved.{Reserved}
 use Rattle.sled_core.specs.declared.iobuf.Sealed.{Sealed}
 use Rattle.sled_core.specs.declared.iobuf.SegmentPosition.{SegmentPosition}
-use Rattle.sled_core.specs.Buffers.{IsChain, completed_in, message_in, with_own}
+use Rattle.sled_core.specs.Buffers.{IsChain, batches_in, completed_in, message_in, with_own}
 use Rattle.sled_core.specs.Fits.{log_parts, HoldsSegment, EndBelow, CloseBelow, HasInline}
 use Rattle.sled_core.proofs.Reached.BufferPath.{HasOnly}
-use Rattle.sled_core.proofs.Reserve.Ranges.{all_own, chain_grows, completed_between, completed-append}
+use Rattle.sled_core.proofs.Reserve.Ranges.{all_own, batches-append, batches_between, chain_grows, completed_between, completed-append}
 use Rattle.sled_core.proofs.Reserve.Entries.{some_long}
 use Rattle.sled_core.proofs.Flush.Settled.{InlineFrom}
 
@@ -37,7 +37,7 @@ completed_apart site bytes from end (r ∷ rs) is some =
     let rest : LieApart (completed_in site bytes rs) = completed_apart site bytes (from + r.len) end rs is.1 (All-tail (λ x. 0 < x.len) r rs some) in
     let over : All (λ n. site.place + r.from + r.len ≤ n.place) (completed_in site bytes rs) = λ k d lt. let b = later k d lt in omega (arith, b.0, here) in
     elim r.state as (λ s. LieApart (with_own s (message_in site bytes r) (completed_in site bytes rs)))
-    [ Open ↦ rest | Completed ↦ (long, over, rest) | Canceled ↦ rest | Padding ↦ rest ]
+    [ Open ↦ rest | Completed ↦ (long, over, rest) | Canceled ↦ rest | Manifest ↦ rest | Padding ↦ rest ]
 
 -- and has its items in its records
 completed_inline : (site : SegmentPosition) (bytes : List ℕ) (rs : List Reserved) → All HasInline (completed_in site bytes rs)
@@ -91,19 +91,17 @@ module _ (sum : List ℕ → ℕ) (size : ℕ) (site : SegmentPosition) (device 
     | inr late ↦ All-contains HasInline done m (completed_inline site bytes rs) late
   ]
 
-  -- Of the history they are all that begins in the buffer.
-  pub has_only : HasOnly H done (site.place + max 20 from) (site.place + length bytes)
-  has_only = record {
+  -- Of the history they, and the batches of the manifests that have ended, are all that begins in the buffer.
+  pub has_only : length bytes ≤ size → HasOnly H done (batches_in site bytes rs) (site.place + max 20 from) (site.place + length bytes)
+  has_only inside = record {
     there = λ m late. subst (λ (ms : List Message). Contains ms m) (sym holds.messages) (Contains-append_right holds.earlier done m late);
     only = λ m there. elim (which m there) [
       | inl early ↦ (let b = below_in m early in inr (inl (omega (arith, b.0))))
       | inr late ↦ inl late
     ];
-    no_batch = λ b there. (let closed = batch_below b there in inl (omega (arith, closed.0)));
+    noted = holds.batched.noted;
+    begun = λ b there. elim (holds.batched.begun b there) [ inl among ↦ inl among | inr (inl before) ↦ inr (inl (omega (arith, before))) | inr (inr after) ↦ inr (inr (omega (arith, after, inside))) ];
   }
-    where
-      batch_below : (b : Batch) → Contains H.batches b → (b.low < site.place + from) × (b.peg < site.place + from)
-      batch_below b there = All-contains (λ x. (x.low < site.place + from) × (x.peg < site.place + from)) H.batches b holds.batches there
 
   -- Batches end below what was written, and so below each place from there on.
   pub batches_to : (place : ℕ) → site.place + from ≤ place → CloseBelow place H.batches
@@ -111,13 +109,16 @@ module _ (sum : List ℕ → ℕ) (size : ℕ) (site : SegmentPosition) (device 
 
 -- Of what begins in a buffer the messages of the reservations at its front are all that begins in their part of it.
 pub front_only : (site : SegmentPosition) (bytes : List ℕ) (H : History) (rs : List Reserved) (n low stop end : ℕ) → IsChain stop (drop n rs) end → All (λ r. 0 < r.len) (drop n rs)
-    → HasOnly H (completed_in site bytes rs) low (site.place + end) → HasOnly H (completed_in site bytes (take n rs)) low (site.place + stop)
+    → HasOnly H (completed_in site bytes rs) (batches_in site bytes rs) low (site.place + end) → HasOnly H (completed_in site bytes (take n rs)) (batches_in site bytes (take n rs)) low (site.place + stop)
 front_only site bytes H rs n low stop end chain some all =
     let far = chain_grows stop end (drop n rs) chain in
     let mine : List Message = completed_in site bytes (take n rs) in
     let others : List Message = completed_in site bytes (drop n rs) in
     let parts : completed_in site bytes rs ≡ mine ++ others = ap (λ (l : List Reserved). completed_in site bytes l) (sym (take-append-drop n rs)) ∙ completed-append site bytes (take n rs) (drop n rs) in
     let behind = completed_between site bytes stop end (drop n rs) chain some in
+    let my_batches : List Batch = batches_in site bytes (take n rs) in
+    let other_batches : List Batch = batches_in site bytes (drop n rs) in
+    let batch_parts : batches_in site bytes rs ≡ my_batches ++ other_batches = ap (λ (l : List Reserved). batches_in site bytes l) (sym (take-append-drop n rs)) ∙ batches-append site bytes (take n rs) (drop n rs) in
     record {
       there = λ m among. all.there m (subst (λ (ms : List Message). Contains ms m) (sym parts) (Contains-append_left mine others m among));
       only = λ m among. elim (all.only m among) [
@@ -128,5 +129,13 @@ front_only site bytes H rs n low stop end chain some all =
         | inr (inl before) ↦ inr (inl before)
         | inr (inr after) ↦ inr (inr (omega (arith, after, far)))
       ];
-      no_batch = λ c among. elim (all.no_batch c among) [ inl before ↦ inl before | inr after ↦ inr (omega (arith, after, far)) ];
+      noted = λ c among. all.noted c (subst (λ (bs : List Batch). Contains bs c) (sym batch_parts) (Contains-append_left my_batches other_batches c among));
+      begun = λ c among. elim (all.begun c among) [
+        | inl one ↦ elim (Contains-append_cases my_batches other_batches c (subst (λ (bs : List Batch). Contains bs c) batch_parts one)) [
+          | inl here ↦ inl here
+          | inr later ↦ inr (inr (batches_between site bytes stop end (drop n rs) chain some c later).0)
+        ]
+        | inr (inl before) ↦ inr (inl before)
+        | inr (inr after) ↦ inr (inr (omega (arith, after, far)))
+      ];
     }

@@ -14,7 +14,7 @@ use Rattle.sled_store.proofs.Segments.FitLemmas.{all_front}
 use Rattle.sled_core.specs.declared.iobuf.Reserved.{Reserved}
 use Rattle.sled_core.specs.declared.iobuf.Sealed.{Sealed}
 use Rattle.sled_core.specs.declared.iobuf.SegmentPosition.{SegmentPosition}
-use Rattle.sled_core.specs.Buffers.{IsChain, NoPadding, Stands, completed_in, records_end, records_of}
+use Rattle.sled_core.specs.Buffers.{IsChain, NoPadding, Stands, batches_in, completed_in, records_end, records_of}
 use Rattle.sled_core.specs.Begun.{SegmentParts}
 use Rattle.sled_core.specs.Fits.{log_parts, HasMark, HoldsIn, HoldsSegment, EndBelow}
 use Rattle.sled_core.specs.Full.{StandsFull}
@@ -144,10 +144,10 @@ module _ (sum : List ℕ → ℕ) (size : ℕ) (site : SegmentPosition) (device 
   }
 
   -- Of the history those are all that begins in what is written then.
-  has_first : HasOnly H (completed_in site bytes done) (site.place + max 20 from) (site.place + stop)
+  has_first : HasOnly H (completed_in site bytes done) (batches_in site bytes done) (site.place + max 20 from) (site.place + stop)
   has_first =
       front_only site bytes H rs count (site.place + max 20 from) stop (length bytes) chain_others (some_long sum size (site.place / size) bytes others (All-drop (Stands sum size (site.place / size) bytes) count rs holds.stand))
-      (has_only sum size site device fault bytes from (b ∷ rest) rs H holds)
+      (has_only sum size site device fault bytes from (b ∷ rest) rs H holds short)
 
 -- So it is with the history of a log, whose first segment that is.
 module _ (sum : List ℕ → ℕ) (size : ℕ) (site : SegmentPosition) (device : State) (fault : Option IoError) (bytes : List ℕ) (from : ℕ) (b : Sealed) (rest : List Sealed) (rs : List Reserved) (H : History)
@@ -185,8 +185,8 @@ module _ (sum : List ℕ → ℕ) (size : ℕ) (site : SegmentPosition) (device 
   header_whole : from ≡ 0 → HasMark sum site bytes H
   header_whole none = let m = holds.own.header none in record { mark = m.mark; is = m.is; of_history = mark_same own_history H (record { place = site.place; slot = site.slot; mark = m.mark }) refl m.of_history }
 
-  has_whole : HasOnly H (completed_in site bytes (take (b.count + run_count rest) rs)) (site.place + max 20 from) (site.place + stop_whole)
-  has_whole = whole_only sum size site device fault bytes from (b ∷ rest) rs H holds (completed_in site bytes (take (b.count + run_count rest) rs)) (site.place + max 20 from) (site.place + stop_whole)
+  has_whole : HasOnly H (completed_in site bytes (take (b.count + run_count rest) rs)) (batches_in site bytes (take (b.count + run_count rest) rs)) (site.place + max 20 from) (site.place + stop_whole)
+  has_whole = whole_only sum size site device fault bytes from (b ∷ rest) rs H holds (completed_in site bytes (take (b.count + run_count rest) rs)) (batches_in site bytes (take (b.count + run_count rest) rs)) (site.place + max 20 from) (site.place + stop_whole)
       (let low = run_below b.end rest size rise_whole.1 in omega (arith, low)) (has_first sum size site device fault bytes from b rest rs own_history holds.own short big place_small slot_small are fresh closed rise whole)
 
   -- its entries that are written then, of which the last one may fill the segment, and where their records end

@@ -13,7 +13,7 @@ use Rattle.sled_codec.specs.Kinds.{code_of}
 use Rattle.sled_codec.specs.Places.{part}
 use Rattle.sled_store.specs.Device.{LogState, State}
 use Rattle.sled_core.specs.declared.iobuf.ReservationState.{ReservationState}
-use Rattle.sled_core.specs.declared.iobuf.ReservationState.TheVariants.{Open, Completed, Canceled, Padding}
+use Rattle.sled_core.specs.declared.iobuf.ReservationState.TheVariants.{Open, Completed, Canceled, Manifest, Padding}
 use Rattle.sled_core.specs.declared.iobuf.Reserved.{Reserved}
 use Rattle.sled_core.specs.declared.iobuf.Sealed.{Sealed}
 use Rattle.sled_core.specs.declared.iobuf.SegmentPosition.{SegmentPosition}

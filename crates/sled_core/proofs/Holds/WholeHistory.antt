@@ -83,14 +83,15 @@ module _ (sum : List ℕ → ℕ) (size : ℕ) (site : SegmentPosition) (device 
   ]
 
   -- What is all of the first segment's that begins in a part of it is all that does.
-  pub whole_only : (ms : List Message) (low high : ℕ) → high ≤ site.place + size → HasOnly of_first ms low high → HasOnly H ms low high
-  whole_only ms low high end only = record {
+  pub whole_only : (ms : List Message) (bs : List Batch) (low high : ℕ) → high ≤ site.place + size → HasOnly of_first ms bs low high → HasOnly H ms bs low high
+  whole_only ms bs low high end only = record {
     there = λ m its. subst (λ (l : List Message). Contains l m) (sym holds.messages) (Contains-append_left holds.head holds.later m (only.there m its));
     only = λ m there. elim (which_part m there) [
       | inl first ↦ only.only m first
       | inr later ↦ inr (inr (let far = All-contains (λ (x : Message). site.place + size ≤ x.place) holds.later m later_above later in omega (arith, end, far)))
     ];
-    no_batch = only.no_batch;
+    noted = only.noted;
+    begun = only.begun;
   }
 
 -- Where no segment was begun behind the first one, that holds all of it.

@@ -11,14 +11,14 @@ use Rattle.sled_codec.specs.Record.{IsHeader}
 use Rattle.sled_codec.specs.History.{Message, Batch, History}
 use Rattle.sled_store.proofs.Segments.Elements.{in_first}
 use Rattle.sled_core.specs.declared.iobuf.ReservationState.{ReservationState}
-use Rattle.sled_core.specs.declared.iobuf.ReservationState.TheVariants.{Open, Completed, Canceled, Padding}
+use Rattle.sled_core.specs.declared.iobuf.ReservationState.TheVariants.{Open, Completed, Canceled, Manifest, Padding}
 use Rattle.sled_core.specs.declared.iobuf.Reserved.{Reserved}
 use Rattle.sled_core.specs.declared.iobuf.SegmentPosition.{SegmentPosition}
 use Rattle.sled_core.specs.declared.iterator.Segment.{Segment}
 use Rattle.sled_core.specs.declared.iterator.scan.ScannedRecord.{ScannedRecord}
 use Rattle.sled_core.specs.declared.iterator.scan.ScanEnd.{ScanEnd}
 use Rattle.sled_core.specs.declared.iterator.scan.ScanEnd.TheVariants.{Full, Capped, Broken}
-use Rattle.sled_core.specs.Buffers.{IsChain, completed_in, message_in, none_open, with_own, NoPadding, Stands}
+use Rattle.sled_core.specs.Buffers.{IsChain, batch_in, batches_in, completed_in, message_in, none_open, with_batch, with_own, NoPadding, Stands}
 use Rattle.sled_core.specs.Reached.{BeginsNext}
 use Rattle.sled_core.specs.Fits.{HasMark}
 use Rattle.sled_core.specs.Recoverable.{NoBatchBegins, IsOfHistory, IsMarkOf, IsMarkBelow}
@@ -26,15 +26,16 @@ use Rattle.sled_core.specs.Scan.{IsPath, IsEnd, EndsThere}
 use Rattle.sled_core.proofs.Holds.OpenTickets.{by_first}
 use Rattle.sled_core.proofs.Read.PathLemmas.{zeros_empty}
 use Rattle.sled_core.proofs.Reserve.Entries.{completed_plain, reserved_in, some_in, some_long}
-use Rattle.sled_core.proofs.Reserve.Ranges.{chain_grows, completed_between, own_cases, own_rest}
+use Rattle.sled_core.proofs.Reserve.Ranges.{batch_cases, batch_rest, batches_between, chain_grows, completed_between, own_cases, own_rest}
 use Rattle.sled_core.specs.SealedBuffers.{Agrees}
 use Rattle.sled_core.proofs.Reached.BufferStands.{met_as, met_in, one_inline, path_in}
 
--- Of a history, these messages begin from one place up to another, and neither a batch nor another message.
-pub record HasOnly (H : History) (ms : List Message) (from to : ℕ) : Type 0 where
+-- Of a history, these messages and batches begin from one place up to another, and no others.
+pub record HasOnly (H : History) (ms : List Message) (bs : List Batch) (from to : ℕ) : Type 0 where
   pub there : (m : Message) → Contains ms m → Contains H.messages m
   pub only : (m : Message) → Contains H.messages m → Contains ms m ⊎ (m.place < from) ⊎ (to ≤ m.place)
-  pub no_batch : NoBatchBegins H from to
+  pub noted : (b : Batch) → Contains bs b → Contains H.batches b
+  pub begun : (b : Batch) → Contains H.batches b → Contains bs b ⊎ (b.low < from) ⊎ (to ≤ b.low)
 
 -- why the reading ends behind the last record of a buffer: for want of room, or of a record
 abbrev pub ending_at : ℕ → ℕ → ScanEnd
@@ -68,7 +69,7 @@ module _ (sum : List ℕ → ℕ) (size : ℕ) (site : SegmentPosition) (log byt
   -- Each record is of the history, where this has no others within the buffer.
   module _ (H : History) where
     module _ (at : ℕ) (r : Reserved) (rs : List Reserved) (behind : max 20 from ≤ at) (chain : IsChain at (r ∷ rs) to) (stand : All (Stands sum size (site.place / size) bytes) (r ∷ rs))
-        (has : HasOnly H (completed_in site bytes (r ∷ rs)) (site.place + at) (site.place + to)) where
+        (has : HasOnly H (completed_in site bytes (r ∷ rs)) (batches_in site bytes (r ∷ rs)) (site.place + at) (site.place + to)) where
       abbrev own : Message
       own = message_in site bytes r
 
@@ -88,6 +89,12 @@ module _ (sum : List ℕ → ℕ) (size : ℕ) (site : SegmentPosition) (log byt
           let between = All-contains (λ x. (site.place + (at + r.len) ≤ x.place) × (x.place < site.place + to) × (x.place + x.size ≤ site.place + to)) (completed_in site bytes rs) n (completed_between site bytes (at + r.len) to rs chain.1 long) later in
           omega (arith, between.0, here)
 
+      later_batch : (b : Batch) → Contains (batches_in site bytes rs) b → own.place + own.size ≤ b.low
+      later_batch b later =
+          let long = some_long sum size (site.place / size) bytes rs (All-tail (Stands sum size (site.place / size) bytes) r rs stand) in
+          let lies = batches_between site bytes (at + r.len) to rs chain.1 long b later in
+          omega (arith, lies.0, here)
+
       -- a message of the history is its own, if it was completed, or lies before it or behind it
       which : (n : Message) → Contains H.messages n → ((r.state ≡ Completed) × (own ≡ n)) ⊎ (n.place < own.place) ⊎ (own.place + own.size ≤ n.place)
       which n there = elim (has.only n there) [
@@ -96,10 +103,18 @@ module _ (sum : List ℕ → ℕ) (size : ℕ) (site : SegmentPosition) (log byt
         | inr (inr after) ↦ inr (inr (omega (arith, after, here, grows)))
       ]
 
-      no_batch_here : NoBatchBegins H own.place (own.place + own.size)
-      no_batch_here b there = elim (has.no_batch b there) [ inl before ↦ inl (omega (arith, before, here)) | inr after ↦ inr (omega (arith, after, here, grows)) ]
+      -- so it is with a batch
+      which_batch : (b : Batch) → Contains H.batches b → ((r.state ≡ Manifest) × (batch_in site bytes r ≡ b)) ⊎ (b.low < own.place) ⊎ (own.place + own.size ≤ b.low)
+      which_batch b there = elim (has.begun b there) [
+        | inl among ↦ elim (batch_cases r.state (batch_in site bytes r) (batches_in site bytes rs) b among) [ inl is ↦ inl is | inr later ↦ inr (inr (later_batch b later)) ]
+        | inr (inl before) ↦ inr (inl (omega (arith, before, here)))
+        | inr (inr after) ↦ inr (inr (omega (arith, after, here, grows)))
+      ]
 
-      pub rest_only : HasOnly H (completed_in site bytes rs) (site.place + (at + r.len)) (site.place + to)
+      no_batch_here : (r.state ≡ Manifest → ⊥) → NoBatchBegins H own.place (own.place + own.size)
+      no_batch_here not_one b there = elim (which_batch b there) [ inl is ↦ absurd (not_one is.0) | inr (inl before) ↦ inl before | inr (inr after) ↦ inr after ]
+
+      pub rest_only : HasOnly H (completed_in site bytes rs) (batches_in site bytes rs) (site.place + (at + r.len)) (site.place + to)
       rest_only = record {
         there = λ n later. has.there n (own_rest r.state own (completed_in site bytes rs) n later);
         only = λ n there. elim (has.only n there) [
@@ -110,7 +125,15 @@ module _ (sum : List ℕ → ℕ) (size : ℕ) (site : SegmentPosition) (log byt
           | inr (inl before) ↦ inr (inl (omega (arith, before)))
           | inr (inr after) ↦ inr (inr after)
         ];
-        no_batch = λ b there. elim (has.no_batch b there) [ inl before ↦ inl (omega (arith, before)) | inr after ↦ inr after ];
+        noted = λ b later. has.noted b (batch_rest r.state (batch_in site bytes r) (batches_in site bytes rs) b later);
+        begun = λ b there. elim (has.begun b there) [
+          | inl among ↦ elim (batch_cases r.state (batch_in site bytes r) (batches_in site bytes rs) b among) [
+            | inl is ↦ inr (inl (omega (arith, ap (λ (x : Batch). x.low) is.1, here, some)))
+            | inr later ↦ inl later
+          ]
+          | inr (inl before) ↦ inr (inl (omega (arith, before)))
+          | inr (inr after) ↦ inr (inr after)
+        ];
       }
 
       pub one_truth : (s : ReservationState) → r.state ≡ s → (s ≡ Open → ⊥) → s ≢ Padding → IsOfHistory sum size log H (met_as s own)
@@ -124,17 +147,27 @@ module _ (sum : List ℕ → ℕ) (size : ℕ) (site : SegmentPosition) (log byt
             record { place = refl; len = refl; what = inl refl },
             one_inline sum size site log bytes from to agrees short place_begins slot_begins slot_small number_small r stands.text (omega (arith, here, behind)) (omega (arith, here, grows)) is stands.room,
             (λ n at_n. elim (which n at_n) [ inl same ↦ inl (omega (arith, ap (λ (x : Message). x.place) same.1)) | inr (inl before) ↦ inl (omega (arith, before)) | inr (inr after) ↦ inr after ]),
-            no_batch_here,
+            no_batch_here (λ also. let both : Completed ≡ Manifest = sym is ∙ also in cc),
           )
       one_truth Padding is not_open plain = absurd (plain refl)
       one_truth Canceled is not_open plain = inr (inr (
         refl,
         (λ n at_n. elim (which n at_n) [ inl same ↦ absurd (let both : Canceled ≡ Completed = sym is ∙ same.0 in cc) | inr (inl before) ↦ inl before | inr (inr after) ↦ inr after ]),
-        no_batch_here,
+        no_batch_here (λ also. let both : Canceled ≡ Manifest = sym is ∙ also in cc),
       ))
+      one_truth Manifest is not_open plain =
+          let there : Contains (batches_in site bytes (r ∷ rs)) (batch_in site bytes r) = subst (λ (s : ReservationState). Contains (with_batch s (batch_in site bytes r) (batches_in site bytes rs)) (batch_in site bytes r)) (sym is) (in_first (batch_in site bytes r) (batches_in site bytes rs)) in
+          inr (inl (
+            batch_in site bytes r,
+            has.noted (batch_in site bytes r) there,
+            refl,
+            refl,
+            (λ n at_n. elim (which n at_n) [ inl same ↦ absurd (let both : Manifest ≡ Completed = sym is ∙ same.0 in cc) | inr (inl before) ↦ inl before | inr (inr after) ↦ inr after ]),
+            (λ b at_b. elim (which_batch b at_b) [ inl same ↦ inl (omega (arith, ap (λ (x : Batch). x.low) same.1)) | inr (inl before) ↦ inl (omega (arith, before)) | inr (inr after) ↦ inr after ]),
+          ))
 
     truth_from : (at : ℕ) (rs : List Reserved) → max 20 from ≤ at → IsChain at rs to → All (Stands sum size (site.place / size) bytes) rs → All NoPadding rs → none_open rs ≡ true
-        → HasOnly H (completed_in site bytes rs) (site.place + at) (site.place + to) → All (IsOfHistory sum size log H) (met_in site bytes rs)
+        → HasOnly H (completed_in site bytes rs) (batches_in site bytes rs) (site.place + at) (site.place + to) → All (IsOfHistory sum size log H) (met_in site bytes rs)
     truth_from at [] behind chain stand plain closed has = λ k d lt. absurd (omega arith)
     truth_from at (r ∷ rs) behind chain stand plain closed has =
         let ended = by_first r.state rs closed in
@@ -144,7 +177,7 @@ module _ (sum : List ℕ → ℕ) (size : ℕ) (site : SegmentPosition) (log byt
         (rest_only at r rs behind chain stand has))
 
     pub truth_to : (rs : List Reserved) → IsChain (max 20 from) rs to → All (Stands sum size (site.place / size) bytes) rs → All NoPadding rs → none_open rs ≡ true
-        → HasOnly H (completed_in site bytes rs) (site.place + max 20 from) (site.place + to) → (x : ScannedRecord) → Contains (met_in site bytes rs) x → IsOfHistory sum size log H x
+        → HasOnly H (completed_in site bytes rs) (batches_in site bytes rs) (site.place + max 20 from) (site.place + to) → (x : ScannedRecord) → Contains (met_in site bytes rs) x → IsOfHistory sum size log H x
     truth_to rs chain stand plain closed has x there = All-contains (IsOfHistory sum size log H) (met_in site bytes rs) x (truth_from (max 20 from) rs (omega arith) chain stand plain closed has) there
 
 -- The place before a segment is its mark, or minus one where there is none.

@@ -1,5 +1,7 @@
 -- Reservations that have ended stand in a file one behind another where their bytes are there, whatever else the file has.
-use Rattle.std.proofs.Common.{◌≡◌, ◌≢◌, ◌≤◌, ◌<◌, ◌+◌, ◌-◌, ◌/◌, ◌%◌, ◌^◌, ◌∙◌, ℕ, max, true, List, [], ◌∷◌, ◌++◌, length, drop, get_or, sym, ap, arith, refl, subst, length-take, length-drop}
+use Rattle.std.proofs.lemmas.Int.{ints}
+use Rattle.sled_codec.specs.Spelling.{low_first}
+use Rattle.std.proofs.Common.{pos, ◌≡◌, ◌≢◌, ◌≤◌, ◌<◌, ◌+◌, ◌-◌, ◌/◌, ◌%◌, ◌^◌, ◌∙◌, ℕ, max, true, List, [], ◌∷◌, ◌++◌, length, drop, get_or, sym, ap, arith, refl, subst, length-take, length-drop}
 use Rattle.std.specs.List.{All}
 use Rattle.std.proofs.lemmas.Grind.{same_number_lists}
 use Rattle.std.proofs.lemmas.List.{get_or-take, get_or-drop}
@@ -17,17 +19,17 @@ use Rattle.sled_store.specs.Device.{overwritten}
 use Rattle.sled_store.proofs.LogFile.LooseLemmas.{end_of-some}
 use Rattle.sled_store.proofs.LogFile.OverwrittenLemmas.{length-overwritten, overwritten-part}
 use Rattle.sled_core.specs.declared.iobuf.ReservationState.{ReservationState}
-use Rattle.sled_core.specs.declared.iobuf.ReservationState.TheVariants.{Open, Completed, Canceled, Padding}
+use Rattle.sled_core.specs.declared.iobuf.ReservationState.TheVariants.{Open, Completed, Canceled, Manifest, Padding}
 use Rattle.sled_core.specs.declared.iobuf.Reserved.{Reserved}
 use Rattle.sled_core.specs.declared.iobuf.SegmentPosition.{SegmentPosition}
 use Rattle.sled_core.specs.declared.iterator.scan.ScannedRecord.{ScannedRecord}
-use Rattle.sled_core.specs.declared.iterator.scan.RecordContent.TheVariants.{Skipped}
+use Rattle.sled_core.specs.declared.iterator.scan.RecordContent.TheVariants.{BatchStart, Skipped}
 use Rattle.sled_core.specs.Buffers.{body_in, message_in, text_as, IsChain, completed_in, none_open, HasText, NoPadding, Stands}
 use Rattle.sled_core.specs.SealedBuffers.{Agrees}
 use Rattle.sled_core.specs.LogFile.{MessageStands, StandsHere}
 use Rattle.sled_core.specs.Reading.{StandsAt}
 use Rattle.sled_core.specs.Scan.{IsMet, IsPath}
-use Rattle.sled_core.proofs.Reserve.CompletesLemmas.{kind_of_message}
+use Rattle.sled_core.proofs.Reserve.CompletesLemmas.{kind_of_message, manifest_kind}
 use Rattle.sled_core.proofs.Holds.OpenTickets.{by_first}
 use Rattle.sled_core.proofs.Read.PathLemmas.{met_of, is_met}
 use Rattle.sled_core.proofs.Read.ScanLemmas.{aligned_number, aligned_offset}
@@ -37,6 +39,7 @@ use Rattle.sled_core.proofs.Reserve.Ranges.{all_own, chain_grows}
 -- what a reader meets of a reservation that has ended (a padding isn't met: the reading ends there)
 abbrev pub met_as : ReservationState → Message → ScannedRecord
 met_as Canceled m = record { place = m.place; len = m.size; what = Skipped }
+met_as Manifest m = record { place = m.place; len = m.size; what = BatchStart (pos (low_first m.bytes)) }
 met_as _ m = met_of m
 
 -- and of some, by place
@@ -147,10 +150,21 @@ module _ (sum : List ℕ → ℕ) (size : ℕ) (site : SegmentPosition) (log byt
         let valid : kind.Canceled ≢ kind.Corrupted = λ same. cc in
         (header_as (as_record kind.Canceled valid).header kind.Canceled, body, record_stands kind.Canceled valid (text_there ∙ ap (text_as sum r.kind r.page number body) is), refl)
 
+    -- an ended manifest begins a batch, with the peg that its body has
+    one_batch : r.state ≡ Manifest → IsMet sum size log (site.slot + r.from) number (met_as Manifest (message_in site bytes r))
+    unfolding IsMet
+    one_batch is =
+        let its = manifest_kind r.log_kind r.page (length body) r.kind stands.known (stands.manifest is) in
+        let peg : ℕ = low_first body in
+        let small = stands.pegged is in
+        (header_as (as_record r.kind stands.valid).header r.kind, body, record_stands r.kind stands.valid (text_there ∙ ap (text_as sum r.kind r.page number body) is), its.0,
+        record { unsigned = record { long = its.1; value = refl; small = omega (arith, small) }; in_range = omega (arith, ints, small) })
+
     met_by : (s : ReservationState) → r.state ≡ s → (s ≡ Open → ⊥) → s ≢ Padding → IsMet sum size log (site.slot + r.from) number (met_as s (message_in site bytes r))
     met_by Open is not_open plain = absurd (not_open refl)
     met_by Completed is not_open plain = is_met sum size log (site.slot + r.from) number (message_in site bytes r) (one_stands is) refl
     met_by Canceled is not_open plain = one_skips is
+    met_by Manifest is not_open plain = one_batch is
     met_by Padding is not_open plain = absurd (plain refl)
 
   -- They are met one behind another.
@@ -177,12 +191,14 @@ module _ (sum : List ℕ → ℕ) (size : ℕ) (site : SegmentPosition) (log byt
       met_place Open m = refl
       met_place Completed m = refl
       met_place Canceled m = refl
+      met_place Manifest m = refl
       met_place Padding m = refl
 
       met_len : (s : ReservationState) (m : Message) → (met_as s m).len ≡ m.size
       met_len Open m = refl
       met_len Completed m = refl
       met_len Canceled m = refl
+      met_len Manifest m = refl
       met_len Padding m = refl
 
   -- The messages of those that were completed stand at their pointers.

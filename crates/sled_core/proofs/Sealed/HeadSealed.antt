@@ -15,7 +15,7 @@ use Rattle.sled_core.specs.declared.iobuf.SegmentPosition.{SegmentPosition}
 use Rattle.sled_core.specs.declared.iterator.scan.ScanEnd.{ScanEnd}
 use Rattle.sled_core.specs.declared.iterator.scan.ScanEnd.TheVariants.{Full, Capped, Broken}
 use Rattle.sled_core.specs.Caps.{rest_why}
-use Rattle.sled_core.specs.Buffers.{completed_in, records_end, records_of, NoPadding, Stands}
+use Rattle.sled_core.specs.Buffers.{batches_in, completed_in, records_end, records_of, NoPadding, Stands}
 use Rattle.sled_core.specs.Fits.{HasMark}
 use Rattle.sled_core.specs.LogFile.{HasHeader}
 use Rattle.sled_core.specs.Reached.{BegunSegment, StandsAlone, StandsAmong}
@@ -72,7 +72,7 @@ module _ (sum : List ℕ → ℕ) (none : NoHeaderOfZeros sum) (size : ℕ) (som
   its_mark : from ≡ 0 → HasMark sum site asked H
   its_mark none_yet = front_mark sum site bytes H from b.end none_yet (run.headed none_yet) (header none_yet)
 
-  module _ (has : HasOnly H (completed_in site bytes done) (site.place + max 20 from) (site.place + stop)) where
+  module _ (has : HasOnly H (completed_in site bytes done) (batches_in site bytes done) (site.place + max 20 from) (site.place + stop)) where
     -- What a crash leaves of it.
     pub torn_head_sealed : (now left : List ℕ) → length now ≤ length asked → LeavesLog (after_write file (site.slot + from) asked now) left → {placed : List (ℕ × List ℕ)}
         → NoForeignLog sum size (after_write file (site.slot + from) asked now) placed left → StandsTo sum size left H (stable_below reach H.batches) first reach

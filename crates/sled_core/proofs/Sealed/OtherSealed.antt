@@ -19,7 +19,7 @@ use Rattle.sled_core.specs.declared.iobuf.SegmentPosition.{SegmentPosition}
 use Rattle.sled_core.specs.declared.iterator.Segment.{Segment}
 use Rattle.sled_core.specs.declared.iterator.scan.ScanEnd.{ScanEnd}
 use Rattle.sled_core.specs.declared.iterator.scan.ScanEnd.TheVariants.{Full, Broken}
-use Rattle.sled_core.specs.Buffers.{completed_in, records_end, records_of, Stands}
+use Rattle.sled_core.specs.Buffers.{batches_in, completed_in, records_end, records_of, Stands}
 use Rattle.sled_core.specs.Fits.{HasMark}
 use Rattle.sled_core.specs.LogFile.{HasHeader}
 use Rattle.sled_core.specs.Reached.{BegunSegment, IsSoFar, StandsAmong, StandsIn}
@@ -145,7 +145,7 @@ module _ (sum : List ℕ → ℕ) (none : NoHeaderOfZeros sum) (size : ℕ) (som
     | inr f ↦ inr (f.full, λ broken. never_broken size last (sym f.reason ∙ broken))
   ]
 
-  module _ (has : HasOnly H (completed_in y.site bytes done) (y.site.place + max 20 y.from) (y.site.place + stop)) where
+  module _ (has : HasOnly H (completed_in y.site bytes done) (batches_in y.site bytes done) (y.site.place + max 20 y.from) (y.site.place + stop)) where
     -- What a crash leaves of it.
     pub torn_other_sealed : (now left : List ℕ) → length now ≤ length asked → LeavesLog (after_write file (y.site.slot + y.from) asked now) left → {placed : List (ℕ × List ℕ)}
         → NoForeignLog sum size (after_write file (y.site.slot + y.from) asked now) placed left → StandsTo sum size left H (stable_below reach H.batches) first reach

@@ -3,11 +3,11 @@ use Rattle.std.proofs.Common.{◌≡◌, ◌≢◌, ◌⊎◌, ◌≤◌, ◌<�
 use Rattle.std.specs.List.{All}
 use Rattle.std.proofs.lemmas.List.Elements.{All-cons, All-tail}
 use Rattle.sled_core.specs.declared.iobuf.ReservationState.{ReservationState}
-use Rattle.sled_core.specs.declared.iobuf.ReservationState.TheVariants.{Open, Completed, Canceled, Padding}
+use Rattle.sled_core.specs.declared.iobuf.ReservationState.TheVariants.{Open, Completed, Canceled, Manifest, Padding}
 use Rattle.sled_core.specs.declared.iobuf.Reserved.{Reserved}
 use Rattle.sled_core.specs.declared.iobuf.SegmentPosition.{SegmentPosition}
 use Rattle.sled_core.specs.declared.iterator.scan.ScanEnd.{ScanEnd}
-use Rattle.sled_core.specs.Buffers.{IsChain, IsPadding, NoPadding, Stands, completed_in, message_in, none_open, padding_state, records_end, records_of, with_own}
+use Rattle.sled_core.specs.Buffers.{IsChain, IsPadding, NoPadding, Stands, batch_in, batches_in, completed_in, message_in, none_open, padding_state, records_end, records_of, with_batch, with_own}
 use Rattle.sled_core.specs.Caps.{rest_why}
 use Rattle.sled_core.proofs.Holds.OpenTickets.{both_ended, by_first}
 use Rattle.sled_core.proofs.Reached.BufferPath.{ending_at}
@@ -23,6 +23,7 @@ padding_is : (s : ReservationState) → padding_state s ≡ true → s ≡ Paddi
 padding_is Open is = cc
 padding_is Completed is = cc
 padding_is Canceled is = cc
+padding_is Manifest is = cc
 padding_is Padding is = refl
 
 plain_is : (s : ReservationState) → padding_state s ≡ false → s ≢ Padding
@@ -32,6 +33,7 @@ state_plain : (s : ReservationState) → s ≢ Padding → padding_state s ≡ f
 state_plain Open plain = refl
 state_plain Completed plain = refl
 state_plain Canceled plain = refl
+state_plain Manifest plain = refl
 state_plain Padding plain = absurd (plain refl)
 
 -- no entry lies behind the end of a chain
@@ -58,6 +60,7 @@ pub record AreRecords (sum : List ℕ → ℕ) (size number : ℕ) (bytes : List
   pub plain : All NoPadding records
   pub closed : none_open rs ≡ true → none_open records ≡ true
   pub messages : (site : SegmentPosition) → completed_in site bytes records ≡ completed_in site bytes rs
+  pub batches : (site : SegmentPosition) → batches_in site bytes records ≡ batches_in site bytes rs
   pub low : stop ≤ end
   pub last : ((records ≡ rs) × (stop ≡ end) × (why ≡ ending_at size end)) ⊎ IsFilled sum size number bytes rs end stop why
 
@@ -72,6 +75,7 @@ module _ (sum : List ℕ → ℕ) (size number : ℕ) (bytes : List ℕ) where
     plain = All-cons NoPadding r (records_of rs) (plain_is r.state is) rest.plain;
     closed = λ closed. (let ended = by_first r.state rs closed in both_ended r.state (records_of rs) ended.0 (rest.closed ended.1));
     messages = λ site. ap (with_own r.state (message_in site bytes r)) (rest.messages site);
+    batches = λ site. ap (with_batch r.state (batch_in site bytes r)) (rest.batches site);
     low = rest.low;
     last = elim rest.last [
       | inl l ↦ inl (ap (λ (l : List Reserved). r ∷ l) l.0, l.1, l.2)
@@ -91,6 +95,7 @@ module _ (sum : List ℕ → ℕ) (size number : ℕ) (bytes : List ℕ) where
         plain = λ k d lt. absurd (omega (arith, lt));
         closed = λ closed. refl;
         messages = λ site. sym (ap (λ (s : ReservationState). with_own s (message_in site bytes r) (completed_in site bytes rs)) state ∙ ap (completed_in site bytes) none);
+        batches = λ site. sym (ap (λ (s : ReservationState). with_batch s (batch_in site bytes r) (batches_in site bytes rs)) state ∙ ap (batches_in site bytes) none);
         low = omega (arith, grows, begins);
         last = inr (record { padding = r; begins = refl; fills = fills; full = omega (arith, grows, begins, to_end, short); reason = refl; unlike = λ plain. plain 0 r (omega arith) state });
       }
@@ -103,6 +108,7 @@ module _ (sum : List ℕ → ℕ) (size number : ℕ) (bytes : List ℕ) where
     plain = λ k d lt. absurd (omega (arith, lt));
     closed = λ is. refl;
     messages = λ site. refl;
+    batches = λ site. refl;
     low = omega arith;
     last = inl (refl, refl, refl);
   }

@@ -4,7 +4,7 @@ use Rattle.std.specs.List.{All, Contains}
 use Rattle.std.proofs.Math.Nat.{div-le_self}
 use Rattle.std.proofs.lemmas.List.{take-take}
 use Rattle.std.proofs.lemmas.List.Elements.{All-contains, All-drop, All-take}
-use Rattle.sled_codec.specs.History.{Message, History}
+use Rattle.sled_codec.specs.History.{Message, Batch, History}
 use Rattle.sled_codec.specs.Places.{part}
 use Rattle.sled_store.specs.Device.{overwritten}
 use Rattle.sled_core.specs.declared.iobuf.Reserved.{Reserved}
@@ -13,7 +13,7 @@ use Rattle.sled_core.specs.declared.iobuf.SegmentPosition.{SegmentPosition}
 use Rattle.sled_core.specs.declared.iterator.scan.ScannedRecord.{ScannedRecord}
 use Rattle.sled_core.specs.declared.iterator.scan.ScanEnd.{ScanEnd}
 use Rattle.sled_core.specs.declared.iterator.scan.ScanEnd.TheVariants.{Full, Capped, Broken}
-use Rattle.sled_core.specs.Buffers.{IsChain, completed_in, message_in, none_open, records_end, records_of, NoPadding, Stands}
+use Rattle.sled_core.specs.Buffers.{IsChain, batches_in, completed_in, message_in, none_open, records_end, records_of, NoPadding, Stands}
 use Rattle.sled_core.specs.Caps.{rest_why, segment_rest}
 use Rattle.sled_core.specs.Fits.{HasMark}
 use Rattle.sled_core.specs.Recoverable.{NoBatchBegins, NoMessageBegins, IsOfHistory}
@@ -23,7 +23,7 @@ use Rattle.sled_core.proofs.Reached.BufferPath.{HasOnly, ending_at, never_capped
 use Rattle.sled_core.proofs.Reached.BufferStands.{met_as, met_in, same_part}
 use Rattle.sled_core.proofs.Reached.CapStands.{rest_ends}
 use Rattle.sled_core.proofs.Reserve.Entries.{IsLong, all_long, some_long}
-use Rattle.sled_core.proofs.Reserve.Ranges.{chain_grows, completed_between}
+use Rattle.sled_core.proofs.Reserve.Ranges.{batches_between, chain_grows, completed_between}
 use Rattle.sled_core.proofs.Sealed.BehindUnwritten.{head_headed}
 use Rattle.sled_core.proofs.Sealed.Clear.{clear_behind, clear_on, run_ends}
 use Rattle.sled_core.proofs.Sealed.LaidLemmas.{EndsRise, ends_below}
@@ -76,11 +76,11 @@ pub record MeetsRun (sum : List ℕ → ℕ) (size : ℕ) (file new : List ℕ) 
   pub clear : AreClear size until (max 20 from) (met_in site bytes (records_of done))
   pub path : IsPath sum size new site.slot site.place (max 20 from) (met_in site bytes (records_of done)) (records_end done stop)
   pub ends : IsEnd sum size new site.slot site.place (records_end done stop) (records_why size done stop)
-  pub truth : (H : History) → HasOnly H (completed_in site bytes done) (site.place + max 20 from) (site.place + stop) → (x : ScannedRecord) → Contains (met_in site bytes (records_of done)) x → IsOfHistory sum size new H x
+  pub truth : (H : History) → HasOnly H (completed_in site bytes done) (batches_in site bytes done) (site.place + max 20 from) (site.place + stop) → (x : ScannedRecord) → Contains (met_in site bytes (records_of done)) x → IsOfHistory sum size new H x
   -- in what fills the segment nothing of the history begins
-  pub none_filled : (H : History) → HasOnly H (completed_in site bytes done) (site.place + max 20 from) (site.place + stop) → IsFilled sum size (site.place / size) bytes done stop (records_end done stop) (records_why size done stop)
+  pub none_filled : (H : History) → HasOnly H (completed_in site bytes done) (batches_in site bytes done) (site.place + max 20 from) (site.place + stop) → IsFilled sum size (site.place / size) bytes done stop (records_end done stop) (records_why size done stop)
       → NoMessageBegins H (site.place + records_end done stop) (site.place + size) × NoBatchBegins H (site.place + records_end done stop) (site.place + size)
-  pub caps : (H : History) → HasOnly H (completed_in site bytes done) (site.place + max 20 from) (site.place + stop) → records_why size done stop ≡ Capped
+  pub caps : (H : History) → HasOnly H (completed_in site bytes done) (batches_in site bytes done) (site.place + max 20 from) (site.place + stop) → records_why size done stop ≡ Capped
       → NoMessageBegins H (site.place + records_end done stop) (site.place + size) × NoBatchBegins H (site.place + records_end done stop) (site.place + size)
 
 module _ (sum : List ℕ → ℕ) (size : ℕ) (file : List ℕ) (site : SegmentPosition)
@@ -233,11 +233,14 @@ module _ (sum : List ℕ → ℕ) (size : ℕ) (file : List ℕ) (site : Segment
   covers : from + length asked ≤ b.end
   covers = let l = long file site.slot bytes from [] b rest size rise inside in omega (arith, l)
 
-  module _ (H : History) (has : HasOnly H (completed_in site bytes done) (site.place + max 20 from) (site.place + stop)) where
+  module _ (H : History) (has : HasOnly H (completed_in site bytes done) (batches_in site bytes done) (site.place + max 20 from) (site.place + stop)) where
     same_messages : completed_in site bytes records ≡ completed_in site bytes done
     same_messages = its.messages site
 
-    has_records : HasOnly H (completed_in site bytes records) (site.place + max 20 from) (site.place + last)
+    same_batches : batches_in site bytes records ≡ batches_in site bytes done
+    same_batches = its.batches site
+
+    has_records : HasOnly H (completed_in site bytes records) (batches_in site bytes records) (site.place + max 20 from) (site.place + last)
     has_records = record {
       there = λ m among. has.there m (subst (λ (ms : List Message). Contains ms m) same_messages among);
       only = λ m there. elim (has.only m there) [
@@ -245,7 +248,12 @@ module _ (sum : List ℕ → ℕ) (size : ℕ) (file : List ℕ) (site : Segment
         | inr (inl before) ↦ inr (inl before)
         | inr (inr after) ↦ inr (inr (omega (arith, after, last_low)))
       ];
-      no_batch = λ c there. elim (has.no_batch c there) [ inl before ↦ inl before | inr after ↦ inr (omega (arith, after, last_low)) ];
+      noted = λ c among. has.noted c (subst (λ (cs : List Batch). Contains cs c) same_batches among);
+      begun = λ c there. elim (has.begun c there) [
+        | inl among ↦ inl (subst (λ (cs : List Batch). Contains cs c) (sym same_batches) among)
+        | inr (inl before) ↦ inr (inl before)
+        | inr (inr after) ↦ inr (inr (omega (arith, after, last_low)))
+      ];
     }
 
     truth : (x : ScannedRecord) → Contains (met_in site bytes records) x → IsOfHistory sum size new H x
@@ -262,7 +270,11 @@ module _ (sum : List ℕ → ℕ) (size : ℕ) (file : List ℕ) (site : Segment
             | inr (inl before) ↦ inl (omega (arith, before, behind_from))
             | inr (inr after) ↦ inr (omega (arith, after, full))
           ]),
-          (λ c there. elim (has.no_batch c there) [ inl before ↦ inl (omega (arith, before, behind_from)) | inr after ↦ inr (omega (arith, after, full)) ]),
+          (λ c there. elim (has.begun c there) [
+            | inl among ↦ (let lies = batches_between site bytes (max 20 from) last records its.chain (some_long sum size (site.place / size) bytes records its.stand) c (subst (λ (cs : List Batch). Contains cs c) (sym same_batches) among) in inl lies.1)
+            | inr (inl before) ↦ inl (omega (arith, before, behind_from))
+            | inr (inr after) ↦ inr (omega (arith, after, full))
+          ]),
         )
 
     caps : why ≡ Capped → NoMessageBegins H (site.place + last) (site.place + size) × NoBatchBegins H (site.place + last) (site.place + size)

@@ -9,7 +9,7 @@ use Rattle.sled_store.proofs.Histories.Ascending.{Ascends}
 use Rattle.sled_core.specs.declared.iobuf.Reserved.{Reserved}
 use Rattle.sled_core.specs.declared.iobuf.Sealed.{Sealed}
 use Rattle.sled_core.specs.declared.iobuf.SegmentPosition.{SegmentPosition}
-use Rattle.sled_core.specs.Buffers.{NoPadding, Stands, completed_in}
+use Rattle.sled_core.specs.Buffers.{NoPadding, Stands, batches_in, completed_in}
 use Rattle.sled_core.specs.Fits.{HasMark}
 use Rattle.sled_core.specs.LogFile.{HasHeader, padded}
 use Rattle.sled_core.specs.Reached.{BegunSegment, StandsAmong}
@@ -79,7 +79,7 @@ module _ (sum : List ℕ → ℕ) (size : ℕ) (some : 256 ≤ size) (old : List
         record { mark = h.mark; header = subst (λ (l : List ℕ). IsHeader sum l (pos site.place) h.mark) (sym (part-append new (replicate (to - length new) 0) site.slot 20 long)) h.header; below = h.below }
 
     -- A reader reads up to the end of those that are written now, where nothing fills the segment.
-    pub first_alone : All (Stands sum size (site.place / size) bytes) rs → from + 32 ≤ size → All NoPadding (take (b.count + run_count rest) rs) → NoHeaderOfZeros sum → (reach : ℕ) (first : SnapshotModel) → HasOnly H (completed_in site bytes (take (b.count + run_count rest) rs)) (site.place + max 20 from) (site.place + run_end b.end rest)
+    pub first_alone : All (Stands sum size (site.place / size) bytes) rs → from + 32 ≤ size → All NoPadding (take (b.count + run_count rest) rs) → NoHeaderOfZeros sum → (reach : ℕ) (first : SnapshotModel) → HasOnly H (completed_in site bytes (take (b.count + run_count rest) rs)) (batches_in site bytes (take (b.count + run_count rest) rs)) (site.place + max 20 from) (site.place + run_end b.end rest)
         → Ascends H.messages → least_place size first ≤ site.place
         → (to : ℕ) → site.slot ≤ to → {others : List BegunSegment} → StandsAmong sum size (filled to) site from others reach H first → StandsAmong sum size (padded to new) site (run_end b.end rest) others (site.place + run_end b.end rest) H first
     first_alone stand room plain zeros reach first has ordered low to far {others} alone = subst (λ (l : List ℕ). StandsAmong sum size l site (run_end b.end rest) others (site.place + run_end b.end rest) H first) (same_file to)
