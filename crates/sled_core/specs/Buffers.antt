@@ -16,7 +16,7 @@ use Rattle.sled_core.specs.declared.iobuf.Reserved.{Reserved}
 use Rattle.sled_core.specs.declared.iobuf.Purpose.{Purpose}
 use Rattle.sled_core.specs.declared.iobuf.SegmentPosition.{SegmentPosition}
 use Rattle.sled_core.specs.Caps.{segment_rest}
-use Rattle.sled_core.specs.Manifests.{is_manifest, kind_kept}
+use Rattle.sled_core.specs.Manifests.{is_manifest, kind_for}
 
 -- neither completed nor aborted
 abbrev pub open_state : ReservationState → Bool
@@ -58,7 +58,7 @@ text_as sum k page number body Padding = []
 pub record StandsAs (sum : List ℕ → ℕ) (number : ℕ) (text body : List ℕ) (r : Reserved) : Type 0 where
   pub headed : 5 ≤ r.header_len
   pub long : r.header_len ≤ r.len
-  pub known : kind_kept r.log_kind r.page ≡ Some r.kind
+  pub known : kind_for r.log_kind r.page (length body) ≡ Some r.kind
   -- a completed one is a message
   pub whole : r.state ≡ Completed → is_manifest r.log_kind r.page ≡ false
   -- and an ended manifest is none, and has a peg

@@ -18,10 +18,6 @@ is_manifest does.Link page = false
 is_manifest does.Free page = false
 is_manifest does.Corrupted page = false
 
--- the kind of its record
-abbrev pub kind_kept : LogKind → ℕ → Option MessageKind
-kind_kept does page = if is_manifest does page then Some BatchManifest else kind_written does page false
-
--- the same with an item of n bytes: a manifest has 8
+-- the kind of a message's record, with an item of n bytes: a manifest has 8
 abbrev pub kind_for : LogKind → ℕ → ℕ → Option MessageKind
 kind_for does page n = if is_manifest does page then (if n == 8 then Some BatchManifest else None) else kind_written does page false

@@ -127,7 +127,7 @@ module _ (sum : List ℕ → ℕ) (size : ℕ) (site : SegmentPosition) (device 
 
   adds : is_manifest r.log_kind r.page ≡ false → AddsMessage H (message_in site bytes r) history
   adds none = record {
-    changes = changes_page r.log_kind r.page r.kind (kind_of_message r.log_kind r.page r.kind its.text.known none);
+    changes = changes_page r.log_kind r.page r.kind (kind_of_message r.log_kind r.page (length (body_in bytes r)) r.kind its.text.known none);
     before = holds.earlier ++ completed_in site bytes xs;
     after = completed_in site bytes ys;
     old = old_messages ∙ sym (append_assoc holds.earlier (completed_in site bytes xs) (completed_in site bytes ys));

@@ -1,7 +1,7 @@
 -- A reservation is made in the segment that is being filled: where it is put, and what the log holds and fits then.
 use Rattle.std.proofs.Common.{◌≡◌, ◌∙◌, ◌<◌, ◌≤◌, ◌+◌, ◌-◌, ◌/◌, ◌^◌, nat_lt, ap, sym, refl, arith, subst, ℕ, Bool, true, false, if◌then◌else◌, List, [], ◌∷◌, ◌++◌, length, length-append, map, drop, Some}
 use Rattle.std.proofs.lemmas.Bool.Decides.{nat_tests}
-use Rattle.sled_core.specs.Manifests.{kind_kept}
+use Rattle.sled_core.specs.Manifests.{kind_for}
 use Rattle.sled_codec.specs.Spelling.{short_header_tail}
 use Rattle.sled_codec.specs.History.{Message}
 use Rattle.sled_codec.specs.declared.serialization.message.MessageKind.{MessageKind}
@@ -89,7 +89,7 @@ record_long kind head_len item_len number page n head is =
     omega (arith, head ∙ ap (λ k. 4 + length (short_header_tail kind k number page)) is, is, tail)
 
 -- What is laid out for it has a place in the segment.
-module _ {D C : Type 0} (sum : List ℕ → ℕ) (log : Log D C) (head item : List ℕ) (kept : Purpose) (known : kind_kept kept.log_kind kept.page ≡ Some kept.kind) (small : kept.page < 2 ^ 64)
+module _ {D C : Type 0} (sum : List ℕ → ℕ) (log : Log D C) (head item : List ℕ) (kept : Purpose) (known : kind_for kept.log_kind kept.page (length item) ≡ Some kept.kind) (small : kept.page < 2 ^ 64)
     (tail : drop 4 head ≡ short_header_tail kept.kind (length item) ((current_of log).parts.site.place / segment_size_of log) kept.page) (fits : HasPlace log (length head + length item)) where
   abbrev number : ℕ
   number = (current_of log).parts.site.place / segment_size_of log

@@ -2,7 +2,7 @@
 use Rattle.std.proofs.Common.{◌∷◌, [], ◌≡◌, ◌∙◌, ◌<◌, ◌≤◌, ◌+◌, ◌-◌, ◌*◌, ◌/◌, ◌^◌, ◌-ℤ◌, ap, sym, refl, arith, subst, ℕ, pos, Bool, true, false, if◌then◌else◌, List, ◌++◌, length, map, drop, Some}
 use Rattle.std.proofs.lemmas.Bool.Decides.{nat_tests}
 use Rattle.sled_codec.proofs.Segments.{length-short_header}
-use Rattle.sled_core.specs.Manifests.{is_manifest, kind_kept}
+use Rattle.sled_core.specs.Manifests.{is_manifest, kind_for}
 use Rattle.sled_core.specs.Tickets.{is_manifest_of}
 use Rattle.sled_codec.specs.Spelling.{short_header_tail}
 use Rattle.sled_codec.specs.History.{Message}
@@ -170,7 +170,7 @@ module _ {D C : Type 0} (trace : D → Trace) (sum : List ℕ → ℕ) (old : Lo
 
 -- The reservation is made.
 module _ {D C : Type 0} (trace : D → Trace) (sum : List ℕ → ℕ) (old mid new : Log D C) (kept : Purpose) (head item : List ℕ) (ready : IsPrepared trace sum old mid kept head item)
-    (known : kind_kept kept.log_kind kept.page ≡ Some kept.kind) (small : kept.page < 2 ^ 64)
+    (known : kind_for kept.log_kind kept.page (length item) ≡ Some kept.kind) (small : kept.page < 2 ^ 64)
     (line : line_of new ≡ at_last (reserved_now (placeholder_head head ++ item) (reserved_for kept (length (current_of mid).parts.bytes) (length head) (length item) (sum (item ++ drop 4 head)))) (line_of mid))
     (rest : ChangesSlots mid new) (accountant : new.accountant ≡ mid.accountant) where
   abbrev w : SegmentView

@@ -117,7 +117,7 @@ module _ (sum : List ℕ → ℕ) (size : ℕ) (site : SegmentPosition) (log byt
         record {
           header = header_as (as_record r.kind stands.valid).header r.kind;
           stands = record_stands r.kind stands.valid there;
-          known = kind_of_message r.log_kind r.page r.kind stands.known (stands.whole is);
+          known = kind_of_message r.log_kind r.page (length body) r.kind stands.known (stands.whole is);
           short = there;
           page = refl;
         }

@@ -1,5 +1,5 @@
 -- A reservation that ends has its record, or one that is passed over, at its place, and no other one is touched.
-use Rattle.std.proofs.Common.{◌≡◌, ◌≤◌, ◌+◌, ◌-◌, inl, inr, ℕ, List, [], ◌∷◌, ◌++◌, length, take, drop, sym, ◌∙◌, ap, arith, refl, subst, Bool, false, if◌then◌else◌, Some}
+use Rattle.std.proofs.Common.{◌≡◌, ◌≤◌, ◌+◌, ◌-◌, inl, inr, ℕ, List, [], ◌∷◌, ◌++◌, length, take, drop, sym, ◌∙◌, ap, arith, refl, subst, Bool, false, if◌then◌else◌, ◌==◌, None, Some}
 use Rattle.std.proofs.lemmas.List.{drop-drop, take-take, take_at}
 use Rattle.sled_codec.specs.Written.{written}
 use Rattle.sled_codec.specs.Places.{part}
@@ -15,15 +15,15 @@ use Rattle.sled_codec.specs.History.{ChangesPage}
 use Rattle.sled_core.specs.declared.iobuf.ReservationState.{ReservationState}
 use Rattle.sled_core.specs.declared.iobuf.ReservationState.TheVariants.{Open, Completed, Canceled}
 use Rattle.sled_core.specs.declared.iobuf.Reserved.{Reserved}
-use Rattle.sled_core.specs.Manifests.{is_manifest, kind_kept}
+use Rattle.sled_core.specs.Manifests.{is_manifest, kind_for}
 use Rattle.sled_core.specs.Buffers.{text_in, body_in, text_as, placeholder, ending, completing, canceling, ended, HasText, Stands, StandsAs}
 use Rattle.sled_core.proofs.Reserve.Entries.{stands-same}
 use Rattle.sled_core.proofs.Reserve.Parts.{mid_is}
 use Rattle.sled_core.proofs.Reserve.Ranges.{part-written_before, part-written_behind, part-written_at}
 
 -- what is no manifest is written under the kind of its message
-pub kind_of_message : (does : LogKind) (page : ℕ) (k : MessageKind) → kind_kept does page ≡ Some k → is_manifest does page ≡ false → kind_written does page false ≡ Some k
-kind_of_message does page k is none = sym (ap (λ (o : Bool). if o then Some kind.BatchManifest else kind_written does page false) none) ∙ is
+pub kind_of_message : (does : LogKind) (page n : ℕ) (k : MessageKind) → kind_for does page n ≡ Some k → is_manifest does page ≡ false → kind_written does page false ≡ Some k
+kind_of_message does page n k is none = sym (ap (λ (o : Bool). if o then (if n == 8 then Some kind.BatchManifest else None) else kind_written does page false) none) ∙ is
 
 -- a message that has a kind to be written under changes a page
 pub changes_page : (does : LogKind) (page : ℕ) (kind : MessageKind) → kind_written does page false ≡ Some kind → ChangesPage does

@@ -16,7 +16,7 @@ use Rattle.sled_core.specs.declared.iobuf.Reserved.{Reserved}
 use Rattle.sled_core.specs.declared.iobuf.Purpose.{Purpose}
 use Rattle.sled_core.specs.declared.iobuf.SegmentPosition.{SegmentPosition}
 use Rattle.sled_codec.specs.declared.result.DiskPtr.TheVariants.{Inline}
-use Rattle.sled_core.specs.Manifests.{is_manifest, kind_for, kind_kept}
+use Rattle.sled_core.specs.Manifests.{is_manifest, kind_for}
 use Rattle.sled_core.specs.Buffers.{text_in, body_in, message_in, placeholder, placeholder_head, reserved_for, record_size, HasText, StandsAs}
 use Rattle.sled_core.proofs.Reserve.Heads.{length-short_header_tail}
 
@@ -34,19 +34,12 @@ written_valid does.Skip page kind is = λ bad. cc
 written_valid does.Corrupted page kind is = λ bad. cc
 
 -- nor is a manifest
-pub kind_valid : (does_it : LogKind) (page : ℕ) (kind : MessageKind) → kind_kept does_it page ≡ Some kind → kind ≢ Corrupted
-kind_valid does_it page kind = by (is_manifest does_it page) where
-  by : (o : Bool) → (if o then Some BatchManifest else kind_written does_it page false) ≡ Some kind → kind ≢ Corrupted
-  by true is = λ bad. cc
-  by false is = written_valid does_it page kind is
-
--- what a place is kept for with some item
-pub kept_for : (does_it : LogKind) (page n : ℕ) (kind : MessageKind) → kind_for does_it page n ≡ Some kind → kind_kept does_it page ≡ Some kind
-kept_for does_it page n kind = by (is_manifest does_it page) (n == 8) where
-  by : (o e : Bool) → (if o then (if e then Some BatchManifest else None) else kind_written does_it page false) ≡ Some kind → (if o then Some BatchManifest else kind_written does_it page false) ≡ Some kind
-  by true true is = is
+pub kind_valid : (does_it : LogKind) (page n : ℕ) (kind : MessageKind) → kind_for does_it page n ≡ Some kind → kind ≢ Corrupted
+kind_valid does_it page n kind = by (is_manifest does_it page) (n == 8) where
+  by : (o e : Bool) → (if o then (if e then Some BatchManifest else None) else kind_written does_it page false) ≡ Some kind → kind ≢ Corrupted
+  by true true is = λ bad. cc
   by true false is = cc
-  by false e is = is
+  by false e is = written_valid does_it page kind is
 
 -- the last one is there
 pub there_last : {X : Type 0} (xs : List X) (x : X) → slice_get (xs ++ x ∷ []) (length xs) ≡ Some x
@@ -59,7 +52,7 @@ there_append [] ys i x there = cc
 there_append (y ∷ xs) ys zero x there = there
 there_append (y ∷ xs) ys (suc i) x there = there_append xs ys i x there
 
-module _ (sum : List ℕ → ℕ) (number : ℕ) (bytes head item : List ℕ) (kept : Purpose) (known : kind_kept kept.log_kind kept.page ≡ Some kept.kind) (small : kept.page < 2 ^ 64)
+module _ (sum : List ℕ → ℕ) (number : ℕ) (bytes head item : List ℕ) (kept : Purpose) (known : kind_for kept.log_kind kept.page (length item) ≡ Some kept.kind) (small : kept.page < 2 ^ 64)
     (tail : drop 4 head ≡ short_header_tail kept.kind (length item) number kept.page) (long : length head ≡ 4 + length (short_header_tail kept.kind (length item) number kept.page)) where
   abbrev more : List ℕ
   more = placeholder_head head ++ item
@@ -100,7 +93,7 @@ module _ (sum : List ℕ → ℕ) (number : ℕ) (bytes head item : List ℕ) (k
         long = omega arith;
         known = known;
         whole = λ is. cc;
-        valid = kind_valid kept.log_kind kept.page kept.kind known;
+        valid = kind_valid kept.log_kind kept.page (length item) kept.kind known;
         page = small;
         summed = ap (λ (l : List ℕ). flipped (sum (item ++ l))) tail;
         counted = long;

@@ -15,7 +15,7 @@ use Rattle.sled_core.specs.Causes.{MakesRoom, ReserveAnswers}
 use Rattle.sled_core.specs.declared.iobuf.Purpose.{Purpose}
 use Rattle.sled_core.specs.declared.iobuf.record.Head.{Head}
 use Rattle.sled_core.specs.declared.logger.Log.{Log}
-use Rattle.sled_core.specs.Manifests.{kind_for, kind_kept}
+use Rattle.sled_core.specs.Manifests.{kind_for}
 use Rattle.sled_core.specs.Fits.{FitsInline, current_of, line_of, machine_at, open_of, segment_size_of, synced_end}
 use Rattle.sled_core.specs.Turned.{ChangesLine, ChangesSlots, HasPlace, IsTicketFor, next_line, reserved_now}
 use Rattle.sled_core.specs.Waiting.{at_last}
@@ -23,7 +23,7 @@ use Rattle.sled_core.proofs.Holds.KeptCalls.{kept_still}
 use Rattle.sled_core.proofs.Line.LogReserves.{record_long}
 use Rattle.sled_core.proofs.Line.Prepares.{IsPrepared, here_further, here_open, made_end, made_keeps, made_opens, made_others, made_position, made_same, made_seals, made_ticket, next_open, next_used, number_of, prepared_here, prepared_next}
 use Rattle.sled_core.proofs.Line.Unchanged.{left_alone, unchanged_keeps}
-use Rattle.sled_core.proofs.Reserve.ReserveLemmas.{head_whole, kept_for}
+use Rattle.sled_core.proofs.Reserve.ReserveLemmas.{head_whole}
 use Rattle.sled_core.proofs.logger.Log.reserve.Given as given
 use Rattle.sled_core.proofs.logger.Log.reserve.Goals.{then-has_place+in_ok-room_for, else-has_place+in_ok-begin_segment}
 use Rattle.sled_core.proofs.logger.Log.reserve.Goals as goal
@@ -203,9 +203,6 @@ is_ready g c =
 its_kind : (g : given.Over) (c : goal.After-append g) → kind_for c.args.kind c.args.pid (length (its_item g c)) ≡ Some c.in-Some-kind_for.message_kind
 its_kind g c = sym (c.kind_for.ensures ∙ ap (kind_for c.args.kind c.args.pid) c.serialized_size-item_len.ensures) ∙ c.in-Some-kind_for.is
 
-its_known : (g : given.Over) (c : goal.After-append g) → kind_kept c.args.kind c.args.pid ≡ Some c.in-Some-kind_for.message_kind
-its_known g c = kept_for c.args.kind c.args.pid (length (its_item g c)) c.in-Some-kind_for.message_kind (its_kind g c)
-
 its_line : (g : given.Over) (c : goal.After-append g)
     → line_of c.append.new.self ≡ at_last (reserved_now (placeholder_head (text_of c.if-has_place.head) ++ its_item g c) (reserved_for (its_kept g c) (length (current_of c.if-has_place.self).parts.bytes) (length (text_of c.if-has_place.head)) (length (its_item g c))
     (g.C.Checksum.sum_of (its_item g c ++ drop 4 (text_of c.if-has_place.head))))) (line_of c.if-has_place.self)
@@ -224,35 +221,35 @@ its_ticket g c =
     subst (IsTicketFor c.if-has_place.self c.append.result) (λ i. long i + counted i) c.append.ensures.ticket
 
 pub returns-clause-ticket : goal.returns-clause-ticket
-returns-clause-ticket g c = made_ticket g.D.Device.trace g.C.Checksum.sum_of c.args.self.now c.if-has_place.self c.append.new.self (its_kept g c) (text_of c.if-has_place.head) (its_item g c) (is_ready g c).prepared (its_known g c) c.ranges.pid.fits (its_line g c) c.append.ensures.rest c.append.ensures.accountant c.append.result (its_ticket g c) c.append.ensures.manifest
+returns-clause-ticket g c = made_ticket g.D.Device.trace g.C.Checksum.sum_of c.args.self.now c.if-has_place.self c.append.new.self (its_kept g c) (text_of c.if-has_place.head) (its_item g c) (is_ready g c).prepared (its_kind g c) c.ranges.pid.fits (its_line g c) c.append.ensures.rest c.append.ensures.accountant c.append.result (its_ticket g c) c.append.ensures.manifest
 
 pub returns-clause-manifest : goal.returns-clause-manifest
 returns-clause-manifest g c = c.append.ensures.manifest
 
 pub returns-clause-position : goal.returns-clause-position
-returns-clause-position g c = made_position g.D.Device.trace g.C.Checksum.sum_of c.args.self.now c.if-has_place.self c.append.new.self (its_kept g c) (text_of c.if-has_place.head) (its_item g c) (is_ready g c).prepared (its_known g c) c.ranges.pid.fits (its_line g c) c.append.ensures.rest c.append.ensures.accountant
+returns-clause-position g c = made_position g.D.Device.trace g.C.Checksum.sum_of c.args.self.now c.if-has_place.self c.append.new.self (its_kept g c) (text_of c.if-has_place.head) (its_item g c) (is_ready g c).prepared (its_kind g c) c.ranges.pid.fits (its_line g c) c.append.ensures.rest c.append.ensures.accountant
 
 pub returns-clause-reserved : goal.returns-clause-reserved
 returns-clause-reserved g c =
     let end = c.append.ensures.reserved in
     let long = (is_ready g c).long in
     let counted = c.serialized_size-item_len.ensures in
-    made_end g.D.Device.trace g.C.Checksum.sum_of c.args.self.now c.if-has_place.self c.append.new.self (its_kept g c) (text_of c.if-has_place.head) (its_item g c) (is_ready g c).prepared (its_known g c) c.ranges.pid.fits (its_line g c) c.append.ensures.rest c.append.ensures.accountant (omega (arith, end, long, counted))
+    made_end g.D.Device.trace g.C.Checksum.sum_of c.args.self.now c.if-has_place.self c.append.new.self (its_kept g c) (text_of c.if-has_place.head) (its_item g c) (is_ready g c).prepared (its_kind g c) c.ranges.pid.fits (its_line g c) c.append.ensures.rest c.append.ensures.accountant (omega (arith, end, long, counted))
 
 pub returns-clause-others : goal.returns-clause-others
-returns-clause-others g c = made_others g.D.Device.trace g.C.Checksum.sum_of c.args.self.now c.if-has_place.self c.append.new.self (its_kept g c) (text_of c.if-has_place.head) (its_item g c) (is_ready g c).prepared (its_known g c) c.ranges.pid.fits (its_line g c) c.append.ensures.rest c.append.ensures.accountant
+returns-clause-others g c = made_others g.D.Device.trace g.C.Checksum.sum_of c.args.self.now c.if-has_place.self c.append.new.self (its_kept g c) (text_of c.if-has_place.head) (its_item g c) (is_ready g c).prepared (its_kind g c) c.ranges.pid.fits (its_line g c) c.append.ensures.rest c.append.ensures.accountant
 
 pub returns-clause-opens : goal.returns-clause-opens
-returns-clause-opens g c = made_opens g.D.Device.trace g.C.Checksum.sum_of c.args.self.now c.if-has_place.self c.append.new.self (its_kept g c) (text_of c.if-has_place.head) (its_item g c) (is_ready g c).prepared (its_known g c) c.ranges.pid.fits (its_line g c) c.append.ensures.rest c.append.ensures.accountant
+returns-clause-opens g c = made_opens g.D.Device.trace g.C.Checksum.sum_of c.args.self.now c.if-has_place.self c.append.new.self (its_kept g c) (text_of c.if-has_place.head) (its_item g c) (is_ready g c).prepared (its_kind g c) c.ranges.pid.fits (its_line g c) c.append.ensures.rest c.append.ensures.accountant
 
 pub returns-clause-seals : goal.returns-clause-seals
-returns-clause-seals g c = made_seals g.D.Device.trace g.C.Checksum.sum_of c.args.self.now c.if-has_place.self c.append.new.self (its_kept g c) (text_of c.if-has_place.head) (its_item g c) (is_ready g c).prepared (its_known g c) c.ranges.pid.fits (its_line g c) c.append.ensures.rest c.append.ensures.accountant
+returns-clause-seals g c = made_seals g.D.Device.trace g.C.Checksum.sum_of c.args.self.now c.if-has_place.self c.append.new.self (its_kept g c) (text_of c.if-has_place.head) (its_item g c) (is_ready g c).prepared (its_kind g c) c.ranges.pid.fits (its_line g c) c.append.ensures.rest c.append.ensures.accountant
 
 pub returns-clause-keeps : goal.returns-clause-keeps
-returns-clause-keeps g c = made_keeps g.D.Device.trace g.C.Checksum.sum_of c.args.self.now c.if-has_place.self c.append.new.self (its_kept g c) (text_of c.if-has_place.head) (its_item g c) (is_ready g c).prepared (its_known g c) c.ranges.pid.fits (its_line g c) c.append.ensures.rest c.append.ensures.accountant
+returns-clause-keeps g c = made_keeps g.D.Device.trace g.C.Checksum.sum_of c.args.self.now c.if-has_place.self c.append.new.self (its_kept g c) (text_of c.if-has_place.head) (its_item g c) (is_ready g c).prepared (its_kind g c) c.ranges.pid.fits (its_line g c) c.append.ensures.rest c.append.ensures.accountant
 
 pub returns-clause-same : goal.returns-clause-same
-returns-clause-same g c = made_same g.D.Device.trace g.C.Checksum.sum_of c.args.self.now c.if-has_place.self c.append.new.self (its_kept g c) (text_of c.if-has_place.head) (its_item g c) (is_ready g c).prepared (its_known g c) c.ranges.pid.fits (its_line g c) c.append.ensures.rest c.append.ensures.accountant
+returns-clause-same g c = made_same g.D.Device.trace g.C.Checksum.sum_of c.args.self.now c.if-has_place.self c.append.new.self (its_kept g c) (text_of c.if-has_place.head) (its_item g c) (is_ready g c).prepared (its_kind g c) c.ranges.pid.fits (its_line g c) c.append.ensures.rest c.append.ensures.accountant
 
 pub returns-clause-answers : goal.returns-clause-answers
 returns-clause-answers g c = (c.in_default.is, subst IsSome (sym (its_kind g c)) refl, (is_ready g c).prepared.further, (is_ready g c).prepared.few)
