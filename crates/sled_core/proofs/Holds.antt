@@ -1,4 +1,5 @@
 pub mod Added
+pub mod BatchLemmas
 pub mod BegunLemmas
 pub mod BehindKept
 pub mod BufferEnds

@@ -13,10 +13,11 @@ use Rattle.sled_core.specs.declared.iobuf.Reserved.{Reserved}
 use Rattle.sled_core.specs.declared.iobuf.Sealed.{Sealed}
 use Rattle.sled_core.specs.declared.iobuf.SegmentPosition.{SegmentPosition}
 use Rattle.sled_core.specs.Begun.{SegmentParts}
-use Rattle.sled_core.specs.Fits.{HasInline, HasMark, HoldBehind, HoldsIn, HoldsNext, begun_segment, log_parts}
+use Rattle.sled_core.specs.Fits.{CloseBelow, HasInline, HasMark, HoldBehind, HoldsIn, HoldsNext, begun_segment, log_parts}
 use Rattle.sled_core.specs.LogFile.{IsLogFile, MessageStands, StandsElsewhere, StaysBelow, StaysFrom}
 use Rattle.sled_core.specs.Reached.{BegunSegment, FollowApart}
 use Rattle.sled_core.specs.SealedBuffers.{AreZeros}
+use Rattle.sled_core.proofs.Holds.BatchLemmas.{none_batched}
 use Rattle.sled_core.proofs.Behind.Around.{behind_below, behind_place, together}
 use Rattle.sled_core.proofs.Flush.Completed.{batches_to, grows}
 use Rattle.sled_core.proofs.Flush.FlushLemmas.{on_file}
@@ -112,6 +113,12 @@ module _ (sum : List ℕ → ℕ) (size : ℕ) (site : SegmentPosition) (device 
   file : fault ≡ None → IsLogFile sum size device.log.bytes site from holds.own.earlier (StaysFrom H stable)
   file whole = on_file sum size device.log site from holds.own.earlier (StaysFrom H stable) (holds.own.written whole)
 
+  closed : CloseBelow (next.place + 0) H.batches
+  closed =
+      let up = far in
+      let grown = grows sum size site device fault bytes from bs rs first holds.own in
+      batches_to sum size site device fault bytes from bs rs first holds.own (next.place + 0) (omega (arith, up, grown, short))
+
   -- It holds nothing.
   pub next_holds : HoldsNext sum size device fault (behind_place size (site.place + size) behind) (begun_with next text) stays H.batches []
   next_holds = record {
@@ -125,10 +132,8 @@ module _ (sum : List ℕ → ℕ) (size : ℕ) (site : SegmentPosition) (device 
       messages = refl;
       below = All-nil (λ (m : Message). (m.place < next.place + 0) × (m.place + m.size ≤ next.place + 0));
       apart = tt;
-      batches = (
-          let up = far in
-          let grown = grows sum size site device fault bytes from bs rs first holds.own in
-          batches_to sum size site device fault bytes from bs rs first holds.own (next.place + 0) (omega (arith, up, grown, short)));
+      batches = closed;
+      batched = none_batched size next 0 H.batches closed;
       place_begins = subst (λ n. n % size ≡ 0) (sym at) (place_aligned size (site.place + size) behind (next_multiple size site.place holds.own.place_begins));
       slot_begins = aligned;
       header = λ _. record { mark = mark.mark; is = mark.is; of_history = mark_same H none (record { place = next.place; slot = next.slot; mark = mark.mark }) refl mark.of_history };

@@ -15,7 +15,7 @@ use Rattle.sled_core.specs.declared.iobuf.ReservationState.TheVariants.{Open, Ca
 use Rattle.sled_core.specs.declared.iobuf.Reserved.{Reserved}
 use Rattle.sled_core.specs.declared.iobuf.Sealed.{Sealed}
 use Rattle.sled_core.specs.declared.iobuf.SegmentPosition.{SegmentPosition}
-use Rattle.sled_core.specs.Buffers.{IsChain, HasText, Stands, body_in, canceling, ended, ending, open_state, padding_at}
+use Rattle.sled_core.specs.Buffers.{IsChain, HasText, Stands, batches_in, body_in, canceling, ended, ending, open_state, padding_at}
 use Rattle.sled_core.specs.Caps.{segment_rest}
 use Rattle.sled_core.specs.Begun.{SegmentParts}
 use Rattle.sled_core.specs.Fits.{HoldsIn, HoldsNext, HoldsSegment, log_parts}
@@ -23,11 +23,12 @@ use Rattle.sled_core.specs.SealedBuffers.{AreSealed, one_ended, seal_at, sealed_
 use Rattle.sled_core.proofs.Behind.Around.{behind_place, held_around, holds_with, next_with, now_with, stays_below}
 use Rattle.sled_core.proofs.Flush.Completed.{grows}
 use Rattle.sled_core.proofs.Holds.CanceledLemmas.{segment-aborted}
+use Rattle.sled_core.proofs.Holds.BatchLemmas.{same_batched}
 use Rattle.sled_core.proofs.Holds.HoldsLemmas.{segment-append}
 use Rattle.sled_core.proofs.Holds.SealedCalls.{segment-sealed}
 use Rattle.sled_core.proofs.Reserve.CompletesLemmas.{fits}
 use Rattle.sled_core.proofs.Reserve.Entries.{open_plain, reserved_in}
-use Rattle.sled_core.proofs.Reserve.Filled.{filled_chain, filled_long, filled_messages, filled_stand}
+use Rattle.sled_core.proofs.Reserve.Filled.{filled_batches, filled_chain, filled_long, filled_messages, filled_stand}
 use Rattle.sled_core.proofs.Reserve.OpenCounts.{open_fewer}
 use Rattle.sled_core.proofs.Reserve.Ranges.{at_there, chain_within, length-written}
 use Rattle.sled_core.proofs.Sealed.Appended.{end_one, seal_are}
@@ -57,6 +58,7 @@ segment-filled sum size site device fault bytes from bs rs H less small rise {st
       below = holds.below;
       apart = holds.apart;
       batches = holds.batches;
+      batched = same_batched size site from (batches_in site bytes rs) (batches_in site (bytes ++ more) (rs ++ its ∷ [])) H.batches H.batches (filled_batches sum size number bytes (max 20 from) rs small less holds.chain holds.stand site) refl holds.batched;
       place_begins = holds.place_begins;
       slot_begins = holds.slot_begins;
       header = λ first. let m = holds.header first in record { mark = m.mark; is = take-append-le 20 bytes more (omega (arith, begun)) ∙ m.is; of_history = m.of_history };

@@ -103,8 +103,8 @@ module _ (sum : List ℕ → ℕ) (size : ℕ) (site : SegmentPosition) (device 
   laid_in to = laid_same s.site.slot old (padded to old) s.bytes s.written_len s.sealed size rise_size (record { grows = omega (arith, length-padded to old); same = λ i above below. padded_get to old (s.site.slot + i) }) (here.segment.laid whole)
 
   -- Of the history these are all that begins in a part of the segment.
-  own_only : (ms : List Message) (bs : List Batch) (low high : ℕ) → s.site.place ≤ low → high ≤ s.site.place + size → HasOnly own_history ms bs low high → HasOnly H ms bs low high
-  own_only ms bs low high above inside only = record {
+  own_only : (ms : List Message) (batches : List Batch) (low high : ℕ) → s.site.place ≤ low → high ≤ s.site.place + size → HasOnly own_history ms batches low high → HasOnly H ms batches low high
+  own_only ms batches low high above inside only = record {
     there = λ m its. subst (λ (l : List Message). Contains l m) (sym holds.messages)
         (Contains-append_right holds.head holds.later m (subst (λ (l : List Message). Contains l m) (sym parts.messages) (Contains-append_right parts.before (parts.own ++ parts.after) m (Contains-append_left parts.own parts.after m (only.there m its)))));
     only = λ m among. elim (cases_lt m.place low) [

@@ -5,7 +5,7 @@ use Rattle.std.specs.declared.io.Error.{Error as IoError}
 use Rattle.std.proofs.lemmas.Bool.{cases_lt}
 use Rattle.std.proofs.lemmas.List.{take-append-drop}
 use Rattle.std.proofs.lemmas.List.Elements.{All-append, All-contains, All-drop, All-take, Contains-append_cases}
-use Rattle.sled_codec.specs.History.{Message, History}
+use Rattle.sled_codec.specs.History.{Message, Batch, History}
 use Rattle.sled_codec.specs.Snapshots.{stable_place}
 use Rattle.sled_codec.specs.WellFormed.{LieApart}
 use Rattle.sled_store.specs.Device.{LogState, State, Wrote, Synced, LeavesLog, at_rest, overwritten, step}
@@ -16,7 +16,7 @@ use Rattle.sled_core.specs.declared.iobuf.Sealed.{Sealed}
 use Rattle.sled_core.specs.declared.iobuf.SegmentPosition.{SegmentPosition}
 use Rattle.sled_core.specs.Buffers.{IsChain, NoPadding, Stands, batches_in, completed_in, records_end, records_of}
 use Rattle.sled_core.specs.Begun.{SegmentParts}
-use Rattle.sled_core.specs.Fits.{log_parts, HasMark, HoldsIn, HoldsSegment, EndBelow}
+use Rattle.sled_core.specs.Fits.{HasBatches, log_parts, HasMark, HoldsIn, HoldsSegment, EndBelow}
 use Rattle.sled_core.specs.Full.{StandsFull}
 use Rattle.sled_core.specs.LogFile.{IsLogFile, StaysFrom, padded}
 use Rattle.sled_core.specs.OpenBatches.{stable_below}
@@ -25,11 +25,12 @@ use Rattle.sled_core.specs.Recoverable.{NoHeaderOfZeros}
 use Rattle.sled_core.specs.SealedBuffers.{AreSealed, Laid, now_written, run_end, run_count, behind_run, bytes_between}
 use Rattle.sled_core.proofs.Behind.FullHead.{first_full, plain_run, torn_head_any}
 use Rattle.sled_core.proofs.Reserve.Entries.{some_long}
-use Rattle.sled_core.proofs.Reserve.Ranges.{chain_grows, completed-append, completed_between}
+use Rattle.sled_core.proofs.Reserve.Ranges.{batches-append, batches_between, chain_grows, completed-append, completed_between}
 use Rattle.sled_core.proofs.Flush.Completed.{all_apart, batches_to, has_only, front_only}
 use Rattle.sled_core.proofs.Flush.FlushLemmas.{on_file}
 use Rattle.sled_core.proofs.Flush.SealedFile.{chain_done, first_file, stop_up}
 use Rattle.sled_core.proofs.Holds.ReachLemmas.{written_before}
+use Rattle.sled_core.proofs.Holds.BatchLemmas.{same_batched, written_batched}
 use Rattle.sled_core.proofs.Holds.WholeHistory.{later_above, which_part, whole_ascends, whole_only}
 use Rattle.sled_core.proofs.Reached.BufferPath.{HasOnly, mark_same}
 use Rattle.sled_core.proofs.Reached.StandsTo.{StandsTo}
@@ -114,6 +115,12 @@ module _ (sum : List ℕ → ℕ) (size : ℕ) (site : SegmentPosition) (device 
       (λ k d lt. let low = holds.below k d lt in (omega (arith, low.0, above), omega (arith, low.1, above)))
       (λ k d lt. let low = late k d lt in (low.1, low.2))
 
+  batched_now : HasBatches size site stop (batches_in site bytes others) H.batches
+  batched_now = written_batched size site from stop (batches_in site bytes done) (batches_in site bytes others) H.batches (let above = up.0 in above)
+      (λ x among. (batches_between site bytes (max 20 from) stop done (chain_done from rs b rest closed are) (some_long sum size (site.place / size) bytes done stand_done) x among).1)
+      (same_batched size site from (batches_in site bytes rs) (batches_in site bytes done ++ batches_in site bytes others) H.batches H.batches
+      (sym (batches-append site bytes done others) ∙ ap (batches_in site bytes) (take-append-drop count rs)) refl holds.batched)
+
   file_old : IsLogFile sum size old site from holds.earlier stays
   file_old = on_file sum size device.log site from holds.earlier stays (holds.written whole)
 
@@ -128,6 +135,7 @@ module _ (sum : List ℕ → ℕ) (size : ℕ) (site : SegmentPosition) (device 
     below = below_now;
     apart = apart_front earlier_now (completed_in site bytes others) (subst LieApart messages_now (all_apart sum size site device fault bytes from (b ∷ rest) rs H holds));
     batches = batches_to sum size site device fault bytes from (b ∷ rest) rs H holds (site.place + stop) (let above = up.0 in omega (arith, above));
+    batched = batched_now;
     place_begins = holds.place_begins;
     slot_begins = holds.slot_begins;
     header = λ none. absurd (let some = up.1 in omega (arith, none, some));

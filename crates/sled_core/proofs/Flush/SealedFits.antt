@@ -86,6 +86,7 @@ module _ (sum : List ℕ → ℕ) (size : ℕ) (site : SegmentPosition) (device 
     below = holds.below;
     apart = holds.apart;
     batches = holds.batches;
+    batched = holds.batched;
     place_begins = holds.place_begins;
     slot_begins = holds.slot_begins;
     header = holds.header;

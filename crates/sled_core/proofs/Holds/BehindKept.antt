@@ -101,6 +101,7 @@ segment_beside sum size site device fault bytes from bs rs H {stays} holds are l
   below = holds.below;
   apart = holds.apart;
   batches = holds.batches;
+  batched = holds.batched;
   place_begins = holds.place_begins;
   slot_begins = holds.slot_begins;
   header = holds.header;

@@ -1,22 +1,23 @@
 -- How a segment of a log goes on holding a history when a place is reserved.
-use Rattle.std.proofs.Common.{◌≡◌, ◌≤◌, ◌+◌, ◌-◌, ◌/◌, ℕ, zero, suc, max, List, [], ◌∷◌, ◌++◌, length, sym, ◌∙◌, ap, arith, subst, length-append, Option, get_or}
+use Rattle.std.proofs.Common.{◌≡◌, ◌≤◌, ◌+◌, ◌-◌, ◌/◌, ℕ, zero, suc, max, List, [], ◌∷◌, ◌++◌, length, sym, ◌∙◌, ap, arith, refl, subst, length-append, Option, get_or}
 use Rattle.std.specs.List.{All}
 use Rattle.std.specs.declared.io.Error.{Error as IoError}
 use Rattle.std.proofs.lemmas.List.{append-nil, take-append-le}
 use Rattle.std.proofs.lemmas.List.Elements.{All-append}
-use Rattle.sled_codec.specs.History.{Message, History}
+use Rattle.sled_codec.specs.History.{Message, Batch, History}
 use Rattle.sled_store.specs.Device.{State}
 use Rattle.sled_core.specs.declared.iobuf.ReservationState.{ReservationState}
-use Rattle.sled_core.specs.declared.iobuf.ReservationState.TheVariants.{Completed, Open}
+use Rattle.sled_core.specs.declared.iobuf.ReservationState.TheVariants.{Completed, Manifest, Open}
 use Rattle.sled_core.specs.declared.iobuf.Reserved.{Reserved}
 use Rattle.sled_core.specs.declared.iobuf.Sealed.{Sealed}
 use Rattle.sled_core.specs.declared.iobuf.SegmentPosition.{SegmentPosition}
-use Rattle.sled_core.specs.Buffers.{body_in, message_in, IsChain, completed_in, with_own, HasText, Stands}
+use Rattle.sled_core.specs.Buffers.{batch_in, batches_in, body_in, message_in, IsChain, completed_in, with_batch, with_own, HasText, Stands}
 use Rattle.sled_core.specs.Fits.{log_parts, HoldsSegment}
+use Rattle.sled_core.proofs.Holds.BatchLemmas.{same_batched}
 use Rattle.sled_core.proofs.Sealed.LaidCalls.{laid_append}
 use Rattle.sled_core.proofs.Sealed.LaidLemmas.{EndsRise}
-use Rattle.sled_core.proofs.Reserve.Entries.{completed_plain, in_reserved, open_plain, reserved_in, stands-same}
-use Rattle.sled_core.proofs.Reserve.Ranges.{part-append, completed-same, completed-append, chain-append}
+use Rattle.sled_core.proofs.Reserve.Entries.{completed_plain, manifest_plain, in_reserved, open_plain, reserved_in, stands-same}
+use Rattle.sled_core.proofs.Reserve.Ranges.{batches-append, batches-same, part-append, completed-same, completed-append, chain-append}
 
 -- Bytes behind the text leave each reservation in it as it was.
 
@@ -27,7 +28,7 @@ pub stands-append : (sum : List ℕ → ℕ) (size number : ℕ) (bytes more : L
 stands-append sum size number bytes more r within stands =
     stands-same sum size number bytes (bytes ++ more) r (part-append bytes more r.from r.len within) (body-append bytes more r within) stands
 
--- and so the messages of those that were completed
+-- and so the messages of those that were completed, and the batches of the manifests that have ended
 pub completed-behind : (sum : List ℕ → ℕ) (size number : ℕ) (site : SegmentPosition) (bytes more : List ℕ) (rs : List Reserved) → All (λ x. x.from + x.len ≤ length bytes) rs → All (Stands sum size number bytes) rs
     → completed_in site (bytes ++ more) rs ≡ completed_in site bytes rs
 completed-behind sum size number site bytes more rs within stand = completed-same site bytes (bytes ++ more) rs bodies where
@@ -37,13 +38,25 @@ completed-behind sum size number site bytes more rs within stand = completed-sam
       let stands = reserved_in sum size number bytes r (completed_plain r.state done) (stand k d lt) in
       body-append bytes more r (within k d lt) stands.text.long
 
+pub batches-behind : (sum : List ℕ → ℕ) (size number : ℕ) (site : SegmentPosition) (bytes more : List ℕ) (rs : List Reserved) → All (λ x. x.from + x.len ≤ length bytes) rs → All (Stands sum size number bytes) rs
+    → batches_in site (bytes ++ more) rs ≡ batches_in site bytes rs
+batches-behind sum size number site bytes more rs within stand = batches-same site bytes (bytes ++ more) rs bodies where
+  bodies : All (λ r. r.state ≡ Manifest → body_in (bytes ++ more) r ≡ body_in bytes r) rs
+  bodies k d lt ended =
+      let r : Reserved = get_or rs k d in
+      let stands = reserved_in sum size number bytes r (manifest_plain r.state ended) (stand k d lt) in
+      body-append bytes more r (within k d lt) stands.text.long
+
 pub one : {X : Type 0} (P : X → Type 0) (x : X) → P x → All P (x ∷ [])
 one P x here zero d lt = here
 one P x here (suc k) d lt = absurd (omega arith)
 
--- an open reservation is no message yet
+-- an open reservation is no message yet, and no batch
 pub completed_open : (site : SegmentPosition) (bytes : List ℕ) (r : Reserved) (rs : List Reserved) → r.state ≡ Open → completed_in site bytes (r ∷ rs) ≡ completed_in site bytes rs
 completed_open site bytes r rs is = ap (λ (s : ReservationState). with_own s (message_in site bytes r) (completed_in site bytes rs)) is
+
+pub batches_open : (site : SegmentPosition) (bytes : List ℕ) (r : Reserved) (rs : List Reserved) → r.state ≡ Open → batches_in site bytes (r ∷ rs) ≡ batches_in site bytes rs
+batches_open site bytes r rs is = ap (λ (s : ReservationState). with_batch s (batch_in site bytes r) (batches_in site bytes rs)) is
 
 module _ (sum : List ℕ → ℕ) (size : ℕ) (site : SegmentPosition) (device : State) (fault : Option IoError) (bytes : List ℕ) (from : ℕ) (bs : List Sealed) (rs : List Reserved) (H : History)
     {stays : Message → Type 0} (holds : HoldsSegment sum (log_parts size site device fault bytes from bs rs) stays H) where
@@ -63,6 +76,8 @@ module _ (sum : List ℕ → ℕ) (size : ℕ) (site : SegmentPosition) (device 
         below = holds.below;
         apart = holds.apart;
         batches = holds.batches;
+        batched = same_batched size site from (batches_in site bytes rs) (batches_in site new (rs ++ r ∷ [])) H.batches H.batches
+            (batches-append site new rs (r ∷ []) ∙ ap (λ (l : List Batch). batches_in site new rs ++ l) (batches_open site new r [] is_open) ∙ append-nil (batches_in site new rs) ∙ batches-behind sum size number site bytes more rs within holds.stand) refl holds.batched;
         place_begins = holds.place_begins;
         slot_begins = holds.slot_begins;
         header = λ first. let m = holds.header first in record { mark = m.mark; is = take-append-le 20 bytes more begun ∙ m.is; of_history = m.of_history };

@@ -21,6 +21,7 @@ segment-sealed sum size site device fault bytes from bs rs own H short inside ho
   below = holds.below;
   apart = holds.apart;
   batches = holds.batches;
+  batched = holds.batched;
   place_begins = holds.place_begins;
   slot_begins = holds.slot_begins;
   header = holds.header;

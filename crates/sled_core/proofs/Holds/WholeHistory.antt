@@ -83,8 +83,8 @@ module _ (sum : List ℕ → ℕ) (size : ℕ) (site : SegmentPosition) (device 
   ]
 
   -- What is all of the first segment's that begins in a part of it is all that does.
-  pub whole_only : (ms : List Message) (bs : List Batch) (low high : ℕ) → high ≤ site.place + size → HasOnly of_first ms bs low high → HasOnly H ms bs low high
-  whole_only ms bs low high end only = record {
+  pub whole_only : (ms : List Message) (batches : List Batch) (low high : ℕ) → high ≤ site.place + size → HasOnly of_first ms batches low high → HasOnly H ms batches low high
+  whole_only ms batches low high end only = record {
     there = λ m its. subst (λ (l : List Message). Contains l m) (sym holds.messages) (Contains-append_left holds.head holds.later m (only.there m its));
     only = λ m there. elim (which_part m there) [
       | inl first ↦ only.only m first

@@ -5,11 +5,11 @@ use Rattle.std.proofs.lemmas.List.{append-nil, drop_at, take_all}
 use Rattle.std.proofs.lemmas.List.Elements.{All-append}
 use Rattle.sled_core.specs.declared.iobuf.Reserved.{Reserved}
 use Rattle.sled_core.specs.declared.iobuf.SegmentPosition.{SegmentPosition}
-use Rattle.sled_core.specs.Buffers.{IsChain, Stands, completed_in, padding_at, text_in}
+use Rattle.sled_core.specs.Buffers.{IsChain, Stands, batches_in, completed_in, padding_at, text_in}
 use Rattle.sled_core.specs.Caps.{segment_rest}
-use Rattle.sled_core.proofs.Holds.HoldsLemmas.{completed-behind, one, stands-append}
+use Rattle.sled_core.proofs.Holds.HoldsLemmas.{batches-behind, completed-behind, one, stands-append}
 use Rattle.sled_core.proofs.Reached.CapStands.{length-segment_rest}
-use Rattle.sled_core.proofs.Reserve.Ranges.{chain-append, chain_within, completed-append}
+use Rattle.sled_core.proofs.Reserve.Ranges.{batches-append, chain-append, chain_within, completed-append}
 
 module _ (sum : List ℕ → ℕ) (size number : ℕ) (bytes : List ℕ) (from : ℕ) (rs : List Reserved) (small : number < 2 ^ 64) (less : length bytes < size)
     (chain : IsChain from rs (length bytes)) (stand : All (Stands sum size number bytes) rs) where
@@ -45,6 +45,10 @@ module _ (sum : List ℕ → ℕ) (size number : ℕ) (bytes : List ℕ) (from :
   filled_stand = All-append (Stands sum size number new) rs (its ∷ []) (λ k d lt. stands-append sum size number bytes rest (get_or rs k d) (within k d lt) (stand k d lt))
       (one (Stands sum size number new) its (record { some = omega (arith, less); to_end = omega (arith, less); is = text_is }))
 
-  -- The messages are the same.
+  -- The batches are the same,
+  pub filled_batches : (site : SegmentPosition) → batches_in site new (rs ++ its ∷ []) ≡ batches_in site bytes rs
+  filled_batches site = batches-append site new rs (its ∷ []) ∙ append-nil (batches_in site new rs) ∙ batches-behind sum size number site bytes rest rs within stand
+
+  -- and so are the messages.
   pub filled_messages : (site : SegmentPosition) → completed_in site new (rs ++ its ∷ []) ≡ completed_in site bytes rs
   filled_messages site = completed-append site new rs (its ∷ []) ∙ append-nil (completed_in site new rs) ∙ completed-behind sum size number site bytes rest rs within stand

@@ -20,6 +20,7 @@ use Rattle.sled_store.specs.Begin.{slots_of, slot_of, segment_number_of, entries
 use Rattle.sled_core.specs.Fits.{log_parts, EndBelow, CloseBelow, IsBegunFrom, HoldsIn}
 use Rattle.sled_core.specs.LogFile.{IsLogFile, StaysFrom}
 use Rattle.sled_core.specs.SealedBuffers.{AreZeros}
+use Rattle.sled_core.proofs.Holds.BatchLemmas.{none_batched}
 use Rattle.sled_core.specs.Ready.{HasActive, HasNoActive, HasFile, IsReady, active_site}
 use Rattle.sled_store.proofs.Segments.StartedFile.{started_file}
 use Rattle.sled_core.proofs.Reached.BufferPath.{buffer_mark}
@@ -88,6 +89,7 @@ module _ (sum : List ℕ → ℕ) (size : ℕ) (device now : State) (s : Snapsho
         below = subst (λ n. EndBelow n H.messages) (sym end) ready.below;
         apart = ready.apart;
         batches = subst (λ n. CloseBelow n H.batches) (sym end) ready.batches;
+        batched = none_batched size site from H.batches (subst (λ n. CloseBelow n H.batches) (sym end) ready.batches);
         place_begins = place_begins;
         slot_begins = slot_begins;
         header = λ is.
