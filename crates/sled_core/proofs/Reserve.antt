@@ -5,4 +5,5 @@ pub mod Heads
 pub mod OpenCounts
 pub mod Parts
 pub mod Ranges
+pub mod RecordEnds
 pub mod ReserveLemmas

@@ -19,13 +19,13 @@ use Rattle.sled_core.specs.declared.reservation.Reservation.{Reservation}
 use Rattle.sled_core.specs.declared.logger.Log.{Log}
 use Rattle.sled_store.specs.declared.config.RunningConfig.{RunningConfig}
 use Rattle.sled_core.specs.Begun.{SegmentParts, SegmentView, begin_of, line_at, segment_view, view_at}
-use Rattle.sled_core.specs.Buffers.{Stands, IsChain, batches_in, completed_in, message_in, none_open, open_in, first_open_in}
+use Rattle.sled_core.specs.Buffers.{Stands, IsChain, batches_in, completed_in, message_in, none_open, open_in, first_open_in, records_end}
 use Rattle.sled_core.specs.FreeSlots.{HasSlots}
 use Rattle.sled_core.specs.LogFile.{IsLogFile, StaysBelow, StaysFrom}
 use Rattle.sled_core.specs.OpenPlaces.{open_places_along}
 use Rattle.sled_core.specs.Positions.{Position, behind_record, is_short, placed_at, pointer_at, position_in, size_at}
 use Rattle.sled_core.specs.Reached.{BegunSegment, FollowApart}
-use Rattle.sled_core.specs.Recoverable.{IsMarkOf}
+use Rattle.sled_core.specs.Recoverable.{IsMarkOf, NoBatchEnds}
 use Rattle.sled_core.specs.SealedBuffers.{AreSealed, AreZeros, Laid, sealed_count, sealed_end}
 use Rattle.sled_core.specs.Tickets.{index_of, IsFor}
 use Rattle.sled_core.specs.Waiting.{BufferAt, BufferStart, at_last, buffers_in, closed_now, held_below, last_of, pending_in, spans, start_in, unwritten, write_pending, writes_below}
@@ -259,8 +259,9 @@ pub record HoldsSegment (sum : List ℕ → ℕ) (parts : LogParts) (stays : Mes
   pub messages : H.messages ≡ earlier ++ completed_in parts.site parts.bytes parts.reserved
   pub below : EndBelow (parts.site.place + parts.written_len) earlier
   pub apart : LieApart earlier
-  pub batches : CloseBelow (parts.site.place + parts.written_len) H.batches
   pub batched : HasBatches parts.size parts.site parts.written_len (batches_in parts.site parts.bytes parts.reserved) H.batches
+  -- none ends in what fills the segment, and none behind what is reserved of it
+  pub no_end : NoBatchEnds H (parts.site.place + records_end parts.reserved (length parts.bytes)) (parts.site.place + parts.size)
   pub place_begins : parts.site.place % parts.size ≡ 0
   pub slot_begins : parts.site.slot % parts.size ≡ 0
   pub header : parts.written_len ≡ 0 → HasMark sum parts.site parts.bytes H
@@ -310,9 +311,15 @@ abbrev pub HoldsLine : (List ℕ → ℕ) → ℕ → State → Option IoError �
 HoldsLine sum size device fault [] H = ⊥
 HoldsLine sum size device fault (v ∷ vs) H = HoldsIn sum (log_parts size v.parts.site device fault v.parts.bytes v.parts.written_len v.parts.sealed v.parts.reserved) (map parts_in vs) H
 
--- So do those of a log whose slots are these: theirs are taken, and the free ones have zeros.
+-- how far the first one of segments is written
+abbrev pub written_to : List SegmentView → ℕ
+written_to [] = 0
+written_to (v ∷ vs) = v.parts.site.place + v.parts.written_len
+
+-- So do those of a log whose slots are these: theirs are taken, and the free ones have zeros. No batch goes on behind what is written.
 pub record HoldsWith (sum : List ℕ → ℕ) (size : ℕ) (device : State) (fault : Option IoError) (line : List SegmentView) (m : Machine) (H : History) : Type 0 where
   pub holds : HoldsLine sum size device fault line H
+  pub closed : CloseBelow (written_to line) H.batches
   pub slots : HasSlots size line device.log.bytes fault m
 
 -- The log holds this history.

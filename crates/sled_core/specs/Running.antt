@@ -13,7 +13,7 @@ use Rattle.sled_store.specs.SegmentStates.{Machine}
 use Rattle.sled_store.specs.SnapshotFiles.{IsSnapshotFile}
 use Rattle.sled_core.specs.declared.logger.Log.{Log}
 use Rattle.sled_core.specs.Begun.{SegmentParts, SegmentView}
-use Rattle.sled_core.specs.Fits.{HasInline, LogParts, begun_segment, line_of, log_parts, parts_in, HoldsIn}
+use Rattle.sled_core.specs.Fits.{CloseBelow, HasInline, LogParts, begun_segment, line_of, log_parts, parts_in, HoldsIn, written_to}
 use Rattle.sled_core.specs.FreeSlots.{HasSlots}
 use Rattle.sled_core.specs.OpenBatches.{stable_below}
 use Rattle.sled_core.specs.Recoverable.{ActiveFits, AreRecoverableSnapshots, AreRecoverableBlobs, NoBatchBegins, NoBatchEnds, NoHeaderOfZeros, LeavesRecoverable}
@@ -78,6 +78,7 @@ FitsLine sum size device fault (v ∷ vs) reach pins H A f U = FitsIn sum (log_p
 pub record FitsWith (sum : List ℕ → ℕ) (size : ℕ) (device : State) (fault : Option IoError) (line : List SegmentView) (m : Machine) (pins : ℕ) (H : History) (A f : ℕ) (U : List Message) : Type 0 where
   pub reach : ℕ
   pub parts : FitsLine sum size device fault line reach pins H A f U
+  pub closed : CloseBelow (written_to line) H.batches
   pub slots : HasSlots size line device.log.bytes fault m
 
 -- The log fits this history, the end of what was acknowledged, the floor and the messages that were not marked yet.

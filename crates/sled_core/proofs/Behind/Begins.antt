@@ -4,7 +4,7 @@ use Rattle.std.specs.List.{Contains}
 use Rattle.std.specs.declared.io.Error.{Error as IoError}
 use Rattle.std.proofs.lemmas.Bool.{cases_order}
 use Rattle.std.proofs.lemmas.List.{append-nil, map-append}
-use Rattle.std.proofs.lemmas.List.Elements.{All-nil, Contains-append_cases}
+use Rattle.std.proofs.lemmas.List.Elements.{All-contains, All-nil, Contains-append_cases}
 use Rattle.sled_codec.specs.History.{Batch, History, Message}
 use Rattle.sled_codec.specs.Snapshots.{stable_place}
 use Rattle.sled_store.specs.Device.{State}
@@ -19,7 +19,7 @@ use Rattle.sled_core.specs.Reached.{BegunSegment, FollowApart}
 use Rattle.sled_core.specs.SealedBuffers.{AreZeros}
 use Rattle.sled_core.proofs.Holds.BatchLemmas.{none_batched}
 use Rattle.sled_core.proofs.Behind.Around.{behind_below, behind_place, together}
-use Rattle.sled_core.proofs.Flush.Completed.{batches_to, grows}
+use Rattle.sled_core.proofs.Flush.Completed.{grows}
 use Rattle.sled_core.proofs.Flush.FlushLemmas.{on_file}
 use Rattle.sled_core.proofs.Flush.LogFileLemmas.{stands_some}
 use Rattle.sled_core.proofs.Flush.Settled.{rests}
@@ -87,7 +87,7 @@ begun_with site bytes = record { site = site; bytes = bytes; written_len = 0; se
 module _ (sum : List ℕ → ℕ) (size : ℕ) (site : SegmentPosition) (device : State) (fault : Option IoError) (bytes : List ℕ) (from : ℕ) (bs : List Sealed) (rs : List Reserved) (H : History)
     (behind : List SegmentParts) (holds : HoldsIn sum (log_parts size site device fault bytes from bs rs) behind H) (big : 256 ≤ size) (short : length bytes ≤ size)
     (next : SegmentPosition) (text : List ℕ) (at : next.place ≡ behind_place size (site.place + size) behind) (aligned : next.slot % size ≡ 0) (header_long : length text ≡ 20) (mark : HasMark sum next text H)
-    (other : next.slot ≢ site.slot) (others : (y : BegunSegment) → Contains (map begun_segment behind) y → next.slot ≢ y.site.slot) (zeros : fault ≡ None → AreZeros device.log.bytes next.slot (next.slot + size)) where
+    (other : next.slot ≢ site.slot) (others : (y : BegunSegment) → Contains (map begun_segment behind) y → next.slot ≢ y.site.slot) (zeros : fault ≡ None → AreZeros device.log.bytes next.slot (next.slot + size)) (closed : CloseBelow next.place H.batches) where
   abbrev stable : ℕ
   stable = stable_place holds.begun.first.stable
 
@@ -113,12 +113,6 @@ module _ (sum : List ℕ → ℕ) (size : ℕ) (site : SegmentPosition) (device 
   file : fault ≡ None → IsLogFile sum size device.log.bytes site from holds.own.earlier (StaysFrom H stable)
   file whole = on_file sum size device.log site from holds.own.earlier (StaysFrom H stable) (holds.own.written whole)
 
-  closed : CloseBelow (next.place + 0) H.batches
-  closed =
-      let up = far in
-      let grown = grows sum size site device fault bytes from bs rs first holds.own in
-      batches_to sum size site device fault bytes from bs rs first holds.own (next.place + 0) (omega (arith, up, grown, short))
-
   -- It holds nothing.
   pub next_holds : HoldsNext sum size device fault (behind_place size (site.place + size) behind) (begun_with next text) stays H.batches []
   next_holds = record {
@@ -132,8 +126,8 @@ module _ (sum : List ℕ → ℕ) (size : ℕ) (site : SegmentPosition) (device 
       messages = refl;
       below = All-nil (λ (m : Message). (m.place < next.place + 0) × (m.place + m.size ≤ next.place + 0));
       apart = tt;
-      batches = closed;
-      batched = none_batched size next 0 H.batches closed;
+      batched = none_batched size next 0 H.batches (subst (λ n. CloseBelow n H.batches) (let same : next.place ≡ next.place + 0 = omega arith in same) closed);
+      no_end = λ b there. inl (let all = All-contains (λ (x : Batch). (x.low < next.place) × (x.peg < next.place)) H.batches b closed there in omega (arith, all.1));
       place_begins = subst (λ n. n % size ≡ 0) (sym at) (place_aligned size (site.place + size) behind (next_multiple size site.place holds.own.place_begins));
       slot_begins = aligned;
       header = λ _. record { mark = mark.mark; is = mark.is; of_history = mark_same H none (record { place = next.place; slot = next.slot; mark = mark.mark }) refl mark.of_history };

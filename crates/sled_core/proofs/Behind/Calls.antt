@@ -1,4 +1,5 @@
 -- What a log holds where the current buffer of a segment behind the first one is sealed, where a place is reserved in it or it is filled to its end, and where one of its reservations is aborted: the messages are the same.
+use Rattle.sled_core.proofs.Reserve.RecordEnds.{no_end_up, records_more}
 use Rattle.std.proofs.Common.{◌≡◌, ◌≤◌, ◌<◌, ◌+◌, ◌-◌, ◌/◌, ◌^◌, ◌∙◌, ℕ, max, false, List, [], ◌∷◌, ◌++◌, length, drop, set, Option, Some, refl, sym, ap, subst, arith, length-append}
 use Rattle.std.specs.List.{slice_get}
 use Rattle.std.specs.declared.io.Error.{Error as IoError}
@@ -15,7 +16,7 @@ use Rattle.sled_core.specs.declared.iobuf.ReservationState.TheVariants.{Open, Ca
 use Rattle.sled_core.specs.declared.iobuf.Reserved.{Reserved}
 use Rattle.sled_core.specs.declared.iobuf.Sealed.{Sealed}
 use Rattle.sled_core.specs.declared.iobuf.SegmentPosition.{SegmentPosition}
-use Rattle.sled_core.specs.Buffers.{IsChain, HasText, Stands, batches_in, body_in, canceling, ended, ending, open_state, padding_at}
+use Rattle.sled_core.specs.Buffers.{records_end, IsChain, HasText, Stands, batches_in, body_in, canceling, ended, ending, open_state, padding_at}
 use Rattle.sled_core.specs.Caps.{segment_rest}
 use Rattle.sled_core.specs.Begun.{SegmentParts}
 use Rattle.sled_core.specs.Fits.{HoldsIn, HoldsNext, HoldsSegment, log_parts}
@@ -57,8 +58,8 @@ segment-filled sum size site device fault bytes from bs rs H less small rise {st
       messages = holds.messages ∙ ap (λ (ms : List Message). holds.earlier ++ ms) (sym (filled_messages sum size number bytes (max 20 from) rs small less holds.chain holds.stand site));
       below = holds.below;
       apart = holds.apart;
-      batches = holds.batches;
       batched = same_batched size site from (batches_in site bytes rs) (batches_in site (bytes ++ more) (rs ++ its ∷ [])) H.batches H.batches (filled_batches sum size number bytes (max 20 from) rs small less holds.chain holds.stand site) refl holds.batched;
+      no_end = no_end_up H site.place (records_end rs (length bytes)) (records_end (rs ++ its ∷ []) (length (bytes ++ more))) (site.place + size) (records_more rs its (length bytes) (length (bytes ++ more)) (omega (arith, length-append bytes more)) (omega arith)) holds.no_end;
       place_begins = holds.place_begins;
       slot_begins = holds.slot_begins;
       header = λ first. let m = holds.header first in record { mark = m.mark; is = take-append-le 20 bytes more (omega (arith, begun)) ∙ m.is; of_history = m.of_history };

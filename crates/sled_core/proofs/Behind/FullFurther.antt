@@ -14,7 +14,7 @@ use Rattle.sled_core.specs.declared.iterator.scan.ScannedRecord.{ScannedRecord}
 use Rattle.sled_core.specs.declared.iterator.scan.ScanEnd.{ScanEnd}
 use Rattle.sled_core.specs.declared.iterator.scan.ScanEnd.TheVariants.{Full, Broken}
 use Rattle.sled_core.specs.Begun.{SegmentParts}
-use Rattle.sled_core.specs.Fits.{HoldsIn, begun_segment, log_parts}
+use Rattle.sled_core.specs.Fits.{CloseBelow, HoldsIn, begun_segment, log_parts}
 use Rattle.sled_core.specs.Full.{FitsFull, StandsFull}
 use Rattle.sled_core.specs.LogFile.{padded}
 use Rattle.sled_core.specs.Reached.{BeginsNext, IsReadTo, IsSoFar}
@@ -40,7 +40,7 @@ use Rattle.sled_core.proofs.Tail.OneTail.{segment_there}
 use Rattle.sled_core.proofs.Torn.WrittenParts.{path_rises}
 
 module _ (sum : List ℕ → ℕ) (size : ℕ) (device : State) (fault : Option IoError) (place : ℕ) (s : SegmentParts) (ss : List SegmentParts) {reach pins : ℕ} {H : History} {A f : ℕ} {U : List Message}
-    (fits : FitsFull sum size device fault place (s ∷ ss) reach pins H A f U) (big : 256 ≤ size) (whole : fault ≡ None) (full : s.written_len ≡ size) where
+    (fits : FitsFull sum size device fault place (s ∷ ss) reach pins H A f U) (big : 256 ≤ size) (whole : fault ≡ None) (full : s.written_len ≡ size) (closed : CloseBelow place H.batches) where
   begins : s.site.place ≡ place
   begins = at_place sum size device fault place s ss fits big whole
 
@@ -156,7 +156,7 @@ module _ (sum : List ℕ → ℕ) (size : ℕ) (device : State) (fault : Option 
     ]
 
     closed_low : (b : Batch) → Contains H.batches b → (b.low < place) × (b.peg < place)
-    closed_low b there = let its = All-contains (λ (c : Batch). (c.low < fits.site.place + size) × (c.peg < fits.site.place + size)) H.batches b fits.holds.own.batches there in let next = fits.next in (omega (arith, its.0, next), omega (arith, its.1, next))
+    closed_low b there = All-contains (λ (c : Batch). (c.low < place) × (c.peg < place)) H.batches b closed there
 
     -- The next one begins behind it, with nothing of the history between.
     begins_next : BeginsNext size H (s.site.place + stop) (s.site.place + size)

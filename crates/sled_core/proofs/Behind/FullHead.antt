@@ -13,7 +13,7 @@ use Rattle.sled_core.specs.declared.iobuf.Reserved.{Reserved}
 use Rattle.sled_core.specs.declared.iobuf.Sealed.{Sealed}
 use Rattle.sled_core.specs.declared.iobuf.SegmentPosition.{SegmentPosition}
 use Rattle.sled_core.specs.Buffers.{IsChain, NoPadding, Stands, batches_in, completed_in, records_end, records_of}
-use Rattle.sled_core.specs.Fits.{CloseBelow, HasMark}
+use Rattle.sled_core.specs.Fits.{HasMark}
 use Rattle.sled_core.specs.LogFile.{HasHeader, padded}
 use Rattle.sled_core.specs.Reached.{BegunSegment, StandsAmong}
 use Rattle.sled_core.specs.Recoverable.{NoBatchBegins, NoBatchEnds, NoHeaderOfZeros, NoMessageBegins}
@@ -46,14 +46,6 @@ plain_run sum size number bytes from end rs chain below stand k d lt is =
     let to_end = (padding_in sum size number bytes (get_or rs k d) is (stand k d lt)).to_end in
     let within = (chain_within from end rs chain k d lt).1 in
     omega (arith, to_end, within, below)
-
--- where batches close below a place, none of them ends behind it,
-pub none_ends : (H : History) (low high to : ℕ) → low ≤ high → CloseBelow low H.batches → NoBatchEnds H high to
-none_ends H low high to up closes c among = let its = All-contains (λ (b : Batch). (b.low < low) × (b.peg < low)) H.batches c closes among in inl (omega (arith, its.1, up))
-
--- and none begins or ends from there on
-pub none_beside : (H : History) (low to : ℕ) → CloseBelow low H.batches → NoBatchBegins H low to × NoBatchEnds H low to
-none_beside H low to closes = (λ c among. inl (All-contains (λ (b : Batch). (b.low < low) × (b.peg < low)) H.batches c closes among).0, none_ends H low low to (omega arith) closes)
 
 -- Where the first buffer isn't written, whether a header has room where it begins or not.
 module _ (sum : List ℕ → ℕ) (none : NoHeaderOfZeros sum) (size : ℕ) (some : 256 ≤ size) (file : List ℕ) (site : SegmentPosition)
@@ -104,7 +96,7 @@ module _ (sum : List ℕ → ℕ) (none : NoHeaderOfZeros sum) (size : ℕ) (som
     ]
 
     -- All of it, where the file reaches up to the slot.
-    module _ (ordered : Ascends H.messages) (there : site.slot ≤ length file) (low_enough : least_place size first ≤ site.place) (has_header : HasHeader sum new site) (closes : CloseBelow (site.place + from) H.batches) where
+    module _ (ordered : Ascends H.messages) (there : site.slot ≤ length file) (low_enough : least_place size first ≤ site.place) (has_header : HasHeader sum new site) (no_end : NoBatchEnds H (site.place + last) (site.place + size)) where
       -- a padding alone is written, where no header has room
       alone_rest : size < from + 32 → StandsFull sum size new (site.place + size) others (site.place + last) H first
       alone_rest full =
@@ -120,13 +112,13 @@ module _ (sum : List ℕ → ℕ) (none : NoHeaderOfZeros sum) (size : ℕ) (som
           (full_among sum size some new site place_begins from begun (omega (arith, left_over)) full H first low_enough (subst (λ n. StandsAmong sum size new site from others n H first) reached among)
           (subst (λ n. NoMessageBegins H (site.place + n) (site.place + size)) at nothing.0)
           (subst (λ n. NoBatchBegins H (site.place + n) (site.place + size)) at nothing.1)
-          (none_ends H (site.place + from) (site.place + from) (site.place + size) (omega arith) closes))
+          (subst (λ n. NoBatchEnds H (site.place + n) (site.place + size)) at no_end))
 
       pub head_full : stop ≡ size → StandsFull sum size new (site.place + size) others (site.place + last) H first
       head_full ends = elim (cases_lt size (from + 32)) [
         | inl full ↦ alone_rest full
         | inr room ↦ head_sealed_filled sum none size some file site place_begins slot_begins place_small slot_small bytes from begins rs b rest fresh closed are rise inside stand room header laid reach first alone has
-            ordered there low_enough has_header ends (none_ends H (site.place + from) (site.place + last) (site.place + size) (omega (arith, behind_from)) closes)
+            ordered there low_enough has_header ends no_end
       ]
 
 -- So it is with zeros behind the end of the file.
@@ -136,12 +128,12 @@ pub first_full : (sum : List ℕ → ℕ) (size : ℕ) (some : 256 ≤ size) (ol
     {H : History} (header : from ≡ 0 → HasMark sum site bytes H)
     (old_header : 0 < from → HasHeader sum old site) (laid : Laid old site.slot bytes from (b ∷ rest) size)
     → All (Stands sum size (site.place / size) bytes) rs → NoHeaderOfZeros sum → (reach : ℕ) (first : SnapshotModel) → HasOnly H (completed_in site bytes (take (b.count + run_count rest) rs)) (batches_in site bytes (take (b.count + run_count rest) rs)) (site.place + max 20 from) (site.place + run_end b.end rest)
-    → Ascends H.messages → least_place size first ≤ site.place → CloseBelow (site.place + from) H.batches → run_end b.end rest ≡ size
+    → Ascends H.messages → least_place size first ≤ site.place → NoBatchEnds H (site.place + records_end (take (b.count + run_count rest) rs) (run_end b.end rest)) (site.place + size) → run_end b.end rest ≡ size
     → (to : ℕ) → site.slot ≤ to → {others : List BegunSegment} → StandsAmong sum size (padded to old) site from others reach H first
     → StandsFull sum size (padded to (overwritten old (site.slot + from) (bytes_between bytes from b.end))) (site.place + size) others (site.place + records_end (take (b.count + run_count rest) rs) (run_end b.end rest)) H first
-first_full sum size some old site place_begins slot_begins place_small slot_small bytes from begins rs b rest fresh closed are rise inside {H} header old_header laid stand zeros reach first has ordered low closes ends to far {others} alone =
+first_full sum size some old site place_begins slot_begins place_small slot_small bytes from begins rs b rest fresh closed are rise inside {H} header old_header laid stand zeros reach first has ordered low no_end ends to far {others} alone =
     let same = same_file sum size some old site place_begins slot_begins place_small slot_small bytes from begins rs b rest fresh closed are rise inside {H = H} header old_header laid to in
     subst (λ (l : List ℕ). StandsFull sum size l (site.place + size) others (site.place + records_end (take (b.count + run_count rest) rs) (run_end b.end rest)) H first) same
     (head_full sum zeros size some (padded to old) site place_begins slot_begins place_small slot_small bytes from begins rs b rest fresh closed are rise inside stand {H = H} header
     (laid_filled sum size some old site place_begins slot_begins place_small slot_small bytes from begins rs b rest fresh closed are rise inside {H = H} header old_header laid to) reach first alone has
-    ordered (omega (arith, padded_long to old, far)) low (subst (λ (l : List ℕ). HasHeader sum l site) (sym same) (padded_header sum size some old site place_begins slot_begins place_small slot_small bytes from begins rs b rest fresh closed are rise inside {H = H} header old_header laid to)) closes ends)
+    ordered (omega (arith, padded_long to old, far)) low (subst (λ (l : List ℕ). HasHeader sum l site) (sym same) (padded_header sum size some old site place_begins slot_begins place_small slot_small bytes from begins rs b rest fresh closed are rise inside {H = H} header old_header laid to)) no_end ends)

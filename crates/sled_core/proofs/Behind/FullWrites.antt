@@ -16,13 +16,11 @@ use Rattle.sled_core.specs.Full.{FitsFull, StandsFull}
 use Rattle.sled_core.specs.LogFile.{StaysFrom}
 use Rattle.sled_core.specs.Running.{FitsIn}
 use Rattle.sled_core.specs.SealedBuffers.{AreSealed, FirstUnwritten, behind_run, bytes_between, is_ready, now_written, run_count, run_end, sealed_end, written_at}
-use Rattle.sled_core.proofs.Behind.FullHead.{none_beside}
 use Rattle.sled_core.proofs.Behind.FullHead.{plain_run}
 use Rattle.sled_core.proofs.Behind.FullHolds.{emptied, none_reserved, none_sealed, rise_behind}
-use Rattle.sled_core.proofs.Flush.Completed.{batches_to}
 use Rattle.sled_core.proofs.Flush.FlushLemmas.{holds_over}
 use Rattle.sled_core.proofs.Flush.SealedFile.{stop_up}
-use Rattle.sled_core.proofs.Flush.FirstWritten.{ends_full, full_first, last_low, last_up, last_whole, reaches_first, segment_first, torn_first}
+use Rattle.sled_core.proofs.Flush.FirstWritten.{ends_full, full_first, last_low, last_up, last_whole, reaches_first, rest_batches, segment_first, torn_first}
 use Rattle.sled_core.proofs.Flush.SealedFits.{asked_range}
 use Rattle.sled_core.proofs.Flush.WriteFits.{fits_filled}
 use Rattle.sled_core.proofs.Holds.BehindKept.{others_written}
@@ -52,7 +50,7 @@ module _ (sum : List ℕ → ℕ) (size : ℕ) (site : SegmentPosition) (device 
         fits_filled sum size site device fault bytes from (b ∷ rest) rs pins H A f U fits short big whole (run_end b.end rest) above (site.place + last_whole sum size site device fault bytes from b rest rs H fits.holds short big place_small slot_small are fresh closed rise whole)
             (let near = fits.near in omega (arith, near, up)) (let low = last_low sum size site device fault bytes from b rest rs H fits.holds short big place_small slot_small are fresh closed rise whole in omega (arith, low))
             (ends_full sum size site device fault bytes from b rest rs H fits.holds short big place_small slot_small are fresh closed rise whole filled)
-            (none_beside H (site.place + last_whole sum size site device fault bytes from b rest rs H fits.holds short big place_small slot_small are fresh closed rise whole) (site.place + run_end b.end rest) (batches_to sum size site device fault bytes from (b ∷ rest) rs (record { messages = fits.holds.head; batches = H.batches }) fits.holds.own (site.place + last_whole sum size site device fault bytes from b rest rs H fits.holds short big place_small slot_small are fresh closed rise whole) (omega (arith, up))))
+            (rest_batches sum size site device fault bytes from b rest rs H fits.holds short big place_small slot_small are fresh closed rise whole filled)
             (site.slot + from) (asked []) (λ zeros. torn_first sum size site device fault bytes from b rest rs H fits.holds short big place_small slot_small are fresh closed rise whole reach zeros)
             (λ (l : List ℕ) (is : StandsFull sum size l (site.place + size) (map begun_segment behind) (site.place + last_whole sum size site device fault bytes from b rest rs H fits.holds short big place_small slot_small are fresh closed rise whole) H fits.holds.begun.first). is.stands)
             (λ zeros end far. full_first sum size site device fault bytes from b rest rs H fits.holds short big place_small slot_small are fresh closed rise whole filled reach zeros end far)

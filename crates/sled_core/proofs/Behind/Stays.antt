@@ -55,8 +55,8 @@ module _ (sum : List ℕ → ℕ) (size : ℕ) (site : SegmentPosition) (device 
     messages = holds.messages;
     below = holds.below;
     apart = holds.apart;
-    batches = holds.batches;
     batched = holds.batched;
+    no_end = holds.no_end;
     place_begins = holds.place_begins;
     slot_begins = holds.slot_begins;
     header = holds.header;
@@ -89,8 +89,8 @@ module _ (sum : List ℕ → ℕ) (size : ℕ) (site : SegmentPosition) (device 
         messages = ap (λ (l : List Message). ms ++ l) holds.messages ∙ sym (append_assoc ms holds.earlier _);
         below = All-append Below ms holds.earlier (λ k d lt. let b = below k d lt in (omega (arith, b.0), omega (arith, b.1))) holds.below;
         apart = apart_both site.place ms holds.earlier apart holds.apart (λ k d lt. (below k d lt).1) over;
-        batches = holds.batches;
         batched = holds.batched;
+        no_end = holds.no_end;
         place_begins = holds.place_begins;
         slot_begins = holds.slot_begins;
         header = λ first. let m = holds.header first in

@@ -13,7 +13,7 @@ use Rattle.sled_core.specs.declared.iobuf.Reserved.{Reserved}
 use Rattle.sled_core.specs.declared.iobuf.Sealed.{Sealed}
 use Rattle.sled_core.specs.declared.iobuf.SegmentPosition.{SegmentPosition}
 use Rattle.sled_core.specs.Buffers.{IsChain, batches_in, completed_in, message_in, with_own}
-use Rattle.sled_core.specs.Fits.{log_parts, HoldsSegment, EndBelow, CloseBelow, HasInline}
+use Rattle.sled_core.specs.Fits.{log_parts, HoldsSegment, EndBelow, HasInline}
 use Rattle.sled_core.proofs.Reached.BufferPath.{HasOnly}
 use Rattle.sled_core.proofs.Reserve.Ranges.{all_own, batches-append, batches_between, chain_grows, completed_between, completed-append}
 use Rattle.sled_core.proofs.Reserve.Entries.{some_long}
@@ -102,10 +102,6 @@ module _ (sum : List ℕ → ℕ) (size : ℕ) (site : SegmentPosition) (device 
     noted = holds.batched.noted;
     begun = λ b there. elim (holds.batched.begun b there) [ inl among ↦ inl among | inr (inl before) ↦ inr (inl (omega (arith, before))) | inr (inr after) ↦ inr (inr (omega (arith, after, inside))) ];
   }
-
-  -- Batches end below what was written, and so below each place from there on.
-  pub batches_to : (place : ℕ) → site.place + from ≤ place → CloseBelow place H.batches
-  batches_to place more = λ k d lt. let b = holds.batches k d lt in (omega (arith, b.0, more), omega (arith, b.1, more))
 
 -- Of what begins in a buffer the messages of the reservations at its front are all that begins in their part of it.
 pub front_only : (site : SegmentPosition) (bytes : List ℕ) (H : History) (rs : List Reserved) (n low stop end : ℕ) → IsChain stop (drop n rs) end → All (λ r. 0 < r.len) (drop n rs)

@@ -1,5 +1,6 @@
 -- The first sealed buffer of the first segment is written: the segment holds the same, what a crash leaves of the write stands as before, and all of it up to where those end that are written then, or behind the segment where these fill it.
-use Rattle.std.proofs.Common.{◌≡◌, ◌⊎◌, ◌≤◌, ◌<◌, ◌+◌, ◌/◌, ◌^◌, ◌∙◌, ℕ, max, false, List, [], ◌∷◌, ◌++◌, length, take, drop, sym, ap, arith, refl, subst, inl, inr, Option, None, append_assoc}
+use Rattle.sled_core.proofs.Reserve.RecordEnds.{no_end_up, records_fewer}
+use Rattle.std.proofs.Common.{append-nil, ◌≡◌, ◌⊎◌, ◌≤◌, ◌<◌, ◌+◌, ◌/◌, ◌^◌, ◌∙◌, ℕ, max, false, List, [], ◌∷◌, ◌++◌, length, take, drop, sym, ap, arith, refl, subst, inl, inr, Option, None, append_assoc}
 use Rattle.std.specs.List.{All, Contains}
 use Rattle.std.specs.declared.io.Error.{Error as IoError}
 use Rattle.std.proofs.lemmas.Bool.{cases_lt}
@@ -21,12 +22,12 @@ use Rattle.sled_core.specs.Full.{StandsFull}
 use Rattle.sled_core.specs.LogFile.{IsLogFile, StaysFrom, padded}
 use Rattle.sled_core.specs.OpenBatches.{stable_below}
 use Rattle.sled_core.specs.Reached.{BegunSegment, StandsAmong}
-use Rattle.sled_core.specs.Recoverable.{NoHeaderOfZeros}
+use Rattle.sled_core.specs.Recoverable.{NoBatchBegins, NoBatchEnds, NoHeaderOfZeros}
 use Rattle.sled_core.specs.SealedBuffers.{AreSealed, Laid, now_written, run_end, run_count, behind_run, bytes_between}
 use Rattle.sled_core.proofs.Behind.FullHead.{first_full, plain_run, torn_head_any}
 use Rattle.sled_core.proofs.Reserve.Entries.{some_long}
 use Rattle.sled_core.proofs.Reserve.Ranges.{batches-append, batches_between, chain_grows, completed-append, completed_between}
-use Rattle.sled_core.proofs.Flush.Completed.{all_apart, batches_to, has_only, front_only}
+use Rattle.sled_core.proofs.Flush.Completed.{all_apart, has_only, front_only}
 use Rattle.sled_core.proofs.Flush.FlushLemmas.{on_file}
 use Rattle.sled_core.proofs.Flush.SealedFile.{chain_done, first_file, stop_up}
 use Rattle.sled_core.proofs.Holds.ReachLemmas.{written_before}
@@ -39,7 +40,7 @@ use Rattle.sled_core.proofs.Sealed.Ended.{chain_rest, ends_rise}
 use Rattle.sled_core.proofs.Sealed.HeadSealed.{run_below}
 use Rattle.sled_core.proofs.Sealed.LaidLemmas.{EndsRise, ends_below}
 use Rattle.sled_core.proofs.Sealed.OneWritten.{has_written, laid_new}
-use Rattle.sled_core.proofs.Sealed.RecordsEnd.{AreRecords, records_in, records_why}
+use Rattle.sled_core.proofs.Sealed.RecordsEnd.{none_behind, AreRecords, records_in, records_why}
 use Rattle.sled_core.proofs.Sealed.Runs.{run_laid}
 use Rattle.sled_core.proofs.Sealed.SealedCalls.{first_alone}
 use Rattle.sled_core.proofs.Torn.TornLemmas.{after_write}
@@ -134,8 +135,8 @@ module _ (sum : List ℕ → ℕ) (size : ℕ) (site : SegmentPosition) (device 
     messages = messages_now;
     below = below_now;
     apart = apart_front earlier_now (completed_in site bytes others) (subst LieApart messages_now (all_apart sum size site device fault bytes from (b ∷ rest) rs H holds));
-    batches = batches_to sum size site device fault bytes from (b ∷ rest) rs H holds (site.place + stop) (let above = up.0 in omega (arith, above));
     batched = batched_now;
+    no_end = no_end_up H site.place (records_end rs (length bytes)) (records_end others (length bytes)) (site.place + size) (records_fewer count rs (max 20 from) (length bytes) holds.chain) holds.no_end;
     place_begins = holds.place_begins;
     slot_begins = holds.slot_begins;
     header = λ none. absurd (let some = up.1 in omega (arith, none, some));
@@ -213,6 +214,33 @@ module _ (sum : List ℕ → ℕ) (size : ℕ) (site : SegmentPosition) (device 
   pub last_low : last_whole ≤ stop_whole
   last_low = records_whole.low
 
+  -- Where the segment is filled then, no batch begins or ends in what fills it.
+  pub rest_batches : stop_whole ≡ size → NoBatchBegins H (site.place + last_whole) (site.place + stop_whole) × NoBatchEnds H (site.place + last_whole) (site.place + stop_whole)
+  rest_batches filled = (
+      (λ x among. elim (has_whole.begun x among) [
+        | inl own ↦ inl (batches_between site bytes (max 20 from) last_whole (records_of done_whole) records_whole.chain (some_long sum size (site.place / size) bytes (records_of done_whole) records_whole.stand) x
+            (subst (λ (l : List Batch). Contains l x) (sym (records_whole.batches site)) own)).1
+        | inr (inl before) ↦ (let up = chain_grows (max 20 from) last_whole (records_of done_whole) records_whole.chain in inl (omega (arith, before, up)))
+        | inr (inr after) ↦ inr after
+      ]),
+      (λ x among. elim (holds.own.no_end x among) [ inl low ↦ inl (omega (arith, low, same_end)) | inr far ↦ inr (omega (arith, far, filled)) ]),
+    )
+    where
+      others : List Reserved
+      others = drop (b.count + run_count rest) rs
+
+      chain_left : IsChain stop_whole others (length bytes)
+      chain_left = chain_rest (max 20 from) (length bytes) rs (b.count + run_count rest) stop_whole holds.own.chain (chain_done from rs b rest closed are)
+
+      left : others ≡ []
+      left = none_behind stop_whole others (length bytes) chain_left (omega (arith, short, filled)) (some_long sum size (site.place / size) bytes others (All-drop (Stands sum size (site.place / size) bytes) (b.count + run_count rest) rs holds.own.stand))
+
+      same_end : records_end rs (length bytes) ≡ last_whole
+      same_end =
+          let far = chain_grows stop_whole (length bytes) others chain_left in
+          let full : length bytes ≡ stop_whole = omega (arith, far, short, filled) in
+          ap (λ (l : List Reserved). records_end l (length bytes)) (sym (take-append-drop (b.count + run_count rest) rs) ∙ ap (λ (l : List Reserved). done_whole ++ l) left ∙ append-nil done_whole) ∙ ap (records_end done_whole) full
+
   -- where the segment isn't filled then, none of them fills it
   pub plain_below : stop_whole < size → All NoPadding done_whole
   plain_below below =
@@ -269,7 +297,7 @@ module _ (sum : List ℕ → ℕ) (size : ℕ) (site : SegmentPosition) (device 
       → StandsFull sum size (padded end (overwritten old_whole (site.slot + from) asked_whole)) (site.place + size) others (site.place + last_whole) H holds.begun.first
   full_first filled reach zeros end far {others} among =
       first_full sum size big old_whole site holds.own.place_begins holds.own.slot_begins place_small slot_small bytes from begins_whole rs b rest fresh closed are rise_whole inside_whole {H = H} header_whole file_whole.header (holds.own.laid whole)
-      holds.own.stand zeros reach holds.begun.first has_whole (whole_ascends sum size site device fault bytes from (b ∷ rest) rs H holds short) (let least = holds.begun.least in omega (arith, least)) holds.own.batches filled end far {others = others} among
+      holds.own.stand zeros reach holds.begun.first has_whole (whole_ascends sum size site device fault bytes from (b ∷ rest) rs H holds short) (let least = holds.begun.least in omega (arith, least)) (subst (λ n. NoBatchEnds H (site.place + last_whole) (site.place + n)) filled (rest_batches filled).1) filled end far {others = others} among
 
   -- so the file reaches its slot
   pub reaches_first : site.slot ≤ length (overwritten old_whole (site.slot + from) asked_whole)

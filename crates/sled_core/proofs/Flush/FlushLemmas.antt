@@ -18,7 +18,7 @@ use Rattle.sled_core.specs.declared.iobuf.Sealed.{Sealed}
 use Rattle.sled_core.specs.declared.iobuf.SegmentPosition.{SegmentPosition}
 use Rattle.sled_core.specs.Buffers.{IsChain, Stands, completed_in}
 use Rattle.sled_core.specs.Begun.{SegmentParts}
-use Rattle.sled_core.specs.Fits.{log_parts, HoldBehind, HoldsIn, HoldsSegment, IsOnDevice, IsBegunFrom, IsKept, EndBelow}
+use Rattle.sled_core.specs.Fits.{CloseBelow, log_parts, HoldBehind, HoldsIn, HoldsSegment, IsOnDevice, IsBegunFrom, IsKept, EndBelow}
 use Rattle.sled_core.specs.LogFile.{IsLogFile, StaysBelow, StaysFrom}
 use Rattle.sled_core.proofs.Reserve.Entries.{some_in}
 use Rattle.sled_core.proofs.Reserve.Ranges.{chain_grows}
@@ -63,8 +63,8 @@ module _ (sum : List ℕ → ℕ) (size : ℕ) (site : SegmentPosition) (device 
     messages = holds.messages;
     below = holds.below;
     apart = holds.apart;
-    batches = holds.batches;
     batched = holds.batched;
+    no_end = holds.no_end;
     place_begins = holds.place_begins;
     slot_begins = holds.slot_begins;
     header = holds.header;
@@ -136,8 +136,8 @@ module _ (sum : List ℕ → ℕ) (size : ℕ) (site : SegmentPosition) (device 
 -- Where nothing was reserved since the last write, and no segment was begun behind the first one, all is on the device.
 module _ (sum : List ℕ → ℕ) (size : ℕ) (site : SegmentPosition) (device : State) (fault : Option IoError) (bytes : List ℕ) (from : ℕ) (bs : List Sealed) (rs : List Reserved) (H : History)
     (holds : HoldsIn sum (log_parts size site device fault bytes from bs rs) [] H) where
-  pub all_kept : rs ≡ [] → fault ≡ None → site.place + size < 2 ^ 63 → from ≤ size → FirstUnwritten bs → AreSealed from rs bs → IsKept sum size site from device H
-  all_kept none whole in_reach inside fresh are =
+  pub all_kept : CloseBelow (site.place + from) H.batches → rs ≡ [] → fault ≡ None → site.place + size < 2 ^ 63 → from ≤ size → FirstUnwritten bs → AreSealed from rs bs → IsKept sum size site from device H
+  all_kept closed none whole in_reach inside fresh are =
       let own = holds.own in
       let last : holds.later ≡ [] = holds.others in
       let all : H.messages ≡ own.earlier =
@@ -146,7 +146,7 @@ module _ (sum : List ℕ → ℕ) (size : ℕ) (site : SegmentPosition) (device 
       record {
         below = subst (λ (ms : List Message). EndBelow (site.place + from) ms) (sym all) own.below;
         apart = subst LieApart (sym all) own.apart;
-        batches = own.batches;
+        batches = closed;
         place_begins = own.place_begins;
         slot_begins = own.slot_begins;
         in_reach = in_reach;

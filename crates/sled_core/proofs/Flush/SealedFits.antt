@@ -22,11 +22,10 @@ use Rattle.sled_core.specs.Recoverable.{LeavesRecoverable, NoHeaderOfZeros}
 use Rattle.sled_core.specs.Running.{FitsIn}
 use Rattle.sled_core.specs.SealedBuffers.{AreSealed, FirstUnwritten, Laid, sealed_end, now_written, written_at, run_end, run_count, behind_run, bytes_between, is_ready}
 use Rattle.sled_core.proofs.Reserve.Ranges.{there_split}
-use Rattle.sled_core.proofs.Flush.Completed.{batches_to}
-use Rattle.sled_core.proofs.Flush.FirstWritten.{alone_first, ends_first, ends_full, full_first, last_low, last_up, last_whole, none_or_begun, plain_below, reaches_first, rise_in, segment_first, torn_first}
+use Rattle.sled_core.proofs.Flush.FirstWritten.{alone_first, ends_first, ends_full, full_first, last_low, last_up, last_whole, none_or_begun, plain_below, reaches_first, rest_batches, rise_in, segment_first, torn_first}
 use Rattle.sled_core.proofs.Flush.FlushLemmas.{holds_over, on_file}
 use Rattle.sled_core.proofs.Flush.SealedFile.{file_beside, stop_up}
-use Rattle.sled_core.proofs.Behind.FullHead.{none_beside}
+use Rattle.sled_core.proofs.Reserve.RecordEnds.{none_between}
 use Rattle.sled_core.proofs.Flush.WriteFits.{along_behind, fits_behind}
 use Rattle.sled_core.proofs.Holds.BehindKept.{others_written}
 use Rattle.sled_core.proofs.Reached.StandsTo.{StandsTo}
@@ -85,8 +84,8 @@ module _ (sum : List ℕ → ℕ) (size : ℕ) (site : SegmentPosition) (device 
     messages = holds.messages;
     below = holds.below;
     apart = holds.apart;
-    batches = holds.batches;
     batched = holds.batched;
+    no_end = holds.no_end;
     place_begins = holds.place_begins;
     slot_begins = holds.slot_begins;
     header = holds.header;
@@ -151,7 +150,7 @@ module _ (sum : List ℕ → ℕ) (size : ℕ) (site : SegmentPosition) (device 
   along_around [] fits are fresh rise = elim (cases_lt (run_end b.end rest) size) [
     | inl below ↦ along_behind sum size site device fault bytes from (b ∷ rest) rs pins H A f U fits short big whole (run_end b.end rest) (stop_up from rs b rest closed are).0 (site.place + run_end b.end rest) (let near = fits.near in let above = (stop_up from rs b rest closed are).0 in omega (arith, near, above)) (omega arith)
         (ends_first sum size site device fault bytes from b rest rs H fits.holds short big place_small slot_small are fresh closed rise whole)
-        (none_beside H (site.place + run_end b.end rest) (site.place + run_end b.end rest) (batches_to sum size site device fault bytes from (b ∷ rest) rs (own_of fits.holds.head) fits.holds.own (site.place + run_end b.end rest) (let above = (stop_up from rs b rest closed are).0 in omega (arith, above))))
+        (none_between H (site.place + run_end b.end rest))
         (site.slot + from) (asked_behind []) (λ zeros. torn_first sum size site device fault bytes from b rest rs H fits.holds short big place_small slot_small are fresh closed rise whole reach zeros)
         (λ (l : List ℕ) (is : StandsAmong sum size l site (run_end b.end rest) (map begun_segment behind) (site.place + run_end b.end rest) H fits.holds.begun.first). is.stands) (λ zeros end far. alone_first sum size site device fault bytes from b rest rs H fits.holds short big place_small slot_small are fresh closed rise whole (plain_below sum size site device fault bytes from b rest rs H fits.holds short big place_small slot_small are fresh closed rise whole below) reach zeros end far)
         (reaches_first sum size site device fault bytes from b rest rs H fits.holds short big place_small slot_small are fresh closed rise whole)
@@ -161,7 +160,7 @@ module _ (sum : List ℕ → ℕ) (size : ℕ) (site : SegmentPosition) (device 
         along_behind sum size site device fault bytes from (b ∷ rest) rs pins H A f U fits short big whole (run_end b.end rest) (stop_up from rs b rest closed are).0 (site.place + last_whole sum size site device fault bytes from b rest rs H fits.holds short big place_small slot_small are fresh closed rise whole) (let near = fits.near in omega (arith, near, from_up))
         (let low = last_low sum size site device fault bytes from b rest rs H fits.holds short big place_small slot_small are fresh closed rise whole in omega (arith, low))
         (ends_full sum size site device fault bytes from b rest rs H fits.holds short big place_small slot_small are fresh closed rise whole filled)
-        (none_beside H (site.place + last_whole sum size site device fault bytes from b rest rs H fits.holds short big place_small slot_small are fresh closed rise whole) (site.place + run_end b.end rest) (batches_to sum size site device fault bytes from (b ∷ rest) rs (own_of fits.holds.head) fits.holds.own (site.place + last_whole sum size site device fault bytes from b rest rs H fits.holds short big place_small slot_small are fresh closed rise whole) (omega (arith, from_up))))
+        (rest_batches sum size site device fault bytes from b rest rs H fits.holds short big place_small slot_small are fresh closed rise whole filled)
         (site.slot + from) (asked_behind []) (λ zeros. torn_first sum size site device fault bytes from b rest rs H fits.holds short big place_small slot_small are fresh closed rise whole reach zeros)
         (λ (l : List ℕ) (is : StandsFull sum size l (site.place + size) (map begun_segment behind) (site.place + last_whole sum size site device fault bytes from b rest rs H fits.holds short big place_small slot_small are fresh closed rise whole) H fits.holds.begun.first). is.stands) (λ zeros end far. full_first sum size site device fault bytes from b rest rs H fits.holds short big place_small slot_small are fresh closed rise whole filled reach zeros end far)
         (reaches_first sum size site device fault bytes from b rest rs H fits.holds short big place_small slot_small are fresh closed rise whole))
@@ -184,7 +183,7 @@ module _ (sum : List ℕ → ℕ) (size : ℕ) (site : SegmentPosition) (device 
         site.place + run_end b.end rest,
         fits_behind sum size site device fault bytes from (b ∷ rest) rs pins H A f U fits short big whole (run_end b.end rest) (stop_up from rs b rest closed are).0 (site.place + run_end b.end rest) (let near = fits.near in let above = (stop_up from rs b rest closed are).0 in omega (arith, near, above)) (omega arith)
             (ends_first sum size site device fault bytes from b rest rs H fits.holds short big place_small slot_small are fresh closed rise whole)
-            (none_beside H (site.place + run_end b.end rest) (site.place + run_end b.end rest) (batches_to sum size site device fault bytes from (b ∷ rest) rs (own_of fits.holds.head) fits.holds.own (site.place + run_end b.end rest) (let above = (stop_up from rs b rest closed are).0 in omega (arith, above))))
+            (none_between H (site.place + run_end b.end rest))
             (site.slot + from) (asked_behind []) (λ zeros. torn_first sum size site device fault bytes from b rest rs H fits.holds short big place_small slot_small are fresh closed rise whole reach zeros)
             (λ (l : List ℕ) (is : StandsAmong sum size l site (run_end b.end rest) (map begun_segment behind) (site.place + run_end b.end rest) H fits.holds.begun.first). is.stands) (λ zeros end far. alone_first sum size site device fault bytes from b rest rs H fits.holds short big place_small slot_small are fresh closed rise whole plain reach zeros end far)
             (reaches_first sum size site device fault bytes from b rest rs H fits.holds short big place_small slot_small are fresh closed rise whole) (behind_run rest) (drop (b.count + run_count rest) rs)

@@ -30,3 +30,7 @@ written_batched size site from stop done others bs up below has = record {
     | inr (inr after) ↦ inr (inr after)
   ];
 }
+
+-- What closes below a place closes below a higher one.
+pub closed_up : (low high : ℕ) (bs : List Batch) → low ≤ high → CloseBelow low bs → CloseBelow high bs
+closed_up low high bs up closed k d lt = let its = closed k d lt in (omega (arith, its.0, up), omega (arith, its.1, up))

@@ -100,8 +100,8 @@ segment_beside sum size site device fault bytes from bs rs H {stays} holds are l
   messages = holds.messages;
   below = holds.below;
   apart = holds.apart;
-  batches = holds.batches;
   batched = holds.batched;
+  no_end = holds.no_end;
   place_begins = holds.place_begins;
   slot_begins = holds.slot_begins;
   header = holds.header;

@@ -1,4 +1,6 @@
 -- A reservation that is completed becomes a message of the history that a log holds, at its place; one that is aborted leaves the history as it was. No other one is touched.
+use Rattle.sled_core.specs.Recoverable.{NoBatchEnds}
+use Rattle.sled_core.proofs.Reserve.RecordEnds.{no_end_in, records_ended}
 use Rattle.std.proofs.Common.{◌≡◌, ◌≢◌, ◌≤◌, ◌<◌, ◌+◌, ◌/◌, inl, inr, ℕ, suc, max, List, ◌∷◌, ◌++◌, length, take, drop, set, sym, ◌∙◌, ap, arith, refl, subst, false, append_assoc, Option, None, Some, get_or, ◌-◌}
 use Rattle.std.specs.List.{All, Contains, slice_get}
 use Rattle.std.specs.declared.io.Error.{Error as IoError}
@@ -18,8 +20,8 @@ use Rattle.sled_core.specs.declared.iobuf.ReservationState.TheVariants.{Open, Co
 use Rattle.sled_core.specs.declared.iobuf.Reserved.{Reserved}
 use Rattle.sled_core.specs.declared.iobuf.Sealed.{Sealed}
 use Rattle.sled_core.specs.declared.iobuf.SegmentPosition.{SegmentPosition}
-use Rattle.sled_core.specs.Buffers.{batch_in, batches_in, with_batch, body_in, message_in, IsChain, completed_in, with_own, ending, completing, canceling, ended, open_state, HasText, Stands, StandsReserved}
-use Rattle.sled_core.specs.Fits.{log_parts, HoldsSegment, CloseBelow, IsOnDevice}
+use Rattle.sled_core.specs.Buffers.{records_end, batch_in, batches_in, with_batch, body_in, message_in, IsChain, completed_in, with_own, ending, completing, canceling, ended, open_state, HasText, Stands, StandsReserved}
+use Rattle.sled_core.specs.Fits.{log_parts, HoldsSegment, IsOnDevice}
 use Rattle.sled_core.proofs.Reached.BufferPath.{mark_same}
 use Rattle.sled_core.proofs.Reserve.Ranges.{batches-append, batches-same, part-written_before, length-written, completed-same, completed-append, completed_between, chain-split, chain-joined, chain_grows, chain_within, there_split, all_split, all_joined, at_there, there-set_other, chain_apart}
 use Rattle.sled_core.specs.Manifests.{is_manifest}
@@ -118,9 +120,10 @@ module _ (sum : List ℕ → ℕ) (size : ℕ) (site : SegmentPosition) (device 
           messages = messages ∙ ap (λ (ms : List Message). holds.earlier ++ ms) (sym messages_new);
           below = holds.below;
           apart = holds.apart;
-          batches = subst (CloseBelow (site.place + from)) (sym same) holds.batches;
           batched = same_batched size site from (batches_in site bytes (xs ++ r ∷ ys)) (batches_in site new (xs ++ ended state r ∷ ys)) H.batches H'.batches
               (batches_new ∙ ap (λ (l : List Batch). batches_in site bytes xs ++ l) no_batch ∙ sym old_batches) same holds.batched;
+          no_end = no_end_in H H' (site.place + records_end (xs ++ ended state r ∷ ys) (length new)) (site.place + size) same
+              (subst (λ n. NoBatchEnds H (site.place + n) (site.place + size)) (sym (ap (records_end (xs ++ ended state r ∷ ys)) long ∙ records_ended xs ys r state (length bytes) is_open plain)) holds.no_end);
           place_begins = holds.place_begins;
           slot_begins = holds.slot_begins;
           header = λ first. let m = holds.header first in record { mark = m.mark; is = part-written_before bytes (ending word k) r.from 0 20 (omega (arith, begins)) fit ∙ m.is; of_history = mark_same H H' (record { place = site.place; slot = site.slot; mark = m.mark }) same m.of_history };
@@ -191,8 +194,8 @@ segment-fewer sum size site device fault bytes from bs rs H stays stays' fewer h
   messages = holds.messages;
   below = holds.below;
   apart = holds.apart;
-  batches = holds.batches;
   batched = holds.batched;
+  no_end = holds.no_end;
   place_begins = holds.place_begins;
   slot_begins = holds.slot_begins;
   header = holds.header;

@@ -1,4 +1,5 @@
 -- How a segment of a log goes on holding a history when a place is reserved.
+use Rattle.sled_core.proofs.Reserve.RecordEnds.{behind_open, no_end_up, records_more}
 use Rattle.std.proofs.Common.{◌≡◌, ◌≤◌, ◌+◌, ◌-◌, ◌/◌, ℕ, zero, suc, max, List, [], ◌∷◌, ◌++◌, length, sym, ◌∙◌, ap, arith, refl, subst, length-append, Option, get_or}
 use Rattle.std.specs.List.{All}
 use Rattle.std.specs.declared.io.Error.{Error as IoError}
@@ -11,7 +12,7 @@ use Rattle.sled_core.specs.declared.iobuf.ReservationState.TheVariants.{Complete
 use Rattle.sled_core.specs.declared.iobuf.Reserved.{Reserved}
 use Rattle.sled_core.specs.declared.iobuf.Sealed.{Sealed}
 use Rattle.sled_core.specs.declared.iobuf.SegmentPosition.{SegmentPosition}
-use Rattle.sled_core.specs.Buffers.{batch_in, batches_in, body_in, message_in, IsChain, completed_in, with_batch, with_own, HasText, Stands}
+use Rattle.sled_core.specs.Buffers.{records_end, batch_in, batches_in, body_in, message_in, IsChain, completed_in, with_batch, with_own, HasText, Stands}
 use Rattle.sled_core.specs.Fits.{log_parts, HoldsSegment}
 use Rattle.sled_core.proofs.Holds.BatchLemmas.{same_batched}
 use Rattle.sled_core.proofs.Sealed.LaidCalls.{laid_append}
@@ -75,9 +76,9 @@ module _ (sum : List ℕ → ℕ) (size : ℕ) (site : SegmentPosition) (device 
             completed-append site new rs (r ∷ []) ∙ ap (λ (ms : List Message). completed_in site new rs ++ ms) none ∙ append-nil (completed_in site new rs) ∙ completed-behind sum size number site bytes more rs within holds.stand));
         below = holds.below;
         apart = holds.apart;
-        batches = holds.batches;
         batched = same_batched size site from (batches_in site bytes rs) (batches_in site new (rs ++ r ∷ [])) H.batches H.batches
             (batches-append site new rs (r ∷ []) ∙ ap (λ (l : List Batch). batches_in site new rs ++ l) (batches_open site new r [] is_open) ∙ append-nil (batches_in site new rs) ∙ batches-behind sum size number site bytes more rs within holds.stand) refl holds.batched;
+        no_end = no_end_up H site.place (records_end rs (length bytes)) (records_end (rs ++ r ∷ []) (length new)) (site.place + size) (records_more rs r (length bytes) (length new) (omega (arith, end)) (behind_open r (length bytes) (length new) is_open (omega (arith, end)))) holds.no_end;
         place_begins = holds.place_begins;
         slot_begins = holds.slot_begins;
         header = λ first. let m = holds.header first in record { mark = m.mark; is = take-append-le 20 bytes more begun ∙ m.is; of_history = m.of_history };

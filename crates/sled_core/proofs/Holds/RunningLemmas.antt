@@ -14,7 +14,7 @@ use Rattle.sled_core.specs.declared.iobuf.Sealed.{Sealed}
 use Rattle.sled_core.specs.declared.iobuf.SegmentPosition.{SegmentPosition}
 use Rattle.sled_core.specs.declared.logger.Log.{Log}
 use Rattle.sled_core.specs.Begun.{SegmentParts}
-use Rattle.sled_core.specs.Fits.{HasInline, HoldsIn, begun_segment, device_of, log_parts, segment_size_of}
+use Rattle.sled_core.specs.Fits.{CloseBelow, HasInline, HoldsIn, begun_segment, device_of, log_parts, segment_size_of}
 use Rattle.sled_core.specs.LogFile.{padded}
 use Rattle.sled_core.specs.Running.{BlobsFit, NamesFit, Fits, FitsIn, end_below, last_batch, last_message}
 use Rattle.sled_core.specs.Reached.{BegunSegment, StandsAmong}
@@ -98,31 +98,32 @@ module _ (sum : List ℕ → ℕ) (size : ℕ) (site : SegmentPosition) (device 
     by rest false is = rest
     by rest true is = let below : m.place < site.place + from = grind (arith, nat_tests, is) in let end = fits.ends m (among m (in_first m ms)) below in omega (arith, end.1, rest)
 
-  -- no batch is open, since all end below what is written
-  closes : (b : Batch) → Contains H.batches b → (b.low < reach) × (b.peg < reach)
-  closes b there =
-      let under = All-contains (λ (x : Batch). (x.low < site.place + from) × (x.peg < site.place + from)) H.batches b fits.holds.own.batches there in (
-        elim (fits.no_batch b there) [ inl low ↦ low | inr far ↦ absurd (omega (arith, far, under.0)) ],
-        elim (fits.no_end b there) [ inl low ↦ low | inr far ↦ absurd (omega (arith, far, under.1)) ],
-      )
+  -- no batch is open, where all end below what is written
+  module _ (closed : CloseBelow (site.place + from) H.batches) where
+    closes : (b : Batch) → Contains H.batches b → (b.low < reach) × (b.peg < reach)
+    closes b there =
+        let under = All-contains (λ (x : Batch). (x.low < site.place + from) × (x.peg < site.place + from)) H.batches b closed there in (
+          elim (fits.no_batch b there) [ inl low ↦ low | inr far ↦ absurd (omega (arith, far, under.0)) ],
+          elim (fits.no_end b there) [ inl low ↦ low | inr far ↦ absurd (omega (arith, far, under.1)) ],
+        )
 
-  all_stable : stable_below reach H.batches ≡ reach
-  all_stable = stable_all reach H.batches (λ b there low. (closes b there).1)
+    all_stable : stable_below reach H.batches ≡ reach
+    all_stable = stable_all reach H.batches (λ b there low. (closes b there).1)
 
-  batch_ends : (bs : List Batch) → ((b : Batch) → Contains bs b → Contains H.batches b) → last_batch (site.place + from) bs ≤ reach
-  batch_ends [] among = omega arith
-  batch_ends (b ∷ bs) among = by (batch_ends bs (λ x there. among x (in_rest b x bs there))) (nat_lt b.low (site.place + from)) where
-    by : last_batch (site.place + from) bs ≤ reach → (o : Bool) → (if o then max (max b.low b.peg + 1) (last_batch (site.place + from) bs) else last_batch (site.place + from) bs) ≤ reach
-    by rest false = rest
-    by rest true = let here = closes b (among b (in_first b bs)) in omega (arith, here.0, here.1, rest)
+    batch_ends : (bs : List Batch) → ((b : Batch) → Contains bs b → Contains H.batches b) → last_batch (site.place + from) bs ≤ reach
+    batch_ends [] among = omega arith
+    batch_ends (b ∷ bs) among = by (batch_ends bs (λ x there. among x (in_rest b x bs there))) (nat_lt b.low (site.place + from)) where
+      by : last_batch (site.place + from) bs ≤ reach → (o : Bool) → (if o then max (max b.low b.peg + 1) (last_batch (site.place + from) bs) else last_batch (site.place + from) bs) ≤ reach
+      by rest false = rest
+      by rest true = let here = closes b (among b (in_first b bs)) in omega (arith, here.0, here.1, rest)
 
-  pub fits-acknowledged : FitsIn sum (log_parts size site device fault bytes from bs rs) behind reach pins H (max A (end_below (site.place + from) H)) f U
-  fits-acknowledged =
-      let old = fits.passes in
-      let messages = message_ends H.messages (λ m there. there) in
-      let batches = batch_ends H.batches (λ b there. there) in
-      let stable = all_stable in
-      fits-synced (max A (end_below (site.place + from) H)) (omega (arith, old, messages, batches, stable))
+    pub fits-acknowledged : FitsIn sum (log_parts size site device fault bytes from bs rs) behind reach pins H (max A (end_below (site.place + from) H)) f U
+    fits-acknowledged =
+        let old = fits.passes in
+        let messages = message_ends H.messages (λ m there. there) in
+        let batches = batch_ends H.batches (λ b there. there) in
+        let stable = all_stable in
+        fits-synced (max A (end_below (site.place + from) H)) (omega (arith, old, messages, batches, stable))
 
   -- Another count of pins fits, where one is out while a completed message is not marked.
   pub fits-pinned : (pins' : ℕ) → (U ≢ [] → 0 < pins') → FitsIn sum (log_parts size site device fault bytes from bs rs) behind reach pins' H A f U

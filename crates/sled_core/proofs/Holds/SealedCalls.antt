@@ -20,8 +20,8 @@ segment-sealed sum size site device fault bytes from bs rs own H short inside ho
   messages = holds.messages;
   below = holds.below;
   apart = holds.apart;
-  batches = holds.batches;
   batched = holds.batched;
+  no_end = holds.no_end;
   place_begins = holds.place_begins;
   slot_begins = holds.slot_begins;
   header = holds.header;

@@ -1,4 +1,5 @@
 -- A further segment is begun: the one that was being filled is filled to its end and sealed, and the log holds and fits what it did.
+use Rattle.sled_core.proofs.Holds.BatchLemmas.{closed_up}
 use Rattle.std.proofs.Common.{◌≡◌, ◌∙◌, ◌<◌, ◌≤◌, ◌+◌, ◌-◌, ◌*◌, ◌/◌, ◌^◌, ◌-ℤ◌, ap, sym, refl, arith, subst, inl, inr, ℕ, zero, suc, pos, List, [], ◌∷◌, ◌++◌, length, map, Option, Some, false, if◌then◌else◌, Bool}
 use Rattle.std.specs.List.{slice_get}
 use Rattle.std.specs.declared.io.Error.{Error as IoError}
@@ -20,7 +21,7 @@ use Rattle.sled_core.specs.Begun.{SegmentParts, SegmentView, begin_of, segment_v
 use Rattle.sled_core.specs.Buffers.{IsHeaded}
 use Rattle.sled_core.specs.Tickets.{IsFor, index_of}
 use Rattle.sled_core.specs.declared.iobuf.Reserved.{Reserved}
-use Rattle.sled_core.specs.Fits.{AwaitsIn, CloseBelow, HasMark, Holds, HoldsIn, HoldsLine, HoldsWith, KeepsAll, KeepsTickets, current_of, device_of, fault_of, line_of, log_parts, machine_at, parts_in, pins_of, position_of, segment_size_of, synced_end, waiting_of}
+use Rattle.sled_core.specs.Fits.{written_to, AwaitsIn, CloseBelow, HasMark, Holds, HoldsIn, HoldsLine, HoldsWith, KeepsAll, KeepsTickets, current_of, device_of, fault_of, line_of, log_parts, machine_at, parts_in, pins_of, position_of, segment_size_of, synced_end, waiting_of}
 use Rattle.sled_core.specs.FreeSlots.{HasSlot, HasSlots}
 use Rattle.sled_core.specs.Keeps.{Preserves}
 use Rattle.sled_core.specs.OpenPlaces.{open_places_along}
@@ -36,7 +37,7 @@ use Rattle.sled_core.proofs.Holds.KeptCalls.{goes_on_quietly}
 use Rattle.sled_core.proofs.Line.Closes.{IsClosable, filled_gone, filled_length, filled_message, filled_site, filled_there, filled_written, line_closed, line_fits_closed}
 use Rattle.sled_core.proofs.Line.Facts.{IsSegment, current_facts, nth_facts}
 use Rattle.sled_core.proofs.Line.Last.{All-at_last, last_behind_all, last_get_of, unwritten-append}
-use Rattle.sled_core.proofs.Line.Moves.{fits_as, holds_as, written_to}
+use Rattle.sled_core.proofs.Line.Moves.{fits_as, holds_as}
 use Rattle.sled_core.proofs.Line.OpenPlaces.{places_begun, places_closed}
 use Rattle.sled_core.proofs.Line.Slots.{next_free, next_other, next_others, slots_begun}
 use Rattle.sled_core.proofs.Reached.BufferPath.{buffer_mark, mark_lower}
@@ -55,6 +56,11 @@ first_place (v ∷ vs) = v.parts.site.place
 abbrev FirstShort : ℕ → List SegmentView → Type 0
 FirstShort size [] = ⊥
 FirstShort size (v ∷ vs) = length v.parts.bytes ≤ size
+
+-- How far the first one is written doesn't go by those behind it.
+written_append : (vs ws : List SegmentView) → 0 < length vs → written_to (vs ++ ws) ≡ written_to vs
+written_append [] ws some = absurd (omega (arith, some))
+written_append (v ∷ vs) ws some = refl
 
 -- A segment begins behind segments one behind another, in the slot that is handed out next, with a mark below what is written of the first one.
 module _ (sum : List ℕ → ℕ) (size : ℕ) (device : State) (fault : Option IoError) (m : Machine) (big : 256 ≤ size) (H : History) where
@@ -91,35 +97,42 @@ module _ (sum : List ℕ → ℕ) (size : ℕ) (device : State) (fault : Option 
         let grown = grows sum size v.parts.site device fault v.parts.bytes v.parts.written_len v.parts.sealed v.parts.reserved (record { messages = holds.head; batches = H.batches }) holds.own in
         omega (arith, grown)
 
-    mark_of : (v : SegmentView) (vs : List SegmentView) → place ≡ first_place (v ∷ vs) + length (v ∷ vs) * size → length v.parts.bytes ≤ size → HoldsLine sum size device fault (v ∷ vs) H
-        → HasMark sum (record { place = place; slot = next_slot m * size }) (header_at place (written_to (v ∷ vs))) H
-    mark_of v vs at short holds =
+    written_before : (v : SegmentView) (vs : List SegmentView) → place ≡ first_place (v ∷ vs) + length (v ∷ vs) * size → length v.parts.bytes ≤ size → HoldsLine sum size device fault (v ∷ vs) H → written_to (v ∷ vs) ≤ place
+    written_before v vs at short holds =
         let up = above v vs at in
         let within = written_within v vs holds in
-        marked (record { place = place; slot = next_slot m * size }) (written_to (v ∷ vs)) (omega (arith, up, within, short)) holds.own.batches
+        omega (arith, up, within, short)
+
+    mark_of : (v : SegmentView) (vs : List SegmentView) → place ≡ first_place (v ∷ vs) + length (v ∷ vs) * size → length v.parts.bytes ≤ size → CloseBelow (written_to (v ∷ vs)) H.batches → HoldsLine sum size device fault (v ∷ vs) H
+        → HasMark sum (record { place = place; slot = next_slot m * size }) (header_at place (written_to (v ∷ vs))) H
+    mark_of v vs at short ended holds = marked (record { place = place; slot = next_slot m * size }) (written_to (v ∷ vs)) (written_before v vs at short holds) ended
+
+    closed_before : (v : SegmentView) (vs : List SegmentView) → place ≡ first_place (v ∷ vs) + length (v ∷ vs) * size → length v.parts.bytes ≤ size → CloseBelow (written_to (v ∷ vs)) H.batches → HoldsLine sum size device fault (v ∷ vs) H
+        → CloseBelow place H.batches
+    closed_before v vs at short ended holds = closed_up (written_to (v ∷ vs)) place H.batches (written_before v vs at short holds) ended
 
     -- What the others hold is held with it,
-    pub line_begun : (line : List SegmentView) → place ≡ first_place line + length line * size → FirstShort size line → HasSlots size line device.log.bytes fault m → HoldsLine sum size device fault line H
+    pub line_begun : (line : List SegmentView) → place ≡ first_place line + length line * size → FirstShort size line → HasSlots size line device.log.bytes fault m → CloseBelow (written_to line) H.batches → HoldsLine sum size device fault line H
         → HoldsLine sum size device fault (line ++ begun_at place (written_to line) ∷ []) H
-    line_begun [] at short has holds = absurd holds
-    line_begun (v ∷ vs) at short has holds =
+    line_begun [] at short has ended holds = absurd holds
+    line_begun (v ∷ vs) at short has ended holds =
         subst (λ (ss : List SegmentParts). HoldsIn sum (log_parts size v.parts.site device fault v.parts.bytes v.parts.written_len v.parts.sealed v.parts.reserved) ss H) (sym (map-append parts_in vs (begun_at place (written_to (v ∷ vs)) ∷ [])))
         (behind-begins sum size v.parts.site device fault v.parts.bytes v.parts.written_len v.parts.sealed v.parts.reserved H (map parts_in vs) holds big short
         (record { place = place; slot = next_slot m * size }) (header_at place (written_to (v ∷ vs))) (place_is v vs at) (mul-mod_left (next_slot m) size) (length-short_header sum (pos place) (pos (written_to (v ∷ vs)) -ℤ pos 1))
-        (mark_of v vs at short holds) (next_other m slots size (omega (arith, big)) v (All-head (HasSlot size m) v vs has.taken))
-        (next_others m slots size (omega (arith, big)) vs (All-tail (HasSlot size m) v vs has.taken)) (λ none. has.zeros none (next_slot m) (next_free m slots)))
+        (mark_of v vs at short ended holds) (next_other m slots size (omega (arith, big)) v (All-head (HasSlot size m) v vs has.taken))
+        (next_others m slots size (omega (arith, big)) vs (All-tail (HasSlot size m) v vs has.taken)) (λ none. has.zeros none (next_slot m) (next_free m slots)) (closed_before v vs at short ended holds))
 
     -- and what they fit is fitted.
-    pub line_fits_begun : (reach pins A f : ℕ) (U : List Message) (line : List SegmentView) → place ≡ first_place line + length line * size → place < 2 ^ 63 → FirstShort size line → HasSlots size line device.log.bytes fault m
+    pub line_fits_begun : (reach pins A f : ℕ) (U : List Message) (line : List SegmentView) → place ≡ first_place line + length line * size → place < 2 ^ 63 → FirstShort size line → HasSlots size line device.log.bytes fault m → CloseBelow (written_to line) H.batches
         → FitsLine sum size device fault line reach pins H A f U → FitsLine sum size device fault (line ++ begun_at place (written_to line) ∷ []) reach pins H A f U
     unfolding mark_of marked
-    line_fits_begun reach pins A f U [] at small short has fits = absurd fits
-    line_fits_begun reach pins A f U (v ∷ vs) at small short has fits =
+    line_fits_begun reach pins A f U [] at small short has ended fits = absurd fits
+    line_fits_begun reach pins A f U (v ∷ vs) at small short has ended fits =
         subst (λ (ss : List SegmentParts). FitsIn sum (log_parts size v.parts.site device fault v.parts.bytes v.parts.written_len v.parts.sealed v.parts.reserved) ss reach pins H A f U) (sym (map-append parts_in vs (begun_at place (written_to (v ∷ vs)) ∷ [])))
         (behind-fits-begun sum size v.parts.site device fault v.parts.bytes v.parts.written_len v.parts.sealed v.parts.reserved pins H A f U (map parts_in vs) fits big short
         (record { place = place; slot = next_slot m * size }) (header_at place (written_to (v ∷ vs))) (place_is v vs at) (mul-mod_left (next_slot m) size) (length-short_header sum (pos place) (pos (written_to (v ∷ vs)) -ℤ pos 1))
-        (mark_of v vs at short fits.holds) (next_other m slots size (omega (arith, big)) v (All-head (HasSlot size m) v vs has.taken))
-        (next_others m slots size (omega (arith, big)) vs (All-tail (HasSlot size m) v vs has.taken)) (λ none. has.zeros none (next_slot m) (next_free m slots))
+        (mark_of v vs at short ended fits.holds) (next_other m slots size (omega (arith, big)) v (All-head (HasSlot size m) v vs has.taken))
+        (next_others m slots size (omega (arith, big)) vs (All-tail (HasSlot size m) v vs has.taken)) (λ none. has.zeros none (next_slot m) (next_free m slots)) (closed_before v vs at short ended fits.holds)
         (mark_lower (written_to (v ∷ vs)) (written_to (v ∷ vs)) (omega arith)) small)
 
 -- The segments once the last one is filled and sealed: the first of them lies where it lay, as far written.
@@ -164,14 +177,24 @@ module _ (sum : List ℕ → ℕ) (size : ℕ) where
     abbrev next : List SegmentView
     next = next_line sum size m (written_to (v ∷ vs)) (v ∷ vs)
 
+    next_written : written_to next ≡ written_to (v ∷ vs)
+    next_written = written_append (closed (v ∷ vs)) (begun_view sum size m (written_to (v ∷ vs)) (last_of v vs) ∷ []) (closed_some v vs) ∙ closed_written v vs
+
     slots_next : HasSlots size (v ∷ vs) device.log.bytes fault m → HasSlots size next device.log.bytes fault (handed_out place m)
     slots_next has = slots_begun m slots size (closed (v ∷ vs)) device.log.bytes fault place (begun_view sum size m (written_to (v ∷ vs)) (last_of v vs)) refl (closed_slots (v ∷ vs) device.log.bytes fault m has)
+
+    closed_closed : (bs : List Batch) → CloseBelow (written_to (v ∷ vs)) bs → CloseBelow (written_to (closed (v ∷ vs))) bs
+    closed_closed bs ended = subst (λ n. CloseBelow n bs) (sym (closed_written v vs)) ended
+
+    closed_next : (bs : List Batch) → CloseBelow (written_to (v ∷ vs)) bs → CloseBelow (written_to next) bs
+    closed_next bs ended = subst (λ n. CloseBelow n bs) (sym next_written) ended
 
     pub holds_next : (H : History) → HoldsWith sum size device fault (v ∷ vs) m H → HoldsWith sum size device fault next (handed_out place m) H
     holds_next H holds = record {
       holds = subst (λ n. HoldsLine sum size device fault (closed (v ∷ vs) ++ begun_at sum size device fault m big H place n ∷ []) H) (closed_written v vs)
-          (line_begun sum size device fault m big H slots place (closed (v ∷ vs)) at (closed_short v vs short small) (closed_slots (v ∷ vs) device.log.bytes fault m holds.slots)
+          (line_begun sum size device fault m big H slots place (closed (v ∷ vs)) at (closed_short v vs short small) (closed_slots (v ∷ vs) device.log.bytes fault m holds.slots) (closed_closed H.batches holds.closed)
           (line_closed sum size device fault H v vs closable holds.holds));
+      closed = closed_next H.batches holds.closed;
       slots = slots_next holds.slots;
     }
 
@@ -179,8 +202,9 @@ module _ (sum : List ℕ → ℕ) (size : ℕ) where
     fits_next pins H A f U fits = record {
       reach = fits.reach;
       parts = subst (λ n. FitsLine sum size device fault (closed (v ∷ vs) ++ begun_at sum size device fault m big H place n ∷ []) fits.reach pins H A f U) (closed_written v vs)
-          (line_fits_begun sum size device fault m big H slots place fits.reach pins A f U (closed (v ∷ vs)) at in_reach (closed_short v vs short small) (closed_slots (v ∷ vs) device.log.bytes fault m fits.slots)
+          (line_fits_begun sum size device fault m big H slots place fits.reach pins A f U (closed (v ∷ vs)) at in_reach (closed_short v vs short small) (closed_slots (v ∷ vs) device.log.bytes fault m fits.slots) (closed_closed H.batches fits.closed)
           (line_fits_closed sum size device fault fits.reach pins H A f U v vs closable fits.parts));
+      closed = closed_next H.batches fits.closed;
       slots = slots_next fits.slots;
     }
 

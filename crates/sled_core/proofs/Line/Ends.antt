@@ -4,7 +4,7 @@ use Rattle.std.specs.declared.io.Error.{Error as IoError}
 use Rattle.std.specs.List.{slice_get}
 use Rattle.std.proofs.lemmas.List.Elements.{All-set}
 use Rattle.sled_codec.specs.Written.{written}
-use Rattle.sled_codec.specs.History.{AddsMessage, History, Message}
+use Rattle.sled_codec.specs.History.{Batch, AddsMessage, History, Message}
 use Rattle.sled_store.specs.Device.{State}
 use Rattle.sled_store.specs.SegmentStates.{Machine}
 use Rattle.sled_core.specs.Manifests.{is_manifest}
@@ -13,7 +13,7 @@ use Rattle.sled_core.specs.declared.iobuf.Reserved.{Reserved}
 use Rattle.sled_core.specs.declared.iobuf.SegmentPosition.{SegmentPosition}
 use Rattle.sled_core.specs.Begun.{SegmentParts, SegmentView}
 use Rattle.sled_core.specs.Buffers.{canceling, completing, message_in}
-use Rattle.sled_core.specs.Fits.{HoldsIn, HoldsLine, HoldsSegment, HoldsWith, LogParts, log_parts, parts_in}
+use Rattle.sled_core.specs.Fits.{CloseBelow, written_to, HoldsIn, HoldsLine, HoldsSegment, HoldsWith, LogParts, log_parts, parts_in}
 use Rattle.sled_core.specs.FreeSlots.{HasSlot, HasSlots}
 use Rattle.sled_core.specs.Running.{FitsIn, FitsLine, FitsWith}
 use Rattle.sled_core.specs.Turned.{ended_now}
@@ -149,12 +149,22 @@ slots_set size line log fault m n v w there site slots =
     let its : HasSlot size m v = at_there (HasSlot size m) line n v there slots.taken in
     record { taken = All-set (HasSlot size m) line n w (record { number = its.number; lies = ap (λ (p : SegmentPosition). p.slot) site ∙ its.lies; taken = its.taken }) slots.taken; zeros = slots.zeros }
 
+-- So is what is written of the first segment.
+pub written_set : (line : List SegmentView) (n : ℕ) (v w : SegmentView) → slice_get line n ≡ Some v → w.parts.site ≡ v.parts.site → w.parts.written_len ≡ v.parts.written_len → written_to (set line n w) ≡ written_to line
+written_set [] n v w there site from = refl
+written_set (x ∷ xs) zero v w there site from = let same : x ≡ v = cc in (λ i. (site i).place + from i) ∙ ap (λ (y : SegmentView). y.parts.site.place + y.parts.written_len) (sym same)
+written_set (x ∷ xs) (suc n) v w there site from = refl
+
 -- What a log holds and fits where one of its reservations has ended.
 module _ (sum : List ℕ → ℕ) (size : ℕ) (device : State) (fault : Option IoError) (line : List SegmentView) (n : ℕ) (v : SegmentView) (there : slice_get line n ≡ Some v) (place : ℕ)
     (facts : (k : ℕ) (x : SegmentView) → slice_get line k ≡ Some x → IsSegment size (place + k * size) x) (i : ℕ) (r : Reserved) (at : slice_get v.parts.reserved i ≡ Some r) (is_open : r.state ≡ Open) (machine : Machine) where
+  closed_set : (w : SegmentView) → w.parts.site ≡ v.parts.site → w.parts.written_len ≡ v.parts.written_len → (bs : List Batch) → CloseBelow (written_to line) bs → CloseBelow (written_to (set line n w)) bs
+  closed_set w site from bs closed = subst (λ k. CloseBelow k bs) (sym (written_set line n v w there site from)) closed
+
   pub holds_aborted : (H : History) → HoldsWith sum size device fault line machine H → HoldsWith sum size device fault (set line n (ended_now i r (canceling sum v.parts.bytes r) Canceled v)) machine H
   holds_aborted H holds = record {
     holds = abort_holds sum size device fault v i r at is_open line n H there (facts n v there) holds.holds;
+    closed = closed_set (ended_now i r (canceling sum v.parts.bytes r) Canceled v) refl refl H.batches holds.closed;
     slots = slots_set size line device.log.bytes fault machine n v (ended_now i r (canceling sum v.parts.bytes r) Canceled v) there refl holds.slots;
   }
 
@@ -162,6 +172,7 @@ module _ (sum : List ℕ → ℕ) (size : ℕ) (device : State) (fault : Option 
   fits_aborted pins H A f U fits = record {
     reach = fits.reach;
     parts = abort_fits sum size device fault v i r at is_open line n fits.reach pins H A f U there (facts n v there) fits.parts;
+    closed = closed_set (ended_now i r (canceling sum v.parts.bytes r) Canceled v) refl refl H.batches fits.closed;
     slots = slots_set size line device.log.bytes fault machine n v (ended_now i r (canceling sum v.parts.bytes r) Canceled v) there refl fits.slots;
   }
 
@@ -169,10 +180,10 @@ module _ (sum : List ℕ → ℕ) (size : ℕ) (device : State) (fault : Option 
       → (H' : History) × AddsMessage H (message_in v.parts.site v.parts.bytes r) H' × HoldsWith sum size device fault (set line n (ended_now i r (completing r) Completed v)) machine H'
   holds_completed none H holds =
       let done = complete_holds sum size device fault v i r at is_open none line n place H there facts holds.holds in
-      (done.0, done.1, record { holds = done.2; slots = slots_set size line device.log.bytes fault machine n v (ended_now i r (completing r) Completed v) there refl holds.slots })
+      (done.0, done.1, record { holds = done.2; closed = subst (CloseBelow (written_to (set line n (ended_now i r (completing r) Completed v)))) (sym done.1.batches) (closed_set (ended_now i r (completing r) Completed v) refl refl H.batches holds.closed); slots = slots_set size line device.log.bytes fault machine n v (ended_now i r (completing r) Completed v) there refl holds.slots })
 
   pub fits_completed : is_manifest r.log_kind r.page ≡ false → (pins : ℕ) (H : History) (A f : ℕ) (U : List Message) → 256 ≤ size → fault ≡ None → 0 < pins → FitsWith sum size device fault line machine pins H A f U
       → (H' : History) × AddsMessage H (message_in v.parts.site v.parts.bytes r) H' × FitsWith sum size device fault (set line n (ended_now i r (completing r) Completed v)) machine pins H' A f (message_in v.parts.site v.parts.bytes r ∷ U)
   fits_completed none pins H A f U least ok out fits =
       let done = complete_fits sum size device fault v i r at is_open none line n place fits.reach pins H A f U least ok out there facts fits.parts in
-      (done.0, done.1, record { reach = fits.reach; parts = done.2; slots = slots_set size line device.log.bytes fault machine n v (ended_now i r (completing r) Completed v) there refl fits.slots })
+      (done.0, done.1, record { reach = fits.reach; parts = done.2; closed = subst (CloseBelow (written_to (set line n (ended_now i r (completing r) Completed v)))) (sym done.1.batches) (closed_set (ended_now i r (completing r) Completed v) refl refl H.batches fits.closed); slots = slots_set size line device.log.bytes fault machine n v (ended_now i r (completing r) Completed v) there refl fits.slots })

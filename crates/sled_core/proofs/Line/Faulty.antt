@@ -61,6 +61,7 @@ holds_with_answer sum size size' device new fault now line line' m m' H s l a d 
   | inl still ↦ holds_with_device sum size device new fault now line m H d (still ∙ sym none) holds
   | inr (e, is) ↦ record {
     holds = holds_line_faulty sum size device fault line H holds.holds new e now is (ap (λ (x : State). x.snapshots) d);
+    closed = holds.closed;
     slots = slots_line_faulty size line device.log.bytes new.log.bytes fault m holds.slots e now is;
   }
 ])
@@ -78,6 +79,7 @@ fits_with_answer sum size size' device new fault now line line' m m' pins pins' 
     reach = fits.reach;
     parts = fits_line_faulty sum size device fault line fits.reach pins H A f U fits.parts new e now is (ap (λ (x : State). x.blobs) d) (ap (λ (x : State). x.snapshots) d)
         (subst (LeavesRecoverable sum size H (stable_below fits.reach H.batches) f) (sym d) (line_leaves sum size device fault line fits.reach pins H A f U fits.parts));
+    closed = fits.closed;
     slots = slots_line_faulty size line device.log.bytes new.log.bytes fault m fits.slots e now is;
   }
 ])

@@ -1,4 +1,5 @@
 -- A log at each moment of the write of one of its sealed buffers, once that failed, and once it is done: what it held and fitted it holds and fits.
+use Rattle.sled_core.proofs.Holds.BatchLemmas.{closed_up}
 use Rattle.std.proofs.Common.{◌≡◌, ◌∙◌, ◌<◌, ◌≤◌, ◌+◌, ◌^◌, ap, sym, arith, subst, ℕ, zero, suc, List, [], ◌∷◌, length, map, set, Option, None, Some, inl, inr}
 use Rattle.std.specs.List.{slice_get}
 use Rattle.std.specs.declared.io.Error.{Error as IoError}
@@ -17,7 +18,7 @@ use Rattle.sled_core.specs.declared.iobuf.IoBuf.{IoBuf}
 use Rattle.sled_core.specs.declared.iobuf.SegmentPosition.{SegmentPosition}
 use Rattle.sled_core.specs.declared.logger.Log.{Log}
 use Rattle.sled_core.specs.declared.logger.segments.SegmentBuffer.{SegmentBuffer}
-use Rattle.sled_core.specs.Fits.{Holds, HoldsWith, device_of, fault_of, line_of, segment_size_of}
+use Rattle.sled_core.specs.Fits.{written_to, Holds, HoldsWith, device_of, fault_of, line_of, segment_size_of}
 use Rattle.sled_core.specs.Recoverable.{LeavesRecoverable}
 use Rattle.sled_core.specs.Running.{Fits, FitsLine, FitsWith}
 use Rattle.sled_core.specs.Turned.{ChangesDevice, IsReadyIn, promoted, write_in, written_now}
@@ -25,7 +26,6 @@ use Rattle.sled_core.proofs.Flush.FlushLemmas.{fault_or_none}
 use Rattle.sled_core.proofs.Flush.Settled.{leaves_less}
 use Rattle.sled_core.proofs.Holds.BufferEnds.{written_behind}
 use Rattle.sled_core.proofs.Line.Faulty.{fits_line_faulty, fits_with_device, holds_line_faulty, holds_with_device, names_written, slots_line_faulty}
-use Rattle.sled_core.proofs.Line.Moves.{written_to}
 use Rattle.sled_core.proofs.Line.Promotes.{end_promoted, holds_promoted}
 use Rattle.sled_core.proofs.Line.Segments.{AreSegments, filled_promoted, filled_written, follow_segments, line_segments, promoted_waits, run_written, segments_promoted, set_segment, written_segment}
 use Rattle.sled_core.proofs.Line.Writes.{along_write, buffer_begin, buffer_bytes, buffer_calls, buffer_synced, calls_are, fits_write, holds_write, passes_line, slots_write}
@@ -146,6 +146,7 @@ module _ {D C : Type 0} (log : Log D C) (n k : ℕ) (r : IsReadyIn (line_of log)
       | inl none ↦ holds_with_device sum size device (state_of new) log.fault now line slots H (ap state_of (same none)) (none ∙ sym whole) holds
       | inr some ↦ record {
         holds = holds_line_faulty sum size device log.fault line H holds.holds (state_of new) some.0 now some.1 (names new came).1;
+        closed = holds.closed;
         slots = slots_line_faulty size line device.log.bytes (state_of new).log.bytes log.fault slots holds.slots some.0 now some.1;
       }
     ]
@@ -158,6 +159,7 @@ module _ {D C : Type 0} (log : Log D C) (n k : ℕ) (r : IsReadyIn (line_of log)
         reach = fits.reach;
         parts = fits_line_faulty sum size device log.fault line fits.reach log.pins H A f U fits.parts (state_of new) some.0 now some.1 (names new came).0 (names new came).1
             (at_last (LeavesRecoverable sum size H (stable_below fits.reach H.batches) f) before new (left new came fits.reach H A f U fits.parts));
+        closed = fits.closed;
         slots = slots_line_faulty size line device.log.bytes (state_of new).log.bytes log.fault slots fits.slots some.0 now some.1;
       }
     ]
@@ -173,17 +175,19 @@ module _ {D C : Type 0} (log : Log D C) (n k : ℕ) (r : IsReadyIn (line_of log)
         (subst (λ (t : Trace). HoldsWith sum size (state_of t) log.fault line_left slots H) (sym (made new came)) (record {
           holds = holds_promoted sum size (buffer_synced sum size log.config.config.least device log.fault whole v k r.buffer r.there r.ready) log.fault H log.config.config.least log.site.place line_written segments_written
               (holds_write sum size log.config.config.least device log.fault whole v k r.buffer r.there r.ready log.site.place line (line_segments log) n r.among H holds.holds);
+          closed = closed_up (written_to line) (written_to line_left) H.batches end_grows holds.closed;
           slots = slots_write sum size log.config.config.least device log.fault whole v k r.buffer r.there r.ready log.site.place line (line_segments log) n r.among slots log.fault holds.slots;
         }))
 
     pub fits_done : (new : Trace) → new ≡ after_all (write_in line n k) before → (now : Option IoError) → now ≡ None → (H : History) (A f : ℕ) (U : List Message) → Fits trace sum log H A f U → FitsWith sum size (state_of new) now line_left slots log.pins H A f U
     unfolding Fits
     fits_done new came now none H A f U fits =
-        let after = fits_write sum size log.config.config.least device log.fault whole v k r.buffer r.there r.ready log.pins H A f U log.reserved_to log.site.place fits.reach line (line_segments log) n r.among filled_now first_waits fits.parts in
+        let after = fits_write sum size log.config.config.least device log.fault whole v k r.buffer r.there r.ready log.pins H A f U log.reserved_to log.site.place fits.reach line (line_segments log) n r.among filled_now first_waits fits.closed fits.parts in
         subst (λ (o : Option IoError). FitsWith sum size (state_of new) o line_left slots log.pins H A f U) (sym none)
         (subst (λ (t : Trace). FitsWith sum size (state_of t) None line_left slots log.pins H A f U) (sym (made new came)) (record {
           reach = after.0;
           parts = after.1;
+          closed = closed_up (written_to line) (written_to line_left) H.batches end_grows fits.closed;
           slots = slots_write sum size log.config.config.least device log.fault whole v k r.buffer r.there r.ready log.site.place line (line_segments log) n r.among slots None fits.slots;
         }))
 

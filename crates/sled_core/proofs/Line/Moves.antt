@@ -10,11 +10,6 @@ use Rattle.sled_core.specs.declared.logger.Log.{Log}
 use Rattle.sled_core.specs.Fits.{Holds, HoldsWith, config_of, device_of, fault_of, line_of, machine_at, pins_of, segment_size_of}
 use Rattle.sled_core.specs.Running.{Fits, FitsWith}
 
--- how far the first one of segments is written
-abbrev pub written_to : List SegmentView → ℕ
-written_to [] = 0
-written_to (v ∷ vs) = v.parts.site.place + v.parts.written_len
-
 module _ {D C : Type 0} (trace : D → Trace) (sum : List ℕ → ℕ) (old new : Log D C) (config : config_of new ≡ config_of old) (fault : fault_of new ≡ fault_of old)
     (line : List SegmentView) (is_line : line_of new ≡ line) (m : Machine) (is_machine : machine_at new ≡ m) (H : History) where
   pub holds_as : HoldsWith sum (segment_size_of old) (state_of (trace (device_of old))) (fault_of old) line m H → Holds trace sum new H

@@ -44,4 +44,4 @@ all_written trace sum log all whole H holds =
     let inside = written_behind log.buffer in
     all_kept sum size log.site (state_of (trace log.config.device)) log.fault log.buffer.bytes.items log.buffer.written_len log.buffer.sealed.items log.buffer.reserved.items H
     (subst (λ (ss : List SegmentBuffer). HoldsIn sum (log_parts size log.site (state_of (trace log.config.device)) log.fault log.buffer.bytes.items log.buffer.written_len log.buffer.sealed.items log.buffer.reserved.items) (map parts_in (map segment_view ss)) H) left.0 holds.holds)
-    left.1 whole log.place_in_reach (omega (arith, inside, log.in_segment)) log.buffer.head log.buffer.are
+    holds.closed left.1 whole log.place_in_reach (omega (arith, inside, log.in_segment)) log.buffer.head log.buffer.are

@@ -1,4 +1,5 @@
 -- The current buffer is sealed: the log holds and fits what it did.
+use Rattle.sled_core.proofs.Holds.BatchLemmas.{closed_up}
 use Rattle.std.proofs.Common.{◌≡◌, ◌∙◌, ◌<◌, ◌≤◌, ◌+◌, ap, sym, refl, arith, subst, inl, inr, ℕ, List, [], ◌∷◌, length, map, drop, Option, true, false, if◌then◌else◌}
 use Rattle.std.specs.declared.io.Error.{Error as IoError}
 use Rattle.std.proofs.lemmas.Bool.Decides.{nat_tests}
@@ -11,7 +12,7 @@ use Rattle.sled_store.specs.declared.config.RunningConfig.{RunningConfig}
 use Rattle.sled_core.specs.Begun.{SegmentParts, SegmentView, begin_of, segment_view, view_at}
 use Rattle.sled_core.specs.declared.logger.Log.{Log}
 use Rattle.sled_core.specs.declared.reservation.Reservation.{Reservation}
-use Rattle.sled_core.specs.Fits.{AwaitsIn, Holds, HoldsIn, HoldsLine, KeepsAll, KeepsTickets, buffers_of, current_begin, current_of, device_of, fault_of, line_of, log_parts, machine_at, parts_in, pins_of, segment_size_of, synced_end, waiting_of}
+use Rattle.sled_core.specs.Fits.{written_to, AwaitsIn, Holds, HoldsIn, HoldsLine, KeepsAll, KeepsTickets, buffers_of, current_begin, current_of, device_of, fault_of, line_of, log_parts, machine_at, parts_in, pins_of, segment_size_of, synced_end, waiting_of}
 use Rattle.sled_core.specs.FreeSlots.{HasSlot, HasSlots}
 use Rattle.sled_core.specs.Keeps.{Preserves, SamePosition}
 use Rattle.sled_core.specs.OpenPlaces.{open_places_along}
@@ -27,7 +28,7 @@ use Rattle.sled_core.proofs.Holds.RunningLemmas.{fits-moved}
 use Rattle.sled_core.proofs.Holds.WholeLemmas.{holds-sealed}
 use Rattle.sled_core.proofs.Line.Facts.{current_facts}
 use Rattle.sled_core.proofs.Line.Last.{All-at_last, at_last_same, at_last_twice, by_last, last_changed, last_get_of}
-use Rattle.sled_core.proofs.Line.Moves.{fits_as, holds_as, written_to}
+use Rattle.sled_core.proofs.Line.Moves.{fits_as, holds_as}
 use Rattle.sled_core.proofs.Line.OpenPlaces.{places_sealed}
 use Rattle.sled_core.proofs.Sealed.Appended.{end_one}
 
@@ -74,6 +75,11 @@ awaits_sealed v vs ticket m awaits = elim (last_get_of sealed_now v vs awaits.nu
   | inr changed ↦ record { number = awaits.number; segment = sealed_now awaits.segment; among = changed.1; reserved = awaits.reserved; numbered = awaits.numbered; there = awaits.there; own = awaits.own; message = awaits.message }
 ]
 
+-- As much is written.
+kept_written : (v : SegmentView) (vs : List SegmentView) → written_to (at_last sealed_now (v ∷ vs)) ≡ written_to (v ∷ vs)
+kept_written v [] = refl
+kept_written v (w ∷ ws) = refl
+
 -- A log whose current buffer was sealed.
 module _ {D C : Type 0} (trace : D → Trace) (sum : List ℕ → ℕ) (old new : Log D C) (rest : ChangesLine old new) (line : line_of new ≡ at_last sealed_now (line_of old)) (some : holds_any (current_of old) ≡ true) where
   abbrev size : ℕ
@@ -93,10 +99,7 @@ module _ {D C : Type 0} (trace : D → Trace) (sum : List ℕ → ℕ) (old new 
 
   -- As much is written,
   pub sealed_synced : synced_end new ≡ synced_end old
-  sealed_synced = ap written_to line ∙ kept v vs where
-    kept : (v : SegmentView) (vs : List SegmentView) → written_to (at_last sealed_now (v ∷ vs)) ≡ written_to (v ∷ vs)
-    kept v [] = refl
-    kept v (w ∷ ws) = refl
+  sealed_synced = ap written_to line ∙ kept_written v vs
 
   pub sealed_same : KeepsAll old new
   sealed_same = record { config = rest.config; synced = sealed_synced; fault = rest.fault; pins = rest.pins }
@@ -138,12 +141,14 @@ module _ {D C : Type 0} (trace : D → Trace) (sum : List ℕ → ℕ) (old new 
     history = λ H holds. holds_as trace sum old new rest.config rest.fault (at_last sealed_now (line_of old)) line (machine_at old) machine H
         (record {
           holds = line_sealed sum size (state_of (trace (device_of old))) (fault_of old) H v vs its holds.holds;
+          closed = closed_up (written_to (line_of old)) (written_to (at_last sealed_now (line_of old))) H.batches (let same = kept_written v vs in omega (arith, same)) holds.closed;
           slots = slots_sealed size (line_of old) (state_of (trace (device_of old))).log.bytes (fault_of old) (machine_at old) holds.slots;
         });
     fits = λ H A f U fits. fits_as trace sum old new rest.config rest.fault (at_last sealed_now (line_of old)) line (machine_at old) machine H A f U rest.pins
         (record {
           reach = fits.reach;
           parts = line_fits_sealed sum size (state_of (trace (device_of old))) (fault_of old) fits.reach (pins_of old) H A f U v vs its fits.parts;
+          closed = closed_up (written_to (line_of old)) (written_to (at_last sealed_now (line_of old))) H.batches (let same = kept_written v vs in omega (arith, same)) fits.closed;
           slots = slots_sealed size (line_of old) (state_of (trace (device_of old))).log.bytes (fault_of old) (machine_at old) fits.slots;
         });
   }

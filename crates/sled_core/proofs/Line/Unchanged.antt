@@ -5,7 +5,7 @@ use Rattle.sled_store.specs.Device.{Trace}
 use Rattle.sled_store.specs.declared.config.RunningConfig.{RunningConfig}
 use Rattle.sled_core.specs.Begun.{SegmentView, view_at}
 use Rattle.sled_core.specs.declared.logger.Log.{Log}
-use Rattle.sled_core.specs.Fits.{AwaitsIn, Holds, IsUnchanged, KeepsAll, KeepsTickets, current_of, line_of, machine_at, segment_size_of, synced_end}
+use Rattle.sled_core.specs.Fits.{written_to, AwaitsIn, Holds, IsUnchanged, KeepsAll, KeepsTickets, current_of, line_of, machine_at, segment_size_of, synced_end}
 use Rattle.sled_core.specs.Keeps.{Preserves, SamePosition}
 use Rattle.sled_core.specs.OpenPlaces.{open_places_along}
 use Rattle.sled_core.specs.Positions.{position_in}
@@ -13,7 +13,7 @@ use Rattle.sled_core.specs.Running.{Fits}
 use Rattle.sled_core.specs.Turned.{ChangesLine}
 use Rattle.sled_core.specs.Waiting.{last_of}
 use Rattle.sled_core.proofs.Holds.KeptCalls.{goes_on_quietly}
-use Rattle.sled_core.proofs.Line.Moves.{fits_as, holds_as, written_to}
+use Rattle.sled_core.proofs.Line.Moves.{fits_as, holds_as}
 
 -- A call that changes the segments alone, and leaves what is seen of them, leaves it so.
 pub left_alone : {D C : Type 0} (old new : Log D C) → line_of new ≡ line_of old → ChangesLine old new → IsUnchanged old new

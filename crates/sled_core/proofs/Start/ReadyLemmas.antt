@@ -20,7 +20,7 @@ use Rattle.sled_store.specs.Begin.{slots_of, slot_of, segment_number_of, entries
 use Rattle.sled_core.specs.Fits.{log_parts, EndBelow, CloseBelow, IsBegunFrom, HoldsIn}
 use Rattle.sled_core.specs.LogFile.{IsLogFile, StaysFrom}
 use Rattle.sled_core.specs.SealedBuffers.{AreZeros}
-use Rattle.sled_core.proofs.Holds.BatchLemmas.{none_batched}
+use Rattle.sled_core.proofs.Holds.BatchLemmas.{closed_up, none_batched}
 use Rattle.sled_core.specs.Ready.{HasActive, HasNoActive, HasFile, IsReady, active_site}
 use Rattle.sled_store.proofs.Segments.StartedFile.{started_file}
 use Rattle.sled_core.proofs.Reached.BufferPath.{buffer_mark}
@@ -88,8 +88,8 @@ module _ (sum : List ℕ → ℕ) (size : ℕ) (device now : State) (s : Snapsho
         messages = sym (append-nil H.messages);
         below = subst (λ n. EndBelow n H.messages) (sym end) ready.below;
         apart = ready.apart;
-        batches = subst (λ n. CloseBelow n H.batches) (sym end) ready.batches;
         batched = none_batched size site from H.batches (subst (λ n. CloseBelow n H.batches) (sym end) ready.batches);
+        no_end = λ b there. inl (let all = All-contains (λ (x : Batch). (x.low < stable) × (x.peg < stable)) H.batches b ready.batches there in let far : from ≤ length bytes = elim (cases_lt 0 from) [ inl begun ↦ (let count = more begun in omega (arith, count)) | inr start ↦ omega (arith, start) ] in omega (arith, all.1, end, far));
         place_begins = place_begins;
         slot_begins = slot_begins;
         header = λ is.
@@ -157,3 +157,11 @@ module _ (sum : List ℕ → ℕ) (size : ℕ) (device now : State) (s : Snapsho
   pub begins_ready : (b : Beginning) → b ≡ beginning_of size (length device.log.bytes) s → (b.offset ≡ 0 → bytes ≡ short_header sum (pos b.place) (pos b.place -ℤ pos 1)) → (0 < b.offset → length bytes ≡ b.offset)
       → HoldsIn sum (log_parts size (record { place = b.place; slot = b.slot }) now None bytes b.offset [] []) [] H
   begins_ready b is first more = (begins_from b is first more).0
+
+  -- Its batches end below where the log goes on.
+  pub begins_closed : (b : Beginning) → b ≡ beginning_of size (length device.log.bytes) s → (b.offset ≡ 0 → bytes ≡ short_header sum (pos b.place) (pos b.place -ℤ pos 1)) → (0 < b.offset → length bytes ≡ b.offset)
+      → CloseBelow (b.place + b.offset) H.batches
+  begins_closed b is first more =
+      let from = begins_from b is first more in
+      let reached = from.0.begun.reached in
+      closed_up stable (b.place + b.offset) H.batches (omega (arith, reached, ap (λ (m : SnapshotModel). stable_place m.stable) from.1, same_stable)) ready.batches

@@ -16,7 +16,7 @@ use Rattle.sled_core.specs.declared.iobuf.Reserved.{Reserved}
 use Rattle.sled_core.specs.declared.iobuf.Sealed.{Sealed}
 use Rattle.sled_core.specs.declared.logger.segments.SegmentBuffer.{SegmentBuffer}
 use Rattle.sled_core.specs.Begun.{AreEntered, AreFilled, FollowOn, SegmentView, begin_of, line_at, segment_view, view_at}
-use Rattle.sled_core.specs.Fits.{Holds, HoldsIn, HoldsLine, NoneOpenIn, log_parts}
+use Rattle.sled_core.specs.Fits.{CloseBelow, Holds, HoldsIn, HoldsLine, NoneOpenIn, log_parts}
 use Rattle.sled_core.specs.FreeSlots.{HasSlots, begun_machine}
 use Rattle.sled_core.specs.Positions.{Position, is_short, next_segment_at, position_in}
 use Rattle.sled_core.specs.SealedBuffers.{sealed_end}
@@ -30,7 +30,7 @@ use Rattle.sled_core.proofs.Start.StartedMoments.{started_throughout}
 use Rattle.sled_core.proofs.Start.ReadyStarts.{ready_starts}
 use Rattle.sled_core.proofs.Start.StartFits.{start_fits}
 use Rattle.sled_core.proofs.Start.OpenLemmas.{in_segment, place_in_reach, slot_in_reach, begins_offset, begins_place, first_next}
-use Rattle.sled_core.proofs.Start.ReadyLemmas.{begins_ready}
+use Rattle.sled_core.proofs.Start.ReadyLemmas.{begins_closed, begins_ready}
 use Rattle.sled_store.proofs.Traces.ScriptLemmas.{later_performed}
 use Rattle.sled_core.specs.Buffers.{none_open}
 use Rattle.sled_core.proofs.logger.Log.start.Goals as goal
@@ -115,6 +115,8 @@ returns-in-Ok-clause-history g c = λ H ready.
           (subst (λ (n : ℕ). HoldsIn g.C.Checksum.sum_of (log_parts size (record { place = c.in-Ok.beginning.place; slot = c.in-Ok.beginning.slot }) now None c.in-Ok.buffer.bytes.items n c.in-Ok.buffer.sealed.items c.in-Ok.buffer.reserved.items) [] H) (sym first.from)
           (subst (λ (l : List Sealed). HoldsIn g.C.Checksum.sum_of (log_parts size (record { place = c.in-Ok.beginning.place; slot = c.in-Ok.beginning.slot }) now None c.in-Ok.buffer.bytes.items c.in-Ok.beginning.offset l c.in-Ok.buffer.reserved.items) [] H) (sym first.sealed)
           (subst (λ (r : List Reserved). HoldsIn g.C.Checksum.sum_of (log_parts size (record { place = c.in-Ok.beginning.place; slot = c.in-Ok.beginning.slot }) now None c.in-Ok.buffer.bytes.items c.in-Ok.beginning.offset [] r) [] H) (sym first.reserved) holds))));
+      closed = subst (λ n. CloseBelow (c.in-Ok.beginning.place + n) H.batches) (sym first.from)
+          (begins_closed g.C.Checksum.sum_of size old now s H c.in-Ok.buffer.bytes.items c.args.config.config.least ready c.in-Ok.ensures.answers.0 log_now names_now c.in-Ok.beginning c.in-Ok.ensures.beginning first.header first.resumed);
       slots = subst (λ (ss : List SegmentBuffer). HasSlots c.begin.new.config.config.segment_size (line_at (record { place = c.in-Ok.beginning.place; slot = c.in-Ok.beginning.slot }) c.in-Ok.buffer ss) now.log.bytes None (machine_of c.in-Ok.accountant)) (sym c.no_segments.ensures)
           (start_slots size (ap (λ (x : Config). x.segment_size) c.begin.ensures.config) some s old.log.bytes now.log.bytes c.in-Ok.ensures.answers.0 (ap (λ (l : LogState). l.bytes) log_now) (view_at (record { place = c.in-Ok.beginning.place; slot = c.in-Ok.beginning.slot }) c.in-Ok.buffer) (ap (λ (x : Beginning). x.slot) c.in-Ok.ensures.beginning) c.in-Ok.ensures.machine);
     }
@@ -146,6 +148,8 @@ returns-in-Ok-clause-fits g c = λ H A f ready.
           (start_fits g.C.Checksum.sum_of size (state_of old) now s H A f c.args.config.config.least ready c.in-Ok.ensures.answers.0
           log_now (ap (λ (t : Trace). (state_of t).blobs) c.in-Ok.ensures.made ∙ started-blobs size some (state_of old).log.bytes s old) (ap (λ (t : Trace). (state_of t).snapshots) c.in-Ok.ensures.made ∙ started-snapshots size some (state_of old).log.bytes s old)
           c.in-Ok.beginning c.in-Ok.ensures.beginning c.in-Ok.buffer.bytes.items c.in-Ok.buffer.written_len c.in-Ok.buffer.sealed.items c.in-Ok.buffer.reserved.items first.header first.resumed first.from first.sealed first.reserved));
+      closed = subst (λ n. CloseBelow (c.in-Ok.beginning.place + n) H.batches) (sym first.from)
+          (begins_closed g.C.Checksum.sum_of size (state_of old) now s H c.in-Ok.buffer.bytes.items c.args.config.config.least ready.ready c.in-Ok.ensures.answers.0 log_now (ap (λ (t : Trace). (state_of t).snapshots.file) c.in-Ok.ensures.made ∙ ap (λ (n : NamesState). n.file) (started-snapshots size some (state_of old).log.bytes s old)) c.in-Ok.beginning c.in-Ok.ensures.beginning first.header first.resumed);
       slots = subst (λ (ss : List SegmentBuffer). HasSlots c.begin.new.config.config.segment_size (line_at site c.in-Ok.buffer ss) now.log.bytes None (machine_of c.in-Ok.accountant)) (sym c.no_segments.ensures)
           (start_slots size same some s (state_of old).log.bytes now.log.bytes c.in-Ok.ensures.answers.0 (ap (λ (l : LogState). l.bytes) log_now) (view_at site c.in-Ok.buffer) (ap (λ (x : Beginning). x.slot) c.in-Ok.ensures.beginning) c.in-Ok.ensures.machine);
     }

@@ -8,7 +8,7 @@ use Rattle.sled_core.specs.declared.iobuf.IoBuf.{IoBuf}
 use Rattle.sled_core.specs.declared.iobuf.SegmentPosition.{SegmentPosition}
 use Rattle.sled_core.specs.declared.logger.segments.SegmentBuffer.{SegmentBuffer}
 use Rattle.sled_core.specs.declared.logger.Log.{Log}
-use Rattle.sled_core.specs.Fits.{AwaitsIn, Holds, line_of, segment_size_of}
+use Rattle.sled_core.specs.Fits.{written_to, AwaitsIn, Holds, line_of, segment_size_of}
 use Rattle.sled_core.specs.OpenPlaces.{open_places_along}
 use Rattle.sled_core.specs.Positions.{Position, position_in}
 use Rattle.sled_core.specs.Running.{Fits}
@@ -16,7 +16,6 @@ use Rattle.sled_core.specs.Turned.{ChangesDevice, IsReadyIn, promoted, written_n
 use Rattle.sled_core.specs.Waiting.{last_of}
 use Rattle.sled_core.proofs.Line.Faulty.{fits_with_same, holds_with_same}
 use Rattle.sled_core.proofs.Line.LogWrites.{KeepsInvariants, crash_write, end_grows, fits_done, fits_failed, holds_done, holds_failed, keeps_invariants, line_after, same_line, segments_written}
-use Rattle.sled_core.proofs.Line.Moves.{written_to}
 use Rattle.sled_core.proofs.Line.OpenPlaces.{places_promoted, set_places}
 use Rattle.sled_core.proofs.Line.Promotes.{awaits_promoted, last_promoted, last_set}
 use Rattle.sled_core.proofs.Line.Segments.{line_segments, nth_segment}
