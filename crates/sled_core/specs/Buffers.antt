@@ -6,12 +6,12 @@ use Rattle.sled_codec.specs.declared.serialization.message.MessageKind.{MessageK
 use Rattle.sled_codec.specs.declared.serialization.message.MessageKind.TheVariants as kind
 use Rattle.sled_codec.specs.Kinds.{code_of}
 use Rattle.sled_codec.specs.Sums.{flipped}
-use Rattle.sled_codec.specs.Spelling.{low_bytes, short_number, short_header_tail}
+use Rattle.sled_codec.specs.Spelling.{low_bytes, low_first, short_number, short_header_tail}
 use Rattle.sled_codec.specs.Places.{part}
 use Rattle.sled_codec.specs.Record.{record_sum, short_record}
-use Rattle.sled_codec.specs.History.{Message}
+use Rattle.sled_codec.specs.History.{Batch, Message}
 use Rattle.sled_core.specs.declared.iobuf.ReservationState.{ReservationState}
-use Rattle.sled_core.specs.declared.iobuf.ReservationState.TheVariants.{Open, Completed, Canceled, Padding}
+use Rattle.sled_core.specs.declared.iobuf.ReservationState.TheVariants.{Open, Completed, Canceled, Manifest, Padding}
 use Rattle.sled_core.specs.declared.iobuf.Reserved.{Reserved}
 use Rattle.sled_core.specs.declared.iobuf.Purpose.{Purpose}
 use Rattle.sled_core.specs.declared.iobuf.SegmentPosition.{SegmentPosition}
@@ -23,6 +23,7 @@ abbrev pub open_state : ReservationState → Bool
 open_state Open = true
 open_state Completed = false
 open_state Canceled = false
+open_state Manifest = false
 open_state Padding = false
 
 -- the bytes that a reservation has in its segment
@@ -45,11 +46,12 @@ placeholder_head head = replicate 5 0 ++ drop 5 head
 abbrev pub placeholder : List ℕ → List ℕ
 placeholder whole = replicate 5 0 ++ drop 5 whole
 
--- What a reservation of this page and kind is to hold, with this body: while it is open a placeholder, then its record, and once it was aborted one that is passed over. (A padding is none.)
+-- What a reservation of this page and kind is to hold, with this body: while it is open a placeholder, then its record, and once it was aborted one that is passed over. The body of a manifest is known once it has ended. (A padding is none.)
 abbrev pub text_as : (List ℕ → ℕ) → MessageKind → ℕ → ℕ → List ℕ → ReservationState → List ℕ
 text_as sum k page number body Open = placeholder (short_record sum k page number body)
 text_as sum k page number body Completed = short_record sum k page number body
 text_as sum k page number body Canceled = short_record sum kind.Canceled page number body
+text_as sum k page number body Manifest = short_record sum k page number body
 text_as sum k page number body Padding = []
 
 -- This text and this body in it are what a reservation is to hold.
@@ -59,9 +61,11 @@ pub record StandsAs (sum : List ℕ → ℕ) (number : ℕ) (text body : List �
   pub known : kind_for r.log_kind r.page (length body) ≡ Some r.kind
   -- a completed one is a message
   pub whole : r.state ≡ Completed → is_manifest r.log_kind r.page ≡ false
+  -- and an ended manifest is none
+  pub manifest : r.state ≡ Manifest → is_manifest r.log_kind r.page ≡ true
   pub valid : r.kind ≢ kind.Corrupted
   pub page : r.page < 2 ^ 64
-  pub summed : flipped r.sum ≡ record_sum sum r.kind r.page number body
+  pub summed : r.state ≡ Open → flipped r.sum ≡ record_sum sum r.kind r.page number body
   pub counted : r.header_len ≡ 4 + length (short_header_tail r.kind (length body) number r.page)
   pub is : text ≡ text_as sum r.kind r.page number body r.state
 
@@ -146,12 +150,30 @@ abbrev pub with_own : ReservationState → Message → List Message → List Mes
 with_own Open m ms = ms
 with_own Completed m ms = m ∷ ms
 with_own Canceled m ms = ms
+with_own Manifest m ms = ms
 with_own Padding m ms = ms
 
 -- the messages of the reservations that were completed, by place
 abbrev pub completed_in : SegmentPosition → List ℕ → List Reserved → List Message
 completed_in site bytes [] = []
 completed_in site bytes (r ∷ rs) = with_own r.state (message_in site bytes r) (completed_in site bytes rs)
+
+-- the batch of an ended manifest: from its own place to the peg, which its body has
+abbrev pub batch_in : SegmentPosition → List ℕ → Reserved → Batch
+batch_in site bytes r = record { low = site.place + r.from; peg = low_first (body_in bytes r) }
+
+-- a batch before these, if the entry is an ended manifest
+abbrev pub with_batch : ReservationState → Batch → List Batch → List Batch
+with_batch Open b bs = bs
+with_batch Completed b bs = bs
+with_batch Canceled b bs = bs
+with_batch Manifest b bs = b ∷ bs
+with_batch Padding b bs = bs
+
+-- the batches of the manifests that have ended, by place
+abbrev pub batches_in : SegmentPosition → List ℕ → List Reserved → List Batch
+batches_in site bytes [] = []
+batches_in site bytes (r ∷ rs) = with_batch r.state (batch_in site bytes r) (batches_in site bytes rs)
 
 -- none of them is open
 abbrev pub none_open : List Reserved → Bool

@@ -50,6 +50,8 @@ pub(crate) enum ReservationState {
     Completed,
     /// It was aborted: its record is one that is passed over.
     Canceled,
+    /// The manifest of a batch, which has ended: its record has the peg.
+    Manifest,
     /// No reservation: what fills the segment behind its last record.
     Padding,
 }
@@ -60,8 +62,10 @@ impl ReservationState {
     {
         match self {
             ReservationState::Open => true,
-            ReservationState::Completed | ReservationState::Canceled | ReservationState::Padding =>
-                false,
+            ReservationState::Completed
+            | ReservationState::Canceled
+            | ReservationState::Manifest
+            | ReservationState::Padding => false,
         }
     }
 }

@@ -8,7 +8,7 @@ use Rattle.sled_codec.specs.History.{Message, Batch, History}
 use Rattle.sled_codec.specs.WellFormed.{LieApart}
 use Rattle.sled_store.specs.Device.{State}
 use Rattle.sled_store.proofs.Histories.Ascending.{Ascends, apart_ascends}
-use Rattle.sled_core.specs.declared.iobuf.ReservationState.TheVariants.{Open, Completed, Canceled, Padding}
+use Rattle.sled_core.specs.declared.iobuf.ReservationState.TheVariants.{Open, Completed, Canceled, Manifest, Padding}
 use Rattle.sled_core.specs.declared.iobuf.Reserved.{Reserved}
 use Rattle.sled_core.specs.declared.iobuf.Sealed.{Sealed}
 use Rattle.sled_core.specs.declared.iobuf.SegmentPosition.{SegmentPosition}
@@ -37,7 +37,7 @@ completed_apart site bytes from end (r ∷ rs) is some =
     let rest : LieApart (completed_in site bytes rs) = completed_apart site bytes (from + r.len) end rs is.1 (All-tail (λ x. 0 < x.len) r rs some) in
     let over : All (λ n. site.place + r.from + r.len ≤ n.place) (completed_in site bytes rs) = λ k d lt. let b = later k d lt in omega (arith, b.0, here) in
     elim r.state as (λ s. LieApart (with_own s (message_in site bytes r) (completed_in site bytes rs)))
-    [ Open ↦ rest | Completed ↦ (long, over, rest) | Canceled ↦ rest | Padding ↦ rest ]
+    [ Open ↦ rest | Completed ↦ (long, over, rest) | Canceled ↦ rest | Manifest ↦ rest | Padding ↦ rest ]
 
 -- and has its items in its records
 completed_inline : (site : SegmentPosition) (bytes : List ℕ) (rs : List Reserved) → All HasInline (completed_in site bytes rs)

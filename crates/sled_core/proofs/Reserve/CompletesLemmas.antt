@@ -1,5 +1,5 @@
 -- A reservation that ends has its record, or one that is passed over, at its place, and no other one is touched.
-use Rattle.std.proofs.Common.{◌≡◌, ◌≤◌, ◌+◌, ◌-◌, inl, inr, ℕ, List, [], ◌∷◌, ◌++◌, length, take, drop, sym, ◌∙◌, ap, arith, refl, subst, Bool, false, if◌then◌else◌, ◌==◌, None, Some}
+use Rattle.std.proofs.Common.{◌≡◌, ◌≤◌, ◌+◌, ◌-◌, inl, inr, ℕ, List, [], ◌∷◌, ◌++◌, length, take, drop, sym, ◌∙◌, ap, arith, refl, subst, Bool, true, false, if◌then◌else◌, ◌==◌, None, Some}
 use Rattle.std.proofs.lemmas.List.{drop-drop, take-take, take_at}
 use Rattle.sled_codec.specs.Written.{written}
 use Rattle.sled_codec.specs.Places.{part}
@@ -13,7 +13,7 @@ use Rattle.sled_codec.specs.declared.serialization.message.MessageKind.TheVarian
 use Rattle.sled_codec.specs.Kinds.{kind_written, code_of}
 use Rattle.sled_codec.specs.History.{ChangesPage}
 use Rattle.sled_core.specs.declared.iobuf.ReservationState.{ReservationState}
-use Rattle.sled_core.specs.declared.iobuf.ReservationState.TheVariants.{Open, Completed, Canceled}
+use Rattle.sled_core.specs.declared.iobuf.ReservationState.TheVariants.{Open, Completed, Canceled, Manifest}
 use Rattle.sled_core.specs.declared.iobuf.Reserved.{Reserved}
 use Rattle.sled_core.specs.Manifests.{is_manifest, kind_for}
 use Rattle.sled_core.specs.Buffers.{text_in, body_in, text_as, placeholder, ending, completing, canceling, ended, HasText, Stands, StandsAs}
@@ -102,18 +102,19 @@ module _ (sum : List ℕ → ℕ) (number : ℕ) (bytes : List ℕ) (r : Reserve
         ∙ ap (λ (l : List ℕ). ending word k ++ drop 5 l) placeholder_is
         ∙ record_is sum number r.page word r.kind k body summed
 
-    ended_stands : (word : ℕ) (k : MessageKind) (state : ReservationState) → (state ≡ Completed → is_manifest r.log_kind r.page ≡ false) → text_in (written bytes r.from (ending word k)) r ≡ text_as sum r.kind r.page number body state
+    ended_stands : (word : ℕ) (k : MessageKind) (state : ReservationState) → (state ≡ Completed → is_manifest r.log_kind r.page ≡ false) → (state ≡ Manifest → is_manifest r.log_kind r.page ≡ true) → text_in (written bytes r.from (ending word k)) r ≡ text_as sum r.kind r.page number body state
         → HasText sum number (written bytes r.from (ending word k)) (ended state r)
-    ended_stands word k state whole text =
+    ended_stands word k state whole manifest text =
         let completed : List ℕ = written bytes r.from (ending word k) in
         let as_new : StandsAs sum number (text_in completed r) body (ended state r) = record {
           headed = stands.headed;
           long = stands.long;
           known = stands.known;
           whole = whole;
+          manifest = manifest;
           valid = stands.valid;
           page = stands.page;
-          summed = stands.summed;
+          summed = λ is. stands.summed is_open;
           counted = stands.counted;
           is = text;
         } in
@@ -121,7 +122,7 @@ module _ (sum : List ℕ → ℕ) (number : ℕ) (bytes : List ℕ) (r : Reserve
 
     -- What stands in it once it is completed is its record.
     pub completed_stands : is_manifest r.log_kind r.page ≡ false → HasText sum number (written bytes r.from (completing r)) (ended Completed r)
-    completed_stands none = ended_stands r.sum r.kind Completed (λ is. none) (text_own r.sum r.kind stands.summed)
+    completed_stands none = ended_stands r.sum r.kind Completed (λ is. none) (λ is. cc) (text_own r.sum r.kind (stands.summed is_open))
 
     -- between its kind and its body stands what the header has there, whatever its kind
     tail_there : code_of kind.Canceled ∷ part bytes (r.from + 5) (r.header_len - 5) ≡ short_header_tail kind.Canceled (length body) number r.page
@@ -145,4 +146,4 @@ module _ (sum : List ℕ → ℕ) (number : ℕ) (bytes : List ℕ) (r : Reserve
 
     -- And once it is aborted it is one that is passed over.
     pub canceled_stands : HasText sum number (written bytes r.from (canceling sum bytes r)) (ended Canceled r)
-    canceled_stands = ended_stands (sum (body ++ code_of kind.Canceled ∷ part bytes (r.from + 5) (r.header_len - 5))) kind.Canceled Canceled (λ is. cc) text_canceled
+    canceled_stands = ended_stands (sum (body ++ code_of kind.Canceled ∷ part bytes (r.from + 5) (r.header_len - 5))) kind.Canceled Canceled (λ is. cc) (λ is. cc) text_canceled

@@ -2,7 +2,7 @@
 use Rattle.std.proofs.Common.{◌≡◌, ◌≢◌, ◌⊎◌, ◌≤◌, ◌<◌, ◌+◌, ◌∙◌, ℕ, List, sym, refl, subst, arith, inl, inr}
 use Rattle.std.specs.List.{All}
 use Rattle.sled_core.specs.declared.iobuf.ReservationState.{ReservationState}
-use Rattle.sled_core.specs.declared.iobuf.ReservationState.TheVariants.{Open, Completed, Canceled, Padding}
+use Rattle.sled_core.specs.declared.iobuf.ReservationState.TheVariants.{Open, Completed, Canceled, Manifest, Padding}
 use Rattle.sled_core.specs.declared.iobuf.Reserved.{Reserved}
 use Rattle.sled_core.specs.Buffers.{text_in, body_in, IsPadding, NoPadding, Stands, StandsAs, StandsBy, StandsReserved}
 
@@ -28,6 +28,7 @@ module _ (sum : List ℕ → ℕ) (size number : ℕ) where
     by_plain Open plain stands = stands
     by_plain Completed plain stands = stands
     by_plain Canceled plain stands = stands
+    by_plain Manifest plain stands = stands
     by_plain Padding plain stands = absurd (plain refl)
 
     pub reserved_in : NoPadding r → Stands sum size number bytes r → StandsReserved sum size number bytes r
@@ -37,6 +38,7 @@ module _ (sum : List ℕ → ℕ) (size number : ℕ) where
     in_plain Open plain stands = stands
     in_plain Completed plain stands = stands
     in_plain Canceled plain stands = stands
+    in_plain Manifest plain stands = stands
     in_plain Padding plain stands = absurd (plain refl)
 
     pub in_reserved : NoPadding r → StandsReserved sum size number bytes r → Stands sum size number bytes r
@@ -53,6 +55,7 @@ module _ (sum : List ℕ → ℕ) (size number : ℕ) where
     by_some Open stands = let a = stands.text.headed in let b = stands.text.long in omega (arith, a, b)
     by_some Completed stands = let a = stands.text.headed in let b = stands.text.long in omega (arith, a, b)
     by_some Canceled stands = let a = stands.text.headed in let b = stands.text.long in omega (arith, a, b)
+    by_some Manifest stands = let a = stands.text.headed in let b = stands.text.long in omega (arith, a, b)
     by_some Padding stands = stands.some
 
     pub some_in : Stands sum size number bytes r → 0 < r.len
@@ -66,6 +69,7 @@ module _ (sum : List ℕ → ℕ) (size number : ℕ) where
     by_long Open stands = reserved_long stands
     by_long Completed stands = reserved_long stands
     by_long Canceled stands = reserved_long stands
+    by_long Manifest stands = reserved_long stands
     by_long Padding stands = let at = stands.to_end in (inr (omega (arith, at)), inr (omega (arith, at)))
 
     pub long_in : Stands sum size number bytes r → IsLong size r × HasSpace size r
@@ -93,6 +97,7 @@ module _ (sum : List ℕ → ℕ) (size number : ℕ) where
     by_same Open stands = reserved-same stands
     by_same Completed stands = reserved-same stands
     by_same Canceled stands = reserved-same stands
+    by_same Manifest stands = reserved-same stands
     by_same Padding stands = record { some = stands.some; to_end = stands.to_end; is = text ∙ stands.is }
 
     pub stands-same : Stands sum size number old r → Stands sum size number new r

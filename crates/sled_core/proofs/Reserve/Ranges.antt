@@ -8,7 +8,7 @@ use Rattle.sled_codec.specs.Places.{part}
 use Rattle.sled_codec.specs.Written.{written}
 use Rattle.sled_codec.specs.History.{Message}
 use Rattle.sled_core.specs.declared.iobuf.ReservationState.{ReservationState}
-use Rattle.sled_core.specs.declared.iobuf.ReservationState.TheVariants.{Open, Completed, Canceled, Padding}
+use Rattle.sled_core.specs.declared.iobuf.ReservationState.TheVariants.{Open, Completed, Canceled, Manifest, Padding}
 use Rattle.sled_core.specs.declared.iobuf.Reserved.{Reserved}
 use Rattle.sled_core.specs.declared.iobuf.SegmentPosition.{SegmentPosition}
 use Rattle.sled_store.proofs.Segments.Elements.{in_cases, in_rest}
@@ -47,6 +47,7 @@ own-append : (s : ReservationState) (m : Message) (xs ys : List Message) → wit
 own-append Open m xs ys = refl
 own-append Completed m xs ys = refl
 own-append Canceled m xs ys = refl
+own-append Manifest m xs ys = refl
 own-append Padding m xs ys = refl
 
 -- what holds of it, if it was completed, and of the others holds of all
@@ -54,6 +55,7 @@ pub all_own : (P : Message → Type 0) (s : ReservationState) (m : Message) (ms 
 all_own P Open m ms own all = all
 all_own P Completed m ms own all = All-cons P m ms (own refl) all
 all_own P Canceled m ms own all = all
+all_own P Manifest m ms own all = all
 all_own P Padding m ms own all = all
 
 -- one of all is it, and then it was completed, or one of the others
@@ -61,6 +63,7 @@ pub own_cases : (s : ReservationState) (m : Message) (ms : List Message) (x : Me
 own_cases Open m ms x there = inr there
 own_cases Completed m ms x there = elim (in_cases m x ms there) [ inl is ↦ inl (refl, is) | inr later ↦ inr later ]
 own_cases Canceled m ms x there = inr there
+own_cases Manifest m ms x there = inr there
 own_cases Padding m ms x there = inr there
 
 -- the others are among all
@@ -68,6 +71,7 @@ pub own_rest : (s : ReservationState) (m : Message) (ms : List Message) (x : Mes
 own_rest Open m ms x there = there
 own_rest Completed m ms x there = in_rest m x ms there
 own_rest Canceled m ms x there = there
+own_rest Manifest m ms x there = there
 own_rest Padding m ms x there = there
 
 -- two of them, if both are the same where it was completed
@@ -75,6 +79,7 @@ own_same : (s : ReservationState) (m n : Message) (ms ns : List Message) → (s 
 own_same Open m n ms ns own rest = rest
 own_same Completed m n ms ns own rest = λ i. own refl i ∷ rest i
 own_same Canceled m n ms ns own rest = rest
+own_same Manifest m n ms ns own rest = rest
 own_same Padding m n ms ns own rest = rest
 
 -- Messages that stand in the same bytes are the same.

@@ -93,9 +93,10 @@ module _ (sum : List ℕ → ℕ) (number : ℕ) (bytes head item : List ℕ) (k
         long = omega arith;
         known = known;
         whole = λ is. cc;
+        manifest = λ is. cc;
         valid = kind_valid kept.log_kind kept.page (length item) kept.kind known;
         page = small;
-        summed = ap (λ (l : List ℕ). flipped (sum (item ++ l))) tail;
+        summed = λ is. ap (λ (l : List ℕ). flipped (sum (item ++ l))) tail;
         counted = long;
         is = text_is ∙ placeholder_is;
       } in

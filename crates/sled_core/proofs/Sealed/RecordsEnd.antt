@@ -3,7 +3,7 @@ use Rattle.std.proofs.Common.{◌≡◌, ◌≢◌, ◌⊎◌, ◌≤◌, ◌<�
 use Rattle.std.specs.List.{All}
 use Rattle.std.proofs.lemmas.List.Elements.{All-cons, All-tail}
 use Rattle.sled_core.specs.declared.iobuf.ReservationState.{ReservationState}
-use Rattle.sled_core.specs.declared.iobuf.ReservationState.TheVariants.{Open, Completed, Canceled, Padding}
+use Rattle.sled_core.specs.declared.iobuf.ReservationState.TheVariants.{Open, Completed, Canceled, Manifest, Padding}
 use Rattle.sled_core.specs.declared.iobuf.Reserved.{Reserved}
 use Rattle.sled_core.specs.declared.iobuf.SegmentPosition.{SegmentPosition}
 use Rattle.sled_core.specs.declared.iterator.scan.ScanEnd.{ScanEnd}
@@ -23,6 +23,7 @@ padding_is : (s : ReservationState) → padding_state s ≡ true → s ≡ Paddi
 padding_is Open is = cc
 padding_is Completed is = cc
 padding_is Canceled is = cc
+padding_is Manifest is = cc
 padding_is Padding is = refl
 
 plain_is : (s : ReservationState) → padding_state s ≡ false → s ≢ Padding
@@ -32,6 +33,7 @@ state_plain : (s : ReservationState) → s ≢ Padding → padding_state s ≡ f
 state_plain Open plain = refl
 state_plain Completed plain = refl
 state_plain Canceled plain = refl
+state_plain Manifest plain = refl
 state_plain Padding plain = absurd (plain refl)
 
 -- no entry lies behind the end of a chain
