@@ -1,8 +1,11 @@
+pub mod Batches
 pub mod CompletesLemmas
 pub mod Entries
 pub mod Filled
 pub mod Heads
+pub mod MarksLemmas
 pub mod OpenCounts
 pub mod Parts
 pub mod Ranges
 pub mod ReserveLemmas
+pub mod WrittenOver

@@ -117,9 +117,17 @@ ending sum k = low_bytes 4 (flipped sum) ++ code_of k ∷ []
 abbrev pub completing : Reserved → List ℕ
 completing r = ending r.sum r.kind
 
--- those that make its record one that is passed over: the sum is over the body, and the header behind the sum with that kind
+-- those that make its record one of a kind: the sum is over the body, and the header behind the sum with that kind
+abbrev pub ending_as : (List ℕ → ℕ) → List ℕ → Reserved → MessageKind → List ℕ
+ending_as sum bytes r k = ending (sum (body_in bytes r ++ code_of k ∷ part bytes (r.from + 5) (r.header_len - 5))) k
+
+-- those that make it one that is passed over
 abbrev pub canceling : (List ℕ → ℕ) → List ℕ → Reserved → List ℕ
-canceling sum bytes r = ending (sum (body_in bytes r ++ code_of kind.Canceled ∷ part bytes (r.from + 5) (r.header_len - 5))) kind.Canceled
+canceling sum bytes r = ending_as sum bytes r kind.Canceled
+
+-- the record with which the manifest of a batch ends, from the sum on to the body, which is the peg
+abbrev pub marking : (List ℕ → ℕ) → List ℕ → Reserved → ℕ → List ℕ
+marking sum bytes r peg = ending (sum (low_bytes 8 peg ++ code_of r.kind ∷ part bytes (r.from + 5) (r.header_len - 5))) r.kind ++ part bytes (r.from + 5) (r.header_len - 5) ++ low_bytes 8 peg
 
 -- the reservation once it has ended so
 abbrev pub ended : ReservationState → Reserved → Reserved

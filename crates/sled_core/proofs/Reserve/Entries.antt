@@ -6,12 +6,15 @@ use Rattle.sled_core.specs.declared.iobuf.ReservationState.TheVariants.{Open, Co
 use Rattle.sled_core.specs.declared.iobuf.Reserved.{Reserved}
 use Rattle.sled_core.specs.Buffers.{text_in, body_in, IsPadding, NoPadding, Stands, StandsAs, StandsBy, StandsReserved}
 
--- one that is open or was completed is no padding
+-- one that is open, was completed or is an ended manifest is no padding
 pub open_plain : (s : ReservationState) → s ≡ Open → s ≢ Padding
 open_plain s is same = let both : Open ≡ Padding = sym is ∙ same in cc
 
 pub completed_plain : (s : ReservationState) → s ≡ Completed → s ≢ Padding
 completed_plain s is same = let both : Completed ≡ Padding = sym is ∙ same in cc
+
+pub manifest_plain : (s : ReservationState) → s ≡ Manifest → s ≢ Padding
+manifest_plain s is same = let both : Manifest ≡ Padding = sym is ∙ same in cc
 
 -- an entry is longer than the sum and the kind of a record, or it ends where the segment does
 abbrev pub IsLong : ℕ → Reserved → Type 0
